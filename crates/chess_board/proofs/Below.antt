@@ -1,0 +1,62 @@
+-- Tests of all numbers below a number.
+use Rattle.std.proofs.Common.{◌≡◌, ℕ, zero, suc, ◌+◌, ◌<◌, Bool, true, false, ◌||◌, eqb, refl, arith, add-one}
+use Rattle.std.proofs.lemmas.Bool.{eqb-true, eqb-false, or_parts, and_parts, and_from, or_right, or_left}
+use Rattle.chess_board.specs.Squares.{any_below, all_below}
+
+pub any_none : (p : ℕ → Bool) → any_below 0 p ≡ false
+unfolding any_below
+any_none p = refl
+
+-- the step of a loop that looks for one
+pub any_more : (p : ℕ → Bool) (n : ℕ) → any_below n p ≡ false → p n ≡ false → any_below (n + 1) p ≡ false
+unfolding any_below
+any_more p n none here = rw add-one (rw (none, here))
+
+pub any_at : (p : ℕ → Bool) (n s : ℕ) → s < n → p s ≡ true → any_below n p ≡ true
+unfolding any_below
+any_at p zero s h e = absurd (omega arith)
+any_at p (suc n) s h e = (elim (eqb s n) as (λ b. eqb s n ≡ b → (any_below n p || p n) ≡ true) [
+  | true ↦ λ t. let same = eqb-true s n t in or_right (any_below n p) (p n) (rw same at e)
+  | false ↦ λ t. let ne = eqb-false s n t in or_left (any_below n p) (p n) (any_at p n s (omega arith) e)
+]) refl
+
+-- what none of them passes
+pub any_no : (p : ℕ → Bool) (n s : ℕ) → any_below n p ≡ false → s < n → p s ≡ false
+unfolding any_below
+any_no p zero s h l = absurd (omega arith)
+any_no p (suc n) s h l = (elim (eqb s n) as (λ b. eqb s n ≡ b → p s ≡ false) [
+  | true ↦ λ t. let same = eqb-true s n t in rw same ((or_parts (any_below n p) (p n) h).1)
+  | false ↦ λ t. let ne = eqb-false s n t in any_no p n s ((or_parts (any_below n p) (p n) h).0) (omega arith)
+]) refl
+
+pub any_same : (p q : ℕ → Bool) (n : ℕ) → ((s : ℕ) → s < n → p s ≡ q s) → any_below n p ≡ any_below n q
+unfolding any_below
+any_same p q zero h = refl
+any_same p q (suc n) h = let e = any_same p q n (λ s l. h s (omega arith)) in let f = h n (omega arith) in rw (e, f)
+
+pub all_yes : (p : ℕ → Bool) (n s : ℕ) → all_below n p ≡ true → s < n → p s ≡ true
+unfolding all_below
+all_yes p zero s h l = absurd (omega arith)
+all_yes p (suc n) s h l = (elim (eqb s n) as (λ b. eqb s n ≡ b → p s ≡ true) [
+  | true ↦ λ t. let same = eqb-true s n t in rw same ((and_parts (all_below n p) (p n) h).1)
+  | false ↦ λ t. let ne = eqb-false s n t in all_yes p n s ((and_parts (all_below n p) (p n) h).0) (omega arith)
+]) refl
+
+pub all_from : (p : ℕ → Bool) (n : ℕ) → ((s : ℕ) → s < n → p s ≡ true) → all_below n p ≡ true
+unfolding all_below
+all_from p zero h = refl
+all_from p (suc n) h = and_from (all_below n p) (p n) (all_from p n (λ s l. h s (omega arith))) (h n (omega arith))
+
+pub all_not : (p : ℕ → Bool) (n s : ℕ) → s < n → p s ≡ false → all_below n p ≡ false
+all_not p n s l e = (elim (all_below n p) as (λ b. all_below n p ≡ b → b ≡ false) [
+  | true ↦ λ t. let y = all_yes p n s t l in cc
+  | false ↦ λ t. refl
+]) refl
+
+pub all_none : (p : ℕ → Bool) → all_below 0 p ≡ true
+unfolding all_below
+all_none p = refl
+
+pub all_more : (p : ℕ → Bool) (n : ℕ) → all_below n p ≡ true → p n ≡ true → all_below (n + 1) p ≡ true
+unfolding all_below
+all_more p n so_far here = rw add-one (rw (so_far, here))

@@ -1,0 +1,10 @@
+use Rattle.std.proofs.Common.{◌≡◌, ◌≤◌, length}
+use Rattle.chess_board.proofs.PlacementReading.{IsReadDownTo}
+use Rattle.chess_board.proofs.placement.men_of_text.Given as goal
+
+abbrev pub invariant-loop-rank : goal.invariant-loop-rank
+invariant-loop-rank l = record {
+  so_far : IsReadDownTo l.rank l.text l.men l.rest;
+  long : length l.men ≡ 64;
+  least : 1 ≤ l.rank;
+}

@@ -1,0 +1,12 @@
+pub mod Squares
+pub mod Men
+pub mod Positions
+pub mod Attacks
+pub mod Soundness
+pub mod Walks
+pub mod Placement
+pub mod RankReading
+pub mod Fields
+pub mod Faults
+pub mod Fens
+pub mod Laws

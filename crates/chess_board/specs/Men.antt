@@ -1,0 +1,82 @@
+-- The men, their colours and kinds (FIDE Laws of Chess, article 2), and the squares from which a king and a rook
+-- castle (article 3.8).
+use Rattle.std.specs.Prelude.{ℕ, Option, Some, None, Bool, true, false, ◌&&◌}
+use Rattle.chess_board.specs.declared.men.Colour.{Colour}
+use Rattle.chess_board.specs.declared.men.Colour.TheVariants.{White, Black}
+use Rattle.chess_board.specs.declared.men.Kind.{Kind}
+use Rattle.chess_board.specs.declared.men.Kind.TheVariants.{Pawn, Rook, King}
+use Rattle.chess_board.specs.declared.men.Man.{Man}
+use Rattle.chess_board.specs.declared.men.Wing.{Wing}
+use Rattle.chess_board.specs.declared.men.Wing.TheVariants.{KingSide, QueenSide}
+use Rattle.chess_board.specs.declared.men.Rights.{Rights}
+
+abbrev pub other_side : Colour → Colour
+other_side White = Black
+other_side Black = White
+
+-- what stands on a square with such a man on it
+abbrev pub man_of : Colour → Kind → Option Man
+man_of colour kind = Some (record { colour = colour; kind = kind })
+
+-- whether two colours are one
+abbrev pub is_colour : Colour → Colour → Bool
+is_colour White White = true
+is_colour White Black = false
+is_colour Black White = false
+is_colour Black Black = true
+
+abbrev pub is_king_kind : Kind → Bool
+is_king_kind King = true
+is_king_kind _ = false
+
+abbrev pub is_pawn_kind : Kind → Bool
+is_pawn_kind Pawn = true
+is_pawn_kind _ = false
+
+abbrev pub is_rook_kind : Kind → Bool
+is_rook_kind Rook = true
+is_rook_kind _ = false
+
+-- Whether a man of the colour stands there.
+abbrev pub is_of : Colour → Option Man → Bool
+is_of colour None = false
+is_of colour (Some man) = is_colour colour man.colour
+
+-- Whether the colour's king stands there.
+abbrev pub is_king_of : Colour → Option Man → Bool
+is_king_of colour None = false
+is_king_of colour (Some man) = is_colour colour man.colour && is_king_kind man.kind
+
+-- Whether a rook of the colour stands there.
+abbrev pub is_rook_of : Colour → Option Man → Bool
+is_rook_of colour None = false
+is_rook_of colour (Some man) = is_colour colour man.colour && is_rook_kind man.kind
+
+-- Whether a pawn of the colour stands there.
+abbrev pub is_pawn_of : Colour → Option Man → Bool
+is_pawn_of colour None = false
+is_pawn_of colour (Some man) = is_colour colour man.colour && is_pawn_kind man.kind
+
+-- Whether a pawn of either colour stands there.
+abbrev pub is_pawn : Option Man → Bool
+is_pawn None = false
+is_pawn (Some man) = is_pawn_kind man.kind
+
+-- Whether a side may still castle on a wing.
+abbrev pub has_right_of : Rights → Colour → Wing → Bool
+has_right_of rights White KingSide = rights.white_king_side
+has_right_of rights White QueenSide = rights.white_queen_side
+has_right_of rights Black KingSide = rights.black_king_side
+has_right_of rights Black QueenSide = rights.black_queen_side
+
+-- where the king stands before it castles: e1 or e8
+abbrev pub king_home : Colour → ℕ
+king_home White = 4
+king_home Black = 60
+
+-- where the rook stands before it castles: h1, a1, h8 or a8
+abbrev pub rook_home : Colour → Wing → ℕ
+rook_home White KingSide = 7
+rook_home White QueenSide = 0
+rook_home Black KingSide = 63
+rook_home Black QueenSide = 56

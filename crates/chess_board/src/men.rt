@@ -1,0 +1,122 @@
+//! The men, their colours and kinds, and the castling rights.
+
+ghost use Rattle.std.specs.Prelude.{◌≡◌};
+ghost use Rattle.chess_board.specs.Men.{other_side, has_right_of};
+ghost use Rattle.chess_board.specs.Men.{is_of as place_is_of, is_king_of as place_is_king_of, is_rook_of as place_is_rook_of, is_pawn_of as place_is_pawn_of, is_pawn as place_is_pawn};
+
+/// A side.
+#[derive(Clone, Copy, Debug, PartialEq, Eq, Hash)]
+pub enum Colour {
+    White,
+    Black,
+}
+
+impl Colour {
+    /// The other side.
+    pub fn other(self) -> Colour
+        ensures { result ≡ other_side self }
+    {
+        match self {
+            Colour::White => Colour::Black,
+            Colour::Black => Colour::White,
+        }
+    }
+}
+
+/// A kind of man.
+#[derive(Clone, Copy, Debug, PartialEq, Eq, PartialOrd, Ord, Hash)]
+pub enum Kind {
+    Pawn,
+    Knight,
+    Bishop,
+    Rook,
+    Queen,
+    King,
+}
+
+/// A man of one side.
+#[derive(Clone, Copy, Debug, PartialEq, Eq, Hash)]
+pub struct Man {
+    pub colour: Colour,
+    pub kind: Kind,
+}
+
+/// A side of the board to castle on.
+#[derive(Clone, Copy, Debug, PartialEq, Eq, Hash)]
+pub enum Wing {
+    KingSide,
+    QueenSide,
+}
+
+/// The castling rights that are left.
+#[derive(Clone, Copy, Debug, PartialEq, Eq, Hash)]
+pub struct Rights {
+    pub white_king_side: bool,
+    pub white_queen_side: bool,
+    pub black_king_side: bool,
+    pub black_queen_side: bool,
+}
+
+impl Rights {
+    /// Whether a side may still castle on a wing.
+    pub fn has(self, colour: Colour, wing: Wing) -> bool
+        ensures { result ≡ has_right_of self colour wing }
+    {
+        match (colour, wing) {
+            (Colour::White, Wing::KingSide) => self.white_king_side,
+            (Colour::White, Wing::QueenSide) => self.white_queen_side,
+            (Colour::Black, Wing::KingSide) => self.black_king_side,
+            (Colour::Black, Wing::QueenSide) => self.black_queen_side,
+        }
+    }
+}
+
+/// Whether a man of the colour stands there.
+pub(crate) fn is_of(place: Option<Man>, colour: Colour) -> bool
+    ensures { result ≡ place_is_of colour place }
+{
+    match place {
+        Some(man) => man.colour == colour,
+        None => false,
+    }
+}
+
+/// Whether the colour's king stands there.
+pub(crate) fn is_king_of(place: Option<Man>, colour: Colour) -> bool
+    ensures { result ≡ place_is_king_of colour place }
+{
+    match place {
+        Some(man) => man.colour == colour && man.kind == Kind::King,
+        None => false,
+    }
+}
+
+/// Whether a rook of the colour stands there.
+pub(crate) fn is_rook_of(place: Option<Man>, colour: Colour) -> bool
+    ensures { result ≡ place_is_rook_of colour place }
+{
+    match place {
+        Some(man) => man.colour == colour && man.kind == Kind::Rook,
+        None => false,
+    }
+}
+
+/// Whether a pawn of the colour stands there.
+pub(crate) fn is_pawn_of(place: Option<Man>, colour: Colour) -> bool
+    ensures { result ≡ place_is_pawn_of colour place }
+{
+    match place {
+        Some(man) => man.colour == colour && man.kind == Kind::Pawn,
+        None => false,
+    }
+}
+
+/// Whether a pawn of either colour stands there.
+pub(crate) fn is_pawn(place: Option<Man>) -> bool
+    ensures { result ≡ place_is_pawn place }
+{
+    match place {
+        Some(man) => man.kind == Kind::Pawn,
+        None => false,
+    }
+}

@@ -1,0 +1,56 @@
+-- What the words of a command line ask for.
+use Rattle.std.specs.Prelude.{Bool, List, [], ◌∷◌, Option, None, true, false, codes, option_map, option_and_then, if◌then◌else◌}
+use Rattle.std.specs.List.{list_any}
+use Rattle.std.specs.Str.{bytes_eq}
+use Rattle.clap.specs.Words.{App, Kinds, Row, Text, fault_of, first_of, subcommand_of, subcommand_rows_of}
+use Rattle.clap.specs.declared.error.kind.ErrorKind.{ErrorKind}
+use Rattle.clap.specs.declared.error.kind.ErrorKind.TheVariants.{DisplayHelp, DisplayVersion}
+use Rattle.clap.specs.declared.parser.matches.ArgMatches.{ArgMatches}
+use Rattle.matedesk.specs.CommandLine.{desk_app}
+use Rattle.matedesk.specs.Hyphens.{escaped}
+
+-- a command with its arguments
+pub data Asked : Type 0 where
+  look : Text → Asked
+
+-- what the arguments of a command ask for, by its name
+unfoldable pub asked_by : Text → List Row → Option Asked
+asked_by name rows =
+    if bytes_eq name (codes "look") then option_map look (first_of (codes "FEN") rows)
+    else None
+
+-- what the matches of a whole command line ask for
+abbrev pub asked_of : ArgMatches → Option Asked
+asked_of m = option_and_then (λ p. asked_by p.0 p.1) (subcommand_rows_of m)
+
+abbrev pub unless_faulty : Kinds → Option Asked → Option Asked
+unless_faulty [] asks = asks
+unless_faulty (fault ∷ faults) asks = None
+
+-- what the words ask for of a command line; a request for help is a fault to `clap`
+abbrev pub asked_in : App → List Text → Option Asked
+asked_in a words = unless_faulty (fault_of a words) (option_and_then (λ p. asked_by p.0 p.1) (subcommand_of a words))
+
+-- a kind that is no mistake but a request for help or for the version
+abbrev pub is_display : ErrorKind → Bool
+is_display DisplayHelp = true
+is_display DisplayVersion = true
+is_display _ = false
+
+abbrev pub asks_display_in : App → List Text → Bool
+asks_display_in a words = list_any is_display (fault_of a words)
+
+-- both of the program's own command line, whose words stand as `clap` is given them
+unfoldable pub asked_exactly : List Text → Option Asked
+asked_exactly words = asked_in desk_app words
+
+unfoldable pub asks_display_exactly : List Text → Bool
+asks_display_exactly words = asks_display_in desk_app words
+
+-- what the words ask for; none where they are at fault, or ask for help or the version
+abbrev pub asked : List Text → Option Asked
+asked words = asked_exactly (escaped words)
+
+-- whether the words ask for help or the version
+abbrev pub asks_display : List Text → Bool
+asks_display words = asks_display_exactly (escaped words)

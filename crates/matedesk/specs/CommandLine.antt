@@ -1,0 +1,30 @@
+-- The command line of the program, as `clap` reads it.
+use Rattle.std.specs.Prelude.{◌≡◌, true, false, codes}
+use Rattle.clap.specs.Words.{App, Rule, Text, new_app, new_rule, with_rule, with_subcommand}
+use Rattle.clap.specs.declared.builder.command.Command.{Command}
+use Rattle.clap.specs.declared.builder.command.Command.TheViews.{out-Command as fields_of}
+
+-- a positional that has to be given
+abbrev pub wanted : Text → Rule
+wanted id = record (new_rule id) { required = true }
+
+abbrev pub look_app : App
+look_app = with_rule (new_app (codes "look")) (wanted (codes "FEN"))
+
+-- the program's own options: a version, a command that has to be given, and no command `help`
+abbrev pub bare_app : App
+bare_app = record (new_app (codes "matedesk")) {
+  top = record (new_app (codes "matedesk")).top {
+    has_version = true;
+    subcommand_required = true;
+    disable_help_subcommand = true;
+  };
+}
+
+-- the whole command line
+abbrev pub desk_app : App
+desk_app = with_subcommand bare_app look_app.top
+
+-- no argument of the command is global
+abbrev pub IsLocal : Command → Type 0
+IsLocal c = (fields_of c).has_globals ≡ false

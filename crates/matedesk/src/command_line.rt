@@ -1,0 +1,62 @@
+//! The command line, as `clap` is told of it.
+
+ghost use Rattle.std.specs.Prelude.{◌≡◌, IfOk, codes, false};
+ghost use Rattle.clap.specs.Words.{app_of, rule_of, with_rule, with_subcommand};
+ghost use Rattle.matedesk.specs.CommandLine.{IsLocal, bare_app, desk_app, look_app, wanted};
+
+use crate::help::{ABOUT, ABOUT_FEN, ABOUT_LOOK, AFTER_HELP, AFTER_LOOK, VERSION};
+use clap::{Arg, Command};
+use std::alloc::{AllocError, Global};
+
+/// A positional that has to be given.
+fn wanted_arg<'a>(alloc: Global, id: &'a str, help: &'a str) -> Arg<'a>
+    ensures rule { rule_of result ≡ wanted id.entry.now }
+    ensures local { result.global ≡ false }
+{
+    Arg::new(alloc, id).required(true).help(help)
+}
+
+/// `Command::arg`, by what a parse reads of its result.
+fn with_arg<'a>(command: Command<'a>, arg: Arg<'a>) -> Result<Command<'a>, AllocError>
+    requires local { arg.global ≡ false }
+    ensures app { IfOk result (λ c. app_of c ≡ with_rule (app_of command.entry) (rule_of arg.entry)) }
+    ensures local { IfOk result (λ c. IsLocal command.entry → IsLocal c) }
+{
+    command.arg(arg)
+}
+
+/// `Command::subcommand`, by what a parse reads of its result.
+fn with_command<'a>(command: Command<'a>, sub: Command<'a>) -> Result<Command<'a>, AllocError>
+    requires local { IsLocal sub }
+    ensures { IfOk result (λ c. app_of c ≡ with_subcommand (app_of command.entry) (app_of sub.entry).top) }
+{
+    command.subcommand(sub)
+}
+
+fn look_command<'a>(alloc: Global) -> Result<Command<'a>, AllocError>
+    ensures { IfOk result (λ c. (app_of c ≡ look_app) × IsLocal c) }
+{
+    let command = Command::new(alloc, "look")
+        .about(ABOUT_LOOK)
+        .after_help(AFTER_LOOK);
+    with_arg(command, wanted_arg(alloc, "FEN", ABOUT_FEN))
+}
+
+/// The program with its own options and no command yet.
+fn bare_command<'a>(alloc: Global) -> Command<'a>
+    ensures { (app_of result ≡ bare_app) × IsLocal result }
+{
+    Command::new(alloc, "matedesk")
+        .version(VERSION)
+        .about(ABOUT)
+        .after_help(AFTER_HELP)
+        .subcommand_required(true)
+        .disable_help_subcommand(true)
+}
+
+/// The whole command line.
+pub fn desk_command<'a>(alloc: Global) -> Result<Command<'a>, AllocError>
+    ensures { IfOk result (λ c. app_of c ≡ desk_app) }
+{
+    with_command(bare_command(alloc), look_command(alloc)?)
+}

@@ -1,0 +1,46 @@
+//! The program `matedesk`: it reads the words of a command line, and answers them.
+//!
+//! What a word means is settled here, and what an answer is in the crates below. Read `command` first, whose contract is
+//! the program's; then `request` (words to a request) over `command_line` (what `clap` is told) and `hyphens` (the words
+//! as it is given them); then each command in the file of its name.
+#![tactic(auto)]
+
+mod command;
+mod command_line;
+mod help;
+mod hyphens;
+mod look;
+mod request;
+mod status;
+mod writing;
+
+use command::command;
+use status::{MISUSED, no_memory};
+use std::alloc::Global;
+use std::process::ExitCode;
+use std::rt::Env;
+use std::{env, io};
+use writing::complain;
+
+/// The words that the program was called with.
+fn words_of<R: Env + AllocGlobal>(rt: &R, alloc: Global) -> io::Result<Vec<String>> {
+    Ok(env::args(rt)?.collect(alloc)?)
+}
+
+fn main(rt: HostRuntime) -> ExitCode {
+    let alloc = rt.alloc();
+    let mut out = rt.stdout();
+    let mut err = rt.stderr();
+    let status = match words_of(&rt, alloc) {
+        Ok(words) => command(alloc, words.as_slice(), &mut out, &mut err),
+        Err(fault) if fault.kind() == io::ErrorKind::OutOfMemory => no_memory(&mut err),
+        Err(_) => {
+            complain(&mut err, "a word is not text");
+            MISUSED
+        }
+    };
+    ExitCode::from(status)
+}
+
+#[cfg(test)]
+mod tests;

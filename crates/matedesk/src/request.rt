@@ -1,0 +1,54 @@
+//! From the words of a command line to a request.
+
+ghost use Rattle.std.specs.Prelude.{◌≡◌, ◌≢◌, None, IfOk, IfErr, map, option_map, true};
+ghost use Rattle.clap.specs.Words.{first_of, found_of, kind_of, rows_of};
+ghost use Rattle.matedesk.specs.Asked.{asked_by, asked_exactly, asked_of, asks_display_exactly, is_display};
+ghost use Rattle.matedesk.specs.Request.{plan_of};
+
+use crate::command_line::desk_command;
+use clap::error::ErrorKind;
+use clap::{ArgMatches, Error};
+use std::alloc::Global;
+
+/// A command with its arguments.
+#[derive(Clone, Copy)]
+pub enum Request<'a> {
+    /// Show a FEN in canonical form, and whether the side to move is in check.
+    Look(&'a str),
+}
+
+/// The value of a positional.
+fn text_in<'a>(matches: &ArgMatches<'a>, id: &str) -> Option<&'a str>
+    ensures { option_map (λ s. s.now) result ≡ first_of id.now (rows_of (found_of matches.now)) }
+{
+    matches.get_str(id)
+}
+
+/// What the arguments of a command ask for, by its name.
+#[tactic(auto, unfolding(crate::specs::Asked::asked_by))]
+fn request_by<'a>(name: &str, matches: &ArgMatches<'a>) -> Option<Request<'a>>
+    ensures { option_map plan_of result ≡ asked_by name.now (rows_of (found_of matches.now)) }
+{
+    if name == "look" {
+        text_in(matches, "FEN").map(Request::Look)
+    } else {
+        None
+    }
+}
+
+/// What the matches of the whole command line ask for.
+pub fn request_of<'a>(matches: &ArgMatches<'a>) -> Option<Request<'a>>
+    ensures { option_map plan_of result ≡ asked_of matches.now }
+{
+    let (name, inner) = matches.subcommand()?;
+    request_by(name, inner)
+}
+
+/// Parses the words of a command line. A request for help or for the version is an `Err`.
+pub fn parse<'a>(alloc: Global, words: &'a [&'a str]) -> Result<ArgMatches<'a>, Error>
+    ensures ok { IfOk result (λ m. asked_of m ≡ asked_exactly (map (λ s. s.now) words.entry.now)) }
+    ensures err { IfErr result (λ e. kind_of e ≢ ErrorKind.OutOfMemory → asked_exactly (map (λ s. s.now) words.entry.now) ≡ None) }
+    ensures display { IfErr result (λ e. is_display (kind_of e) ≡ true → asks_display_exactly (map (λ s. s.now) words.entry.now) ≡ true) }
+{
+    desk_command(alloc)?.try_get_matches_from(words)
+}

@@ -1,0 +1,209 @@
+//! What no contract says: the texts, the streams that they go to, and what a faulty writer leads to.
+
+use crate::command::command;
+use crate::help::VERSION;
+use std::alloc::Global;
+use std::io;
+use std::io::Write;
+use std::test::Fail;
+
+const START: &str = "rnbqkbnr/pppppppp/8/8/8/8/PPPPPPPP/RNBQKBNR w KQkq - 0 1";
+
+const MATED: &str = "rnb1kbnr/pppp1ppp/8/4p3/6Pq/5P2/PPPPP2P/RNBQKBNR w KQkq - 1 3";
+
+/// More calls than any command makes.
+const ALWAYS: usize = 1000;
+
+/// A writer that takes so many calls, and fails at the next.
+#[derive(Drop)]
+struct Failing {
+    calls_left: usize,
+    text: Vec<u8>,
+}
+
+impl Write for Failing {
+    fn write(&mut self, buf: &[u8]) -> io::Result<usize> {
+        if self.calls_left == 0 {
+            return Err(io::Error::from(io::ErrorKind::BrokenPipe));
+        }
+        self.calls_left -= 1;
+        self.text.extend_from_slice(buf)?;
+        Ok(buf.len())
+    }
+
+    fn flush(&mut self) -> io::Result<()> {
+        Ok(())
+    }
+}
+
+/// How a command line ended: the status, and what each writer took before it failed.
+#[derive(Drop)]
+struct Ending {
+    status: u8,
+    out: Vec<u8>,
+    err: Vec<u8>,
+}
+
+/// Runs the words after the program's name, with writers that take so many calls.
+fn run(alloc: Global, words: &[&str], outs: usize, errs: usize) -> Result<Ending, Fail> {
+    let mut all = Vec::new(alloc);
+    all.push(String::from_str(alloc, "matedesk")?)?;
+    for word in words {
+        all.push(String::from_str(alloc, word)?)?;
+    }
+    let mut out = Failing {
+        calls_left: outs,
+        text: Vec::new(alloc),
+    };
+    let mut err = Failing {
+        calls_left: errs,
+        text: Vec::new(alloc),
+    };
+    let status = command(alloc, all.as_slice(), &mut out, &mut err);
+    Ok(Ending {
+        status,
+        out: out.text,
+        err: err.text,
+    })
+}
+
+/// Whether the text holds the words.
+fn holds(text: &[u8], words: &str) -> bool {
+    match str::from_utf8(text) {
+        Ok(text) => text.contains(words),
+        Err(_) => false,
+    }
+}
+
+#[test]
+fn look_shows_the_fen_and_the_verdict(rt: HostRuntime) -> Result<(), Fail> {
+    let alloc = rt.alloc();
+    for (fen, verdict) in [(START, "no check"), (MATED, "check")] {
+        let ended = run(alloc, &["look", fen], ALWAYS, ALWAYS)?;
+        let want = format!(in alloc; "{fen}\n{verdict}\n")?;
+        assert_eq!(rt; ended.status, 0, "{fen}");
+        assert_eq!(rt; ended.out.as_slice(), want.as_bytes(), "{fen}");
+        assert_eq!(rt; ended.err.as_slice(), b"".as_slice(), "{fen}");
+    }
+    Ok(())
+}
+
+#[test]
+fn a_refused_fen_is_named_on_err(rt: HostRuntime) -> Result<(), Fail> {
+    let alloc = rt.alloc();
+    let rows = [
+        ["look", ""],
+        ["look", "8/8"],
+        ["look", "-abc"],
+        ["look", "-"],
+        ["look", "-V"],
+        ["look", "--version"],
+        ["look", "--help-me"],
+    ];
+    for words in rows {
+        let fen = words[1];
+        let ended = run(alloc, words.as_slice(), ALWAYS, ALWAYS)?;
+        assert_eq!(rt; ended.status, 1, "{fen}");
+        assert_eq!(rt; ended.out.as_slice(), b"".as_slice(), "{fen}");
+        assert_eq!(rt;
+            ended.err.as_slice(),
+            b"matedesk: FieldCount\n".as_slice(),
+            "{fen}"
+        );
+    }
+    Ok(())
+}
+
+#[test]
+fn misused_words_end_with_two(rt: HostRuntime) -> Result<(), Fail> {
+    let alloc = rt.alloc();
+    let rows = [
+        ("", "requires a subcommand"),
+        ("look", "required arguments were not provided"),
+        ("look --", "required arguments were not provided"),
+        ("look a b", "unexpected argument 'b'"),
+        ("look -- -abc d", "unexpected argument 'd'"),
+        ("watch a", "unrecognized subcommand 'watch'"),
+        ("help", "unrecognized subcommand 'help'"),
+        ("--fen", "unexpected argument '--fen'"),
+        ("-abc look", "unexpected argument '-a'"),
+    ];
+    for (line, text) in rows {
+        let mut words = Vec::new(alloc);
+        for word in line.split(' ') {
+            if !word.is_empty() {
+                words.push(word)?;
+            }
+        }
+        let heard = run(alloc, words.as_slice(), ALWAYS, ALWAYS)?;
+        assert_eq!(rt; heard.status, 2, "{line}");
+        assert_eq!(rt; heard.out.as_slice(), b"".as_slice(), "{line}");
+        assert!(rt; holds(heard.err.as_slice(), text), "{line}");
+        let unheard = run(alloc, words.as_slice(), ALWAYS, 0)?;
+        assert_eq!(rt; unheard.status, 2, "{line}");
+    }
+    Ok(())
+}
+
+#[test]
+fn no_name_is_misuse_too(rt: HostRuntime) -> Result<(), Fail> {
+    let alloc = rt.alloc();
+    let words: Vec<String> = Vec::new(alloc);
+    let mut out = Vec::new(alloc);
+    let mut err = Vec::new(alloc);
+    assert_eq!(rt; command(alloc, words.as_slice(), &mut out, &mut err), 2);
+    assert_eq!(rt; out.as_slice(), b"".as_slice());
+    Ok(())
+}
+
+#[test]
+fn help_and_version_go_to_out(rt: HostRuntime) -> Result<(), Fail> {
+    let alloc = rt.alloc();
+    let rows = [
+        ("--help", "the Forsyth-Edwards Notation of a position"),
+        ("--help", "matedesk look \"rnbqkbnr/"),
+        ("-h", "look"),
+        ("look --help", "Forsyth-Edwards Notation"),
+        ("look -h", "Usage: matedesk look <FEN>"),
+        ("--version", VERSION),
+        ("-V", VERSION),
+    ];
+    for (line, text) in rows {
+        let mut words = Vec::new(alloc);
+        for word in line.split(' ') {
+            words.push(word)?;
+        }
+        let heard = run(alloc, words.as_slice(), ALWAYS, 0)?;
+        assert_eq!(rt; heard.status, 0, "{line}");
+        assert!(rt; holds(heard.out.as_slice(), text), "{line}");
+        let unheard = run(alloc, words.as_slice(), 0, ALWAYS)?;
+        assert_eq!(rt; unheard.status, 4, "{line}");
+        assert_eq!(rt; unheard.err.as_slice(), b"".as_slice(), "{line}");
+    }
+    Ok(())
+}
+
+#[test]
+fn a_faulty_out_ends_with_four_and_a_faulty_err_is_passed_over(
+    rt: HostRuntime,
+) -> Result<(), Fail> {
+    let alloc = rt.alloc();
+    let rows = [
+        ("look", START, 0, ALWAYS, 4),
+        ("look", START, 1, ALWAYS, 0),
+        ("look", START, ALWAYS, 0, 0),
+        ("look", START, 0, 0, 4),
+        ("look", "8/8", 0, ALWAYS, 1),
+        ("look", "8/8", ALWAYS, 0, 1),
+        ("look", "8/8", ALWAYS, 1, 1),
+        ("look", "8/8", 0, 0, 1),
+    ];
+    for (name, fen, outs, errs, status) in rows {
+        let ended = run(alloc, &[name, fen], outs, errs)?;
+        assert_eq!(rt; ended.status, status, "{fen} {outs} {errs}");
+        if outs == 0 {
+            assert_eq!(rt; ended.out.as_slice(), b"".as_slice(), "{fen} {outs} {errs}");
+        }
+    }
+    Ok(())
+}
