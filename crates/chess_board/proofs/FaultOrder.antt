@@ -27,3 +27,11 @@ pub none_first : (A : FenFault → Type 0) (faults : List FenFault) (fault : Fen
 none_first A [] fault none h = h
 none_first A (next ∷ later) fault none (inl here) = none.0 here.0
 none_first A (next ∷ later) fault none (inr behind) = none_first A later fault none.1 behind.1
+
+pub none_alike : (A B : FenFault → Type 0) (faults : List FenFault) → ((f : FenFault) → A f → B f) → NoneOf B faults → NoneOf A faults
+none_alike A B [] to none = tt
+none_alike A B (next ∷ later) to none = ((λ a. none.0 (to next a)), none_alike A B later to none.1)
+
+pub none_joined : (A : FenFault → Type 0) (front back : List FenFault) → NoneOf A front → NoneOf A back → NoneOf A (front ++ back)
+none_joined A [] back none more = more
+none_joined A (next ∷ later) back none more = (none.0, none_joined A later back none.1 more)

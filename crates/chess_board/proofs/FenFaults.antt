@@ -43,7 +43,7 @@ sound_right p h = (
 )
 
 -- What makes the position unsound is what is amiss with the fields that spell it.
-to_amiss : (f : Fields) (p : Setup) → SpellsSetup f p → (fault : FenFault) → IsUnsoundBy p fault → IsAmiss f fault
+pub to_amiss : (f : Fields) (p : Setup) → SpellsSetup f p → (fault : FenFault) → IsUnsoundBy p fault → IsAmiss f fault
 to_amiss f p h FieldCount u = absurd u
 to_amiss f p h BadPlacement u = absurd u
 to_amiss f p h BadSide u = absurd u
@@ -60,7 +60,7 @@ to_amiss f p h OpponentInCheck u = (p, h, u)
 at_once : (f : Fields) (p : Setup) (fault : FenFault) → SpellsSetup f p → (q : Setup) × SpellsSetup f q × IsUnsoundBy q fault → IsUnsoundBy p fault
 at_once f p fault h w = subst (λ (s : Setup). IsUnsoundBy s fault) (setup_once f w.0 p w.1 h) w.2
 
-from_amiss : (f : Fields) (p : Setup) → SpellsSetup f p → (fault : FenFault) → IsAmiss f fault → IsUnsoundBy p fault
+pub from_amiss : (f : Fields) (p : Setup) → SpellsSetup f p → (fault : FenFault) → IsAmiss f fault → IsUnsoundBy p fault
 from_amiss f p h FieldCount u = absurd u.2
 from_amiss f p h BadPlacement u = (spelt_right f p h).0 u
 from_amiss f p h BadSide u = (spelt_right f p h).1.0 u

@@ -14,5 +14,17 @@ pub mod PlacementOnce
 pub mod Targets
 pub mod Spelling
 pub mod FenFaults
+pub mod FieldFaults
 pub mod Walk
 pub mod Readings
+pub mod Conjunctions
+pub mod MenMoved
+pub mod Movers
+pub mod PawnShapes
+pub mod MoveShapes
+pub mod AfterCounts
+pub mod AfterPawns
+pub mod AfterRights
+pub mod AfterTargets
+pub mod AfterSound
+pub mod MoveOrder

@@ -32,6 +32,10 @@ spelling_faults = BadPlacement ∷ BadSide ∷ BadCastling ∷ BadTarget ∷ []
 abbrev pub position_faults : List FenFault
 position_faults = BadKings ∷ PawnOnEndRank ∷ TooManyMen ∷ RightWithoutMen ∷ TargetWithoutPawn ∷ OpponentInCheck ∷ []
 
+-- the faults of four fields, in their order
+abbrev pub field_faults : List FenFault
+field_faults = BadPlacement ∷ BadSide ∷ BadCastling ∷ BadTarget ∷ position_faults
+
 -- the faults of a FEN, in their order
 abbrev pub fen_faults : List FenFault
 fen_faults = FieldCount ∷ BadPlacement ∷ BadSide ∷ BadCastling ∷ BadTarget ∷ BadCounter ∷ position_faults

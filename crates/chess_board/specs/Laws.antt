@@ -1,11 +1,16 @@
--- Two of the tests of attack, with their squares and men named.
-use Rattle.std.specs.Prelude.{◌≡◌, ◌↔◌, ℕ, ◌<◌, true, List, Option, None}
+-- Tests of attack and of legality with their squares and men named, and what a legal move keeps.
+use Rattle.std.specs.Prelude.{◌≡◌, ◌↔◌, ℕ, ◌<◌, true, false, List, Option, None}
 use Rattle.chess_board.specs.declared.men.Colour.{Colour}
 use Rattle.chess_board.specs.declared.men.Kind.{Kind}
 use Rattle.chess_board.specs.declared.men.Man.{Man}
 use Rattle.chess_board.specs.Men.{man_of}
-use Rattle.chess_board.specs.Positions.{man_at}
-use Rattle.chess_board.specs.Attacks.{is_clear, is_between, attacks_as, is_attacked}
+use Rattle.chess_board.specs.Positions.{Setup, man_at}
+use Rattle.chess_board.specs.Attacks.{is_clear, is_between, attacks_as, is_attacked, is_in_check}
+use Rattle.chess_board.specs.Soundness.{IsSound}
+use Rattle.chess_board.specs.Moves.{Move}
+use Rattle.chess_board.specs.Candidates.{is_candidate}
+use Rattle.chess_board.specs.After.{after_setup}
+use Rattle.chess_board.specs.Legality.{is_legal}
 
 -- A square is attacked where a man of the colour stands somewhere and attacks it (FIDE Laws of Chess, article 3.1).
 abbrev pub AttackedReads : Type 0
@@ -16,3 +21,12 @@ AttackedReads = (men : List (Option Man)) (square : ℕ) (colour : Colour) → (
 abbrev pub ClearReads : Type 0
 ClearReads = (men : List (Option Man)) (a b : ℕ) → (is_clear men a b ≡ true) ↔
     ((s : ℕ) → s < 64 → is_between a b s ≡ true → man_at men s ≡ None)
+
+-- A move is legal where the rules allow it and the mover's king is not attacked afterwards (articles 3.9.2 and 3.10.1).
+abbrev pub LegalReads : Type 0
+LegalReads = (p : Setup) (m : Move) → (is_legal p m ≡ true) ↔
+    ((is_candidate p m ≡ true) × (is_in_check (after_setup p m).men p.side ≡ false))
+
+-- A sound position stays sound after a legal move.
+abbrev pub SoundAfter : Type 0
+SoundAfter = (p : Setup) (m : Move) → IsSound p → m.origin < 64 → m.target < 64 → is_legal p m ≡ true → IsSound (after_setup p m)

@@ -9,4 +9,8 @@ pub mod RankReading
 pub mod Fields
 pub mod Faults
 pub mod Fens
+pub mod Moves
+pub mod Candidates
+pub mod After
+pub mod Legality
 pub mod Laws

@@ -23,7 +23,7 @@ fn is_bishop_line(a: Square, b: Square) -> bool
 }
 
 /// Whether b is so many ranks in front of a, as the colour's pawns go.
-fn is_forward(colour: Colour, steps: u8, a: Square, b: Square) -> bool
+pub(crate) fn is_forward(colour: Colour, steps: u8, a: Square, b: Square) -> bool
     requires { steps < 8 }
     ensures { result ≡ forward colour steps a b }
 {

@@ -1,8 +1,9 @@
 //! FEN, read and printed.
 
 ghost use Rattle.std.specs.Prelude.{◌≡◌, ◌↔◌, ℕ, ◌≤◌, ◌≢◌, ◌∷◌, [], Ok, IfSome, IfNone, IfOk, IfErr, length};
+ghost use Rattle.chess_board.specs.Positions.{Setup as SetupValue};
 ghost use Rattle.chess_board.specs.Soundness.{IsSound};
-ghost use Rattle.chess_board.specs.Faults.{IsFirst, spelling_faults};
+ghost use Rattle.chess_board.specs.Faults.{IsFirst, spelling_faults, field_faults};
 ghost use Rattle.chess_board.specs.Fens.{FenValue, SpellsSetup, Spells, IsAmiss, IsFault, pieces, position_text, fen_text};
 
 use crate::cuts::cut_at;
@@ -137,6 +138,24 @@ pub fn read_fen(text: &[u8]) -> Result<Fen, FenFault>
         halfmove,
         fullmove,
     })
+}
+
+/// Reads the first four fields of a FEN, each without the spaces around it, by the same checks as `read_fen`.
+///
+/// What spells no sound position is refused by the first fault that applies; `FieldCount` and `BadCounter` never do.
+pub fn read_fields(
+    placement: &[u8],
+    side: &[u8],
+    rights: &[u8],
+    target: &[u8],
+) -> Result<Position, FenFault>
+    ensures exact { (p : SetupValue) → (result ≡ Ok p)
+        ↔ (SpellsSetup (record { placement = placement.now; side = side.now; castling = rights.now; target = target.now }) p × IsSound p) }
+    ensures refused { IfErr result (λ fault. IsFirst (IsAmiss
+        (record { placement = placement.now; side = side.now; castling = rights.now; target = target.now })) field_faults fault) }
+{
+    let setup = setup_of_fields(placement, side, rights, target)?;
+    sound_position(&setup)
 }
 
 impl Position {

@@ -1,20 +1,24 @@
-//! Squares, men, sound positions, attack, and FEN.
+//! Squares, men, sound positions, attack, FEN, and moves: which are legal, and the position after one.
 //!
 //! A `Position` is always sound: its type keeps it. What it is to a caller stands in `specs/Positions.antt` (the men on 64
-//! squares, the side to move, the castling rights, the en passant target) and not in how it is kept. Which moves are legal is
-//! none of this crate's business.
+//! squares, the side to move, the castling rights, the en passant target) and not in how it is kept. Lists of legal moves
+//! are none of this crate's business.
 //!
 //! To read: `squares`, `men`, `attacks`, `soundness`, `positions`; then `placement`, `fields` and `fens`, the text of a
-//! position field by field. No call takes memory.
+//! position field by field; then `moves`, `candidates`, `making` and `legality`. No call takes memory.
 #![tactic(auto)]
 
 mod attacks;
+mod candidates;
 mod cuts;
 mod faults;
 mod fens;
 mod fields;
 mod laws;
+mod legality;
+mod making;
 mod men;
+mod moves;
 mod placement;
 mod positions;
 mod ranks;
@@ -23,11 +27,16 @@ mod soundness;
 mod squares;
 
 pub use faults::FenFault;
-pub use fens::{Fen, read_fen, reads_back};
-pub use laws::{attacked_reads, clear_reads};
+pub use fens::{Fen, read_fen, read_fields, reads_back};
+pub use laws::{attacked_reads, clear_reads, legal_reads, sound_after};
+pub use legality::is_legal;
+pub use making::after;
 pub use men::{Colour, Kind, Man, Rights, Wing};
+pub use moves::{Move, comes_before};
 pub use positions::{Position, is_same_position};
 pub use squares::Square;
 
+#[cfg(test)]
+mod move_tests;
 #[cfg(test)]
 mod tests;

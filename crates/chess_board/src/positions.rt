@@ -48,7 +48,7 @@ impl Model for Position {
 
 impl Position {
     /// The position with these parts, which are sound.
-    fn new(setup: &Setup) -> Position
+    pub(crate) fn new(setup: &Setup) -> Position
         requires { IsSound setup.now }
         ensures { result ≡ setup.now }
     {

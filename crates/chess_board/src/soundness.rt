@@ -60,7 +60,7 @@ pub(crate) fn has_no_end_pawn(men: &[Option<Man>; 64]) -> bool
 }
 
 /// Where the king stands before it castles.
-fn king_home(colour: Colour) -> Square
+pub(crate) fn king_home(colour: Colour) -> Square
     ensures { result ≡ king_home colour }
 {
     match colour {
@@ -70,7 +70,7 @@ fn king_home(colour: Colour) -> Square
 }
 
 /// Where the rook stands before it castles.
-fn rook_home(colour: Colour, wing: Wing) -> Square
+pub(crate) fn rook_home(colour: Colour, wing: Wing) -> Square
     ensures { result ≡ rook_home colour wing }
 {
     match (colour, wing) {

@@ -36,8 +36,8 @@ impl Square {
         }
     }
 
-    /// The square with a number.
-    pub(crate) fn numbered(number: u8) -> Square
+    /// The square with a number, for loops over the whole board.
+    pub fn numbered(number: u8) -> Square
         requires { number < 64 }
         ensures { result ≡ number }
     {

@@ -1,16 +1,22 @@
 -- How the program ends.
 use Rattle.std.specs.Prelude.{◌≡◌, ◌==◌, ◌<◌, ◌≤◌, ℕ, Bool, List, Option, None, IfSome, IsSome}
 use Rattle.std.specs.Io.KnownBytes.{Appends, Keeps}
-use Rattle.matedesk.specs.Asked.{Asked, look}
-use Rattle.matedesk.specs.Look.{IsRead, ShowsLook}
+use Rattle.matedesk.specs.Asked.{Asked, look, moves, perft}
+use Rattle.matedesk.specs.Look.{look_text}
+use Rattle.matedesk.specs.MovesShown.{moves_text, perft_text}
+use Rattle.matedesk.specs.Shown.{IsRead, ShowsFen}
 
 -- what a command shows, and whether anything that it was given is refused
 abbrev pub Shows : Asked → Bool → List ℕ → Type 0
-Shows (look fen) refused gained = ShowsLook fen refused gained
+Shows (look fen) refused gained = ShowsFen look_text fen refused gained
+Shows (moves fen) refused gained = ShowsFen moves_text fen refused gained
+Shows (perft fen depth) refused gained = ShowsFen (perft_text depth) fen refused gained
 
 -- the command has something to show
 abbrev pub HasText : Asked → Type 0
 HasText (look fen) = IsRead fen
+HasText (moves fen) = IsRead fen
+HasText (perft fen depth) = IsRead fen
 
 -- The known bytes of an output grow by exactly what the command shows.
 pub record Gains (asks : Asked) (refused : Bool) (old new : Option (List ℕ)) : Type 0 where

@@ -1,6 +1,7 @@
 -- The command line of the program, as `clap` reads it.
-use Rattle.std.specs.Prelude.{◌≡◌, true, false, codes}
+use Rattle.std.specs.Prelude.{◌≡◌, Some, true, false, codes, pos}
 use Rattle.clap.specs.Words.{App, Rule, Text, new_app, new_rule, with_rule, with_subcommand}
+use Rattle.clap.specs.declared.builder.value_parser.ValueParser.TheVariants as parser
 use Rattle.clap.specs.declared.builder.command.Command.{Command}
 use Rattle.clap.specs.declared.builder.command.Command.TheViews.{out-Command as fields_of}
 
@@ -8,8 +9,18 @@ use Rattle.clap.specs.declared.builder.command.Command.TheViews.{out-Command as 
 abbrev pub wanted : Text → Rule
 wanted id = record (new_rule id) { required = true }
 
+-- a positional that reads a number from 0 to 6
+abbrev pub depth_rule : Rule
+depth_rule = record (wanted (codes "DEPTH")) { parser = Some (parser.Signed (pos 0) (pos 6)) }
+
 abbrev pub look_app : App
 look_app = with_rule (new_app (codes "look")) (wanted (codes "FEN"))
+
+abbrev pub moves_app : App
+moves_app = with_rule (new_app (codes "moves")) (wanted (codes "FEN"))
+
+abbrev pub perft_app : App
+perft_app = with_rule (with_rule (new_app (codes "perft")) (wanted (codes "FEN"))) depth_rule
 
 -- the program's own options: a version, a command that has to be given, and no command `help`
 abbrev pub bare_app : App
@@ -23,7 +34,7 @@ bare_app = record (new_app (codes "matedesk")) {
 
 -- the whole command line
 abbrev pub desk_app : App
-desk_app = with_subcommand bare_app look_app.top
+desk_app = with_subcommand (with_subcommand (with_subcommand bare_app look_app.top) moves_app.top) perft_app.top
 
 -- no argument of the command is global
 abbrev pub IsLocal : Command → Type 0

@@ -6,7 +6,7 @@ use Rattle.clap.specs.Words.{Text}
 
 -- the commands whose first word is a FEN
 abbrev pub takes_fen : Text → Bool
-takes_fen name = bytes_eq name (codes "look")
+takes_fen name = bytes_eq name (codes "look") || bytes_eq name (codes "moves") || bytes_eq name (codes "perft")
 
 -- begins with a hyphen, and asks neither for help nor for the end of the options
 abbrev pub is_hyphened : Text → Bool

@@ -1,6 +1,9 @@
 pub mod Asked
 pub mod Command
 pub mod CommandLine
+pub mod Depths
 pub mod Hyphens
 pub mod Look
+pub mod MovesShown
 pub mod Request
+pub mod Shown

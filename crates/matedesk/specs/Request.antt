@@ -1,7 +1,9 @@
 -- What a request asks for.
-use Rattle.matedesk.specs.Asked.{Asked, look}
+use Rattle.matedesk.specs.Asked.{Asked, look, moves, perft}
 use Rattle.matedesk.specs.declared.request.Request.{Request}
-use Rattle.matedesk.specs.declared.request.Request.TheVariants.{Look}
+use Rattle.matedesk.specs.declared.request.Request.TheVariants.{Look, Moves, Perft}
 
 abbrev pub plan_of : Request → Asked
 plan_of (Look fen) = look fen.now
+plan_of (Moves fen) = moves fen.now
+plan_of (Perft fen depth) = perft fen.now depth

@@ -10,6 +10,8 @@ ghost use Rattle.matedesk.specs.Request.{plan_of};
 
 use crate::hyphens::escaped;
 use crate::look::look;
+use crate::moves::moves;
+use crate::perft::perft;
 use crate::request::{Request, parse, request_of};
 use crate::status::{ANSWERED, MISUSED, Stop, UNWRITABLE, no_memory, status_of};
 use clap::Error;
@@ -20,22 +22,29 @@ use std::io::Write;
 /// Answers a request; gives whether anything was refused.
 fn answer<O: Write, E: Write>(
     alloc: Global,
-    request: Request,
+    request: &Request,
     out: &mut O,
     err: &mut E,
 ) -> Result<bool, Stop>
-    ensures ok { IfOk result (λ refused. Gains (plan_of request.entry) refused (O.contents out.old) (O.contents out.new)) }
-    ensures unwritable { result ≡ Err Stop.Unwritable → HasText (plan_of request.entry) }
+    ensures ok { IfOk result (λ refused. Gains (plan_of request.now) refused (O.contents out.old) (O.contents out.new)) }
+    ensures unwritable { result ≡ Err Stop.Unwritable → HasText (plan_of request.now) }
 {
     match request {
         Request::Look(fen) => look(alloc, fen, out, err),
+        Request::Moves(fen) => moves(alloc, fen, out, err),
+        Request::Perft(fen, depth) => perft(alloc, fen, *depth, out, err),
     }
 }
 
 /// Answers what the words ask for. Matches that ask for nothing are a misuse like any other.
-fn run<O: Write, E: Write>(alloc: Global, request: Option<Request>, out: &mut O, err: &mut E) -> u8
-    ensures ends { Ends (option_map plan_of request.entry) result (O.contents out.old) (O.contents out.new) }
-    ensures asked { result ≢ 2 → IsSome (option_map plan_of request.entry) }
+fn run<O: Write, E: Write>(
+    alloc: Global,
+    request: &Option<Request>,
+    out: &mut O,
+    err: &mut E,
+) -> u8
+    ensures ends { Ends (option_map plan_of request.now) result (O.contents out.old) (O.contents out.new) }
+    ensures asked { result ≢ 2 → IsSome (option_map plan_of request.now) }
 {
     let Some(request) = request else {
         return MISUSED;
@@ -89,7 +98,7 @@ pub fn command<O: Write, E: Write>(alloc: Global, words: &[String], out: &mut O,
         return no_memory(err);
     };
     match parse(alloc, texts.as_slice()) {
-        Ok(matches) => run(alloc, request_of(&matches), out, err),
+        Ok(matches) => run(alloc, &request_of(&matches), out, err),
         Err(error) => usage(&error, out, err),
     }
 }

@@ -2,10 +2,13 @@
 
 ghost use Rattle.std.specs.Prelude.{◌≡◌, IfOk, codes, false};
 ghost use Rattle.clap.specs.Words.{app_of, rule_of, with_rule, with_subcommand};
-ghost use Rattle.matedesk.specs.CommandLine.{IsLocal, bare_app, desk_app, look_app, wanted};
+ghost use Rattle.matedesk.specs.CommandLine.{IsLocal, bare_app, depth_rule, desk_app, look_app, moves_app, perft_app, wanted};
 
-use crate::help::{ABOUT, ABOUT_FEN, ABOUT_LOOK, AFTER_HELP, AFTER_LOOK, VERSION};
-use clap::{Arg, Command};
+use crate::help::{
+    ABOUT, ABOUT_DEPTH, ABOUT_FEN, ABOUT_LOOK, ABOUT_MOVES, ABOUT_PERFT, AFTER_HELP, AFTER_LOOK,
+    AFTER_MOVES, AFTER_PERFT, VERSION,
+};
+use clap::{Arg, Command, value_parser};
 use std::alloc::{AllocError, Global};
 
 /// A positional that has to be given.
@@ -14,6 +17,14 @@ fn wanted_arg<'a>(alloc: Global, id: &'a str, help: &'a str) -> Arg<'a>
     ensures local { result.global ≡ false }
 {
     Arg::new(alloc, id).required(true).help(help)
+}
+
+/// The number of moves of `perft`, 0 to 6.
+fn depth_arg<'a>(alloc: Global) -> Arg<'a>
+    ensures rule { rule_of result ≡ depth_rule }
+    ensures local { result.global ≡ false }
+{
+    wanted_arg(alloc, "DEPTH", ABOUT_DEPTH).value_parser(value_parser!(u8).range(0..7))
 }
 
 /// `Command::arg`, by what a parse reads of its result.
@@ -42,6 +53,25 @@ fn look_command<'a>(alloc: Global) -> Result<Command<'a>, AllocError>
     with_arg(command, wanted_arg(alloc, "FEN", ABOUT_FEN))
 }
 
+fn moves_command<'a>(alloc: Global) -> Result<Command<'a>, AllocError>
+    ensures { IfOk result (λ c. (app_of c ≡ moves_app) × IsLocal c) }
+{
+    let command = Command::new(alloc, "moves")
+        .about(ABOUT_MOVES)
+        .after_help(AFTER_MOVES);
+    with_arg(command, wanted_arg(alloc, "FEN", ABOUT_FEN))
+}
+
+fn perft_command<'a>(alloc: Global) -> Result<Command<'a>, AllocError>
+    ensures { IfOk result (λ c. (app_of c ≡ perft_app) × IsLocal c) }
+{
+    let command = Command::new(alloc, "perft")
+        .about(ABOUT_PERFT)
+        .after_help(AFTER_PERFT);
+    let command = with_arg(command, wanted_arg(alloc, "FEN", ABOUT_FEN))?;
+    with_arg(command, depth_arg(alloc))
+}
+
 /// The program with its own options and no command yet.
 fn bare_command<'a>(alloc: Global) -> Command<'a>
     ensures { (app_of result ≡ bare_app) × IsLocal result }
@@ -58,5 +88,7 @@ fn bare_command<'a>(alloc: Global) -> Command<'a>
 pub fn desk_command<'a>(alloc: Global) -> Result<Command<'a>, AllocError>
     ensures { IfOk result (λ c. app_of c ≡ desk_app) }
 {
-    with_command(bare_command(alloc), look_command(alloc)?)
+    let command = with_command(bare_command(alloc), look_command(alloc)?)?;
+    let command = with_command(command, moves_command(alloc)?)?;
+    with_command(command, perft_command(alloc)?)
 }

@@ -14,6 +14,8 @@ number), given as ONE argument in quotes.
 
 Examples:
   matedesk look \"rnbqkbnr/pppppppp/8/8/8/8/PPPPPPPP/RNBQKBNR w KQkq - 0 1\"
+  matedesk moves \"8/8/8/K2pP2r/8/8/8/7k w - d6 0 1\"
+  matedesk perft \"rnbqkbnr/pppppppp/8/8/8/8/PPPPPPPP/RNBQKBNR w KQkq - 0 1\" 3
 
 Status:
   0  everything was answered
@@ -40,6 +42,39 @@ Example:
 
 A FEN that gives no sound position is refused: the error output names its first
 fault, and the status is 1.";
+
+/// `moves` in one line.
+pub const ABOUT_MOVES: &str = "Lists the legal moves of a FEN, or says `mate` or `stalemate`";
+
+/// What stands below the arguments of `moves`.
+pub const AFTER_MOVES: &str =
+    "Each move stands on a line of its own: the square that it leaves, the square that it goes to,
+and for a pawn on the last rank what it becomes. They rise by these three.
+
+Example:
+  $ matedesk moves \"8/8/8/K2pP2r/8/8/8/7k w - d6 0 1\"
+  a5a4
+  a5b4
+  a5b5
+  a5a6
+  a5b6
+  e5e6
+
+The pawn on d5 can't be taken in passing: two pawns would leave the rank of the king.";
+
+/// `perft` in one line.
+pub const ABOUT_PERFT: &str = "Counts the lines of DEPTH legal moves from a FEN";
+
+/// What stands below the arguments of `perft`.
+pub const AFTER_PERFT: &str =
+    "The count is the one by which chess programs compare their move generators.
+
+Example:
+  $ matedesk perft \"rnbqkbnr/pppppppp/8/8/8/8/PPPPPPPP/RNBQKBNR w KQkq - 0 1\" 3
+  8902";
+
+/// The argument DEPTH in one line.
+pub const ABOUT_DEPTH: &str = "How many moves a line has, 0 to 6";
 
 /// The argument FEN in one line.
 pub const ABOUT_FEN: &str = "A position in Forsyth-Edwards Notation, in quotes";

@@ -13,7 +13,7 @@ use std::alloc::{AllocError, Global};
 fn takes_fen(name: &str) -> bool
     ensures { result ≡ takes_fen name.now }
 {
-    name == "look"
+    name == "look" || name == "moves" || name == "perft"
 }
 
 /// Whether `clap` would take the word for an option, but for those of help and of the end of the options.

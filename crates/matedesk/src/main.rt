@@ -7,10 +7,14 @@
 
 mod command;
 mod command_line;
+mod depths;
 mod help;
 mod hyphens;
 mod look;
+mod moves;
+mod perft;
 mod request;
+mod shown;
 mod status;
 mod writing;
 

@@ -1,11 +1,14 @@
 //! From the words of a command line to a request.
 
 ghost use Rattle.std.specs.Prelude.{◌≡◌, ◌≢◌, None, IfOk, IfErr, map, option_map, true};
-ghost use Rattle.clap.specs.Words.{first_of, found_of, kind_of, rows_of};
-ghost use Rattle.matedesk.specs.Asked.{asked_by, asked_exactly, asked_of, asks_display_exactly, is_display};
+ghost use Rattle.std.specs.Option.{option_map_or};
+ghost use Rattle.clap.specs.Walk.{byte_or_zero};
+ghost use Rattle.clap.specs.Words.{first_of, found_of, kind_of, one_of, rows_of};
+ghost use Rattle.matedesk.specs.Asked.{asked_by, asked_exactly, depth_in, asked_of, asks_display_exactly, is_display};
 ghost use Rattle.matedesk.specs.Request.{plan_of};
 
 use crate::command_line::desk_command;
+use crate::depths::Depth;
 use clap::error::ErrorKind;
 use clap::{ArgMatches, Error};
 use std::alloc::Global;
@@ -15,6 +18,10 @@ use std::alloc::Global;
 pub enum Request<'a> {
     /// Show a FEN in canonical form, and whether the side to move is in check.
     Look(&'a str),
+    /// List the legal moves of a FEN, or say how the game has ended.
+    Moves(&'a str),
+    /// Count the lines of so many legal moves from a FEN.
+    Perft(&'a str, Depth),
 }
 
 /// The value of a positional.
@@ -24,6 +31,20 @@ fn text_in<'a>(matches: &ArgMatches<'a>, id: &str) -> Option<&'a str>
     matches.get_str(id)
 }
 
+/// The number of a positional.
+fn number_in(matches: &ArgMatches, id: &str) -> u8
+    ensures { result ≡ option_map_or byte_or_zero (one_of id.now (rows_of (found_of matches.now))) 0 }
+{
+    matches.get_one::<u8>(id).unwrap_or(0)
+}
+
+/// The depth of `perft`. `clap` has kept it to its range.
+fn depth_in(matches: &ArgMatches) -> Option<Depth>
+    ensures { result ≡ depth_in (rows_of (found_of matches.now)) }
+{
+    Depth::new(number_in(matches, "DEPTH"))
+}
+
 /// What the arguments of a command ask for, by its name.
 #[tactic(auto, unfolding(crate::specs::Asked::asked_by))]
 fn request_by<'a>(name: &str, matches: &ArgMatches<'a>) -> Option<Request<'a>>
@@ -31,6 +52,11 @@ fn request_by<'a>(name: &str, matches: &ArgMatches<'a>) -> Option<Request<'a>>
 {
     if name == "look" {
         text_in(matches, "FEN").map(Request::Look)
+    } else if name == "moves" {
+        text_in(matches, "FEN").map(Request::Moves)
+    } else if name == "perft" {
+        let depth = depth_in(matches)?;
+        text_in(matches, "FEN").map(|fen| Request::Perft(fen, depth))
     } else {
         None
     }

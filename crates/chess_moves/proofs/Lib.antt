@@ -1,0 +1,10 @@
+pub mod Played
+pub mod Sieve
+pub mod PawnSteps
+pub mod Few
+pub mod AnyMove
+pub mod Rises
+pub mod Listed
+pub mod Counts
+pub mod Lines
+pub mod Once

@@ -1,0 +1,102 @@
+-- The list holds exactly the legal moves.
+use Rattle.std.proofs.Common.{◌≡◌, ℕ, zero, suc, ◌<◌, Bool, true, false, cond, List, [], ◌∷◌, filter, length, get_or, Option, Some, None, refl, sym, ap, ◌∙◌, arith, inl, inr}
+use Rattle.std.specs.Prelude.{Contains}
+use Rattle.std.proofs.lemmas.Bool.{cases_eq, and_parts}
+use Rattle.std.proofs.lemmas.List.Elements.{Contains-get_or, Contains-append_left, Contains-append_right, Contains-append_cases}
+use Rattle.chess_board.specs.declared.men.Kind.{Kind}
+use Rattle.chess_board.specs.declared.men.Kind.TheVariants.{Pawn, Knight, Bishop, Rook, Queen, King}
+use Rattle.chess_board.specs.declared.men.Man.{Man}
+use Rattle.chess_board.specs.Moves.{Move}
+use Rattle.chess_board.specs.Positions.{Setup}
+use Rattle.chess_board.specs.Candidates.{suits, promotes, is_promotion}
+use Rattle.chess_board.specs.Legality.{is_legal}
+use Rattle.chess_moves.specs.Listing.{move_of, moves_between, moves_to, moves_below, legal_moves}
+use Rattle.chess_moves.specs.Laws.{LegalListed}
+use Rattle.chess_moves.proofs.Played.{played}
+
+kept : (f : Move → Bool) (xs : List Move) (x : Move) → Contains xs x → f x ≡ true → Contains (filter f xs) x
+kept f [] x (k, on, e) t = absurd (omega arith)
+kept f (y ∷ ys) x (zero, on, e) t =
+    let g : f y ≡ true = ap f e ∙ t in
+    rw g (0, omega arith, e)
+kept f (y ∷ ys) x (suc k, on, e) t =
+    let r = kept f ys x (k, omega arith, e) t in
+    elim (f y) as (λ b. Contains (cond b (y ∷ filter f ys) (filter f ys)) x) [ true ↦ Contains-append_right (y ∷ []) (filter f ys) x r | false ↦ r ]
+
+sifted : (f : Move → Bool) (xs : List Move) (x : Move) → Contains (filter f xs) x → Contains xs x × (f x ≡ true)
+sifted f [] x (k, on, e) = absurd (omega arith)
+sifted f (y ∷ ys) x c =
+    (elim (f y) as (λ b. f y ≡ b → Contains (cond b (y ∷ filter f ys) (filter f ys)) x → Contains (y ∷ ys) x × (f x ≡ true)) [
+      | false ↦ λ t h. let r = sifted f ys x h in (Contains-append_right (y ∷ []) ys x r.0, r.1)
+      | true ↦ λ t h. elim (Contains-append_cases (y ∷ []) (filter f ys) x h) [
+        | inl here ↦ let e = only y x here in ((0, omega arith, e), ap f (sym e) ∙ t)
+        | inr there ↦ let r = sifted f ys x there in (Contains-append_right (y ∷ []) ys x r.0, r.1)
+      ]
+    ]) refl c
+  where
+    only : (y x : Move) → Contains (y ∷ []) x → y ≡ x
+    only y x (zero, on, e) = e
+    only y x (suc k, on, e) = absurd (omega arith)
+
+between_in : (o t : ℕ) (m : Move) → Contains (moves_between o t) m → (m.origin ≡ o) × (m.target ≡ t)
+unfolding moves_between
+between_in o t m (zero, on, e) = (ap (λ x. x.origin) (sym e), ap (λ x. x.target) (sym e))
+between_in o t m (suc zero, on, e) = (ap (λ x. x.origin) (sym e), ap (λ x. x.target) (sym e))
+between_in o t m (suc (suc zero), on, e) = (ap (λ x. x.origin) (sym e), ap (λ x. x.target) (sym e))
+between_in o t m (suc (suc (suc zero)), on, e) = (ap (λ x. x.origin) (sym e), ap (λ x. x.target) (sym e))
+between_in o t m (suc (suc (suc (suc zero))), on, e) = (ap (λ x. x.origin) (sym e), ap (λ x. x.target) (sym e))
+between_in o t m (suc (suc (suc (suc (suc k)))), on, e) = absurd (omega arith)
+
+to_in : (o n : ℕ) (m : Move) → Contains (moves_to o n) m → (m.origin ≡ o) × (m.target < n)
+unfolding moves_to
+to_in o zero m (k, on, e) = absurd (omega arith)
+to_in o (suc n) m c = elim (Contains-append_cases (moves_to o n) (moves_between o n) m c) [
+  | inl h ↦ let r = to_in o n m h in (r.0, (let x = r.1 in omega arith))
+  | inr h ↦ let r = between_in o n m h in (r.0, (let x = r.1 in omega arith))
+]
+
+below_in : (n : ℕ) (m : Move) → Contains (moves_below n) m → (m.origin < n) × (m.target < 64)
+unfolding moves_below
+below_in zero m (k, on, e) = absurd (omega arith)
+below_in (suc n) m c = elim (Contains-append_cases (moves_below n) (moves_to n 64) m c) [
+  | inl h ↦ let r = below_in n m h in ((let x = r.0 in omega arith), r.1)
+  | inr h ↦ let r = to_in n 64 m h in ((let x = r.0 in omega arith), r.1)
+]
+
+to_has : (o t n : ℕ) (m : Move) → t < n → Contains (moves_between o t) m → Contains (moves_to o n) m
+unfolding moves_to
+to_has o t zero m l c = absurd (omega arith)
+to_has o t (suc n) m l c = elim (cases_eq t n) [
+  | inl e ↦ Contains-append_right (moves_to o n) (moves_between o n) m (rw e at c)
+  | inr ne ↦ Contains-append_left (moves_to o n) (moves_between o n) m (to_has o t n m (omega arith) c)
+]
+
+below_has : (o n : ℕ) (m : Move) → o < n → Contains (moves_to o 64) m → Contains (moves_below n) m
+unfolding moves_below
+below_has o zero m l c = absurd (omega arith)
+below_has o (suc n) m l c = elim (cases_eq o n) [
+  | inl e ↦ Contains-append_right (moves_below n) (moves_to n 64) m (rw e at c)
+  | inr ne ↦ Contains-append_left (moves_below n) (moves_to n 64) m (below_has o n m (omega arith) c)
+]
+
+-- The move itself stands between its squares.
+between_has : (man : Man) (o t : ℕ) (r : Option Kind) → suits man t r ≡ true → Contains (moves_between o t) (move_of o t r)
+unfolding moves_between
+between_has man o t None s = (0, omega arith, refl)
+between_has man o t (Some Knight) s = (1, omega arith, refl)
+between_has man o t (Some Bishop) s = (2, omega arith, refl)
+between_has man o t (Some Rook) s = (3, omega arith, refl)
+between_has man o t (Some Queen) s = (4, omega arith, refl)
+between_has man o t (Some Pawn) s = let x = (and_parts (promotes man t) (is_promotion Pawn) s).1 in cc
+between_has man o t (Some King) s = let x = (and_parts (promotes man t) (is_promotion King) s).1 in cc
+
+pub legal_listed : LegalListed
+unfolding legal_moves
+legal_listed p m = (
+  (λ c. let s = sifted (is_legal p) (moves_below 64) m c in let r = below_in 64 m s.0 in (r.0, r.1, s.1)),
+  (λ h. let w = played p m h.2 in
+      kept (is_legal p) (moves_below 64) m (below_has m.origin 64 m h.0 (to_has m.origin m.target 64 m h.1 (between_has w.0 m.origin m.target m.promotion w.1.suits))) h.2),
+)
+
+pub listed_legal : (p : Setup) (i : ℕ) (d : Move) → i < length (legal_moves p) → is_legal p (get_or (legal_moves p) i d) ≡ true
+listed_legal p i d on = ((legal_listed p (get_or (legal_moves p) i d)).0 (Contains-get_or (legal_moves p) i d on)).2

@@ -1,0 +1,14 @@
+use Rattle.std.proofs.Common.{◌≡◌, ◌≤◌, ◌*◌, ◌-◌, ◌^◌, length, take}
+use Rattle.std.specs.List.{sum_by}
+use Rattle.chess_board.specs.After.{after_setup}
+use Rattle.chess_moves.specs.Plays.{plays}
+use Rattle.chess_moves.proofs.plays.+count_plays.Given as goal
+
+abbrev pub decreases-count_plays : goal.decreases-count_plays
+decreases-count_plays l = l.depth
+
+abbrev pub invariant-loop-m : goal.invariant-loop-m
+invariant-loop-m l = record {
+  counted : l.total ≡ sum_by (λ m. length (plays (after_setup l.position m) (l.depth - 1))) (take l.m-index l.m-items);
+  few : l.total ≤ l.m-index * 1024 ^ (l.depth - 1);
+}

@@ -1,0 +1,4 @@
+pub mod Listing
+pub mod Verdicts
+pub mod Plays
+pub mod Laws

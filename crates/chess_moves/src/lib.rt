@@ -1,0 +1,26 @@
+//! The legal moves of a position, its verdict, and the count of the lines of play.
+//!
+//! A position and a single move's legality are `chess_board`'s business; here stand all the legal moves together. The list is
+//! exact: each legal move once, in the order of moves. Each call takes the `Rays`, which are made once for the program.
+//!
+//! To read: `specs/Listing.antt` and `listing`, then `judging` and `plays`; `laws` says what the lists hold in words that do
+//! not speak of how they are made. No call takes memory.
+#![tactic(auto)]
+
+mod attacking;
+mod judging;
+mod laws;
+mod listing;
+mod movers;
+mod plays;
+mod verdicts;
+
+pub use attacking::{Rays, attacked};
+pub use judging::verdict;
+pub use laws::{legal_listed, legal_rise, plays_listed, plays_once};
+pub use listing::{MoveList, is_legal, legal};
+pub use plays::perft;
+pub use verdicts::Verdict;
+
+#[cfg(test)]
+mod tests;

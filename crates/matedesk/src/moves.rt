@@ -1,0 +1,70 @@
+//! The command `moves`.
+
+ghost use Rattle.std.specs.Prelude.{◌≡◌, ◌++◌, Err, IfOk};
+ghost use Rattle.matedesk.specs.Asked.{moves as moves_asked};
+ghost use Rattle.matedesk.specs.Command.{Gains, HasText};
+ghost use Rattle.matedesk.specs.MovesShown.{list_text, moves_text, text_by};
+ghost use Rattle.matedesk.specs.Shown.{line};
+
+use crate::shown::{push_line, read};
+use crate::status::Stop;
+use crate::writing::put;
+use chess_board::{Fen, Position};
+use chess_moves::{Rays, Verdict, legal, verdict};
+use std::alloc::{AllocError, Global};
+use std::io::Write;
+
+/// A text of one line.
+fn one_line(alloc: Global, words: &str) -> Result<Vec<u8>, AllocError>
+    ensures { IfOk result (λ text. text.items ≡ line words.now) }
+{
+    let mut text = Vec::new(alloc);
+    push_line(&mut text, words)?;
+    Ok(text)
+}
+
+/// Each legal move on a line, in move order.
+#[tactic(auto, unfolding(crate::specs::MovesShown::list_text))]
+fn list_text(alloc: Global, rays: &Rays, position: &Position) -> Result<Vec<u8>, AllocError>
+    ensures { IfOk result (λ text. text.items ≡ list_text position.now) }
+{
+    let moves = legal(rays, position);
+    let mut text = Vec::new(alloc);
+    for m in moves.as_slice() {
+        let name = m.text();
+        push_line(&mut text, name.as_str())?;
+    }
+    Ok(text)
+}
+
+/// The legal moves, or how the game has ended where there is none.
+#[tactic(auto, unfolding(crate::specs::MovesShown::moves_text))]
+fn moves_text(alloc: Global, fen: &Fen) -> Result<Vec<u8>, AllocError>
+    ensures { IfOk result (λ text. text.items ≡ moves_text fen.now) }
+{
+    let rays = Rays::new();
+    match verdict(&rays, &fen.position) {
+        Verdict::Play => list_text(alloc, &rays, &fen.position),
+        Verdict::Mate => one_line(alloc, "mate"),
+        Verdict::Stalemate => one_line(alloc, "stalemate"),
+    }
+}
+
+/// Lists the legal moves of a FEN, or names its fault on `err`; gives whether it was refused.
+#[tactic(auto, unfolding(crate::specs::Shown::IsRead))]
+pub fn moves<O: Write, E: Write>(
+    alloc: Global,
+    fen: &str,
+    out: &mut O,
+    err: &mut E,
+) -> Result<bool, Stop>
+    ensures ok { IfOk result (λ refused. Gains (moves_asked fen.now) refused (O.contents out.old) (O.contents out.new)) }
+    ensures unwritable { result ≡ Err Stop.Unwritable → HasText (moves_asked fen.now) }
+{
+    let Some(fen) = read(fen, err) else {
+        return Ok(true);
+    };
+    let text = moves_text(alloc, &fen)?;
+    put(out, text.as_slice())?;
+    Ok(false)
+}
