@@ -22,8 +22,8 @@ pub fn is_legal(_rays: &Rays, position: &Position, m: Move) -> bool
     chess_board::is_legal(position, m)
 }
 
-/// Exactly the legal moves, each once, by origin, then target, then promotion (none, knight, bishop, rook, queen). No move is
-/// a valid answer: then the game has ended.
+/// Exactly the legal moves, each once, by origin, then target, then promotion (none, knight, bishop, rook, queen). An empty
+/// list means that the game has ended.
 #[tactic(auto, using(crate::proofs::Sieve::below_none, crate::proofs::Sieve::below_more, crate::proofs::Sieve::legal_is))]
 pub fn legal(_rays: &Rays, position: &Position) -> MoveList
     ensures { result.items ≡ legal_moves position.now }

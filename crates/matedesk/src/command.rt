@@ -37,12 +37,7 @@ fn answer<O: Write, E: Write>(
 }
 
 /// Answers what the words ask for. Matches that ask for nothing are a misuse like any other.
-fn run<O: Write, E: Write>(
-    alloc: Global,
-    request: &Option<Request>,
-    out: &mut O,
-    err: &mut E,
-) -> u8
+fn run<O: Write, E: Write>(alloc: Global, request: &Option<Request>, out: &mut O, err: &mut E) -> u8
     ensures ends { Ends (option_map plan_of request.now) result (O.contents out.old) (O.contents out.new) }
     ensures asked { result ≢ 2 → IsSome (option_map plan_of request.now) }
 {

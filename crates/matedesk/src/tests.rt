@@ -95,6 +95,7 @@ fn a_refused_fen_is_named_on_err(rt: HostRuntime) -> Result<(), Fail> {
         ["look", ""],
         ["look", "8/8"],
         ["look", "-abc"],
+        ["moves", "-abc"],
         ["look", "-"],
         ["look", "-V"],
         ["look", "--version"],
@@ -115,6 +116,67 @@ fn a_refused_fen_is_named_on_err(rt: HostRuntime) -> Result<(), Fail> {
 }
 
 #[test]
+fn each_fault_of_a_fen_is_named(rt: HostRuntime) -> Result<(), Fail> {
+    let alloc = rt.alloc();
+    let rows = [
+        ("4k3/8/8/8/8/8/8/4K3 w - - 0 1 x", "FieldCount"),
+        ("4k3/8/8/8/8/8/8/4K3  w - - 0 1", "FieldCount"),
+        ("7kK/8/8/8/8/8/8/8 w - - 0 1", "BadPlacement"),
+        ("44/8/8/8/8/8/8/K1k5 w - - 0 1", "BadPlacement"),
+        ("4k3/8/8/8/8/8/8/4K3 W - - 0 1", "BadSide"),
+        ("4k3/8/8/8/8/8/8/4K3 w KK - 0 1", "BadCastling"),
+        ("4k3/8/8/8/4P3/8/8/4K3 w - e3 0 1", "BadTarget"),
+        ("4k3/8/8/8/8/8/8/4K3 w - - x 1", "BadCounter"),
+        ("8/8/8/8/8/8/8/K7 w - - 0 1", "BadKings"),
+        ("P7/8/8/8/8/8/8/K1k5 w - - 0 1", "PawnOnEndRank"),
+        ("4k3/8/8/8/8/P7/PPPPPPPP/RNBQKBNR w - - 0 1", "TooManyMen"),
+        ("4k3/8/8/8/8/8/8/4K3 w K - 0 1", "RightWithoutMen"),
+        ("4k3/8/8/8/8/8/8/4K3 w - e6 0 1", "TargetWithoutPawn"),
+        ("4k3/8/8/8/8/8/8/4RK2 w - - 0 1", "OpponentInCheck"),
+        ("8/8/8/8/8/8/8/Kk6 w - - 0 1", "OpponentInCheck"),
+    ];
+    for (fen, fault) in rows {
+        let message = format!(in alloc; "matedesk: {fault}\n")?;
+        for words in [["look", fen, ""], ["moves", fen, ""], ["perft", fen, "1"]] {
+            let given = if words[2].is_empty() { 2 } else { 3 };
+            let ended = run(alloc, &words[..given], ALWAYS, ALWAYS)?;
+            assert_eq!(rt; ended.status, 1, "{fen}");
+            assert_eq!(rt; ended.out.as_slice(), b"".as_slice(), "{fen}");
+            assert_eq!(rt; ended.err.as_slice(), message.as_bytes(), "{fen}");
+        }
+    }
+    Ok(())
+}
+
+#[test]
+fn moves_and_perft_show_what_is_legal(rt: HostRuntime) -> Result<(), Fail> {
+    let alloc = rt.alloc();
+    let passing = "8/8/8/K2pP2r/8/8/8/7k w - d6 0 1";
+    let stalemate = "7k/5Q2/6K1/8/8/8/8/8 b - - 0 1";
+    let castling = "4kr2/8/8/8/8/8/8/R3K2R w KQ - 0 1";
+    let rows = [
+        (
+            ["moves", passing, ""],
+            "a5a4\na5b4\na5b5\na5a6\na5b6\ne5e6\n",
+        ),
+        (["moves", MATED, ""], "mate\n"),
+        (["moves", stalemate, ""], "stalemate\n"),
+        (["perft", START, "0"], "1\n"),
+        (["perft", START, "2"], "400\n"),
+        (["perft", castling, "1"], "23\n"),
+        (["perft", MATED, "6"], "0\n"),
+    ];
+    for (words, text) in rows {
+        let given = if words[2].is_empty() { 2 } else { 3 };
+        let ended = run(alloc, &words[..given], ALWAYS, ALWAYS)?;
+        assert_eq!(rt; ended.status, 0, "{text}");
+        assert_eq!(rt; ended.out.as_slice(), text.as_bytes());
+        assert_eq!(rt; ended.err.as_slice(), b"".as_slice(), "{text}");
+    }
+    Ok(())
+}
+
+#[test]
 fn misused_words_end_with_two(rt: HostRuntime) -> Result<(), Fail> {
     let alloc = rt.alloc();
     let rows = [
@@ -127,6 +189,11 @@ fn misused_words_end_with_two(rt: HostRuntime) -> Result<(), Fail> {
         ("help", "unrecognized subcommand 'help'"),
         ("--fen", "unexpected argument '--fen'"),
         ("-abc look", "unexpected argument '-a'"),
+        ("moves", "required arguments were not provided"),
+        ("perft a", "required arguments were not provided"),
+        ("perft a 7", "7 is not in 0..=6"),
+        ("perft a x", "invalid value 'x'"),
+        ("perft a 1 2", "unexpected argument '2'"),
     ];
     for (line, text) in rows {
         let mut words = Vec::new(alloc);
@@ -165,6 +232,8 @@ fn help_and_version_go_to_out(rt: HostRuntime) -> Result<(), Fail> {
         ("-h", "look"),
         ("look --help", "Forsyth-Edwards Notation"),
         ("look -h", "Usage: matedesk look <FEN>"),
+        ("moves --help", "matedesk moves \"8/8"),
+        ("perft --help", "How many moves a line has, 0 to 6"),
         ("--version", VERSION),
         ("-V", VERSION),
     ];
@@ -197,6 +266,9 @@ fn a_faulty_out_ends_with_four_and_a_faulty_err_is_passed_over(
         ("look", "8/8", ALWAYS, 0, 1),
         ("look", "8/8", ALWAYS, 1, 1),
         ("look", "8/8", 0, 0, 1),
+        ("moves", START, 0, ALWAYS, 4),
+        ("moves", START, ALWAYS, 0, 0),
+        ("moves", "8/8", 0, 0, 1),
     ];
     for (name, fen, outs, errs, status) in rows {
         let ended = run(alloc, &[name, fen], outs, errs)?;

@@ -1,4 +1,4 @@
-use Rattle.std.proofs.Common.{◌≡◌, ◌∙◌, ◌&&◌, Bool, true, false, refl, ap}
+use Rattle.std.proofs.Common.{◌≡◌, ◌∙◌, ◌&&◌, Bool, true, false, refl, ap, rules}
 use Rattle.chess_board.proofs.fens.FenPartialEq.eq.Goals as goal
 
 turned : (h f p : Bool) → ((h && f) && p) ≡ (p && (h && f))
@@ -13,4 +13,4 @@ joined : (e a r h f p : Bool) → e ≡ h → a ≡ (e && f) → r ≡ (a && p) 
 joined e a r h f p x y z = z ∙ ap (λ b. b && p) (y ∙ ap (λ b. b && f) x) ∙ turned h f p
 
 pub returns : goal.returns
-returns c = rw (← c.t1-1.view_is, ← c.t2-1.view_is) (joined _ _ _ _ _ _ c.eq.ensures c.and_eq.ensures c.and_eq-2.ensures)
+returns c = search (rules, joined)
