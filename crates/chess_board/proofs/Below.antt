@@ -1,6 +1,6 @@
 -- Tests of all numbers below a number.
 use Rattle.std.proofs.Common.{◌≡◌, ℕ, zero, suc, ◌+◌, ◌<◌, Bool, true, false, ◌||◌, eqb, refl, arith, add-one}
-use Rattle.std.proofs.lemmas.Bool.{eqb-true, eqb-false, or_parts, and_parts, and_from, or_right, or_left}
+use Rattle.std.proofs.lemmas.Bool.{eqb-true, eqb-false, and_parts, and_from, or_right, or_left}
 use Rattle.chess_board.specs.Squares.{any_below, all_below}
 
 pub any_none : (p : ℕ → Bool) → any_below 0 p ≡ false
@@ -19,20 +19,6 @@ any_at p (suc n) s h e = (elim (eqb s n) as (λ b. eqb s n ≡ b → (any_below 
   | true ↦ λ t. let same = eqb-true s n t in or_right (any_below n p) (p n) (rw same at e)
   | false ↦ λ t. let ne = eqb-false s n t in or_left (any_below n p) (p n) (any_at p n s (omega arith) e)
 ]) refl
-
--- what none of them passes
-pub any_no : (p : ℕ → Bool) (n s : ℕ) → any_below n p ≡ false → s < n → p s ≡ false
-unfolding any_below
-any_no p zero s h l = absurd (omega arith)
-any_no p (suc n) s h l = (elim (eqb s n) as (λ b. eqb s n ≡ b → p s ≡ false) [
-  | true ↦ λ t. let same = eqb-true s n t in rw same ((or_parts (any_below n p) (p n) h).1)
-  | false ↦ λ t. let ne = eqb-false s n t in any_no p n s ((or_parts (any_below n p) (p n) h).0) (omega arith)
-]) refl
-
-pub any_same : (p q : ℕ → Bool) (n : ℕ) → ((s : ℕ) → s < n → p s ≡ q s) → any_below n p ≡ any_below n q
-unfolding any_below
-any_same p q zero h = refl
-any_same p q (suc n) h = let e = any_same p q n (λ s l. h s (omega arith)) in let f = h n (omega arith) in rw (e, f)
 
 pub all_yes : (p : ℕ → Bool) (n s : ℕ) → all_below n p ≡ true → s < n → p s ≡ true
 unfolding all_below

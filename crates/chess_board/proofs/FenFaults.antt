@@ -1,5 +1,5 @@
 -- Which fault of a text is its first, and that a text with a fault spells no FEN of a sound position.
-use Rattle.std.proofs.Common.{◌≡◌, ◌∙◌, List, [], ◌∷◌, length, slice_index_or, refl, ap, sym, subst, inl, inr, ℕ, true≢false}
+use Rattle.std.proofs.Common.{◌≡◌, ◌∙◌, List, [], ◌∷◌, length, slice_index_or, ap, sym, subst, inr, ℕ, true≢false}
 use Rattle.chess_board.specs.declared.faults.FenFault.{FenFault}
 use Rattle.chess_board.specs.declared.faults.FenFault.TheVariants.{FieldCount, BadPlacement, BadSide, BadCastling, BadTarget, BadCounter, BadKings, PawnOnEndRank, TooManyMen, RightWithoutMen, TargetWithoutPawn, OpponentInCheck}
 use Rattle.chess_board.specs.Positions.{Setup}
@@ -85,16 +85,6 @@ fault_of_spelling text a b c d e g fault six h =
 spelt_here : (text a b c d e g : List ℕ) (p : Setup) → pieces text ≡ a ∷ b ∷ c ∷ d ∷ e ∷ g ∷ []
     → SpellsSetup (record { placement = a; side = b; castling = c; target = d }) p → SpellsSetup (fields_of text) p
 spelt_here text a b c d e g p six h = subst (λ ps. SpellsSetup (fields_in ps) p) (sym six) h
-
-pub fault_of_counters : (text a b c d e g : List ℕ) (p : Setup) → pieces text ≡ a ∷ b ∷ c ∷ d ∷ e ∷ g ∷ []
-    → SpellsSetup (record { placement = a; side = b; castling = c; target = d }) p → ¬ (IsCounter e × IsCounter g) → IsFault text BadCounter
-unfolding IsFault
-fault_of_counters text a b c d e g p six spelt h =
-    let no : ¬ (IsCounter (piece text 4) × IsCounter (piece text 5)) = subst (λ ps. ¬ (IsCounter (slice_index_or ps 4 []) × IsCounter (slice_index_or ps 5 []))) (sym six) h in
-    inr (
-      (λ other. other (ap length six)),
-      first_behind (Applies text) spelling_faults (BadCounter ∷ position_faults) BadCounter (spelt_right (fields_of text) p (spelt_here text a b c d e g p six spelt)) (inl (no, refl)),
-    )
 
 pub fault_of_position : (text a b c d e g : List ℕ) (p : Setup) (fault : FenFault) → pieces text ≡ a ∷ b ∷ c ∷ d ∷ e ∷ g ∷ []
     → SpellsSetup (record { placement = a; side = b; castling = c; target = d }) p → IsCounter e → IsCounter g

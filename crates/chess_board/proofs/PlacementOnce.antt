@@ -1,9 +1,8 @@
 -- What follows from the definition of the placement field: it tells boards apart, and no space stands in it.
-use Rattle.std.proofs.Common.{◌≡◌, ◌≢◌, ℕ, zero, suc, ◌*◌, List, [], ◌∷◌, ◌++◌, false, length, ap, ap₂, sym, refl, ◌∙◌, arith, Option, take, drop, get_or, ◌==◌, length-drop, length-take-le, take-append-drop}
+use Rattle.std.proofs.Common.{◌≡◌, ◌≢◌, ℕ, zero, suc, ◌*◌, List, [], ◌∷◌, ◌++◌, false, length, ap, ap₂, sym, ◌∙◌, arith, Option, take, drop, get_or, ◌==◌, length-drop, length-take-le, take-append-drop}
 use Rattle.std.specs.List.{All, join_with_byte, slice_split}
 use Rattle.std.proofs.lemmas.List.{same_from_push, nil_from_length}
 use Rattle.std.proofs.lemmas.List.Elements.{All-nil, All-cons, All-append}
-use Rattle.std.proofs.lemmas.List.Splits.{slice_split_at}
 use Rattle.chess_board.specs.declared.men.Man.{Man}
 use Rattle.chess_board.specs.Placement.{rank_text, placement_text}
 use Rattle.chess_board.proofs.TextParts.{eqb-false}
@@ -36,7 +35,3 @@ pub placement_has_no_space : (men : List (Option Man)) → All (λ b. (b == 32) 
 placement_has_no_space men k d inside =
     let lacks : All (λ b. b ≢ 32) (placement_text men) = rw (placement_text-rank_texts men) (joined_lack 32 47 (λ same. omega arith) (rank_texts 8 men) (rank_texts_lack 32 (omega arith) 8 men)) in
     eqb-false (get_or (placement_text men) k d) 32 (lacks k d inside)
-
--- A text that begins with a placement field and a space gives the field back when it is cut at its spaces.
-pub slice_split_after_placement : (men : List (Option Man)) (rest : List ℕ) → slice_split (λ b. b == 32) (placement_text men ++ 32 ∷ rest) ≡ placement_text men ∷ slice_split (λ b. b == 32) rest
-slice_split_after_placement men rest = slice_split_at (λ b. b == 32) (placement_text men) 32 rest (placement_has_no_space men) refl

@@ -1,5 +1,5 @@
--- The texts of several ranks: what bytes they have, how long they are, and how they make a placement field.
-use Rattle.std.proofs.Common.{◌≡◌, ◌≢◌, ℕ, zero, suc, ◌+◌, ◌-◌, ◌*◌, ◌<◌, ◌≤◌, List, [], ◌∷◌, ◌++◌, length, refl, ap, sym, ◌∙◌, arith, Option, Some, None, take, drop, get_or, ◌==◌, length-append, length-take, length-drop, length-take-le, append_assoc, inl, inr}
+-- The texts of several ranks: what bytes they have, and how they make a placement field.
+use Rattle.std.proofs.Common.{◌≡◌, ◌≢◌, ℕ, zero, suc, ◌+◌, ◌-◌, ◌*◌, ◌<◌, ◌≤◌, List, [], ◌∷◌, ◌++◌, length, refl, ap, sym, ◌∙◌, arith, Option, Some, None, take, drop, get_or, ◌==◌, length-append, length-drop, length-take-le, append_assoc, inl, inr}
 use Rattle.std.specs.List.{All, slice_split, join_with_byte}
 use Rattle.std.proofs.lemmas.List.{drop-drop, take_at, drop_at, get_or_at, get_or_append_left}
 use Rattle.std.proofs.lemmas.List.Elements.{All-nil, All-cons, All-append}
@@ -21,20 +21,6 @@ rank_text_above n ((Some man) ∷ places) =
     let letter : 65 < man_letter man = man_letter_above man in
     All-append (λ b. 48 < b) (run_text n) (man_letter man ∷ rank_text_after 0 places) (run_text_above n)
     (All-cons (λ b. 48 < b) (man_letter man) (rank_text_after 0 places) (omega arith) (rank_text_above 0 places))
-
-length-run_text-le : (n : ℕ) → length (run_text n) ≤ n
-length-run_text-le zero = omega arith
-length-run_text-le (suc n) = omega arith
-
-length-rank_text_after-le : (n : ℕ) (places : List (Option Man)) → length (rank_text_after n places) ≤ n + length places
-length-rank_text_after-le n [] = omega (arith, length-run_text-le n)
-length-rank_text_after-le n (None ∷ places) = omega (arith, length-rank_text_after-le (suc n) places)
-length-rank_text_after-le n ((Some man) ∷ places) =
-    omega (arith, length-append (run_text n) (man_letter man ∷ rank_text_after 0 places), length-run_text-le n, length-rank_text_after-le 0 places)
-
--- A rank's text is no longer than the rank.
-pub length-rank_text-le : (places : List (Option Man)) → length (rank_text places) ≤ length places
-length-rank_text-le places = omega (arith, length-rank_text_after-le 0 places)
 
 -- The texts of so many ranks, from the uppermost down, where the first of the men stand on the lowest.
 abbrev pub rank_texts : ℕ → List (Option Man) → List (List ℕ)
@@ -98,13 +84,3 @@ printed_more above rank men before text next inside so_far =
     ∙ ap (λ t. t ++ 47 ∷ rank_text (rank_places men rank)) (so_far ∙ ap (λ k. before ++ join_with_byte 47 (rank_texts k (drop (8 * above) men))) n ∙ ap (λ t. before ++ join_with_byte 47 (rank_texts (suc (7 - above)) t)) upper)
     ∙ append_assoc before (join_with_byte 47 (rank_texts (suc (7 - above)) (drop 8 (drop (8 * rank) men)))) (47 ∷ rank_text (rank_places men rank))
     ∙ ap (λ t. before ++ t) (sym (join_with_byte-rank_texts_more (7 - above) (drop (8 * rank) men)) ∙ ap (λ k. join_with_byte 47 (rank_texts k (drop (8 * rank) men))) more)
-
-length-joined-le : (n : ℕ) (men : List (Option Man)) → length (join_with_byte 47 (rank_texts (suc n) men)) ≤ 9 * n + 8
-length-joined-le zero men = omega (arith, length-rank_text-le (take 8 men), length-take 8 men)
-length-joined-le (suc n) men =
-    let last : length (rank_text (take 8 men)) ≤ 8 = omega (arith, length-rank_text-le (take 8 men), length-take 8 men) in
-    rw (join_with_byte-rank_texts_more n men, length-append) (omega (arith, length-joined-le n (drop 8 men)))
-
--- The placement field has at most 71 bytes: 64 for the squares and 7 slashes.
-pub length-placement_text-le : (men : List (Option Man)) → length (placement_text men) ≤ 71
-length-placement_text-le men = omega (arith, ap length (placement_text-rank_texts men), length-joined-le 7 men)
