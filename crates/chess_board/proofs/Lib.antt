@@ -15,6 +15,7 @@ pub mod Targets
 pub mod Spelling
 pub mod FenFaults
 pub mod FieldFaults
+pub mod FieldWords
 pub mod Walk
 pub mod Readings
 pub mod Conjunctions

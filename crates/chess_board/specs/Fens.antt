@@ -48,6 +48,10 @@ pub record Spells (text : List ℕ) (f : FenValue) : Type 0 where
   pub halfmove : SpellsCounter (piece text 4) f.halfmove
   pub fullmove : SpellsCounter (piece text 5) f.fullmove
 
+-- the four fields that are printed for a position
+abbrev pub fields_text : Setup → Fields
+fields_text p = record { placement = placement_text p.men; side = side_text p.side; castling = castling_text p.rights; target = target_text p.target }
+
 -- The one text that is printed for a position: its four fields.
 unfoldable pub position_text : Setup → List ℕ
 position_text p = placement_text p.men ++ 32 ∷ side_text p.side ++ 32 ∷ castling_text p.rights ++ 32 ∷ target_text p.target

@@ -1,5 +1,5 @@
--- Tests of attack and of legality with their squares and men named, and what a legal move keeps.
-use Rattle.std.specs.Prelude.{◌≡◌, ◌↔◌, ℕ, ◌<◌, true, false, List, Option, None}
+-- Tests of attack and of legality with their squares and men named, what a legal move keeps, and what four fields spell.
+use Rattle.std.specs.Prelude.{◌≡◌, ◌≢◌, ◌↔◌, ℕ, ◌<◌, true, false, List, [], All, Option, None}
 use Rattle.chess_board.specs.declared.men.Colour.{Colour}
 use Rattle.chess_board.specs.declared.men.Kind.{Kind}
 use Rattle.chess_board.specs.declared.men.Man.{Man}
@@ -7,6 +7,7 @@ use Rattle.chess_board.specs.Men.{man_of}
 use Rattle.chess_board.specs.Positions.{Setup, man_at}
 use Rattle.chess_board.specs.Attacks.{is_clear, is_between, attacks_as, is_attacked, is_in_check}
 use Rattle.chess_board.specs.Soundness.{IsSound}
+use Rattle.chess_board.specs.Fens.{Fields, SpellsSetup, fields_text}
 use Rattle.chess_board.specs.Moves.{Move}
 use Rattle.chess_board.specs.Candidates.{is_candidate}
 use Rattle.chess_board.specs.After.{after_setup}
@@ -30,3 +31,26 @@ LegalReads = (p : Setup) (m : Move) → (is_legal p m ≡ true) ↔
 -- A sound position stays sound after a legal move.
 abbrev pub SoundAfter : Type 0
 SoundAfter = (p : Setup) (m : Move) → IsSound p → m.origin < 64 → m.target < 64 → is_legal p m ≡ true → IsSound (after_setup p m)
+
+-- Four fields spell one position at most.
+abbrev pub SpellsOne : Type 0
+SpellsOne = (f : Fields) (p q : Setup) → SpellsSetup f p → SpellsSetup f q → p ≡ q
+
+-- an ASCII byte that is neither a control nor a space
+abbrev pub IsVisible : ℕ → Type 0
+IsVisible b = (32 < b) × (b < 127)
+
+-- at least one byte, each of them visible
+abbrev pub IsVisibleWord : List ℕ → Type 0
+IsVisibleWord text = (text ≢ []) × All IsVisible text
+
+-- The four fields that are printed for a sound position spell it, and each is one visible word.
+pub record ArePrinted (p : Setup) : Type 0 where
+  pub spelt : SpellsSetup (fields_text p) p
+  pub placement : IsVisibleWord (fields_text p).placement
+  pub side : IsVisibleWord (fields_text p).side
+  pub castling : IsVisibleWord (fields_text p).castling
+  pub target : IsVisibleWord (fields_text p).target
+
+abbrev pub PrintedSpells : Type 0
+PrintedSpells = (p : Setup) → IsSound p → ArePrinted p

@@ -1,6 +1,6 @@
 //! Laws about the definitions. Each function here does nothing: its contract is the law.
 
-ghost use Rattle.chess_board.specs.Laws.{AttackedReads, ClearReads, LegalReads, SoundAfter};
+ghost use Rattle.chess_board.specs.Laws.{AttackedReads, ClearReads, LegalReads, SoundAfter, SpellsOne, PrintedSpells};
 
 /// A square is attacked exactly where a man of the colour stands somewhere and attacks it as its kind does.
 pub fn attacked_reads()
@@ -20,4 +20,14 @@ pub fn legal_reads()
 /// A sound position stays sound after a legal move.
 pub fn sound_after()
     ensures { SoundAfter }
+{}
+
+/// Four fields spell one position at most.
+pub fn spells_one()
+    ensures { SpellsOne }
+{}
+
+/// The four fields that are printed for a position spell it, and each is one visible word.
+pub fn printed_spells()
+    ensures { PrintedSpells }
 {}

@@ -28,7 +28,7 @@ mod squares;
 
 pub use faults::FenFault;
 pub use fens::{Fen, read_fen, read_fields, reads_back};
-pub use laws::{attacked_reads, clear_reads, legal_reads, sound_after};
+pub use laws::{attacked_reads, clear_reads, legal_reads, printed_spells, sound_after, spells_one};
 pub use legality::is_legal;
 pub use making::after;
 pub use men::{Colour, Kind, Man, Rights, Wing};

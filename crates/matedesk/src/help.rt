@@ -48,17 +48,17 @@ pub const ABOUT_MOVES: &str = "Lists the legal moves of a FEN, or says `mate` or
 
 /// What stands below the arguments of `moves`.
 pub const AFTER_MOVES: &str =
-    "Each move stands on a line of its own: the square that it leaves, the square that it goes to,
-and for a pawn on the last rank what it becomes. They rise by these three.
+    "Each move stands on a line of its own, in Standard Algebraic Notation (SAN). They rise by the
+square that they leave, the square that they go to, and what a pawn becomes.
 
 Example:
   $ matedesk moves \"8/8/8/K2pP2r/8/8/8/7k w - d6 0 1\"
-  a5a4
-  a5b4
-  a5b5
-  a5a6
-  a5b6
-  e5e6
+  Ka4
+  Kb4
+  Kb5
+  Ka6
+  Kb6
+  e6
 
 The pawn on d5 can't be taken in passing: two pawns would leave the rank of the king.";
 

@@ -10,7 +10,8 @@ use crate::shown::{push_line, read};
 use crate::status::Stop;
 use crate::writing::put;
 use chess_board::{Fen, Position};
-use chess_moves::{Rays, Verdict, legal, verdict};
+use chess_moves::{Rays, Verdict, legal, legal_listed, verdict};
+use chess_notation::san;
 use std::alloc::{AllocError, Global};
 use std::io::Write;
 
@@ -23,15 +24,17 @@ fn one_line(alloc: Global, words: &str) -> Result<Vec<u8>, AllocError>
     Ok(text)
 }
 
-/// Each legal move on a line, in move order.
+/// Each legal move on a line, in SAN and in move order.
 #[tactic(auto, unfolding(crate::specs::MovesShown::list_text))]
 fn list_text(alloc: Global, rays: &Rays, position: &Position) -> Result<Vec<u8>, AllocError>
     ensures { IfOk result (λ text. text.items ≡ list_text position.now) }
 {
     let moves = legal(rays, position);
+    // That each of them is legal by itself, as `san` asks.
+    legal_listed();
     let mut text = Vec::new(alloc);
     for m in moves.as_slice() {
-        let name = m.text();
+        let name = san(rays, position, *m);
         push_line(&mut text, name.as_str())?;
     }
     Ok(text)

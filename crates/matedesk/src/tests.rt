@@ -155,10 +155,7 @@ fn moves_and_perft_show_what_is_legal(rt: HostRuntime) -> Result<(), Fail> {
     let stalemate = "7k/5Q2/6K1/8/8/8/8/8 b - - 0 1";
     let castling = "4kr2/8/8/8/8/8/8/R3K2R w KQ - 0 1";
     let rows = [
-        (
-            ["moves", passing, ""],
-            "a5a4\na5b4\na5b5\na5a6\na5b6\ne5e6\n",
-        ),
+        (["moves", passing, ""], "Ka4\nKb4\nKb5\nKa6\nKb6\ne6\n"),
         (["moves", MATED, ""], "mate\n"),
         (["moves", stalemate, ""], "stalemate\n"),
         (["perft", START, "0"], "1\n"),

@@ -1,0 +1,12 @@
+pub mod LegalMen
+pub mod TextBytes
+pub mod PawnTexts
+pub mod PawnOrigins
+pub mod PieceTexts
+pub mod Rivals
+pub mod CastlingTexts
+pub mod SameMoves
+pub mod BareTexts
+pub mod TextLengths
+pub mod TextMarks
+pub mod FullTexts

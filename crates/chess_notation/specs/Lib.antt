@@ -1,0 +1,2 @@
+pub mod San
+pub mod SanLaws

@@ -1,0 +1,24 @@
+//! What the texts of moves tell, however they are made.
+
+ghost use Rattle.chess_notation.specs.SanLaws.{TextsApart, BareTextsApart, TextsShort};
+
+use chess_moves::legal_listed;
+
+/// Two legal moves of one position never share a text (PGN Specification, section 8.2.3.4).
+pub fn texts_apart()
+    ensures { TextsApart }
+{
+    legal_listed();
+}
+
+/// Nor do they where the mark of a check is left out.
+pub fn bare_texts_apart()
+    ensures { BareTextsApart }
+{
+    legal_listed();
+}
+
+/// A legal move's text has at most seven bytes: room for it can be set aside before it is known.
+pub fn texts_short()
+    ensures { TextsShort }
+{}
