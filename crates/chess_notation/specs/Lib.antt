@@ -1,2 +1,16 @@
 pub mod San
 pub mod SanLaws
+pub mod Bounds
+pub mod Problems
+pub mod Operations
+pub mod Opcodes
+pub mod Records
+pub mod Words
+pub mod Pieces
+pub mod Strings
+pub mod Lines
+pub mod EpdFaults
+pub mod Answers
+pub mod RecordLaws
+pub mod RecordReading
+pub mod Merging

@@ -1,0 +1,91 @@
+-- What the pieces of a line without a fault show.
+use Rattle.std.proofs.Common.{◌≡◌, ℕ, ◌≤◌, ◌<◌, nat_le, nat_lt, List, Bool, true, false, length, refl, arith, if◌then◌else◌, ◌&&◌, ◌||◌}
+use Rattle.std.specs.List.{list_all}
+use Rattle.std.proofs.lemmas.Bool.{and_parts}
+use Rattle.std.proofs.lemmas.Bool.Decides.{nat_tests}
+use mathlib.Core.Bool.{not}
+use Rattle.chess_board.specs.Fields.{digits_value}
+use Rattle.chess_notation.specs.declared.faults.EpdFault.TheVariants.{TooLong, NotPrintable, BadOpcode, BadString, MissingSemicolon, DoubleOpcode, BadBound, BoundTooLarge}
+use Rattle.chess_notation.specs.Words.{word_at, behind, is_blank}
+use Rattle.chess_notation.specs.Pieces.{Pieces}
+use Rattle.chess_notation.specs.Strings.{strings_fit}
+use Rattle.chess_notation.specs.Operations.{is_printable}
+use Rattle.chess_notation.specs.Lines.{is_number, is_counter, behind_fields, behind_counters, operations_in, cut_of}
+use Rattle.chess_notation.specs.EpdFaults.{each_piece, has_opcode, are_distinct, is_bound_piece, has_number, has_number_if_bound, is_small_if_bound, HasNoFault}
+use Rattle.chess_notation.proofs.WordSplits.{all_behind}
+
+not_false : (b : Bool) → (b ≡ false → ⊥) → b ≡ true
+not_false true h = refl
+not_false false h = absurd (h refl)
+
+-- `dm` has a number above 0 and at most 15.
+pub record IsBoundNumber (piece : List ℕ) : Type 0 where
+  pub digits : is_number (word_at (behind piece)) ≡ true
+  pub alone : is_blank (behind (behind piece)) ≡ true
+  pub some : 1 ≤ digits_value (word_at (behind piece))
+  pub few : digits_value (word_at (behind piece)) ≤ 15
+
+pub bound_number : (piece : List ℕ) → is_bound_piece piece ≡ true → has_number_if_bound piece ≡ true → is_small_if_bound piece ≡ true → IsBoundNumber piece
+bound_number piece bound number small =
+    let here : has_number piece ≡ true = if_bound (is_bound_piece piece) (has_number piece) bound number in
+    let low : nat_le (digits_value (word_at (behind piece))) 15 ≡ true = if_bound (is_bound_piece piece) (nat_le (digits_value (word_at (behind piece))) 15) bound small in
+    let outer = and_parts (is_number (word_at (behind piece)) && is_blank (behind (behind piece))) (nat_lt 0 (digits_value (word_at (behind piece)))) here in
+    let inner = and_parts (is_number (word_at (behind piece))) (is_blank (behind (behind piece))) outer.0 in
+    record { digits = inner.0; alone = inner.1; some = above (digits_value (word_at (behind piece))) outer.1; few = below (digits_value (word_at (behind piece))) low } where
+      if_bound : (bound test : Bool) → bound ≡ true → (not bound || test) ≡ true → test ≡ true
+      if_bound true test b h = h
+      if_bound false test b h = cc
+
+      above : (n : ℕ) → nat_lt 0 n ≡ true → 1 ≤ n
+      above n h = grind (arith, nat_tests)
+
+      below : (n : ℕ) → nat_le n 15 ≡ true → n ≤ 15
+      below n h = grind (arith, nat_tests)
+
+-- The tests that a line without a fault passes.
+pub record ArePassed (line : List ℕ) : Type 0 where
+  pub short : length line ≤ 1023
+  pub printable : list_all is_printable line ≡ true
+  pub opcodes : list_all has_opcode (cut_of line).ended ≡ true
+  pub fit : list_all strings_fit (cut_of line).ended ≡ true
+  pub blank : is_blank (cut_of line).rest ≡ true
+  pub distinct : are_distinct (cut_of line).ended ≡ true
+  pub numbers : list_all has_number_if_bound (cut_of line).ended ≡ true
+  pub small : list_all is_small_if_bound (cut_of line).ended ≡ true
+
+each_ended : (test : List ℕ → Bool) (cut : Pieces) → (each_piece test cut ≡ false → ⊥) → list_all test cut.ended ≡ true
+each_ended test cut h = (and_parts (list_all test cut.ended) (is_blank cut.rest || test cut.rest) (not_false (each_piece test cut) h)).0
+
+pub no_fault_passes : (line : List ℕ) → HasNoFault line → ArePassed line
+unfolding HasNoFault
+no_fault_passes line clear = record {
+  short = no_more (clear TooLong);
+  printable = not_false (list_all is_printable line) (clear NotPrintable);
+  opcodes = each_ended has_opcode (cut_of line) (clear BadOpcode);
+  fit = each_ended strings_fit (cut_of line) (clear BadString);
+  blank = not_false (is_blank (cut_of line).rest) (clear MissingSemicolon);
+  distinct = not_false (are_distinct (cut_of line).ended) (clear DoubleOpcode);
+  numbers = not_false (list_all has_number_if_bound (cut_of line).ended) (clear BadBound);
+  small = not_false (list_all is_small_if_bound (cut_of line).ended) (clear BoundTooLarge);
+} where
+  no_more : (1023 < length line → ⊥) → length line ≤ 1023
+  no_more h = omega (arith, h)
+
+-- So its operations are printable, each piece has an opcode of its own, and the bound is one.
+pub no_fault_opcodes : (line : List ℕ) → HasNoFault line → list_all has_opcode (cut_of line).ended ≡ true
+no_fault_opcodes line clear = (no_fault_passes line clear).opcodes
+
+pub no_fault_distinct : (line : List ℕ) → HasNoFault line → are_distinct (cut_of line).ended ≡ true
+no_fault_distinct line clear = (no_fault_passes line clear).distinct
+
+counters_keep : (b : Bool) (p : ℕ → Bool) (text : List ℕ) → list_all p text ≡ true → list_all p (if b then behind (behind text) else text) ≡ true
+counters_keep true p text h = all_behind p (behind text) (all_behind p text h)
+counters_keep false p text h = h
+
+pub no_fault_printable : (line : List ℕ) → HasNoFault line → list_all is_printable (operations_in line) ≡ true
+unfolding operations_in behind_counters behind_fields
+no_fault_printable line clear =
+    let p = is_printable in
+    let tail = behind (behind (behind (behind line))) in
+    counters_keep (is_counter (word_at tail) && is_counter (word_at (behind tail))) p tail
+    (all_behind p (behind (behind (behind line))) (all_behind p (behind (behind line)) (all_behind p (behind line) (all_behind p line (no_fault_passes line clear).printable))))

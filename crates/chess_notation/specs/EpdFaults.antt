@@ -1,0 +1,92 @@
+-- The faults of a line that says no record: what each of them is, their order, and how they are printed. Own to this project.
+use Rattle.std.specs.Prelude.{◌≡◌, ◌≢◌, ℕ, ◌<◌, nat_le, nat_lt, List, [], ◌∷◌, ◌++◌, length, codes, Bool, true, false, not, ◌&&◌, ◌||◌}
+use Rattle.std.specs.List.{list_all}
+use Rattle.chess_board.specs.declared.faults.FenFault.TheVariants.{FieldCount}
+use Rattle.chess_board.specs.Fields.{digits_value}
+use Rattle.chess_board.specs.Faults.{IsFirst, field_faults, fault_name}
+use Rattle.chess_board.specs.Fens.{IsAmiss}
+use Rattle.chess_notation.specs.declared.faults.EpdFault.{EpdFault}
+use Rattle.chess_notation.specs.declared.faults.EpdFault.TheVariants.{TooLong, NotPrintable, Fen, BadOpcode, BadString, MissingSemicolon, DoubleOpcode, BadBound, BoundTooLarge, NoMemory}
+use Rattle.chess_notation.specs.Words.{word_at, behind, is_blank}
+use Rattle.chess_notation.specs.Pieces.{Pieces}
+use Rattle.chess_notation.specs.Strings.{strings_fit}
+use Rattle.chess_notation.specs.Operations.{is_printable, is_opcode}
+use Rattle.chess_notation.specs.Opcodes.{same_text}
+use Rattle.chess_notation.specs.Lines.{is_number, fourth_word, line_fields, cut_of}
+
+-- A fault prints as its name; that of the fields as the word `Fen`, a space and the name of the FEN's fault.
+abbrev pub epd_fault_name : EpdFault → List ℕ
+epd_fault_name TooLong = codes "TooLong"
+epd_fault_name NotPrintable = codes "NotPrintable"
+epd_fault_name (Fen fault) = codes "Fen " ++ fault_name fault
+epd_fault_name BadOpcode = codes "BadOpcode"
+epd_fault_name BadString = codes "BadString"
+epd_fault_name MissingSemicolon = codes "MissingSemicolon"
+epd_fault_name DoubleOpcode = codes "DoubleOpcode"
+epd_fault_name BadBound = codes "BadBound"
+epd_fault_name BoundTooLarge = codes "BoundTooLarge"
+epd_fault_name NoMemory = codes "NoMemory"
+
+-- the order in which they are answered
+abbrev pub number_of : EpdFault → ℕ
+number_of TooLong = 1
+number_of NotPrintable = 2
+number_of (Fen fault) = 3
+number_of BadOpcode = 4
+number_of BadString = 5
+number_of MissingSemicolon = 6
+number_of DoubleOpcode = 7
+number_of BadBound = 8
+number_of BoundTooLarge = 9
+number_of NoMemory = 10
+
+-- each piece, and the rest unless it is blank
+abbrev pub each_piece : (List ℕ → Bool) → Pieces → Bool
+each_piece test cut = list_all test cut.ended && (is_blank cut.rest || test cut.rest)
+
+abbrev pub has_opcode : List ℕ → Bool
+has_opcode piece = is_opcode (word_at piece)
+
+-- The piece has another opcode.
+abbrev pub differs_from : List ℕ → List ℕ → Bool
+differs_from opcode piece = not (same_text opcode (word_at piece))
+
+-- No two pieces have one opcode.
+abbrev pub are_distinct : List (List ℕ) → Bool
+are_distinct [] = true
+are_distinct (piece ∷ pieces) = list_all (differs_from (word_at piece)) pieces && are_distinct pieces
+
+abbrev pub is_bound_piece : List ℕ → Bool
+is_bound_piece piece = same_text (codes "dm") (word_at piece)
+
+-- Behind the opcode stand digits that are not all zeros, and nothing else.
+abbrev pub has_number : List ℕ → Bool
+has_number piece = is_number (word_at (behind piece)) && is_blank (behind (behind piece)) && nat_lt 0 (digits_value (word_at (behind piece)))
+
+abbrev pub has_number_if_bound : List ℕ → Bool
+has_number_if_bound piece = not (is_bound_piece piece) || has_number piece
+
+abbrev pub is_small_if_bound : List ℕ → Bool
+is_small_if_bound piece = not (is_bound_piece piece) || nat_le (digits_value (word_at (behind piece))) 15
+
+-- What is wrong with a line, fault by fault. Of the fields it is their first fault; want of memory is no fault of a line.
+abbrev pub IsAmissBy : List ℕ → EpdFault → Type 0
+IsAmissBy line TooLong = 1023 < length line
+IsAmissBy line NotPrintable = list_all is_printable line ≡ false
+IsAmissBy line (Fen FieldCount) = fourth_word line ≡ []
+IsAmissBy line (Fen fault) = (fourth_word line ≢ []) × IsFirst (IsAmiss (line_fields line)) field_faults fault
+IsAmissBy line BadOpcode = each_piece has_opcode (cut_of line) ≡ false
+IsAmissBy line BadString = each_piece strings_fit (cut_of line) ≡ false
+IsAmissBy line MissingSemicolon = is_blank (cut_of line).rest ≡ false
+IsAmissBy line DoubleOpcode = are_distinct (cut_of line).ended ≡ false
+IsAmissBy line BadBound = list_all has_number_if_bound (cut_of line).ended ≡ false
+IsAmissBy line BoundTooLarge = list_all is_small_if_bound (cut_of line).ended ≡ false
+IsAmissBy line NoMemory = ⊥
+
+-- The fault of a line is the first that applies, over the whole line.
+pub record IsFaultOf (line : List ℕ) (fault : EpdFault) : Type 0 where
+  pub applies : IsAmissBy line fault
+  pub first : (earlier : EpdFault) → number_of earlier < number_of fault → ¬ (IsAmissBy line earlier)
+
+unfoldable pub HasNoFault : List ℕ → Type 0
+HasNoFault line = (fault : EpdFault) → ¬ (IsAmissBy line fault)

@@ -1,0 +1,30 @@
+-- Lines and records: a line with a fault says no record, a line says one record at most, and an answer is a record again.
+use Rattle.std.specs.Prelude.{◌≡◌, ℕ, ◌≤◌, List, length}
+use Rattle.chess_notation.specs.declared.problems.Outcome.{Outcome}
+use Rattle.chess_notation.specs.declared.problems.Outcome.TheVariants.{Mate, NoMate}
+use Rattle.chess_notation.specs.Records.{RecordValue, Reads}
+use Rattle.chess_notation.specs.EpdFaults.{HasNoFault}
+use Rattle.chess_notation.specs.Answers.{answer_text, IsPlayable}
+
+-- A line that says a record has no fault.
+abbrev pub RecordsClear : Type 0
+RecordsClear = (line : List ℕ) (default : ℕ) (r : RecordValue) → Reads line default r → HasNoFault line
+
+-- It says no two.
+abbrev pub SaysOne : Type 0
+SaysOne = (line : List ℕ) (default : ℕ) (r other : RecordValue) → Reads line default r → Reads line default other → r ≡ other
+
+-- what an answer says when it is read as a record: its bound is the length of the mate, or the default where there is none
+abbrev pub answered : RecordValue → Outcome → ℕ → RecordValue
+answered r (Mate dm keys pv) default = record { position = r.position; bound = dm; rest = r.rest }
+answered r NoMate default = record { position = r.position; bound = default; rest = r.rest }
+
+-- The mate is one in 1 to 15 moves.
+abbrev pub HasLength : Outcome → Type 0
+HasLength (Mate dm keys pv) = (1 ≤ dm) × (dm ≤ 15)
+HasLength NoMate = Unit {0}
+
+-- An answer that is no longer than a record may be, made for a record that was read, says that record again.
+abbrev pub AnswerReads : Type 0
+AnswerReads = (line : List ℕ) (asked default : ℕ) (r : RecordValue) (outcome : Outcome) → Reads line asked r → IsPlayable r.position outcome
+    → HasLength outcome → length (answer_text r outcome) ≤ 1023 → Reads (answer_text r outcome) default (answered r outcome default)

@@ -1,0 +1,32 @@
+-- The words of a line, taken off from its front: a word is a longest run of bytes other than space.
+use Rattle.std.specs.Prelude.{ℕ, ◌==◌, List, [], ◌∷◌, Bool, true, false, if◌then◌else◌}
+
+-- the text from its first byte that is no space
+abbrev pub after_spaces : List ℕ → List ℕ
+after_spaces [] = []
+after_spaces (b ∷ bs) = if b == 32 then after_spaces bs else b ∷ bs
+
+-- the text up to its first space
+abbrev pub front_word : List ℕ → List ℕ
+front_word [] = []
+front_word (b ∷ bs) = if b == 32 then [] else b ∷ front_word bs
+
+-- the text from its first space on
+abbrev pub after_word : List ℕ → List ℕ
+after_word [] = []
+after_word (b ∷ bs) = if b == 32 then b ∷ bs else after_word bs
+
+-- the first word of a text, and what follows it
+unfoldable pub word_at : List ℕ → List ℕ
+word_at text = front_word (after_spaces text)
+
+unfoldable pub behind : List ℕ → List ℕ
+behind text = after_word (after_spaces text)
+
+abbrev pub is_empty : List ℕ → Bool
+is_empty [] = true
+is_empty (b ∷ bs) = false
+
+-- nothing but spaces
+abbrev pub is_blank : List ℕ → Bool
+is_blank text = is_empty (after_spaces text)

@@ -1,0 +1,238 @@
+//! The text that answers a record.
+
+ghost use Rattle.std.specs.Prelude.{◌≡◌, ◌++◌, ◌∷◌, [], List, map, IfOk, OnOk, string_bytes};
+ghost use Rattle.chess_moves.specs.Laws.{IsLine};
+ghost use Rattle.chess_notation.specs.Operations.{Entry};
+ghost use Rattle.chess_notation.specs.Opcodes.{IsBelow};
+ghost use Rattle.chess_notation.specs.San.{san_text};
+ghost use Rattle.chess_notation.specs.Merging.{with_entries};
+ghost use Rattle.chess_notation.specs.Answers.{entry_text, entries_text, in_order, operand_words, line_texts, keys_entry, length_entry, line_entry, none_entry, AreLegal, IsPlayable, answer_text as answer_text_of};
+
+use crate::bounds::Bound;
+use crate::move_texts::san;
+use crate::no_memory::NoMemory;
+use crate::opcodes::comes_before;
+use crate::ordered::put;
+use crate::problems::Outcome;
+use crate::records::{Operation, Record};
+use arrayvec::ArrayString;
+use chess_board::{Move, Position, after};
+use chess_moves::{Rays, legal_listed};
+use std::alloc::{AllocError, Global};
+
+/// Adds an operation that the record keeps.
+fn push_operation(text: &mut String, operation: &Operation) -> Result<(), AllocError>
+    ensures { OnOk result (string_bytes text.new ≡ string_bytes text.old ++ entry_text operation.now) }
+{
+    text.push(' ')?;
+    text.push_str(operation.opcode.as_str())?;
+    text.push_str(operation.operands.as_str())?;
+    text.push(';')?;
+    Ok(())
+}
+
+/// Adds operations.
+fn push_operations(text: &mut String, operations: &[Operation]) -> Result<(), AllocError>
+    ensures { OnOk result (string_bytes text.new ≡ string_bytes text.old ++ entries_text operations.now) }
+{
+    for operation in operations {
+        push_operation(text, operation)?;
+    }
+    Ok(())
+}
+
+/// Adds operations up to the first that the opcode comes before, and gives those that are left. Here the operation of that
+/// opcode has its place, and others that come behind it have theirs in what is left.
+fn push_until<'a>(
+    text: &mut String,
+    opcode: &[u8],
+    operations: &'a [Operation],
+) -> Result<&'a [Operation], AllocError>
+    ensures { IfOk result (λ left. (own : Entry) (owns : List Entry) → own.opcode ≡ opcode.now → IsBelow opcode.now owns
+        → string_bytes text.old ++ entries_text (with_entries (own ∷ owns) operations.now)
+        ≡ string_bytes text.new ++ entries_text (own ∷ with_entries owns left.now)) }
+{
+    for (index, operation) in operations.iter().enumerate() {
+        if comes_before(opcode, operation.opcode.as_str().as_bytes()) {
+            return Ok(operations.split_at(index).1);
+        }
+        push_operation(text, operation)?;
+    }
+    Ok(&[])
+}
+
+/// Adds an operand after one space.
+fn push_word(text: &mut String, word: &str) -> Result<(), AllocError>
+    ensures { OnOk result (string_bytes text.new ≡ string_bytes text.old ++ 32 ∷ word.now) }
+{
+    text.push(' ')?;
+    text.push_str(word)?;
+    Ok(())
+}
+
+/// Adds operands.
+fn push_words(text: &mut String, words: &[ArrayString<8>]) -> Result<(), AllocError>
+    ensures { OnOk result (string_bytes text.new ≡ string_bytes text.old ++ operand_words (map (λ t. t.bytes) words.now)) }
+{
+    for word in words {
+        push_word(text, word.as_str())?;
+    }
+    Ok(())
+}
+
+/// The texts of moves of one position, in order.
+fn key_texts(
+    alloc: Global,
+    rays: &Rays,
+    position: &Position,
+    keys: &[Move],
+) -> Result<Vec<ArrayString<8>>, AllocError>
+    requires { AreLegal position.now keys.now }
+    ensures { IfOk result (λ texts. map (λ t. t.bytes) texts.items ≡ in_order (map (san_text position.now) keys.now)) }
+{
+    // That a move of the list is legal is the clause of `legal_listed`.
+    legal_listed();
+    let mut texts = Vec::new(alloc);
+    for index in (0..keys.len()).rev() {
+        put(&mut texts, san(rays, position, keys[index]))?;
+    }
+    Ok(texts)
+}
+
+/// Adds `bm`, the keys.
+fn push_keys(
+    alloc: Global,
+    text: &mut String,
+    rays: &Rays,
+    position: &Position,
+    keys: &[Move],
+) -> Result<(), AllocError>
+    requires { AreLegal position.now keys.now }
+    ensures { OnOk result (string_bytes text.new ≡ string_bytes text.old ++ entry_text (keys_entry position.now keys.now)) }
+{
+    let texts = key_texts(alloc, rays, position, keys)?;
+    text.push_str(" bm")?;
+    push_words(text, texts.as_slice())?;
+    text.push(';')?;
+    Ok(())
+}
+
+/// Adds `dm`, the number of moves to the mate.
+fn push_length(alloc: Global, text: &mut String, dm: Bound) -> Result<(), AllocError>
+    ensures { OnOk result (string_bytes text.new ≡ string_bytes text.old ++ entry_text (length_entry dm)) }
+{
+    text.push_str(" dm ")?;
+    text.push_str(dm.get().to_string(alloc)?.as_str())?;
+    text.push(';')?;
+    Ok(())
+}
+
+/// Adds the moves of a line as operands, each in the position where it is played.
+fn push_moves(
+    text: &mut String,
+    rays: &Rays,
+    position: &Position,
+    moves: &[Move],
+) -> Result<(), AllocError>
+    requires { IsLine position.now moves.now }
+    ensures { OnOk result (string_bytes text.new ≡ string_bytes text.old ++ operand_words (line_texts position.now moves.now)) }
+{
+    let mut now = *position;
+    for m in moves {
+        push_word(text, san(rays, &now, *m).as_str())?;
+        now = after(&now, *m);
+    }
+    Ok(())
+}
+
+/// Adds `pv`, the line of play.
+fn push_line(
+    text: &mut String,
+    rays: &Rays,
+    position: &Position,
+    pv: &[Move],
+) -> Result<(), AllocError>
+    requires { IsLine position.now pv.now }
+    ensures { OnOk result (string_bytes text.new ≡ string_bytes text.old ++ entry_text (line_entry position.now pv.now)) }
+{
+    text.push_str(" pv")?;
+    push_moves(text, rays, position, pv)?;
+    text.push(';')?;
+    Ok(())
+}
+
+/// Adds `c0`, the comment that there is no mate.
+fn push_none(alloc: Global, text: &mut String, bound: Bound) -> Result<(), AllocError>
+    ensures { OnOk result (string_bytes text.new ≡ string_bytes text.old ++ entry_text (none_entry bound)) }
+{
+    text.push_str(" c0 \"no mate in ")?;
+    text.push_str(bound.get().to_string(alloc)?.as_str())?;
+    text.push_str("\";")?;
+    Ok(())
+}
+
+/// Adds the operations of a mate, each at its place among those that the record keeps.
+fn push_mate(
+    alloc: Global,
+    text: &mut String,
+    rays: &Rays,
+    record: &Record,
+    dm: Bound,
+    keys: &[Move],
+    pv: &[Move],
+) -> Result<(), AllocError>
+    requires keys { AreLegal «record».now.position keys.now }
+    requires line { IsLine «record».now.position pv.now }
+    ensures { OnOk result (string_bytes text.new ≡ string_bytes text.old
+        ++ entries_text (with_entries (keys_entry «record».now.position keys.now ∷ length_entry dm ∷ line_entry «record».now.position pv.now ∷ []) «record».now.rest)) }
+{
+    let left = push_until(text, b"bm", record.rest.as_slice())?;
+    push_keys(alloc, text, rays, &record.position, keys)?;
+    let left = push_until(text, b"dm", left)?;
+    push_length(alloc, text, dm)?;
+    let left = push_until(text, b"pv", left)?;
+    push_line(text, rays, &record.position, pv)?;
+    push_operations(text, left)?;
+    Ok(())
+}
+
+/// Adds the operation of no mate at its place among those that the record keeps.
+fn push_no_mate(alloc: Global, text: &mut String, record: &Record) -> Result<(), AllocError>
+    ensures { OnOk result (string_bytes text.new ≡ string_bytes text.old ++ entries_text (with_entries (none_entry «record».now.bound ∷ []) «record».now.rest)) }
+{
+    let left = push_until(text, b"c0", record.rest.as_slice())?;
+    push_none(alloc, text, record.bound)?;
+    push_operations(text, left)?;
+    Ok(())
+}
+
+/// The text that answers a record: the four fields of its position, and then in ASCII order of opcode the operations that it
+/// keeps and those of the outcome (PGN Specification, sections 16.2.4 and 16.2.5). For a mate these are `bm`, `dm` and `pv`,
+/// otherwise `c0`, which says that there is none within the bound. The outcome's moves are such as can be played, and only a
+/// growth that is refused is an error.
+#[tactic(auto, unfolding(crate::specs::Answers::answer_text, crate::specs::Answers::IsPlayable))]
+pub fn answer_text(
+    alloc: Global,
+    rays: &Rays,
+    record: &Record,
+    outcome: &Outcome,
+) -> Result<String, NoMemory>
+    requires { IsPlayable «record».now.position outcome.now }
+    ensures { IfOk result (λ text. string_bytes text ≡ answer_text_of «record».now outcome.now) }
+{
+    let mut text = String::new(alloc);
+    text.push_str(record.position.text().as_str())?;
+    match outcome {
+        Outcome::Mate { dm, keys, pv } => push_mate(
+            alloc,
+            &mut text,
+            rays,
+            record,
+            *dm,
+            keys.as_slice(),
+            pv.as_slice(),
+        )?,
+        Outcome::NoMate => push_no_mate(alloc, &mut text, record)?,
+    }
+    Ok(text)
+}

@@ -1,0 +1,165 @@
+//! The checks of a line, in the order in which their faults are answered.
+
+ghost use Rattle.std.specs.Prelude.{◌≡◌, ◌<◌, IfSome, IfNone, IfOk, IfErr, OnOk, true, false};
+ghost use Rattle.std.specs.List.{list_all};
+ghost use Rattle.chess_board.specs.declared.faults.FenFault.{FenFault as FenFaultValue};
+ghost use Rattle.chess_board.specs.Soundness.{IsSound};
+ghost use Rattle.chess_board.specs.Fens.{SpellsSetup};
+ghost use Rattle.chess_notation.specs.declared.faults.EpdFault.{EpdFault as EpdFaultValue};
+ghost use Rattle.chess_notation.specs.Pieces.{pieces_of};
+ghost use Rattle.chess_notation.specs.Strings.{strings_fit as do_strings_fit};
+ghost use Rattle.chess_notation.specs.Words.{word_at as word_of_text};
+ghost use Rattle.chess_notation.specs.Lines.{line_fields};
+ghost use Rattle.chess_notation.specs.EpdFaults.{each_piece, has_opcode as does_have_opcode, differs_from, are_distinct, number_of, IsAmissBy, IsFaultOf, HasNoFault};
+
+use crate::asked::{have_numbers, have_small_numbers};
+use crate::faults::EpdFault;
+use crate::lines::{are_printable, operations_in, parts_of};
+use crate::opcodes::{is_opcode, is_same_text};
+use crate::pieces::{first_piece, last_rest};
+use crate::strings::strings_fit;
+use crate::words::{is_blank, word_at};
+use chess_board::{FenFault, Position, read_fields, spells_one};
+
+fn has_opcode(piece: &[u8]) -> bool
+    ensures { result ≡ does_have_opcode piece.now }
+{
+    is_opcode(word_at(piece).0)
+}
+
+/// Whether each piece has an opcode.
+fn have_opcodes(text: &[u8]) -> bool
+    ensures { result ≡ each_piece does_have_opcode (pieces_of text.now) }
+{
+    let mut rest = text;
+    while let Some((piece, back)) = first_piece(rest) {
+        if !has_opcode(piece) {
+            return false;
+        }
+        rest = back;
+    }
+    is_blank(rest) || has_opcode(rest)
+}
+
+/// Whether the strings of each piece stand as they have to.
+fn have_fit_strings(text: &[u8]) -> bool
+    ensures { result ≡ each_piece do_strings_fit (pieces_of text.now) }
+{
+    let mut rest = text;
+    while let Some((piece, back)) = first_piece(rest) {
+        if !strings_fit(piece) {
+            return false;
+        }
+        rest = back;
+    }
+    is_blank(rest) || strings_fit(rest)
+}
+
+/// Whether no ended piece has the opcode.
+fn differ_from(opcode: &[u8], text: &[u8]) -> bool
+    ensures { result ≡ list_all (differs_from opcode.now) (pieces_of text.now).ended }
+{
+    let mut rest = text;
+    while let Some((piece, back)) = first_piece(rest) {
+        if is_same_text(opcode, word_at(piece).0) {
+            return false;
+        }
+        rest = back;
+    }
+    true
+}
+
+/// Whether no two ended pieces have one opcode.
+fn have_distinct_opcodes(text: &[u8]) -> bool
+    ensures { result ≡ are_distinct (pieces_of text.now).ended }
+{
+    let mut rest = text;
+    while let Some((piece, back)) = first_piece(rest) {
+        if !differ_from(word_at(piece).0, back) {
+            return false;
+        }
+        rest = back;
+    }
+    true
+}
+
+/// Whether the operations of a line have a fault, one of those behind `Fen`.
+#[tactic(auto, unfolding(crate::specs::Lines::cut_of))]
+fn applies(fault: EpdFault, line: &[u8]) -> bool
+    ensures applies { 3 < number_of fault → result ≡ true → IsAmissBy line.now fault }
+    ensures clear { 3 < number_of fault → result ≡ false → ¬ (IsAmissBy line.now fault) }
+{
+    let text = operations_in(line);
+    match fault {
+        EpdFault::BadOpcode => !have_opcodes(text),
+        EpdFault::BadString => !have_fit_strings(text),
+        EpdFault::MissingSemicolon => !is_blank(last_rest(text)),
+        EpdFault::DoubleOpcode => !have_distinct_opcodes(text),
+        EpdFault::BadBound => !have_numbers(text),
+        EpdFault::BoundTooLarge => !have_small_numbers(text),
+        _ => false,
+    }
+}
+
+/// The first fault of the operations of a line.
+fn operations_fault(line: &[u8]) -> Option<EpdFault>
+    ensures later { IfSome result (λ fault. 3 < number_of fault) }
+    ensures applies { IfSome result (λ fault. IsAmissBy line.now fault) }
+    ensures first { IfSome result (λ fault. (earlier : EpdFaultValue) → 3 < number_of earlier → number_of earlier < number_of fault
+        → ¬ (IsAmissBy line.now earlier)) }
+    ensures none { IfNone result ((fault : EpdFaultValue) → 3 < number_of fault → ¬ (IsAmissBy line.now fault)) }
+{
+    let faults = [
+        EpdFault::BadOpcode,
+        EpdFault::BadString,
+        EpdFault::MissingSemicolon,
+        EpdFault::DoubleOpcode,
+        EpdFault::BadBound,
+        EpdFault::BoundTooLarge,
+    ];
+    for fault in faults {
+        if applies(fault, line) {
+            return Some(fault);
+        }
+    }
+    None
+}
+
+/// The position that the fields of a line spell, or their fault.
+#[tactic(auto, unfolding(crate::specs::Lines::fourth_word, crate::specs::Lines::line_fields))]
+fn position_of(line: &[u8]) -> Result<Position, EpdFault>
+    ensures read { IfOk result (λ p. SpellsSetup (line_fields line.now) p × IsSound p) }
+    ensures clear { OnOk result ((fault : FenFaultValue) → ¬ (IsAmissBy line.now (EpdFaultValue.Fen fault))) }
+    ensures refused { IfErr result (λ fault. (number_of fault ≡ 3) × IsAmissBy line.now fault) }
+{
+    // That the fields spell no other position is the clause of `spells_one`.
+    spells_one();
+    let parts = parts_of(line);
+    if parts.target.is_empty() {
+        return Err(EpdFault::Fen(FenFault::FieldCount));
+    }
+    match read_fields(parts.placement, parts.side, parts.castling, parts.target) {
+        Ok(position) => Ok(position),
+        Err(fault) => Err(EpdFault::Fen(fault)),
+    }
+}
+
+/// The position of a line without a fault, or its first fault. It needs no memory.
+#[tactic(auto, unfolding(crate::specs::EpdFaults::HasNoFault))]
+pub(crate) fn check(line: &[u8]) -> Result<Position, EpdFault>
+    ensures read { IfOk result (λ p. SpellsSetup (line_fields line.now) p × IsSound p) }
+    ensures clear { OnOk result (HasNoFault line.now) }
+    ensures refused { IfErr result (λ fault. IsFaultOf line.now fault) }
+{
+    if 1023 < line.len() {
+        return Err(EpdFault::TooLong);
+    }
+    if !are_printable(line) {
+        return Err(EpdFault::NotPrintable);
+    }
+    let position = position_of(line)?;
+    match operations_fault(line) {
+        Some(fault) => Err(fault),
+        None => Ok(position),
+    }
+}

@@ -1,0 +1,147 @@
+//! The operations that a record keeps, in ASCII order of opcode.
+
+ghost use Rattle.std.specs.Prelude.{◌≡◌, ℕ, ◌<◌, ◌≤◌, ◌++◌, ◌∷◌, List, [], IfOk, OnOk, string_bytes, length, IsTrue, true, if◌then◌else◌};
+ghost use Rattle.std.specs.List.{list_all, insert};
+ghost use Rattle.chess_notation.specs.Words.{word_at as word_of_text};
+ghost use Rattle.chess_notation.specs.Pieces.{pieces_of};
+ghost use Rattle.chess_notation.specs.Strings.{squeezed_from};
+ghost use Rattle.chess_notation.specs.Operations.{Entry, is_opcode, is_printable};
+ghost use Rattle.chess_notation.specs.Opcodes.{is_own as is_own_opcode, with_entry};
+ghost use Rattle.chess_notation.specs.Lines.{entry_in};
+ghost use Rattle.chess_notation.specs.EpdFaults.{has_opcode};
+ghost use Rattle.chess_notation.specs.RecordReading.{rest_of};
+
+use crate::opcodes::{comes_before, is_own};
+use crate::pieces::first_piece;
+use crate::records::Operation;
+use crate::strings::Mode;
+use crate::words::word_at;
+use arrayvec::ArrayString;
+use std::alloc::{AllocError, Global};
+
+/// Where an opcode belongs in a list that rises by opcode.
+fn place_of(opcode: &[u8], operations: &[Operation]) -> usize
+    ensures within { result ≤ length operations.now }
+    ensures place { (entry : Entry) → entry.opcode ≡ opcode.now
+        → with_entry entry operations.now ≡ insert operations.now result entry }
+{
+    for (index, operation) in operations.iter().enumerate() {
+        if comes_before(opcode, operation.opcode.as_str().as_bytes()) {
+            return index;
+        }
+    }
+    operations.len()
+}
+
+/// Puts an operation at its place.
+fn put(operations: &mut Vec<Operation>, operation: Operation) -> Result<(), AllocError>
+    ensures { OnOk result (operations.new.items ≡ with_entry operation operations.old.items) }
+{
+    let place = place_of(operation.opcode.as_str().as_bytes(), operations.as_slice());
+    operations.insert(place, operation)?;
+    Ok(())
+}
+
+/// An opcode as a short text.
+fn opcode_text(word: &[u8]) -> ArrayString<15>
+    requires short { length word.now ≤ 15 }
+    requires printable { IsTrue (list_all is_printable word.now) }
+    ensures { result.bytes ≡ word.now }
+{
+    let mut text = ArrayString::new();
+    for byte in word {
+        text.push(*byte as char);
+    }
+    text
+}
+
+/// Adds a byte of the operands, with one space before each of them, and says what it leads to.
+fn push_byte(operands: &mut String, mode: Mode, byte: u8) -> Result<Mode, AllocError>
+    requires { byte < 128 }
+    ensures { IfOk result (λ next. (rest : List ℕ)
+        → string_bytes operands.old ++ squeezed_from mode (byte ∷ rest) ≡ string_bytes operands.new ++ squeezed_from next rest) }
+{
+    match mode {
+        Mode::Closed => Ok(Mode::Gap),
+        Mode::Gap if byte == b'"' => {
+            operands.push(' ')?;
+            operands.push('"')?;
+            Ok(Mode::Quoted(0))
+        }
+        Mode::Gap | Mode::Plain if byte == b' ' => Ok(Mode::Gap),
+        Mode::Gap => {
+            operands.push(' ')?;
+            operands.push(byte as char)?;
+            Ok(Mode::Plain)
+        }
+        Mode::Plain => {
+            operands.push(byte as char)?;
+            Ok(Mode::Plain)
+        }
+        Mode::Quoted(_) => {
+            operands.push(byte as char)?;
+            Ok(if byte == b'"' {
+                Mode::Closed
+            } else {
+                Mode::Quoted(0)
+            })
+        }
+    }
+}
+
+/// The operands behind an opcode, each after one space.
+fn operands_behind(alloc: Global, text: &[u8]) -> Result<String, AllocError>
+    requires { IsTrue (list_all is_printable text.now) }
+    ensures { IfOk result (λ operands. string_bytes operands ≡ squeezed_from Mode.Plain text.now) }
+{
+    let mut operands = String::new(alloc);
+    let mut mode = Mode::Plain;
+    for byte in text {
+        mode = push_byte(&mut operands, mode, *byte)?;
+    }
+    Ok(operands)
+}
+
+/// The operation that a piece shows.
+fn operation_of(alloc: Global, piece: &[u8]) -> Result<Operation, AllocError>
+    requires opcode { is_opcode (word_of_text piece.now) ≡ true }
+    requires printable { list_all is_printable piece.now ≡ true }
+    ensures { IfOk result (λ operation. operation ≡ entry_in piece.now) }
+{
+    let (word, rest) = word_at(piece);
+    let operands = operands_behind(alloc, rest)?;
+    Ok(Operation {
+        opcode: opcode_text(word),
+        operands,
+    })
+}
+
+/// Adds the operation of a piece, unless it is one that an answer writes itself.
+fn add_piece(alloc: Global, operations: &mut Vec<Operation>, piece: &[u8]) -> Result<(), AllocError>
+    requires opcode { is_opcode (word_of_text piece.now) ≡ true }
+    requires printable { list_all is_printable piece.now ≡ true }
+    ensures { OnOk result (operations.new.items
+        ≡ (if is_own_opcode (word_of_text piece.now) then operations.old.items
+        else with_entry (entry_in piece.now) operations.old.items)) }
+{
+    if !is_own(word_at(piece).0) {
+        put(operations, operation_of(alloc, piece)?)?;
+    }
+    Ok(())
+}
+
+/// The operations that a record keeps.
+#[tactic(auto, unfolding(crate::specs::RecordReading::rest_of))]
+pub(crate) fn operations_of(alloc: Global, text: &[u8]) -> Result<Vec<Operation>, AllocError>
+    requires opcodes { list_all has_opcode (pieces_of text.now).ended ≡ true }
+    requires printable { list_all is_printable text.now ≡ true }
+    ensures { IfOk result (λ operations. operations.items ≡ rest_of (pieces_of text.now).ended) }
+{
+    let mut operations = Vec::new(alloc);
+    let mut rest = text;
+    while let Some((piece, back)) = first_piece(rest) {
+        add_piece(alloc, &mut operations, piece)?;
+        rest = back;
+    }
+    Ok(operations)
+}

@@ -1,0 +1,37 @@
+//! Problems and their outcomes.
+
+use crate::bounds::Bound;
+use arrayvec::ArrayVec;
+use chess_board::{Move, Position};
+use chess_moves::MoveList;
+use std::marker::Model;
+
+/// A direct-mate problem: whether the side to move mates within so many of its moves. It is of fixed size, and there is one for
+/// each time that it is asked for.
+#[derive(Debug, Drop)]
+pub struct Problem {
+    pub position: Position,
+    pub bound: Bound,
+}
+
+impl Model for Problem {
+    ghost use Rattle.chess_notation.specs.Problems.{ProblemValue};
+
+    ghost Value = { ProblemValue };
+
+    ghost view = { λ p. record { position = p.position; bound = p.bound } };
+}
+
+/// What there is to say of a problem: plain data of fixed size.
+#[derive(Clone, Debug, PartialEq, Eq, Drop)]
+pub enum Outcome {
+    /// The least number of moves in which the attacker mates, all its first moves that do so in the order of moves, and one
+    /// line of play.
+    Mate {
+        dm: Bound,
+        keys: MoveList,
+        pv: ArrayVec<Move, 29>,
+    },
+    /// There is no mate within the bound.
+    NoMate,
+}

@@ -1,0 +1,57 @@
+//! Records: what a line of EPD says.
+
+ghost use Rattle.std.specs.Prelude.{◌≡◌};
+
+use crate::bounds::Bound;
+use crate::problems::Problem;
+use arrayvec::ArrayString;
+use chess_board::Position;
+use std::marker::Model;
+
+/// An operation: its opcode, a letter and up to 14 letters, digits and underscores, and each operand after one space.
+#[derive(Debug, Drop)]
+pub struct Operation {
+    pub opcode: ArrayString<15>,
+    pub operands: String,
+}
+
+impl Model for Operation {
+    ghost use Rattle.std.specs.Prelude.{string_bytes};
+    ghost use Rattle.chess_notation.specs.Operations.{Entry};
+
+    ghost Value = { Entry };
+
+    ghost view = { λ o. record { opcode = o.opcode.bytes; operands = string_bytes o.operands } };
+}
+
+/// What a line says: the position, the bound within which mate is asked for, and the operations that an answer copies. These
+/// rise by opcode, without repeats and without those that an answer writes itself: `bm`, `c0`, `dm` and `pv`.
+#[derive(Debug, Drop)]
+pub struct Record {
+    pub position: Position,
+    pub bound: Bound,
+    pub rest: Vec<Operation>,
+}
+
+impl Model for Record {
+    ghost use Rattle.chess_notation.specs.Records.{RecordValue};
+    ghost use Rattle.chess_notation.specs.Opcodes.{RisesByOpcode, AreKept};
+
+    ghost Value = { RecordValue };
+
+    ghost view = { λ r. record { position = r.position; bound = r.bound; rest = r.rest.items } };
+
+    ghost invariant = { λ r. RisesByOpcode r.rest.items × AreKept r.rest.items };
+}
+
+impl Record {
+    /// The problem that the record asks, made anew.
+    pub fn problem(&self) -> Problem
+        ensures { result ≡ record { position = self.now.position; bound = self.now.bound } }
+    {
+        Problem {
+            position: self.position,
+            bound: self.bound,
+        }
+    }
+}
