@@ -1,3 +1,4 @@
 mod Escapes
 mod Numbers
 mod Parsed
+mod Solving

@@ -3,11 +3,12 @@ use Rattle.std.specs.Prelude.{ℕ, Bool, List, [], ◌∷◌, Option, None, true
 use Rattle.std.specs.List.{list_any}
 use Rattle.std.specs.Option.{option_map_or}
 use Rattle.std.specs.Str.{bytes_eq}
-use Rattle.clap.specs.Words.{App, Kinds, Row, Text, fault_of, first_of, one_of, subcommand_of, subcommand_rows_of}
+use Rattle.clap.specs.Words.{App, Kinds, Row, Text, all_of, fault_of, first_of, one_of, subcommand_of, subcommand_rows_of}
 use Rattle.clap.specs.Walk.{byte_or_zero}
 use Rattle.clap.specs.declared.error.kind.ErrorKind.{ErrorKind}
 use Rattle.clap.specs.declared.error.kind.ErrorKind.TheVariants.{DisplayHelp, DisplayVersion}
 use Rattle.clap.specs.declared.parser.matches.ArgMatches.{ArgMatches}
+use Rattle.chess_notation.specs.Bounds.{bound_of}
 use Rattle.matedesk.specs.CommandLine.{desk_app}
 use Rattle.matedesk.specs.Depths.{depth_of}
 use Rattle.matedesk.specs.Hyphens.{escaped}
@@ -17,10 +18,15 @@ pub data Asked : Type 0 where
   look : Text → Asked
   moves : Text → Asked
   perft : Text → ℕ → Asked
+  solve : ℕ → List Text → Asked
 
 -- the number that a word stands for, which `clap` has read; none above the depths that are counted
 abbrev pub depth_in : List Row → Option ℕ
 depth_in rows = depth_of (option_map_or byte_or_zero (one_of (codes "DEPTH") rows) 0)
+
+-- the number of `--bound` in the same way; none outside the bounds of a problem
+abbrev pub bound_in : List Row → Option ℕ
+bound_in rows = bound_of (option_map_or byte_or_zero (one_of (codes "B") rows) 0)
 
 -- what the arguments of a command ask for, by its name
 unfoldable pub asked_by : Text → List Row → Option Asked
@@ -28,6 +34,7 @@ asked_by name rows =
     if bytes_eq name (codes "look") then option_map look (first_of (codes "FEN") rows)
     else if bytes_eq name (codes "moves") then option_map moves (first_of (codes "FEN") rows)
     else if bytes_eq name (codes "perft") then option_and_then (λ depth. option_map (λ fen. perft fen depth) (first_of (codes "FEN") rows)) (depth_in rows)
+    else if bytes_eq name (codes "solve") then option_and_then (λ bound. option_map (λ names. solve bound names) (all_of (codes "FILE") rows)) (bound_in rows)
     else None
 
 -- what the matches of a whole command line ask for

@@ -1,5 +1,6 @@
 -- The command line of the program, as `clap` reads it.
-use Rattle.std.specs.Prelude.{◌≡◌, Some, true, false, codes, pos}
+use Rattle.std.specs.Prelude.{◌≡◌, [], ◌∷◌, Some, true, false, codes, pos}
+use Rattle.clap.specs.Lexer.{usize_max}
 use Rattle.clap.specs.Words.{App, Rule, Text, new_app, new_rule, with_rule, with_subcommand}
 use Rattle.clap.specs.declared.builder.value_parser.ValueParser.TheVariants as parser
 use Rattle.clap.specs.declared.builder.command.Command.{Command}
@@ -12,6 +13,21 @@ wanted id = record (new_rule id) { required = true }
 -- a positional that reads a number from 0 to 6
 abbrev pub depth_rule : Rule
 depth_rule = record (wanted (codes "DEPTH")) { parser = Some (parser.Signed (pos 0) (pos 6)) }
+
+-- an option that reads a number from 1 to 15, and is 3 where it isn't given
+abbrev pub bound_rule : Rule
+bound_rule = record (new_rule (codes "B")) {
+  long = Some (codes "bound");
+  parser = Some (parser.Signed (pos 1) (pos 15));
+  defaults = codes "3" ∷ [];
+}
+
+-- one name or more
+abbrev pub files_rule : Rule
+files_rule = record (wanted (codes "FILE")) { range = Some (record { start_inclusive = 1; end_inclusive = usize_max }) }
+
+abbrev pub solve_app : App
+solve_app = with_rule (with_rule (new_app (codes "solve")) bound_rule) files_rule
 
 abbrev pub look_app : App
 look_app = with_rule (new_app (codes "look")) (wanted (codes "FEN"))
@@ -32,9 +48,13 @@ bare_app = record (new_app (codes "matedesk")) {
   };
 }
 
+-- with the commands over one FEN
+abbrev pub with_fen_apps : App → App
+with_fen_apps a = with_subcommand (with_subcommand (with_subcommand a look_app.top) moves_app.top) perft_app.top
+
 -- the whole command line
 abbrev pub desk_app : App
-desk_app = with_subcommand (with_subcommand (with_subcommand bare_app look_app.top) moves_app.top) perft_app.top
+desk_app = with_fen_apps (with_subcommand bare_app solve_app.top)
 
 -- no argument of the command is global
 abbrev pub IsLocal : Command → Type 0

@@ -7,3 +7,5 @@ pub mod Look
 pub mod MovesShown
 pub mod Request
 pub mod Shown
+pub mod Solved
+pub mod Sources

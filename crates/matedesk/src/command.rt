@@ -5,7 +5,7 @@ ghost use Rattle.std.specs.Io.KnownBytes.{Keeps};
 ghost use Rattle.std.specs.String.{string_bytes};
 ghost use Rattle.clap.specs.Words.{kind_of};
 ghost use Rattle.matedesk.specs.Asked.{asked, asks_display, is_display};
-ghost use Rattle.matedesk.specs.Command.{Ends, Gains, HasText};
+ghost use Rattle.matedesk.specs.Command.{Ends, Gains, HasText, Shows};
 ghost use Rattle.matedesk.specs.Request.{plan_of};
 
 use crate::hyphens::escaped;
@@ -13,6 +13,8 @@ use crate::look::look;
 use crate::moves::moves;
 use crate::perft::perft;
 use crate::request::{Request, parse, request_of};
+use crate::solve::solve;
+use crate::source::Source;
 use crate::status::{ANSWERED, MISUSED, Stop, UNWRITABLE, no_memory, status_of};
 use clap::Error;
 use clap::error::ErrorKind;
@@ -20,31 +22,39 @@ use std::alloc::Global;
 use std::io::Write;
 
 /// Answers a request; gives whether anything was refused.
-fn answer<O: Write, E: Write>(
+fn answer<S: Source, O: Write, E: Write>(
     alloc: Global,
     request: &Request,
+    source: &S,
     out: &mut O,
     err: &mut E,
 ) -> Result<bool, Stop>
-    ensures ok { IfOk result (λ refused. Gains (plan_of request.now) refused (O.contents out.old) (O.contents out.new)) }
-    ensures unwritable { result ≡ Err Stop.Unwritable → HasText (plan_of request.now) }
+    ensures ok { IfOk result (λ refused. Gains (Shows (S.holds source.now) (plan_of request.now)) refused (O.contents out.old) (O.contents out.new)) }
+    ensures no_access { (result ≡ Err Stop.Unreadable) ⊎ (result ≡ Err Stop.Unwritable) → HasText (plan_of request.now) }
 {
     match request {
         Request::Look(fen) => look(alloc, fen, out, err),
         Request::Moves(fen) => moves(alloc, fen, out, err),
         Request::Perft(fen, depth) => perft(alloc, fen, *depth, out, err),
+        Request::Solve(bound, names) => solve(alloc, *bound, names, source, out, err),
     }
 }
 
 /// Answers what the words ask for. Matches that ask for nothing are a misuse like any other.
-fn run<O: Write, E: Write>(alloc: Global, request: &Option<Request>, out: &mut O, err: &mut E) -> u8
-    ensures ends { Ends (option_map plan_of request.now) result (O.contents out.old) (O.contents out.new) }
+fn run<S: Source, O: Write, E: Write>(
+    alloc: Global,
+    request: &Option<Request>,
+    source: &S,
+    out: &mut O,
+    err: &mut E,
+) -> u8
+    ensures ends { Ends (S.holds source.now) (option_map plan_of request.now) result (O.contents out.old) (O.contents out.new) }
     ensures asked { result ≢ 2 → IsSome (option_map plan_of request.now) }
 {
     let Some(request) = request else {
         return MISUSED;
     };
-    let ended = answer(alloc, request, out, err);
+    let ended = answer(alloc, request, source, out, err);
     status_of(ended, err)
 }
 
@@ -82,18 +92,24 @@ fn usage<O: Write, E: Write>(error: &Error, out: &mut O, err: &mut E) -> u8
     }
 }
 
-/// The program: answers what the words ask for, of which the first is the program's own name.
+/// The program: answers what the words ask for, of which the first is the program's own name. It reads files from `source`.
 ///
 /// A fault of `err` is passed over and changes no status.
-pub fn command<O: Write, E: Write>(alloc: Global, words: &[String], out: &mut O, err: &mut E) -> u8
-    ensures ends { Ends (asked (map string_bytes words.now)) result (O.contents out.old) (O.contents out.new) }
+pub fn command<S: Source, O: Write, E: Write>(
+    alloc: Global,
+    words: &[String],
+    source: &S,
+    out: &mut O,
+    err: &mut E,
+) -> u8
+    ensures ends { Ends (S.holds source.now) (asked (map string_bytes words.now)) result (O.contents out.old) (O.contents out.new) }
     ensures display { (result ≡ 0) ⊎ (result ≡ 4) → asked (map string_bytes words.now) ≡ None → asks_display (map string_bytes words.now) ≡ true }
 {
     let Ok(texts) = escaped(alloc, words) else {
         return no_memory(err);
     };
     match parse(alloc, texts.as_slice()) {
-        Ok(matches) => run(alloc, &request_of(&matches), out, err),
+        Ok(matches) => run(alloc, &request_of(&matches), source, out, err),
         Err(error) => usage(&error, out, err),
     }
 }

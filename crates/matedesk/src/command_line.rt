@@ -2,11 +2,11 @@
 
 ghost use Rattle.std.specs.Prelude.{◌≡◌, IfOk, codes, false};
 ghost use Rattle.clap.specs.Words.{app_of, rule_of, with_rule, with_subcommand};
-ghost use Rattle.matedesk.specs.CommandLine.{IsLocal, bare_app, depth_rule, desk_app, look_app, moves_app, perft_app, wanted};
+ghost use Rattle.matedesk.specs.CommandLine.{IsLocal, bare_app, bound_rule, depth_rule, desk_app, files_rule, look_app, moves_app, perft_app, solve_app, wanted, with_fen_apps};
 
 use crate::help::{
-    ABOUT, ABOUT_DEPTH, ABOUT_FEN, ABOUT_LOOK, ABOUT_MOVES, ABOUT_PERFT, AFTER_HELP, AFTER_LOOK,
-    AFTER_MOVES, AFTER_PERFT, VERSION,
+    ABOUT, ABOUT_BOUND, ABOUT_DEPTH, ABOUT_FEN, ABOUT_FILE, ABOUT_LOOK, ABOUT_MOVES, ABOUT_PERFT,
+    ABOUT_SOLVE, AFTER_HELP, AFTER_LOOK, AFTER_MOVES, AFTER_PERFT, AFTER_SOLVE, VERSION,
 };
 use clap::{Arg, Command, value_parser};
 use std::alloc::{AllocError, Global};
@@ -27,6 +27,26 @@ fn depth_arg<'a>(alloc: Global) -> Arg<'a>
     wanted_arg(alloc, "DEPTH", ABOUT_DEPTH).value_parser(value_parser!(u8).range(0..7))
 }
 
+/// The bound of problems that don't say theirs, 1 to 15.
+fn bound_arg<'a>(alloc: Global) -> Arg<'a>
+    ensures rule { rule_of result ≡ bound_rule }
+    ensures local { result.global ≡ false }
+{
+    Arg::new(alloc, "B")
+        .long("bound")
+        .value_parser(value_parser!(u8).range(1..16))
+        .default_value("3")
+        .help(ABOUT_BOUND)
+}
+
+/// The names of files, one or more.
+fn files_arg<'a>(alloc: Global) -> Arg<'a>
+    ensures rule { rule_of result ≡ files_rule }
+    ensures local { result.global ≡ false }
+{
+    wanted_arg(alloc, "FILE", ABOUT_FILE).num_args(1..)
+}
+
 /// `Command::arg`, by what a parse reads of its result.
 fn with_arg<'a>(command: Command<'a>, arg: Arg<'a>) -> Result<Command<'a>, AllocError>
     requires local { arg.global ≡ false }
@@ -42,6 +62,16 @@ fn with_command<'a>(command: Command<'a>, sub: Command<'a>) -> Result<Command<'a
     ensures { IfOk result (λ c. app_of c ≡ with_subcommand (app_of command.entry) (app_of sub.entry).top) }
 {
     command.subcommand(sub)
+}
+
+fn solve_command<'a>(alloc: Global) -> Result<Command<'a>, AllocError>
+    ensures { IfOk result (λ c. (app_of c ≡ solve_app) × IsLocal c) }
+{
+    let command = Command::new(alloc, "solve")
+        .about(ABOUT_SOLVE)
+        .after_help(AFTER_SOLVE);
+    let command = with_arg(command, bound_arg(alloc))?;
+    with_arg(command, files_arg(alloc))
 }
 
 fn look_command<'a>(alloc: Global) -> Result<Command<'a>, AllocError>
@@ -84,11 +114,19 @@ fn bare_command<'a>(alloc: Global) -> Command<'a>
         .disable_help_subcommand(true)
 }
 
+/// Adds the commands over one FEN.
+fn with_fen_commands<'a>(alloc: Global, command: Command<'a>) -> Result<Command<'a>, AllocError>
+    ensures { IfOk result (λ c. app_of c ≡ with_fen_apps (app_of command.entry)) }
+{
+    let command = with_command(command, look_command(alloc)?)?;
+    let command = with_command(command, moves_command(alloc)?)?;
+    with_command(command, perft_command(alloc)?)
+}
+
 /// The whole command line.
 pub fn desk_command<'a>(alloc: Global) -> Result<Command<'a>, AllocError>
     ensures { IfOk result (λ c. app_of c ≡ desk_app) }
 {
-    let command = with_command(bare_command(alloc), look_command(alloc)?)?;
-    let command = with_command(command, moves_command(alloc)?)?;
-    with_command(command, perft_command(alloc)?)
+    let command = with_command(bare_command(alloc), solve_command(alloc)?)?;
+    with_fen_commands(alloc, command)
 }

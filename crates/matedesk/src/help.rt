@@ -4,15 +4,20 @@
 pub const VERSION: &str = "0.1.0";
 
 /// What the program is.
-pub const ABOUT: &str = "Reads chess positions and answers questions about them.";
+pub const ABOUT: &str =
+    "Solves direct-mate chess problems. Reads chess positions, and answers questions about them.";
 
-/// What stands below the list of commands: what a FEN is, an example of each command, and the statuses.
+/// What stands below the list of commands: what a record and a FEN are, an example of each command, and the statuses.
 pub const AFTER_HELP: &str =
-    "FEN, the Forsyth-Edwards Notation of a position, is six fields with a space between
+    "A FILE of `solve` has a problem on each line, as a record in Extended Position
+Description: `matedesk solve --help` says what that is.
+
+FEN, the Forsyth-Edwards Notation of a position, is six fields with a space between
 (placement, side, castling rights, en passant target, halfmove clock, fullmove
 number), given as ONE argument in quotes.
 
 Examples:
+  matedesk solve problems.epd
   matedesk look \"rnbqkbnr/pppppppp/8/8/8/8/PPPPPPPP/RNBQKBNR w KQkq - 0 1\"
   matedesk moves \"8/8/8/K2pP2r/8/8/8/7k w - d6 0 1\"
   matedesk perft \"rnbqkbnr/pppppppp/8/8/8/8/PPPPPPPP/RNBQKBNR w KQkq - 0 1\" 3
@@ -22,9 +27,49 @@ Status:
   1  something that was given is refused
   2  the words ask for nothing
   3  no memory
-  4  the output can't be written
+  4  a file can't be read, or the output can't be written
 
 `matedesk COMMAND --help` says more about a command.";
+
+/// `solve` in one line.
+pub const ABOUT_SOLVE: &str =
+    "Solves the problems of files: does the side to move mate within so many moves?";
+
+/// What stands below the arguments of `solve`: what a record is, an example, what an answer says, and the statuses.
+pub const AFTER_SOLVE: &str =
+    "Each line is a record in Extended Position Description (EPD): the first four fields of
+a FEN (placement, side, castling rights, en passant target), and operations, each of
+which ends with a semicolon. The operation `dm N` asks for a mate within N moves of
+the side to move, 1 to 15; a record without it is asked for one within B. A blank line
+is passed over.
+
+Example:
+  $ cat problems.epd
+  7k/8/5K2/8/8/8/8/R7 w - - dm 2;
+  $ matedesk solve problems.epd
+  7k/8/5K2/8/8/8/8/R7 w - - bm Kf7 Kg6; dm 2; pv Kg6 Kg8 Ra8#;
+
+Each record is answered on a line of its own, as soon as it is solved: `bm` has each
+first move that mates soonest, `dm` the number of moves that the mate takes, and `pv`
+one line that leads to it. Where there is no mate within the bound, the answer says
+`c0 \"no mate in B\"`. A line that is no record is answered `# line K: CODE`: K is its
+number in its file, and CODE names its fault.
+
+/dev/stdin is a FILE like any other.
+
+Status:
+  0  every line was answered
+  1  a line was refused; all others were answered
+  2  the words ask for nothing
+  3  no memory
+  4  a FILE can't be read, or the output can't be written
+At 3 and 4 the first of the answers may have been written.";
+
+/// The option `--bound` in one line.
+pub const ABOUT_BOUND: &str = "Within how many moves a record without `dm` asks for mate, 1 to 15";
+
+/// The argument FILE in one line.
+pub const ABOUT_FILE: &str = "Files of records, each answered in its place";
 
 /// `look` in one line.
 pub const ABOUT_LOOK: &str =

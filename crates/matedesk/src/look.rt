@@ -4,6 +4,7 @@ ghost use Rattle.std.specs.Prelude.{◌≡◌, ◌++◌, Err, IfOk};
 ghost use Rattle.matedesk.specs.Asked.{look as look_asked};
 ghost use Rattle.matedesk.specs.Command.{Gains, HasText};
 ghost use Rattle.matedesk.specs.Look.{check_text, look_text};
+ghost use Rattle.matedesk.specs.Shown.{ShowsFen};
 
 use crate::shown::{push_line, read};
 use crate::status::Stop;
@@ -43,8 +44,9 @@ pub fn look<O: Write, E: Write>(
     out: &mut O,
     err: &mut E,
 ) -> Result<bool, Stop>
-    ensures ok { IfOk result (λ refused. Gains (look_asked fen.now) refused (O.contents out.old) (O.contents out.new)) }
+    ensures ok { IfOk result (λ refused. Gains (ShowsFen look_text fen.now) refused (O.contents out.old) (O.contents out.new)) }
     ensures unwritable { result ≡ Err Stop.Unwritable → HasText (look_asked fen.now) }
+    ensures readable { ¬ (result ≡ Err Stop.Unreadable) }
 {
     let Some(fen) = read(fen, err) else {
         return Ok(true);

@@ -2,7 +2,7 @@
 //!
 //! What a word means is settled here, and what an answer is in the crates below. Read `command` first, whose contract is
 //! the program's; then `request` (words to a request) over `command_line` (what `clap` is told) and `hyphens` (the words
-//! as it is given them); then each command in the file of its name.
+//! as it is given them); then each command in the file of its name, `solve` over `source` (where files come from).
 #![tactic(auto)]
 
 mod command;
@@ -15,10 +15,13 @@ mod moves;
 mod perft;
 mod request;
 mod shown;
+mod solve;
+mod source;
 mod status;
 mod writing;
 
 use command::command;
+use source::FileSystem;
 use status::{MISUSED, no_memory};
 use std::alloc::Global;
 use std::process::ExitCode;
@@ -36,7 +39,10 @@ fn main(rt: HostRuntime) -> ExitCode {
     let mut out = rt.stdout();
     let mut err = rt.stderr();
     let status = match words_of(&rt, alloc) {
-        Ok(words) => command(alloc, words.as_slice(), &mut out, &mut err),
+        Ok(words) => {
+            let files = FileSystem { rt: &rt };
+            command(alloc, words.as_slice(), &files, &mut out, &mut err)
+        }
         Err(fault) if fault.kind() == io::ErrorKind::OutOfMemory => no_memory(&mut err),
         Err(_) => {
             complain(&mut err, "a word is not text");

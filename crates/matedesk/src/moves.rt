@@ -4,7 +4,7 @@ ghost use Rattle.std.specs.Prelude.{◌≡◌, ◌++◌, Err, IfOk};
 ghost use Rattle.matedesk.specs.Asked.{moves as moves_asked};
 ghost use Rattle.matedesk.specs.Command.{Gains, HasText};
 ghost use Rattle.matedesk.specs.MovesShown.{list_text, moves_text, text_by};
-ghost use Rattle.matedesk.specs.Shown.{line};
+ghost use Rattle.matedesk.specs.Shown.{ShowsFen, line};
 
 use crate::shown::{push_line, read};
 use crate::status::Stop;
@@ -61,8 +61,9 @@ pub fn moves<O: Write, E: Write>(
     out: &mut O,
     err: &mut E,
 ) -> Result<bool, Stop>
-    ensures ok { IfOk result (λ refused. Gains (moves_asked fen.now) refused (O.contents out.old) (O.contents out.new)) }
+    ensures ok { IfOk result (λ refused. Gains (ShowsFen moves_text fen.now) refused (O.contents out.old) (O.contents out.new)) }
     ensures unwritable { result ≡ Err Stop.Unwritable → HasText (moves_asked fen.now) }
+    ensures readable { ¬ (result ≡ Err Stop.Unreadable) }
 {
     let Some(fen) = read(fen, err) else {
         return Ok(true);

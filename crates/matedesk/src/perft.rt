@@ -4,6 +4,7 @@ ghost use Rattle.std.specs.Prelude.{◌≡◌, Err, IfOk};
 ghost use Rattle.matedesk.specs.Asked.{perft as perft_asked};
 ghost use Rattle.matedesk.specs.Command.{Gains, HasText};
 ghost use Rattle.matedesk.specs.MovesShown.{perft_text};
+ghost use Rattle.matedesk.specs.Shown.{ShowsFen};
 
 use crate::depths::Depth;
 use crate::shown::{push_line, read};
@@ -36,8 +37,9 @@ pub fn perft<O: Write, E: Write>(
     out: &mut O,
     err: &mut E,
 ) -> Result<bool, Stop>
-    ensures ok { IfOk result (λ refused. Gains (perft_asked fen.now depth) refused (O.contents out.old) (O.contents out.new)) }
+    ensures ok { IfOk result (λ refused. Gains (ShowsFen (perft_text depth) fen.now) refused (O.contents out.old) (O.contents out.new)) }
     ensures unwritable { result ≡ Err Stop.Unwritable → HasText (perft_asked fen.now depth) }
+    ensures readable { ¬ (result ≡ Err Stop.Unreadable) }
 {
     let Some(fen) = read(fen, err) else {
         return Ok(true);

@@ -3,25 +3,28 @@
 ghost use Rattle.std.specs.Prelude.{◌≡◌, ◌≢◌, None, IfOk, IfErr, map, option_map, true};
 ghost use Rattle.std.specs.Option.{option_map_or};
 ghost use Rattle.clap.specs.Walk.{byte_or_zero};
-ghost use Rattle.clap.specs.Words.{first_of, found_of, kind_of, one_of, rows_of};
-ghost use Rattle.matedesk.specs.Asked.{asked_by, asked_exactly, depth_in, asked_of, asks_display_exactly, is_display};
+ghost use Rattle.clap.specs.Words.{all_of, first_of, found_of, kind_of, one_of, rows_of};
+ghost use Rattle.matedesk.specs.Asked.{asked_by, asked_exactly, bound_in, depth_in, asked_of, asks_display_exactly, is_display};
 ghost use Rattle.matedesk.specs.Request.{plan_of};
 
 use crate::command_line::desk_command;
 use crate::depths::Depth;
+use chess_notation::Bound;
 use clap::error::ErrorKind;
 use clap::{ArgMatches, Error};
 use std::alloc::Global;
 
 /// A command with its arguments.
 #[derive(Clone, Copy)]
-pub enum Request<'a> {
+pub enum Request<'m, 'a> {
     /// Show a FEN in canonical form, and whether the side to move is in check.
     Look(&'a str),
     /// List the legal moves of a FEN, or say how the game has ended.
     Moves(&'a str),
     /// Count the lines of so many legal moves from a FEN.
     Perft(&'a str, Depth),
+    /// Answer the records of files, in order; the bound is for records that say none.
+    Solve(Bound, &'m [&'a str]),
 }
 
 /// The value of a positional.
@@ -31,7 +34,14 @@ fn text_in<'a>(matches: &ArgMatches<'a>, id: &str) -> Option<&'a str>
     matches.get_str(id)
 }
 
-/// The number of a positional.
+/// The values of a positional that takes more than one.
+fn names_in<'m, 'a>(matches: &'m ArgMatches<'a>, id: &str) -> Option<&'m [&'a str]>
+    ensures { option_map (λ names. map (λ s. s.now) names.now) result ≡ all_of id.now (rows_of (found_of matches.now)) }
+{
+    matches.get_strs(id)
+}
+
+/// The number of a positional or of an option.
 fn number_in(matches: &ArgMatches, id: &str) -> u8
     ensures { result ≡ option_map_or byte_or_zero (one_of id.now (rows_of (found_of matches.now))) 0 }
 {
@@ -45,9 +55,16 @@ fn depth_in(matches: &ArgMatches) -> Option<Depth>
     Depth::new(number_in(matches, "DEPTH"))
 }
 
+/// The bound of `solve`. `clap` has kept it to its range.
+fn bound_in(matches: &ArgMatches) -> Option<Bound>
+    ensures { result ≡ bound_in (rows_of (found_of matches.now)) }
+{
+    Bound::new(number_in(matches, "B"))
+}
+
 /// What the arguments of a command ask for, by its name.
 #[tactic(auto, unfolding(crate::specs::Asked::asked_by))]
-fn request_by<'a>(name: &str, matches: &ArgMatches<'a>) -> Option<Request<'a>>
+fn request_by<'m, 'a>(name: &str, matches: &'m ArgMatches<'a>) -> Option<Request<'m, 'a>>
     ensures { option_map plan_of result ≡ asked_by name.now (rows_of (found_of matches.now)) }
 {
     if name == "look" {
@@ -57,13 +74,16 @@ fn request_by<'a>(name: &str, matches: &ArgMatches<'a>) -> Option<Request<'a>>
     } else if name == "perft" {
         let depth = depth_in(matches)?;
         text_in(matches, "FEN").map(|fen| Request::Perft(fen, depth))
+    } else if name == "solve" {
+        let bound = bound_in(matches)?;
+        names_in(matches, "FILE").map(|names| Request::Solve(bound, names))
     } else {
         None
     }
 }
 
 /// What the matches of the whole command line ask for.
-pub fn request_of<'a>(matches: &ArgMatches<'a>) -> Option<Request<'a>>
+pub fn request_of<'m, 'a>(matches: &'m ArgMatches<'a>) -> Option<Request<'m, 'a>>
     ensures { option_map plan_of result ≡ asked_of matches.now }
 {
     let (name, inner) = matches.subcommand()?;

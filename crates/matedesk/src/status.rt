@@ -1,9 +1,10 @@
 //! The statuses that the program ends with, and why it stops before its end.
 
-ghost use Rattle.std.specs.Prelude.{◌≡◌, ◌↔◌, ◌==◌, ◌<◌, ◌≤◌, Err, IfOk, IfErr};
+ghost use Rattle.std.specs.Prelude.{◌≡◌, ◌↔◌, ◌⊎◌, ◌==◌, ◌<◌, ◌≤◌, Err, IfOk, IfErr};
 ghost use Rattle.matedesk.specs.declared.status.Stop.TheVariants.{NoMemory};
 
 use crate::writing::complain;
+use chess_notation::NoMemory;
 use std::alloc::AllocError;
 use std::io::Write;
 
@@ -15,6 +16,8 @@ pub const REFUSED: u8 = 1;
 pub const MISUSED: u8 = 2;
 /// Memory was refused.
 pub const NO_MEMORY: u8 = 3;
+/// A file can't be read.
+pub const UNREADABLE: u8 = 4;
 /// The output can't be written.
 pub const UNWRITABLE: u8 = 4;
 
@@ -23,6 +26,8 @@ pub const UNWRITABLE: u8 = 4;
 pub enum Stop {
     /// Memory was refused.
     NoMemory,
+    /// A file can't be read, which was said where its name is known.
+    Unreadable,
     /// The output can't be written.
     Unwritable,
 }
@@ -31,6 +36,14 @@ impl From<AllocError> for Stop {
     ghost from_gives = { λ _ stop. stop ≡ NoMemory };
 
     fn from(_fault: AllocError) -> Stop {
+        Stop::NoMemory
+    }
+}
+
+impl From<NoMemory> for Stop {
+    ghost from_gives = { λ _ stop. stop ≡ NoMemory };
+
+    fn from(_fault: NoMemory) -> Stop {
         Stop::NoMemory
     }
 }
@@ -48,12 +61,13 @@ pub fn status_of<E: Write>(ended: Result<bool, Stop>, err: &mut E) -> u8
     ensures ok { IfOk ended (λ refused. (result < 2) × ((result == 1) ≡ refused)) }
     ensures err { IfErr ended (λ _. (3 ≤ result) × (result ≤ 4)) }
     ensures no_memory { (result ≡ 3) ↔ (ended ≡ Err Stop.NoMemory) }
-    ensures unwritable { (result ≡ 4) ↔ (ended ≡ Err Stop.Unwritable) }
+    ensures no_access { (result ≡ 4) ↔ ((ended ≡ Err Stop.Unreadable) ⊎ (ended ≡ Err Stop.Unwritable)) }
 {
     match ended {
         Ok(false) => ANSWERED,
         Ok(true) => REFUSED,
         Err(Stop::NoMemory) => no_memory(err),
+        Err(Stop::Unreadable) => UNREADABLE,
         Err(Stop::Unwritable) => UNWRITABLE,
     }
 }

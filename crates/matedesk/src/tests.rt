@@ -1,7 +1,10 @@
 //! What no contract says: the texts, the streams that they go to, and what a faulty writer leads to.
 
+ghost use Rattle.std.specs.Prelude.{⊤};
+
 use crate::command::command;
 use crate::help::VERSION;
+use crate::source::{Source, SourceFault};
 use std::alloc::Global;
 use std::io;
 use std::io::Write;
@@ -36,6 +39,28 @@ impl Write for Failing {
     }
 }
 
+/// Files by name and text, and no others.
+#[derive(Drop)]
+struct Shelf<'a> {
+    files: &'a [(&'a str, &'a str)],
+}
+
+impl<'a> Source for Shelf<'a> {
+    ghost holds = { λ _ _ _. ⊤ };
+
+    fn read(&self, alloc: Global, name: &str) -> Result<Vec<u8>, SourceFault> {
+        for (known, text) in self.files {
+            if *known == name {
+                return match Vec::from_slice(alloc, text.as_bytes()) {
+                    Ok(bytes) => Ok(bytes),
+                    Err(_) => Err(SourceFault::NoMemory),
+                };
+            }
+        }
+        Err(SourceFault::Unreadable)
+    }
+}
+
 /// How a command line ended: the status, and what each writer took before it failed.
 #[derive(Drop)]
 struct Ending {
@@ -44,8 +69,19 @@ struct Ending {
     err: Vec<u8>,
 }
 
-/// Runs the words after the program's name, with writers that take so many calls.
+/// Runs the words after the program's name where there is no file, with writers that take so many calls.
 fn run(alloc: Global, words: &[&str], outs: usize, errs: usize) -> Result<Ending, Fail> {
+    run_with(alloc, &Shelf { files: &[] }, words, outs, errs)
+}
+
+/// The same where there are such files.
+fn run_with(
+    alloc: Global,
+    shelf: &Shelf,
+    words: &[&str],
+    outs: usize,
+    errs: usize,
+) -> Result<Ending, Fail> {
     let mut all = Vec::new(alloc);
     all.push(String::from_str(alloc, "matedesk")?)?;
     for word in words {
@@ -59,7 +95,7 @@ fn run(alloc: Global, words: &[&str], outs: usize, errs: usize) -> Result<Ending
         calls_left: errs,
         text: Vec::new(alloc),
     };
-    let status = command(alloc, all.as_slice(), &mut out, &mut err);
+    let status = command(alloc, all.as_slice(), shelf, &mut out, &mut err);
     Ok(Ending {
         status,
         out: out.text,
@@ -191,6 +227,12 @@ fn misused_words_end_with_two(rt: HostRuntime) -> Result<(), Fail> {
         ("perft a 7", "7 is not in 0..=6"),
         ("perft a x", "invalid value 'x'"),
         ("perft a 1 2", "unexpected argument '2'"),
+        ("solve", "required arguments were not provided"),
+        ("solve --bound 2", "required arguments were not provided"),
+        ("solve --bound 0 a", "0 is not in 1..=15"),
+        ("solve --bound 16 a", "16 is not in 1..=15"),
+        ("solve --bound x a", "invalid value 'x'"),
+        ("solve -abc", "unexpected argument '-a'"),
     ];
     for (line, text) in rows {
         let mut words = Vec::new(alloc);
@@ -215,7 +257,9 @@ fn no_name_is_misuse_too(rt: HostRuntime) -> Result<(), Fail> {
     let words: Vec<String> = Vec::new(alloc);
     let mut out = Vec::new(alloc);
     let mut err = Vec::new(alloc);
-    assert_eq!(rt; command(alloc, words.as_slice(), &mut out, &mut err), 2);
+    let shelf = Shelf { files: &[] };
+    let status = command(alloc, words.as_slice(), &shelf, &mut out, &mut err);
+    assert_eq!(rt; status, 2);
     assert_eq!(rt; out.as_slice(), b"".as_slice());
     Ok(())
 }
@@ -224,11 +268,19 @@ fn no_name_is_misuse_too(rt: HostRuntime) -> Result<(), Fail> {
 fn help_and_version_go_to_out(rt: HostRuntime) -> Result<(), Fail> {
     let alloc = rt.alloc();
     let rows = [
+        ("--help", "Solves direct-mate chess problems."),
+        ("--help", "matedesk solve problems.epd"),
         ("--help", "the Forsyth-Edwards Notation of a position"),
         ("--help", "matedesk look \"rnbqkbnr/"),
         ("-h", "look"),
         ("look --help", "Forsyth-Edwards Notation"),
         ("look -h", "Usage: matedesk look <FEN>"),
+        (
+            "solve --help",
+            "7k/8/5K2/8/8/8/8/R7 w - - bm Kf7 Kg6; dm 2; pv Kg6 Kg8 Ra8#;",
+        ),
+        ("solve --help", "[default: 3]"),
+        ("solve -h", "Usage: matedesk solve [OPTIONS] <FILE>..."),
         ("moves --help", "matedesk moves \"8/8"),
         ("perft --help", "How many moves a line has, 0 to 6"),
         ("--version", VERSION),
@@ -273,6 +325,67 @@ fn a_faulty_out_ends_with_four_and_a_faulty_err_is_passed_over(
         if outs == 0 {
             assert_eq!(rt; ended.out.as_slice(), b"".as_slice(), "{fen} {outs} {errs}");
         }
+    }
+    Ok(())
+}
+
+#[test]
+fn a_file_that_is_not_there_ends_with_four(rt: HostRuntime) -> Result<(), Fail> {
+    let alloc = rt.alloc();
+    for (outs, errs) in [(ALWAYS, ALWAYS), (0, ALWAYS), (ALWAYS, 0)] {
+        let ended = run(alloc, &["solve", "no/file", "other"], outs, errs)?;
+        assert_eq!(rt; ended.status, 4, "{outs} {errs}");
+        assert_eq!(rt; ended.out.as_slice(), b"".as_slice(), "{outs} {errs}");
+        if errs == ALWAYS {
+            let message = b"matedesk: cannot read no/file\n".as_slice();
+            assert_eq!(rt; ended.err.as_slice(), message, "{outs}");
+        }
+    }
+    Ok(())
+}
+
+#[test]
+fn solve_answers_each_line_of_each_file(rt: HostRuntime) -> Result<(), Fail> {
+    let alloc = rt.alloc();
+    let four = "\n  \n8/8/8/8/8/8/8/K7 w - - dm 1;\r\n6k1/5ppp/8/8/8/8/8/R3K3 w Q - dm 1;";
+    let files = [
+        ("two", "7k/8/5K2/8/8/8/8/R7 w - - dm 2;\n"),
+        ("plain", "7k/8/5K2/8/8/8/8/R7 w - -"),
+        ("four", four),
+        ("bad", "8/8/8/8/8/8/8/K7 w - -"),
+        ("empty", ""),
+    ];
+    let mates = "7k/8/5K2/8/8/8/8/R7 w - - bm Kf7 Kg6; dm 2; pv Kg6 Kg8 Ra8#;\n";
+    let none = "7k/8/5K2/8/8/8/8/R7 w - - c0 \"no mate in 1\";\n";
+    let back_rank =
+        "# line 3: Fen BadKings\n6k1/5ppp/8/8/8/8/8/R3K3 w Q - bm Ra8#; dm 1; pv Ra8#;\n";
+    let twice = "# line 1: Fen BadKings\n# line 1: Fen BadKings\n";
+    let rows = [
+        ("solve two", ALWAYS, 0, mates),
+        ("solve plain", ALWAYS, 0, mates),
+        ("solve --bound 1 plain", ALWAYS, 0, none),
+        ("solve plain --bound 1", ALWAYS, 0, none),
+        ("solve --bound 1 two", ALWAYS, 0, mates),
+        ("solve four", ALWAYS, 1, back_rank),
+        ("solve four empty", ALWAYS, 1, back_rank),
+        ("solve bad bad", ALWAYS, 1, twice),
+        ("solve empty", ALWAYS, 0, ""),
+        ("solve empty", 0, 0, ""),
+        ("solve two missing plain", ALWAYS, 4, mates),
+        ("solve two", 0, 4, ""),
+        ("solve two two", 1, 4, mates),
+    ];
+    let shelf = Shelf {
+        files: files.as_slice(),
+    };
+    for (line, outs, status, text) in rows {
+        let mut words = Vec::new(alloc);
+        for word in line.split(' ') {
+            words.push(word)?;
+        }
+        let ended = run_with(alloc, &shelf, words.as_slice(), outs, ALWAYS)?;
+        assert_eq!(rt; ended.status, status, "{line} {outs}");
+        assert_eq!(rt; ended.out.as_slice(), text.as_bytes(), "{line} {outs}");
     }
     Ok(())
 }

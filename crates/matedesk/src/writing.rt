@@ -21,3 +21,8 @@ pub fn put<O: Write>(out: &mut O, text: &[u8]) -> Result<(), Stop>
 pub fn complain<E: Write>(err: &mut E, message: &str) {
     let _ = writeln!(err, "matedesk: {message}");
 }
+
+/// Says which file can't be read.
+pub fn complain_unreadable<E: Write>(err: &mut E, name: &str) {
+    let _ = writeln!(err, "matedesk: cannot read {name}");
+}

@@ -1,0 +1,9 @@
+pub mod Searches
+pub mod Wins
+pub mod Least
+pub mod Playing
+pub mod Playable
+pub mod Readings
+pub mod MoveOrder
+pub mod InputLines
+pub mod InputReplies

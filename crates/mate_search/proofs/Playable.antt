@@ -1,0 +1,47 @@
+-- The keys and the line are legal moves.
+use Rattle.std.proofs.Common.{◌≡◌, ◌-◌, ℕ, zero, suc, List, [], ◌∷◌, Some, None, refl, arith}
+use Rattle.std.specs.List.{All, Contains}
+use Rattle.std.proofs.lemmas.List.Elements.{All-filter, All-contains_itself}
+use Rattle.chess_board.specs.Positions.{Setup}
+use Rattle.chess_board.specs.Moves.{Move}
+use Rattle.chess_board.specs.After.{after_setup}
+use Rattle.chess_moves.specs.Listing.{legal_moves}
+use Rattle.chess_moves.specs.Laws.{IsLine, LegalListed}
+use Rattle.mate_search.specs.Wins.{leaves_lost}
+use Rattle.mate_search.specs.Lines.{line, least_key, longest_reply, replies}
+use Rattle.chess_notation.specs.Answers.{AreLegal, IsPlayable}
+use Rattle.mate_search.specs.Truth.{dist, truth, truth_among}
+use Rattle.mate_search.proofs.Searches.{found_has}
+
+module _ (law : LegalListed) where
+  replies_playable : (n : ℕ) (rest : Setup → List Move) (q : Setup) → ((s : Setup) → IsLine s (rest s)) → IsLine q (replies n rest q)
+  replies_playable zero rest q h = tt
+  replies_playable (suc j) rest q h = (elim (longest_reply q j) as (λ o. longest_reply q j ≡ o → IsLine q (replies (suc j) rest q)) [
+    | None ↦ λ is. rw is tt
+    | Some r ↦ λ is. rw is ((law q r).0 (found_has (Contains (legal_moves q)) _ (legal_moves q) r (All-contains_itself (legal_moves q)) is), h (after_setup q r))
+  ]) refl
+
+  line_playable : (first : List Move) (n : ℕ) (p : Setup) → All (Contains (legal_moves p)) first → IsLine p (line first p n)
+  unfolding line
+  line_playable first zero p h = tt
+  line_playable first (suc n) p h = (elim (least_key first p (suc n)) as (λ o. least_key first p (suc n) ≡ o → IsLine p (line first p (suc n))) [
+    | None ↦ λ is. rw is tt
+    | Some m ↦ λ is.
+        let rest = replies_playable n (λ s. line (legal_moves s) s n) (after_setup p m) (λ s. line_playable (legal_moves s) n s (All-contains_itself (legal_moves s))) in
+        rw is ((law p m).0 (found_has (Contains (legal_moves p)) _ first m h is), rest)
+  ]) refl
+
+each_legal : (p : Setup) (ms : List Move) → All (Contains (legal_moves p)) ms → AreLegal p ms
+each_legal p [] h = tt
+each_legal p (m ∷ ms) h = (h 0 m (omega arith), each_legal p ms (λ k d inside. h (suc k) d (omega arith)))
+
+-- What there is to say of a problem can be played.
+pub truth_playable : LegalListed → (p : Setup) (b : ℕ) → IsPlayable p (truth p b)
+unfolding truth_among IsPlayable
+truth_playable law p b = (elim (dist (legal_moves p) p b) as (λ o. dist (legal_moves p) p b ≡ o → IsPlayable p (truth p b)) [
+  | None ↦ λ is. rw is tt
+  | Some n ↦ λ is. rw is (
+    each_legal p _ (All-filter (leaves_lost (n - 1) p) (Contains (legal_moves p)) (legal_moves p) (All-contains_itself (legal_moves p))),
+    line_playable law (legal_moves p) n p (All-contains_itself (legal_moves p)),
+  )
+]) refl

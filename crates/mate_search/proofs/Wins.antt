@@ -1,0 +1,63 @@
+-- Forced mate, step by step.
+use Rattle.std.proofs.Common.{◌≡◌, ℕ, zero, suc, ◌-◌, ◌<◌, Bool, true, false, ◌&&◌, ◌||◌, List, [], ◌∷◌, refl, arith, sub-one}
+use Rattle.std.specs.Prelude.{nat_lt, length}
+use Rattle.std.specs.List.{All, list_any, list_all}
+use Rattle.std.proofs.lemmas.List.Elements.{filter_passes}
+use Rattle.chess_board.specs.Positions.{Setup}
+use Rattle.chess_board.specs.Moves.{Move}
+use Rattle.chess_board.specs.After.{after_setup}
+use Rattle.chess_board.specs.Legality.{is_legal}
+use Rattle.chess_moves.specs.Listing.{legal_moves, moves_below}
+use Rattle.chess_moves.specs.Verdicts.{has_legal_move, is_mate}
+use Rattle.mate_search.specs.Wins.{win, lost, loses_by, leaves_lost, win_among}
+use Rattle.mate_search.proofs.Searches.{any_weaker, all_weaker}
+
+-- Each move of the list is legal.
+pub legal_each : (p : Setup) → All (λ m. is_legal p m ≡ true) (legal_moves p)
+unfolding legal_moves
+legal_each p = filter_passes (is_legal p) (moves_below 64)
+
+pub win_none : (n : ℕ) (p : Setup) → n ≡ 0 → win n p ≡ false
+unfolding win
+win_none n p h = rw h
+
+pub win_step : (n : ℕ) (p : Setup) → 0 < n → win n p ≡ list_any (leaves_lost (n - 1) p) (legal_moves p)
+unfolding win
+win_step zero p h = absurd (omega arith)
+win_step (suc n) p h = simp sub-one
+
+pub win_among_step : (first : List Move) (n : ℕ) (p : Setup) → 0 < n → win_among first n p ≡ list_any (leaves_lost (n - 1) p) first
+unfolding win_among
+win_among_step first zero p h = absurd (omega arith)
+win_among_step first (suc n) p h = simp sub-one
+
+-- No reply at all, or one that no win in none meets: nothing is left but mate.
+none_left : (f : Move → Bool) (xs : List Move) → ((r : Move) → f r ≡ false) → (nat_lt 0 (length xs) && list_all f xs) ≡ false
+none_left f [] h = refl
+none_left f (x ∷ xs) h = rw (h x) (and_false (nat_lt 0 (length (x ∷ xs))))
+  where
+    and_false : (b : Bool) → (b && false) ≡ false
+    and_false true = refl
+    and_false false = refl
+
+or_false : (a b : Bool) → b ≡ false → (a || b) ≡ a
+or_false true b e = refl
+or_false false b e = e
+
+-- Where the attacker has no more moves, only a mated defender is lost.
+pub lost_none : (k : ℕ) (q : Setup) → k ≡ 0 → lost k q ≡ is_mate q
+lost_none k q h = or_false (is_mate q) (has_legal_move q && list_all (λ r. win k (after_setup q r)) (legal_moves q)) (none_left (λ r. win k (after_setup q r)) (legal_moves q) (λ r. win_none k (after_setup q r) h))
+
+loses_weaker : (f g : Setup → Bool) (p : Setup) → ((q : Setup) → f q ≡ true → g q ≡ true) → loses_by f p ≡ true → loses_by g p ≡ true
+loses_weaker f g p h e = (elim (is_mate p) as (λ b. is_mate p ≡ b → loses_by g p ≡ true) [
+  | true ↦ λ t. rw t
+  | false ↦ λ t. let e' = rw t at e in rw t ((elim (has_legal_move p) as (λ b. has_legal_move p ≡ b → (has_legal_move p && list_all (λ r. g (after_setup p r)) (legal_moves p)) ≡ true) [
+    | true ↦ λ u. rw u (all_weaker _ _ (legal_moves p) (λ r. h (after_setup p r)) (rw u at e'))
+    | false ↦ λ u. let n = rw u at e' in cc
+  ]) refl)
+]) refl
+
+pub win_more : (n : ℕ) (p : Setup) → win n p ≡ true → win (suc n) p ≡ true
+unfolding win
+win_more zero p e = cc
+win_more (suc n) p e = any_weaker _ _ (legal_moves p) (λ m. loses_weaker (win n) (win (suc n)) (after_setup p m) (win_more n)) e

@@ -1,0 +1,7 @@
+use Rattle.std.proofs.Common.{◌≡◌, ◌-◌, take, find, None}
+use Rattle.mate_search.specs.Wins.{leaves_lost}
+use Rattle.mate_search.proofs.lines.least_key.Given as goal
+
+-- none so far
+abbrev pub invariant-loop-m : goal.invariant-loop-m
+invariant-loop-m l = find (leaves_lost (l.n - 1) l.position) (take l.m-index l.first) ≡ None

@@ -1,0 +1,8 @@
+use Rattle.std.proofs.Common.{◌≡◌, take, not, find, None}
+use Rattle.chess_board.specs.After.{after_setup}
+use Rattle.mate_search.specs.Wins.{win}
+use Rattle.mate_search.proofs.lines.longest_reply.Given as goal
+
+-- none so far
+abbrev pub invariant-loop-r : goal.invariant-loop-r
+invariant-loop-r l = find (λ r. not (win l.j (after_setup l.position r))) (take l.r-index l.r-items) ≡ None

@@ -1,0 +1,22 @@
+use Rattle.std.proofs.Common.{◌≡◌, ◌+◌, ◌-◌, ◌*◌, true, false, take}
+use Rattle.std.specs.List.{list_any, list_all}
+use Rattle.chess_board.specs.After.{after_setup}
+use Rattle.mate_search.specs.Wins.{win, leaves_lost}
+use Rattle.mate_search.proofs.searching.+search.Given as goal
+
+abbrev pub decreases-wins : goal.decreases-wins
+decreases-wins l = 3 * l.n + 1
+
+abbrev pub decreases-wins_among : goal.decreases-wins_among
+decreases-wins_among l = 3 * l.n
+
+abbrev pub decreases-loses : goal.decreases-loses
+decreases-loses l = 3 * l.k + 2
+
+-- each reply so far loses
+abbrev pub invariant-loses-loop-r : goal.invariant-loses-loop-r
+invariant-loses-loop-r l = list_all (λ r. win l.k (after_setup l.position r)) (take l.r-index l.r-items) ≡ true
+
+-- no move so far wins
+abbrev pub invariant-wins_among-loop-m : goal.invariant-wins_among-loop-m
+invariant-wins_among-loop-m l = list_any (leaves_lost (l.n - 1) l.position) (take l.m-index l.first) ≡ false

@@ -1,0 +1,10 @@
+use Rattle.std.proofs.Common.{◌≡◌, arith}
+use Rattle.std.proofs.lemmas.Grind.{common_steps}
+use Rattle.mate_search.specs.Truth.{truth}
+use Rattle.mate_search.proofs.Playable.{truth_playable}
+use Rattle.mate_search.proofs.solving.solve.Goals as goal
+
+pub returns-clause-playable : goal.returns-clause-playable
+returns-clause-playable c =
+    let e : c.solve_among.result ≡ truth c.args.problem.now.position c.args.problem.now.bound = grind (arith, common_steps) in
+    rw e (truth_playable c.legal_listed.ensures c.args.problem.now.position c.args.problem.now.bound)

@@ -1,0 +1,7 @@
+use Rattle.std.proofs.Common.{◌≡◌, None}
+use Rattle.mate_search.specs.Truth.{dist}
+use Rattle.mate_search.proofs.solving.solve_among.Given as goal
+
+-- no mate so far
+abbrev pub invariant-loop-k : goal.invariant-loop-k
+invariant-loop-k l = dist l.first l.position l.k ≡ None

@@ -1,0 +1,6 @@
+pub mod Wins
+pub mod Lines
+pub mod Truth
+pub mod Memos
+pub mod Laws
+pub mod Replies

@@ -1,0 +1,24 @@
+-- What there is to say of a problem.
+use Rattle.std.specs.Prelude.{ℕ, zero, suc, List, Option, Some, None, if◌then◌else◌}
+use Rattle.std.specs.Option.{option_map_or, option_or}
+use Rattle.chess_board.specs.Positions.{Setup}
+use Rattle.chess_board.specs.Moves.{Move}
+use Rattle.chess_moves.specs.Listing.{legal_moves}
+use Rattle.chess_notation.specs.declared.problems.Outcome.{Outcome}
+use Rattle.chess_notation.specs.declared.problems.Outcome.TheVariants.{Mate, NoMate}
+use Rattle.mate_search.specs.Wins.{win_among}
+use Rattle.mate_search.specs.Lines.{keys, line}
+
+-- the least number of moves, from 1 to b, within which the attacker mates with one of these for its first
+unfoldable pub dist : List Move → Setup → ℕ → Option ℕ
+dist first p zero = None
+dist first p (suc b) = option_or (dist first p b) (if win_among first (suc b) p then Some (suc b) else None)
+
+-- The least number of moves with its keys and its line, or that there is no mate within b moves, where the attacker's first move
+-- is one of these. An EPD record has them as dm, bm and pv (PGN Specification, section 16.2.5).
+unfoldable pub truth_among : List Move → Setup → ℕ → Outcome
+truth_among first p b = option_map_or (λ n. Mate n (record { items = keys first p n }) (record { items = line first p n })) (dist first p b) NoMate
+
+-- the same with every legal move to choose from
+abbrev pub truth : Setup → ℕ → Outcome
+truth p b = truth_among (legal_moves p) p b

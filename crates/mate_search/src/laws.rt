@@ -1,0 +1,71 @@
+//! Laws about the definitions. A function here does nothing, beyond citing a law of the rules: its contract is the law.
+
+ghost use Rattle.mate_search.specs.Laws.{WinReads, LostReads, WinGrows, AmongAll, KeysRead, KeysRise, LeastKeyReads, LongestReplyReads, DistReads, NoDistReads, LineLength, LineMates};
+
+use chess_moves::legal_rise;
+
+/// There is no mate within 0, and one within n + 1 is a legal move that leaves the defender lost with n more.
+pub fn win_reads()
+    ensures { WinReads }
+{}
+
+/// The defender is lost exactly where it is mated, or has a legal move and is mated after each; stalemate is no loss.
+pub fn lost_reads()
+    ensures { LostReads }
+{}
+
+/// A mate within n moves is one within n + 1.
+pub fn win_grows()
+    ensures { WinGrows }
+{}
+
+/// With every legal move to choose from, there is a mate exactly where there is one.
+pub fn among_all()
+    ensures { AmongAll }
+{}
+
+/// The keys are exactly the first moves that leave the defender lost with n - 1 more.
+pub fn keys_read()
+    ensures { KeysRead }
+{}
+
+/// The keys rise in the order of moves, so that none stands there twice.
+pub fn keys_rise()
+    ensures { KeysRise }
+{
+    legal_rise();
+}
+
+/// The line begins with the first key in the order of moves.
+pub fn least_key_reads()
+    ensures { LeastKeyReads }
+{
+    legal_rise();
+}
+
+/// The line goes on with the first reply, in the order of moves, among those that last longest.
+pub fn longest_reply_reads()
+    ensures { LongestReplyReads }
+{
+    legal_rise();
+}
+
+/// The number found is exactly the least, from 1 to the bound, within which there is a mate.
+pub fn dist_reads()
+    ensures { DistReads }
+{}
+
+/// None is found exactly where there is no mate within the bound.
+pub fn no_dist_reads()
+    ensures { NoDistReads }
+{}
+
+/// The line to the least mate has 2n - 1 moves.
+pub fn line_length()
+    ensures { LineLength }
+{}
+
+/// The line to the least mate ends in mate.
+pub fn line_mates()
+    ensures { LineMates }
+{}

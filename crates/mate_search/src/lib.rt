@@ -1,0 +1,26 @@
+//! Forced mate: whether the side to move, the attacker, mates within so many moves, by which first moves, and along which line.
+//!
+//! The rules are `chess_moves`'s business, and problems and outcomes are `chess_notation`'s. What a mate within n moves is
+//! stands in `specs/Wins.antt`, and what there is to say of a problem in `specs/Lines.antt` and `specs/Truth.antt`; an outcome
+//! is exactly that.
+//!
+//! To read: `searching`, `lines`, `solving`; `laws` says of the definitions what they are meant to say.
+#![tactic(auto)]
+
+mod laws;
+mod lines;
+mod memo;
+mod replies;
+mod searching;
+mod solving;
+
+pub use laws::{
+    among_all, dist_reads, keys_read, keys_rise, least_key_reads, line_length, line_mates,
+    longest_reply_reads, lost_reads, no_dist_reads, win_grows, win_reads,
+};
+pub use memo::{Memo, MemoFault};
+pub use replies::{Output, answer_line, first_line, solve_input};
+pub use solving::solve;
+
+#[cfg(test)]
+mod tests;
