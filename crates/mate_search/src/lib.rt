@@ -1,10 +1,12 @@
-//! Forced mate: whether the side to move, the attacker, mates within so many moves, by which first moves, and along which line.
+//! Forced mate: whether the side to move, the attacker, mates within so many moves, by which first moves, and along which line;
+//! and what an input of such problems is answered.
 //!
 //! The rules are `chess_moves`'s business, and problems and outcomes are `chess_notation`'s. What a mate within n moves is
 //! stands in `specs/Wins.antt`, and what there is to say of a problem in `specs/Lines.antt` and `specs/Truth.antt`; an outcome
 //! is exactly that.
 //!
-//! To read: `searching`, `lines`, `solving`; `laws` says of the definitions what they are meant to say.
+//! To read: `searching`, `lines`, `solving`; `laws` says of the definitions what they are meant to say; then
+//! `specs/Replies.antt` and `replies`. `solve` takes no memory.
 #![tactic(auto)]
 
 mod laws;

@@ -33,14 +33,25 @@ pub(crate) fn wins_among(rays: &Rays, position: &Position, first: &[Move], n: u8
 }
 
 /// Whether the defender, to move, is mated, or the attacker mates within `k` moves whatever the reply.
-#[tactic(auto, using(crate::proofs::Wins::lost_none, crate::proofs::Wins::legal_each))]
+#[tactic(auto, using(crate::proofs::Wins::lost_none))]
 #[cycle(search)]
 pub(crate) fn loses(rays: &Rays, position: &Position, k: u8) -> bool
     ensures { result ≡ lost k position.now }
 {
+    // Most positions of a search are met here, and need no list.
     if k == 0 {
-        return verdict(rays, position) == Verdict::Mate;
+        verdict(rays, position) == Verdict::Mate
+    } else {
+        loses_each(rays, position, k)
     }
+}
+
+/// The same by a list of the replies, each of which has to lose.
+#[tactic(auto, using(crate::proofs::Wins::legal_each))]
+#[cycle(search)]
+fn loses_each(rays: &Rays, position: &Position, k: u8) -> bool
+    ensures { result ≡ lost k position.now }
+{
     let replies = legal(rays, position);
     if replies.is_empty() {
         return position.in_check();

@@ -1,6 +1,6 @@
 //! Known problems and what there is to say of them.
 
-use crate::{Memo, MemoFault, solve};
+use crate::{Memo, MemoFault, solve, solve_input};
 use arrayvec::ArrayVec;
 use chess_board::{Move, read_fen};
 use chess_moves::Rays;
@@ -107,6 +107,43 @@ fn finds_a_mate_in_three(rt: HostRuntime) -> Result<(), Fail> {
 fn finds_no_mate_in_stalemate(rt: HostRuntime) -> Result<(), Fail> {
     let text = "7k/5Q2/6K1/8/8/8/8/8 b - - 0 1";
     assert_eq!(rt; outcome_of(rt.alloc(), text, 1)?, Outcome::NoMate);
+    Ok(())
+}
+
+#[test]
+fn answers_the_lines_of_an_input(rt: HostRuntime) -> Result<(), Fail> {
+    let back_rank = "6k1/5ppp/8/8/8/8/8/R3K3 w Q - bm Ra8#; dm 1; pv Ra8#;\n";
+    let table = [
+        ("", "", 0),
+        ("\n  \n\r\n", "", 0),
+        ("6k1/5ppp/8/8/8/8/8/R3K3 w Q - dm 1;", back_rank, 0),
+        ("6k1/5ppp/8/8/8/8/8/R3K3 w Q - dm 1;\r\n", back_rank, 0),
+        (
+            "\n  \n8/8/8/8/8/8/8/K7 w - - dm 1;\r\n6k1/5ppp/8/8/8/8/8/R3K3 w Q - dm 1;",
+            "# line 3: Fen BadKings\n6k1/5ppp/8/8/8/8/8/R3K3 w Q - bm Ra8#; dm 1; pv Ra8#;\n",
+            1,
+        ),
+        // The bound of a record without one is that of the call.
+        (
+            "7k/8/5K2/8/8/8/8/R7 w - -\n7k/8/5K2/8/8/8/8/R7 w - - dm 2;\nx",
+            "7k/8/5K2/8/8/8/8/R7 w - - c0 \"no mate in 1\";\n\
+             7k/8/5K2/8/8/8/8/R7 w - - bm Kf7 Kg6; dm 2; pv Kg6 Kg8 Ra8#;\n# line 3: Fen FieldCount\n",
+            1,
+        ),
+    ];
+    let default = Bound::new(1).ok_or("bound")?;
+    let mut memo = Memo::new(rt.alloc(), 16)?;
+    for (input, text, refused) in table {
+        let output = solve_input(
+            rt.alloc(),
+            &Rays::new(),
+            input.as_bytes(),
+            default,
+            &mut memo,
+        )?;
+        assert_eq!(rt; output.text.as_slice(), text.as_bytes(), "{input}");
+        assert_eq!(rt; output.refused, refused, "{input}");
+    }
     Ok(())
 }
 

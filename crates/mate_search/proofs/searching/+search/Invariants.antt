@@ -5,17 +5,20 @@ use Rattle.mate_search.specs.Wins.{win, leaves_lost}
 use Rattle.mate_search.proofs.searching.+search.Given as goal
 
 abbrev pub decreases-wins : goal.decreases-wins
-decreases-wins l = 3 * l.n + 1
+decreases-wins l = 4 * l.n + 1
 
 abbrev pub decreases-wins_among : goal.decreases-wins_among
-decreases-wins_among l = 3 * l.n
+decreases-wins_among l = 4 * l.n
 
 abbrev pub decreases-loses : goal.decreases-loses
-decreases-loses l = 3 * l.k + 2
+decreases-loses l = 4 * l.k + 3
+
+abbrev pub decreases-loses_each : goal.decreases-loses_each
+decreases-loses_each l = 4 * l.k + 2
 
 -- each reply so far loses
-abbrev pub invariant-loses-loop-r : goal.invariant-loses-loop-r
-invariant-loses-loop-r l = list_all (λ r. win l.k (after_setup l.position r)) (take l.r-index l.r-items) ≡ true
+abbrev pub invariant-loses_each-loop-r : goal.invariant-loses_each-loop-r
+invariant-loses_each-loop-r l = list_all (λ r. win l.k (after_setup l.position r)) (take l.r-index l.r-items) ≡ true
 
 -- no move so far wins
 abbrev pub invariant-wins_among-loop-m : goal.invariant-wins_among-loop-m
