@@ -6,9 +6,11 @@ use Rattle.chess_board.specs.After.{after_setup}
 use Rattle.chess_moves.specs.Listing.{legal_moves}
 use Rattle.chess_moves.specs.Verdicts.{is_mate}
 use Rattle.chess_moves.specs.Laws.{IsRising}
+use Rattle.chess_notation.specs.declared.problems.Outcome.{Outcome}
+use Rattle.chess_notation.specs.declared.problems.Outcome.TheVariants.{Mate, NoMate}
 use Rattle.mate_search.specs.Wins.{win, lost, win_among}
 use Rattle.mate_search.specs.Lines.{keys, least_key, longest_reply, line}
-use Rattle.mate_search.specs.Truth.{dist}
+use Rattle.mate_search.specs.Truth.{dist, truth}
 
 -- There is no mate within 0. One within n + 1 moves is a legal move that leaves the defender lost with n more.
 abbrev pub WinReads : Type 0
@@ -58,6 +60,19 @@ DistReads = (first : List Move) (p : Setup) (b n : ℕ) → (dist first p b ≡ 
 abbrev pub NoDistReads : Type 0
 NoDistReads = (first : List Move) (p : Setup) (b : ℕ) → (dist first p b ≡ None) ↔
     ((n : ℕ) → n ≤ b → win_among first n p ≡ false)
+
+-- the keys of a mate within n moves: exactly the legal moves that leave the defender lost with n - 1 more
+abbrev pub AreKeys : Setup → ℕ → List Move → Type 0
+AreKeys p n ms = (m : Move) → Contains ms m ↔ (Contains (legal_moves p) m × (lost (n - 1) (after_setup p m) ≡ true))
+
+-- A mate is told with the least number of moves within which there is one, at most the bound, and with its keys. That there is
+-- none is told where there is none within the bound.
+abbrev pub IsTold : Setup → ℕ → Outcome → Type 0
+IsTold p b (Mate n found pv) = (1 ≤ n) × (n ≤ b) × (win n p ≡ true) × ((k : ℕ) → k < n → win k p ≡ false) × AreKeys p n found.items
+IsTold p b NoMate = (n : ℕ) → n ≤ b → win n p ≡ false
+
+abbrev pub TruthReads : Type 0
+TruthReads = (p : Setup) (b : ℕ) → IsTold p b (truth p b)
 
 -- The line to a mate within the least number n of moves has n moves of the attacker and n - 1 replies.
 abbrev pub LineLength : Type 0

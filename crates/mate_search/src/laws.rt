@@ -1,6 +1,6 @@
 //! Laws about the definitions. A function here does nothing, beyond citing a law of the rules: its contract is the law.
 
-ghost use Rattle.mate_search.specs.Laws.{WinReads, LostReads, WinGrows, AmongAll, KeysRead, KeysRise, LeastKeyReads, LongestReplyReads, DistReads, NoDistReads, LineLength, LineMates};
+ghost use Rattle.mate_search.specs.Laws.{WinReads, LostReads, WinGrows, AmongAll, KeysRead, KeysRise, LeastKeyReads, LongestReplyReads, DistReads, NoDistReads, TruthReads, LineLength, LineMates};
 
 use chess_moves::legal_rise;
 
@@ -58,6 +58,12 @@ pub fn dist_reads()
 /// None is found exactly where there is no mate within the bound.
 pub fn no_dist_reads()
     ensures { NoDistReads }
+{}
+
+/// What `solve` tells of a problem is the least number within which there is a mate, and exactly its keys; or that there is no
+/// mate, exactly where there is none within the bound.
+pub fn truth_reads()
+    ensures { TruthReads }
 {}
 
 /// The line to the least mate has 2n - 1 moves.

@@ -18,7 +18,7 @@ mod solving;
 
 pub use laws::{
     among_all, dist_reads, keys_read, keys_rise, least_key_reads, line_length, line_mates,
-    longest_reply_reads, lost_reads, no_dist_reads, win_grows, win_reads,
+    longest_reply_reads, lost_reads, no_dist_reads, truth_reads, win_grows, win_reads,
 };
 pub use memo::{Memo, MemoFault};
 pub use replies::{Output, answer_line, first_line, solve_input};
