@@ -6,8 +6,8 @@ use chess_board::{Move, Position};
 use chess_moves::MoveList;
 use std::marker::Model;
 
-/// A direct-mate problem: whether the side to move mates within so many of its moves. It is of fixed size, and there is one for
-/// each time that it is asked for.
+/// A direct-mate problem: whether the side to move mates within so many of its moves. It is of fixed size, and can't
+/// be cloned: `Record::problem` makes it anew.
 #[derive(Debug, Drop)]
 pub struct Problem {
     pub position: Position,

@@ -224,9 +224,31 @@ fn names_faults(rt: HostRuntime) -> Result<(), Fail> {
         let printed = format!(in rt.alloc(); "{fault}")?;
         assert_eq!(rt; printed.as_str(), name, "{name}");
     }
-    assert_eq!(rt; EpdFault::TooLong.code(), "TooLong");
-    assert_eq!(rt; EpdFault::MissingSemicolon.code(), "MissingSemicolon");
-    assert_eq!(rt; EpdFault::DoubleOpcode.code(), "DoubleOpcode");
-    assert_eq!(rt; EpdFault::NoMemory.code(), "NoMemory");
+    Ok(())
+}
+
+#[test]
+fn prints_each_fault(rt: HostRuntime) -> Result<(), Fail> {
+    let alloc = rt.alloc();
+    let table = [
+        (EpdFault::TooLong, "TooLong"),
+        (EpdFault::NotPrintable, "NotPrintable"),
+        (EpdFault::Fen(FenFault::FieldCount), "Fen FieldCount"),
+        (
+            EpdFault::Fen(FenFault::OpponentInCheck),
+            "Fen OpponentInCheck",
+        ),
+        (EpdFault::BadOpcode, "BadOpcode"),
+        (EpdFault::BadString, "BadString"),
+        (EpdFault::MissingSemicolon, "MissingSemicolon"),
+        (EpdFault::DoubleOpcode, "DoubleOpcode"),
+        (EpdFault::BadBound, "BadBound"),
+        (EpdFault::BoundTooLarge, "BoundTooLarge"),
+        (EpdFault::NoMemory, "NoMemory"),
+    ];
+    for (fault, name) in table {
+        assert_eq!(rt; fault.code(), name);
+        assert_eq!(rt; fault.to_string(alloc)?.as_str(), name);
+    }
     Ok(())
 }

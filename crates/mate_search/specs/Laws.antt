@@ -27,7 +27,7 @@ LostReads = (k : ℕ) (q : Setup) → (lost k q ≡ true) ↔ ((is_mate q ≡ tr
 abbrev pub WinGrows : Type 0
 WinGrows = (n : ℕ) (p : Setup) → win n p ≡ true → win (n + 1) p ≡ true
 
--- With every legal move to choose from, there is such a mate exactly where there is one.
+-- Over all legal moves `win_among` is `win`.
 abbrev pub AmongAll : Type 0
 AmongAll = (n : ℕ) (p : Setup) → win_among (legal_moves p) n p ≡ win n p
 

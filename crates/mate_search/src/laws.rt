@@ -9,7 +9,8 @@ pub fn win_reads()
     ensures { WinReads }
 {}
 
-/// The defender is lost exactly where it is mated, or has a legal move and is mated after each; stalemate is no loss.
+/// The defender is lost exactly where it is mated, or where it has a legal move and the attacker, with a move left, mates in time
+/// after each; stalemate is no loss.
 pub fn lost_reads()
     ensures { LostReads }
 {}
@@ -19,7 +20,7 @@ pub fn win_grows()
     ensures { WinGrows }
 {}
 
-/// With every legal move to choose from, there is a mate exactly where there is one.
+/// Over all legal moves `win_among` is `win`.
 pub fn among_all()
     ensures { AmongAll }
 {}

@@ -8,7 +8,7 @@ use std::alloc::Global;
 use std::marker::Model;
 use thiserror::Error;
 
-/// Room for what a search finds out of so many positions. No outcome depends on it.
+/// Room for what a search finds about so many positions. No outcome depends on it.
 #[derive(Debug, Drop)]
 pub struct Memo {
     entries: usize,

@@ -158,6 +158,12 @@ fn makes_memos_of_some_sizes(rt: HostRuntime) -> Result<(), Fail> {
             }
         }
     }
+    for (fault, name) in [
+        (MemoFault::BadSize, "BadSize"),
+        (MemoFault::NoMemory, "NoMemory"),
+    ] {
+        assert_eq!(rt; fault.to_string(rt.alloc())?.as_str(), name);
+    }
     for entries in [1, 65_536] {
         let _memo = Memo::new(rt.alloc(), entries)?;
     }

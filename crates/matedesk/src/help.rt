@@ -51,9 +51,10 @@ Example:
 
 Each record is answered on a line of its own, as soon as it is solved: `bm` has each
 first move that mates soonest, `dm` the number of moves that the mate takes, and `pv`
-one line that leads to it. Where there is no mate within the bound, the answer says
-`c0 \"no mate in B\"`. A line that is no record is answered `# line K: CODE`: K is its
-number in its file, and CODE names its fault.
+one line that leads to it. Where there is no mate within its bound N, the answer says
+`c0 \"no mate in N\"`. A line that is no record is answered `# line K: CODE`: K is its
+number in its file, and CODE names its fault. A bound of many moves may take longer
+than one can wait, and the lines behind it wait too.
 
 /dev/stdin is a FILE like any other.
 
@@ -105,7 +106,7 @@ Example:
   Kb6
   e6
 
-The pawn on d5 can't be taken in passing: two pawns would leave the rank of the king.";
+The pawn on d5 can't be taken en passant: two pawns would leave the rank of the king.";
 
 /// `perft` in one line.
 pub const ABOUT_PERFT: &str = "Counts the lines of DEPTH legal moves from a FEN";

@@ -15,11 +15,12 @@ pub enum SourceFault {
     NoMemory,
 }
 
-/// What a name can be read from.
+/// Files by their names.
 pub trait Source {
     /// What a name may hold.
     ghost holds: { Self → List ℕ → List ℕ → Type 0 };
 
+    /// The bytes of the file of this name.
     fn read(&self, alloc: Global, name: &str) -> Result<Vec<u8>, SourceFault>
         ensures { IfOk result (λ bytes. holds self.now name.now bytes.items) };
 }
