@@ -63,9 +63,6 @@ replies_more bound (x ∷ xs) input text here count few (first, n, rest, m, is_f
   omega (arith, total),
 )
 
-pub solves_none : (holds : Text → List ℕ → Type 0) (bound : ℕ) → Solves holds bound [] false []
-solves_none holds bound = record { inputs = []; refusals = 0; given = tt; replies = (refl, refl); refusal = refl }
-
 solves_more : (holds : Text → List ℕ → Type 0) (bound : ℕ) (names : List Text) (name : Text) (a b : Bool) (gained input here : List ℕ) (few : ℕ)
     → Solves holds bound names a gained → holds name input → IsReply bound input here few → b ≡ nat_lt 0 few
     → Solves holds bound (names ++ name ∷ []) (a || b) (gained ++ here)
