@@ -2,6 +2,9 @@ pub mod Below
 pub mod Colours
 pub mod Counting
 pub mod Equality
+pub mod MenSets
+pub mod BoardWords
+pub mod SameBoards
 pub mod FieldTexts
 pub mod FaultOrder
 pub mod TextParts

@@ -1,5 +1,5 @@
 -- Tests of attack and of legality with their squares and men named, what a legal move keeps, and what four fields spell.
-use Rattle.std.specs.Prelude.{◌≡◌, ◌≢◌, ◌↔◌, ℕ, ◌<◌, true, false, List, [], All, Option, None}
+use Rattle.std.specs.Prelude.{◌≡◌, ◌≢◌, ◌↔◌, ℕ, ◌<◌, Bool, true, false, List, [], All, Option, None}
 use Rattle.chess_board.specs.declared.men.Colour.{Colour}
 use Rattle.chess_board.specs.declared.men.Kind.{Kind}
 use Rattle.chess_board.specs.declared.men.Man.{Man}
@@ -12,6 +12,7 @@ use Rattle.chess_board.specs.Moves.{Move}
 use Rattle.chess_board.specs.Candidates.{is_candidate}
 use Rattle.chess_board.specs.After.{after_setup}
 use Rattle.chess_board.specs.Legality.{is_legal}
+use Rattle.chess_board.specs.contracts.positions.PositionPartialEq.TheImpl.{eq-value}
 
 -- A square is attacked where a man of the colour stands somewhere and attacks it (FIDE Laws of Chess, article 3.1).
 abbrev pub AttackedReads : Type 0
@@ -54,3 +55,11 @@ pub record ArePrinted (p : Setup) : Type 0 where
 
 abbrev pub PrintedSpells : Type 0
 PrintedSpells = (p : Setup) → IsSound p → ArePrinted p
+
+-- what `==` answers for two positions
+abbrev pub are_equal : Setup → Setup → Bool
+are_equal = eq-value.it
+
+-- It holds of two sound positions exactly where they are one.
+abbrev pub EqualReads : Type 0
+EqualReads = (p q : Setup) → IsSound p → IsSound q → (are_equal p q ≡ true) ↔ (p ≡ q)

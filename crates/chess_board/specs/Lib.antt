@@ -1,6 +1,9 @@
 pub mod Squares
 pub mod Men
 pub mod Positions
+pub mod Sets
+pub mod Boards
+pub mod Hashing
 pub mod Attacks
 pub mod Soundness
 pub mod Walks

@@ -4,7 +4,7 @@ use Rattle.std.specs.Prelude.{ℕ, Option, Some, None, Bool, true, false, ◌&&�
 use Rattle.chess_board.specs.declared.men.Colour.{Colour}
 use Rattle.chess_board.specs.declared.men.Colour.TheVariants.{White, Black}
 use Rattle.chess_board.specs.declared.men.Kind.{Kind}
-use Rattle.chess_board.specs.declared.men.Kind.TheVariants.{Pawn, Rook, King}
+use Rattle.chess_board.specs.declared.men.Kind.TheVariants.{Pawn, Knight, Bishop, Rook, Queen, King}
 use Rattle.chess_board.specs.declared.men.Man.{Man}
 use Rattle.chess_board.specs.declared.men.Wing.{Wing}
 use Rattle.chess_board.specs.declared.men.Wing.TheVariants.{KingSide, QueenSide}
@@ -37,10 +37,36 @@ abbrev pub is_rook_kind : Kind → Bool
 is_rook_kind Rook = true
 is_rook_kind _ = false
 
+abbrev pub is_knight_kind : Kind → Bool
+is_knight_kind Knight = true
+is_knight_kind _ = false
+
+abbrev pub is_bishop_kind : Kind → Bool
+is_bishop_kind Bishop = true
+is_bishop_kind _ = false
+
+abbrev pub is_queen_kind : Kind → Bool
+is_queen_kind Queen = true
+is_queen_kind _ = false
+
+-- whether two kinds are one
+abbrev pub is_kind : Kind → Kind → Bool
+is_kind Pawn other = is_pawn_kind other
+is_kind Knight other = is_knight_kind other
+is_kind Bishop other = is_bishop_kind other
+is_kind Rook other = is_rook_kind other
+is_kind Queen other = is_queen_kind other
+is_kind King other = is_king_kind other
+
 -- Whether a man of the colour stands there.
 abbrev pub is_of : Colour → Option Man → Bool
 is_of colour None = false
 is_of colour (Some man) = is_colour colour man.colour
+
+-- Whether a man of this colour and kind stands there.
+abbrev pub is_man : Colour → Kind → Option Man → Bool
+is_man colour asked None = false
+is_man colour asked (Some man) = is_colour colour man.colour && is_kind asked man.kind
 
 -- Whether the colour's king stands there.
 abbrev pub is_king_of : Colour → Option Man → Bool

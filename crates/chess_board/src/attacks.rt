@@ -5,6 +5,7 @@ ghost use Rattle.chess_board.specs.Squares.{gap, file_gap, rank_gap};
 ghost use Rattle.chess_board.specs.Walks.{toward_of};
 ghost use Rattle.chess_board.specs.Attacks.{is_clear as clear, is_rook_line as rook_line, is_bishop_line as bishop_line, is_forward as forward, attacks_as as attacks, attacks_from as attacks_at, is_attacked, is_king_attacked as king_attacked, is_in_check};
 
+use crate::boards::Board;
 use crate::men::{Colour, Kind, Man, is_king_of};
 use crate::squares::{Square, file_gap_of, rank_gap_of};
 
@@ -50,7 +51,7 @@ fn toward(from: u8, to: u8, steps: u8) -> u8
 }
 
 /// Whether no man stands strictly between two squares in line: walks from a to b.
-pub(crate) fn is_clear(men: &[Option<Man>; 64], a: Square, b: Square) -> bool
+pub(crate) fn is_clear(men: &Board, a: Square, b: Square) -> bool
     requires { (rook_line a b || bishop_line a b) ≡ true }
     ensures { result ≡ clear men.now a b }
 {
@@ -58,7 +59,7 @@ pub(crate) fn is_clear(men: &[Option<Man>; 64], a: Square, b: Square) -> bool
     for steps in 1..distance {
         let file = toward(a.file(), b.file(), steps);
         let rank = toward(a.rank(), b.rank(), steps);
-        if men[8 * rank as usize + file as usize].is_some() {
+        if men.man(Square::numbered(8 * rank + file)).is_some() {
             return false;
         }
     }
@@ -66,7 +67,7 @@ pub(crate) fn is_clear(men: &[Option<Man>; 64], a: Square, b: Square) -> bool
 }
 
 /// Whether a man on a attacks b.
-pub(crate) fn attacks_as(men: &[Option<Man>; 64], man: Man, a: Square, b: Square) -> bool
+pub(crate) fn attacks_as(men: &Board, man: Man, a: Square, b: Square) -> bool
     ensures { result ≡ attacks men.now man.colour man.kind a b }
 {
     match man.kind {
@@ -84,17 +85,17 @@ pub(crate) fn attacks_as(men: &[Option<Man>; 64], man: Man, a: Square, b: Square
 }
 
 /// Whether a man of the colour stands on `from` and attacks the square.
-fn attacks_from(men: &[Option<Man>; 64], by: Colour, from: Square, square: Square) -> bool
+fn attacks_from(men: &Board, by: Colour, from: Square, square: Square) -> bool
     ensures { result ≡ attacks_at men.now by from square }
 {
-    match men[from.index()] {
+    match men.man(from) {
         Some(man) => man.colour == by && attacks_as(men, man, from, square),
         None => false,
     }
 }
 
 /// Whether some man of the colour attacks the square.
-pub(crate) fn is_attacked_by(men: &[Option<Man>; 64], square: Square, by: Colour) -> bool
+pub(crate) fn is_attacked_by(men: &Board, square: Square, by: Colour) -> bool
     ensures { result ≡ is_attacked men.now square by }
 {
     for number in 0..64 {
@@ -106,15 +107,15 @@ pub(crate) fn is_attacked_by(men: &[Option<Man>; 64], square: Square, by: Colour
 }
 
 /// Whether the colour's king stands on the square and is attacked there.
-fn is_king_attacked(men: &[Option<Man>; 64], square: Square, colour: Colour) -> bool
+fn is_king_attacked(men: &Board, square: Square, colour: Colour) -> bool
     ensures { result ≡ king_attacked men.now colour square }
 {
-    is_king_of(men[square.index()], colour) && is_attacked_by(men, square, colour.other())
+    is_king_of(men.man(square), colour) && is_attacked_by(men, square, colour.other())
 }
 
 /// Whether the colour's king is attacked.
 #[tactic(auto, using(crate::proofs::Below::any_none, crate::proofs::Below::any_more))]
-pub(crate) fn is_king_in_check(men: &[Option<Man>; 64], colour: Colour) -> bool
+pub(crate) fn is_king_in_check(men: &Board, colour: Colour) -> bool
     ensures { result ≡ is_in_check men.now colour }
 {
     for number in 0..64 {

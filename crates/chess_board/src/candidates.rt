@@ -5,6 +5,7 @@ ghost use Rattle.chess_board.specs.declared.men.Kind.TheVariants as kind;
 ghost use Rattle.chess_board.specs.Candidates.{second_rank, last_rank, crossed, is_square, steps_once, steps_twice, takes, takes_in_passing, pawn_goes, piece_goes, king_goal, castles_to, castles, goes, is_promotion, promotes, suits, is_candidate};
 
 use crate::attacks::{attacks_as, is_clear, is_forward};
+use crate::boards::Board;
 use crate::men::{Colour, Kind, Man, Wing, is_of};
 use crate::moves::Move;
 use crate::positions::Position;
@@ -49,28 +50,28 @@ pub(crate) fn is_square(target: &Option<Square>, square: Square) -> bool
 }
 
 /// Whether a pawn may step to the square in front of it (article 3.7.1).
-fn steps_once(men: &[Option<Man>; 64], colour: Colour, a: Square, b: Square) -> bool
+fn steps_once(men: &Board, colour: Colour, a: Square, b: Square) -> bool
     ensures { result ≡ steps_once men.now colour a b }
 {
-    is_forward(colour, 1, a, b) && a.file() == b.file() && men[b.index()].is_none()
+    is_forward(colour, 1, a, b) && a.file() == b.file() && men.man(b).is_none()
 }
 
 /// Whether a pawn may step two squares, from its second rank over an empty square to an empty one (article 3.7.2).
-fn steps_twice(men: &[Option<Man>; 64], colour: Colour, a: Square, b: Square) -> bool
+fn steps_twice(men: &Board, colour: Colour, a: Square, b: Square) -> bool
     ensures { result ≡ steps_twice men.now colour a b }
 {
     is_forward(colour, 2, a, b)
         && a.file() == b.file()
         && a.rank() == second_rank(colour)
-        && men[crossed(a, b).index()].is_none()
-        && men[b.index()].is_none()
+        && men.man(crossed(a, b)).is_none()
+        && men.man(b).is_none()
 }
 
 /// Whether a man attacks a square on which an enemy stands (articles 3.1 and 3.7.3).
-fn takes(men: &[Option<Man>; 64], man: Man, a: Square, b: Square) -> bool
+fn takes(men: &Board, man: Man, a: Square, b: Square) -> bool
     ensures { result ≡ takes men.now man.colour man.kind a b }
 {
-    attacks_as(men, man, a, b) && is_of(men[b.index()], man.colour.other())
+    attacks_as(men, man, a, b) && is_of(men.man(b), man.colour.other())
 }
 
 /// Whether a pawn may capture en passant (article 3.7).
@@ -78,7 +79,7 @@ fn takes_in_passing(position: &Position, man: Man, a: Square, b: Square) -> bool
     requires { man.kind ≡ kind.Pawn }
     ensures { result ≡ takes_in_passing position.now man.colour a b }
 {
-    attacks_as(position.men(), man, a, b) && is_square(&position.ep_target(), b)
+    attacks_as(position.board(), man, a, b) && is_square(&position.ep_target(), b)
 }
 
 /// Whether a pawn may go there in one of its four ways.
@@ -86,7 +87,7 @@ fn pawn_goes(position: &Position, man: Man, a: Square, b: Square) -> bool
     requires { man.kind ≡ kind.Pawn }
     ensures { result ≡ pawn_goes position.now man.colour a b }
 {
-    let men = position.men();
+    let men = position.board();
     steps_once(men, man.colour, a, b)
         || steps_twice(men, man.colour, a, b)
         || takes(men, man, a, b)
@@ -97,7 +98,7 @@ fn pawn_goes(position: &Position, man: Man, a: Square, b: Square) -> bool
 fn piece_goes(position: &Position, man: Man, a: Square, b: Square) -> bool
     ensures { result ≡ piece_goes position.now man.colour man.kind a b }
 {
-    attacks_as(position.men(), man, a, b) && !is_of(position.man(b), man.colour)
+    attacks_as(position.board(), man, a, b) && !is_of(position.man(b), man.colour)
 }
 
 /// Where a king goes that castles.
@@ -120,7 +121,7 @@ fn castles_to(position: &Position, colour: Colour, wing: Wing, a: Square, b: Squ
     position.has_right(colour, wing)
         && a == king_home(colour)
         && b == king_goal(colour, wing)
-        && is_clear(position.men(), a, rook_home(colour, wing))
+        && is_clear(position.board(), a, rook_home(colour, wing))
         && !position.is_attacked(a, colour.other())
         && !position.is_attacked(crossed(a, b), colour.other())
         && !position.is_attacked(b, colour.other())

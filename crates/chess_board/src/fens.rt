@@ -6,6 +6,7 @@ ghost use Rattle.chess_board.specs.Soundness.{IsSound};
 ghost use Rattle.chess_board.specs.Faults.{IsFirst, spelling_faults, field_faults};
 ghost use Rattle.chess_board.specs.Fens.{FenValue, SpellsSetup, Spells, IsAmiss, IsFault, pieces, position_text, fen_text};
 
+use crate::boards::Board;
 use crate::cuts::cut_at;
 use crate::faults::FenFault;
 use crate::fields::{
@@ -101,7 +102,7 @@ fn setup_of_fields(
         return Err(FenFault::BadTarget);
     };
     Ok(Setup {
-        men,
+        board: Board::of(&men),
         side,
         rights,
         target,
@@ -166,7 +167,7 @@ impl Position {
         ensures sound { IsSound self.now }
     {
         let mut text = ArrayString::new();
-        push_placement(&mut text, self.men());
+        push_placement(&mut text, &self.board().places());
         text.push(' ');
         push_side(&mut text, self.side());
         text.push(' ');

@@ -1,6 +1,6 @@
 //! Laws about the definitions. Each function here does nothing: its contract is the law.
 
-ghost use Rattle.chess_board.specs.Laws.{AttackedReads, ClearReads, LegalReads, SoundAfter, SpellsOne, PrintedSpells};
+ghost use Rattle.chess_board.specs.Laws.{AttackedReads, ClearReads, LegalReads, SoundAfter, SpellsOne, PrintedSpells, EqualReads};
 
 /// A square is attacked exactly where a man of the colour stands somewhere and attacks it as its kind does.
 pub fn attacked_reads()
@@ -30,4 +30,9 @@ pub fn spells_one()
 /// The four fields that are printed for a position spell it, and each is one visible word.
 pub fn printed_spells()
     ensures { PrintedSpells }
+{}
+
+/// `==` holds of two sound positions exactly where they are one.
+pub fn equal_reads()
+    ensures { EqualReads }
 {}

@@ -11,7 +11,7 @@ use crate::positions::Position;
 
 /// Whether the king of the side that moved is not attacked after the move.
 ///
-/// The men after the move stand on a plain array here, since they need not be sound before this is known.
+/// The men after the move stand on a plain board here, since they need not be sound before this is known.
 #[tactic(auto, unfolding(crate::specs::Legality::is_safe, crate::specs::After::after_setup))]
 fn is_safe(position: &Position, m: Move) -> bool
     ensures { result ≡ leaves_king_safe position.now m }

@@ -4,11 +4,12 @@
 //! squares, the side to move, the castling rights, the en passant target) and not in how it is kept. Lists of legal moves
 //! are none of this crate's business.
 //!
-//! To read: `squares`, `men`, `attacks`, `soundness`, `positions`; then `placement`, `fields` and `fens`, the text of a
+//! To read: `squares`, `men`, `boards`, `attacks`, `soundness`, `positions`; then `placement`, `fields` and `fens`, the text of a
 //! position field by field; then `moves`, `candidates`, `making` and `legality`. No call takes memory.
 #![tactic(auto)]
 
 mod attacks;
+mod boards;
 mod candidates;
 mod cuts;
 mod faults;
@@ -28,7 +29,9 @@ mod squares;
 
 pub use faults::FenFault;
 pub use fens::{Fen, read_fen, read_fields, reads_back};
-pub use laws::{attacked_reads, clear_reads, legal_reads, printed_spells, sound_after, spells_one};
+pub use laws::{
+    attacked_reads, clear_reads, equal_reads, legal_reads, printed_spells, sound_after, spells_one,
+};
 pub use legality::is_legal;
 pub use making::after;
 pub use men::{Colour, Kind, Man, Rights, Wing};

@@ -4,6 +4,7 @@ ghost use Rattle.std.specs.Prelude.{◌≡◌, true};
 ghost use Rattle.chess_board.specs.After.{moved, cleared, becomes, passed_pawn, is_in_passing, is_castling, wing_of, castled, men_after, touches, right_after, rights_after, target_after, after_setup};
 ghost use Rattle.chess_board.specs.Legality.{is_legal};
 
+use crate::boards::Board;
 use crate::candidates::{crossed, is_square};
 use crate::men::{Colour, Kind, Man, Rights, Wing};
 use crate::moves::Move;
@@ -13,22 +14,17 @@ use crate::soundness::{king_home, rook_home};
 use crate::squares::{Square, file_gap_of, rank_gap_of};
 
 /// The men once a man went from one square to another.
-fn moved(men: &[Option<Man>; 64], a: Square, b: Square, man: Man) -> [Option<Man>; 64]
+fn moved(men: &Board, a: Square, b: Square, man: Man) -> Board
     ensures { result ≡ moved men.now a b man }
 {
-    let mut after = *men;
-    after[a.index()] = None;
-    after[b.index()] = Some(man);
-    after
+    men.without(a).with(b, man)
 }
 
 /// The men without the one on a square.
-fn cleared(men: &[Option<Man>; 64], square: Square) -> [Option<Man>; 64]
+fn cleared(men: &Board, square: Square) -> Board
     ensures { result ≡ cleared men.now square }
 {
-    let mut after = *men;
-    after[square.index()] = None;
-    after
+    men.without(square)
 }
 
 /// What a man is after its move.
@@ -77,7 +73,7 @@ fn wing_of(a: Square, b: Square) -> Wing
 }
 
 /// The men once the rook of a castling king went to the square that the king has crossed.
-fn castled(men: &[Option<Man>; 64], colour: Colour, a: Square, b: Square) -> [Option<Man>; 64]
+fn castled(men: &Board, colour: Colour, a: Square, b: Square) -> Board
     ensures { result ≡ castled men.now colour a b }
 {
     let rook = Man {
@@ -87,25 +83,25 @@ fn castled(men: &[Option<Man>; 64], colour: Colour, a: Square, b: Square) -> [Op
     moved(men, rook_home(colour, wing_of(a, b)), crossed(a, b), rook)
 }
 
-/// The men after a man's move, on a plain array: nobody asks here whether they are sound.
-pub(crate) fn men_after(position: &Position, man: Man, m: Move) -> [Option<Man>; 64]
+/// The men after a man's move, on a plain board: nobody asks here whether they are sound.
+pub(crate) fn men_after(position: &Position, man: Man, m: Move) -> Board
     ensures { result ≡ men_after position.now man m }
 {
     if is_in_passing(position, man, m) {
         cleared(
-            &moved(position.men(), m.origin, m.target, man),
+            &moved(position.board(), m.origin, m.target, man),
             passed_pawn(m.origin, m.target),
         )
     } else if is_castling(man, m) {
         castled(
-            &moved(position.men(), m.origin, m.target, man),
+            &moved(position.board(), m.origin, m.target, man),
             man.colour,
             m.origin,
             m.target,
         )
     } else {
         moved(
-            position.men(),
+            position.board(),
             m.origin,
             m.target,
             becomes(man, m.promotion),
@@ -162,7 +158,7 @@ pub fn after(position: &Position, chosen: Move) -> Position
 {
     match position.man(chosen.origin) {
         Some(man) => Position::new(&Setup {
-            men: men_after(position, man, chosen),
+            board: men_after(position, man, chosen),
             side: position.side().other(),
             rights: rights_after(position.rights(), chosen),
             target: target_after(man, chosen),

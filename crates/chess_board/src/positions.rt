@@ -1,22 +1,26 @@
 //! Sound positions.
 
-ghost use Rattle.std.specs.Prelude.{◌≡◌, ◌<◌, ◌↔◌, IsTrue, IfOk, OnOk, IfErr, IfSome};
+ghost use Rattle.std.specs.Prelude.{◌≡◌, ◌<◌, ◌↔◌, is_some, IsTrue, IfOk, OnOk, IfErr, IfSome};
 ghost use Rattle.chess_board.specs.declared.men.Kind.TheVariants as kind;
 ghost use Rattle.chess_board.specs.Positions.{man_at};
-ghost use Rattle.chess_board.specs.Men.{has_right_of, man_of};
+ghost use Rattle.chess_board.specs.Men.{has_right_of, is_man, man_of};
+ghost use Rattle.chess_board.specs.Sets.{IsSetOf};
+ghost use Rattle.chess_board.specs.Hashing.{state_word};
 ghost use Rattle.chess_board.specs.Attacks.{is_attacked, is_in_check};
 ghost use Rattle.chess_board.specs.Soundness.{IsSound};
 ghost use Rattle.chess_board.specs.Faults.{IsFirst, IsUnsoundBy, position_faults};
 
 use crate::attacks::{is_attacked_by, is_king_in_check};
+use crate::boards::Board;
 use crate::faults::FenFault;
-use crate::men::{Colour, Man, Rights, Wing, is_king_of};
+use crate::men::{Colour, Kind, Man, Rights, Wing};
 use crate::setups::Setup;
 use crate::soundness::{
     has_at_most_sixteen_each, has_men_of_rights, has_no_end_pawn, has_one_king_each,
     has_pawn_of_some_target,
 };
 use crate::squares::Square;
+use std::hash::{Hash, Hasher};
 use std::marker::Model;
 
 /// A sound position: the men on the 64 squares, the side to move, the castling rights that are left, and the square that a
@@ -25,9 +29,9 @@ use std::marker::Model;
 /// Sound means: each side has one king and at most 16 men; no pawn stands on rank 1 or 8; each right has its king and its rook
 /// at home; the en passant target has its pawn; and the king of the side that is not to move is not attacked. Two positions
 /// are equal exactly where these four parts are.
-#[derive(Clone, Copy, Debug, PartialEq, Eq, Hash)]
+#[derive(Clone, Copy, Debug, PartialEq, Eq)]
 pub struct Position {
-    men: [Option<Man>; 64],
+    board: Board,
     side: Colour,
     rights: Rights,
     target: Option<Square>,
@@ -39,11 +43,27 @@ impl Model for Position {
 
     ghost Value = { Setup };
 
-    ghost view = { λ p. record { men = p.men; side = p.side; rights = p.rights; target = p.target } };
+    ghost view = { λ p. record { men = p.board; side = p.side; rights = p.rights; target = p.target } };
 
-    ghost invariant = { λ p. IsSound (record { men = p.men; side = p.side; rights = p.rights; target = p.target }) };
+    ghost invariant = { λ p. IsSound (record { men = p.board; side = p.side; rights = p.rights; target = p.target }) };
 
-    ghost inverse = { λ v. record { men = v.men; side = v.side; rights = v.rights; target = v.target } };
+    ghost inverse = { λ v. record { board = v.men; side = v.side; rights = v.rights; target = v.target } };
+}
+
+impl Hash for Position {
+    ghost use Rattle.std.specs.Cmp.Rules.{hashing};
+    ghost use Rattle.std.proofs.Common.{rules};
+    ghost use Rattle.chess_board.specs.Positions.{Setup};
+    ghost use Rattle.chess_board.specs.Hashing.{position_words};
+
+    ghost hash_input = { position_words };
+
+    ghost respects_eq = { Prim.search (hashing, rules) };
+
+    fn hash<H: Hasher>(&self, state: &mut H) {
+        self.board.hash(state);
+        state.write_u64(state_word(self.side, self.rights, &self.target));
+    }
 }
 
 impl Position {
@@ -53,25 +73,40 @@ impl Position {
         ensures { result ≡ setup.now }
     {
         Position {
-            men: setup.men,
+            board: setup.board,
             side: setup.side,
             rights: setup.rights,
             target: setup.target,
         }
     }
 
-    /// The men on the 64 squares, from a1 to h8.
-    pub(crate) fn men(&self) -> &[Option<Man>; 64]
+    /// The men on the 64 squares.
+    pub(crate) fn board(&self) -> &Board
         ensures { result.now ≡ self.now.men }
     {
-        &self.men
+        &self.board
     }
 
     /// The man on a square.
     pub fn man(&self, square: Square) -> Option<Man>
         ensures { result ≡ man_at self.now.men square }
     {
-        self.men[square.index()]
+        self.board.man(square)
+    }
+
+    /// The squares on which a man stands: bit i is set exactly where one stands on the square of index i.
+    pub fn occupied(&self) -> u64
+        ensures { IsSetOf result is_some self.now.men }
+    {
+        self.board.occupied()
+    }
+
+    /// The squares on which a man of this colour and kind stands: bit i is set exactly where such a man stands on the square
+    /// of index i.
+    pub fn men(&self, colour: Colour, kind: Kind) -> u64
+        ensures { IsSetOf result (is_man colour kind) self.now.men }
+    {
+        self.board.men(colour, kind)
     }
 
     /// The side to move. Its second clause tells a caller that the position is sound.
@@ -109,34 +144,47 @@ impl Position {
         ensures king { man_at self.now.men result ≡ man_of colour kind.King }
         ensures on_board { result < 64 }
     {
-        for number in 0..64 {
-            let square = Square::numbered(number);
-            if is_king_of(self.men[square.index()], colour) {
-                return square;
-            }
-        }
-        unreachable!()
+        self.board.king(colour)
     }
 
     /// Whether some man of the colour attacks the square, whoever stands there, and whether or not that man may move.
     pub fn is_attacked(&self, square: Square, by: Colour) -> bool
         ensures { result ≡ is_attacked self.now.men square by }
     {
-        is_attacked_by(&self.men, square, by)
+        is_attacked_by(&self.board, square, by)
     }
 
     /// Whether the king of the side to move is attacked.
     pub fn in_check(&self) -> bool
         ensures { result ≡ is_in_check self.now.men self.now.side }
     {
-        is_king_in_check(&self.men, self.side)
+        is_king_in_check(&self.board, self.side)
     }
+}
+
+/// The side to move, the rights and the target in one word.
+fn state_word(side: Colour, rights: Rights, target: &Option<Square>) -> u64
+    ensures { result ≡ state_word side rights target.now }
+{
+    let passed = match target {
+        Some(square) => 1 + square.index() as u64,
+        None => 0,
+    };
+    u64::from(side == Colour::Black)
+        + 2 * u64::from(rights.white_king_side)
+        + 4 * u64::from(rights.white_queen_side)
+        + 8 * u64::from(rights.black_king_side)
+        + 16 * u64::from(rights.black_queen_side)
+        + 32 * passed
 }
 
 /// Whether two positions are one: `==` by what contracts see.
 pub fn is_same_position(a: &Position, b: &Position) -> bool
     ensures { IsTrue result ↔ (a.now ≡ b.now) }
 {
+    // A part of each is read, so that the proof knows both to be sound.
+    let _ = &a.board;
+    let _ = &b.board;
     *a == *b
 }
 
@@ -146,22 +194,23 @@ pub(crate) fn sound_position(setup: &Setup) -> Result<Position, FenFault>
     ensures sound { OnOk result (IsSound setup.now) }
     ensures refused { IfErr result (λ fault. IsFirst (IsUnsoundBy setup.now) position_faults fault) }
 {
-    if !has_one_king_each(&setup.men) {
+    let places = setup.board.places();
+    if !has_one_king_each(&places) {
         return Err(FenFault::BadKings);
     }
-    if !has_no_end_pawn(&setup.men) {
+    if !has_no_end_pawn(&places) {
         return Err(FenFault::PawnOnEndRank);
     }
-    if !has_at_most_sixteen_each(&setup.men) {
+    if !has_at_most_sixteen_each(&places) {
         return Err(FenFault::TooManyMen);
     }
-    if !has_men_of_rights(&setup.men, setup.rights) {
+    if !has_men_of_rights(&places, setup.rights) {
         return Err(FenFault::RightWithoutMen);
     }
-    if !has_pawn_of_some_target(&setup.men, setup.side, &setup.target) {
+    if !has_pawn_of_some_target(&places, setup.side, &setup.target) {
         return Err(FenFault::TargetWithoutPawn);
     }
-    if is_king_in_check(&setup.men, setup.side.other()) {
+    if is_king_in_check(&setup.board, setup.side.other()) {
         return Err(FenFault::OpponentInCheck);
     }
     Ok(Position::new(setup))

@@ -72,6 +72,28 @@ fn shows_the_parts_of_a_position(rt: HostRuntime) -> Result<(), Fail> {
     Ok(())
 }
 
+/// The bits of a rank are eight, the first rank lowest and the a-file the lowest of each.
+#[test]
+fn tells_where_men_stand(rt: HostRuntime) -> Result<(), Fail> {
+    let text = "r3k2r/8/8/3pP3/8/8/8/4K2R w Kq d6 4 31";
+    let position = read_fen(text.as_bytes())?.position;
+    assert_eq!(rt; position.occupied(), 0x9100_0018_0000_0090);
+    let table = [
+        (Colour::White, Kind::Pawn, 0x0000_0010_0000_0000),
+        (Colour::White, Kind::Rook, 0x0000_0000_0000_0080),
+        (Colour::White, Kind::King, 0x0000_0000_0000_0010),
+        (Colour::White, Kind::Queen, 0),
+        (Colour::Black, Kind::Pawn, 0x0000_0008_0000_0000),
+        (Colour::Black, Kind::Rook, 0x8100_0000_0000_0000),
+        (Colour::Black, Kind::King, 0x1000_0000_0000_0000),
+        (Colour::Black, Kind::Knight, 0),
+    ];
+    for (colour, kind, set) in table {
+        assert_eq!(rt; position.men(colour, kind), set, "{colour:?} {kind:?}");
+    }
+    Ok(())
+}
+
 #[test]
 fn compares_positions(rt: HostRuntime) -> Result<(), Fail> {
     let one = read_fen(b"4k2r/8/8/8/8/8/8/4K3 w k - 0 1")?.position;

@@ -50,8 +50,9 @@ pow_fits (suc (suc (suc (suc (suc zero))))) h = omega arith
 pow_fits (suc (suc (suc (suc (suc (suc zero)))))) h = omega arith
 pow_fits (suc (suc (suc (suc (suc (suc (suc d))))))) h = absurd (omega arith)
 
-pub times_room : (i n k : ℕ) → i + 1 ≤ n → i * k + k ≤ n * k
-times_room i n k h = omega (arith, mul-le-mul_left k h)
+-- room for one of n more
+pub one_of : (n rest k : ℕ) → n ≡ suc rest → n * k ≡ k + rest * k
+one_of n rest k h = rw h (omega arith)
 
 pub times_grow : (i n k : ℕ) → i ≤ n → i * k ≤ n * k
 times_grow i n k h = omega (arith, mul-le-mul_left k h)

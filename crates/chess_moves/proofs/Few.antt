@@ -14,7 +14,7 @@ use Rattle.chess_board.specs.Soundness.{IsSound}
 use Rattle.chess_board.specs.Moves.{Move}
 use Rattle.chess_board.specs.Candidates.{last_rank, pawn_goes, goes, promotes}
 use Rattle.chess_board.specs.Legality.{is_legal}
-use Rattle.chess_moves.specs.Listing.{move_of, promotions, moves_between, moves_to, moves_below}
+use Rattle.chess_moves.specs.Listing.{move_of, promotions, moves_between, moves_to, moves_below, legal_moves}
 use Rattle.chess_moves.proofs.Played.{not_own, not_suited, not_gone}
 use Rattle.chess_moves.proofs.PawnSteps.{rank_before, pawn_before}
 use Rattle.chess_moves.proofs.Sieve.{many, kept, promotions_kept, many-promotions, between_kept, many-between, many-to_more, many-below_more}
@@ -178,5 +178,6 @@ sixteen p sound = go p.side sound.few.0 sound.few.1
     go White a b = a
     go Black a b = b
 
-pub few_legal : (p : Setup) → IsSound p → many (is_legal p) (moves_below 64) ≤ 1024
+pub few_legal : (p : Setup) → IsSound p → length (legal_moves p) ≤ 1024
+unfolding legal_moves
 few_legal p sound = omega (arith, sixteen p sound, few_below p 64, sum_by-take-le (λ x. cond (is_of p.side x) 1 0) p.men 64)

@@ -1,8 +1,9 @@
 -- The list holds exactly the legal moves.
-use Rattle.std.proofs.Common.{◌≡◌, ℕ, zero, suc, ◌<◌, Bool, true, false, cond, List, [], ◌∷◌, filter, length, get_or, Option, Some, None, refl, sym, ap, ◌∙◌, arith, inl, inr}
+use Rattle.std.proofs.Common.{◌≡◌, ℕ, zero, suc, ◌<◌, Bool, true, false, cond, List, [], ◌∷◌, filter, Option, Some, None, refl, sym, ap, ◌∙◌, arith, inl, inr}
 use Rattle.std.specs.Prelude.{Contains}
+use Rattle.std.specs.List.{list_all}
 use Rattle.std.proofs.lemmas.Bool.{cases_eq, and_parts}
-use Rattle.std.proofs.lemmas.List.Elements.{Contains-get_or, Contains-append_left, Contains-append_right, Contains-append_cases}
+use Rattle.std.proofs.lemmas.List.Elements.{Contains-append_left, Contains-append_right, Contains-append_cases}
 use Rattle.chess_board.specs.declared.men.Kind.{Kind}
 use Rattle.chess_board.specs.declared.men.Kind.TheVariants.{Pawn, Knight, Bishop, Rook, Queen, King}
 use Rattle.chess_board.specs.declared.men.Man.{Man}
@@ -98,5 +99,10 @@ legal_listed p m = (
       kept (is_legal p) (moves_below 64) m (below_has m.origin 64 m h.0 (to_has m.origin m.target 64 m h.1 (between_has w.0 m.origin m.target m.promotion w.1.suits))) h.2),
 )
 
-pub listed_legal : (p : Setup) (i : ℕ) (d : Move) → i < length (legal_moves p) → is_legal p (get_or (legal_moves p) i d) ≡ true
-listed_legal p i d on = ((legal_listed p (get_or (legal_moves p) i d)).0 (Contains-get_or (legal_moves p) i d on)).2
+pub all_legal : (p : Setup) → list_all (is_legal p) (legal_moves p) ≡ true
+unfolding legal_moves
+all_legal p = all_kept (is_legal p) (moves_below 64)
+  where
+    all_kept : (f : Move → Bool) (xs : List Move) → list_all f (filter f xs) ≡ true
+    all_kept f [] = refl
+    all_kept f (x ∷ xs) = (elim (f x) as (λ b. f x ≡ b → list_all f (cond b (x ∷ filter f xs) (filter f xs)) ≡ true) [ true ↦ λ e. rw e (all_kept f xs) | false ↦ λ e. all_kept f xs ]) refl

@@ -1,4 +1,14 @@
+pub mod Directions
+pub mod Leaps
+pub mod Rays
+pub mod Hits
+pub mod Forces
+pub mod Scenes
 pub mod Listing
+pub mod Targets
+pub mod Walking
 pub mod Verdicts
+pub mod Checks
+pub mod Sights
 pub mod Plays
 pub mod Laws

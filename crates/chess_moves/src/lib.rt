@@ -8,19 +8,33 @@
 #![tactic(auto)]
 
 mod attacking;
+mod candidates;
+mod checking;
+mod counting;
+mod directions;
+mod forces;
+mod guards;
 mod judging;
 mod laws;
 mod listing;
 mod movers;
 mod plays;
+mod rays;
+mod scenes;
+mod sights;
+mod targets;
 mod verdicts;
+mod walking;
 
-pub use attacking::{Rays, attacked};
+pub use attacking::attacked;
+pub use checking::checks;
 pub use judging::verdict;
 pub use laws::{legal_listed, legal_rise, plays_listed, plays_once};
 pub use listing::{MoveList, is_legal, legal};
 pub use plays::perft;
+pub use rays::{Rays, rays_in_order};
 pub use verdicts::Verdict;
+pub use walking::{LegalMoves, legal_moves};
 
 #[cfg(test)]
 mod tests;

@@ -1,38 +1,35 @@
-//! The man that makes a move.
+//! The man that makes a move, and where it is promoted.
 
-ghost use Rattle.std.specs.Prelude.{◌≡◌, ◌<◌, Some, IfSome, is_some};
-ghost use Rattle.chess_board.specs.Positions.{man_at};
+ghost use Rattle.std.specs.Prelude.{◌≡◌, ℕ, ◌<◌, true, Some};
+ghost use Rattle.square_sets.specs.Members.{has};
 ghost use Rattle.chess_board.specs.Men.{is_of};
-ghost use Rattle.chess_board.specs.Candidates.{last_rank as last_rank_of, promotes as promotes_on};
+ghost use Rattle.chess_board.specs.Positions.{man_at};
+ghost use Rattle.chess_board.specs.Candidates.{promotes};
 
 use chess_board::{Colour, Kind, Man, Position, Square};
 
-/// The man of the side to move that stands on a square.
-pub(crate) fn own_man(position: &Position, square: Square) -> Option<Man>
-    ensures there { IfSome result (λ man. man_at position.now.men square ≡ Some man) }
-    ensures own { is_some result ≡ is_of position.now.side (man_at position.now.men square) }
+/// The man of the side to move on a square where one stands.
+pub(crate) fn own_man(position: &Position, square: u8) -> Man
+    requires on_board { square < 64 }
+    requires own { is_of position.now.side (man_at position.now.men square) ≡ true }
+    ensures there { man_at position.now.men square ≡ Some result }
+    ensures own { result.colour ≡ position.now.side }
 {
-    let man = position.man(square)?;
-    if man.colour == position.side() {
-        Some(man)
-    } else {
-        None
+    match position.man(Square::numbered(square)) {
+        Some(man) => man,
+        None => unreachable!(),
     }
 }
 
-/// The rank on which a side's pawns promote, counted from 0.
-fn last_rank(colour: Colour) -> u8
-    ensures { result ≡ last_rank_of colour }
+/// The squares on which the man is promoted: a pawn's last rank (FIDE Laws of Chess, article 3.7).
+pub(crate) fn promotion_squares(man: Man) -> u64
+    ensures { (s : ℕ) → s < 64 → has result s ≡ promotes man s }
 {
-    match colour {
-        Colour::White => 7,
-        Colour::Black => 0,
+    if man.kind != Kind::Pawn {
+        return 0;
     }
-}
-
-/// Whether the man would be promoted on the square: a pawn on its last rank (FIDE Laws of Chess, article 3.7).
-pub(crate) fn promotes(man: Man, target: Square) -> bool
-    ensures { result ≡ promotes_on man target }
-{
-    man.kind == Kind::Pawn && target.rank() == last_rank(man.colour)
+    match man.colour {
+        Colour::White => 0xff00_0000_0000_0000,
+        Colour::Black => 0xff,
+    }
 }

@@ -3,8 +3,9 @@
 ghost use Rattle.std.specs.Prelude.{◌≡◌, ◌≤◌, ◌<◌, ◌^◌, length};
 ghost use Rattle.chess_moves.specs.Plays.{plays};
 
-use crate::attacking::Rays;
-use crate::listing::legal;
+use crate::counting::count_moves;
+use crate::rays::Rays;
+use crate::walking::legal_moves;
 use chess_board::{Position, after};
 
 /// How many lines of `depth` legal moves there are, played one after the other: the count by which programs compare their
@@ -28,13 +29,12 @@ fn count_plays(rays: &Rays, position: &Position, depth: u8) -> u64
     ensures count { result ≡ length (plays position.now depth) }
     ensures few { result ≤ 1024 ^ depth }
 {
-    let moves = legal(rays, position);
     if depth == 1 {
-        return moves.len() as u64;
+        return count_moves(rays, position);
     }
     let mut total = 0;
-    for m in moves.as_slice() {
-        total += count_plays(rays, &after(position, *m), depth - 1);
+    for m in legal_moves(rays, position) {
+        total += count_plays(rays, &after(position, m), depth - 1);
     }
     total
 }

@@ -1,7 +1,7 @@
-use Rattle.std.proofs.Common.{◌≡◌, filter}
-use Rattle.chess_board.specs.Legality.{is_legal}
-use Rattle.chess_moves.specs.Listing.{moves_below}
+use Rattle.std.proofs.Common.{◌≡◌, ◌++◌}
+use Rattle.chess_moves.specs.Listing.{legal_moves}
 use Rattle.chess_moves.proofs.listing.legal.Given as goal
 
-abbrev pub invariant-loop-origin : goal.invariant-loop-origin
-invariant-loop-origin l = l.list.items ≡ filter (is_legal l.position) (moves_below l.origin)
+-- those listed, and those that are still to come
+abbrev pub invariant-loop-m : goal.invariant-loop-m
+invariant-loop-m l = l.list.items ++ l.m-iterator ≡ legal_moves l.position

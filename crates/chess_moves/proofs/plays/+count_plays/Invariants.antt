@@ -1,6 +1,7 @@
-use Rattle.std.proofs.Common.{◌≡◌, ◌≤◌, ◌*◌, ◌-◌, ◌^◌, length, take}
-use Rattle.std.specs.List.{sum_by}
+use Rattle.std.proofs.Common.{◌≡◌, ◌≤◌, ◌+◌, ◌*◌, ◌-◌, ◌^◌, true, length}
+use Rattle.std.specs.List.{sum_by, list_all}
 use Rattle.chess_board.specs.After.{after_setup}
+use Rattle.chess_board.specs.Legality.{is_legal}
 use Rattle.chess_moves.specs.Plays.{plays}
 use Rattle.chess_moves.proofs.plays.+count_plays.Given as goal
 
@@ -9,6 +10,7 @@ decreases-count_plays l = l.depth
 
 abbrev pub invariant-loop-m : goal.invariant-loop-m
 invariant-loop-m l = record {
-  counted : l.total ≡ sum_by (λ m. length (plays (after_setup l.position m) (l.depth - 1))) (take l.m-index l.m-items);
-  few : l.total ≤ l.m-index * 1024 ^ (l.depth - 1);
+  counted : l.total + sum_by (λ m. length (plays (after_setup l.position m) (l.depth - 1))) l.m-iterator ≡ length (plays l.position l.depth);
+  few : l.total + length l.m-iterator * 1024 ^ (l.depth - 1) ≤ 1024 * 1024 ^ (l.depth - 1);
+  legal : list_all (is_legal l.position) l.m-iterator ≡ true;
 }

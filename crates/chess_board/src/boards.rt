@@ -1,0 +1,336 @@
+//! The men on the 64 squares, as sets of squares: a man stands in the set of its colour and in that of its kind.
+
+ghost use Rattle.std.specs.Prelude.{◌≡◌, ℕ, ◌<◌, ◌==◌, if◌then◌else◌, Some, None, is_some, length, count_by, slice_set};
+ghost use Rattle.square_sets.specs.Members.{has};
+ghost use Rattle.chess_board.specs.declared.men.Colour.TheVariants as colour;
+ghost use Rattle.chess_board.specs.declared.men.Kind.TheVariants as kind;
+ghost use Rattle.chess_board.specs.Positions.{man_at};
+ghost use Rattle.chess_board.specs.Men.{man_of, is_of, is_man, is_king_of};
+ghost use Rattle.chess_board.specs.Sets.{IsSetOf};
+ghost use Rattle.chess_board.specs.Boards.{is_of_kind, kind_by};
+
+use crate::men::{Colour, Kind, Man};
+use crate::squares::Square;
+use std::hash::{Hash, Hasher};
+use std::marker::Model;
+
+/// The men on the 64 squares, seen as a list of them from a1 to h8.
+#[derive(Clone, Copy, Debug, PartialEq, Eq)]
+pub(crate) struct Board {
+    white: u64,
+    black: u64,
+    pawns: u64,
+    knights: u64,
+    bishops: u64,
+    rooks: u64,
+    queens: u64,
+    kings: u64,
+}
+
+impl Model for Board {
+    ghost use Rattle.std.specs.Prelude.{List, Option};
+    ghost use Rattle.chess_board.specs.declared.men.Man as man;
+
+    ghost Value = { List (Option man.Man) };
+
+    ghost use Rattle.chess_board.specs.Boards.{men_of, words_of, AreTheirWords, words_of-men_of};
+
+    ghost view = { men_of };
+
+    ghost invariant = { AreTheirWords };
+
+    ghost inverse = { words_of };
+
+    ghost inverse_ok = { words_of-men_of };
+}
+
+impl Board {
+    /// The board with these men, a1 first and h8 last.
+    pub(crate) fn of(places: &[Option<Man>; 64]) -> Board
+        ensures { result ≡ places.now }
+    {
+        let mut board = Board::empty();
+        for number in 0..64 {
+            if let Some(man) = places[number as usize] {
+                board = board.with(Square::numbered(number), man);
+            }
+        }
+        board
+    }
+
+    /// The board with no man on it.
+    fn empty() -> Board
+        ensures squares { length result ≡ 64 }
+        ensures empty { (square : ℕ) → square < 64 → man_at result square ≡ None }
+    {
+        Board {
+            white: 0,
+            black: 0,
+            pawns: 0,
+            knights: 0,
+            bishops: 0,
+            rooks: 0,
+            queens: 0,
+            kings: 0,
+        }
+    }
+
+    /// The men on the 64 squares, a1 first and h8 last.
+    pub(crate) fn places(&self) -> [Option<Man>; 64]
+        ensures { result ≡ self.now }
+    {
+        let _ = &self.white;
+        let mut places = [None; 64];
+        for number in 0..64 {
+            places[number as usize] = self.man(Square::numbered(number));
+        }
+        places
+    }
+
+    /// The man on a square. Its second clause tells a caller how many squares there are.
+    pub(crate) fn man(&self, square: Square) -> Option<Man>
+        ensures man { result ≡ man_at self.now square }
+        ensures squares { length self.now ≡ 64 }
+    {
+        let index = square.index() as u8;
+        if !square_sets::contains(self.white | self.black, index) {
+            return None;
+        }
+        let colour = if square_sets::contains(self.white, index) {
+            Colour::White
+        } else {
+            Colour::Black
+        };
+        Some(Man {
+            colour,
+            kind: kind_at(
+                self.pawns,
+                self.knights,
+                self.bishops,
+                self.rooks,
+                self.queens,
+                index,
+            ),
+        })
+    }
+
+    /// The board without what stands on a square.
+    pub(crate) fn without(&self, square: Square) -> Board
+        ensures { result ≡ slice_set self.now square None }
+    {
+        let index = square.index() as u8;
+        Board {
+            white: square_sets::without(self.white, index),
+            black: square_sets::without(self.black, index),
+            pawns: square_sets::without(self.pawns, index),
+            knights: square_sets::without(self.knights, index),
+            bishops: square_sets::without(self.bishops, index),
+            rooks: square_sets::without(self.rooks, index),
+            queens: square_sets::without(self.queens, index),
+            kings: square_sets::without(self.kings, index),
+        }
+    }
+
+    /// The board with this man on a square, in place of what stood there.
+    pub(crate) fn with(&self, square: Square, man: Man) -> Board
+        ensures { result ≡ slice_set self.now square (Some man) }
+    {
+        let index = square.index() as u8;
+        Board {
+            white: set_where(man.colour == Colour::White, self.white, index),
+            black: set_where(man.colour == Colour::Black, self.black, index),
+            pawns: set_where(man.kind == Kind::Pawn, self.pawns, index),
+            knights: set_where(man.kind == Kind::Knight, self.knights, index),
+            bishops: set_where(man.kind == Kind::Bishop, self.bishops, index),
+            rooks: set_where(man.kind == Kind::Rook, self.rooks, index),
+            queens: set_where(man.kind == Kind::Queen, self.queens, index),
+            kings: set_where(man.kind == Kind::King, self.kings, index),
+        }
+    }
+
+    /// The squares on which some man stands.
+    pub(crate) fn occupied(&self) -> u64
+        ensures occupied { IsSetOf result is_some self.now }
+        ensures squares { length self.now ≡ 64 }
+    {
+        self.white | self.black
+    }
+
+    /// The squares of a side's men of one kind.
+    pub(crate) fn men(&self, colour: Colour, kind: Kind) -> u64
+        ensures { IsSetOf result (is_man colour kind) self.now }
+    {
+        self.side(colour) & self.kind(kind)
+    }
+
+    /// The squares of a side's men.
+    fn side(&self, colour: Colour) -> u64
+        ensures { IsSetOf result (is_of colour) self.now }
+    {
+        match colour {
+            Colour::White => self.white,
+            Colour::Black => self.black,
+        }
+    }
+
+    /// The squares of both sides' men of one kind.
+    fn kind(&self, kind: Kind) -> u64
+        ensures { IsSetOf result (is_of_kind kind) self.now }
+    {
+        match kind {
+            Kind::Pawn => self.pawns,
+            Kind::Knight => self.knights,
+            Kind::Bishop => self.bishops,
+            Kind::Rook => self.rooks,
+            Kind::Queen => self.queens,
+            Kind::King => self.kings,
+        }
+    }
+
+    /// The square of a side's one king.
+    pub(crate) fn king(&self, colour: Colour) -> Square
+        requires { count_by (is_king_of colour) self.now ≡ 1 }
+        ensures king { man_at self.now result ≡ man_of colour kind.King }
+        ensures on_board { result < 64 }
+    {
+        let kings = self.side(colour) & self.kings;
+        Square::numbered(kings.trailing_zeros() as u8)
+    }
+}
+
+impl Hash for Board {
+    ghost use Rattle.std.specs.Cmp.Rules.{hashing};
+    ghost use Rattle.std.proofs.Common.{rules};
+    ghost use Rattle.chess_board.specs.Hashing.{board_words};
+
+    ghost hash_input = { board_words };
+
+    ghost respects_eq = { Prim.search (hashing, rules) };
+
+    fn hash<H: Hasher>(&self, state: &mut H) {
+        state.write_u64(self.white);
+        state.write_u64(self.pawns | self.bishops | self.queens);
+        state.write_u64(self.knights | self.bishops | self.kings);
+        state.write_u64(self.rooks | self.queens | self.kings);
+    }
+}
+
+/// The kind of the man on a square, by the sets of all kinds but kings.
+fn kind_at(pawns: u64, knights: u64, bishops: u64, rooks: u64, queens: u64, index: u8) -> Kind
+    requires { index < 64 }
+    ensures { result ≡ kind_by (has pawns index) (has knights index) (has bishops index) (has rooks index) (has queens index) }
+{
+    if square_sets::contains(pawns, index) {
+        Kind::Pawn
+    } else if square_sets::contains(knights, index) {
+        Kind::Knight
+    } else if square_sets::contains(bishops, index) {
+        Kind::Bishop
+    } else if square_sets::contains(rooks, index) {
+        Kind::Rook
+    } else if square_sets::contains(queens, index) {
+        Kind::Queen
+    } else {
+        Kind::King
+    }
+}
+
+/// A set with a square where `member` holds, and otherwise without it.
+fn set_where(member: bool, set: u64, index: u8) -> u64
+    requires { index < 64 }
+    ensures { (square : ℕ) → square < 64 → has result square ≡ (if square == index then member else has set square) }
+{
+    let others = square_sets::without(set, index);
+    if member {
+        square_sets::with(others, index)
+    } else {
+        others
+    }
+}
+
+#[cfg(test)]
+mod tests {
+    use super::*;
+    use std::hash::DefaultHasher;
+    use std::test::Fail;
+
+    fn man(colour: Colour, kind: Kind) -> Man
+        ensures { Some result ≡ man_of colour kind }
+    {
+        Man { colour, kind }
+    }
+
+    /// White's king on e1 and rook on h1 against Black's king on e8 and pawn on d5.
+    fn four_men() -> [Option<Man>; 64]
+        ensures white { count_by (is_king_of colour.White) result ≡ 1 }
+        ensures black { count_by (is_king_of colour.Black) result ≡ 1 }
+    {
+        let mut places = [None; 64];
+        places[4] = Some(man(Colour::White, Kind::King));
+        places[7] = Some(man(Colour::White, Kind::Rook));
+        places[35] = Some(man(Colour::Black, Kind::Pawn));
+        places[60] = Some(man(Colour::Black, Kind::King));
+        places
+    }
+
+    fn hash_of(board: &Board) -> u64 {
+        let mut state = DefaultHasher::new();
+        board.hash(&mut state);
+        state.finish()
+    }
+
+    #[test]
+    fn shows_its_men(rt: HostRuntime) -> Result<(), Fail> {
+        let board = Board::of(&four_men());
+        let pawn = man(Colour::Black, Kind::Pawn);
+        assert_eq!(rt; board.places().as_slice(), four_men().as_slice());
+        assert_eq!(rt; board.man(Square::numbered(35)), Some(pawn));
+        assert_eq!(rt; board.man(Square::numbered(36)), None);
+        assert_eq!(rt; board.occupied(), 1 << 4 | 1 << 7 | 1 << 35 | 1 << 60);
+        assert_eq!(rt; board.men(Colour::White, Kind::Rook), 1 << 7);
+        assert_eq!(rt; board.men(Colour::Black, Kind::King), 1 << 60);
+        assert_eq!(rt; board.men(Colour::White, Kind::Pawn), 0);
+        assert_eq!(rt; board.king(Colour::White), Square::numbered(4));
+        assert_eq!(rt; board.king(Colour::Black), Square::numbered(60));
+        Ok(())
+    }
+
+    #[test]
+    fn puts_a_man_in_place_of_another(rt: HostRuntime) -> Result<(), Fail> {
+        let h1 = Square::numbered(7);
+        let knight = man(Colour::Black, Kind::Knight);
+        let board = Board::of(&four_men());
+        let captured = board.with(h1, knight);
+        assert_eq!(rt; captured.man(h1), Some(knight));
+        assert_eq!(rt; captured.men(Colour::White, Kind::Rook), 0);
+        assert_eq!(rt; captured.men(Colour::Black, Kind::Knight), 1 << 7);
+        assert_eq!(rt; captured.occupied(), board.occupied());
+        assert_eq!(rt; captured.without(h1).man(h1), None);
+        assert_eq!(rt; captured.without(h1), board.without(h1));
+        Ok(())
+    }
+
+    #[test]
+    fn tells_boards_apart(rt: HostRuntime) -> Result<(), Fail> {
+        let board = Board::of(&four_men());
+        let d5 = Square::numbered(35);
+        let pawn = man(Colour::Black, Kind::Pawn);
+        let others = [
+            board.without(d5),
+            board.without(d5).with(Square::numbered(27), pawn),
+            board.with(d5, man(Colour::White, Kind::Pawn)),
+            board.with(d5, man(Colour::Black, Kind::Knight)),
+            board.with(d5, man(Colour::Black, Kind::Bishop)),
+            board.with(d5, man(Colour::Black, Kind::Rook)),
+            board.with(d5, man(Colour::Black, Kind::Queen)),
+        ];
+        let same = Board::of(&four_men());
+        assert_eq!(rt; board, same);
+        assert_eq!(rt; hash_of(&board), hash_of(&same));
+        for other in &others {
+            assert!(rt; board != *other);
+            assert!(rt; hash_of(&board) != hash_of(other));
+        }
+        Ok(())
+    }
+}

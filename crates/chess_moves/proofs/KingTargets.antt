@@ -1,0 +1,153 @@
+-- Whether a king is in check once it went, by a step or by castling.
+use Rattle.std.proofs.Common.{◌≡◌, ◌≢◌, ℕ, ◌<◌, Bool, true, false, not, ◌&&◌, eqb, List, length, Option, Some, None, refl, ◌∙◌, inl, inr, arith, length-set, bit_or}
+use Rattle.std.proofs.lemmas.Bool.{and_parts, or_cases, eqb-true}
+use Rattle.std.proofs.Math.Bool.{and-false}
+use Rattle.std.proofs.lemmas.Bool.Decides.{nat_tests}
+use Rattle.square_sets.specs.Members.{has}
+use Rattle.chess_board.specs.declared.men.Colour.{Colour}
+use Rattle.chess_board.specs.declared.men.Colour.TheVariants.{White, Black}
+use Rattle.chess_board.specs.declared.men.Kind.{Kind}
+use Rattle.chess_board.specs.declared.men.Kind.TheVariants.{King}
+use Rattle.chess_board.specs.declared.men.Wing.{Wing}
+use Rattle.chess_board.specs.declared.men.Wing.TheVariants.{KingSide, QueenSide}
+use Rattle.chess_board.specs.declared.men.Man.{Man}
+use Rattle.chess_board.specs.Squares.{file_gap}
+use Rattle.chess_board.specs.Men.{other_side, is_colour, is_of, is_king_of, is_rook_of, has_right_of, king_home, rook_home}
+use Rattle.chess_board.specs.Positions.{Setup, man_at}
+use Rattle.chess_board.specs.Attacks.{attacks_as, is_clear, is_attacked, is_in_check}
+use Rattle.chess_board.specs.Soundness.{IsSound, has_men_of_right}
+use Rattle.chess_board.specs.Candidates.{crossed, king_goal, castles_to, castles, piece_goes, goes, suits}
+use Rattle.chess_board.specs.After.{cleared, moved, rook, wing_of, castled, men_after}
+use Rattle.chess_moves.specs.declared.scenes.Scene.{Scene}
+use Rattle.chess_moves.specs.Hits.{is_hit}
+use Rattle.chess_moves.specs.Listing.{move_of}
+use Rattle.chess_moves.specs.Scenes.{IsSceneOf}
+use Rattle.chess_moves.proofs.OwnColours.{same_colour, own_rook_not_other}
+use Rattle.chess_moves.proofs.MovedKings.{in_check_there, king_of_scene, king_goes, king_stays}
+use Rattle.chess_moves.proofs.SetBits.{has_or}
+use Rattle.chess_moves.proofs.KeptWays.{goes_safely}
+
+abbrev pub king : Colour → Man
+king c = record { colour = c; kind = King }
+
+-- A king's step is no castling.
+step_is_near : (men : List (Option Man)) (c : Colour) (a b : ℕ) → attacks_as men c King a b ≡ true → eqb (file_gap a b) 2 ≡ false
+step_is_near men c a b h = grind (arith, nat_tests)
+
+four_parts : (a b c d : Bool) → (a && b && c && d) ≡ true → (a ≡ true) × (b ≡ true) × (c ≡ true) × (d ≡ true)
+four_parts true true true true h = (refl, refl, refl, refl)
+four_parts true true true false h = cc
+four_parts true true false d h = cc
+four_parts true false c d h = cc
+four_parts false b c d h = cc
+
+-- A right has its rook at home.
+rook_at_home : (p : Setup) (c : Colour) (wing : Wing) → IsSound p → has_right_of p.rights c wing ≡ true → is_rook_of c (man_at p.men (rook_home c wing)) ≡ true
+rook_at_home p c wing sound right =
+    let right_men : Colour → Wing → Bool = has_men_of_right p.men p.rights in
+    let all = four_parts (right_men White KingSide) (right_men White QueenSide) (right_men Black KingSide) (right_men Black QueenSide) sound.rights in
+    let one = pick c wing all.0 all.1 all.2 all.3 in
+    (and_parts (is_king_of c (man_at p.men (king_home c))) (is_rook_of c (man_at p.men (rook_home c wing))) (rw right at one)).1
+  where
+    pick : (c : Colour) (wing : Wing) → has_men_of_right p.men p.rights White KingSide ≡ true → has_men_of_right p.men p.rights White QueenSide ≡ true
+        → has_men_of_right p.men p.rights Black KingSide ≡ true → has_men_of_right p.men p.rights Black QueenSide ≡ true → has_men_of_right p.men p.rights c wing ≡ true
+    pick White KingSide a b c d = a
+    pick White QueenSide a b c d = b
+    pick Black KingSide a b c d = c
+    pick Black QueenSide a b c d = d
+
+-- What is known of a king that castles.
+pub record IsCastlingOn (p : Setup) (c : Colour) (a b : ℕ) (wing : Wing) : Type 0 where
+  pub right : has_right_of p.rights c wing ≡ true
+  pub home : a ≡ king_home c
+  pub goal : b ≡ king_goal c wing
+
+castling_on : (p : Setup) (c : Colour) (wing : Wing) (a b : ℕ) → castles_to p c wing a b ≡ true → IsCastlingOn p c a b wing
+castling_on p c wing a b h =
+    let right = has_right_of p.rights c wing in
+    let home = eqb a (king_home c) in
+    let goal = eqb b (king_goal c wing) in
+    let clear = is_clear p.men a (rook_home c wing) in
+    let out = not (is_attacked p.men a (other_side c)) in
+    let over = not (is_attacked p.men (crossed a b) (other_side c)) in
+    let last = not (is_attacked p.men b (other_side c)) in
+    let q = and_parts (right && home && goal && clear && out && over) last h in
+    let r = and_parts (right && home && goal && clear && out) over q.0 in
+    let s = and_parts (right && home && goal && clear) out r.0 in
+    let f = four_parts right home goal clear s.0 in
+    record { right = f.0; home = eqb-true a (king_home c) f.1; goal = eqb-true b (king_goal c wing) f.2 }
+
+some_wing : (p : Setup) (c : Colour) (a b : ℕ) → goes p c King a b ≡ true → eqb (file_gap a b) 2 ≡ true → (wing : Wing) × IsCastlingOn p c a b wing
+some_wing p c a b h far = elim (or_cases (piece_goes p c King a b) (castles p c a b) h) [
+  | inl g ↦ let near = step_is_near p.men c a b ((and_parts (attacks_as p.men c King a b) (not (is_of c (man_at p.men b))) g).0) in absurd (cc)
+  | inr g ↦ elim (or_cases (castles_to p c KingSide a b) (castles_to p c QueenSide a b) g) [
+    | inl w ↦ (KingSide, castling_on p c KingSide a b w)
+    | inr w ↦ (QueenSide, castling_on p c QueenSide a b w)
+  ]
+]
+
+-- in each of the four castlings
+wing_is : (c : Colour) (wing : Wing) → wing_of (king_home c) (king_goal c wing) ≡ wing
+wing_is White KingSide = refl
+wing_is White QueenSide = refl
+wing_is Black KingSide = refl
+wing_is Black QueenSide = refl
+
+goal_apart : (c : Colour) (wing : Wing) → (king_goal c wing ≢ rook_home c wing) × (king_goal c wing ≢ crossed (king_home c) (king_goal c wing))
+goal_apart White KingSide = (λ e. omega arith, λ e. omega arith)
+goal_apart White QueenSide = (λ e. omega arith, λ e. omega arith)
+goal_apart Black KingSide = (λ e. omega arith, λ e. omega arith)
+goal_apart Black QueenSide = (λ e. omega arith, λ e. omega arith)
+
+-- Once it stepped, the king is in check where the square is attacked to which it went.
+pub in_check_stepped : (scene : Scene) (p : Setup) (b : ℕ) → IsSceneOf scene p → b < 64 → eqb (file_gap scene.king b) 2 ≡ false
+    → is_in_check (men_after p (king p.side) (move_of scene.king b None)) p.side ≡ is_hit (moved p.men scene.king b (king p.side)) b (other_side p.side)
+in_check_stepped scene p b h on near =
+    rw near (in_check_there (moved p.men scene.king b (king p.side)) p.side b (king_goes p.men p.side scene.king b h.sound.squares on (king_of_scene scene p h)))
+
+-- Where its rook stands before it castles, no man of the other side does.
+pub castling_rook : (p : Setup) (a b : ℕ) → IsSound p → goes p p.side King a b ≡ true → eqb (file_gap a b) 2 ≡ true
+    → is_of (other_side p.side) (man_at p.men (rook_home p.side (wing_of a b))) ≡ false
+castling_rook p a b sound h far =
+    let w = some_wing p p.side a b h far in
+    rw (w.1.home, w.1.goal, wing_is p.side w.0) (own_rook_not_other p.side (man_at p.men (rook_home p.side w.0)) (rook_at_home p p.side w.0 sound w.1.right))
+
+-- The same once it castled.
+pub in_check_castled : (scene : Scene) (p : Setup) (b : ℕ) → IsSceneOf scene p → b < 64 → goes p p.side King scene.king b ≡ true → eqb (file_gap scene.king b) 2 ≡ true
+    → is_in_check (men_after p (king p.side) (move_of scene.king b None)) p.side
+    ≡ is_hit (moved (moved p.men scene.king b (king p.side)) (rook_home p.side (wing_of scene.king b)) (crossed scene.king b) (rook p.side)) b (other_side p.side)
+in_check_castled scene p b h on goes_there far =
+    let w = some_wing p p.side scene.king b goes_there far in
+    let apart = goal_apart p.side w.0 in
+    let went = king_goes p.men p.side scene.king b h.sound.squares on (king_of_scene scene p h) in
+    let men : List (Option Man) = moved p.men scene.king b (king p.side) in
+    let long : length men ≡ 64 = length-set (cleared p.men scene.king) b (Some (king p.side)) ∙ length-set p.men scene.king None ∙ h.sound.squares in
+    let home : b ≢ rook_home p.side (wing_of scene.king b) = rw (w.1.home, w.1.goal, wing_is p.side w.0) apart.0 in
+    let over : b ≢ crossed scene.king b = rw (w.1.home, w.1.goal) apart.1 in
+    rw far (in_check_there (castled men p.side scene.king b) p.side b
+    (king_stays men p.side b (rook_home p.side (wing_of scene.king b)) (crossed scene.king b) (rook p.side) long went home over (and-false (is_colour p.side p.side))))
+
+-- The king is not attacked once it went from a to b.
+abbrev pub safe_at : Setup → ℕ → ℕ → Bool
+safe_at p a b = not (is_in_check (men_after p (king p.side) (move_of a b None)) p.side)
+
+-- The origin of a king is the scene's.
+pub king_origin : (scene : Scene) (p : Setup) (man : Man) (o : ℕ) → IsSceneOf scene p → o < 64 → man_at p.men o ≡ Some man → man.colour ≡ p.side → man.kind ≡ King → o ≡ scene.king
+king_origin scene p man o h on there own is_king =
+    let colour = same_colour p.side p.side refl in
+    (king_of_scene scene p h).alone o on (rw (there, is_king, own, colour) refl)
+
+-- Its steps and its castlings together are where the king goes.
+pub king_goals : (p : Setup) (man : Man) (o k steps castlings t : ℕ) → man.colour ≡ p.side → man.kind ≡ King → o ≡ k
+    → has steps t ≡ piece_goes p man.colour man.kind o t → has castlings t ≡ castles p p.side k t → has (bit_or steps castlings) t ≡ goes p p.side King k t
+king_goals p man o k steps castlings t own is_king at steps_are castlings_are =
+    let near = rw (own, is_king, at) at steps_are in
+    rw (has_or steps castlings t, near, castlings_are) refl
+
+-- A king goes safely where it goes and is not attacked then.
+pub king_goes_safely : (p : Setup) (man : Man) (o k t : ℕ) (r : Option Kind) → man.colour ≡ p.side → man.kind ≡ King → o ≡ k → suits man t r ≡ true
+    → goes_safely p man o t r ≡ (goes p p.side King k t && safe_at p k t)
+king_goes_safely p man o k t None own is_king at suited =
+    let same : man ≡ king p.side = λ i. record { colour = own i; kind = is_king i } in
+    rw (at, same) refl
+king_goes_safely p man o k t (Some r) own is_king at suited = let never = rw is_king at suited in cc

@@ -1,0 +1,213 @@
+-- Whether a move gives check, told by what is seen from the king before it: where it is not special and opens no line.
+use Rattle.std.proofs.Common.{◌≡◌, ◌≢◌, ℕ, ◌%◌, ◌<◌, Bool, true, false, not, ◌&&◌, ◌||◌, List, Option, None, Some, is_some, refl, sym, ap, ◌∙◌, eqb, length, set, length-set, get_or-set_same, get_or-set_other, arith}
+use Rattle.std.proofs.lemmas.Bool.{eqb-true, eqb-false, eq-eqb, and_left, and_right, and_from, and_parts, both_ways, or_parts, false_from_ne_true}
+use Rattle.square_sets.specs.Members.{has}
+use Rattle.chess_board.specs.declared.men.Colour.{Colour}
+use Rattle.chess_board.specs.declared.men.Colour.TheVariants.{White, Black}
+use Rattle.chess_board.specs.declared.men.Kind.{Kind}
+use Rattle.chess_board.specs.declared.men.Kind.TheVariants.{Pawn, Knight, Bishop, Rook, Queen, King}
+use Rattle.chess_board.specs.declared.men.Man.{Man}
+use Rattle.chess_board.specs.Squares.{gap, any_below}
+use Rattle.chess_board.specs.Men.{is_colour, is_king_kind, is_king_of, other_side, man_of}
+use Rattle.chess_board.specs.Positions.{Setup, man_at}
+use Rattle.chess_board.specs.Attacks.{is_attacked, is_king_attacked, is_in_check}
+use Rattle.chess_board.specs.Moves.{Move}
+use Rattle.chess_board.specs.After.{moved, becomes, is_in_passing, is_castling, men_after, after_man, after_setup}
+use Rattle.chess_board.specs.Legality.{is_legal}
+use Rattle.chess_board.specs.Soundness.{IsSound}
+use Rattle.chess_moves.specs.declared.directions.Direction.{Direction}
+use Rattle.chess_moves.specs.declared.directions.Direction.TheVariants.{North, NorthEast, East, SouthEast, South, SouthWest, West, NorthWest}
+use Rattle.chess_moves.specs.declared.sights.Sights.{Sights}
+use Rattle.chess_moves.specs.Directions.{toward, reaches, is_blocked, stands_between, reaches_as_bishop, reaches_as_rook}
+use Rattle.chess_moves.specs.Leaps.{leaps}
+use Rattle.chess_moves.specs.Hits.{is_taken, hits_as, place_hits, hits_from, is_hit}
+use Rattle.chess_moves.specs.Checks.{gives_check}
+use Rattle.chess_moves.specs.Sights.{IsSightsOf, squares_of, is_special}
+use Rattle.chess_moves.proofs.AnyLemmas.{any_none, any_at}
+use Rattle.chess_moves.proofs.Bridge.{attacked_same}
+use Rattle.chess_moves.proofs.Compass.{between_some}
+use Rattle.chess_moves.proofs.Geometry.{toward_self}
+use Rattle.chess_moves.proofs.OneKing.{only_king, in_check_at}
+use Rattle.chess_moves.proofs.Placed.{place_with}
+use Rattle.chess_moves.proofs.Played.{played}
+use Rattle.chess_moves.proofs.Removed.{Leaves, place_left}
+
+-- What holds of the man that came, of an empty square and of each square as it was, holds of each square after the move.
+each_moved : (men : List (Option Man)) (o t : ℕ) (man : Man) → length men ≡ 64 → o < 64 → t < 64 → (P : ℕ → Option Man → Type 0)
+    → P t (Some man) → ((s : ℕ) → P s None) → ((s : ℕ) → s < 64 → P s (man_at men s)) → (s : ℕ) → s < 64 → P s (man_at (moved men o t man) s)
+each_moved men o t man len o_on t_on P came gone stayed s s_on =
+    let within : o < length men = omega arith in
+    let inside : t < length (set men o None) = simp length-set (omega arith) in
+    (elim (eqb s t) as (λ b. eqb s t ≡ b → P s (man_at (moved men o t man) s)) [
+      | true ↦ λ e. let same = eqb-true s t e in rw same (rw get_or-set_same came)
+      | false ↦ λ e. let apart = eqb-false s t e in rw get_or-set_other ((elim (eqb s o) as (λ b. eqb s o ≡ b → P s (man_at (set men o None) s)) [
+        | true ↦ λ f. let same = eqb-true s o f in rw same (rw get_or-set_same (gone o))
+        | false ↦ λ f. let other = eqb-false s o f in rw get_or-set_other (stayed s s_on)
+      ]) refl)
+    ]) refl
+
+man_came : (men : List (Option Man)) (o t : ℕ) (man : Man) → length men ≡ 64 → t < 64 → man_at (moved men o t man) t ≡ Some man
+man_came men o t man len on = let inside : t < length (set men o None) = simp length-set (omega arith) in rw get_or-set_same refl
+
+man_stayed : (men : List (Option Man)) (o t s : ℕ) (man : Man) → s ≢ t → s ≢ o → man_at (moved men o t man) s ≡ man_at men s
+man_stayed men o t s man apart other = rw get_or-set_other (rw get_or-set_other refl)
+
+-- A man leaves o: at most that square is left.
+leaves_at : (men : List (Option Man)) (o : ℕ) → length men ≡ 64 → o < 64 → Leaves (λ s. is_taken men s) (λ s. is_taken (set men o None) s) o
+leaves_at men o len on =
+    let within : o < length men = omega arith in
+    record {
+      stays = λ s l apart t. rw get_or-set_other t;
+      fewer = λ s l t. (elim (eqb s o) as (λ b. eqb s o ≡ b → is_taken men s ≡ true) [
+        | true ↦ λ e. let same = eqb-true s o e in let none : is_taken (set men o None) s ≡ false = rw same (rw get_or-set_same refl) in absurd (cc)
+        | false ↦ λ e. let other = eqb-false s o e in rw get_or-set_other at t
+      ]) refl;
+    }
+
+-- A man comes to t: that square is taken too.
+taken_with : (men : List (Option Man)) (t : ℕ) (man : Man) → length men ≡ 64 → t < 64 → (s : ℕ) → s < 64
+    → is_taken (set men t (Some man)) s ≡ (eqb s t || is_taken men s)
+taken_with men t man len on s l =
+    let within : t < length men = omega arith in
+    (elim (eqb s t) as (λ b. eqb s t ≡ b → is_taken (set men t (Some man)) s ≡ (b || is_taken men s)) [
+      | true ↦ λ e. let same = eqb-true s t e in rw same (rw get_or-set_same refl)
+      | false ↦ λ e. let other = eqb-false s t e in rw get_or-set_other refl
+    ]) refl
+
+-- A man leaves a square from which a queen would not attack k: the others attack k as before, where it does not come between.
+place_after : (men : List (Option Man)) (o t : ℕ) (man : Man) → length men ≡ 64 → o < 64 → t < 64 → (by : Colour) (k : ℕ)
+    → hits_as (λ s. is_taken men s) by Queen o k ≡ false → (place : Option Man) (a : ℕ)
+    → place_hits (λ s. is_taken (moved men o t man) s) by place a k ≡ (place_hits (λ s. is_taken men s) by place a k && not (stands_between a k t))
+place_after men o t man len o_on t_on by k hidden place a =
+    let taken : ℕ → Bool = λ s. is_taken men s in
+    let gone : List (Option Man) = set men o None in
+    let left : length gone ≡ 64 = simp length-set len in
+    let far = or_parts (reaches_as_bishop taken o k) (reaches_as_rook taken o k) hidden in
+    place_with (λ s. is_taken gone s) (λ s. is_taken (moved men o t man) s) t t_on (taken_with gone t man left t_on) by place a k
+    ∙ ap (λ x. x && not (stands_between a k t)) (place_left taken (λ s. is_taken gone s) o (leaves_at men o len o_on) by place a k far.0 far.1)
+
+not_between : (a k : ℕ) → stands_between a k a ≡ false
+not_between a k = false_from_ne_true (stands_between a k a) (λ h.
+    let w = between_some a k a h in let none = toward_self w.direction a in let on = and_parts (toward w.direction a a) (toward w.direction a k) w.on_line in
+    let first = on.0 in cc)
+
+-- Where k was safe, it is attacked afterwards exactly if the man attacks it from its target.
+hit_after : (men : List (Option Man)) (o t : ℕ) (man : Man) → length men ≡ 64 → o < 64 → t < 64 → (by : Colour) (k : ℕ)
+    → is_colour by man.colour ≡ true → hits_as (λ s. is_taken men s) by Queen o k ≡ false → is_hit men k by ≡ false
+    → is_hit (moved men o t man) k by ≡ hits_as (λ s. is_taken men s) by man.kind t k
+unfolding is_hit
+hit_after men o t man len o_on t_on by k own hidden safe =
+    let taken : ℕ → Bool = λ s. is_taken men s in
+    let after : ℕ → Bool = λ s. is_taken (moved men o t man) s in
+    let still = place_after men o t man len o_on t_on by k hidden in
+    let none : (place : Option Man) (a : ℕ) → place_hits taken by place a k ≡ false → place_hits after by place a k ≡ false = λ place a h.
+    still place a ∙ ap (λ x. x && not (stands_between a k t)) h in
+    let before : (a : ℕ) → a < 64 → place_hits taken by (man_at men a) a k ≡ false = λ a l.
+    false_from_ne_true (hits_from men by a k) (λ h. let hit = any_at (λ a. hits_from men by a k) 64 a l h in cc) in
+    (elim (hits_as taken by man.kind t k) as (λ b. hits_as taken by man.kind t k ≡ b → any_below 64 (λ a. hits_from (moved men o t man) by a k) ≡ b) [
+      | true ↦ λ e. any_at (λ a. hits_from (moved men o t man) by a k) 64 t t_on
+          (ap (λ place. place_hits after by place t k) (man_came men o t man len t_on) ∙ still (Some man) t
+          ∙ and_from (place_hits taken by (Some man) t k) (not (stands_between t k t))
+          (and_from (is_colour by man.colour) (hits_as taken by man.kind t k) own e) (ap not (not_between t k)))
+      | false ↦ λ e. any_none (λ a. hits_from (moved men o t man) by a k) 64
+          (each_moved men o t man len o_on t_on (λ a place. place_hits after by place a k ≡ false)
+          (none (Some man) t (and_right (is_colour by man.colour) (hits_as taken by man.kind t k) e)) (λ a. refl) (λ a l. none (man_at men a) a (before a l)))
+    ]) refl
+
+gap_self : (n : ℕ) → gap n n ≡ 0
+gap_self n = omega arith
+
+reached_self : (taken : ℕ → Bool) (d : Direction) (k : ℕ) → reaches taken d k k ≡ false
+reached_self taken d k = ap (λ x. x && not (is_blocked taken d k k)) (toward_self d k)
+
+-- No man attacks the square on which it stands.
+not_itself : (taken : ℕ → Bool) (c : Colour) (asked : Kind) (k : ℕ) → hits_as taken c asked k k ≡ false
+unfolding leaps reaches_as_bishop reaches_as_rook
+not_itself taken White Pawn k = rw (gap_self (k % 8))
+not_itself taken Black Pawn k = rw (gap_self (k % 8))
+not_itself taken c Knight k = rw (gap_self (k % 8))
+not_itself taken c Bishop k = let r = reached_self taken in rw (r NorthEast k, r SouthEast k, r SouthWest k, r NorthWest k)
+not_itself taken c Rook k = let r = reached_self taken in rw (r North k, r East k, r South k, r West k)
+not_itself taken c Queen k =
+    let r = reached_self taken in rw (r NorthEast k, r SouthEast k, r SouthWest k, r NorthWest k, r North k, r East k, r South k, r West k)
+not_itself taken c King k = rw (eq-eqb k k refl)
+
+side_back : (c : Colour) → other_side (other_side c) ≡ c
+side_back White = refl
+side_back Black = refl
+
+colour_back : (a b : Colour) → is_colour a b ≡ true → is_colour b a ≡ true
+colour_back White White h = refl
+colour_back White Black h = h
+colour_back Black White h = h
+colour_back Black Black h = refl
+
+other_colour : (by c : Colour) → is_colour by c ≡ true → is_colour (other_side by) c ≡ false
+other_colour White White h = refl
+other_colour White Black h = absurd (cc)
+other_colour Black White h = absurd (cc)
+other_colour Black Black h = refl
+
+king_of : (c : Colour) → is_king_of c (man_of c King) ≡ true
+king_of White = refl
+king_of Black = refl
+
+-- The king of the other side is in check afterwards exactly if the man attacks it from its target.
+check_after : (p : Setup) (k o t : ℕ) (man : Man) → IsSound p → k < 64 → o < 64 → t < 64
+    → man_at p.men k ≡ man_of (other_side p.side) King → man_at p.men o ≡ Some man → is_colour p.side man.colour ≡ true
+    → hits_as (λ s. is_taken p.men s) p.side Queen o k ≡ false
+    → is_in_check (moved p.men o t man) (other_side p.side) ≡ hits_as (λ s. is_taken p.men s) p.side man.kind t k
+check_after p k o t man sound k_on o_on t_on there here own hidden =
+    let c : Colour = other_side p.side in
+    let men : List (Option Man) = moved p.men o t man in
+    let taken : ℕ → Bool = λ s. is_taken p.men s in
+    let alone : (s : ℕ) → s < 64 → is_king_of c (man_at p.men s) ≡ true → s ≡ k = λ s l king. only_king p sound c k s k_on l there king in
+    let king : is_king_of c (man_at p.men k) ≡ true = ap (is_king_of c) there ∙ king_of c in
+    let no_king : is_king_of c (Some man) ≡ false = and_left (is_colour c man.colour) (is_king_kind man.kind) (other_colour p.side man.colour own) in
+    let back : other_side c ≡ p.side = side_back p.side in
+    let safe : is_hit p.men k p.side ≡ false = ap (is_hit p.men k) (sym back) ∙ sym (in_check_at p.men c k k_on there alone) ∙ sound.safe in
+    let hit : is_attacked men k (other_side c) ≡ hits_as taken p.side man.kind t k =
+    attacked_same men k (other_side c) k_on ∙ ap (is_hit men k) back ∙ hit_after p.men o t man sound.squares o_on t_on p.side k own hidden safe in
+    (elim (hits_as taken p.side man.kind t k) as (λ b. hits_as taken p.side man.kind t k ≡ b → is_in_check men c ≡ b) [
+      | true ↦ λ e.
+          let apart : k ≢ t = λ same. both_ways (hits_as taken p.side man.kind k k) (not_itself taken p.side man.kind k)
+          (ap (λ s. hits_as taken p.side man.kind s k) same ∙ e) in
+          let other : k ≢ o = λ same. both_ways (is_king_of c (man_at p.men o)) (ap (is_king_of c) here ∙ no_king)
+          (ap (λ s. is_king_of c (man_at p.men s)) (sym same) ∙ king) in
+          any_at (λ s. is_king_attacked men c s) 64 k k_on
+          (and_from (is_king_of c (man_at men k)) (is_attacked men k (other_side c)) (ap (is_king_of c) (man_stayed p.men o t k man apart other) ∙ king) (hit ∙ e))
+      | false ↦ λ e. any_none (λ s. is_king_attacked men c s) 64
+          (each_moved p.men o t man sound.squares o_on t_on (λ s place. (is_king_of c place && is_attacked men s (other_side c)) ≡ false)
+          (and_left (is_king_of c (Some man)) (is_attacked men t (other_side c)) no_king)
+          (λ s. refl)
+          (λ s l. (elim (is_king_of c (man_at p.men s)) as (λ b. is_king_of c (man_at p.men s) ≡ b → (b && is_attacked men s (other_side c)) ≡ false) [
+            | true ↦ λ king. rw (alone s l king) (hit ∙ e)
+            | false ↦ λ none. refl
+          ]) refl))
+    ]) refl
+
+not_promoted : (man : Man) (promotion : Option Kind) → is_some promotion ≡ false → becomes man promotion ≡ man
+not_promoted man None h = refl
+not_promoted man (Some asked) h = absurd (cc)
+
+-- A move that is not special takes its man from one square to another.
+plainly : (p : Setup) (man : Man) (m : Move) → is_special p man m ≡ false → men_after p man m ≡ moved p.men m.origin m.target man
+plainly p man m plain =
+    let x = or_parts (is_some m.promotion || is_in_passing p man m) (is_castling man m) plain in
+    let y = or_parts (is_some m.promotion) (is_in_passing p man m) x.0 in
+    rw (y.1, x.1) (ap (moved p.men m.origin m.target) (not_promoted man m.promotion y.0))
+
+-- So the sights tell whether it gives check.
+pub plain_check : (p : Setup) (sights : Sights) (man : Man) (m : Move) → IsSightsOf sights p → m.origin < 64 → m.target < 64
+    → man_at p.men m.origin ≡ Some man → is_legal p m ≡ true → has sights.queen m.origin ≡ false → is_special p man m ≡ false
+    → has (squares_of sights man.kind) m.target ≡ gives_check p m
+unfolding gives_check after_setup
+plain_check p sights man m seen o_on t_on there legal hidden plain =
+    let by = played p m legal in
+    let same : by.0 ≡ man = let is = by.1.there in cc in
+    let own : is_colour man.colour p.side ≡ true = ap (λ x. is_colour x.colour p.side) (sym same) ∙ by.1.own in
+    seen.squares man.kind m.target t_on
+    ∙ sym (ap (λ place. is_in_check (after_man p place m).men (after_man p place m).side) there
+    ∙ ap (λ men. is_in_check men (other_side p.side)) (plainly p man m plain)
+    ∙ check_after p seen.square m.origin m.target man seen.sound seen.on_board o_on t_on seen.there there (colour_back man.colour p.side own)
+    (sym (seen.squares Queen m.origin o_on) ∙ hidden))

@@ -1,0 +1,124 @@
+-- A man that is hidden from the king goes: the attacks on the king stay as they were.
+use Rattle.std.proofs.Common.{◌≡◌, ◌≢◌, ℕ, ◌<◌, Bool, true, false, not, ◌&&◌, ◌||◌, List, Option, None, Some, is_some, refl, sym, ap, ◌∙◌, eqb, length, set, get_or-set_same, get_or-set_other, arith}
+use Rattle.std.proofs.lemmas.Bool.{eqb-true, eqb-false, and_parts, and_from, not-true, not_from_false, false_from_ne_true, true_from_ne_false}
+use Rattle.chess_board.specs.declared.men.Colour.{Colour}
+use Rattle.chess_board.specs.declared.men.Kind.{Kind}
+use Rattle.chess_board.specs.declared.men.Kind.TheVariants.{Pawn, Knight, Bishop, Rook, Queen, King}
+use Rattle.chess_board.specs.declared.men.Man.{Man}
+use Rattle.chess_board.specs.Men.{is_colour, is_of}
+use Rattle.chess_board.specs.Positions.{man_at}
+use Rattle.chess_moves.specs.declared.directions.Direction.{Direction}
+use Rattle.chess_moves.specs.declared.directions.Direction.TheVariants.{North, NorthEast, East, SouthEast, South, SouthWest, West, NorthWest}
+use Rattle.chess_moves.specs.Directions.{reaches, is_blocked, toward, reaches_as_bishop, reaches_as_rook}
+use Rattle.chess_moves.specs.Hits.{is_taken, hits_as, place_hits, hits_from}
+use Rattle.chess_moves.proofs.Slides.{blocker_of, blocked_at, reached_before}
+use Rattle.chess_moves.proofs.AttackSets.{slants_back, straight_back}
+
+-- two tests that each give the other
+same_test : (x y : Bool) → (x ≡ true → y ≡ true) → (y ≡ true → x ≡ true) → x ≡ y
+same_test true true f g = refl
+same_test true false f g = let e = f refl in cc
+same_test false true f g = let e = g refl in cc
+same_test false false f g = refl
+
+-- what is not reached in a direction, and lies there, is blocked
+hidden_by : (taken : ℕ → Bool) (d : Direction) (o k : ℕ) → reaches taken d o k ≡ false → toward d o k ≡ true → is_blocked taken d o k ≡ true
+hidden_by taken d o k none line = true_from_ne_false (is_blocked taken d o k) (λ f. let seen : reaches taken d o k ≡ true = rw (line, f) in cc)
+
+four_none : (p q r s : Bool) → (p || q || r || s) ≡ false → (p ≡ false) × (q ≡ false) × (r ≡ false) × (s ≡ false)
+four_none true q r s h = absurd (cc)
+four_none false true r s h = absurd (cc)
+four_none false false true s h = absurd (cc)
+four_none false false false s h = (refl, refl, refl, h)
+
+-- fewer men block less
+reached_more : (taken after : ℕ → Bool) → ((s : ℕ) → s < 64 → after s ≡ true → taken s ≡ true) → (d : Direction) (a k : ℕ)
+    → reaches taken d a k ≡ true → reaches after d a k ≡ true
+reached_more taken after fewer d a k h =
+    let x = and_parts (toward d a k) (not (is_blocked taken d a k)) h in
+    let open_line = not-true (is_blocked taken d a k) x.1 in
+    and_from (toward d a k) (not (is_blocked after d a k)) x.0
+    (not_from_false (is_blocked after d a k) (false_from_ne_true (is_blocked after d a k) (λ e.
+    let s = blocker_of after d a k e in
+    let was = blocked_at taken d a k s.square s.on_board s.behind s.before (fewer s.square s.on_board s.is_taken) in cc)))
+
+-- at most the square o is left
+pub record Leaves (taken after : ℕ → Bool) (o : ℕ) : Type 0 where
+  pub stays : (s : ℕ) → s < 64 → s ≢ o → taken s ≡ true → after s ≡ true
+  pub fewer : (s : ℕ) → s < 64 → after s ≡ true → taken s ≡ true
+
+reached_same : (taken after : ℕ → Bool) (o : ℕ) → Leaves taken after o → (d : Direction) (a k : ℕ)
+    → reaches taken d o k ≡ false → reaches after d a k ≡ reaches taken d a k
+reached_same taken after o h d a k hidden =
+    same_test (reaches after d a k) (reaches taken d a k)
+    (reached_before taken after d a k o h.stays (hidden_by taken d o k hidden)) (reached_more taken after h.fewer d a k)
+
+slants_left : (taken after : ℕ → Bool) (o : ℕ) → Leaves taken after o → (a k : ℕ)
+    → reaches_as_bishop taken o k ≡ false → reaches_as_bishop after a k ≡ reaches_as_bishop taken a k
+unfolding reaches_as_bishop
+slants_left taken after o h a k hidden =
+    let none = four_none (reaches taken NorthEast o k) (reaches taken SouthEast o k) (reaches taken SouthWest o k) (reaches taken NorthWest o k) hidden in
+    let r = reached_same taken after o h in
+    rw (r NorthEast a k none.0, r SouthEast a k none.1, r SouthWest a k none.2, r NorthWest a k none.3)
+
+straight_left : (taken after : ℕ → Bool) (o : ℕ) → Leaves taken after o → (a k : ℕ)
+    → reaches_as_rook taken o k ≡ false → reaches_as_rook after a k ≡ reaches_as_rook taken a k
+unfolding reaches_as_rook
+straight_left taken after o h a k hidden =
+    let none = four_none (reaches taken North o k) (reaches taken East o k) (reaches taken South o k) (reaches taken West o k) hidden in
+    let r = reached_same taken after o h in
+    rw (r North a k none.0, r East a k none.1, r South a k none.2, r West a k none.3)
+
+attacks_left : (taken after : ℕ → Bool) (o : ℕ) → Leaves taken after o → (c : Colour) (kind : Kind) (a k : ℕ)
+    → reaches_as_bishop taken o k ≡ false → reaches_as_rook taken o k ≡ false → hits_as after c kind a k ≡ hits_as taken c kind a k
+attacks_left taken after o h c Pawn a k hs hg = refl
+attacks_left taken after o h c Knight a k hs hg = refl
+attacks_left taken after o h c Bishop a k hs hg = slants_left taken after o h a k hs
+attacks_left taken after o h c Rook a k hs hg = straight_left taken after o h a k hg
+attacks_left taken after o h c Queen a k hs hg = rw (slants_left taken after o h a k hs, straight_left taken after o h a k hg)
+attacks_left taken after o h c King a k hs hg = refl
+
+pub place_left : (taken after : ℕ → Bool) (o : ℕ) → Leaves taken after o → (by : Colour) (place : Option Man) (a k : ℕ)
+    → reaches_as_bishop taken o k ≡ false → reaches_as_rook taken o k ≡ false → place_hits after by place a k ≡ place_hits taken by place a k
+place_left taken after o h by None a k hs hg = refl
+place_left taken after o h by (Some man) a k hs hg = ap (λ x. is_colour by man.colour && x) (attacks_left taken after o h by man.kind a k hs hg)
+
+no_attack : (taken : ℕ → Bool) (by : Colour) (place : Option Man) (a k : ℕ) → is_of by place ≡ false → place_hits taken by place a k ≡ false
+no_attack taken by None a k h = refl
+no_attack taken by (Some man) a k h = ap (λ x. x && hits_as taken by man.kind a k) h
+
+-- A man on a square from which a queen would not see the king goes: each attack on the king stays, and no other comes.
+pub attacks_removed : (men : List (Option Man)) (king origin : ℕ) (by : Colour) (a : ℕ) → length men ≡ 64 → origin < 64 → a < 64
+    → is_of by (man_at men origin) ≡ false
+    → reaches_as_bishop (λ s. is_taken men s) king origin ≡ false → reaches_as_rook (λ s. is_taken men s) king origin ≡ false
+    → hits_from (set men origin None) by a king ≡ hits_from men by a king
+attacks_removed men king origin by a len on l own hs hg =
+    let taken : ℕ → Bool = λ s. is_taken men s in
+    let after : ℕ → Bool = λ s. is_taken (set men origin None) s in
+    let within : origin < length men = omega arith in
+    let gone : man_at (set men origin None) origin ≡ None = get_or_gone within in
+    let leaves : Leaves taken after origin = record {
+      stays = λ s k ne t. ap is_some (others s ne) ∙ t;
+      fewer = λ s k t. (elim (eqb s origin) as (λ b. eqb s origin ≡ b → taken s ≡ true) [
+        | true ↦ λ e.
+            let same = eqb-true s origin e in
+            let none : after s ≡ false = ap (λ q. is_taken (set men origin None) q) same ∙ ap is_some gone in absurd (cc)
+        | false ↦ λ e. sym (ap is_some (others s (eqb-false s origin e))) ∙ t
+      ]) refl;
+    } in
+    (elim (eqb a origin) as (λ b. eqb a origin ≡ b → hits_from (set men origin None) by a king ≡ hits_from men by a king) [
+      | true ↦ λ e.
+          let same = eqb-true a origin e in
+          let here : man_at (set men origin None) a ≡ None = ap (λ q. man_at (set men origin None) q) same ∙ gone in
+          let there : is_of by (man_at men a) ≡ false = ap (λ q. is_of by (man_at men q)) same ∙ own in
+          ap (λ p. place_hits after by p a king) here ∙ sym (no_attack taken by (man_at men a) a king there)
+      | false ↦ λ e.
+          ap (λ p. place_hits after by p a king) (others a (eqb-false a origin e))
+          ∙ place_left taken after origin leaves by (man_at men a) a king (slants_back taken king origin ∙ hs) (straight_back taken king origin ∙ hg)
+    ]) refl
+  where
+    others : (s : ℕ) → s ≢ origin → man_at (set men origin None) s ≡ man_at men s
+    others s ne = rw get_or-set_other refl
+
+    get_or_gone : origin < length men → man_at (set men origin None) origin ≡ None
+    get_or_gone within = rw get_or-set_same refl

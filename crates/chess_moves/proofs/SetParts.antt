@@ -1,0 +1,27 @@
+-- The members of a set, from what is known of the sets that it is made of.
+use Rattle.std.proofs.Common.{◌≡◌, ℕ, ◌^◌, ◌<◌, not, ◌&&◌, ◌||◌, Bool, true, false, eqb, refl, sym, ◌∙◌, w64}
+use Rattle.std.specs.Int.{bit_not}
+use Rattle.std.specs.Int.RustNames.{bit_and, bit_or}
+use Rattle.std.proofs.lemmas.Nat.Bits.{bit_at-zero}
+use Rattle.std.proofs.lemmas.Bool.{eqb-true, eqb-false, eq-eqb, ne_eqb}
+use Rattle.square_sets.specs.Members.{has}
+use Rattle.chess_moves.proofs.SetBits.{has_and, has_or, has_less}
+
+pub part : (a b t : ℕ) (p q : Bool) → has a t ≡ p → has b t ≡ q → has (bit_and a b) t ≡ (p && q)
+part a b t p q ea eb = rw (has_and a b t, ea, eb)
+
+pub joined : (a b t : ℕ) (p q : Bool) → has a t ≡ p → has b t ≡ q → has (bit_or a b) t ≡ (p || q)
+joined a b t p q ea eb = rw (has_or a b t, ea, eb)
+
+pub parted : (a b t : ℕ) (p q : Bool) → b < 2 ^ 64 → t < 64 → has a t ≡ p → has b t ≡ q → has (bit_and a (bit_not w64 b)) t ≡ (p && not q)
+parted a b t p q fits l ea eb = rw (has_less a b t fits l, ea, eb)
+
+pub has_none : (set u : ℕ) → set ≡ 0 → has set u ≡ false
+has_none set u e = rw e (rw (bit_at-zero u))
+
+-- the set of one square
+pub only_one : (s t : ℕ) → (eqb t s || has 0 t) ≡ eqb s t
+only_one s t = (elim (eqb t s) as (λ b. eqb t s ≡ b → (b || has 0 t) ≡ eqb s t) [
+  | true ↦ λ e. sym (eq-eqb s t (sym (eqb-true t s e)))
+  | false ↦ λ e. has_none 0 t refl ∙ sym (ne_eqb s t (λ same. eqb-false t s e (sym same)))
+]) refl

@@ -1,0 +1,13 @@
+use Rattle.std.proofs.Common.{ℕ, not, ◌&&◌, ◌∙◌, ap}
+use Rattle.square_sets.specs.Members.{has}
+use Rattle.chess_moves.specs.Hits.{hits_from}
+use Rattle.chess_moves.specs.Scenes.{gets_through}
+use Rattle.chess_moves.proofs.AnyLemmas.{any_same}
+use Rattle.chess_moves.proofs.guards.answers_to_check.Goals as goal
+
+pub returns : goal.returns
+returns c = λ men stands sets t on.
+    let k : ℕ = c.args.king in
+    c.keeping_from.ensures t on
+    ∙ ap not (any_same (λ a. has c.attackers-checkers.result a && gets_through a k t) (λ a. hits_from men c.args.by a k && gets_through a k t) 64
+    (λ a l. ap (λ x. x && gets_through a k t) (c.attackers-checkers.ensures men stands sets a l)))

@@ -1,0 +1,27 @@
+use Rattle.std.proofs.Common.{◌≡◌, bit_and, ap, ◌∙◌}
+use Rattle.square_sets.specs.Members.{has}
+use Rattle.chess_board.specs.Men.{other_side}
+use Rattle.chess_board.specs.After.{becomes}
+use Rattle.chess_moves.proofs.SetBits.{has_and, has_or}
+use Rattle.chess_moves.proofs.OwnColours.{other_colour, own_not_other}
+use Rattle.chess_moves.proofs.OtherMen.{becomes_colour}
+use Rattle.chess_moves.proofs.PawnTargets.{pawn_goes_safely}
+use Rattle.chess_moves.proofs.KeptWays.{targets_where_safe}
+use Rattle.chess_moves.proofs.targets.targets_of_pawn.Goals as goal
+
+pub returns : goal.returns
+returns c =
+    let p = c.args.position.now in
+    let man = c.args.man in
+    let o = c.args.origin in
+    let r = c.requires in
+    let h = c.requires.scene in
+    let plain = c.pawn_targets.result in
+    let free = c.allowed_from-allowed.result in
+    let by : c.other.result ≡ other_side p.side = c.other.ensures ∙ ap other_side h.side in
+    let allowed = rw by at c.allowed_from-allowed.ensures in
+    targets_where_safe p man o _ r.there r.own (λ t x on suited.
+    let own = other_colour (becomes man x).colour p.side (becomes_colour man x ∙ r.own) in
+    let safe = allowed p.men (becomes man x) h.sound.squares h.occupied h.enemy (own_not_other p man o r.there r.own) own h.answers t on in
+    rw (has_or (bit_and plain free) c.safe_in_passing.result t, has_and plain free t, c.pawn_targets.ensures t on, c.safe_in_passing.ensures t on)
+    (pawn_goes_safely c.args.scene.now p man o t x (has free t) h r.there r.own r.pawn suited safe))

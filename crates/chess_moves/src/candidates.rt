@@ -1,0 +1,169 @@
+//! Where the rules let a man go, whatever becomes of its king, as sets of squares (FIDE Laws of Chess, articles 3.1 to 3.8).
+
+ghost use Rattle.std.specs.Prelude.{◌≡◌, ℕ, ◌<◌, ◌||◌};
+ghost use Rattle.square_sets.specs.Members.{has};
+ghost use Rattle.chess_board.specs.declared.men.Kind.TheVariants as kind;
+ghost use Rattle.chess_board.specs.Positions.{Setup};
+ghost use Rattle.chess_board.specs.Men.{other_side, king_home as king_home_of, rook_home as rook_home_of};
+ghost use Rattle.chess_board.specs.Attacks.{is_attacked};
+ghost use Rattle.chess_board.specs.Candidates.{steps_once, steps_twice, takes, takes_in_passing, piece_goes, king_goal as king_goal_of, castles_to, castles};
+ghost use Rattle.chess_moves.specs.Hits.{hits_as};
+ghost use Rattle.chess_moves.specs.Scenes.{IsSceneOf};
+
+use crate::directions::Leap;
+use crate::forces::is_hit_over;
+use crate::rays::Rays;
+use crate::scenes::Scene;
+use chess_board::{Colour, Kind, Man, Position, Wing};
+
+/// What a man attacks, among the squares that are taken.
+pub(crate) fn attacks_of(rays: &Rays, occupied: u64, man: Man, origin: u8) -> u64
+    requires { origin < 64 }
+    ensures { (t : ℕ) → t < 64 → has result t ≡ hits_as (has occupied) man.colour man.kind origin t }
+{
+    match man.kind {
+        Kind::Pawn => rays.leap(origin, Leap::capture_of(man.colour)),
+        Kind::Knight => rays.leap(origin, Leap::KnightLeap),
+        Kind::Bishop => rays.bishop_reach(origin, occupied),
+        Kind::Rook => rays.rook_reach(origin, occupied),
+        Kind::Queen => rays.bishop_reach(origin, occupied) | rays.rook_reach(origin, occupied),
+        Kind::King => rays.leap(origin, Leap::KingStep),
+    }
+}
+
+/// Where a man goes that is no pawn, castling aside: what it attacks, but not to a man of its own.
+pub(crate) fn piece_targets(
+    rays: &Rays,
+    position: &Position,
+    scene: &Scene,
+    man: Man,
+    origin: u8,
+) -> u64
+    requires on_board { origin < 64 }
+    requires scene { IsSceneOf scene.now position.now }
+    requires own { man.colour ≡ position.now.side }
+    ensures { (t : ℕ) → t < 64 → has result t ≡ piece_goes position.now man.colour man.kind origin t }
+{
+    attacks_of(rays, scene.occupied, man, origin) & !scene.own
+}
+
+/// Where a pawn goes, a capture en passant aside: one step, two steps, and the enemies that it attacks.
+pub(crate) fn pawn_targets(
+    rays: &Rays,
+    position: &Position,
+    scene: &Scene,
+    man: Man,
+    origin: u8,
+) -> u64
+    requires on_board { origin < 64 }
+    requires scene { IsSceneOf scene.now position.now }
+    requires own { man.colour ≡ position.now.side }
+    requires pawn { man.kind ≡ kind.Pawn }
+    ensures { (t : ℕ) → t < 64 → has result t
+        ≡ (steps_once position.now.men man.colour origin t || steps_twice position.now.men man.colour origin t
+        || takes position.now.men man.colour kind.Pawn origin t) }
+{
+    let captures = rays.leap(origin, Leap::capture_of(man.colour)) & scene.occupied & !scene.own;
+    let step = rays.leap(origin, Leap::step_of(man.colour)) & !scene.occupied;
+    if step == 0 {
+        return captures;
+    }
+    let double = rays.leap(origin, Leap::double_of(man.colour)) & !scene.occupied;
+    step | double | captures
+}
+
+/// Where a pawn captures en passant: one square at most.
+pub(crate) fn passing_targets(rays: &Rays, position: &Position, man: Man, origin: u8) -> u64
+    requires on_board { origin < 64 }
+    requires pawn { man.kind ≡ kind.Pawn }
+    ensures { (t : ℕ) → t < 64 → has result t ≡ takes_in_passing position.now man.colour origin t }
+{
+    match position.ep_target() {
+        Some(target) => {
+            let captures = rays.leap(origin, Leap::capture_of(man.colour));
+            captures & square_sets::with(0, target.index() as u8)
+        }
+        None => 0,
+    }
+}
+
+/// Where the king stands before it castles.
+fn king_home(colour: Colour) -> u8
+    ensures { result ≡ king_home_of colour }
+{
+    match colour {
+        Colour::White => 4,
+        Colour::Black => 60,
+    }
+}
+
+/// Where the rook stands before it castles.
+fn rook_home(colour: Colour, wing: Wing) -> u8
+    ensures { result ≡ rook_home_of colour wing }
+{
+    match (colour, wing) {
+        (Colour::White, Wing::KingSide) => 7,
+        (Colour::White, Wing::QueenSide) => 0,
+        (Colour::Black, Wing::KingSide) => 63,
+        (Colour::Black, Wing::QueenSide) => 56,
+    }
+}
+
+/// Where a king goes that castles.
+fn king_goal(colour: Colour, wing: Wing) -> u8
+    ensures { result ≡ king_goal_of colour wing }
+{
+    match (colour, wing) {
+        (Colour::White, Wing::KingSide) => 6,
+        (Colour::White, Wing::QueenSide) => 2,
+        (Colour::Black, Wing::KingSide) => 62,
+        (Colour::Black, Wing::QueenSide) => 58,
+    }
+}
+
+/// Whether a man of the other side attacks a square.
+fn is_attacked_in(rays: &Rays, scene: &Scene, square: u8) -> bool
+    requires { square < 64 }
+    ensures { (p : Setup) → IsSceneOf scene.now p → result ≡ is_attacked p.men square (other_side p.side) }
+{
+    is_hit_over(
+        rays,
+        scene.occupied,
+        &scene.enemy,
+        scene.side.other(),
+        square,
+    )
+}
+
+/// Where the king goes when it castles on a wing: one square, or none.
+fn castling_target(rays: &Rays, position: &Position, scene: &Scene, wing: Wing) -> u64
+    requires scene { IsSceneOf scene.now position.now }
+    ensures { (t : ℕ) → t < 64 → has result t ≡ castles_to position.now position.now.side wing scene.now.king t }
+{
+    let home = king_home(scene.side);
+    if scene.king != home || !position.has_right(scene.side, wing) {
+        return 0;
+    }
+    let between = rays.between(home, rook_home(scene.side, wing));
+    if between & scene.occupied != 0 {
+        return 0;
+    }
+    let goal = king_goal(scene.side, wing);
+    let crossed = (home + goal) / 2;
+    if is_attacked_in(rays, scene, home)
+        || is_attacked_in(rays, scene, crossed)
+        || is_attacked_in(rays, scene, goal)
+    {
+        return 0;
+    }
+    square_sets::with(0, goal)
+}
+
+/// Where the king goes when it castles: two squares at most.
+pub(crate) fn castling_targets(rays: &Rays, position: &Position, scene: &Scene) -> u64
+    requires scene { IsSceneOf scene.now position.now }
+    ensures { (t : ℕ) → t < 64 → has result t ≡ castles position.now position.now.side scene.now.king t }
+{
+    castling_target(rays, position, scene, Wing::KingSide)
+        | castling_target(rays, position, scene, Wing::QueenSide)
+}

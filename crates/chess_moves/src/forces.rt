@@ -1,0 +1,107 @@
+//! One side's men as sets of squares, and what they attack.
+
+ghost use Rattle.std.specs.Prelude.{◌≡◌, ℕ, ◌<◌, ◌&&◌, List, Option, is_some};
+ghost use Rattle.square_sets.specs.Members.{has};
+ghost use Rattle.chess_board.specs.declared.men.Man.{Man as ManValue};
+ghost use Rattle.chess_board.specs.declared.men.Colour.{Colour as ColourValue};
+ghost use Rattle.chess_board.specs.Men.{is_of};
+ghost use Rattle.chess_board.specs.Sets.{IsSetOf};
+ghost use Rattle.chess_moves.specs.Directions.{reaches, reaches_as_bishop, reaches_as_rook};
+ghost use Rattle.chess_moves.specs.Hits.{hits_from, is_hit};
+ghost use Rattle.chess_moves.specs.Forces.{StandFor};
+
+use crate::directions::{Direction, Leap};
+use crate::rays::Rays;
+use chess_board::{Colour, Kind, Position};
+
+/// One side's men, as sets of squares: a queen stands in `diagonal` and in `straight`.
+#[derive(Clone, Copy, Debug)]
+pub(crate) struct Force {
+    pub pawns: u64,
+    pub knights: u64,
+    pub diagonal: u64,
+    pub straight: u64,
+    pub king: u64,
+}
+
+/// A colour's men in a position.
+pub(crate) fn force_of(position: &Position, colour: Colour) -> Force
+    ensures { StandFor result colour position.now.men }
+{
+    let queens = position.men(colour, Kind::Queen);
+    Force {
+        pawns: position.men(colour, Kind::Pawn),
+        knights: position.men(colour, Kind::Knight),
+        diagonal: position.men(colour, Kind::Bishop) | queens,
+        straight: position.men(colour, Kind::Rook) | queens,
+        king: position.men(colour, Kind::King),
+    }
+}
+
+/// The squares of a force's men.
+pub(crate) fn all_of(force: &Force) -> u64
+    ensures { (men : List (Option ManValue)) (by : ColourValue) → StandFor force.now by men → IsSetOf result (is_of by) men }
+{
+    force.pawns | force.knights | force.diagonal | force.straight | force.king
+}
+
+/// The sliders that see a square along one of its rays. A ray with none of them on it is not scanned.
+fn attackers_along(
+    rays: &Rays,
+    occupied: u64,
+    sliders: u64,
+    square: u8,
+    direction: Direction,
+) -> u64
+    requires { square < 64 }
+    ensures { (t : ℕ) → t < 64 → has result t ≡ (has sliders t && reaches (has occupied) direction square t) }
+{
+    if sliders & rays.ray(square, direction) == 0 {
+        return 0;
+    }
+    sliders & rays.reach(square, direction, occupied)
+}
+
+/// The sliders that see a square as bishops do.
+fn diagonal_attackers(rays: &Rays, occupied: u64, sliders: u64, square: u8) -> u64
+    requires { square < 64 }
+    ensures { (t : ℕ) → t < 64 → has result t ≡ (has sliders t && reaches_as_bishop (has occupied) square t) }
+{
+    attackers_along(rays, occupied, sliders, square, Direction::NorthEast)
+        | attackers_along(rays, occupied, sliders, square, Direction::SouthEast)
+        | attackers_along(rays, occupied, sliders, square, Direction::SouthWest)
+        | attackers_along(rays, occupied, sliders, square, Direction::NorthWest)
+}
+
+/// The sliders that see a square as rooks do.
+fn straight_attackers(rays: &Rays, occupied: u64, sliders: u64, square: u8) -> u64
+    requires { square < 64 }
+    ensures { (t : ℕ) → t < 64 → has result t ≡ (has sliders t && reaches_as_rook (has occupied) square t) }
+{
+    attackers_along(rays, occupied, sliders, square, Direction::North)
+        | attackers_along(rays, occupied, sliders, square, Direction::East)
+        | attackers_along(rays, occupied, sliders, square, Direction::South)
+        | attackers_along(rays, occupied, sliders, square, Direction::West)
+}
+
+/// The squares from which men of a colour attack a square, on whatever board these sets stand for.
+pub(crate) fn attackers(rays: &Rays, occupied: u64, force: &Force, by: Colour, square: u8) -> u64
+    requires { square < 64 }
+    ensures { (men : List (Option ManValue)) → IsSetOf occupied is_some men → StandFor force.now by men
+        → (s : ℕ) → s < 64 → has result s ≡ hits_from men by s square }
+{
+    force.pawns & rays.leap(square, Leap::capture_back(by))
+        | force.knights & rays.leap(square, Leap::KnightLeap)
+        | diagonal_attackers(rays, occupied, force.diagonal, square)
+        | straight_attackers(rays, occupied, force.straight, square)
+        | force.king & rays.leap(square, Leap::KingStep)
+}
+
+/// Whether a man of the colour attacks a square, on whatever board these sets stand for.
+pub(crate) fn is_hit_over(rays: &Rays, occupied: u64, force: &Force, by: Colour, square: u8) -> bool
+    requires { square < 64 }
+    ensures { (men : List (Option ManValue)) → IsSetOf occupied is_some men → StandFor force.now by men
+        → result ≡ is_hit men square by }
+{
+    attackers(rays, occupied, force, by, square) != 0
+}

@@ -1,0 +1,232 @@
+//! The tables: the rays and the leaps from each square.
+
+ghost use Rattle.std.specs.Prelude.{◌≡◌, ℕ, ◌<◌};
+ghost use Rattle.square_sets.specs.Members.{has};
+ghost use Rattle.chess_board.specs.Squares.{gap};
+ghost use Rattle.chess_moves.specs.Directions.{toward, reaches, reaches_as_bishop, reaches_as_rook, stands_between, RaysInOrder};
+ghost use Rattle.chess_moves.specs.Leaps.{leaps};
+ghost use Rattle.chess_moves.specs.Rays.{AreRaysFrom, AreLeapsFrom, AreRays};
+
+use crate::directions::{Direction, Leap};
+use std::marker::Model;
+
+/// Whether b lies in a direction from a.
+#[tactic(auto, unfolding(crate::specs::Directions::toward))]
+fn is_toward(direction: Direction, a: u8, b: u8) -> bool
+    ensures { result ≡ toward direction a b }
+{
+    let (a_file, a_rank) = (a % 8, a / 8);
+    let (b_file, b_rank) = (b % 8, b / 8);
+    match direction {
+        Direction::North => a_file == b_file && a_rank < b_rank,
+        Direction::NorthEast => a_file + b_rank == b_file + a_rank && a_rank < b_rank,
+        Direction::East => a_rank == b_rank && a_file < b_file,
+        Direction::SouthEast => b_file + b_rank == a_file + a_rank && b_rank < a_rank,
+        Direction::South => b_file == a_file && b_rank < a_rank,
+        Direction::SouthWest => b_file + a_rank == a_file + b_rank && b_rank < a_rank,
+        Direction::West => b_rank == a_rank && b_file < a_file,
+        Direction::NorthWest => a_file + a_rank == b_file + b_rank && a_rank < b_rank,
+    }
+}
+
+/// The squares in a direction from a square.
+fn ray_from(square: u8, direction: Direction) -> u64
+    requires { square < 64 }
+    ensures { (t : ℕ) → t < 64 → has result t ≡ toward direction square t }
+{
+    let mut set = 0;
+    for t in 0..64u8 {
+        if is_toward(direction, square, t) {
+            set = square_sets::with(set, t);
+        }
+    }
+    set
+}
+
+/// The eight rays from a square, in the order of the directions.
+fn rays_from(square: u8) -> [u64; 8]
+    requires { square < 64 }
+    ensures { AreRaysFrom square result }
+{
+    [
+        ray_from(square, Direction::North),
+        ray_from(square, Direction::NorthEast),
+        ray_from(square, Direction::East),
+        ray_from(square, Direction::SouthEast),
+        ray_from(square, Direction::South),
+        ray_from(square, Direction::SouthWest),
+        ray_from(square, Direction::West),
+        ray_from(square, Direction::NorthWest),
+    ]
+}
+
+/// How far apart two files, or two ranks, are.
+fn gap_of(a: u8, b: u8) -> u8
+    ensures { result ≡ gap a b }
+{
+    a.abs_diff(b)
+}
+
+/// Whether a leap from a goes to b.
+#[tactic(auto, unfolding(crate::specs::Leaps::leaps))]
+fn is_leap(leap: Leap, a: u8, b: u8) -> bool
+    requires { (a < 64) × (b < 64) }
+    ensures { result ≡ leaps leap a b }
+{
+    let (a_rank, b_rank) = (a / 8, b / 8);
+    let files = gap_of(a % 8, b % 8);
+    let ranks = gap_of(a_rank, b_rank);
+    let one_file = a % 8 == b % 8;
+    match leap {
+        Leap::KnightLeap => files == 1 && ranks == 2 || files == 2 && ranks == 1,
+        Leap::KingStep => a != b && files <= 1 && ranks <= 1,
+        Leap::WhiteCapture => files == 1 && b_rank == a_rank + 1,
+        Leap::BlackCapture => files == 1 && a_rank == b_rank + 1,
+        Leap::WhiteStep => b_rank == a_rank + 1 && one_file,
+        Leap::BlackStep => a_rank == b_rank + 1 && one_file,
+        Leap::WhiteDouble => b_rank == a_rank + 2 && one_file && a_rank == 1,
+        Leap::BlackDouble => a_rank == b_rank + 2 && one_file && a_rank == 6,
+    }
+}
+
+/// The squares to which a leap goes from a square.
+fn leap_from(square: u8, leap: Leap) -> u64
+    requires { square < 64 }
+    ensures { (t : ℕ) → t < 64 → has result t ≡ leaps leap square t }
+{
+    let mut set = 0;
+    for t in 0..64u8 {
+        if is_leap(leap, square, t) {
+            set = square_sets::with(set, t);
+        }
+    }
+    set
+}
+
+/// The targets of the eight leaps from a square, in their order.
+fn leaps_from(square: u8) -> [u64; 8]
+    requires { square < 64 }
+    ensures { AreLeapsFrom square result }
+{
+    [
+        leap_from(square, Leap::KnightLeap),
+        leap_from(square, Leap::KingStep),
+        leap_from(square, Leap::WhiteCapture),
+        leap_from(square, Leap::BlackCapture),
+        leap_from(square, Leap::WhiteStep),
+        leap_from(square, Leap::BlackStep),
+        leap_from(square, Leap::WhiteDouble),
+        leap_from(square, Leap::BlackDouble),
+    ]
+}
+
+/// For each square its eight rays and the targets of its leaps: made once for a program, and passed by reference to each
+/// question about moves.
+#[derive(Clone, Debug, Drop)]
+pub struct Rays {
+    rays: [[u64; 8]; 64],
+    leaps: [[u64; 8]; 64],
+}
+
+impl Model for Rays {
+    ghost use Rattle.chess_moves.specs.Rays.{Tables, AreRays};
+
+    ghost Value = { Tables };
+
+    ghost view = { λ r. record { rays = r.rays; leaps = r.leaps } };
+
+    ghost invariant = { λ r. AreRays (record { rays = r.rays; leaps = r.leaps }) };
+
+    ghost inverse = { λ v. record { rays = v.rays; leaps = v.leaps } };
+}
+
+impl Rays {
+    /// Makes the tables.
+    pub fn new() -> Rays
+        ensures { AreRays result }
+    {
+        let mut rays = [[0; 8]; 64];
+        let mut leaps = [[0; 8]; 64];
+        for square in 0..64u8 {
+            rays[square as usize] = rays_from(square);
+            leaps[square as usize] = leaps_from(square);
+        }
+        Rays { rays, leaps }
+    }
+
+    /// The squares that lie in a direction from a square.
+    pub(crate) fn ray(&self, square: u8, direction: Direction) -> u64
+        requires { square < 64 }
+        ensures { (t : ℕ) → t < 64 → has result t ≡ toward direction square t }
+    {
+        self.rays[square as usize][direction as usize]
+    }
+
+    /// The squares to which a leap goes from a square.
+    pub(crate) fn leap(&self, square: u8, leap: Leap) -> u64
+        requires { square < 64 }
+        ensures { (t : ℕ) → t < 64 → has result t ≡ leaps leap square t }
+    {
+        self.leaps[square as usize][leap as usize]
+    }
+
+    /// What a man on the square sees in a direction, the first square that is taken included.
+    pub(crate) fn reach(&self, square: u8, direction: Direction, occupied: u64) -> u64
+        requires { square < 64 }
+        ensures { (t : ℕ) → t < 64 → has result t ≡ reaches (has occupied) direction square t }
+    {
+        let ray = self.ray(square, direction);
+        let blockers = ray & occupied;
+        if blockers == 0 {
+            return ray;
+        }
+        let first = if direction.rises() {
+            blockers.trailing_zeros()
+        } else {
+            63 - blockers.leading_zeros()
+        };
+        ray & !self.ray(first as u8, direction)
+    }
+
+    /// What a bishop on the square sees.
+    pub(crate) fn bishop_reach(&self, square: u8, occupied: u64) -> u64
+        requires { square < 64 }
+        ensures { (t : ℕ) → t < 64 → has result t ≡ reaches_as_bishop (has occupied) square t }
+    {
+        self.reach(square, Direction::NorthEast, occupied)
+            | self.reach(square, Direction::SouthEast, occupied)
+            | self.reach(square, Direction::SouthWest, occupied)
+            | self.reach(square, Direction::NorthWest, occupied)
+    }
+
+    /// What a rook on the square sees.
+    pub(crate) fn rook_reach(&self, square: u8, occupied: u64) -> u64
+        requires { square < 64 }
+        ensures { (t : ℕ) → t < 64 → has result t ≡ reaches_as_rook (has occupied) square t }
+    {
+        self.reach(square, Direction::North, occupied)
+            | self.reach(square, Direction::East, occupied)
+            | self.reach(square, Direction::South, occupied)
+            | self.reach(square, Direction::West, occupied)
+    }
+
+    /// The squares strictly between two squares of one line, or none.
+    pub(crate) fn between(&self, a: u8, b: u8) -> u64
+        requires { (a < 64) × (b < 64) }
+        ensures { (t : ℕ) → t < 64 → has result t ≡ stands_between a b t }
+    {
+        self.ray(a, Direction::North) & self.ray(b, Direction::South)
+            | self.ray(a, Direction::NorthEast) & self.ray(b, Direction::SouthWest)
+            | self.ray(a, Direction::East) & self.ray(b, Direction::West)
+            | self.ray(a, Direction::SouthEast) & self.ray(b, Direction::NorthWest)
+            | self.ray(a, Direction::South) & self.ray(b, Direction::North)
+            | self.ray(a, Direction::SouthWest) & self.ray(b, Direction::NorthEast)
+            | self.ray(a, Direction::West) & self.ray(b, Direction::East)
+            | self.ray(a, Direction::NorthWest) & self.ray(b, Direction::SouthEast)
+    }
+}
+
+/// The squares of a ray, in order outwards, are those of its set by their numbers, rising or falling.
+pub fn rays_in_order()
+    ensures { RaysInOrder }
+{}

@@ -1,0 +1,176 @@
+//! The targets of a man's legal moves, as a set of squares: none of them is made.
+
+ghost use Rattle.std.specs.Prelude.{◌≡◌, ℕ, ◌<◌, true, false, not, ◌&&◌, Some, None};
+ghost use Rattle.square_sets.specs.Members.{has};
+ghost use Rattle.chess_board.specs.declared.men.Kind.TheVariants as kind;
+ghost use Rattle.chess_board.specs.Positions.{Setup, man_at};
+ghost use Rattle.chess_board.specs.Men.{is_king_kind, is_pawn_kind, rook_home as rook_home_of};
+ghost use Rattle.chess_board.specs.Attacks.{is_in_check};
+ghost use Rattle.chess_board.specs.Candidates.{goes, takes_in_passing};
+ghost use Rattle.chess_board.specs.After.{cleared, moved, passed_pawn, wing_of, men_after};
+ghost use Rattle.chess_moves.specs.Listing.{move_of};
+ghost use Rattle.chess_moves.specs.Scenes.{IsSceneOf};
+ghost use Rattle.chess_moves.specs.Targets.{AreTargets};
+
+use crate::candidates::{castling_targets, passing_targets, pawn_targets, piece_targets};
+use crate::guards::{allowed_from, is_safe_after, is_safe_castled, is_safe_in_passing};
+use crate::rays::Rays;
+use crate::scenes::Scene;
+use chess_board::{Colour, Kind, Man, Position};
+use square_sets::with;
+
+/// The targets of the legal moves of a man of the side to move.
+pub(crate) fn targets_from(
+    rays: &Rays,
+    position: &Position,
+    scene: &Scene,
+    man: Man,
+    origin: u8,
+) -> u64
+    requires on_board { origin < 64 }
+    requires scene { IsSceneOf scene.now position.now }
+    requires there { man_at position.now.men origin ≡ Some man }
+    requires own { man.colour ≡ position.now.side }
+    ensures { AreTargets result position.now man origin }
+{
+    match man.kind {
+        Kind::Pawn => targets_of_pawn(rays, position, scene, man, origin),
+        Kind::King => targets_of_king(rays, position, scene, man, origin),
+        Kind::Knight | Kind::Bishop | Kind::Rook | Kind::Queen => {
+            targets_of_piece(rays, position, scene, man, origin)
+        }
+    }
+}
+
+/// The same for a knight, a bishop, a rook or a queen.
+fn targets_of_piece(rays: &Rays, position: &Position, scene: &Scene, man: Man, origin: u8) -> u64
+    requires on_board { origin < 64 }
+    requires scene { IsSceneOf scene.now position.now }
+    requires there { man_at position.now.men origin ≡ Some man }
+    requires own { man.colour ≡ position.now.side }
+    requires no_pawn { is_pawn_kind man.kind ≡ false }
+    requires no_king { is_king_kind man.kind ≡ false }
+    ensures { AreTargets result position.now man origin }
+{
+    let allowed = allowed_from(
+        rays,
+        scene.occupied,
+        &scene.enemy,
+        scene.side.other(),
+        scene.king,
+        scene.nearest,
+        scene.answers,
+        origin,
+    );
+    piece_targets(rays, position, scene, man, origin) & allowed
+}
+
+/// The same for a pawn.
+fn targets_of_pawn(rays: &Rays, position: &Position, scene: &Scene, man: Man, origin: u8) -> u64
+    requires on_board { origin < 64 }
+    requires scene { IsSceneOf scene.now position.now }
+    requires there { man_at position.now.men origin ≡ Some man }
+    requires own { man.colour ≡ position.now.side }
+    requires pawn { man.kind ≡ kind.Pawn }
+    ensures { AreTargets result position.now man origin }
+{
+    let allowed = allowed_from(
+        rays,
+        scene.occupied,
+        &scene.enemy,
+        scene.side.other(),
+        scene.king,
+        scene.nearest,
+        scene.answers,
+        origin,
+    );
+    pawn_targets(rays, position, scene, man, origin) & allowed
+        | safe_in_passing(rays, position, scene, man, origin)
+}
+
+/// Where the pawn captures en passant so that its king is safe afterwards: one square at most.
+fn safe_in_passing(rays: &Rays, position: &Position, scene: &Scene, man: Man, origin: u8) -> u64
+    requires on_board { origin < 64 }
+    requires scene { IsSceneOf scene.now position.now }
+    requires there { man_at position.now.men origin ≡ Some man }
+    requires own { man.colour ≡ position.now.side }
+    requires pawn { man.kind ≡ kind.Pawn }
+    ensures { (t : ℕ) → t < 64 → has result t ≡ (takes_in_passing position.now man.colour origin t
+        && not (is_in_check (cleared (moved position.now.men origin t man) (passed_pawn origin t)) position.now.side)) }
+{
+    let passing = passing_targets(rays, position, man, origin);
+    if passing == 0 {
+        return 0;
+    }
+    let target = passing.trailing_zeros() as u8;
+    let passed = 8 * (origin / 8) + target % 8;
+    if is_safe_in_passing(
+        rays,
+        scene.occupied,
+        &scene.enemy,
+        scene.side.other(),
+        scene.king,
+        origin,
+        target,
+        passed,
+    ) {
+        passing
+    } else {
+        0
+    }
+}
+
+/// The same for the king. Each square is asked about by itself, since the king may step along the line of an attack.
+fn targets_of_king(rays: &Rays, position: &Position, scene: &Scene, man: Man, origin: u8) -> u64
+    requires on_board { origin < 64 }
+    requires scene { IsSceneOf scene.now position.now }
+    requires there { man_at position.now.men origin ≡ Some man }
+    requires own { man.colour ≡ position.now.side }
+    requires king { man.kind ≡ kind.King }
+    ensures { AreTargets result position.now man origin }
+{
+    let goals = piece_targets(rays, position, scene, man, origin)
+        | castling_targets(rays, position, scene);
+    let mut safe = 0;
+    let mut rest = goals;
+    while rest != 0 {
+        let target = rest.trailing_zeros() as u8;
+        if is_king_safe(rays, scene, target) {
+            safe = with(safe, target);
+        }
+        rest &= !(1 << target);
+    }
+    safe
+}
+
+/// Whether the king is safe where it goes, by a step or by castling.
+fn is_king_safe(rays: &Rays, scene: &Scene, target: u8) -> bool
+    requires { (scene.now.king < 64) × (target < 64) }
+    ensures { (p : Setup) → IsSceneOf scene.now p → goes p p.side kind.King scene.now.king target ≡ true
+        → result ≡ not (is_in_check (men_after p (record { colour = p.side; kind = kind.King }) (move_of scene.now.king target None)) p.side) }
+{
+    let by = scene.side.other();
+    let enemy = &scene.enemy;
+    let occupied = scene.occupied;
+    let origin = scene.king;
+    if (origin % 8).abs_diff(target % 8) == 2 {
+        let home = rook_home(scene.side, origin, target);
+        let crossed = (origin + target) / 2;
+        is_safe_castled(rays, occupied, enemy, by, origin, target, home, crossed)
+    } else {
+        is_safe_after(rays, occupied, enemy, by, target, origin, target)
+    }
+}
+
+/// The square of the rook with which a king castles that goes to the target.
+fn rook_home(colour: Colour, king: u8, target: u8) -> u8
+    ensures home { result ≡ rook_home_of colour (wing_of king target) }
+    ensures on_board { result < 64 }
+{
+    match (colour, king < target) {
+        (Colour::White, true) => 7,
+        (Colour::White, false) => 0,
+        (Colour::Black, true) => 63,
+        (Colour::Black, false) => 56,
+    }
+}

@@ -1,0 +1,32 @@
+//! Sets of squares, as words of 64 bits: bit i stands for the square of number i, a1 for 0 and h8 for 63.
+//!
+//! What stands on the squares is none of this crate's business. `specs/Members.antt` says when a square is in a set. No call
+//! takes memory.
+#![tactic(auto)]
+
+ghost use Rattle.std.specs.Prelude.{◌≡◌, ℕ, ◌<◌, ◌==◌, ◌||◌, ◌&&◌, not};
+ghost use Rattle.square_sets.specs.Members.{has};
+
+/// Whether a square is in a set.
+pub fn contains(set: u64, square: u8) -> bool
+    requires { square < 64 }
+    ensures { result ≡ has set square }
+{
+    set >> square & 1 == 1
+}
+
+/// A set with one square more.
+pub fn with(set: u64, square: u8) -> u64
+    requires { square < 64 }
+    ensures { (s : ℕ) → s < 64 → has result s ≡ (s == square || has set s) }
+{
+    set | 1 << square
+}
+
+/// A set without a square.
+pub fn without(set: u64, square: u8) -> u64
+    requires { square < 64 }
+    ensures { (s : ℕ) → s < 64 → has result s ≡ (not (s == square) && has set s) }
+{
+    set & !(1 << square)
+}
