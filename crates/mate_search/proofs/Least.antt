@@ -81,3 +81,7 @@ module _ (first : List Move) (p : Setup) where
       let s : (n - 1) + 1 ≡ n = omega (arith, least.0) in
       let none = none_dist (n - 1) (λ k l. least.3 k (omega (arith, least.0))) in
       rw s at (dist_found (n - 1) b none (rw s least.2) (omega (arith, least.0, least.1)))
+
+  -- Where none is found within k, none is within fewer.
+  pub dist_fewer : (b k : ℕ) → b ≤ k → dist first p k ≡ None → dist first p b ≡ None
+  dist_fewer b k h e = none_dist b (λ j l. dist_none k e j (omega arith))

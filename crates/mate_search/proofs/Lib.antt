@@ -7,3 +7,4 @@ pub mod Readings
 pub mod MoveOrder
 pub mod InputLines
 pub mod InputReplies
+pub mod Known

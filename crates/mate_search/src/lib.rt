@@ -9,6 +9,7 @@
 //! `specs/Replies.antt` and `replies`. `solve` takes no memory.
 #![tactic(auto)]
 
+mod entries;
 mod laws;
 mod lines;
 mod memo;

@@ -5,6 +5,7 @@ ghost use Rattle.arrayvec.specs.ArrayVec.{array_vec_len};
 ghost use Rattle.chess_board.specs.Legality.{is_legal};
 ghost use Rattle.mate_search.specs.Lines.{keys, least_key, longest_reply, line};
 
+use crate::memo::Memo;
 use crate::searching::{loses, wins};
 use arrayvec::ArrayVec;
 use chess_board::{Move, Position, after};
@@ -12,15 +13,22 @@ use chess_moves::{MoveList, Rays, legal};
 
 /// Of these legal moves the keys of a mate within `n` moves, in their order.
 #[tactic(auto, using(crate::proofs::Searches::kept_more, crate::proofs::Searches::left_out))]
-pub(crate) fn keys_among(rays: &Rays, position: &Position, first: &[Move], n: u8) -> MoveList
+pub(crate) fn keys_among(
+    rays: &Rays,
+    position: &Position,
+    first: &[Move],
+    n: u8,
+    memo: &mut Memo,
+) -> MoveList
     requires some { 0 < n }
     requires few { length first.now ≤ 1024 }
     requires legal { All (λ m. is_legal position.now m ≡ true) first.now }
     ensures { result.items ≡ keys first.now position.now n }
 {
     let mut keys = MoveList::new();
+    let mut refutation = None;
     for m in first {
-        if loses(rays, &after(position, *m), n - 1) {
+        if loses(rays, &after(position, *m), n - 1, &mut refutation, memo) {
             keys.push(*m);
         }
     }
@@ -29,14 +37,21 @@ pub(crate) fn keys_among(rays: &Rays, position: &Position, first: &[Move], n: u8
 
 /// The first of these keys.
 #[tactic(auto, using(crate::proofs::Searches::find_here, crate::proofs::Searches::find_none_more))]
-fn least_key(rays: &Rays, position: &Position, first: &[Move], n: u8) -> Option<Move>
+fn least_key(
+    rays: &Rays,
+    position: &Position,
+    first: &[Move],
+    n: u8,
+    memo: &mut Memo,
+) -> Option<Move>
     requires some { 0 < n }
     requires legal { All (λ m. is_legal position.now m ≡ true) first.now }
     ensures key { result ≡ least_key first.now position.now n }
     ensures legal { IfSome result (λ m. is_legal position.now m ≡ true) }
 {
+    let mut refutation = None;
     for m in first {
-        if loses(rays, &after(position, *m), n - 1) {
+        if loses(rays, &after(position, *m), n - 1, &mut refutation, memo) {
             return Some(*m);
         }
     }
@@ -45,13 +60,13 @@ fn least_key(rays: &Rays, position: &Position, first: &[Move], n: u8) -> Option<
 
 /// The first reply after which the attacker does not mate within `j` moves.
 #[tactic(auto, using(crate::proofs::Searches::find_here, crate::proofs::Searches::find_none_more, crate::proofs::Wins::legal_each))]
-fn longest_reply(rays: &Rays, position: &Position, j: u8) -> Option<Move>
+fn longest_reply(rays: &Rays, position: &Position, j: u8, memo: &mut Memo) -> Option<Move>
     ensures reply { result ≡ longest_reply position.now j }
     ensures legal { IfSome result (λ r. is_legal position.now r ≡ true) }
 {
     let replies = legal(rays, position);
     for r in replies.as_slice() {
-        if !wins(rays, &after(position, *r), j) {
+        if !wins(rays, &after(position, *r), j, memo) {
             return Some(*r);
         }
     }
@@ -65,6 +80,7 @@ pub(crate) fn add_line(
     position: &Position,
     first: &[Move],
     n: u8,
+    memo: &mut Memo,
     out: &mut ArrayVec<Move, 29>,
 )
     requires some { 0 < n }
@@ -72,16 +88,16 @@ pub(crate) fn add_line(
     requires legal { All (λ m. is_legal position.now m ≡ true) first.now }
     ensures { out.new.items ≡ out.old.items ++ line first.now position.now n }
 {
-    let Some(m) = least_key(rays, position, first, n) else {
+    let Some(m) = least_key(rays, position, first, n, memo) else {
         return;
     };
     out.push(m);
     if n > 1 {
         let q = after(position, m);
-        if let Some(r) = longest_reply(rays, &q, n - 2) {
+        if let Some(r) = longest_reply(rays, &q, n - 2, memo) {
             out.push(r);
             let next = after(&q, r);
-            add_line(rays, &next, legal(rays, &next).as_slice(), n - 1, out);
+            add_line(rays, &next, legal(rays, &next).as_slice(), n - 1, memo, out);
         }
     }
 }

@@ -2,22 +2,32 @@
 
 ghost use Rattle.std.specs.Prelude.{◌≡◌, ◌↔◌, ◌⊎◌, ◌<◌, ◌≤◌, Err, IfOk, codes};
 ghost use Rattle.mate_search.specs.declared.memo.MemoFault.TheVariants.{BadSize, NoMemory};
-ghost use Rattle.mate_search.specs.Memos.{memo_fault_name};
+ghost use Rattle.mate_search.specs.Memos.{IsTrueOf, memo_fault_name};
 
+use crate::entries::Entry;
+use chess_board::{Position, equal_reads};
+use lru::LruCache;
 use std::alloc::Global;
 use std::marker::Model;
+use std::num::NonZeroUsize;
 use thiserror::Error;
 
-/// Room for what a search finds about so many positions. No outcome depends on it.
-#[derive(Debug, Drop)]
+/// What a search found about the positions that it met last, at most so many. Each entry is true, so no outcome depends on what
+/// is kept. Contracts see how many entries there are.
+#[derive(Drop)]
 pub struct Memo {
-    entries: usize,
+    cache: LruCache<Position, Entry>,
 }
 
 impl Model for Memo {
-    ghost Value = { Unit {0} };
+    ghost use Rattle.std.specs.Prelude.{ℕ, length};
+    ghost use Rattle.mate_search.specs.Memos.{AreTrue};
 
-    ghost view = { λ memo. tt };
+    ghost Value = { ℕ };
+
+    ghost view = { λ memo. length memo.cache.entries };
+
+    ghost invariant = { λ memo. AreTrue memo.cache.entries };
 }
 
 /// Why there is no memo.
@@ -44,16 +54,50 @@ impl MemoFault {
 }
 
 impl Memo {
-    /// A memo of so many entries, 1 to 65,536; it keeps nothing yet.
-    pub fn new(_alloc: Global, entries: usize) -> Result<Memo, MemoFault>
+    /// An empty memo of so many entries, 1 to 65,536.
+    pub fn new(alloc: Global, entries: usize) -> Result<Memo, MemoFault>
         ensures ok { IfOk result (λ _. (1 ≤ entries) × (entries ≤ 65536)) }
+        ensures empty { IfOk result (λ memo. memo ≡ 0) }
         ensures bad_size { (result ≡ Err BadSize) ↔ ((entries ≡ 0) ⊎ (65536 < entries)) }
         ensures no_memory { result ≡ Err NoMemory → (1 ≤ entries) × (entries ≤ 65536) }
     {
-        if 1 <= entries && entries <= 65_536 {
-            Ok(Memo { entries })
-        } else {
-            Err(MemoFault::BadSize)
+        if entries > 65_536 {
+            return Err(MemoFault::BadSize);
         }
+        let Some(size) = NonZeroUsize::new(entries) else {
+            return Err(MemoFault::BadSize);
+        };
+        match LruCache::new(alloc, size) {
+            Ok(cache) => Ok(Memo { cache }),
+            Err(_) => Err(MemoFault::NoMemory),
+        }
+    }
+
+    /// How many entries are kept.
+    pub fn len(&self) -> usize
+        ensures { result ≡ self.now }
+    {
+        self.cache.len()
+    }
+
+    /// What is known of a position, which becomes the one that was met last.
+    pub(crate) fn entry(&mut self, position: &Position) -> Entry
+        ensures { IsTrueOf position.now result }
+    {
+        // That two positions which `==` calls equal are one is a law of sound positions.
+        equal_reads();
+        position.side();
+        match self.cache.get(position) {
+            Some(entry) => *entry,
+            None => Entry::nothing(),
+        }
+    }
+
+    /// Keeps what is known of a position in place of what was kept of it. Where memory is refused, it is not kept.
+    pub(crate) fn keep(&mut self, position: &Position, entry: Entry)
+        requires { IsTrueOf position.now entry }
+    {
+        equal_reads();
+        let _ = self.cache.put(*position, entry);
     }
 }

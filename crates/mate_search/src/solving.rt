@@ -1,12 +1,15 @@
 //! Problems solved.
 
-ghost use Rattle.std.specs.Prelude.{◌≡◌, ◌<◌, ◌≤◌, true, All, length};
+ghost use Rattle.std.specs.Prelude.{◌≡◌, ◌<◌, ◌≤◌, true, All, length, None};
 ghost use Rattle.chess_board.specs.Legality.{is_legal};
 ghost use Rattle.mate_search.specs.Lines.{keys, line};
-ghost use Rattle.mate_search.specs.Truth.{truth, truth_among};
+ghost use Rattle.chess_board.specs.Positions.{Setup};
+ghost use Rattle.mate_search.specs.Truth.{dist, truth, truth_among};
+ghost use Rattle.mate_search.specs.Memos.{IsTrueOf};
 ghost use Rattle.chess_notation.specs.Answers.{IsPlayable};
 ghost use Rattle.chess_notation.specs.declared.problems.Outcome.TheVariants.{Mate};
 
+use crate::entries::Entry;
 use crate::lines::{add_line, keys_among};
 use crate::memo::Memo;
 use crate::searching::wins_among;
@@ -17,33 +20,63 @@ use chess_notation::{Bound, Outcome, Problem};
 
 /// What there is to say of a problem: the least number of the attacker's moves within which it mates, all keys in the order of
 /// moves, and one line of play; or that there is no mate within the bound. It never fails.
-pub fn solve(rays: &Rays, problem: &Problem, _memo: &mut Memo) -> Outcome
+pub fn solve(rays: &Rays, problem: &Problem, memo: &mut Memo) -> Outcome
     ensures truth { result ≡ truth problem.now.position problem.now.bound }
     ensures playable { IsPlayable problem.now.position result }
 {
     // The last clause rests on this law.
     legal_listed();
-    let first = legal(rays, &problem.position);
-    solve_among(rays, &problem.position, first.as_slice(), problem.bound)
+    let position = &problem.position;
+    let known = memo.entry(position);
+    let first = legal(rays, position);
+    let outcome = solve_among(
+        rays,
+        position,
+        first.as_slice(),
+        known.none_within,
+        problem.bound,
+        memo,
+    );
+    memo.keep(position, learned(known, &outcome, problem.bound));
+    outcome
 }
 
-/// The same where the attacker's first move is one of these: tries one move, two, and so on up to the bound.
-#[tactic(auto, unfolding(crate::specs::Truth::truth_among), using(crate::proofs::Least::dist_found, crate::proofs::Least::dist_none_more, crate::proofs::Least::dist_start, crate::proofs::Wins::win_among_step))]
-fn solve_among(rays: &Rays, position: &Position, first: &[Move], bound: Bound) -> Outcome
+/// What is known of a position once its problem is solved.
+fn learned(known: Entry, outcome: &Outcome, bound: Bound) -> Entry
+    ensures { (p : Setup) → IsTrueOf p known → outcome.now ≡ truth p bound → IsTrueOf p result }
+{
+    match outcome {
+        Outcome::Mate { dm, .. } => known.with(dm.get() - 1, false).with(dm.get(), true),
+        Outcome::NoMate => known.with(bound.get(), false),
+    }
+}
+
+/// The same where the attacker's first move is one of these, with none of which it mates within `none` moves: tries one move more,
+/// two, and so on up to the bound.
+#[tactic(auto, unfolding(crate::specs::Truth::truth_among), using(crate::proofs::Least::dist_found, crate::proofs::Least::dist_none_more, crate::proofs::Least::dist_fewer, crate::proofs::Wins::win_among_step))]
+fn solve_among(
+    rays: &Rays,
+    position: &Position,
+    first: &[Move],
+    none: u8,
+    bound: Bound,
+    memo: &mut Memo,
+) -> Outcome
+    requires none { dist first.now position.now none ≡ None }
     requires few { length first.now ≤ 1024 }
     requires legal { All (λ m. is_legal position.now m ≡ true) first.now }
     ensures { result ≡ truth_among first.now position.now bound }
 {
-    for k in 0..bound.get() {
-        if wins_among(rays, position, first, k + 1) {
-            return mate_among(rays, position, first, k + 1);
+    for k in none..bound.get() {
+        if wins_among(rays, position, first, k + 1, memo) {
+            return mate_among(rays, position, first, k + 1, memo);
         }
     }
     Outcome::NoMate
 }
 
 /// The outcome where `n` is the least number of moves.
-fn mate_among(rays: &Rays, position: &Position, first: &[Move], n: u8) -> Outcome
+fn mate_among(rays: &Rays, position: &Position, first: &[Move], n: u8, memo: &mut Memo) -> Outcome
     requires some { 0 < n }
     requires bounded { n ≤ 15 }
     requires few { length first.now ≤ 1024 }
@@ -54,10 +87,10 @@ fn mate_among(rays: &Rays, position: &Position, first: &[Move], n: u8) -> Outcom
         unreachable!();
     };
     let mut pv = ArrayVec::new();
-    add_line(rays, position, first, n, &mut pv);
+    add_line(rays, position, first, n, memo, &mut pv);
     Outcome::Mate {
         dm,
-        keys: keys_among(rays, position, first, n),
+        keys: keys_among(rays, position, first, n, memo),
         pv,
     }
 }

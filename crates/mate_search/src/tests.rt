@@ -169,3 +169,36 @@ fn makes_memos_of_some_sizes(rt: HostRuntime) -> Result<(), Fail> {
     }
     Ok(())
 }
+
+/// The same problem on one memo, asked with bounds of 1, 2, 5 and 1 again.
+fn check_on_one_memo(rt: &impl Abort, alloc: Global, entries: usize) -> Result<usize, Fail> {
+    let rays = Rays::new();
+    let mut memo = Memo::new(alloc, entries)?;
+    assert_eq!(rt; memo.len(), 0);
+    for (bound, dm) in [(1, 0), (2, 2), (5, 2), (1, 0)] {
+        let problem = Problem {
+            position: read_fen(b"7k/8/5K2/8/8/8/8/R7 w - - 0 1")?.position,
+            bound: Bound::new(bound).ok_or("bound")?,
+        };
+        match solve(&rays, &problem, &mut memo) {
+            Outcome::Mate {
+                dm: moves,
+                keys,
+                pv,
+            } => {
+                assert_eq!(rt; moves.get(), dm, "{bound}");
+                check_moves(rt, "keys", keys.as_slice(), &["f6g6", "f6f7"])?;
+                check_moves(rt, "line", pv.as_slice(), &["f6g6", "h8g8", "a1a8"])?;
+            }
+            Outcome::NoMate => assert_eq!(rt; dm, 0, "{bound}"),
+        }
+    }
+    Ok(memo.len())
+}
+
+#[test]
+fn keeps_what_it_found(rt: HostRuntime) -> Result<(), Fail> {
+    assert_eq!(rt; check_on_one_memo(&rt, rt.alloc(), 1)?, 1);
+    assert!(rt; check_on_one_memo(&rt, rt.alloc(), 65_536)? >= 1);
+    Ok(())
+}

@@ -5,16 +5,22 @@ use Rattle.mate_search.specs.Wins.{win, leaves_lost}
 use Rattle.mate_search.proofs.searching.+search.Given as goal
 
 abbrev pub decreases-wins : goal.decreases-wins
-decreases-wins l = 4 * l.n + 1
+decreases-wins l = 6 * l.n + 2
+
+abbrev pub decreases-wins_anew : goal.decreases-wins_anew
+decreases-wins_anew l = 6 * l.n + 1
 
 abbrev pub decreases-wins_among : goal.decreases-wins_among
-decreases-wins_among l = 4 * l.n
+decreases-wins_among l = 6 * l.n
 
 abbrev pub decreases-loses : goal.decreases-loses
-decreases-loses l = 4 * l.k + 3
+decreases-loses l = 6 * l.k + 5
 
 abbrev pub decreases-loses_each : goal.decreases-loses_each
-decreases-loses_each l = 4 * l.k + 2
+decreases-loses_each l = 6 * l.k + 4
+
+abbrev pub decreases-refutes : goal.decreases-refutes
+decreases-refutes l = 6 * l.k + 3
 
 -- each reply so far loses
 abbrev pub invariant-loses_each-loop-r : goal.invariant-loses_each-loop-r

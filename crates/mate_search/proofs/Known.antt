@@ -1,0 +1,60 @@
+-- What an entry says of more and of fewer moves, and what stays true of the entries of a cache.
+use Rattle.std.proofs.Common.{◌≡◌, ℕ, zero, suc, ◌+◌, ◌-◌, ◌≤◌, true, false, List, Some, None, refl, sym, ◌∙◌, subst, inl, inr, arith, zero-add, suc-add, Result, Ok, Err, OnOk, OnErr}
+use Rattle.std.specs.Map.{lookup}
+use Rattle.lru.specs.LruCache.{LruCache, lru_cache, put_entries}
+use Rattle.lru.proofs.CallerLemmas.{Contains-lookup, Contains-put_entries}
+use Rattle.chess_board.specs.Positions.{Setup}
+use Rattle.chess_board.specs.Soundness.{IsSound}
+use Rattle.chess_board.specs.Laws.{are_equal, EqualReads}
+use Rattle.mate_search.specs.declared.entries.Entry.{Entry}
+use Rattle.mate_search.specs.Wins.{win}
+use Rattle.mate_search.specs.Memos.{IsTrueOf, AreTrue}
+use Rattle.chess_moves.specs.Listing.{legal_moves}
+use Rattle.mate_search.specs.Truth.{dist}
+use Rattle.mate_search.proofs.Wins.{win_more}
+use Rattle.mate_search.proofs.Least.{none_dist}
+use Rattle.mate_search.proofs.Playing.{all_among}
+
+within_by : (more k : ℕ) (p : Setup) → win k p ≡ true → win (more + k) p ≡ true
+within_by zero k p w = rw (zero-add k) w
+within_by (suc more) k p w = rw (suc-add more k) (win_more (more + k) p (within_by more k p w))
+
+-- A mate within k moves is one within n.
+pub win_within_more : (k n : ℕ) (p : Setup) → k ≤ n → win k p ≡ true → win n p ≡ true
+win_within_more k n p h w = let s : (n - k) + k ≡ n = omega arith in rw s at (within_by (n - k) k p w)
+
+-- Where there is none within k moves, there is none within n.
+pub no_win_within_fewer : (k n : ℕ) (p : Setup) → n ≤ k → win k p ≡ false → win n p ≡ false
+no_win_within_fewer k n p h l = (elim (win n p) as (λ b. win n p ≡ b → b ≡ false) [
+  | false ↦ λ t. refl
+  | true ↦ λ t. let w = win_within_more n k p h t in cc
+]) refl
+
+-- What a look-up finds is true of the position that was asked for.
+pub found_true : EqualReads → (p : Setup) (es : List (Setup × Entry)) (v : Entry) → IsSound p → AreTrue es → lookup (are_equal p) es ≡ Some v → IsTrueOf p v
+found_true equal p es v sound all h =
+    let at = Contains-lookup (are_equal p) es v h in
+    let there = all (at.0, v) at.1 in
+    subst (λ (q : Setup). IsTrueOf q v) (sym ((equal p at.0 sound there.sound).0 at.2)) there
+
+put_true : EqualReads → (c : LruCache Setup Entry) (p : Setup) (v : Entry) → AreTrue c.entries → IsTrueOf p v → AreTrue (put_entries are_equal c p v)
+put_true equal c p v all h e m = elim (Contains-put_entries are_equal c p v e m) [
+  | inl old ↦ all e old
+  | inr put ↦ elim put.1 [
+    | inl same ↦ subst (λ (w : Entry). IsTrueOf e.0 w) (sym put.0) (subst (λ (q : Setup). IsTrueOf q v) (sym same) h)
+    | inr there ↦
+        let sound : IsSound e.0 = (all (e.0, there.0) there.1).sound in
+        let key : e.0 ≡ p = sym ((equal p e.0 h.sound sound).0 there.2) in
+        subst (λ (w : Entry). IsTrueOf e.0 w) (sym put.0) (subst (λ (q : Setup). IsTrueOf q v) (sym key) h)
+  ]
+]
+
+-- A put that is refused changes nothing, and one that is not leaves old entries and the new one.
+pub kept_true : {A E : Type 0} → EqualReads → (r : Result A E) (old new : LruCache Setup Entry) (p : Setup) (v : Entry)
+    → OnOk r (new ≡ lru_cache (put_entries are_equal old p v) old.cap) → OnErr r (new ≡ old) → AreTrue old.entries → IsTrueOf p v → AreTrue new.entries
+kept_true equal (Ok a) old new p v ok err all h = subst (λ (c : LruCache Setup Entry). AreTrue c.entries) (sym ok) (put_true equal old p v all h)
+kept_true equal (Err a) old new p v ok err all h = subst (λ (c : LruCache Setup Entry). AreTrue c.entries) (sym err) all
+
+-- Within as many moves as an entry rules out, there is no mate to find.
+pub none_found_within : (p : Setup) (entry : Entry) → IsTrueOf p entry → dist (legal_moves p) p entry.none_within ≡ None
+none_found_within p entry h = none_dist (legal_moves p) p entry.none_within (λ k l. all_among k p ∙ no_win_within_fewer entry.none_within k p l h.none)
