@@ -1,10 +1,12 @@
-//! The legal moves of a position, its verdict, and the count of the lines of play.
+//! The legal moves of a position, those that give check, its verdict, and the count of the lines of play.
 //!
 //! A position and a single move's legality are `chess_board`'s business; here stand all the legal moves together. The list is
-//! exact: each legal move once, in the order of moves. Each call takes the `Rays`, which are made once for the program.
+//! exact: each legal move once, in the order of moves. Each call takes the `Rays`, which are made once for the program. No move is
+//! found by making it: sets of squares tell where each man may go.
 //!
-//! To read: `specs/Listing.antt` and `listing`, then `judging` and `plays`; `laws` says what the lists hold in words that do
-//! not speak of how they are made. No call takes memory.
+//! To read: `specs/Listing.antt`; `directions`, `rays` and `forces` (what is seen and attacked), `scenes`, `candidates` and `guards`
+//! (where a man goes, and where it leaves its king safe), `targets`; then `walking`, `listing`, `counting`, `judging` and `plays`;
+//! `sights` and `checking`. `laws` says what the lists hold in words that do not speak of how they are made. No call takes memory.
 #![tactic(auto)]
 
 mod attacking;

@@ -1,6 +1,6 @@
 -- A bit set, and a bit cleared.
-use Rattle.std.proofs.Common.{◌≡◌, ℕ, ◌*◌, ◌%◌, ◌^◌, ◌<◌, not, ◌&&◌, ◌||◌, Bool, true, false, eqb, refl, w64}
-use Rattle.std.specs.Int.{bit_at, bit_not}
+use Rattle.std.proofs.Common.{◌≡◌, ℕ, ◌*◌, ◌%◌, ◌^◌, ◌<◌, not, ◌&&◌, ◌||◌, true, false, eqb, refl, w64}
+use Rattle.std.specs.Int.{bit_not}
 use Rattle.std.specs.Int.RustNames.{bit_and, bit_or}
 use Rattle.std.proofs.lemmas.Nat.Bits.{bit_at_clear_same, bit_at_clear_other, bit_at_set_same, bit_at_set_other}
 use Rattle.std.proofs.lemmas.Bool.{eqb-true, eqb-false}
