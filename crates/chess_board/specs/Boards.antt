@@ -1,4 +1,4 @@
--- A board of men in eight words: each is the set of the squares on which the men of one colour, or of one kind, stand.
+-- Not for believing: a board of men in eight words: each is the set of the squares on which the men of one colour, or of one kind, stand.
 use Rattle.std.specs.Prelude.{◌≡◌, ℕ, zero, suc, ◌+◌, ◌*◌, List, [], ◌∷◌, length, Option, Some, None, Bool, false, if◌then◌else◌}
 use Rattle.square_sets.specs.Members.{has}
 use Rattle.chess_board.specs.declared.men.Man.{Man}

@@ -1,4 +1,5 @@
--- What hashes feed: a few words, in which two positions that differ differ.
+-- Not for believing: what hashes feed, a few words. That two positions which differ feed different words is meant and not
+-- proved; no contract rests on it.
 use Rattle.std.specs.Prelude.{ℕ, ◌+◌, ◌*◌, List, ◌++◌, Option, Some, None, Bool, if◌then◌else◌, bit_or}
 use Rattle.std.specs.Hash.{HashWrites}
 use Rattle.std.specs.Hash as fed
@@ -13,7 +14,7 @@ use Rattle.chess_board.specs.Positions.{Setup}
 use Rattle.chess_board.specs.Boards.{is_of_kind, word_of}
 
 -- What a hash of the board feeds: White's squares, and the three binary digits of each man's kind, numbered from 1 for a
--- pawn to 6 for a king. No two boards feed the same.
+-- pawn to 6 for a king.
 abbrev pub board_words : List (Option Man) → HashWrites
 board_words men =
     let kinds = λ (asked : Kind). word_of (is_of_kind asked) men in

@@ -1,4 +1,5 @@
--- Tests of attack and of legality with their squares and men named, what a legal move keeps, and what four fields spell.
+-- Tests of attack and of legality with their squares and men named, what a legal move keeps, what four fields spell, and what
+-- `==` answers.
 use Rattle.std.specs.Prelude.{◌≡◌, ◌≢◌, ◌↔◌, ℕ, ◌<◌, Bool, true, false, List, [], All, Option, None}
 use Rattle.chess_board.specs.declared.men.Colour.{Colour}
 use Rattle.chess_board.specs.declared.men.Kind.{Kind}

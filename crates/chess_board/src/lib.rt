@@ -40,6 +40,8 @@ pub use positions::{Position, is_same_position};
 pub use squares::Square;
 
 #[cfg(test)]
+mod board_tests;
+#[cfg(test)]
 mod move_tests;
 #[cfg(test)]
 mod tests;

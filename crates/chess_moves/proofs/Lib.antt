@@ -43,5 +43,4 @@ pub mod Members
 pub mod Promotions
 pub mod Walks
 pub mod InCheck
-pub mod Filtered
 pub mod PlainChecks

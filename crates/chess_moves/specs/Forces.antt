@@ -1,4 +1,4 @@
--- One side's men as sets of squares.
+-- Not for believing: one side's men as sets of squares.
 use Rattle.std.specs.Prelude.{Bool, true, false, ◌&&◌, List, Option, None, Some}
 use Rattle.chess_board.specs.declared.men.Colour.{Colour}
 use Rattle.chess_board.specs.declared.men.Kind.{Kind}

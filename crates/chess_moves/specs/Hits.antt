@@ -1,4 +1,4 @@
--- Attack, told by directions and leaps: the same as `chess_board`'s, in the form that sets of squares serve.
+-- Not for believing: attack, told by directions and leaps: the same as `chess_board`'s, in the form that sets of squares serve.
 use Rattle.std.specs.Prelude.{ℕ, Bool, false, ◌&&◌, ◌||◌, List, Option, None, Some, is_some}
 use Rattle.chess_board.specs.declared.men.Colour.{Colour}
 use Rattle.chess_board.specs.declared.men.Kind.{Kind}

@@ -1,4 +1,4 @@
--- What is the same for all moves of one position, as sets of squares.
+-- Not for believing: what is the same for all moves of one position, as sets of squares.
 use Rattle.std.specs.Prelude.{◌≡◌, ℕ, ◌<◌, Bool, not, ◌&&◌, ◌||◌, ◌==◌, is_some}
 use Rattle.square_sets.specs.Members.{has}
 use Rattle.chess_board.specs.declared.men.Kind.TheVariants.{King}

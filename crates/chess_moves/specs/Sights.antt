@@ -1,4 +1,4 @@
--- What is seen from the king of the side that is not to move.
+-- Not for believing: what is seen from the king of the side that is not to move.
 use Rattle.std.specs.Prelude.{◌≡◌, ℕ, ◌<◌, Bool, ◌||◌, is_some}
 use Rattle.square_sets.specs.Members.{has}
 use Rattle.chess_board.specs.declared.men.Kind.{Kind}

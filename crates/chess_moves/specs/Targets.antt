@@ -1,4 +1,4 @@
--- The targets of a man's legal moves, as a set of squares.
+-- Not for believing: the targets of a man's legal moves, as a set of squares.
 use Rattle.std.specs.Prelude.{◌≡◌, ℕ, ◌<◌, List, [], ◌∷◌, filter, None, if◌then◌else◌}
 use Rattle.square_sets.specs.Members.{has}
 use Rattle.chess_board.specs.declared.men.Man.{Man}

@@ -1,4 +1,4 @@
--- The legal moves one after the other: those that are still to come, told from sets of squares.
+-- Not for believing: the legal moves one after the other: those that are still to come, told from sets of squares.
 use Rattle.std.specs.Prelude.{◌≡◌, ℕ, zero, suc, ◌<◌, true, if◌then◌else◌, List, [], ◌∷◌, ◌++◌, filter, Option, Some, None}
 use Rattle.std.specs.List.{flat_map}
 use Rattle.square_sets.specs.Members.{has}

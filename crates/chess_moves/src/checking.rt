@@ -6,22 +6,22 @@ ghost use Rattle.chess_moves.specs.Checks.{gives_check as gives_check_in, checki
 ghost use Rattle.chess_moves.specs.Sights.{IsSightsOf};
 
 use crate::attacking::attacked;
-use crate::listing::{MoveList, legal};
+use crate::listing::MoveList;
 use crate::rays::Rays;
 use crate::sights::{Sights, attacks_king, is_told, sights_of};
+use crate::walking::legal_moves;
 use chess_board::{Move, Position, after};
 
 /// Exactly the legal moves after which the side then to move is in check, each once, in the order of moves.
-#[tactic(auto, unfolding(crate::specs::Checks::checking_moves), using(crate::proofs::Filtered::kept_more, crate::proofs::Filtered::left_out, crate::proofs::Filtered::legal_each))]
+#[tactic(auto, unfolding(crate::specs::Checks::checking_moves), using(crate::proofs::Listed::all_legal))]
 pub fn checks(rays: &Rays, position: &Position) -> MoveList
     ensures { result.items ≡ checking_moves position.now }
 {
     let sights = sights_of(rays, position);
-    let moves = legal(rays, position);
     let mut list = MoveList::new();
-    for m in moves.as_slice() {
-        if gives_check(rays, position, &sights, *m) {
-            list.push(*m);
+    for m in legal_moves(rays, position) {
+        if gives_check(rays, position, &sights, m) {
+            list.push(m);
         }
     }
     list

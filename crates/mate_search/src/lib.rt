@@ -5,8 +5,8 @@
 //! stands in `specs/Wins.antt`, and what there is to say of a problem in `specs/Lines.antt` and `specs/Truth.antt`; an outcome
 //! is exactly that.
 //!
-//! To read: `searching`, `lines`, `solving`; `laws` says of the definitions what they are meant to say; then
-//! `specs/Replies.antt` and `replies`. `solve` takes no memory.
+//! To read: `entries`, `memo`, `searching`, `lines`, `solving`; `laws` says of the definitions what they are meant to say; then
+//! `specs/Replies.antt` and `replies`. `solve` takes memory for its memo alone, and never fails for want of it.
 #![tactic(auto)]
 
 mod entries;

@@ -1,55 +1,9 @@
 //! Sets of squares, as words of 64 bits: bit i stands for the square of number i, a1 for 0 and h8 for 63.
 //!
-//! What stands on the squares is none of this crate's business. `specs/Members.antt` says when a square is in a set. No call
-//! takes memory.
+//! What stands on the squares is none of this crate's business. To read: `specs/Members.antt` and `members`. No call takes
+//! memory.
 #![tactic(auto)]
 
-ghost use Rattle.std.specs.Prelude.{◌≡◌, ℕ, ◌<◌, ◌==◌, ◌||◌, ◌&&◌, not};
-ghost use Rattle.square_sets.specs.Members.{has};
+mod members;
 
-/// Whether a square is in a set.
-pub fn contains(set: u64, square: u8) -> bool
-    requires { square < 64 }
-    ensures { result ≡ has set square }
-{
-    set >> square & 1 == 1
-}
-
-/// A set with one square more.
-pub fn with(set: u64, square: u8) -> u64
-    requires { square < 64 }
-    ensures { (s : ℕ) → s < 64 → has result s ≡ (s == square || has set s) }
-{
-    set | 1 << square
-}
-
-/// A set without a square.
-pub fn without(set: u64, square: u8) -> u64
-    requires { square < 64 }
-    ensures { (s : ℕ) → s < 64 → has result s ≡ (not (s == square) && has set s) }
-{
-    set & !(1 << square)
-}
-
-#[cfg(test)]
-mod tests {
-    use super::*;
-    use std::process::Abort;
-
-    #[test]
-    fn puts_and_takes_squares(rt: HostRuntime) {
-        // a1, h1, a2, h8
-        for (square, set) in [(0, 0x1), (7, 0x80), (8, 0x100), (63, 0x8000_0000_0000_0000)] {
-            assert_eq!(rt; with(0, square), set, "square {square}");
-            assert_eq!(rt; with(set, square), set, "square {square}");
-            assert_eq!(rt; without(set, square), 0, "square {square}");
-            assert_eq!(rt;
-                without(u64::MAX, square),
-                u64::MAX - set,
-                "square {square}"
-            );
-            assert!(rt; contains(set, square), "square {square}");
-            assert!(rt; !contains(u64::MAX - set, square), "square {square}");
-        }
-    }
-}
+pub use members::{contains, with, without};
