@@ -4,6 +4,8 @@ use Rattle.chess_board.specs.Positions.{Setup}
 use Rattle.chess_board.specs.Attacks.{is_in_check}
 use Rattle.chess_moves.specs.declared.verdicts.Verdict.{Verdict}
 use Rattle.chess_moves.specs.declared.verdicts.Verdict.TheVariants.{Play, Mate, Stalemate}
+use Rattle.chess_board.specs.After.{after_setup}
+use Rattle.std.specs.List.{list_any}
 use Rattle.chess_moves.specs.Listing.{legal_moves}
 
 -- The side to move has a legal move.
@@ -20,3 +22,7 @@ is_stalemate p = not (is_in_check p.men p.side) && not (has_legal_move p)
 
 abbrev pub verdict_of : Setup → Verdict
 verdict_of p = if is_mate p then Mate else (if is_stalemate p then Stalemate else Play)
+
+-- Some legal move mates.
+unfoldable pub has_mating_move : Setup → Bool
+has_mating_move p = list_any (λ m. is_mate (after_setup p m)) (legal_moves p)

@@ -1,0 +1,42 @@
+use Rattle.std.proofs.Common.{◌≡◌, ℕ, ◌<◌, true, false, ◌||◌, None, Some, refl, sym, ap, ◌∙◌, arith}
+use Rattle.std.proofs.lemmas.Bool.{both_ways, or_parts, not-true}
+use Rattle.square_sets.specs.Members.{has}
+use Rattle.chess_board.specs.declared.men.Man.{Man}
+use Rattle.chess_board.specs.Men.{is_of}
+use Rattle.chess_board.specs.Positions.{Setup, man_at}
+use Rattle.chess_board.specs.Attacks.{is_in_check}
+use Rattle.chess_board.specs.Legality.{is_legal}
+use Rattle.chess_board.specs.Moves.{Move}
+use Rattle.chess_board.specs.After.{after_setup}
+use Rattle.chess_moves.specs.declared.sights.Sights.{Sights}
+use Rattle.chess_moves.specs.Sights.{squares_of, is_special}
+use Rattle.chess_moves.specs.Verdicts.{is_mate}
+use Rattle.chess_moves.specs.Checks.{gives_check}
+use Rattle.chess_moves.proofs.PlainChecks.{plain_check}
+use Rattle.chess_moves.proofs.Played.{not_own}
+use Rattle.chess_moves.proofs.mating.mates.Goals as goal
+
+pub returns-in_default : goal.returns-in_default
+returns-in_default c =
+    let p : Setup = c.args.position.now in
+    let none : man_at p.men c.args.m.origin ≡ None = ap (λ m. man_at p.men m.origin) (sym c.m.view_is) ∙ sym c.man.ensures ∙ c.in_default.is in
+    absurd (both_ways (is_legal p c.args.m) (not_own p c.args.m (ap (is_of p.side) none)) c.requires.legal)
+
+no_mate : (p : Setup) (m : Move) → gives_check p m ≡ false → is_mate (after_setup p m) ≡ false
+unfolding gives_check
+no_mate p m none = rw none refl
+
+pub returns-then-not-attacks_king : goal.returns-then-not-attacks_king
+returns-then-not-attacks_king c =
+    let p : Setup = c.args.position.now in
+    let sights : Sights = c.args.sights.now in
+    let man : Man = c.in-Some.man in
+    let m : Move = c.args.m in
+    let o : c.m.inside.origin ≡ m.origin = ap (λ m. m.origin) c.m.view_is in
+    let t : c.index.result ≡ m.target = c.index.ensures.number ∙ ap (λ m. m.target) c.m-2.view_is in
+    let there : man_at p.men m.origin ≡ Some man = ap (man_at p.men) (sym o) ∙ sym c.man.ensures ∙ c.in-Some.is in
+    let told = or_parts (has sights.queen m.origin) (is_special p man m)
+    (not-true (has sights.queen m.origin || is_special p man m) (sym c.is_told.ensures ∙ c.if-is_told.true)) in
+    let plain = plain_check p sights man m c.requires.sights (omega (arith, c.m.invariant)) (omega (arith, c.index.ensures.on_board)) there c.requires.legal told.0 told.1 in
+    let none : gives_check p m ≡ false = sym plain ∙ ap (has (squares_of sights man.kind)) (sym t) ∙ sym c.attacks_king.ensures ∙ c.if-not-attacks_king.true in
+    sym (no_mate p m none)
