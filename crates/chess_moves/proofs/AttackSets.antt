@@ -1,5 +1,5 @@
 -- The squares of a colour's men that attack a square, by sets.
-use Rattle.std.proofs.Common.{◌≡◌, ℕ, ◌<◌, Bool, true, false, not, ◌&&◌, ◌||◌, List, Option, None, Some, is_some, refl, sym, ap, ◌∙◌}
+use Rattle.std.proofs.Common.{◌≡◌, ℕ, ◌^◌, eqb, ◌<◌, Bool, true, false, not, ◌&&◌, ◌||◌, List, Option, None, Some, is_some, refl, sym, ap, ◌∙◌}
 use Rattle.std.specs.Int.RustNames.{bit_and, bit_or}
 use Rattle.square_sets.specs.Members.{has}
 use Rattle.chess_board.specs.declared.men.Colour.{Colour}
@@ -13,12 +13,14 @@ use Rattle.chess_moves.specs.declared.directions.Direction.{Direction}
 use Rattle.chess_moves.specs.declared.directions.Direction.TheVariants.{North, NorthEast, East, SouthEast, South, SouthWest, West, NorthWest}
 use Rattle.chess_moves.specs.declared.directions.Leap.TheVariants.{KnightLeap, KingStep}
 use Rattle.chess_moves.specs.declared.forces.Force.{Force}
-use Rattle.chess_moves.specs.Directions.{toward, opposite, is_blocked, reaches, reaches_as_bishop, reaches_as_rook}
+use Rattle.chess_moves.specs.Directions.{toward, opposite, is_blocked, reaches, reaches_as_bishop, reaches_as_rook, sights, sights_as_bishop, sights_as_rook}
 use Rattle.chess_moves.specs.Leaps.{leaps, capture_of, capture_back}
 use Rattle.chess_moves.specs.Hits.{is_taken, hits_as, place_hits, hits_from}
 use Rattle.chess_moves.specs.Forces.{StandFor, is_one, is_diagonal_kind, is_straight_kind}
 use Rattle.chess_moves.proofs.SetBits.{has_and, has_or, has_none}
-use Rattle.chess_moves.proofs.AnyLemmas.{any_same}
+use Rattle.chess_moves.proofs.AnyLemmas.{any_same, any_none}
+use Rattle.chess_moves.proofs.SharedSquares.{meets_is}
+use Rattle.chess_board.specs.Squares.{any_below}
 use Rattle.chess_moves.proofs.Geometry.{toward_back, knight_back, king_back, capture_mirrored}
 use Rattle.chess_moves.proofs.Slides.{blocked_back}
 
@@ -52,7 +54,7 @@ pub along : (d : Direction) (a b t x y : ℕ) → has x t ≡ toward d a t → h
 along d a b t x y ex ey = part x y t (toward d a t) (toward d t b) ex (ey ∙ toward_back d t b)
 
 -- a line is open both ways
-reaches_back : (taken : ℕ → Bool) (d : Direction) (a b : ℕ) → reaches taken (opposite d) b a ≡ reaches taken d a b
+pub reaches_back : (taken : ℕ → Bool) (d : Direction) (a b : ℕ) → reaches taken (opposite d) b a ≡ reaches taken d a b
 reaches_back taken d a b = rw (toward_back d a b, blocked_back taken d a b)
 
 -- four tests in another order
@@ -93,6 +95,37 @@ slants_same p q h a b = rw (reaches_same p q h NorthEast a b, reaches_same p q h
 pub straight_same : (p q : ℕ → Bool) → ((s : ℕ) → s < 64 → p s ≡ q s) → (a b : ℕ) → reaches_as_rook p a b ≡ reaches_as_rook q a b
 unfolding reaches_as_rook
 straight_same p q h a b = rw (reaches_same p q h North a b, reaches_same p q h East a b, reaches_same p q h South a b, reaches_same p q h West a b)
+
+-- and on which sliders there are
+sights_same : (p q u v : ℕ → Bool) → ((s : ℕ) → s < 64 → p s ≡ q s) → ((s : ℕ) → s < 64 → u s ≡ v s) → (d : Direction) (a b : ℕ) → sights p u d a b ≡ sights q v d a b
+sights_same p q u v h g d a b =
+    ap (λ (x : Bool). x && reaches p d a b) (any_same (λ s. u s && toward d a s) (λ s. v s && toward d a s) 64 (λ s l. ap (λ (x : Bool). x && toward d a s) (g s l)))
+    ∙ ap (λ (x : Bool). any_below 64 (λ s. v s && toward d a s) && x) (reaches_same p q h d a b)
+
+pub slant_sights_same : (p q u v : ℕ → Bool) → ((s : ℕ) → s < 64 → p s ≡ q s) → ((s : ℕ) → s < 64 → u s ≡ v s) → (a b : ℕ) → sights_as_bishop p u a b ≡ sights_as_bishop q v a b
+unfolding sights_as_bishop
+slant_sights_same p q u v h g a b = let e = sights_same p q u v h g in rw (e NorthEast a b, e SouthEast a b, e SouthWest a b, e NorthWest a b)
+
+pub straight_sights_same : (p q u v : ℕ → Bool) → ((s : ℕ) → s < 64 → p s ≡ q s) → ((s : ℕ) → s < 64 → u s ≡ v s) → (a b : ℕ) → sights_as_rook p u a b ≡ sights_as_rook q v a b
+unfolding sights_as_rook
+straight_sights_same p q u v h g a b = let e = sights_same p q u v h g in rw (e North a b, e East a b, e South a b, e West a b)
+
+-- no slider on the ray: nothing is seen towards one
+pub no_sight : (sliders ray : ℕ) (taken : ℕ → Bool) (square : ℕ) (d : Direction) → bit_and sliders ray < 2 ^ 64 → ((t : ℕ) → t < 64 → has ray t ≡ toward d square t)
+    → bit_and sliders ray ≡ 0 → (t : ℕ) → has 0 t ≡ sights taken (has sliders) d square t
+no_sight sliders ray taken square d fits rule none t =
+    let never : any_below 64 (λ s. has sliders s && toward d square s) ≡ false = any_none (λ s. has sliders s && toward d square s) 64 (λ s l.
+    sym (part sliders ray s (has sliders s) (toward d square s) refl (rule s l)) ∙ has_none (bit_and sliders ray) s none) in
+    has_none 0 t refl ∙ rw never refl
+
+-- a slider on the ray: what is seen is what is reached
+pub some_sight : (sliders ray : ℕ) (taken : ℕ → Bool) (square : ℕ) (d : Direction) → bit_and sliders ray < 2 ^ 64 → ((t : ℕ) → t < 64 → has ray t ≡ toward d square t)
+    → not (eqb (bit_and sliders ray) 0) ≡ true → (t : ℕ) → reaches taken d square t ≡ sights taken (has sliders) d square t
+some_sight sliders ray taken square d fits rule some t =
+    let there : any_below 64 (λ s. has sliders s && toward d square s) ≡ true =
+    any_same (λ s. has sliders s && toward d square s) (λ s. has sliders s && has ray s) 64 (λ s l. ap (λ (x : Bool). has sliders s && x) (sym (rule s l)))
+    ∙ sym (meets_is sliders ray fits) ∙ some in
+    rw there refl
 
 -- no slider on the ray: none of them is reached
 pub none_along : (sliders ray occupied square : ℕ) (d : Direction) → ((t : ℕ) → t < 64 → has ray t ≡ toward d square t)

@@ -14,11 +14,13 @@ use Rattle.chess_board.specs.Positions.{Setup}
 use Rattle.chess_board.specs.Sets.{IsSetOf}
 use Rattle.chess_board.specs.Attacks.{is_clear, is_attacked}
 use Rattle.chess_board.specs.Candidates.{crossed, king_goal, castles_to}
-use Rattle.chess_moves.specs.Directions.{stands_between}
+use Rattle.chess_board.specs.Squares.{all_below}
+use Rattle.chess_moves.specs.Directions.{toward, stands_between}
 use Rattle.chess_moves.specs.Hits.{is_taken}
 use Rattle.chess_moves.proofs.AnyLemmas.{any_same}
 use Rattle.chess_moves.proofs.SharedSquares.{meets_is}
 use Rattle.chess_moves.proofs.Bridge.{clear_same}
+use Rattle.chess_moves.proofs.Promotions.{same, same_equal, each}
 
 pub record Castles (p : Setup) (c : Colour) (w : Wing) (a b : ℕ) : Type 0 where
   pub right : has_right_of p.rights c w ≡ true
@@ -93,3 +95,21 @@ clear_way men c w home rook between occupied at_home at_corner fits rule set =
     let j : home < 64 = rw at_home (home_on_board c) in
     let k : rook < 64 = rw at_corner (rook_on_board c w) in
     ap (λ (r : ℕ). is_clear men home r) (sym at_corner) ∙ clear_by_sets men home rook between occupied j k fits rule set
+
+-- the ways as sets
+abbrev pub way_set : Colour → Wing → ℕ
+way_set White KingSide = 96
+way_set White QueenSide = 14
+way_set Black KingSide = 6917529027641081856
+way_set Black QueenSide = 1008806316530991104
+
+way_tried : (c : Colour) (w : Wing) → all_below 64 (λ t. same (has (way_set c w) t) (stands_between (king_home c) (rook_home c w) t)) ≡ true
+unfolding all_below stands_between toward
+way_tried White KingSide = refl
+way_tried White QueenSide = refl
+way_tried Black KingSide = refl
+way_tried Black QueenSide = refl
+
+pub has-way_set : (c : Colour) (w : Wing) (t : ℕ) → t < 64 → has (way_set c w) t ≡ stands_between (king_home c) (rook_home c w) t
+has-way_set c w t l =
+    same_equal (has (way_set c w) t) (stands_between (king_home c) (rook_home c w) t) (each (λ s. same (has (way_set c w) s) (stands_between (king_home c) (rook_home c w) s)) 64 t (way_tried c w) l)

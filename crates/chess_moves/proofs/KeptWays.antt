@@ -38,7 +38,7 @@ promotions_pass f o t true h = rw (h Knight refl, h Bishop refl, h Rook refl, h 
 promotions_pass f o t false h = rw (h Knight refl, h Bishop refl, h Rook refl, h Queen refl) refl
 
 -- All of the man's ways to a square are kept, or none.
-ways_kept : (p : Setup) (man : Man) (o t : ℕ) (b : Bool) → man_at p.men o ≡ Some man → man.colour ≡ p.side
+pub ways_kept : (p : Setup) (man : Man) (o t : ℕ) (b : Bool) → man_at p.men o ≡ Some man → man.colour ≡ p.side
     → ((r : Option Kind) → suits man t r ≡ true → goes_safely p man o t r ≡ b) → filter (is_legal p) (moves_between o t) ≡ cond b (ways man o t) []
 ways_kept p man o t b there own safe =
     let way = λ (r : Option Kind) (s : suits man t r ≡ true). legal_way p man o t r there own s ∙ safe r s in

@@ -42,5 +42,11 @@ pub mod Sifting
 pub mod Members
 pub mod Promotions
 pub mod Walks
+pub mod Tallies
+pub mod CheckAnswers
+pub mod Unpinned
+pub mod Sums
+pub mod PawnShifts
+pub mod PawnCounts
 pub mod InCheck
 pub mod PlainChecks

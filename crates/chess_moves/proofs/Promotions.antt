@@ -14,18 +14,18 @@ use Rattle.chess_moves.specs.Walking.{members_below, members}
 use Rattle.chess_moves.proofs.SetBits.{has_and}
 use Rattle.chess_moves.proofs.Members.{flat_map-below_suc, length-below_more, length-members}
 
-abbrev same : Bool → Bool → Bool
+abbrev pub same : Bool → Bool → Bool
 same true b = b
 same false true = false
 same false false = true
 
-same_equal : (a b : Bool) → same a b ≡ true → a ≡ b
+pub same_equal : (a b : Bool) → same a b ≡ true → a ≡ b
 same_equal true true h = refl
 same_equal true false h = sym h
 same_equal false true h = h
 same_equal false false h = refl
 
-each : (test : ℕ → Bool) (n s : ℕ) → all_below n test ≡ true → s < n → test s ≡ true
+pub each : (test : ℕ → Bool) (n s : ℕ) → all_below n test ≡ true → s < n → test s ≡ true
 unfolding all_below
 each test zero s h l = absurd (omega arith)
 each test (suc n) s h l =

@@ -7,12 +7,16 @@ use Rattle.chess_board.specs.declared.men.Kind.TheVariants.{Pawn, Knight, Bishop
 use Rattle.chess_board.specs.declared.men.Man.{Man}
 use Rattle.chess_board.specs.Men.{is_colour, is_of}
 use Rattle.chess_board.specs.Positions.{man_at}
+use Rattle.chess_board.specs.Squares.{any_below}
 use Rattle.chess_moves.specs.declared.directions.Direction.{Direction}
 use Rattle.chess_moves.specs.declared.directions.Direction.TheVariants.{North, NorthEast, East, SouthEast, South, SouthWest, West, NorthWest}
-use Rattle.chess_moves.specs.Directions.{reaches, is_blocked, toward, reaches_as_bishop, reaches_as_rook}
+use Rattle.chess_moves.specs.Directions.{reaches, is_blocked, toward, opposite, reaches_as_bishop, reaches_as_rook, sights, sights_as_bishop, sights_as_rook}
+use Rattle.chess_moves.specs.Forces.{is_one, is_diagonal_kind, is_straight_kind}
 use Rattle.chess_moves.specs.Hits.{is_taken, hits_as, place_hits, hits_from}
 use Rattle.chess_moves.proofs.Slides.{blocker_of, blocked_at, reached_before}
-use Rattle.chess_moves.proofs.AttackSets.{slants_back, straight_back}
+use Rattle.chess_moves.proofs.Geometry.{toward_back}
+use Rattle.chess_moves.proofs.AnyLemmas.{any_at}
+use Rattle.chess_moves.proofs.AttackSets.{reaches_back}
 
 -- two tests that each give the other
 same_test : (x y : Bool) → (x ≡ true → y ≡ true) → (y ≡ true → x ≡ true) → x ≡ y
@@ -53,6 +57,34 @@ reached_same taken after o h d a k hidden =
     same_test (reaches after d a k) (reaches taken d a k)
     (reached_before taken after d a k o h.stays (hidden_by taken d o k hidden)) (reached_more taken after h.fewer d a k)
 
+-- So does one towards which the king sees, but no slider of that kind lies there.
+reached_unseen : (taken after slides : ℕ → Bool) (o : ℕ) → Leaves taken after o → (d : Direction) (a k : ℕ) → a < 64 → slides a ≡ true
+    → sights taken slides (opposite d) k o ≡ false → reaches after d a k ≡ reaches taken d a k
+reached_unseen taken after slides o h d a k l slider unseen = (elim (toward d a k) as (λ b. toward d a k ≡ b → reaches after d a k ≡ reaches taken d a k) [
+  | false ↦ λ e. rw e refl
+  | true ↦ λ e.
+      let there : (slides a && toward (opposite d) k a) ≡ true = and_from (slides a) (toward (opposite d) k a) slider (toward_back d a k ∙ e) in
+      let some : any_below 64 (λ s. slides s && toward (opposite d) k s) ≡ true = any_at (λ s. slides s && toward (opposite d) k s) 64 a l there in
+      let hidden : reaches taken (opposite d) k o ≡ false = rw some at unseen in
+      reached_same taken after o h d a k (sym (reaches_back taken d o k) ∙ hidden)
+]) refl
+
+slants_unseen : (taken after slides : ℕ → Bool) (o : ℕ) → Leaves taken after o → (a k : ℕ) → a < 64 → slides a ≡ true
+    → sights_as_bishop taken slides k o ≡ false → reaches_as_bishop after a k ≡ reaches_as_bishop taken a k
+unfolding reaches_as_bishop sights_as_bishop
+slants_unseen taken after slides o h a k l slider unseen =
+    let none = four_none (sights taken slides NorthEast k o) (sights taken slides SouthEast k o) (sights taken slides SouthWest k o) (sights taken slides NorthWest k o) unseen in
+    let r = λ (d : Direction) (e : sights taken slides (opposite d) k o ≡ false). reached_unseen taken after slides o h d a k l slider e in
+    rw (r NorthEast none.2, r SouthEast none.3, r SouthWest none.0, r NorthWest none.1)
+
+straight_unseen : (taken after slides : ℕ → Bool) (o : ℕ) → Leaves taken after o → (a k : ℕ) → a < 64 → slides a ≡ true
+    → sights_as_rook taken slides k o ≡ false → reaches_as_rook after a k ≡ reaches_as_rook taken a k
+unfolding reaches_as_rook sights_as_rook
+straight_unseen taken after slides o h a k l slider unseen =
+    let none = four_none (sights taken slides North k o) (sights taken slides East k o) (sights taken slides South k o) (sights taken slides West k o) unseen in
+    let r = λ (d : Direction) (e : sights taken slides (opposite d) k o ≡ false). reached_unseen taken after slides o h d a k l slider e in
+    rw (r North none.2, r East none.3, r South none.0, r West none.1)
+
 slants_left : (taken after : ℕ → Bool) (o : ℕ) → Leaves taken after o → (a k : ℕ)
     → reaches_as_bishop taken o k ≡ false → reaches_as_bishop after a k ≡ reaches_as_bishop taken a k
 unfolding reaches_as_bishop
@@ -83,14 +115,36 @@ pub place_left : (taken after : ℕ → Bool) (o : ℕ) → Leaves taken after o
 place_left taken after o h by None a k hs hg = refl
 place_left taken after o h by (Some man) a k hs hg = ap (λ x. is_colour by man.colour && x) (attacks_left taken after o h by man.kind a k hs hg)
 
+attacks_unseen : (taken after slants lines : ℕ → Bool) (o : ℕ) → Leaves taken after o → (c : Colour) (kind : Kind) (a k : ℕ) → a < 64
+    → (is_diagonal_kind kind ≡ true → slants a ≡ true) → (is_straight_kind kind ≡ true → lines a ≡ true)
+    → sights_as_bishop taken slants k o ≡ false → sights_as_rook taken lines k o ≡ false → hits_as after c kind a k ≡ hits_as taken c kind a k
+attacks_unseen taken after slants lines o h c Pawn a k l ds gs hs hg = refl
+attacks_unseen taken after slants lines o h c Knight a k l ds gs hs hg = refl
+attacks_unseen taken after slants lines o h c Bishop a k l ds gs hs hg = slants_unseen taken after slants o h a k l (ds refl) hs
+attacks_unseen taken after slants lines o h c Rook a k l ds gs hs hg = straight_unseen taken after lines o h a k l (gs refl) hg
+attacks_unseen taken after slants lines o h c Queen a k l ds gs hs hg = rw (slants_unseen taken after slants o h a k l (ds refl) hs, straight_unseen taken after lines o h a k l (gs refl) hg)
+attacks_unseen taken after slants lines o h c King a k l ds gs hs hg = refl
+
+place_unseen : (men : List (Option Man)) (taken after : ℕ → Bool) (o : ℕ) → Leaves taken after o → (by : Colour) (a k : ℕ) → a < 64
+    → sights_as_bishop taken (λ s. is_one by is_diagonal_kind (man_at men s)) k o ≡ false → sights_as_rook taken (λ s. is_one by is_straight_kind (man_at men s)) k o ≡ false
+    → place_hits after by (man_at men a) a k ≡ place_hits taken by (man_at men a) a k
+place_unseen men taken after o h by a k l hs hg = (elim (man_at men a) as (λ place. man_at men a ≡ place → place_hits after by place a k ≡ place_hits taken by place a k) [
+  | None ↦ λ e. refl
+  | Some man ↦ λ e. (elim (is_colour by man.colour) as (λ b. is_colour by man.colour ≡ b → (b && hits_as after by man.kind a k) ≡ (b && hits_as taken by man.kind a k)) [
+    | false ↦ λ x. refl
+    | true ↦ λ x. attacks_unseen taken after (λ s. is_one by is_diagonal_kind (man_at men s)) (λ s. is_one by is_straight_kind (man_at men s)) o h by man.kind a k l (λ y. rw (e, x, y) refl) (λ y. rw (e, x, y) refl) hs hg
+  ]) refl
+]) refl
+
 no_attack : (taken : ℕ → Bool) (by : Colour) (place : Option Man) (a k : ℕ) → is_of by place ≡ false → place_hits taken by place a k ≡ false
 no_attack taken by None a k h = refl
 no_attack taken by (Some man) a k h = ap (λ x. x && hits_as taken by man.kind a k) h
 
--- A man on a square from which a queen would not see the king goes: each attack on the king stays, and no other comes.
+-- A man goes that the king does not see towards a slider: each attack on the king stays, and no other comes.
 pub attacks_removed : (men : List (Option Man)) (king origin : ℕ) (by : Colour) (a : ℕ) → length men ≡ 64 → origin < 64 → a < 64
     → is_of by (man_at men origin) ≡ false
-    → reaches_as_bishop (λ s. is_taken men s) king origin ≡ false → reaches_as_rook (λ s. is_taken men s) king origin ≡ false
+    → sights_as_bishop (λ s. is_taken men s) (λ s. is_one by is_diagonal_kind (man_at men s)) king origin ≡ false
+    → sights_as_rook (λ s. is_taken men s) (λ s. is_one by is_straight_kind (man_at men s)) king origin ≡ false
     → hits_from (set men origin None) by a king ≡ hits_from men by a king
 attacks_removed men king origin by a len on l own hs hg =
     let taken : ℕ → Bool = λ s. is_taken men s in
@@ -114,7 +168,7 @@ attacks_removed men king origin by a len on l own hs hg =
           ap (λ p. place_hits after by p a king) here ∙ sym (no_attack taken by (man_at men a) a king there)
       | false ↦ λ e.
           ap (λ p. place_hits after by p a king) (others a (eqb-false a origin e))
-          ∙ place_left taken after origin leaves by (man_at men a) a king (slants_back taken king origin ∙ hs) (straight_back taken king origin ∙ hg)
+          ∙ place_unseen men taken after origin leaves by a king l hs hg
     ]) refl
   where
     others : (s : ℕ) → s ≢ origin → man_at (set men origin None) s ≡ man_at men s

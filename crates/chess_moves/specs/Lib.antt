@@ -12,3 +12,4 @@ pub mod Checks
 pub mod Sights
 pub mod Plays
 pub mod Laws
+pub mod Shifts

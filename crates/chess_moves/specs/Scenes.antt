@@ -8,7 +8,7 @@ use Rattle.chess_board.specs.Positions.{Setup, man_at}
 use Rattle.chess_board.specs.Sets.{IsSetOf}
 use Rattle.chess_board.specs.Soundness.{IsSound}
 use Rattle.chess_moves.specs.declared.scenes.Scene.{Scene}
-use Rattle.chess_moves.specs.Directions.{stands_between, reaches_as_bishop, reaches_as_rook}
+use Rattle.chess_moves.specs.Directions.{stands_between, sights_as_bishop, sights_as_rook}
 use Rattle.chess_moves.specs.Hits.{hits_from}
 use Rattle.chess_moves.specs.Forces.{StandFor}
 
@@ -27,8 +27,8 @@ pub record IsSceneOf (scene : Scene) (p : Setup) : Type 0 where
   pub enemy : StandFor scene.enemy (other_side p.side) p.men
   pub on_board : scene.king < 64
   pub king : man_at p.men scene.king ≡ man_of p.side King
-  -- what a queen on the king's square would see
+  -- what the king sees towards the enemy's sliders
   pub nearest : (t : ℕ) → t < 64 → has scene.nearest t
-      ≡ (reaches_as_bishop (has scene.occupied) scene.king t || reaches_as_rook (has scene.occupied) scene.king t)
+      ≡ (sights_as_bishop (has scene.occupied) (has scene.enemy.diagonal) scene.king t || sights_as_rook (has scene.occupied) (has scene.enemy.straight) scene.king t)
   pub answers : (t : ℕ) → t < 64 → has scene.answers t ≡ answers_check p scene.king t
   pub sound : IsSound p

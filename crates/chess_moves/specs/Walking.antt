@@ -5,7 +5,7 @@ use Rattle.square_sets.specs.Members.{has}
 use Rattle.chess_board.specs.declared.men.Kind.{Kind}
 use Rattle.chess_board.specs.declared.men.Kind.TheVariants.{Knight, Bishop, Rook, Queen}
 use Rattle.chess_board.specs.declared.men.Man.{Man}
-use Rattle.chess_board.specs.Men.{is_of}
+use Rattle.chess_board.specs.Men.{is_of, man_of}
 use Rattle.chess_board.specs.Positions.{Setup, man_at}
 use Rattle.chess_board.specs.Moves.{Move}
 use Rattle.chess_board.specs.Candidates.{promotes}
@@ -61,6 +61,10 @@ moves_left left = man_moves left.turn ++ moves_of_men left.position.now (members
 -- A man of the side to move stands on each square of the set.
 abbrev pub HaveOwnMen : ℕ → Setup → Type 0
 HaveOwnMen set p = (s : ℕ) → s < 64 → has set s ≡ true → is_of p.side (man_at p.men s) ≡ true
+
+-- A man of the side to move and of this kind stands on each square of the set.
+abbrev pub HaveMenOf : Kind → ℕ → Setup → Type 0
+HaveMenOf kind set p = (s : ℕ) → s < 64 → has set s ≡ true → man_at p.men s ≡ man_of p.side kind
 
 pub record IsUnderWay (left : Inside) : Type 0 where
   pub scene : IsSceneOf left.scene left.position.now

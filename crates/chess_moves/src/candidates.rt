@@ -1,12 +1,13 @@
 //! Where the rules let a man go, whatever becomes of its king, as sets of squares (FIDE Laws of Chess, articles 3.1 to 3.8).
 
-ghost use Rattle.std.specs.Prelude.{◌≡◌, ℕ, ◌<◌, ◌||◌};
+ghost use Rattle.std.specs.Prelude.{◌≡◌, ℕ, ◌<◌, false, ◌||◌};
 ghost use Rattle.square_sets.specs.Members.{has};
 ghost use Rattle.chess_board.specs.declared.men.Kind.TheVariants as kind;
 ghost use Rattle.chess_board.specs.Positions.{Setup};
 ghost use Rattle.chess_board.specs.Men.{other_side, king_home as king_home_of, rook_home as rook_home_of};
 ghost use Rattle.chess_board.specs.Attacks.{is_attacked};
 ghost use Rattle.chess_board.specs.Candidates.{steps_once, steps_twice, takes, takes_in_passing, piece_goes, king_goal as king_goal_of, castles_to, castles};
+ghost use Rattle.chess_moves.specs.Directions.{stands_between};
 ghost use Rattle.chess_moves.specs.Hits.{hits_as};
 ghost use Rattle.chess_moves.specs.Scenes.{IsSceneOf};
 
@@ -87,6 +88,16 @@ pub(crate) fn passing_targets(rays: &Rays, position: &Position, man: Man, origin
     }
 }
 
+/// The squares from which the colour's pawns capture en passant: two at most.
+pub(crate) fn passing_origins(rays: &Rays, position: &Position, colour: Colour) -> u64
+    ensures { (o t : ℕ) → o < 64 → t < 64 → has result o ≡ false → takes_in_passing position.now colour o t ≡ false }
+{
+    match position.ep_target() {
+        Some(target) => rays.leap(target.index() as u8, Leap::capture_back(colour)),
+        None => 0,
+    }
+}
+
 /// Where the king stands before it castles.
 fn king_home(colour: Colour) -> u8
     ensures { result ≡ king_home_of colour }
@@ -97,15 +108,15 @@ fn king_home(colour: Colour) -> u8
     }
 }
 
-/// Where the rook stands before it castles.
-fn rook_home(colour: Colour, wing: Wing) -> u8
-    ensures { result ≡ rook_home_of colour wing }
+/// The squares between a king and a rook that castle.
+fn castling_way(colour: Colour, wing: Wing) -> u64
+    ensures { (t : ℕ) → t < 64 → has result t ≡ stands_between (king_home_of colour) (rook_home_of colour wing) t }
 {
     match (colour, wing) {
-        (Colour::White, Wing::KingSide) => 7,
-        (Colour::White, Wing::QueenSide) => 0,
-        (Colour::Black, Wing::KingSide) => 63,
-        (Colour::Black, Wing::QueenSide) => 56,
+        (Colour::White, Wing::KingSide) => 0x60,
+        (Colour::White, Wing::QueenSide) => 0x0e,
+        (Colour::Black, Wing::KingSide) => 0x6000_0000_0000_0000,
+        (Colour::Black, Wing::QueenSide) => 0x0e00_0000_0000_0000,
     }
 }
 
@@ -135,6 +146,14 @@ fn is_attacked_in(rays: &Rays, scene: &Scene, square: u8) -> bool
     )
 }
 
+/// Whether the king of the side to move is attacked: only then does its own square answer no check.
+fn is_checked(scene: &Scene) -> bool
+    requires { scene.now.king < 64 }
+    ensures { (p : Setup) → IsSceneOf scene.now p → result ≡ is_attacked p.men scene.now.king (other_side p.side) }
+{
+    !square_sets::contains(scene.answers, scene.king)
+}
+
 /// Where the king goes when it castles on a wing: one square, or none.
 fn castling_target(rays: &Rays, position: &Position, scene: &Scene, wing: Wing) -> u64
     requires scene { IsSceneOf scene.now position.now }
@@ -144,13 +163,13 @@ fn castling_target(rays: &Rays, position: &Position, scene: &Scene, wing: Wing) 
     if scene.king != home || !position.has_right(scene.side, wing) {
         return 0;
     }
-    let between = rays.between(home, rook_home(scene.side, wing));
+    let between = castling_way(scene.side, wing);
     if between & scene.occupied != 0 {
         return 0;
     }
     let goal = king_goal(scene.side, wing);
     let crossed = (home + goal) / 2;
-    if is_attacked_in(rays, scene, home)
+    if is_checked(scene)
         || is_attacked_in(rays, scene, crossed)
         || is_attacked_in(rays, scene, goal)
     {

@@ -6,7 +6,7 @@ ghost use Rattle.chess_board.specs.declared.men.Man.{Man as ManValue};
 ghost use Rattle.chess_board.specs.declared.men.Colour.{Colour as ColourValue};
 ghost use Rattle.chess_board.specs.Men.{is_of};
 ghost use Rattle.chess_board.specs.Sets.{IsSetOf};
-ghost use Rattle.chess_moves.specs.Directions.{reaches, reaches_as_bishop, reaches_as_rook};
+ghost use Rattle.chess_moves.specs.Directions.{reaches, reaches_as_bishop, reaches_as_rook, sights, sights_as_bishop, sights_as_rook};
 ghost use Rattle.chess_moves.specs.Hits.{hits_from, is_hit};
 ghost use Rattle.chess_moves.specs.Forces.{StandFor};
 
@@ -43,6 +43,39 @@ pub(crate) fn all_of(force: &Force) -> u64
     ensures { (men : List (Option ManValue)) (by : ColourValue) → StandFor force.now by men → IsSetOf result (is_of by) men }
 {
     force.pawns | force.knights | force.diagonal | force.straight | force.king
+}
+
+/// What a square sees along a ray with one of these sliders on it, however far; nothing along another.
+fn sight_along(rays: &Rays, occupied: u64, sliders: u64, square: u8, direction: Direction) -> u64
+    requires { square < 64 }
+    ensures { (t : ℕ) → t < 64 → has result t ≡ sights (has occupied) (has sliders) direction square t }
+{
+    if sliders & rays.ray(square, direction) == 0 {
+        return 0;
+    }
+    rays.reach(square, direction, occupied)
+}
+
+/// What a square sees on its diagonals with one of these sliders on them.
+pub(crate) fn diagonal_sight(rays: &Rays, occupied: u64, sliders: u64, square: u8) -> u64
+    requires { square < 64 }
+    ensures { (t : ℕ) → t < 64 → has result t ≡ sights_as_bishop (has occupied) (has sliders) square t }
+{
+    sight_along(rays, occupied, sliders, square, Direction::NorthEast)
+        | sight_along(rays, occupied, sliders, square, Direction::SouthEast)
+        | sight_along(rays, occupied, sliders, square, Direction::SouthWest)
+        | sight_along(rays, occupied, sliders, square, Direction::NorthWest)
+}
+
+/// What a square sees on its rank and its file towards one of these sliders.
+pub(crate) fn straight_sight(rays: &Rays, occupied: u64, sliders: u64, square: u8) -> u64
+    requires { square < 64 }
+    ensures { (t : ℕ) → t < 64 → has result t ≡ sights_as_rook (has occupied) (has sliders) square t }
+{
+    sight_along(rays, occupied, sliders, square, Direction::North)
+        | sight_along(rays, occupied, sliders, square, Direction::East)
+        | sight_along(rays, occupied, sliders, square, Direction::South)
+        | sight_along(rays, occupied, sliders, square, Direction::West)
 }
 
 /// The sliders that see a square along one of its rays. A ray with none of them on it is not scanned.

@@ -9,7 +9,7 @@ ghost use Rattle.chess_board.specs.Men.{is_colour, is_of};
 ghost use Rattle.chess_board.specs.Positions.{man_at};
 ghost use Rattle.chess_board.specs.Sets.{IsSetOf};
 ghost use Rattle.chess_board.specs.After.{moved, cleared};
-ghost use Rattle.chess_moves.specs.Directions.{reaches_as_bishop, reaches_as_rook};
+ghost use Rattle.chess_moves.specs.Directions.{sights_as_bishop, sights_as_rook};
 ghost use Rattle.chess_moves.specs.Hits.{hits_from, is_hit};
 ghost use Rattle.chess_moves.specs.Forces.{StandFor};
 ghost use Rattle.chess_moves.specs.Scenes.{gets_through};
@@ -148,8 +148,8 @@ fn allowed_targets(
     keeping_from(rays, through, king)
 }
 
-/// The same, where `nearest`, the squares that a queen would see from the king's, and the answers to check are known: a man
-/// that stands outside `nearest` need only answer the checks that there are.
+/// The same, where `nearest`, what the king sees towards the sliders, and the answers to check are known: a man that stands
+/// outside `nearest` need only answer the checks that there are.
 pub(crate) fn allowed_from(
     rays: &Rays,
     occupied: u64,
@@ -161,7 +161,7 @@ pub(crate) fn allowed_from(
     origin: u8,
 ) -> u64
     requires on_board { (king < 64) × (origin < 64) }
-    requires nearest { (t : ℕ) → t < 64 → has nearest t ≡ (reaches_as_bishop (has occupied) king t || reaches_as_rook (has occupied) king t) }
+    requires nearest { (t : ℕ) → t < 64 → has nearest t ≡ (sights_as_bishop (has occupied) (has force.now.diagonal) king t || sights_as_rook (has occupied) (has force.now.straight) king t) }
     ensures { (men : List (Option ManValue)) (man : ManValue) → length men ≡ 64 → IsSetOf occupied is_some men → StandFor force.now by men
         → is_of by (man_at men origin) ≡ false → is_colour by man.colour ≡ false
         → ((t : ℕ) → t < 64 → has answers t ≡ not (some_square (λ a. hits_from men by a king && gets_through a king t)))

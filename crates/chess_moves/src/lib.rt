@@ -21,6 +21,7 @@ mod laws;
 mod listing;
 mod mating;
 mod movers;
+mod pawns;
 mod plays;
 mod rays;
 mod scenes;

@@ -1,10 +1,13 @@
-//! The man that makes a move, and where it is promoted.
+//! The man that makes a move, where it is promoted, and how many moves it has.
 
-ghost use Rattle.std.specs.Prelude.{◌≡◌, ℕ, ◌<◌, true, Some};
+ghost use Rattle.std.specs.Prelude.{◌≡◌, ℕ, ◌<◌, ◌≤◌, true, Some, length};
+ghost use Rattle.std.specs.List.{flat_map};
 ghost use Rattle.square_sets.specs.Members.{has};
 ghost use Rattle.chess_board.specs.Men.{is_of};
 ghost use Rattle.chess_board.specs.Positions.{man_at};
 ghost use Rattle.chess_board.specs.Candidates.{promotes};
+ghost use Rattle.chess_moves.specs.Targets.{ways};
+ghost use Rattle.chess_moves.specs.Walking.{members};
 
 use chess_board::{Colour, Kind, Man, Position, Square};
 
@@ -32,4 +35,13 @@ pub(crate) fn promotion_squares(man: Man) -> u64
         Colour::White => 0xff00_0000_0000_0000,
         Colour::Black => 0xff,
     }
+}
+
+/// How many moves to these targets a man has: four where it is promoted, else one.
+pub(crate) fn count_ways(man: Man, targets: u64) -> u64
+    ensures count { (origin : ℕ) → result ≡ length (flat_map (ways man origin) (members targets)) }
+    ensures few { result ≤ 256 }
+{
+    let promoted = targets & promotion_squares(man);
+    u64::from(targets.count_ones()) + 3 * u64::from(promoted.count_ones())
 }

@@ -176,14 +176,11 @@ impl Rays {
         ensures { (t : ℕ) → t < 64 → has result t ≡ reaches (has occupied) direction square t }
     {
         let ray = self.ray(square, direction);
-        let blockers = ray & occupied;
-        if blockers == 0 {
-            return ray;
-        }
+        // Beyond the last square of the board lies nothing, so that one more man there spares a test for a ray without any.
         let first = if direction.rises() {
-            blockers.trailing_zeros()
+            (ray & occupied | 1 << 63).trailing_zeros()
         } else {
-            63 - blockers.leading_zeros()
+            63 - (ray & occupied | 1).leading_zeros()
         };
         ray & !self.ray(first as u8, direction)
     }

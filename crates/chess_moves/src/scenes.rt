@@ -3,7 +3,7 @@
 ghost use Rattle.std.specs.Prelude.{◌≡◌};
 ghost use Rattle.chess_moves.specs.Scenes.{IsSceneOf};
 
-use crate::forces::{Force, all_of, force_of};
+use crate::forces::{Force, all_of, diagonal_sight, force_of, straight_sight};
 use crate::guards::answers_to_check;
 use crate::rays::Rays;
 use chess_board::{Colour, Position};
@@ -21,7 +21,7 @@ pub(crate) struct Scene {
     pub enemy: Force,
     /// The square of the king of the side to move.
     pub king: u8,
-    /// What a queen on that square would see: only men on these squares can be pinned.
+    /// What the king sees on its lines with a slider of the other side: only men on these squares can be pinned.
     pub nearest: u64,
     /// The squares on which a man answers the checks that there are: all where there is none.
     pub answers: u64,
@@ -42,7 +42,8 @@ pub(crate) fn scene_of(rays: &Rays, position: &Position) -> Scene
         own: all_of(&force_of(position, side)),
         enemy,
         king,
-        nearest: rays.bishop_reach(king, occupied) | rays.rook_reach(king, occupied),
+        nearest: diagonal_sight(rays, occupied, enemy.diagonal, king)
+            | straight_sight(rays, occupied, enemy.straight, king),
         answers: answers_to_check(rays, occupied, &enemy, by, king),
     }
 }

@@ -1,19 +1,15 @@
 -- The definitions read with their moves named.
-use Rattle.std.proofs.Common.{◌≡◌, ℕ, zero, suc, ◌+◌, ◌-◌, ◌<◌, ◌≤◌, Bool, true, false, not, ◌&&◌, ◌||◌, List, [], ◌∷◌, length, Some, None, refl, sym, ◌∙◌, arith, add-one, inl, inr}
+use Rattle.std.proofs.Common.{◌≡◌, ℕ, zero, suc, ◌+◌, ◌-◌, ◌≤◌, Bool, true, false, ◌&&◌, ◌||◌, List, [], ◌∷◌, length, Some, None, refl, sym, ◌∙◌, arith, add-one, inl, inr}
 use Rattle.std.specs.Prelude.{nat_lt, ◌⊎◌}
 use Rattle.std.specs.List.{Contains, list_any, list_all}
-use Rattle.std.proofs.lemmas.Bool.{and_parts}
 use Rattle.std.proofs.lemmas.Bool.Decides.{nat_tests}
 use Rattle.std.proofs.lemmas.List.Elements.{filter_passes, All-filter, All-contains, All-contains_itself}
 use Rattle.chess_board.specs.Positions.{Setup}
 use Rattle.chess_board.specs.Moves.{Move}
 use Rattle.chess_board.specs.After.{after_setup}
-use Rattle.chess_board.specs.Attacks.{is_in_check}
-use Rattle.chess_board.specs.Legality.{is_legal}
 use Rattle.chess_moves.specs.Listing.{legal_moves}
 use Rattle.chess_moves.specs.Verdicts.{has_legal_move, is_mate}
-use Rattle.chess_moves.specs.Laws.{LegalListed}
-use Rattle.mate_search.specs.Wins.{win, lost, leaves_lost}
+use Rattle.mate_search.specs.Wins.{win, leaves_lost}
 use Rattle.mate_search.specs.Truth.{dist, truth, truth_among}
 use Rattle.mate_search.specs.Laws.{WinReads, LostReads, KeysRead, DistReads, NoDistReads, IsTold, TruthReads}
 use Rattle.mate_search.proofs.Searches.{any_contains, contains_any, all_contains, contains_all, filter_keeps}
@@ -92,17 +88,3 @@ truth_reads p b = (elim (dist (legal_moves p) p b) as (λ o. dist (legal_moves p
       let least = dist_least (legal_moves p) p b n is in
       rw is (least.0, least.1, sym (all_among n p) ∙ least.2, (λ k below. sym (all_among k p) ∙ least.3 k below), keys_read (legal_moves p) p n)
 ]) refl
-
--- A legal reply after which the attacker does not mate refutes.
-pub refuted : LegalListed → (k : ℕ) (q : Setup) (r : Move) → r.origin < 64 → r.target < 64 → is_legal q r ≡ true → win k (after_setup q r) ≡ false → lost k q ≡ false
-refuted listed k q r origin target legal fails =
-    let here = (listed q r).1 (origin, target, legal) in
-    (elim (lost k q) as (λ b. lost k q ≡ b → b ≡ false) [
-      | false ↦ λ l. refl
-      | true ↦ λ l. elim ((lost_reads k q).0 l) [
-        | inl mated ↦
-            let has : has_legal_move q ≡ true = is_some (legal_moves q) r here in
-            let n = rw has at (and_parts (is_in_check q.men q.side) (not (has_legal_move q)) mated).1 in cc
-        | inr met ↦ let w = met.2 r here in cc
-      ]
-    ]) refl

@@ -1,17 +1,14 @@
 -- Forced mate, step by step.
-use Rattle.std.proofs.Common.{◌≡◌, ℕ, zero, suc, ◌-◌, ◌<◌, Bool, true, false, cond, not, ◌&&◌, ◌||◌, List, [], ◌∷◌, filter, refl, ap, ◌∙◌, arith, sub-one}
-use Rattle.std.proofs.lemmas.Bool.{and_parts}
+use Rattle.std.proofs.Common.{◌≡◌, ℕ, zero, suc, ◌-◌, ◌<◌, Bool, true, false, cond, ◌&&◌, ◌||◌, List, [], ◌∷◌, filter, refl, ◌∙◌, arith, sub-one}
 use Rattle.std.specs.Prelude.{nat_lt, length}
 use Rattle.std.specs.List.{All, list_any, list_all}
-use Rattle.std.proofs.lemmas.List.Elements.{filter_passes, All-filter}
+use Rattle.std.proofs.lemmas.List.Elements.{filter_passes}
 use Rattle.chess_board.specs.Positions.{Setup}
 use Rattle.chess_board.specs.Moves.{Move}
 use Rattle.chess_board.specs.After.{after_setup}
 use Rattle.chess_board.specs.Legality.{is_legal}
 use Rattle.chess_moves.specs.Listing.{legal_moves, moves_below}
-use Rattle.chess_moves.specs.Verdicts.{has_legal_move, is_mate}
-use Rattle.chess_moves.specs.Checks.{gives_check, checking_moves}
-use Rattle.chess_board.specs.Attacks.{is_in_check}
+use Rattle.chess_moves.specs.Verdicts.{has_legal_move, is_mate, has_mating_move}
 use Rattle.mate_search.specs.Wins.{win, lost, loses_by, leaves_lost, win_among}
 use Rattle.mate_search.proofs.Searches.{any_weaker, all_weaker}
 
@@ -19,6 +16,14 @@ use Rattle.mate_search.proofs.Searches.{any_weaker, all_weaker}
 pub legal_each : (p : Setup) → All (λ m. is_legal p m ≡ true) (legal_moves p)
 unfolding legal_moves
 legal_each p = filter_passes (is_legal p) (moves_below 64)
+
+pub all_legal : (p : Setup) → list_all (is_legal p) (legal_moves p) ≡ true
+unfolding legal_moves
+all_legal p = all_kept (is_legal p) (moves_below 64)
+  where
+    all_kept : (f : Move → Bool) (xs : List Move) → list_all f (filter f xs) ≡ true
+    all_kept f [] = refl
+    all_kept f (x ∷ xs) = (elim (f x) as (λ b. f x ≡ b → list_all f (cond b (x ∷ filter f xs) (filter f xs)) ≡ true) [ true ↦ λ e. rw e (all_kept f xs) | false ↦ λ e. all_kept f xs ]) refl
 
 pub win_none : (n : ℕ) (p : Setup) → n ≡ 0 → win n p ≡ false
 unfolding win
@@ -65,41 +70,13 @@ unfolding win
 win_more zero p e = cc
 win_more (suc n) p e = any_weaker _ _ (legal_moves p) (λ m. loses_weaker (win n) (win (suc n)) (after_setup p m) (win_more n)) e
 
--- A mate within n moves is one within fewer, or one found at n.
-pub win_longer : (n : ℕ) (p : Setup) → 1 < n → win n p ≡ (win (n - 1) p || win n p)
-win_longer n p h = (elim (win (n - 1) p) as (λ b. win (n - 1) p ≡ b → win n p ≡ (b || win n p)) [
-  | true ↦ λ t. let s : suc (n - 1) ≡ n = omega arith in rw s at (win_more (n - 1) p t)
-  | false ↦ λ t. refl
-]) refl
-
--- A list has an element that passes where one of those kept does, if each that passes is kept.
-any_kept : (f g : Move → Bool) (xs : List Move) → ((x : Move) → f x ≡ true → g x ≡ true) → list_any f xs ≡ list_any f (filter g xs)
-any_kept f g [] h = refl
-any_kept f g (x ∷ xs) h = (elim (g x) as (λ b. g x ≡ b → (f x || list_any f xs) ≡ list_any f (cond b (x ∷ filter g xs) (filter g xs))) [
-  | true ↦ λ t. ap (λ (b : Bool). f x || b) (any_kept f g xs h)
-  | false ↦ λ t. (elim (f x) as (λ b. f x ≡ b → (b || list_any f xs) ≡ list_any f (filter g xs)) [
-    | true ↦ λ u. let n = h x u in cc
-    | false ↦ λ u. any_kept f g xs h
-  ]) refl
-]) refl
-
-mated_in_check : (p : Setup) (m : Move) → is_mate (after_setup p m) ≡ true → gives_check p m ≡ true
-unfolding gives_check
-mated_in_check p m e = (and_parts (is_in_check (after_setup p m).men (after_setup p m).side) (not (has_legal_move (after_setup p m))) e).0
-
--- A mate in one move is one by a move that gives check.
-pub win_one : (p : Setup) → win 1 p ≡ list_any (λ m. is_mate (after_setup p m)) (checking_moves p)
-unfolding checking_moves
+-- A mate in one move is a legal move that mates.
+pub win_one : (p : Setup) → win 1 p ≡ has_mating_move p
+unfolding has_mating_move
 win_one p =
     win_step 1 p (omega arith)
     ∙ any_same (leaves_lost 0 p) (λ m. is_mate (after_setup p m)) (legal_moves p) (λ m. lost_none 0 (after_setup p m) refl)
-    ∙ any_kept (λ m. is_mate (after_setup p m)) (gives_check p) (legal_moves p) (mated_in_check p)
   where
     any_same : (f g : Move → Bool) (xs : List Move) → ((x : Move) → f x ≡ g x) → list_any f xs ≡ list_any g xs
     any_same f g [] h = refl
     any_same f g (x ∷ xs) h = rw (h x, any_same f g xs h)
-
--- Each move that gives check is legal.
-pub legal_checks : (p : Setup) → All (λ m. is_legal p m ≡ true) (checking_moves p)
-unfolding checking_moves
-legal_checks p = All-filter (gives_check p) (λ m. is_legal p m ≡ true) (legal_moves p) (legal_each p)

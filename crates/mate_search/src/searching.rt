@@ -1,6 +1,6 @@
 //! Whether the side to move mates, or is mated, within so many moves of the attacker.
 
-ghost use Rattle.std.specs.Prelude.{◌≡◌, ◌<◌, ◌-◌, true, false, All};
+ghost use Rattle.std.specs.Prelude.{◌≡◌, ◌<◌, ◌≤◌, ◌-◌, true, false, All, IfSome, None};
 ghost use Rattle.std.specs.List.{list_any};
 ghost use Rattle.chess_board.specs.Legality.{is_legal as may_be_played};
 ghost use Rattle.chess_moves.specs.Verdicts.{is_mate};
@@ -8,11 +8,10 @@ ghost use Rattle.mate_search.specs.Wins.{win, lost, leaves_lost};
 
 use crate::memo::Memo;
 use chess_board::{Move, Position, after};
-use chess_moves::{Rays, Verdict, checks, is_legal, legal, legal_listed, verdict};
+use chess_moves::{Rays, Verdict, has_mating_move, legal, legal_moves, verdict};
 
-/// Whether the attacker, to move, mates within `n` moves: tries to mate within fewer first, since most mates of a search are
-/// short, and asks the memo before it tries `n`. A position one move from the end is not worth keeping.
-#[tactic(auto, using(crate::proofs::Wins::win_none, crate::proofs::Wins::win_longer))]
+/// Whether the attacker, to move, mates within `n` moves. A position one move from the end is not worth keeping.
+#[tactic(auto, using(crate::proofs::Wins::win_none))]
 #[cycle(search)]
 pub(crate) fn wins(rays: &Rays, position: &Position, n: u8, memo: &mut Memo) -> bool
     ensures { result ≡ win n position.now }
@@ -20,7 +19,7 @@ pub(crate) fn wins(rays: &Rays, position: &Position, n: u8, memo: &mut Memo) -> 
     match n {
         0 => false,
         1 => mates(rays, position),
-        _ => wins(rays, position, n - 1, memo) || wins_anew(rays, position, n, memo),
+        _ => wins_longer(rays, position, n, memo),
     }
 }
 
@@ -31,34 +30,54 @@ fn is_mated(rays: &Rays, position: &Position) -> bool
     verdict(rays, position) == Verdict::Mate
 }
 
-/// Whether a legal move mates. Only one that gives check can.
-#[tactic(auto, using(crate::proofs::Wins::legal_checks, crate::proofs::Wins::win_one))]
+/// Whether a legal move mates.
+#[tactic(auto, using(crate::proofs::Wins::win_one))]
 fn mates(rays: &Rays, position: &Position) -> bool
     ensures { result ≡ win 1 position.now }
 {
-    let moves = checks(rays, position);
-    for m in moves.as_slice() {
-        if is_mated(rays, &after(position, *m)) {
-            return true;
-        }
-    }
-    false
+    has_mating_move(rays, position)
 }
 
-/// The same as `wins`, by the memo, or else by trying each move, which the memo then keeps.
-#[tactic(auto, using(crate::proofs::Wins::win_step, crate::proofs::Wins::legal_each))]
+/// The same as `wins`, by the memo, or else by trying to mate within fewer moves first, since most mates of a search are short.
 #[cycle(search)]
-fn wins_anew(rays: &Rays, position: &Position, n: u8, memo: &mut Memo) -> bool
-    requires { 0 < n }
+fn wins_longer(rays: &Rays, position: &Position, n: u8, memo: &mut Memo) -> bool
+    requires { 1 < n }
     ensures { result ≡ win n position.now }
 {
-    let entry = memo.entry(position);
-    if let Some(found) = entry.answer(n) {
+    let known = memo.entry(position);
+    if let Some(found) = known.answer(n) {
         return found;
     }
-    let found = wins_among(rays, position, legal(rays, position).as_slice(), n, memo);
-    memo.keep(position, entry.with(n, found));
-    found
+    if known.none_within == 0 && mates(rays, position) {
+        return true;
+    }
+    match least_win(rays, position, known.none_within.max(1), n, memo) {
+        Some(k) => {
+            memo.keep(position, known.with(k - 1, false).with(k, true));
+            true
+        }
+        None => {
+            memo.keep(position, known.with(n, false));
+            false
+        }
+    }
+}
+
+/// The least number of moves up to `n` within which the attacker mates, where it does not within `none`.
+#[tactic(auto, using(crate::proofs::Wins::win_step, crate::proofs::Wins::legal_each))]
+#[cycle(search)]
+fn least_win(rays: &Rays, position: &Position, none: u8, n: u8, memo: &mut Memo) -> Option<u8>
+    requires { win none position.now ≡ false }
+    ensures least { IfSome result (λ k. (0 < k) × (k ≤ n) × (win (k - 1) position.now ≡ false) × (win k position.now ≡ true)) }
+    ensures none { result ≡ None → win n position.now ≡ false }
+{
+    let moves = legal(rays, position);
+    for k in none..n {
+        if wins_among(rays, position, moves.as_slice(), k + 1, memo) {
+            return Some(k + 1);
+        }
+    }
+    None
 }
 
 /// Whether the attacker mates within `n` moves, the first of which is one of these.
@@ -83,8 +102,8 @@ pub(crate) fn wins_among(
     false
 }
 
-/// Whether the defender, to move, is mated, or the attacker mates within `k` moves whatever the reply. The reply that refuted
-/// the attacker's last move is tried first, and one that refutes this move is left for the next.
+/// Whether the defender, to move, is mated, or the attacker mates within `k` moves whatever the reply. The reply that refuted the
+/// attacker's last move is tried first, and one that refutes this move is left for the next.
 #[tactic(auto, using(crate::proofs::Wins::lost_none))]
 #[cycle(search)]
 pub(crate) fn loses(
@@ -96,7 +115,7 @@ pub(crate) fn loses(
 ) -> bool
     ensures { result ≡ lost k position.now }
 {
-    // Most positions of a search are met here, and need no list.
+    // Most positions of a search are met here.
     if k == 0 {
         return is_mated(rays, position);
     }
@@ -113,15 +132,15 @@ pub(crate) fn loses(
 fn refutes(rays: &Rays, position: &Position, reply: Move, k: u8, memo: &mut Memo) -> bool
     ensures { result ≡ true → lost k position.now ≡ false }
 {
-    // That the reply stands among the legal moves is a law.
-    legal_listed();
-    prove!(reply.origin.index() < 64);
-    prove!(reply.target.index() < 64);
-    is_legal(rays, position, reply) && !wins(rays, &after(position, reply), k, memo)
+    for r in legal_moves(rays, position) {
+        if r == reply {
+            return !wins(rays, &after(position, r), k, memo);
+        }
+    }
+    false
 }
 
-/// The same as `loses` by a list of the replies, each of which has to lose.
-#[tactic(auto, using(crate::proofs::Wins::legal_each))]
+/// The same as `loses` by all replies, each of which has to lose.
 #[cycle(search)]
 fn loses_each(
     rays: &Rays,
@@ -132,15 +151,13 @@ fn loses_each(
 ) -> bool
     ensures { result ≡ lost k position.now }
 {
-    let replies = legal(rays, position);
-    if replies.is_empty() {
-        return position.in_check();
-    }
-    for r in replies.as_slice() {
-        if !wins(rays, &after(position, *r), k, memo) {
-            *refutation = Some(*r);
+    let mut moves = false;
+    for r in legal_moves(rays, position) {
+        moves = true;
+        if !wins(rays, &after(position, r), k, memo) {
+            *refutation = Some(r);
             return false;
         }
     }
-    true
+    moves || position.in_check()
 }

@@ -8,23 +8,23 @@ use Rattle.chess_board.specs.Candidates.{crossed, king_goal, castles_to}
 use Rattle.chess_moves.proofs.SetParts.{has_none, only_one}
 use Rattle.chess_moves.proofs.CastlingWays.{castles_says, castles_from, clear_way}
 use Rattle.chess_moves.proofs.candidates.castling_target.Goals as goal
-use Rattle.chess_moves.proofs.candidates.castling_target.Goals.{then-is_attacked_in-via-then-is_attacked_in, then-is_attacked_in-via-else-is_attacked_in+then-is_attacked_in-2, then-is_attacked_in-via-else-is_attacked_in+else-is_attacked_in-2+then-is_attacked_in-3}
+use Rattle.chess_moves.proofs.candidates.castling_target.Goals.{then-is_checked-via-then-is_checked, then-is_checked-via-else-is_checked+then-is_attacked_in, then-is_checked-via-else-is_checked+else-is_attacked_in+then-is_attacked_in-2}
 
 pub returns-then-between-scene-ne0 : goal.returns-then-between-scene-ne0
 returns-then-between-scene-ne0 c = λ t l.
     let p = c.args.position.now in
     let king : ℕ = c.args.scene.now.king in
     let side_is = c.requires.scene.side in
-    let way = clear_way p.men p.side c.args.wing c.king_home-home.result c.rook_home.result c.between-between.result c.args.scene.now.occupied
-    (c.king_home-home.ensures ∙ ap king_home side_is) (c.rook_home.ensures ∙ ap (λ (colour : Colour). rook_home colour c.args.wing) side_is)
-    (omega arith) c.between-between.ensures c.requires.scene.occupied in
-    let blocked = ap (λ (a : ℕ). is_clear p.men a (rook_home p.side c.args.wing)) c.if-scene-home.false ∙ way ∙ ne_eqb (bit_and c.between-between.result c.args.scene.now.occupied) 0 c.if-between-scene-ne0.true in
+    let way = clear_way p.men p.side c.args.wing (king_home c.args.scene.now.side) (rook_home c.args.scene.now.side c.args.wing) c.castling_way-between.result c.args.scene.now.occupied
+    (ap king_home side_is) (ap (λ (colour : Colour). rook_home colour c.args.wing) side_is)
+    (omega arith) c.castling_way-between.ensures c.requires.scene.occupied in
+    let blocked = ap (λ (a : ℕ). is_clear p.men a (rook_home p.side c.args.wing)) (c.if-scene-home.false ∙ c.king_home-home.ensures) ∙ way ∙ ne_eqb (bit_and c.castling_way-between.result c.args.scene.now.occupied) 0 c.if-between-scene-ne0.true in
     has_none 0 t refl ∙ sym (false_from_ne_true (castles_to p p.side c.args.wing king t) (λ h.
     let x = (castles_says p p.side c.args.wing king t h).clear in
     cc))
 
-pub returns-then-is_attacked_in : goal.returns-then-is_attacked_in
-returns-then-is_attacked_in c = λ t l.
+pub returns-then-is_checked : goal.returns-then-is_checked
+returns-then-is_checked c = λ t l.
     let p = c.args.position.now in
     let by : Colour = other_side p.side in
     let king : ℕ = c.args.scene.now.king in
@@ -35,18 +35,18 @@ returns-then-is_attacked_in c = λ t l.
     let at_home : king ≡ home = c.if-scene-home.false in
     let at_goal : t ≡ c.king_goal-goal.result = x.goal ∙ sym (c.king_goal-goal.ensures ∙ ap (λ (colour : Colour). king_goal colour c.args.wing) scene.side) in
     let midway : crossed king t ≡ (home + c.king_goal-goal.result) / 2 = omega arith in
-    elim c.then-is_attacked_in.branch [
-      | then-is_attacked_in-via-then-is_attacked_in w ↦
+    elim c.then-is_checked.branch [
+      | then-is_checked-via-then-is_checked w ↦
           let safe = x.safe in
-          let hit = ap (λ (s : ℕ). is_attacked p.men s by) at_home ∙ sym (c.is_attacked_in.ensures p scene) ∙ w.if-is_attacked_in.true in
+          let hit = sym (c.is_checked.ensures p scene) ∙ w.if-is_checked.true in
           cc
-      | then-is_attacked_in-via-else-is_attacked_in+then-is_attacked_in-2 w ↦
+      | then-is_checked-via-else-is_checked+then-is_attacked_in w ↦
           let safe = x.safe_way in
-          let hit = ap (λ (s : ℕ). is_attacked p.men s by) midway ∙ sym (w.is_attacked_in-else-is_attacked_in.ensures p scene) ∙ w.if-is_attacked_in-2.true in
+          let hit = ap (λ (s : ℕ). is_attacked p.men s by) midway ∙ sym (w.is_attacked_in.ensures p scene) ∙ w.if-is_attacked_in.true in
           cc
-      | then-is_attacked_in-via-else-is_attacked_in+else-is_attacked_in-2+then-is_attacked_in-3 w ↦
+      | then-is_checked-via-else-is_checked+else-is_attacked_in+then-is_attacked_in-2 w ↦
           let safe = x.safe_goal in
-          let hit = ap (λ (s : ℕ). is_attacked p.men s by) at_goal ∙ sym (w.is_attacked_in-else-is_attacked_in-2.ensures p scene) ∙ w.if-is_attacked_in-3.true in
+          let hit = ap (λ (s : ℕ). is_attacked p.men s by) at_goal ∙ sym (w.is_attacked_in-else-is_attacked_in.ensures p scene) ∙ w.if-is_attacked_in-2.true in
           cc
     ]))
 
@@ -60,9 +60,9 @@ returns c = λ t l.
     let scene = c.requires.scene in
     let at_home : king ≡ home = c.if-scene-home.false in
     let home_there : home ≡ king_home p.side = c.king_home-home.ensures ∙ ap king_home scene.side in
-    let way = clear_way p.men p.side c.args.wing home c.rook_home.result c.between-between.result c.args.scene.now.occupied
-    home_there (c.rook_home.ensures ∙ ap (λ (colour : Colour). rook_home colour c.args.wing) scene.side)
-    (omega arith) c.between-between.ensures scene.occupied in
+    let way = clear_way p.men p.side c.args.wing (king_home c.args.scene.now.side) (rook_home c.args.scene.now.side c.args.wing) c.castling_way-between.result c.args.scene.now.occupied
+    (ap king_home scene.side) (ap (λ (colour : Colour). rook_home colour c.args.wing) scene.side)
+    (omega arith) c.castling_way-between.ensures scene.occupied in
     let goal_there : target ≡ king_goal p.side c.args.wing = c.king_goal-goal.ensures ∙ ap (λ (colour : Colour). king_goal colour c.args.wing) scene.side in
     c.with.ensures t l ∙ only_one target t
     ∙ (elim (eqb target t) as (λ b. eqb target t ≡ b → b ≡ castles_to p p.side c.args.wing king t) [
@@ -73,10 +73,10 @@ returns c = λ t l.
             right = ap (λ (colour : Colour). has_right_of p.rights colour c.args.wing) (sym scene.side) ∙ sym c.has_right.ensures ∙ c.if-not-has_right.false;
             home = at_home ∙ home_there;
             goal = at_goal ∙ goal_there;
-            clear = ap (λ (a : ℕ). is_clear p.men a (rook_home p.side c.args.wing)) at_home ∙ way ∙ eq-eqb (bit_and c.between-between.result c.args.scene.now.occupied) 0 c.if-between-scene-ne0.false;
-            safe = ap (λ (s : ℕ). is_attacked p.men s by) at_home ∙ sym (c.is_attacked_in.ensures p scene) ∙ c.if-is_attacked_in.false;
-            safe_way = ap (λ (s : ℕ). is_attacked p.men s by) midway ∙ sym (c.is_attacked_in-else-is_attacked_in.ensures p scene) ∙ c.if-is_attacked_in-2.false;
-            safe_goal = ap (λ (s : ℕ). is_attacked p.men s by) at_goal ∙ sym (c.is_attacked_in-else-is_attacked_in-2.ensures p scene) ∙ c.if-is_attacked_in-3.false;
+            clear = ap (λ (a : ℕ). is_clear p.men a (rook_home p.side c.args.wing)) (at_home ∙ c.king_home-home.ensures) ∙ way ∙ eq-eqb (bit_and c.castling_way-between.result c.args.scene.now.occupied) 0 c.if-between-scene-ne0.false;
+            safe = sym (c.is_checked.ensures p scene) ∙ c.if-is_checked.false;
+            safe_way = ap (λ (s : ℕ). is_attacked p.men s by) midway ∙ sym (c.is_attacked_in.ensures p scene) ∙ c.if-is_attacked_in.false;
+            safe_goal = ap (λ (s : ℕ). is_attacked p.men s by) at_goal ∙ sym (c.is_attacked_in-else-is_attacked_in.ensures p scene) ∙ c.if-is_attacked_in-2.false;
           }))
       | false ↦ λ e. sym (false_from_ne_true (castles_to p p.side c.args.wing king t) (λ h.
           let x = castles_says p p.side c.args.wing king t h in

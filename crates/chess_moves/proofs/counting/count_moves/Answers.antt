@@ -1,41 +1,33 @@
-use Rattle.std.proofs.Common.{ap, arith, length, w64}
-use Rattle.std.specs.Int.{trailing_zeros}
-use Rattle.std.proofs.lemmas.Nat.Bits.{bit_at-trailing_zeros}
-use Rattle.chess_moves.specs.Walking.{moves_of_men}
-use Rattle.chess_moves.proofs.SetBits.{clear_smaller}
-use Rattle.chess_moves.proofs.Members.{no_members}
-use Rattle.chess_moves.proofs.Walks.{legal_of_men, many_first, own_first, own_others, own_all}
+use Rattle.std.proofs.Common.{arith}
+use Rattle.chess_board.specs.declared.men.Kind.TheVariants.{Pawn, Knight, Bishop, Rook, Queen, King}
 use Rattle.chess_moves.proofs.Few.{few_legal}
+use Rattle.chess_moves.proofs.Tallies.{many_by_kinds, men_of_kind}
 use Rattle.chess_moves.proofs.counting.count_moves.Goals as goal
 
-pub loop-origins-init : goal.loop-origins-init
-loop-origins-init c = record {
-  counted = omega (arith, ap length (legal_of_men c.args.position.now c.scene_of-scene.result.own c.scene_of-scene.ensures.own));
-  origins = own_all c.args.position.now c.scene_of-scene.result.own c.scene_of-scene.ensures.own;
-}
+pub count_pawns-requires-clause-men : goal.count_pawns-requires-clause-men
+count_pawns-requires-clause-men c = men_of_kind c.args.position.now c.scene_of-scene.result.side Pawn c.men-pawns.result c.scene_of-scene.ensures.side c.men-pawns.ensures
 
-pub own_man-man-requires-clause-own : goal.own_man-man-requires-clause-own
-own_man-man-requires-clause-own c = own_first c.args.position.now c.loop-origins.origins (omega arith) (omega arith) c.loop-origins.invariant.origins
+pub count_from-requires-clause-men : goal.count_from-requires-clause-men
+count_from-requires-clause-men c = men_of_kind c.args.position.now c.scene_of-scene.result.side Knight c.men-knights.result c.scene_of-scene.ensures.side c.men-knights.ensures
 
-pub overflow_add-total : goal.overflow_add-total
-overflow_add-total c =
-    let first = many_first c.args.position.now c.own_man-man.result c.loop-origins.origins c.targets_from.result (omega arith) (omega arith) c.targets_from.ensures in
-    omega (arith, first, c.count_ways-total.ensures (trailing_zeros w64 c.loop-origins.origins), few_legal c.args.position.now c.scene_of-scene.ensures.sound)
+pub count_from-requires-2-clause-men : goal.count_from-requires-2-clause-men
+count_from-requires-2-clause-men c = men_of_kind c.args.position.now c.scene_of-scene.result.side Bishop c.men-bishops.result c.scene_of-scene.ensures.side c.men-bishops.ensures
 
-pub loop-origins-smaller : goal.loop-origins-smaller
-loop-origins-smaller c = clear_smaller c.loop-origins.origins (omega arith) (omega arith)
+pub count_from-requires-3-clause-men : goal.count_from-requires-3-clause-men
+count_from-requires-3-clause-men c = men_of_kind c.args.position.now c.scene_of-scene.result.side Rook c.men-rooks.result c.scene_of-scene.ensures.side c.men-rooks.ensures
 
-pub loop-origins-preserved : goal.loop-origins-preserved
-loop-origins-preserved c =
-    let first = many_first c.args.position.now c.own_man-man.result c.loop-origins.origins c.targets_from.result (omega arith) (omega arith) c.targets_from.ensures in
-    let on_board = bit_at-trailing_zeros w64 c.loop-origins.origins (omega arith) (omega arith) in
-    record {
-      counted = omega (arith, first, c.count_ways-total.ensures (trailing_zeros w64 c.loop-origins.origins), c.loop-origins.invariant.counted);
-      origins = own_others c.args.position.now c.loop-origins.origins (trailing_zeros w64 c.loop-origins.origins) on_board.0 c.loop-origins.invariant.origins;
-    }
+pub count_from-requires-4-clause-men : goal.count_from-requires-4-clause-men
+count_from-requires-4-clause-men c = men_of_kind c.args.position.now c.scene_of-scene.result.side Queen c.men-queens.result c.scene_of-scene.ensures.side c.men-queens.ensures
+
+pub count_from-requires-5-clause-men : goal.count_from-requires-5-clause-men
+count_from-requires-5-clause-men c = men_of_kind c.args.position.now c.scene_of-scene.result.side King c.men-kings.result c.scene_of-scene.ensures.side c.men-kings.ensures
 
 pub returns-clause-count : goal.returns-clause-count
-returns-clause-count c = omega (arith, c.loop-origins.invariant.counted, ap length (ap (moves_of_men c.args.position.now) (no_members c.loop-origins.origins (omega arith))))
+returns-clause-count c =
+    let kinds = many_by_kinds c.args.position.now c.scene_of-scene.result.side c.scene_of-scene.result.own c.men-pawns.result c.men-knights.result c.men-bishops.result c.men-rooks.result c.men-queens.result c.men-kings.result c.scene_of-scene.ensures.side c.scene_of-scene.ensures.own c.men-pawns.ensures c.men-knights.ensures c.men-bishops.ensures c.men-rooks.ensures c.men-queens.ensures c.men-kings.ensures in
+    omega (arith, kinds, c.count_pawns.ensures.count, c.count_from.ensures.count, c.count_from-2.ensures.count, c.count_from-3.ensures.count, c.count_from-4.ensures.count, c.count_from-5.ensures.count)
 
 pub returns-clause-few : goal.returns-clause-few
-returns-clause-few c = omega (arith, c.loop-origins.invariant.counted, few_legal c.args.position.now c.scene_of-scene.ensures.sound)
+returns-clause-few c =
+    let kinds = many_by_kinds c.args.position.now c.scene_of-scene.result.side c.scene_of-scene.result.own c.men-pawns.result c.men-knights.result c.men-bishops.result c.men-rooks.result c.men-queens.result c.men-kings.result c.scene_of-scene.ensures.side c.scene_of-scene.ensures.own c.men-pawns.ensures c.men-knights.ensures c.men-bishops.ensures c.men-rooks.ensures c.men-queens.ensures c.men-kings.ensures in
+    omega (arith, kinds, c.count_pawns.ensures.count, c.count_from.ensures.count, c.count_from-2.ensures.count, c.count_from-3.ensures.count, c.count_from-4.ensures.count, c.count_from-5.ensures.count, few_legal c.args.position.now c.scene_of-scene.ensures.sound)

@@ -22,7 +22,7 @@ returns c =
       enemy = subst (λ b. StandFor c.force_of-enemy.result b p.men) by c.force_of-enemy.ensures;
       on_board = omega arith;
       king = ap (man_at p.men) c.index-king.ensures.number ∙ c.king.ensures.king ∙ ap (λ s. man_of s King) side;
-      nearest = λ t l. joined c.bishop_reach.result c.rook_reach.result t _ _ (c.bishop_reach.ensures t l) (c.rook_reach.ensures t l);
+      nearest = λ t l. joined c.diagonal_sight.result c.straight_sight.result t _ _ (c.diagonal_sight.ensures t l) (c.straight_sight.ensures t l);
       answers = λ t l.
           c.answers_to_check.ensures p.men c.occupied-occupied.ensures c.force_of-enemy.ensures t l
           ∙ ap (λ b. not (some_square (λ a. hits_from p.men b a c.index-king.result && gets_through a c.index-king.result t))) by;

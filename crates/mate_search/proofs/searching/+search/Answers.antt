@@ -1,18 +1,26 @@
-use Rattle.std.proofs.Common.{◌≡◌, true, false, not, Bool, refl, sym, ap, ◌∙◌}
-use Rattle.chess_board.specs.Legality.{is_legal}
-use Rattle.chess_board.specs.After.{after_setup}
-use Rattle.mate_search.specs.Wins.{win}
-use Rattle.mate_search.proofs.Readings.{refuted}
+use Rattle.std.proofs.Common.{◌≡◌, refl, sym, ◌∙◌, arith}
+use Rattle.chess_moves.specs.Listing.{legal_moves}
+use Rattle.mate_search.proofs.Wins.{all_legal}
+use Rattle.mate_search.proofs.Known.{win_within_more, no_win_within_fewer}
 use Rattle.mate_search.proofs.searching.+search.Goals as goal
 
-negated : (b : Bool) → not b ≡ true → b ≡ false
-negated false e = refl
-negated true e = cc
+pub least_win-returns-clause-none : goal.least_win-returns-clause-none
+least_win-returns-clause-none t c = λ e. no_win_within_fewer c.loop-k.k c.args.n c.args.position.now (omega arith) c.loop-k.invariant
 
-pub refutes-returns-then-is_legal : goal.refutes-returns-then-is_legal
-refutes-returns-then-is_legal t c = λ holds.
-    let origin : c.reply.inside.origin ≡ c.args.reply.origin = ap (λ x. x.origin) c.reply.view_is in
-    let target : c.reply.inside.target ≡ c.args.reply.target = ap (λ x. x.target) c.reply.view_is in
-    let legal : is_legal c.args.position.now c.args.reply ≡ true = sym c.is_legal.ensures ∙ c.if-is_legal.true in
-    let fails : win c.args.k (after_setup c.args.position.now c.args.reply) ≡ false = rw (← c.after.ensures) (sym c.wins.ensures ∙ negated c.wins.result holds) in
-    refuted c.legal_listed.ensures c.args.k c.args.position.now c.args.reply (rw origin at c.reply.invariant.0) (rw target at c.reply.invariant.1) legal fails
+pub loses_each-loop-r-init : goal.loses_each-loop-r-init
+loses_each-loop-r-init t c =
+    let moves : c.into_iter-r-iterator.result ≡ legal_moves c.args.position.now = c.into_iter-r-iterator.ensures.into_iter_gives ∙ c.legal_moves-r-items.ensures.moves in
+    record { all = rw moves refl; some = rw moves refl; legal = rw moves (all_legal c.args.position.now) }
+
+pub refutes-loop-r-init : goal.refutes-loop-r-init
+refutes-loop-r-init t c =
+    let moves : c.into_iter-r-iterator.result ≡ legal_moves c.args.position.now = c.into_iter-r-iterator.ensures.into_iter_gives ∙ c.legal_moves-r-items.ensures.moves in
+    record { all = rw moves (λ e. e); some = rw moves (λ e. e); legal = rw moves (all_legal c.args.position.now) }
+
+pub wins_longer-returns-then-mates : goal.wins_longer-returns-then-mates
+wins_longer-returns-then-mates t c = sym (win_within_more 1 c.args.n c.args.position.now (omega arith) (sym c.mates.ensures ∙ c.if-mates.true))
+
+pub wins_longer-returns-in-Some-least_win : goal.wins_longer-returns-in-Some-least_win
+wins_longer-returns-in-Some-least_win t c =
+    let least = c.in-Some-least_win.ensures.least in
+    sym (win_within_more c.in-Some-least_win.k c.args.n c.args.position.now least.1 least.3)

@@ -1,30 +1,53 @@
-use Rattle.std.proofs.Common.{◌≡◌, ◌+◌, ◌-◌, ◌*◌, true, false, take}
+use Rattle.std.proofs.Common.{◌≡◌, ◌+◌, ◌-◌, ◌*◌, ◌||◌, true, false, take, length}
+use Rattle.std.specs.Prelude.{nat_lt}
 use Rattle.std.specs.List.{list_any, list_all}
 use Rattle.chess_board.specs.After.{after_setup}
+use Rattle.chess_board.specs.Legality.{is_legal}
+use Rattle.chess_moves.specs.Listing.{legal_moves}
+use Rattle.chess_moves.specs.Verdicts.{has_legal_move}
 use Rattle.mate_search.specs.Wins.{win, leaves_lost}
 use Rattle.mate_search.proofs.searching.+search.Given as goal
 
 abbrev pub decreases-wins : goal.decreases-wins
-decreases-wins l = 6 * l.n + 2
+decreases-wins l = 8 * l.n + 3
 
-abbrev pub decreases-wins_anew : goal.decreases-wins_anew
-decreases-wins_anew l = 6 * l.n + 1
+abbrev pub decreases-wins_longer : goal.decreases-wins_longer
+decreases-wins_longer l = 8 * l.n + 2
+
+abbrev pub decreases-least_win : goal.decreases-least_win
+decreases-least_win l = 8 * l.n + 1
 
 abbrev pub decreases-wins_among : goal.decreases-wins_among
-decreases-wins_among l = 6 * l.n
+decreases-wins_among l = 8 * l.n
 
 abbrev pub decreases-loses : goal.decreases-loses
-decreases-loses l = 6 * l.k + 5
+decreases-loses l = 8 * l.k + 7
 
 abbrev pub decreases-loses_each : goal.decreases-loses_each
-decreases-loses_each l = 6 * l.k + 4
+decreases-loses_each l = 8 * l.k + 5
 
 abbrev pub decreases-refutes : goal.decreases-refutes
-decreases-refutes l = 6 * l.k + 3
+decreases-refutes l = 8 * l.k + 4
+
+-- no mate within k moves
+abbrev pub invariant-least_win-loop-k : goal.invariant-least_win-loop-k
+invariant-least_win-loop-k l = win l.k l.position ≡ false
 
 -- each reply so far loses
 abbrev pub invariant-loses_each-loop-r : goal.invariant-loses_each-loop-r
-invariant-loses_each-loop-r l = list_all (λ r. win l.k (after_setup l.position r)) (take l.r-index l.r-items) ≡ true
+invariant-loses_each-loop-r l = record {
+  all : list_all (λ r. win l.k (after_setup l.position r)) l.r-iterator ≡ list_all (λ r. win l.k (after_setup l.position r)) (legal_moves l.position);
+  some : (l.moves || nat_lt 0 (length l.r-iterator)) ≡ has_legal_move l.position;
+  legal : list_all (is_legal l.position) l.r-iterator ≡ true;
+}
+
+-- the replies to come are among the legal moves
+abbrev pub invariant-refutes-loop-r : goal.invariant-refutes-loop-r
+invariant-refutes-loop-r l = record {
+  all : list_all (λ r. win l.k (after_setup l.position r)) (legal_moves l.position) ≡ true → list_all (λ r. win l.k (after_setup l.position r)) l.r-iterator ≡ true;
+  some : nat_lt 0 (length l.r-iterator) ≡ true → has_legal_move l.position ≡ true;
+  legal : list_all (is_legal l.position) l.r-iterator ≡ true;
+}
 
 -- no move so far wins
 abbrev pub invariant-wins_among-loop-m : goal.invariant-wins_among-loop-m
