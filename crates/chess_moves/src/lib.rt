@@ -5,8 +5,9 @@
 //! found by making it: sets of squares tell where each man may go.
 //!
 //! To read: `specs/Listing.antt`; `directions`, `rays` and `forces` (what is seen and attacked), `scenes`, `candidates` and `guards`
-//! (where a man goes, and where it leaves its king safe), `targets`; then `walking`, `listing`, `counting`, `judging` and `plays`;
-//! `sights` and `checking`. `laws` says what the lists hold in words that do not speak of how they are made. No call takes memory.
+//! (where a man goes, and where it leaves its king safe), `targets`; then `walking`, `listing`, `pawns`, `counting`, `judging` and
+//! `plays`; `sights`, `checking` and `mating`. `laws` says what the lists hold in words that do not speak of how they are made. No
+//! call takes memory.
 #![tactic(auto)]
 
 mod attacking;
