@@ -57,3 +57,22 @@ impl Entry {
         }
     }
 }
+
+#[cfg(test)]
+mod tests {
+    use super::*;
+    use std::process::Abort;
+
+    #[test]
+    fn serves_what_it_keeps(rt: HostRuntime) {
+        let none = Entry::nothing().with(3, false);
+        assert_eq!(rt; none.answer(2), Some(false));
+        assert_eq!(rt; none.answer(3), Some(false));
+        assert_eq!(rt; none.answer(4), None);
+        let both = none.with(7, true).with(5, true).with(6, true);
+        assert_eq!(rt; both.answer(3), Some(false));
+        assert_eq!(rt; both.answer(4), None);
+        assert_eq!(rt; both.answer(5), Some(true));
+        assert_eq!(rt; both.answer(15), Some(true));
+    }
+}
