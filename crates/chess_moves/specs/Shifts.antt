@@ -1,4 +1,4 @@
--- Pawns moved ahead as a set: the numbers of their squares rise for White, and fall for Black.
+-- Not for believing: pawns moved ahead as a set: the numbers of their squares rise for White, and fall for Black.
 use Rattle.std.specs.Prelude.{◌≡◌, ℕ, ◌<◌, ◌+◌, ◌-◌, Bool, true, false, nat_le, nat_lt}
 use Rattle.square_sets.specs.Members.{has}
 use Rattle.chess_board.specs.declared.men.Colour.{Colour}

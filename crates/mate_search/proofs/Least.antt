@@ -30,10 +30,6 @@ module _ (first : List Move) (p : Setup) where
   unfolding dist
   dist_none_more k e w = let w' : win_among first (suc k) p ≡ false = rw (add-one k) at w in rw (add-one k) (rw (e, w'))
 
-  pub dist_start : dist first p 0 ≡ None
-  unfolding dist
-  dist_start = refl
-
   -- Within none that was tried is there a mate.
   pub dist_none : (b : ℕ) → dist first p b ≡ None → (k : ℕ) → k ≤ b → win_among first k p ≡ false
   unfolding dist win_among
