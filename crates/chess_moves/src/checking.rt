@@ -5,7 +5,7 @@ ghost use Rattle.chess_board.specs.Legality.{is_legal as is_legal_in};
 ghost use Rattle.chess_moves.specs.Checks.{gives_check as gives_check_in, checking_moves};
 ghost use Rattle.chess_moves.specs.Sights.{IsSightsOf};
 
-use crate::attacking::attacked;
+use crate::judging::in_check;
 use crate::listing::MoveList;
 use crate::rays::Rays;
 use crate::sights::{Sights, attacks_king, is_told, sights_of};
@@ -39,9 +39,7 @@ fn gives_check(rays: &Rays, position: &Position, sights: &Sights, m: Move) -> bo
     if is_told(position, sights, man, m) {
         return attacks_king(sights, man.kind, m.target.index() as u8);
     }
-    let next = after(position, m);
-    let side = next.side();
-    attacked(rays, &next, next.king(side), side.other())
+    in_check(rays, &after(position, m))
 }
 
 #[cfg(test)]

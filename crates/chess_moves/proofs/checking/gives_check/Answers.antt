@@ -1,28 +1,18 @@
-use Rattle.std.proofs.Common.{◌≡◌, ℕ, ◌<◌, true, ◌||◌, None, Some, sym, ap, ◌∙◌, arith}
+use Rattle.std.proofs.Common.{◌≡◌, ◌||◌, None, Some, sym, ap, ◌∙◌, arith}
 use Rattle.std.proofs.lemmas.Bool.{both_ways, or_parts, not-true}
 use Rattle.square_sets.specs.Members.{has}
 use Rattle.chess_board.specs.declared.men.Man.{Man}
-use Rattle.chess_board.specs.declared.men.Kind.TheVariants.{King}
-use Rattle.chess_board.specs.Men.{other_side, is_of, man_of, is_king_of}
+use Rattle.chess_board.specs.Men.{is_of}
 use Rattle.chess_board.specs.Positions.{Setup, man_at}
-use Rattle.chess_board.specs.Attacks.{is_attacked, is_in_check}
-use Rattle.chess_board.specs.Soundness.{IsSound}
+use Rattle.chess_board.specs.Attacks.{is_in_check}
 use Rattle.chess_board.specs.Legality.{is_legal}
 use Rattle.chess_board.specs.Moves.{Move}
 use Rattle.chess_moves.specs.declared.sights.Sights.{Sights}
 use Rattle.chess_moves.specs.Sights.{squares_of, is_special}
 use Rattle.chess_moves.specs.Checks.{gives_check}
-use Rattle.chess_moves.proofs.Bridge.{attacked_same}
-use Rattle.chess_moves.proofs.OneKing.{only_king, in_check_at}
 use Rattle.chess_moves.proofs.PlainChecks.{plain_check}
 use Rattle.chess_moves.proofs.Played.{not_own}
 use Rattle.chess_moves.proofs.checking.gives_check.Goals as goal
-
--- in a sound position check is attack on the king's square
-check_at : (p : Setup) (k : ℕ) → IsSound p → k < 64 → man_at p.men k ≡ man_of p.side King → is_attacked p.men k (other_side p.side) ≡ is_in_check p.men p.side
-check_at p k sound on there =
-    let alone : (s : ℕ) → s < 64 → is_king_of p.side (man_at p.men s) ≡ true → s ≡ k = λ s l king. only_king p sound p.side k s on l there king in
-    attacked_same p.men k (other_side p.side) on ∙ sym (in_check_at p.men p.side k on there alone)
 
 pub returns-in_default : goal.returns-in_default
 returns-in_default c =
@@ -32,12 +22,7 @@ returns-in_default c =
 
 pub returns : goal.returns
 unfolding gives_check
-returns c =
-    c.attacked.ensures
-    ∙ ap (is_attacked c.after-next.result.men c.king.result) (c.other.ensures ∙ ap other_side c.side-side.ensures.side)
-    ∙ check_at c.after-next.result c.king.result c.side-side.ensures.sound c.king.ensures.on_board
-    (c.king.ensures.king ∙ ap (λ colour. man_of colour King) c.side-side.ensures.side)
-    ∙ ap (λ q. is_in_check q.men q.side) c.after-next.ensures
+returns c = c.in_check.ensures ∙ ap (λ q. is_in_check q.men q.side) c.after.ensures
 
 pub returns-then-is_told : goal.returns-then-is_told
 returns-then-is_told c =
