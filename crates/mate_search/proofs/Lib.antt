@@ -8,3 +8,4 @@ pub mod MoveOrder
 pub mod InputLines
 pub mod InputReplies
 pub mod Known
+pub mod BestPlay

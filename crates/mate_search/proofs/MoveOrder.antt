@@ -1,15 +1,19 @@
 -- What is found first in a list that rises comes first in the order of moves.
-use Rattle.std.proofs.Common.{◌≡◌, ◌∙◌, ◌-◌, ℕ, zero, suc, ◌<◌, ◌≤◌, Bool, true, false, not, cond, List, [], ◌∷◌, filter, find, Some, refl, ap, arith}
+use Rattle.std.proofs.Common.{◌≡◌, ◌∙◌, ◌-◌, ℕ, zero, suc, ◌<◌, ◌≤◌, Bool, true, false, not, cond, List, [], ◌∷◌, filter, find, Some, refl, ap, arith, inl, inr}
 use Rattle.std.specs.List.{Contains}
+use Rattle.std.proofs.lemmas.Bool.{cases_lt}
 use Rattle.std.proofs.lemmas.List.Elements.{All-contains_itself}
+use Rattle.chess_board.specs.Positions.{Setup}
 use Rattle.chess_board.specs.Moves.{Move, move_place}
 use Rattle.chess_board.specs.After.{after_setup}
 use Rattle.chess_moves.specs.Listing.{legal_moves}
 use Rattle.chess_moves.specs.Laws.{IsAbove, IsRising, LegalRise}
 use Rattle.mate_search.specs.Wins.{win, leaves_lost}
-use Rattle.mate_search.specs.Laws.{KeysRise, LeastKeyReads, LongestReplyReads}
-use Rattle.mate_search.proofs.Searches.{found_has, filter_keeps}
-use Rattle.mate_search.proofs.Readings.{keys_read}
+use Rattle.mate_search.specs.Lines.{least_key, longest_reply}
+use Rattle.mate_search.specs.Play.{IsFirstKey, IsLongestReply}
+use Rattle.mate_search.specs.Laws.{KeysRise}
+use Rattle.mate_search.proofs.Searches.{found_has}
+use Rattle.mate_search.proofs.Known.{win_within_more, no_win_within_fewer}
 
 above_each : (place : ℕ) (xs : List Move) (x : Move) → IsAbove place xs → Contains xs x → place < move_place x
 above_each place [] x h (k, on, e) = absurd (omega arith)
@@ -53,27 +57,35 @@ module _ (f : Move → Bool) where
     | false ↦ λ u. find_least ys x h.1 (rw u at e) z (k, omega arith, is) t
   ]) refl
 
-module _ (rise : LegalRise) where
-  pub keys_rise : KeysRise
-  keys_rise p n = rising_kept (leaves_lost (n - 1) p) (legal_moves p) (rise p)
+pub keys_rise : KeysRise
+keys_rise first p n rise = rising_kept (leaves_lost (n - 1) p) first rise
 
-  pub least_key_reads : LeastKeyReads
-  least_key_reads p n m e =
-      let test = leaves_lost (n - 1) p in
-      let among = found_has (Contains (legal_moves p)) test (legal_moves p) m (All-contains_itself (legal_moves p)) e in (
-        filter_keeps test (legal_moves p) m among (find_passes test (legal_moves p) m e),
-        λ k c. let is = (keys_read (legal_moves p) p n k).0 c in find_least test (legal_moves p) m (rise p) e k is.0 is.1,
-      )
+-- What is found first among first moves that rise is the first key.
+pub first_key : (first : List Move) (p : Setup) (n : ℕ) (m : Move) → IsRising first → least_key first p n ≡ Some m → IsFirstKey first p n m
+first_key first p n m rise e =
+    let test = leaves_lost (n - 1) p in
+    let among = found_has (Contains first) test first m (All-contains_itself first) e in (
+      (among, find_passes test first m e),
+      λ k key. find_least test first m rise e k key.0 key.1,
+    )
 
-  pub longest_reply_reads : LongestReplyReads
-  longest_reply_reads q j r e =
-      let test : Move → Bool = λ x. not (win j (after_setup q x)) in
-      let among = found_has (Contains (legal_moves q)) test (legal_moves q) r (All-contains_itself (legal_moves q)) e in (
-        among,
-        not_true (win j (after_setup q r)) (find_passes test (legal_moves q) r e),
-        λ s c w. find_least test (legal_moves q) r (rise q) e s c (ap not w),
-      )
-    where
-      not_true : (b : Bool) → not b ≡ true → b ≡ false
-      not_true true h = cc
-      not_true false h = refl
+-- The first reply that no mate within j meets is the longest defence of a defender that is lost with j + 1.
+pub longest_defence : LegalRise → (q : Setup) (j : ℕ) (r : Move) → ((s : Move) → Contains (legal_moves q) s → win (suc j) (after_setup q s) ≡ true) → longest_reply q j ≡ Some r → IsLongestReply q r
+longest_defence rise q j r each e =
+    let test : Move → Bool = λ x. not (win j (after_setup q x)) in
+    let among = found_has (Contains (legal_moves q)) test (legal_moves q) r (All-contains_itself (legal_moves q)) e in
+    let lasts : win j (after_setup q r) ≡ false = not_true (win j (after_setup q r)) (find_passes test (legal_moves q) r e) in (
+      among,
+      (λ s c longer. elim (cases_lt longer.0 (suc j)) [
+        | inl within ↦ let none = no_win_within_fewer j longer.0 (after_setup q r) (omega arith) lasts in let wins = longer.1 in cc
+        | inr beyond ↦ let wins = win_within_more (suc j) longer.0 (after_setup q s) (omega arith) (each s c) in let none = longer.2 in cc
+      ]),
+      (λ s c not_longer. (elim (win j (after_setup q s)) as (λ b. win j (after_setup q s) ≡ b → move_place r ≤ move_place s) [
+        | true ↦ λ w. absurd (not_longer (j, w, lasts))
+        | false ↦ λ w. find_least test (legal_moves q) r (rise q) e s c (ap not w)
+      ]) refl),
+    )
+  where
+    not_true : (b : Bool) → not b ≡ true → b ≡ false
+    not_true true h = cc
+    not_true false h = refl

@@ -45,7 +45,7 @@ pub line_more : (first : List Move) (p : Setup) (n : ℕ) (m : Move) (q : Setup)
 line_more first p n m q r s l h e g f = more first p n (n - 1) (n - 2) m q r s (omega arith) (omega arith) h e g f
 
 -- A side that loses by one test and not by another has a reply that tells them apart.
-not_mated : (f : Setup → Bool) (q : Setup) → loses_by f q ≡ false → is_mate q ≡ false
+pub not_mated : (f : Setup → Bool) (q : Setup) → loses_by f q ≡ false → is_mate q ≡ false
 not_mated f q e = (elim (is_mate q) as (λ b. is_mate q ≡ b → b ≡ false) [
   | true ↦ λ t. let e' = rw t at e in cc
   | false ↦ λ t. refl
@@ -57,7 +57,7 @@ each_wins f q m e = let e' = rw m at e in (elim (has_legal_move q) as (λ b. has
   | false ↦ λ t. let n = rw t at e' in cc
 ]) refl
 
-not_each : (f : Setup → Bool) (q : Setup) → has_legal_move q ≡ true → loses_by f q ≡ false → list_all (λ r. f (after_setup q r)) (legal_moves q) ≡ false
+pub not_each : (f : Setup → Bool) (q : Setup) → has_legal_move q ≡ true → loses_by f q ≡ false → list_all (λ r. f (after_setup q r)) (legal_moves q) ≡ false
 not_each f q h e = let m = not_mated f q e in let e' = rw m at e in rw h at e'
 
 -- With every legal move to begin with, the mates are all mates.
@@ -66,7 +66,7 @@ unfolding win win_among
 all_among zero p = refl
 all_among (suc n) p = refl
 
-key_is : (first : List Move) (n : ℕ) (p : Setup) → least_key first p (suc n) ≡ find (leaves_lost n p) first
+pub key_is : (first : List Move) (n : ℕ) (p : Setup) → least_key first p (suc n) ≡ find (leaves_lost n p) first
 key_is first n p = simp sub-one
 
 -- The line to a mate within n moves and not within fewer: its length, and that the defender is mated at its end.

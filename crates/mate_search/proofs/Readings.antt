@@ -1,5 +1,5 @@
 -- The definitions read with their moves named.
-use Rattle.std.proofs.Common.{◌≡◌, ℕ, zero, suc, ◌+◌, ◌-◌, ◌≤◌, Bool, true, false, ◌&&◌, ◌||◌, List, [], ◌∷◌, length, Some, None, refl, sym, ◌∙◌, arith, add-one, inl, inr}
+use Rattle.std.proofs.Common.{◌≡◌, ℕ, zero, suc, ◌+◌, ◌-◌, ◌<◌, ◌≤◌, Bool, true, false, ◌&&◌, ◌||◌, List, [], ◌∷◌, length, Some, None, refl, sym, ◌∙◌, arith, add-one, inl, inr}
 use Rattle.std.specs.Prelude.{nat_lt, ◌⊎◌}
 use Rattle.std.specs.List.{Contains, list_any, list_all}
 use Rattle.std.proofs.lemmas.Bool.Decides.{nat_tests}
@@ -10,8 +10,10 @@ use Rattle.chess_board.specs.After.{after_setup}
 use Rattle.chess_moves.specs.Listing.{legal_moves}
 use Rattle.chess_moves.specs.Verdicts.{has_legal_move, is_mate}
 use Rattle.mate_search.specs.Wins.{win, leaves_lost}
+use Rattle.chess_notation.specs.declared.problems.Outcome.{Outcome}
+use Rattle.chess_notation.specs.declared.problems.Outcome.TheVariants.{Mate, NoMate}
 use Rattle.mate_search.specs.Truth.{dist, truth, truth_among}
-use Rattle.mate_search.specs.Laws.{WinReads, LostReads, KeysRead, DistReads, NoDistReads, IsTold, TruthReads}
+use Rattle.mate_search.specs.Laws.{WinReads, LostReads, KeysRead, DistReads, NoDistReads}
 use Rattle.mate_search.proofs.Searches.{any_contains, contains_any, all_contains, contains_all, filter_keeps}
 use Rattle.mate_search.proofs.Wins.{win_none}
 use Rattle.mate_search.proofs.Least.{dist_none, none_dist, dist_least, least_dist}
@@ -80,11 +82,16 @@ dist_reads first p b n = (dist_least first p b n, least_dist first p b n)
 pub no_dist_reads : NoDistReads
 no_dist_reads first p b = (dist_none first p b, none_dist first p b)
 
-pub truth_reads : TruthReads
+-- The least number of moves in what is told, whatever is told besides.
+abbrev pub IsTimeTold : Setup → ℕ → Outcome → Type 0
+IsTimeTold p b (Mate n found pv) = (1 ≤ n) × (n ≤ b) × (win n p ≡ true) × ((k : ℕ) → k < n → win k p ≡ false)
+IsTimeTold p b NoMate = (n : ℕ) → n ≤ b → win n p ≡ false
+
+pub time_told : (p : Setup) (b : ℕ) → IsTimeTold p b (truth p b)
 unfolding truth_among
-truth_reads p b = (elim (dist (legal_moves p) p b) as (λ o. dist (legal_moves p) p b ≡ o → IsTold p b (truth p b)) [
+time_told p b = (elim (dist (legal_moves p) p b) as (λ o. dist (legal_moves p) p b ≡ o → IsTimeTold p b (truth p b)) [
   | None ↦ λ is. rw is (λ n within. sym (all_among n p) ∙ dist_none (legal_moves p) p b is n within)
   | Some n ↦ λ is.
       let least = dist_least (legal_moves p) p b n is in
-      rw is (least.0, least.1, sym (all_among n p) ∙ least.2, (λ k below. sym (all_among k p) ∙ least.3 k below), keys_read (legal_moves p) p n)
+      rw is (least.0, least.1, sym (all_among n p) ∙ least.2, λ k below. sym (all_among k p) ∙ least.3 k below)
 ]) refl

@@ -1,6 +1,6 @@
 //! Laws about the definitions. A function here does nothing, beyond citing a law of the rules: its contract is the law.
 
-ghost use Rattle.mate_search.specs.Laws.{WinReads, LostReads, WinGrows, AmongAll, KeysRead, KeysRise, LeastKeyReads, LongestReplyReads, DistReads, NoDistReads, TruthReads, LineLength, LineMates};
+ghost use Rattle.mate_search.specs.Laws.{WinReads, LostReads, WinGrows, AmongAll, KeysRead, KeysRise, LineReads, DistReads, NoDistReads, TruthReads, LineLength, LineMates};
 
 use chess_moves::legal_rise;
 
@@ -25,28 +25,20 @@ pub fn among_all()
     ensures { AmongAll }
 {}
 
-/// The keys are exactly the first moves that leave the defender lost with n - 1 more.
+/// The list of the keys has exactly the first moves that leave the defender lost with n - 1 more.
 pub fn keys_read()
     ensures { KeysRead }
 {}
 
-/// The keys rise in the order of moves, so that none stands there twice.
+/// The keys rise in the order of moves, as the first moves do, so that none stands there twice.
 pub fn keys_rise()
     ensures { KeysRise }
-{
-    legal_rise();
-}
+{}
 
-/// The line begins with the first key in the order of moves.
-pub fn least_key_reads()
-    ensures { LeastKeyReads }
-{
-    legal_rise();
-}
-
-/// The line goes on with the first reply, in the order of moves, among those that last longest.
-pub fn longest_reply_reads()
-    ensures { LongestReplyReads }
+/// The line to the least mate begins with the first key in the order of moves. To a longer mate than one in one move there is then
+/// a reply: no other lasts longer, and none that lasts as long comes before it. The line of the position after both follows.
+pub fn line_reads()
+    ensures { LineReads }
 {
     legal_rise();
 }
@@ -61,11 +53,13 @@ pub fn no_dist_reads()
     ensures { NoDistReads }
 {}
 
-/// What `solve` tells of a problem is the least number within which there is a mate, and exactly its keys; or that there is no
-/// mate, exactly where there is none within the bound.
+/// What `solve` tells of a problem is the least number within which there is a mate, exactly its keys, and its line of play as a
+/// chess player reads it; or that there is no mate, exactly where there is none within the bound.
 pub fn truth_reads()
     ensures { TruthReads }
-{}
+{
+    legal_rise();
+}
 
 /// The line to the least mate has 2n - 1 moves.
 pub fn line_length()

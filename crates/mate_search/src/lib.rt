@@ -2,8 +2,8 @@
 //! and what an input of such problems is answered.
 //!
 //! The rules are `chess_moves`'s business, and problems and outcomes are `chess_notation`'s. What a mate within n moves is
-//! stands in `specs/Wins.antt`, and what there is to say of a problem in `specs/Lines.antt` and `specs/Truth.antt`; an outcome
-//! is exactly that.
+//! stands in `specs/Wins.antt`, keys and the line of play in `specs/Play.antt`, and what there is to say of a problem in
+//! `specs/Laws.antt`; an outcome is exactly that.
 //!
 //! To read: `entries`, `memo`, `searching`, `lines`, `solving`; `laws` says of the definitions what they are meant to say; then
 //! `specs/Replies.antt` and `replies`. `solve` takes memory for its memo alone, and never fails for want of it.
@@ -18,8 +18,8 @@ mod searching;
 mod solving;
 
 pub use laws::{
-    among_all, dist_reads, keys_read, keys_rise, least_key_reads, line_length, line_mates,
-    longest_reply_reads, lost_reads, no_dist_reads, truth_reads, win_grows, win_reads,
+    among_all, dist_reads, keys_read, keys_rise, line_length, line_mates, line_reads, lost_reads,
+    no_dist_reads, truth_reads, win_grows, win_reads,
 };
 pub use memo::{Memo, MemoFault};
 pub use replies::{Output, answer_line, first_line, solve_input};

@@ -1,5 +1,5 @@
-use Rattle.mate_search.proofs.Readings.{truth_reads}
+use Rattle.mate_search.proofs.BestPlay.{truth_reads}
 use Rattle.mate_search.proofs.laws.truth_reads.Goals as goal
 
 pub returns : goal.returns
-returns c = truth_reads
+returns c = truth_reads c.legal_rise.ensures

@@ -1,0 +1,5 @@
+use Rattle.mate_search.proofs.BestPlay.{line_reads}
+use Rattle.mate_search.proofs.laws.line_reads.Goals as goal
+
+pub returns : goal.returns
+returns c = line_reads c.legal_rise.ensures
