@@ -1,14 +1,15 @@
 -- What an entry says of more and of fewer moves, and what stays true of the entries of a cache.
 use Rattle.std.proofs.Common.{◌≡◌, ℕ, zero, suc, ◌+◌, ◌-◌, ◌≤◌, true, false, List, Some, None, refl, sym, ◌∙◌, subst, inl, inr, arith, zero-add, suc-add, Result, Ok, Err, OnOk, OnErr}
 use Rattle.std.specs.Map.{lookup}
-use Rattle.lru.specs.LruCache.{LruCache, lru_cache, put_entries}
-use Rattle.lru.proofs.CallerLemmas.{Contains-lookup, Contains-put_entries}
+use Rattle.lru.specs.LruCache.{LruCache, lru_cache, promoted, put_entries}
+use Rattle.lru.proofs.CallerLemmas.{Contains-lookup, Contains-promoted, Contains-put_entries}
 use Rattle.chess_board.specs.Positions.{Setup}
 use Rattle.chess_board.specs.Soundness.{IsSound}
 use Rattle.chess_board.specs.Laws.{are_equal, EqualReads}
 use Rattle.mate_search.specs.declared.entries.Entry.{Entry}
 use Rattle.mate_search.specs.Wins.{win}
-use Rattle.mate_search.specs.Memos.{IsTrueOf, AreTrue}
+use Rattle.mate_search.specs.Memos.{IsTrueOf, AreTrue, IsKept}
+use Rattle.mate_search.proofs.Room.{put_within, length-promoted}
 use Rattle.chess_moves.specs.Listing.{legal_moves}
 use Rattle.mate_search.specs.Truth.{dist}
 use Rattle.mate_search.proofs.Wins.{win_more}
@@ -49,11 +50,20 @@ put_true equal c p v all h e m = elim (Contains-put_entries are_equal c p v e m)
   ]
 ]
 
--- A put that is refused changes nothing, and one that is not leaves old entries and the new one.
-pub kept_true : {A E : Type 0} → EqualReads → (r : Result A E) (old new : LruCache Setup Entry) (p : Setup) (v : Entry)
-    → OnOk r (new ≡ lru_cache (put_entries are_equal old p v) old.cap) → OnErr r (new ≡ old) → AreTrue old.entries → IsTrueOf p v → AreTrue new.entries
-kept_true equal (Ok a) old new p v ok err all h = subst (λ (c : LruCache Setup Entry). AreTrue c.entries) (sym ok) (put_true equal old p v all h)
-kept_true equal (Err a) old new p v ok err all h = subst (λ (c : LruCache Setup Entry). AreTrue c.entries) (sym err) all
+-- A put that is refused changes nothing, and one that is not leaves old entries and the new one, and the room.
+pub kept_after : {A E : Type 0} → EqualReads → (r : Result A E) (old new : LruCache Setup Entry) (p : Setup) (v : Entry)
+    → OnOk r (new ≡ lru_cache (put_entries are_equal old p v) old.cap) → OnErr r (new ≡ old) → IsKept old.entries old.cap → IsTrueOf p v → IsKept new.entries new.cap
+kept_after equal (Ok a) old new p v ok err h is = subst (λ (c : LruCache Setup Entry). IsKept c.entries c.cap) (sym ok)
+    (record { each_true = put_true equal old p v h.each_true is; within = put_within are_equal old p v h.within h.some_room; some_room = h.some_room })
+kept_after equal (Err a) old new p v ok err h is = subst (λ (c : LruCache Setup Entry). IsKept c.entries c.cap) (sym err) h
+
+-- A look-up moves an entry to the front.
+pub kept_promoted : (old new : LruCache Setup Entry) (p : Setup) → new ≡ lru_cache (promoted (are_equal p) old.entries) old.cap → IsKept old.entries old.cap → IsKept new.entries new.cap
+kept_promoted old new p is h = subst (λ (c : LruCache Setup Entry). IsKept c.entries c.cap) (sym is) (record {
+  each_true = λ e m. h.each_true e (Contains-promoted (are_equal p) old.entries e m);
+  within = omega (arith, length-promoted (are_equal p) old.entries, h.within);
+  some_room = h.some_room;
+})
 
 -- Within as many moves as an entry rules out, there is no mate to find.
 pub none_found_within : (p : Setup) (entry : Entry) → IsTrueOf p entry → dist (legal_moves p) p entry.none_within ≡ None

@@ -7,5 +7,6 @@ pub mod Readings
 pub mod MoveOrder
 pub mod InputLines
 pub mod InputReplies
+pub mod Room
 pub mod Known
 pub mod BestPlay

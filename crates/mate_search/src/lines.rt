@@ -23,7 +23,8 @@ pub(crate) fn keys_among(
     requires some { 0 < n }
     requires few { length first.now ≤ 1024 }
     requires legal { All (λ m. is_legal position.now m ≡ true) first.now }
-    ensures { result.items ≡ keys first.now position.now n }
+    ensures keys { result.items ≡ keys first.now position.now n }
+    ensures room { memo.new.room ≡ memo.old.room }
 {
     let mut keys = MoveList::new();
     let mut refutation = None;
@@ -48,6 +49,7 @@ fn least_key(
     requires legal { All (λ m. is_legal position.now m ≡ true) first.now }
     ensures key { result ≡ least_key first.now position.now n }
     ensures legal { IfSome result (λ m. is_legal position.now m ≡ true) }
+    ensures room { memo.new.room ≡ memo.old.room }
 {
     let mut refutation = None;
     for m in first {
@@ -63,6 +65,7 @@ fn least_key(
 fn longest_reply(rays: &Rays, position: &Position, j: u8, memo: &mut Memo) -> Option<Move>
     ensures reply { result ≡ longest_reply position.now j }
     ensures legal { IfSome result (λ r. is_legal position.now r ≡ true) }
+    ensures room { memo.new.room ≡ memo.old.room }
 {
     let replies = legal(rays, position);
     for r in replies.as_slice() {
@@ -86,7 +89,8 @@ pub(crate) fn add_line(
     requires some { 0 < n }
     requires room { array_vec_len out.old + 2 * n ≤ 30 }
     requires legal { All (λ m. is_legal position.now m ≡ true) first.now }
-    ensures { out.new.items ≡ out.old.items ++ line first.now position.now n }
+    ensures line { out.new.items ≡ out.old.items ++ line first.now position.now n }
+    ensures room { memo.new.room ≡ memo.old.room }
 {
     let Some(m) = least_key(rays, position, first, n, memo) else {
         return;

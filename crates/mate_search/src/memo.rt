@@ -12,22 +12,22 @@ use std::marker::Model;
 use std::num::NonZeroUsize;
 use thiserror::Error;
 
-/// What a search found about the positions that it met last, at most so many. Each entry is true, so no outcome depends on what
-/// is kept. Contracts see how many entries there are.
+/// What a search found about the positions that it met last, at most as many as there is room for. Each entry is true, so no
+/// outcome depends on what is kept. Contracts see how many entries there are, and the room.
 #[derive(Drop)]
 pub struct Memo {
     cache: LruCache<Position, Entry>,
 }
 
 impl Model for Memo {
-    ghost use Rattle.std.specs.Prelude.{ℕ, length};
-    ghost use Rattle.mate_search.specs.Memos.{AreTrue};
+    ghost use Rattle.std.specs.Prelude.{length};
+    ghost use Rattle.mate_search.specs.Memos.{MemoValue, IsKept};
 
-    ghost Value = { ℕ };
+    ghost Value = { MemoValue };
 
-    ghost view = { λ memo. length memo.cache.entries };
+    ghost view = { λ memo. record { kept = length memo.cache.entries; room = memo.cache.cap } };
 
-    ghost invariant = { λ memo. AreTrue memo.cache.entries };
+    ghost invariant = { λ memo. IsKept memo.cache.entries memo.cache.cap };
 }
 
 /// Why there is no memo.
@@ -54,10 +54,11 @@ impl MemoFault {
 }
 
 impl Memo {
-    /// An empty memo of so many entries, 1 to 65,536.
+    /// An empty memo with room for so many entries, 1 to 65,536.
     pub fn new(alloc: Global, entries: usize) -> Result<Memo, MemoFault>
         ensures ok { IfOk result (λ _. (1 ≤ entries) × (entries ≤ 65536)) }
-        ensures empty { IfOk result (λ memo. memo ≡ 0) }
+        ensures empty { IfOk result (λ memo. memo.kept ≡ 0) }
+        ensures room { IfOk result (λ memo. memo.room ≡ entries) }
         ensures bad_size { (result ≡ Err BadSize) ↔ ((entries ≡ 0) ⊎ (65536 < entries)) }
         ensures no_memory { result ≡ Err NoMemory → (1 ≤ entries) × (entries ≤ 65536) }
     {
@@ -73,16 +74,18 @@ impl Memo {
         }
     }
 
-    /// How many entries are kept.
+    /// How many entries are kept, which are never more than there is room for.
     pub fn len(&self) -> usize
-        ensures { result ≡ self.now }
+        ensures kept { result ≡ self.now.kept }
+        ensures within { result ≤ self.now.room }
     {
         self.cache.len()
     }
 
     /// What is known of a position, which becomes the one that was met last.
     pub(crate) fn entry(&mut self, position: &Position) -> Entry
-        ensures { IsTrueOf position.now result }
+        ensures known { IsTrueOf position.now result }
+        ensures room { self.new.room ≡ self.old.room }
     {
         // That two positions which `==` calls equal are one is a law of sound positions.
         equal_reads();
@@ -96,6 +99,8 @@ impl Memo {
     /// Keeps what is known of a position in place of what was kept of it. Where memory is refused, it is not kept.
     pub(crate) fn keep(&mut self, position: &Position, entry: Entry)
         requires { IsTrueOf position.now entry }
+        ensures room { self.new.room ≡ self.old.room }
+        ensures within { self.new.kept ≤ self.new.room }
     {
         equal_reads();
         let _ = self.cache.put(*position, entry);

@@ -91,7 +91,9 @@ fn record_text(
     record: &Record,
     memo: &mut Memo,
 ) -> Result<Vec<u8>, NoMemory>
-    ensures { IfOk result (λ text. text.items ≡ answer_line_of «record».now) }
+    ensures text { IfOk result (λ text. text.items ≡ answer_line_of «record».now) }
+    ensures room { memo.new.room ≡ memo.old.room }
+    ensures within { memo.new.kept ≤ memo.new.room }
 {
     let outcome = solve(rays, &record.problem(), memo);
     let mut text = answer_text(alloc, rays, record, &outcome)?;
@@ -111,7 +113,11 @@ pub fn answer_line(
 ) -> Result<Output, NoMemory>
     ensures reply { IfOk result (λ output. IsLineReply default number (text_without_cr line.now) output.text.items output.refused) }
     ensures few { IfOk result (λ output. output.refused ≤ 1) }
+    ensures room { memo.new.room ≡ memo.old.room }
+    ensures within { memo.new.kept ≤ memo.new.room }
 {
+    // That no more is kept than there is room for.
+    memo.len();
     let line = without_cr(line);
     if is_blank(line) {
         return Ok(Output {
@@ -136,8 +142,11 @@ pub fn solve_input(
     default: Bound,
     memo: &mut Memo,
 ) -> Result<Output, NoMemory>
-    ensures { IfOk result (λ output. IsReply default input.now output.text.items output.refused) }
+    ensures reply { IfOk result (λ output. IsReply default input.now output.text.items output.refused) }
+    ensures room { memo.new.room ≡ memo.old.room }
+    ensures within { memo.new.kept ≤ memo.new.room }
 {
+    memo.len();
     let mut text = Vec::new(alloc);
     let mut refused = 0;
     let mut number = 1;

@@ -14,7 +14,8 @@ use chess_moves::{Rays, Verdict, has_mating_move, legal, legal_moves, verdict};
 #[tactic(auto, using(crate::proofs::Wins::win_none))]
 #[cycle(search)]
 pub(crate) fn wins(rays: &Rays, position: &Position, n: u8, memo: &mut Memo) -> bool
-    ensures { result ≡ win n position.now }
+    ensures found { result ≡ win n position.now }
+    ensures room { memo.new.room ≡ memo.old.room }
 {
     match n {
         0 => false,
@@ -42,7 +43,8 @@ fn mates(rays: &Rays, position: &Position) -> bool
 #[cycle(search)]
 fn wins_longer(rays: &Rays, position: &Position, n: u8, memo: &mut Memo) -> bool
     requires { 1 < n }
-    ensures { result ≡ win n position.now }
+    ensures found { result ≡ win n position.now }
+    ensures room { memo.new.room ≡ memo.old.room }
 {
     let known = memo.entry(position);
     if let Some(found) = known.answer(n) {
@@ -70,6 +72,7 @@ fn least_win(rays: &Rays, position: &Position, none: u8, n: u8, memo: &mut Memo)
     requires { win none position.now ≡ false }
     ensures least { IfSome result (λ k. (0 < k) × (k ≤ n) × (win (k - 1) position.now ≡ false) × (win k position.now ≡ true)) }
     ensures none { result ≡ None → win n position.now ≡ false }
+    ensures room { memo.new.room ≡ memo.old.room }
 {
     let moves = legal(rays, position);
     for k in none..n {
@@ -91,7 +94,8 @@ pub(crate) fn wins_among(
 ) -> bool
     requires some { 0 < n }
     requires legal { All (λ m. may_be_played position.now m ≡ true) first.now }
-    ensures { result ≡ list_any (leaves_lost (n - 1) position.now) first.now }
+    ensures found { result ≡ list_any (leaves_lost (n - 1) position.now) first.now }
+    ensures room { memo.new.room ≡ memo.old.room }
 {
     let mut refutation = None;
     for m in first {
@@ -113,7 +117,8 @@ pub(crate) fn loses(
     refutation: &mut Option<Move>,
     memo: &mut Memo,
 ) -> bool
-    ensures { result ≡ lost k position.now }
+    ensures lost { result ≡ lost k position.now }
+    ensures room { memo.new.room ≡ memo.old.room }
 {
     // Most positions of a search are met here.
     if k == 0 {
@@ -130,7 +135,8 @@ pub(crate) fn loses(
 /// Whether this is a legal reply after which the attacker does not mate within `k` moves.
 #[cycle(search)]
 fn refutes(rays: &Rays, position: &Position, reply: Move, k: u8, memo: &mut Memo) -> bool
-    ensures { result ≡ true → lost k position.now ≡ false }
+    ensures refuted { result ≡ true → lost k position.now ≡ false }
+    ensures room { memo.new.room ≡ memo.old.room }
 {
     for r in legal_moves(rays, position) {
         if r == reply {
@@ -149,7 +155,8 @@ fn loses_each(
     refutation: &mut Option<Move>,
     memo: &mut Memo,
 ) -> bool
-    ensures { result ≡ lost k position.now }
+    ensures lost { result ≡ lost k position.now }
+    ensures room { memo.new.room ≡ memo.old.room }
 {
     let mut moves = false;
     for r in legal_moves(rays, position) {

@@ -23,6 +23,8 @@ use chess_notation::{Bound, Outcome, Problem};
 pub fn solve(rays: &Rays, problem: &Problem, memo: &mut Memo) -> Outcome
     ensures truth { result ≡ truth problem.now.position problem.now.bound }
     ensures playable { IsPlayable problem.now.position result }
+    ensures room { memo.new.room ≡ memo.old.room }
+    ensures within { memo.new.kept ≤ memo.new.room }
 {
     // The last clause rests on this law.
     legal_listed();
@@ -65,7 +67,8 @@ fn solve_among(
     requires none { dist first.now position.now none ≡ None }
     requires few { length first.now ≤ 1024 }
     requires legal { All (λ m. is_legal position.now m ≡ true) first.now }
-    ensures { result ≡ truth_among first.now position.now bound }
+    ensures truth { result ≡ truth_among first.now position.now bound }
+    ensures room { memo.new.room ≡ memo.old.room }
 {
     for k in none..bound.get() {
         if wins_among(rays, position, first, k + 1, memo) {
@@ -81,7 +84,8 @@ fn mate_among(rays: &Rays, position: &Position, first: &[Move], n: u8, memo: &mu
     requires bounded { n ≤ 15 }
     requires few { length first.now ≤ 1024 }
     requires legal { All (λ m. is_legal position.now m ≡ true) first.now }
-    ensures { result ≡ Mate n (record { items = keys first.now position.now n }) (record { items = line first.now position.now n }) }
+    ensures mate { result ≡ Mate n (record { items = keys first.now position.now n }) (record { items = line first.now position.now n }) }
+    ensures room { memo.new.room ≡ memo.old.room }
 {
     let Some(dm) = Bound::new(n) else {
         unreachable!();

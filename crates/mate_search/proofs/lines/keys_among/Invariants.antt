@@ -7,4 +7,5 @@ abbrev pub invariant-loop-m : goal.invariant-loop-m
 invariant-loop-m l = record {
   kept : l.keys.items ≡ filter (leaves_lost (l.n - 1) l.position) (take l.m-index l.first);
   few : array_vec_len l.keys ≤ l.m-index;
+  room : l.memo.room ≡ l.fn.memo.room;
 }

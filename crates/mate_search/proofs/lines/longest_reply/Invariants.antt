@@ -5,4 +5,7 @@ use Rattle.mate_search.proofs.lines.longest_reply.Given as goal
 
 -- none so far
 abbrev pub invariant-loop-r : goal.invariant-loop-r
-invariant-loop-r l = find (λ r. not (win l.j (after_setup l.position r))) (take l.r-index l.r-items) ≡ None
+invariant-loop-r l = record {
+  none : find (λ r. not (win l.j (after_setup l.position r))) (take l.r-index l.r-items) ≡ None;
+  room : l.memo.room ≡ l.fn.memo.room;
+}

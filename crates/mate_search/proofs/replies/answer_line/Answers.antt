@@ -8,7 +8,7 @@ returns-then-is_blank-clause-reply c = rw (← c.without_cr-line.ensures, c.new.
 
 pub returns-in_ok-record_text-in-Ok-clause-reply : goal.returns-in_ok-record_text-in-Ok-clause-reply
 returns-in_ok-record_text-in-Ok-clause-reply c =
-    rw (← c.without_cr-line.ensures, c.in_ok-record_text-in-Ok.ensures) (answered c.in-Ok.record (sym c.is_blank.ensures ∙ c.if-is_blank.false) c.in-Ok.ensures.reads)
+    rw (← c.without_cr-line.ensures, c.in_ok-record_text-in-Ok.ensures.text) (answered c.in-Ok.record (sym c.is_blank.ensures ∙ c.if-is_blank.false) c.in-Ok.ensures.reads)
 
 pub returns-in-Err-clause-reply : goal.returns-in-Err-clause-reply
 returns-in-Err-clause-reply c =

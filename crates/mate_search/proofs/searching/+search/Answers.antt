@@ -5,22 +5,22 @@ use Rattle.mate_search.proofs.Known.{win_within_more, no_win_within_fewer}
 use Rattle.mate_search.proofs.searching.+search.Goals as goal
 
 pub least_win-returns-clause-none : goal.least_win-returns-clause-none
-least_win-returns-clause-none t c = λ e. no_win_within_fewer c.loop-k.k c.args.n c.args.position.now (omega arith) c.loop-k.invariant
+least_win-returns-clause-none t c = λ e. no_win_within_fewer c.loop-k.k c.args.n c.args.position.now (omega arith) c.loop-k.invariant.none
 
 pub loses_each-loop-r-init : goal.loses_each-loop-r-init
 loses_each-loop-r-init t c =
     let moves : c.into_iter-r-iterator.result ≡ legal_moves c.args.position.now = c.into_iter-r-iterator.ensures.into_iter_gives ∙ c.legal_moves-r-items.ensures.moves in
-    record { all = rw moves refl; some = rw moves refl; legal = rw moves (all_legal c.args.position.now) }
+    record { all = rw moves refl; some = rw moves refl; legal = rw moves (all_legal c.args.position.now); room = refl }
 
 pub refutes-loop-r-init : goal.refutes-loop-r-init
 refutes-loop-r-init t c =
     let moves : c.into_iter-r-iterator.result ≡ legal_moves c.args.position.now = c.into_iter-r-iterator.ensures.into_iter_gives ∙ c.legal_moves-r-items.ensures.moves in
-    record { all = rw moves (λ e. e); some = rw moves (λ e. e); legal = rw moves (all_legal c.args.position.now) }
+    record { all = rw moves (λ e. e); some = rw moves (λ e. e); legal = rw moves (all_legal c.args.position.now); room = refl }
 
-pub wins_longer-returns-then-mates : goal.wins_longer-returns-then-mates
-wins_longer-returns-then-mates t c = sym (win_within_more 1 c.args.n c.args.position.now (omega arith) (sym c.mates.ensures ∙ c.if-mates.true))
+pub wins_longer-returns-then-mates-clause-found : goal.wins_longer-returns-then-mates-clause-found
+wins_longer-returns-then-mates-clause-found t c = sym (win_within_more 1 c.args.n c.args.position.now (omega arith) (sym c.mates.ensures ∙ c.if-mates.true))
 
-pub wins_longer-returns-in-Some-least_win : goal.wins_longer-returns-in-Some-least_win
-wins_longer-returns-in-Some-least_win t c =
+pub wins_longer-returns-in-Some-least_win-clause-found : goal.wins_longer-returns-in-Some-least_win-clause-found
+wins_longer-returns-in-Some-least_win-clause-found t c =
     let least = c.in-Some-least_win.ensures.least in
     sym (win_within_more c.in-Some-least_win.k c.args.n c.args.position.now least.1 least.3)

@@ -31,7 +31,10 @@ decreases-refutes l = 8 * l.k + 4
 
 -- no mate within k moves
 abbrev pub invariant-least_win-loop-k : goal.invariant-least_win-loop-k
-invariant-least_win-loop-k l = win l.k l.position ≡ false
+invariant-least_win-loop-k l = record {
+  none : win l.k l.position ≡ false;
+  room : l.memo.room ≡ l.fn.memo.room;
+}
 
 -- each reply so far loses
 abbrev pub invariant-loses_each-loop-r : goal.invariant-loses_each-loop-r
@@ -39,6 +42,7 @@ invariant-loses_each-loop-r l = record {
   all : list_all (λ r. win l.k (after_setup l.position r)) l.r-iterator ≡ list_all (λ r. win l.k (after_setup l.position r)) (legal_moves l.position);
   some : (l.moves || nat_lt 0 (length l.r-iterator)) ≡ has_legal_move l.position;
   legal : list_all (is_legal l.position) l.r-iterator ≡ true;
+  room : l.memo.room ≡ l.fn.memo.room;
 }
 
 -- the replies to come are among the legal moves
@@ -47,8 +51,12 @@ invariant-refutes-loop-r l = record {
   all : list_all (λ r. win l.k (after_setup l.position r)) (legal_moves l.position) ≡ true → list_all (λ r. win l.k (after_setup l.position r)) l.r-iterator ≡ true;
   some : nat_lt 0 (length l.r-iterator) ≡ true → has_legal_move l.position ≡ true;
   legal : list_all (is_legal l.position) l.r-iterator ≡ true;
+  room : l.memo.room ≡ l.fn.memo.room;
 }
 
 -- no move so far wins
 abbrev pub invariant-wins_among-loop-m : goal.invariant-wins_among-loop-m
-invariant-wins_among-loop-m l = list_any (leaves_lost (l.n - 1) l.position) (take l.m-index l.first) ≡ false
+invariant-wins_among-loop-m l = record {
+  none : list_any (leaves_lost (l.n - 1) l.position) (take l.m-index l.first) ≡ false;
+  room : l.memo.room ≡ l.fn.memo.room;
+}

@@ -11,4 +11,4 @@ returns-clause-playable c =
     rw e (truth_playable c.legal_listed.ensures c.args.problem.now.position c.args.problem.now.bound)
 
 pub solve_among-outcome-requires-clause-none : goal.solve_among-outcome-requires-clause-none
-solve_among-outcome-requires-clause-none c = rw (c.as_slice.ensures.value, c.legal-first.ensures) (none_found_within c.problem.inside.position c.entry-known.result c.entry-known.ensures)
+solve_among-outcome-requires-clause-none c = rw (c.as_slice.ensures.value, c.legal-first.ensures) (none_found_within c.problem.inside.position c.entry-known.result c.entry-known.ensures.known)
