@@ -7,6 +7,7 @@ use Rattle.chess_board.specs.Moves.{Move}
 use Rattle.chess_board.specs.After.{after_setup}
 use Rattle.chess_moves.specs.Listing.{legal_moves}
 use Rattle.chess_moves.specs.Laws.{IsLine, LegalListed}
+use Rattle.chess_notation.specs.declared.problems.Outcome.{Outcome}
 use Rattle.mate_search.specs.Wins.{leaves_lost}
 use Rattle.mate_search.specs.Lines.{line, least_key, longest_reply, replies}
 use Rattle.chess_notation.specs.Answers.{AreLegal, IsPlayable}
@@ -45,3 +46,7 @@ truth_playable law p b = (elim (dist (legal_moves p) p b) as (λ o. dist (legal_
     line_playable law (legal_moves p) n p (All-contains_itself (legal_moves p)),
   )
 ]) refl
+
+-- An outcome that is the truth can be played.
+pub told_playable : (p : Setup) (o : Outcome) (b : ℕ) → LegalListed → o ≡ truth p b → IsPlayable p o
+told_playable p o b law is = rw is (truth_playable law p b)

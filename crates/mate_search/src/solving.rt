@@ -20,6 +20,7 @@ use chess_notation::{Bound, Outcome, Problem};
 
 /// What there is to say of a problem: the least number of the attacker's moves within which it mates, all keys in the order of
 /// moves, and one line of play; or that there is no mate within the bound. It never fails.
+#[tactic(auto, using(crate::proofs::Playable::told_playable))]
 pub fn solve(rays: &Rays, problem: &Problem, memo: &mut Memo) -> Outcome
     ensures truth { result ≡ truth problem.now.position problem.now.bound }
     ensures playable { IsPlayable problem.now.position result }
