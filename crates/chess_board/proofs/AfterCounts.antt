@@ -10,7 +10,7 @@ use Rattle.chess_board.specs.declared.men.Wing.TheVariants.{KingSide, QueenSide}
 use Rattle.chess_board.specs.declared.men.Man.{Man}
 use Rattle.chess_board.specs.Moves.{Move}
 use Rattle.chess_board.specs.Positions.{Setup, man_at}
-use Rattle.chess_board.specs.Men.{other_side, is_colour, is_of, is_king_of, is_rook_of, is_pawn_of, is_pawn_kind, is_rook_kind, man_of, king_home, rook_home}
+use Rattle.chess_board.specs.Men.{other_side, is_colour, is_of, is_king_of, is_rook_of, is_pawn_of, is_pawn_kind, is_kind, man_of, king_home, rook_home}
 use Rattle.chess_board.specs.Soundness.{HasOneKingEach, HasAtMostSixteenEach}
 use Rattle.chess_board.specs.Candidates.{crossed, king_goal, is_promotion, promotes, suits}
 use Rattle.chess_board.specs.After.{moved, becomes, passed_pawn, rook, men_after}
@@ -36,12 +36,12 @@ castling_apart Black QueenSide a b e f = (omega arith, omega arith, (λ x. omega
 rook_reads : (colour : Colour) (place : Option Man) → is_rook_of colour place ≡ true → place ≡ Some (rook colour)
 rook_reads colour None h = cc
 rook_reads colour (Some man) h =
-    let q = and_parts (is_colour colour man.colour) (is_rook_kind man.kind) h in
+    let q = and_parts (is_colour colour man.colour) (is_kind Rook man.kind) h in
     let same = colour_same colour man.colour q.0 in
     let k = rook_kind man.kind q.1 in
     ap (λ (x : Man). Some x) (λ i. record { colour = sym same i; kind = k i })
   where
-    rook_kind : (k : Kind) → is_rook_kind k ≡ true → k ≡ Rook
+    rook_kind : (k : Kind) → is_kind Rook k ≡ true → k ≡ Rook
     rook_kind Pawn h = cc
     rook_kind Knight h = cc
     rook_kind Bishop h = cc

@@ -6,7 +6,7 @@ use Rattle.chess_board.specs.Positions.{Setup}
 use Rattle.chess_board.specs.Soundness.{IsSound}
 use Rattle.chess_board.specs.Fields.{IsCounter}
 use Rattle.chess_board.specs.Faults.{IsFirst, IsUnsoundBy, spelling_faults, position_faults, fen_faults}
-use Rattle.chess_board.specs.Fens.{FenValue, Fields, SpellsSetup, Spells, IsAmiss, Applies, IsFault, pieces, piece, fields_of}
+use Rattle.chess_board.specs.Fens.{FenValue, Fields, SpellsSetup, Spells, IsAmiss, Applies, IsFault, parts, part, fields_of}
 use Rattle.chess_board.proofs.FaultOrder.{NoneOf, first_in_front, first_behind, first_alike, none_first}
 use Rattle.chess_board.proofs.Spelling.{fields_in, setup_once}
 
@@ -74,25 +74,25 @@ from_amiss f p h RightWithoutMen u = at_once f p RightWithoutMen h u
 from_amiss f p h TargetWithoutPawn u = at_once f p TargetWithoutPawn h u
 from_amiss f p h OpponentInCheck u = at_once f p OpponentInCheck h u
 
--- A text in six pieces.
-pub fault_of_spelling : (text a b c d e g : List ℕ) (fault : FenFault) → pieces text ≡ a ∷ b ∷ c ∷ d ∷ e ∷ g ∷ []
+-- A text in six parts.
+pub fault_of_spelling : (text a b c d e g : List ℕ) (fault : FenFault) → parts text ≡ a ∷ b ∷ c ∷ d ∷ e ∷ g ∷ []
     → IsFirst (IsAmiss (record { placement = a; side = b; castling = c; target = d })) spelling_faults fault → IsFault text fault
 unfolding IsFault
 fault_of_spelling text a b c d e g fault six h =
     let here : IsFirst (IsAmiss (fields_of text)) spelling_faults fault = subst (λ ps. IsFirst (IsAmiss (fields_in ps)) spelling_faults fault) (sym six) h in
     inr ((λ no. no (ap length six)), first_in_front (Applies text) spelling_faults (BadCounter ∷ position_faults) fault here)
 
-spelt_here : (text a b c d e g : List ℕ) (p : Setup) → pieces text ≡ a ∷ b ∷ c ∷ d ∷ e ∷ g ∷ []
+spelt_here : (text a b c d e g : List ℕ) (p : Setup) → parts text ≡ a ∷ b ∷ c ∷ d ∷ e ∷ g ∷ []
     → SpellsSetup (record { placement = a; side = b; castling = c; target = d }) p → SpellsSetup (fields_of text) p
 spelt_here text a b c d e g p six h = subst (λ ps. SpellsSetup (fields_in ps) p) (sym six) h
 
-pub fault_of_position : (text a b c d e g : List ℕ) (p : Setup) (fault : FenFault) → pieces text ≡ a ∷ b ∷ c ∷ d ∷ e ∷ g ∷ []
+pub fault_of_position : (text a b c d e g : List ℕ) (p : Setup) (fault : FenFault) → parts text ≡ a ∷ b ∷ c ∷ d ∷ e ∷ g ∷ []
     → SpellsSetup (record { placement = a; side = b; castling = c; target = d }) p → IsCounter e → IsCounter g
     → IsFirst (IsUnsoundBy p) position_faults fault → IsFault text fault
 unfolding IsFault
 fault_of_position text a b c d e g p fault six spelt half full h =
     let here = spelt_here text a b c d e g p six spelt in
-    let counters : IsCounter (piece text 4) × IsCounter (piece text 5) = subst (λ ps. IsCounter (slice_index_or ps 4 []) × IsCounter (slice_index_or ps 5 [])) (sym six) (half, full) in
+    let counters : IsCounter (part text 4) × IsCounter (part text 5) = subst (λ ps. IsCounter (slice_index_or ps 4 []) × IsCounter (slice_index_or ps 5 [])) (sym six) (half, full) in
     let first : IsFirst (IsAmiss (fields_of text)) position_faults fault =
     first_alike (IsUnsoundBy p) (IsAmiss (fields_of text)) position_faults fault (to_amiss (fields_of text) p here) (from_amiss (fields_of text) p here) h in
     inr (

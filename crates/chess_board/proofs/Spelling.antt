@@ -6,17 +6,17 @@ use Rattle.chess_board.specs.Positions.{Setup}
 use Rattle.chess_board.specs.Placement.{placement_text}
 use Rattle.chess_board.specs.Fields.{side_text, castling_text, target_text, SpellsTarget, SpellsCounter}
 use Rattle.chess_board.specs.Soundness.{IsSound}
-use Rattle.chess_board.specs.Fens.{FenValue, Fields, SpellsSetup, Spells, pieces, fields_of, position_text, fen_text}
+use Rattle.chess_board.specs.Fens.{FenValue, Fields, SpellsSetup, Spells, parts, fields_of, position_text, fen_text}
 use Rattle.chess_board.proofs.FieldTexts.{IsSpaceless, side_once, target_once, side_spaceless, castling_spaceless, target_spaceless, counter_spaceless, castling_spelt, castling_read, counter_read}
 use Rattle.chess_board.proofs.Targets.{target_on}
 use Rattle.chess_board.proofs.PlacementOnce.{placement_once, placement_has_no_space}
 
--- the first four of some pieces
+-- the first four of some parts
 abbrev pub fields_in : List (List ℕ) → Fields
 fields_in ps = record { placement = slice_index_or ps 0 []; side = slice_index_or ps 1 []; castling = slice_index_or ps 2 []; target = slice_index_or ps 3 [] }
 
--- A text in six pieces is spelt by what they spell.
-pub spells_of : (text a b c d e g : List ℕ) (f : FenValue) → pieces text ≡ a ∷ b ∷ c ∷ d ∷ e ∷ g ∷ []
+-- A text in six parts is spelt by what they spell.
+pub spells_of : (text a b c d e g : List ℕ) (f : FenValue) → parts text ≡ a ∷ b ∷ c ∷ d ∷ e ∷ g ∷ []
     → SpellsSetup (record { placement = a; side = b; castling = c; target = d }) f.position → SpellsCounter e f.halfmove → SpellsCounter g f.fullmove
     → Spells text f
 spells_of text a b c d e g f six position half full = record {
@@ -42,12 +42,12 @@ spelt_once text f g a b =
     λ i. record { position = position i; halfmove = halfmove i; fullmove = fullmove i }
 
 -- Cutting at the spaces undoes putting them in.
-cut_once : (a rest : List ℕ) (more : List (List ℕ)) → IsSpaceless a → pieces rest ≡ more → pieces (a ++ 32 ∷ rest) ≡ a ∷ more
+cut_once : (a rest : List ℕ) (more : List (List ℕ)) → IsSpaceless a → parts rest ≡ more → parts (a ++ 32 ∷ rest) ≡ a ∷ more
 cut_once a rest more h e = slice_split_at (λ b. b == 32) a 32 rest h refl ∙ ap (λ ps. a ∷ ps) e
 
-pieces_joined : (a b c d e g : List ℕ) → IsSpaceless a → IsSpaceless b → IsSpaceless c → IsSpaceless d → IsSpaceless e → IsSpaceless g
-    → pieces (a ++ 32 ∷ (b ++ 32 ∷ (c ++ 32 ∷ (d ++ 32 ∷ (e ++ 32 ∷ g))))) ≡ a ∷ b ∷ c ∷ d ∷ e ∷ g ∷ []
-pieces_joined a b c d e g ha hb hc hd he hg =
+parts_joined : (a b c d e g : List ℕ) → IsSpaceless a → IsSpaceless b → IsSpaceless c → IsSpaceless d → IsSpaceless e → IsSpaceless g
+    → parts (a ++ 32 ∷ (b ++ 32 ∷ (c ++ 32 ∷ (d ++ 32 ∷ (e ++ 32 ∷ g))))) ≡ a ∷ b ∷ c ∷ d ∷ e ∷ g ∷ []
+parts_joined a b c d e g ha hb hc hd he hg =
     cut_once a _ _ ha (cut_once b _ _ hb (cut_once c _ _ hc (cut_once d _ _ hd (cut_once e _ _ he (slice_split_none (λ b. b == 32) g hg)))))
 
 -- the fields as they are printed, regrouped
@@ -63,15 +63,15 @@ regroup a b c d e g =
     glue (a ++ 32 ∷ b ++ 32 ∷ c ++ 32 ∷ d) e (32 ∷ g) ∙ glue (a ++ 32 ∷ b ++ 32 ∷ c) d after_d ∙ glue (a ++ 32 ∷ b) c after_c ∙ glue a b after_b
 
 -- The text that is printed is cut into its six fields.
-pub printed_pieces : (f : FenValue) → f.halfmove ≤ 9999 → f.fullmove ≤ 9999 → pieces (fen_text f)
+pub printed_parts : (f : FenValue) → f.halfmove ≤ 9999 → f.fullmove ≤ 9999 → parts (fen_text f)
     ≡ placement_text f.position.men ∷ side_text f.position.side ∷ castling_text f.position.rights ∷ target_text f.position.target ∷ decimal f.halfmove ∷ decimal f.fullmove ∷ []
 unfolding fen_text position_text
-printed_pieces f half full =
+printed_parts f half full =
     let a = placement_text f.position.men in
     let b = side_text f.position.side in
     let c = castling_text f.position.rights in
     let d = target_text f.position.target in
-    ap pieces (regroup a b c d (decimal f.halfmove) (decimal f.fullmove)) ∙ pieces_joined a b c d (decimal f.halfmove) (decimal f.fullmove)
+    ap parts (regroup a b c d (decimal f.halfmove) (decimal f.fullmove)) ∙ parts_joined a b c d (decimal f.halfmove) (decimal f.fullmove)
     (placement_has_no_space f.position.men) (side_spaceless f.position.side) (castling_spaceless f.position.rights) (target_spaceless f.position.target)
     (counter_spaceless f.halfmove half) (counter_spaceless f.fullmove full)
 
@@ -79,7 +79,7 @@ printed_pieces f half full =
 pub printed_spells : (f : FenValue) → IsSound f.position → f.halfmove ≤ 9999 → f.fullmove ≤ 9999 → Spells (fen_text f) f
 printed_spells f sound half full =
     spells_of (fen_text f) (placement_text f.position.men) (side_text f.position.side) (castling_text f.position.rights) (target_text f.position.target)
-    (decimal f.halfmove) (decimal f.fullmove) f (printed_pieces f half full)
+    (decimal f.halfmove) (decimal f.fullmove) f (printed_parts f half full)
     (record {
       placement = (sound.squares, refl);
       side = refl;

@@ -78,11 +78,8 @@ castles p colour a b = castles_to p colour KingSide a b || castles_to p colour Q
 -- A man of this colour and kind may go from a to b.
 abbrev pub goes : Setup → Colour → Kind → ℕ → ℕ → Bool
 goes p colour Pawn a b = pawn_goes p colour a b
-goes p colour Knight a b = piece_goes p colour Knight a b
-goes p colour Bishop a b = piece_goes p colour Bishop a b
-goes p colour Rook a b = piece_goes p colour Rook a b
-goes p colour Queen a b = piece_goes p colour Queen a b
 goes p colour King a b = piece_goes p colour King a b || castles p colour a b
+goes p colour kind a b = piece_goes p colour kind a b
 
 -- A pawn becomes a queen, a rook, a bishop or a knight (article 3.7).
 abbrev pub is_promotion : Kind → Bool

@@ -2,6 +2,7 @@
 -- spells no sound position.
 use Rattle.std.specs.Prelude.{◌≡◌, ◌≢◌, ℕ, List, [], ◌∷◌, ◌++◌, Option, length, decimal, slice_index_or, ◌==◌}
 use Rattle.std.specs.List.{slice_split}
+use Rattle.chess_board.specs.Characters.{char}
 use Rattle.chess_board.specs.declared.men.Man.{Man}
 use Rattle.chess_board.specs.declared.men.Colour.{Colour}
 use Rattle.chess_board.specs.declared.faults.FenFault.{FenFault}
@@ -31,22 +32,22 @@ pub record SpellsSetup (f : Fields) (p : Setup) : Type 0 where
   pub castling : SpellsCastling f.castling p.rights
   pub target : SpellsTarget p.side f.target p.target
 
--- the pieces of a text that is cut at every space
-abbrev pub pieces : List ℕ → List (List ℕ)
-pieces text = slice_split (λ b. b == 32) text
+-- the parts of a text that is cut at every space
+abbrev pub parts : List ℕ → List (List ℕ)
+parts text = slice_split (λ b. b == char " ") text
 
-abbrev pub piece : List ℕ → ℕ → List ℕ
-piece text n = slice_index_or (pieces text) n []
+abbrev pub part : List ℕ → ℕ → List ℕ
+part text n = slice_index_or (parts text) n []
 
 abbrev pub fields_of : List ℕ → Fields
-fields_of text = record { placement = piece text 0; side = piece text 1; castling = piece text 2; target = piece text 3 }
+fields_of text = record { placement = part text 0; side = part text 1; castling = part text 2; target = part text 3 }
 
 -- A text spells a FEN by six fields with one space between each two.
 pub record Spells (text : List ℕ) (f : FenValue) : Type 0 where
-  pub six : length (pieces text) ≡ 6
+  pub six : length (parts text) ≡ 6
   pub position : SpellsSetup (fields_of text) f.position
-  pub halfmove : SpellsCounter (piece text 4) f.halfmove
-  pub fullmove : SpellsCounter (piece text 5) f.fullmove
+  pub halfmove : SpellsCounter (part text 4) f.halfmove
+  pub fullmove : SpellsCounter (part text 5) f.fullmove
 
 -- the four fields that are printed for a position
 abbrev pub fields_text : Setup → Fields
@@ -54,11 +55,11 @@ fields_text p = record { placement = placement_text p.men; side = side_text p.si
 
 -- The one text that is printed for a position: its four fields.
 unfoldable pub position_text : Setup → List ℕ
-position_text p = placement_text p.men ++ 32 ∷ side_text p.side ++ 32 ∷ castling_text p.rights ++ 32 ∷ target_text p.target
+position_text p = placement_text p.men ++ char " " ∷ side_text p.side ++ char " " ∷ castling_text p.rights ++ char " " ∷ target_text p.target
 
 -- The one text that is printed for a FEN.
 unfoldable pub fen_text : FenValue → List ℕ
-fen_text f = position_text f.position ++ 32 ∷ decimal f.halfmove ++ 32 ∷ decimal f.fullmove
+fen_text f = position_text f.position ++ char " " ∷ decimal f.halfmove ++ char " " ∷ decimal f.fullmove
 
 -- What is wrong with four fields, fault by fault. The faults of a position ask which one the fields spell.
 abbrev pub IsAmiss : Fields → FenFault → Type 0
@@ -70,8 +71,8 @@ IsAmiss f fault = (p : Setup) × SpellsSetup f p × IsUnsoundBy p fault
 
 -- What is wrong with a text, fault by fault.
 abbrev pub Applies : List ℕ → FenFault → Type 0
-Applies text FieldCount = length (pieces text) ≢ 6
-Applies text BadCounter = ¬ (IsCounter (piece text 4) × IsCounter (piece text 5))
+Applies text FieldCount = length (parts text) ≢ 6
+Applies text BadCounter = ¬ (IsCounter (part text 4) × IsCounter (part text 5))
 Applies text fault = IsAmiss (fields_of text) fault
 
 -- The fault of a text is the first that applies.

@@ -3,6 +3,7 @@
 -- step, a counter has one to four digits, and a fullmove number may be 0.
 use Rattle.std.specs.Prelude.{◌≡◌, ◌⊎◌, ℕ, ◌+◌, ◌-◌, ◌*◌, ◌<◌, ◌≤◌, List, [], ◌∷◌, ◌++◌, Bool, Option, Some, None, All, count_by, codes, fold, length, if◌then◌else◌, ◌==◌, ◌||◌}
 use Rattle.std.specs.List.{list_any}
+use Rattle.chess_board.specs.Characters.{char}
 use Rattle.chess_board.specs.declared.men.Colour.{Colour}
 use Rattle.chess_board.specs.declared.men.Colour.TheVariants.{White, Black}
 use Rattle.chess_board.specs.declared.men.Rights.{Rights}
@@ -22,24 +23,24 @@ has_letter letter text = list_any (λ b. b == letter) text
 
 -- one of `KQkq`
 abbrev pub IsRightLetter : ℕ → Type 0
-IsRightLetter b = (b ≡ 75) ⊎ (b ≡ 81) ⊎ (b ≡ 107) ⊎ (b ≡ 113)
+IsRightLetter b = (b ≡ char "K") ⊎ (b ≡ char "Q") ⊎ (b ≡ char "k") ⊎ (b ≡ char "q")
 
 -- Letters of `KQkq` in any order, one at least, none of them twice.
 pub record IsRightLetters (text : List ℕ) : Type 0 where
   pub some : 0 < length text
   pub letters : All IsRightLetter text
-  pub white_king_side : times 75 text ≤ 1
-  pub white_queen_side : times 81 text ≤ 1
-  pub black_king_side : times 107 text ≤ 1
-  pub black_queen_side : times 113 text ≤ 1
+  pub white_king_side : times (char "K") text ≤ 1
+  pub white_queen_side : times (char "Q") text ≤ 1
+  pub black_king_side : times (char "k") text ≤ 1
+  pub black_queen_side : times (char "q") text ≤ 1
 
 -- the rights whose letters stand in a text: capitals are White's, K and k the king side's
 abbrev pub rights_in : List ℕ → Rights
 rights_in text = record {
-  white_king_side = has_letter 75 text;
-  white_queen_side = has_letter 81 text;
-  black_king_side = has_letter 107 text;
-  black_queen_side = has_letter 113 text;
+  white_king_side = has_letter (char "K") text;
+  white_queen_side = has_letter (char "Q") text;
+  black_king_side = has_letter (char "k") text;
+  black_queen_side = has_letter (char "q") text;
 }
 
 -- Castling is a dash where no right is left, or such letters; a right is left exactly where its letter stands.
@@ -55,8 +56,8 @@ letter_if has letter = if has then letter ∷ [] else []
 
 abbrev pub letters_of : Rights → List ℕ
 letters_of rights =
-    letter_if rights.white_king_side 75 ++ letter_if rights.white_queen_side 81
-    ++ letter_if rights.black_king_side 107 ++ letter_if rights.black_queen_side 113
+    letter_if rights.white_king_side (char "K") ++ letter_if rights.white_queen_side (char "Q")
+    ++ letter_if rights.black_king_side (char "k") ++ letter_if rights.black_queen_side (char "q")
 
 abbrev pub has_any : Rights → Bool
 has_any rights = rights.white_king_side || rights.white_queen_side || rights.black_king_side || rights.black_queen_side
@@ -71,7 +72,7 @@ target_rank Black = 2
 
 -- A square is its file's letter and its rank's digit.
 abbrev pub square_text : ℕ → List ℕ
-square_text square = (97 + file_of square) ∷ (49 + rank_of square) ∷ []
+square_text square = (char "a" + file_of square) ∷ (char "1" + rank_of square) ∷ []
 
 abbrev pub target_text : Option ℕ → List ℕ
 target_text None = codes "-"
@@ -86,11 +87,11 @@ abbrev pub SpellsTarget : Colour → List ℕ → Option ℕ → Type 0
 SpellsTarget side text target = IsTargetOf side target × (text ≡ target_text target)
 
 abbrev pub IsDigit : ℕ → Type 0
-IsDigit b = (48 ≤ b) × (b ≤ 57)
+IsDigit b = (char "0" ≤ b) × (b ≤ char "9")
 
 -- the number that decimal digits stand for
 abbrev pub digits_value : List ℕ → ℕ
-digits_value text = fold (λ n b. 10 * n + (b - 48)) 0 text
+digits_value text = fold (λ n b. 10 * n + (b - char "0")) 0 text
 
 -- A counter is one to four digits; zeros may stand in front.
 abbrev pub IsCounter : List ℕ → Type 0

@@ -1,6 +1,7 @@
 -- Tests of attack and of legality with their squares and men named, what a legal move keeps, what four fields spell, and what
 -- `==` answers.
-use Rattle.std.specs.Prelude.{◌≡◌, ◌≢◌, ◌↔◌, ℕ, ◌<◌, Bool, true, false, List, [], All, Option, None}
+use Rattle.std.specs.Prelude.{◌≡◌, ◌≢◌, ◌↔◌, ℕ, ◌<◌, ◌≤◌, Bool, true, false, List, [], All, Option, None}
+use Rattle.chess_board.specs.Characters.{char}
 use Rattle.chess_board.specs.declared.men.Colour.{Colour}
 use Rattle.chess_board.specs.declared.men.Kind.{Kind}
 use Rattle.chess_board.specs.declared.men.Man.{Man}
@@ -40,7 +41,7 @@ SpellsOne = (f : Fields) (p q : Setup) → SpellsSetup f p → SpellsSetup f q �
 
 -- an ASCII byte that is neither a control nor a space
 abbrev pub IsVisible : ℕ → Type 0
-IsVisible b = (32 < b) × (b < 127)
+IsVisible b = (char " " < b) × (b ≤ char "~")
 
 -- at least one byte, each of them visible
 abbrev pub IsVisibleWord : List ℕ → Type 0

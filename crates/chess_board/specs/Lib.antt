@@ -1,3 +1,4 @@
+pub mod Characters
 pub mod Squares
 pub mod Men
 pub mod Positions

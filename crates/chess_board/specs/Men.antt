@@ -21,42 +21,24 @@ man_of colour kind = Some (record { colour = colour; kind = kind })
 -- whether two colours are one
 abbrev pub is_colour : Colour → Colour → Bool
 is_colour White White = true
-is_colour White Black = false
-is_colour Black White = false
 is_colour Black Black = true
-
-abbrev pub is_king_kind : Kind → Bool
-is_king_kind King = true
-is_king_kind _ = false
-
-abbrev pub is_pawn_kind : Kind → Bool
-is_pawn_kind Pawn = true
-is_pawn_kind _ = false
-
-abbrev pub is_rook_kind : Kind → Bool
-is_rook_kind Rook = true
-is_rook_kind _ = false
-
-abbrev pub is_knight_kind : Kind → Bool
-is_knight_kind Knight = true
-is_knight_kind _ = false
-
-abbrev pub is_bishop_kind : Kind → Bool
-is_bishop_kind Bishop = true
-is_bishop_kind _ = false
-
-abbrev pub is_queen_kind : Kind → Bool
-is_queen_kind Queen = true
-is_queen_kind _ = false
+is_colour _ _ = false
 
 -- whether two kinds are one
 abbrev pub is_kind : Kind → Kind → Bool
-is_kind Pawn other = is_pawn_kind other
-is_kind Knight other = is_knight_kind other
-is_kind Bishop other = is_bishop_kind other
-is_kind Rook other = is_rook_kind other
-is_kind Queen other = is_queen_kind other
-is_kind King other = is_king_kind other
+is_kind Pawn Pawn = true
+is_kind Knight Knight = true
+is_kind Bishop Bishop = true
+is_kind Rook Rook = true
+is_kind Queen Queen = true
+is_kind King King = true
+is_kind _ _ = false
+
+abbrev pub is_pawn_kind : Kind → Bool
+is_pawn_kind kind = is_kind Pawn kind
+
+abbrev pub is_king_kind : Kind → Bool
+is_king_kind kind = is_kind King kind
 
 -- Whether a man of the colour stands there.
 abbrev pub is_of : Colour → Option Man → Bool
@@ -70,18 +52,15 @@ is_man colour asked (Some man) = is_colour colour man.colour && is_kind asked ma
 
 -- Whether the colour's king stands there.
 abbrev pub is_king_of : Colour → Option Man → Bool
-is_king_of colour None = false
-is_king_of colour (Some man) = is_colour colour man.colour && is_king_kind man.kind
+is_king_of colour place = is_man colour King place
 
 -- Whether a rook of the colour stands there.
 abbrev pub is_rook_of : Colour → Option Man → Bool
-is_rook_of colour None = false
-is_rook_of colour (Some man) = is_colour colour man.colour && is_rook_kind man.kind
+is_rook_of colour place = is_man colour Rook place
 
 -- Whether a pawn of the colour stands there.
 abbrev pub is_pawn_of : Colour → Option Man → Bool
-is_pawn_of colour None = false
-is_pawn_of colour (Some man) = is_colour colour man.colour && is_pawn_kind man.kind
+is_pawn_of colour place = is_man colour Pawn place
 
 -- Whether a pawn of either colour stands there.
 abbrev pub is_pawn : Option Man → Bool

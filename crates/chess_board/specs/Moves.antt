@@ -1,5 +1,6 @@
 -- What a move is, how it is written, and which of two moves comes first.
 use Rattle.std.specs.Prelude.{ℕ, ◌+◌, ◌*◌, List, [], ◌∷◌, ◌++◌, Option, Some, None}
+use Rattle.chess_board.specs.Characters.{small}
 use Rattle.chess_board.specs.declared.men.Kind.{Kind}
 use Rattle.chess_board.specs.declared.men.Kind.TheVariants.{Pawn, Knight, Bishop, Rook, Queen, King}
 use Rattle.chess_board.specs.Placement.{kind_letter}
@@ -29,7 +30,7 @@ move_place m = m.origin * 448 + (m.target * 7 + promotion_place m.promotion)
 -- what the pawn becomes, by its small letter
 abbrev pub promotion_text : Option Kind → List ℕ
 promotion_text None = []
-promotion_text (Some kind) = (kind_letter kind + 32) ∷ []
+promotion_text (Some kind) = small (kind_letter kind) ∷ []
 
 -- A move is written by its origin, its target and its promotion: e2e4, a7a8q.
 abbrev pub move_text : Move → List ℕ

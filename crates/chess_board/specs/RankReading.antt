@@ -1,5 +1,4 @@
--- What the reader of a rank makes of one byte. Nobody needs to believe these definitions: they serve the proofs, which
--- show that they undo the letters and digits of `Placement`.
+-- Not for believing: what the reader of a rank makes of one byte. It undoes the letters and digits of the placement.
 use Rattle.std.specs.Prelude.{ℕ, ◌-◌, Bool, Option, Some, None, nat_lt, ◌&&◌, if◌then◌else◌, ◌==◌}
 use Rattle.chess_board.specs.declared.men.Colour.{Colour}
 use Rattle.chess_board.specs.declared.men.Colour.TheVariants.{White, Black}

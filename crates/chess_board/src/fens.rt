@@ -4,7 +4,7 @@ ghost use Rattle.std.specs.Prelude.{◌≡◌, ◌↔◌, ℕ, ◌≤◌, ◌≢
 ghost use Rattle.chess_board.specs.Positions.{Setup as SetupValue};
 ghost use Rattle.chess_board.specs.Soundness.{IsSound};
 ghost use Rattle.chess_board.specs.Faults.{IsFirst, spelling_faults, field_faults};
-ghost use Rattle.chess_board.specs.Fens.{FenValue, SpellsSetup, Spells, IsAmiss, IsFault, pieces, position_text, fen_text};
+ghost use Rattle.chess_board.specs.Fens.{FenValue, SpellsSetup, Spells, IsAmiss, IsFault, parts, position_text, fen_text};
 
 use crate::boards::Board;
 use crate::cuts::cut_at;
@@ -55,8 +55,8 @@ struct SixFields<'a> {
 
 /// The fields of a text, where one space stands between each two of six.
 fn six_fields(text: &[u8]) -> Option<SixFields<'_>>
-    ensures none { IfNone result (length (pieces text.now) ≢ 6) }
-    ensures fields { IfSome result (λ f. pieces text.now
+    ensures none { IfNone result (length (parts text.now) ≢ 6) }
+    ensures fields { IfSome result (λ f. parts text.now
         ≡ f.placement.now ∷ f.side.now ∷ f.castling.now ∷ f.target.now ∷ f.halfmove.now ∷ f.fullmove.now ∷ []) }
 {
     let (placement, rest) = cut_at(text, b' ')?;

@@ -4,7 +4,8 @@ use Rattle.std.proofs.lemmas.Bool.{and_parts}
 use Rattle.chess_board.specs.declared.men.Colour.{Colour}
 use Rattle.chess_board.specs.declared.men.Colour.TheVariants.{White, Black}
 use Rattle.chess_board.specs.declared.men.Man.{Man}
-use Rattle.chess_board.specs.Men.{other_side, is_colour, is_king_kind, is_rook_kind, is_of, is_king_of, is_rook_of}
+use Rattle.chess_board.specs.declared.men.Kind.TheVariants.{Rook}
+use Rattle.chess_board.specs.Men.{other_side, is_colour, is_king_kind, is_kind, is_of, is_king_of, is_rook_of}
 use Rattle.chess_board.specs.Positions.{Setup, man_at}
 
 pub same_colour : (a b : Colour) → a ≡ b → is_colour a b ≡ true
@@ -39,7 +40,7 @@ own_not_other p man o there own = rw there (other_colour man.colour p.side own)
 
 pub own_rook_not_other : (c : Colour) (place : Option Man) → is_rook_of c place ≡ true → is_of (other_side c) place ≡ false
 own_rook_not_other c None h = refl
-own_rook_not_other c (Some man) h = own_is_not_other c man.colour ((and_parts (is_colour c man.colour) (is_rook_kind man.kind) h).0)
+own_rook_not_other c (Some man) h = own_is_not_other c man.colour ((and_parts (is_colour c man.colour) (is_kind Rook man.kind) h).0)
 
 -- A man that is no king is not the colour's king.
 pub no_king_of : (c : Colour) (man : Man) → is_king_kind man.kind ≡ false → is_king_of c (Some man) ≡ false

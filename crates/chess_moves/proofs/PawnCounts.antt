@@ -16,7 +16,7 @@ use Rattle.chess_board.specs.After.{moved, becomes}
 use Rattle.chess_board.specs.Legality.{is_legal}
 use Rattle.chess_moves.specs.declared.scenes.Scene.{Scene}
 use Rattle.chess_moves.specs.Hits.{is_hit}
-use Rattle.chess_moves.specs.Leaps.{is_step, is_double, is_capture}
+use Rattle.chess_moves.specs.Leaps.{is_step, is_double, is_pawn_capture}
 use Rattle.chess_moves.specs.Listing.{move_of, promotions, moves_between, moves_to}
 use Rattle.chess_moves.specs.Scenes.{IsSceneOf}
 use Rattle.chess_moves.specs.Shifts.{is_shifted, back, left_file, right_file, third_rank, AreFree}
@@ -191,7 +191,7 @@ module _ (scene : Scene) (p : Setup) (pawns once twice left right : ℕ) (h : Is
       let at_s : ℕ → Bool = λ q. eqb o q in
       let ways' = ways_apart c o t o_on on in
       let moved_here = λ (q : ℕ) (e : eqb o q ≡ true). ap (has pawns) (sym (eqb-true o q e)) in
-      let steps_off : (r1 || r2) ≡ true → taking ≡ false = λ x. first_false (is_capture c o t) enemy (ways'.1 (either (is_step c o t) (is_empty p.men t) (is_double c o t) (is_empty p.men (crossed o t)) (is_empty p.men t) x)) in
+      let steps_off : (r1 || r2) ≡ true → taking ≡ false = λ x. first_false (is_pawn_capture c o t) enemy (ways'.1 (either (is_step c o t) (is_empty p.men t) (is_double c o t) (is_empty p.men (crossed o t)) (is_empty p.men t) x)) in
       let once_off : r1 ≡ true → r2 ≡ false = λ x. second_false (is_double c o t) (is_empty p.men (crossed o t)) (is_empty p.men t) (ways'.0 ((and_parts (is_step c o t) (is_empty p.men t) x).0)) in
       let left_off : r3 ≡ true → r4 ≡ false = λ x. first_false (goes_right c o t) enemy (ways'.2 ((and_parts (goes_left c o t) enemy x).0)) in
       let takes_is : taking ≡ (r3 || r4) = ap (λ (x : Bool). x && enemy) (capture_back_to c o t o_on on) ∙ spread (goes_left c o t) (goes_right c o t) enemy in

@@ -9,7 +9,7 @@ use Rattle.chess_board.specs.declared.men.Colour.{Colour}
 use Rattle.chess_board.specs.declared.men.Colour.TheVariants.{White, Black}
 use Rattle.chess_board.specs.Squares.{file_of, rank_of, all_below}
 use Rattle.chess_board.specs.Candidates.{crossed}
-use Rattle.chess_moves.specs.Leaps.{is_step, is_double, is_capture}
+use Rattle.chess_moves.specs.Leaps.{is_step, is_double, is_pawn_capture}
 use Rattle.chess_moves.specs.Shifts.{is_shifted, back, left_file, right_file, third_rank}
 use Rattle.chess_moves.proofs.Promotions.{same, same_equal, each}
 
@@ -86,21 +86,21 @@ crossed_back c o t j k h =
     let tried = each_pair (λ a b. not (is_double c a b) || eqb (crossed a b) (back c 8 b)) o t (crossed_pairs c) j k in
     eqb-true (crossed o t) (back c 8 t) (rw h at tried)
 
-capture_pairs : (c : Colour) → all_below 64 (λ o. all_below 64 (λ t. same (is_capture c o t) (goes_left c o t || goes_right c o t))) ≡ true
+capture_pairs : (c : Colour) → all_below 64 (λ o. all_below 64 (λ t. same (is_pawn_capture c o t) (goes_left c o t || goes_right c o t))) ≡ true
 unfolding all_below
 capture_pairs White = refl
 capture_pairs Black = refl
 
-pub capture_back_to : (c : Colour) (o t : ℕ) → o < 64 → t < 64 → is_capture c o t ≡ (goes_left c o t || goes_right c o t)
+pub capture_back_to : (c : Colour) (o t : ℕ) → o < 64 → t < 64 → is_pawn_capture c o t ≡ (goes_left c o t || goes_right c o t)
 capture_back_to c o t j k =
-    same_equal (is_capture c o t) (goes_left c o t || goes_right c o t) (each_pair (λ a b. same (is_capture c a b) (goes_left c a b || goes_right c a b)) o t (capture_pairs c) j k)
+    same_equal (is_pawn_capture c o t) (goes_left c o t || goes_right c o t) (each_pair (λ a b. same (is_pawn_capture c a b) (goes_left c a b || goes_right c a b)) o t (capture_pairs c) j k)
 
 -- No two of a pawn's steps and captures lead from one square to one other.
 abbrev apart : Bool → Bool → Bool
 apart true b = not b
 apart false b = true
 
-apart_pairs : (c : Colour) → all_below 64 (λ o. all_below 64 (λ t. apart (is_step c o t) (is_double c o t) && apart (is_step c o t || is_double c o t) (is_capture c o t) && apart (goes_left c o t) (goes_right c o t))) ≡ true
+apart_pairs : (c : Colour) → all_below 64 (λ o. all_below 64 (λ t. apart (is_step c o t) (is_double c o t) && apart (is_step c o t || is_double c o t) (is_pawn_capture c o t) && apart (goes_left c o t) (goes_right c o t))) ≡ true
 unfolding all_below
 apart_pairs White = refl
 apart_pairs Black = refl
@@ -111,15 +111,15 @@ apart_from true false h e = refl
 apart_from false b h e = cc
 
 pub ways_apart : (c : Colour) (o t : ℕ) → o < 64 → t < 64
-    → (is_step c o t ≡ true → is_double c o t ≡ false) × ((is_step c o t || is_double c o t) ≡ true → is_capture c o t ≡ false) × (goes_left c o t ≡ true → goes_right c o t ≡ false)
+    → (is_step c o t ≡ true → is_double c o t ≡ false) × ((is_step c o t || is_double c o t) ≡ true → is_pawn_capture c o t ≡ false) × (goes_left c o t ≡ true → goes_right c o t ≡ false)
 ways_apart c o t j k =
     let x : Bool = apart (is_step c o t) (is_double c o t) in
-    let y : Bool = apart (is_step c o t || is_double c o t) (is_capture c o t) in
+    let y : Bool = apart (is_step c o t || is_double c o t) (is_pawn_capture c o t) in
     let z : Bool = apart (goes_left c o t) (goes_right c o t) in
-    let tried : (x && y && z) ≡ true = each_pair (λ a b. apart (is_step c a b) (is_double c a b) && apart (is_step c a b || is_double c a b) (is_capture c a b) && apart (goes_left c a b) (goes_right c a b)) o t (apart_pairs c) j k in
+    let tried : (x && y && z) ≡ true = each_pair (λ a b. apart (is_step c a b) (is_double c a b) && apart (is_step c a b || is_double c a b) (is_pawn_capture c a b) && apart (goes_left c a b) (goes_right c a b)) o t (apart_pairs c) j k in
     let q = and_parts (x && y) z tried in
     let r = and_parts x y q.0 in
-    (λ e. apart_from (is_step c o t) (is_double c o t) r.0 e, λ e. apart_from (is_step c o t || is_double c o t) (is_capture c o t) r.1 e, λ e. apart_from (goes_left c o t) (goes_right c o t) q.1 e)
+    (λ e. apart_from (is_step c o t) (is_double c o t) r.0 e, λ e. apart_from (is_step c o t || is_double c o t) (is_pawn_capture c o t) r.1 e, λ e. apart_from (goes_left c o t) (goes_right c o t) q.1 e)
 
 pub back_on : (c : Colour) (gap t : ℕ) → t < 64 → is_shifted c gap t ≡ true → back c gap t < 64
 back_on White gap t l h = omega arith

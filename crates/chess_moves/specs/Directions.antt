@@ -1,4 +1,5 @@
--- The eight directions in which a queen goes, and how far a man sees in each: until the first square that is taken.
+-- Not for believing: the eight directions in which a queen goes, and how far a man sees in each: until the first square that
+-- is taken.
 use Rattle.std.specs.Prelude.{◌≡◌, if◌then◌else◌, ℕ, ◌+◌, Bool, true, false, not, ◌&&◌, ◌||◌, ◌==◌, nat_lt}
 use Rattle.chess_board.specs.Squares.{file_of, rank_of, some_square}
 use Rattle.chess_moves.specs.declared.directions.Direction.{Direction}
@@ -42,15 +43,15 @@ opposite West = East
 opposite NorthWest = SouthEast
 
 -- the place of a direction among the eight
-abbrev pub number_of : Direction → ℕ
-number_of North = 0
-number_of NorthEast = 1
-number_of East = 2
-number_of SouthEast = 3
-number_of South = 4
-number_of SouthWest = 5
-number_of West = 6
-number_of NorthWest = 7
+abbrev pub direction_number : Direction → ℕ
+direction_number North = 0
+direction_number NorthEast = 1
+direction_number East = 2
+direction_number SouthEast = 3
+direction_number South = 4
+direction_number SouthWest = 5
+direction_number West = 6
+direction_number NorthWest = 7
 
 -- the numbers of the squares rise in this direction
 abbrev pub is_rising : Direction → Bool

@@ -2,11 +2,14 @@
 use Rattle.std.specs.Prelude.{Bool, true, false, ◌&&◌, List, Option, None, Some}
 use Rattle.chess_board.specs.declared.men.Colour.{Colour}
 use Rattle.chess_board.specs.declared.men.Kind.{Kind}
-use Rattle.chess_board.specs.declared.men.Kind.TheVariants.{Bishop, Rook, Queen}
+use Rattle.chess_board.specs.declared.men.Kind.TheVariants.{Knight, Bishop, Rook, Queen}
 use Rattle.chess_board.specs.declared.men.Man.{Man}
-use Rattle.chess_board.specs.Men.{is_colour, is_pawn_kind, is_knight_kind, is_king_kind}
+use Rattle.chess_board.specs.Men.{is_colour, is_kind, is_pawn_kind, is_king_kind}
 use Rattle.chess_board.specs.Sets.{IsSetOf}
 use Rattle.chess_moves.specs.declared.forces.Force.{Force}
+
+abbrev pub is_knight_kind : Kind → Bool
+is_knight_kind kind = is_kind Knight kind
 
 -- bishops and queens
 abbrev pub is_diagonal_kind : Kind → Bool

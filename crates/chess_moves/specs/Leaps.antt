@@ -1,5 +1,5 @@
--- Where a man goes that nothing in between can stop: a knight's leap, a king's step, and what pawns do (FIDE Laws of Chess,
--- articles 3.6 to 3.8).
+-- Not for believing: where a man goes that nothing in between can stop: a knight's leap, a king's step, and what pawns do (FIDE
+-- Laws of Chess, articles 3.6 to 3.8).
 use Rattle.std.specs.Prelude.{ℕ, Bool, not, ◌&&◌, ◌||◌, ◌==◌, nat_le}
 use Rattle.chess_board.specs.declared.men.Colour.{Colour}
 use Rattle.chess_board.specs.declared.men.Colour.TheVariants.{White, Black}
@@ -10,8 +10,8 @@ use Rattle.chess_moves.specs.declared.directions.Leap.{Leap}
 use Rattle.chess_moves.specs.declared.directions.Leap.TheVariants.{KnightLeap, KingStep, WhiteCapture, BlackCapture, WhiteStep, BlackStep, WhiteDouble, BlackDouble}
 
 -- a pawn captures one rank ahead on a file beside its own
-abbrev pub is_capture : Colour → ℕ → ℕ → Bool
-is_capture colour a b = (file_gap a b == 1) && is_forward colour 1 a b
+abbrev pub is_pawn_capture : Colour → ℕ → ℕ → Bool
+is_pawn_capture colour a b = (file_gap a b == 1) && is_forward colour 1 a b
 
 -- a pawn steps ahead on its file
 abbrev pub is_step : Colour → ℕ → ℕ → Bool
@@ -24,8 +24,8 @@ is_double colour a b = is_forward colour 2 a b && (file_of a == file_of b) && (r
 unfoldable pub leaps : Leap → ℕ → ℕ → Bool
 leaps KnightLeap a b = ((file_gap a b == 1) && (rank_gap a b == 2)) || ((file_gap a b == 2) && (rank_gap a b == 1))
 leaps KingStep a b = not (a == b) && nat_le (file_gap a b) 1 && nat_le (rank_gap a b) 1
-leaps WhiteCapture a b = is_capture White a b
-leaps BlackCapture a b = is_capture Black a b
+leaps WhiteCapture a b = is_pawn_capture White a b
+leaps BlackCapture a b = is_pawn_capture Black a b
 leaps WhiteStep a b = is_step White a b
 leaps BlackStep a b = is_step Black a b
 leaps WhiteDouble a b = is_double White a b

@@ -1,4 +1,5 @@
--- The legal moves of a position (FIDE Laws of Chess, article 3.10.1), as a list.
+-- Not for believing: how the list of the legal moves is put together. `LegalListed` and `LegalRise` say which moves it has and in
+-- which order (FIDE Laws of Chess, article 3.10.1).
 use Rattle.std.specs.Prelude.{ℕ, zero, suc, List, [], ◌∷◌, ◌++◌, filter, Option, Some, None}
 use Rattle.chess_board.specs.declared.men.Kind.{Kind}
 use Rattle.chess_board.specs.declared.men.Kind.TheVariants.{Knight, Bishop, Rook, Queen}

@@ -8,7 +8,7 @@ use Rattle.chess_board.specs.Soundness.{IsSound}
 use Rattle.chess_board.specs.Laws.{are_equal, EqualReads}
 use Rattle.mate_search.specs.declared.entries.Entry.{Entry}
 use Rattle.mate_search.specs.Wins.{win}
-use Rattle.mate_search.specs.Memos.{IsTrueOf, AreTrue, IsKept}
+use Rattle.mate_search.specs.Kept.{IsTrueOf, AreTrue, IsKept}
 use Rattle.mate_search.proofs.Room.{put_within, length-promoted}
 use Rattle.chess_moves.specs.Listing.{legal_moves}
 use Rattle.mate_search.specs.Truth.{dist}

@@ -1,4 +1,4 @@
--- The keys of a mate and its line of play, as they are computed. Nobody has to believe these: `Play.antt` has what they come to.
+-- Not for believing: the keys of a mate and its line of play, as they are computed. They come to `IsKey` and `IsBestPlay`.
 use Rattle.std.specs.Prelude.{ℕ, zero, suc, ◌-◌, not, List, [], ◌∷◌, filter, find, Option}
 use Rattle.std.specs.Option.{option_map_or}
 use Rattle.chess_board.specs.Positions.{Setup}

@@ -1,4 +1,4 @@
--- What there is to say of a problem, as it is computed. Nobody has to believe this: it comes to `IsTold` of `Laws.antt`.
+-- Not for believing: what there is to say of a problem, as it is computed. It comes to `IsTold`.
 use Rattle.std.specs.Prelude.{ℕ, zero, suc, List, Option, Some, None, if◌then◌else◌}
 use Rattle.std.specs.Option.{option_map_or, option_or}
 use Rattle.chess_board.specs.Positions.{Setup}

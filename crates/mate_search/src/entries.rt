@@ -4,7 +4,7 @@ ghost use Rattle.std.specs.Prelude.{◌≡◌, IfSome, true, false};
 ghost use Rattle.chess_board.specs.Positions.{Setup};
 ghost use Rattle.chess_board.specs.Soundness.{IsSound};
 ghost use Rattle.mate_search.specs.Wins.{win};
-ghost use Rattle.mate_search.specs.Memos.{IsTrueOf};
+ghost use Rattle.mate_search.specs.Kept.{IsTrueOf};
 
 /// What is known of a position: the greatest number of moves within which there is no mate, and the least within which there is
 /// one, where such a number was found.

@@ -2,7 +2,8 @@
 
 ghost use Rattle.std.specs.Prelude.{◌≡◌, ◌↔◌, ◌⊎◌, ◌<◌, ◌≤◌, Err, IfOk, codes};
 ghost use Rattle.mate_search.specs.declared.memo.MemoFault.TheVariants.{BadSize, NoMemory};
-ghost use Rattle.mate_search.specs.Memos.{IsTrueOf, memo_fault_name};
+ghost use Rattle.mate_search.specs.Kept.{IsTrueOf};
+ghost use Rattle.mate_search.specs.Memos.{memo_fault_name};
 
 use crate::entries::Entry;
 use chess_board::{Position, equal_reads};
@@ -21,7 +22,8 @@ pub struct Memo {
 
 impl Model for Memo {
     ghost use Rattle.std.specs.Prelude.{length};
-    ghost use Rattle.mate_search.specs.Memos.{MemoValue, IsKept};
+    ghost use Rattle.mate_search.specs.Kept.{IsKept};
+    ghost use Rattle.mate_search.specs.Memos.{MemoValue};
 
     ghost Value = { MemoValue };
 

@@ -5,7 +5,7 @@ ghost use Rattle.chess_board.specs.Legality.{is_legal};
 ghost use Rattle.mate_search.specs.Lines.{keys, line};
 ghost use Rattle.chess_board.specs.Positions.{Setup};
 ghost use Rattle.mate_search.specs.Truth.{dist, truth, truth_among};
-ghost use Rattle.mate_search.specs.Memos.{IsTrueOf};
+ghost use Rattle.mate_search.specs.Kept.{IsTrueOf};
 ghost use Rattle.chess_notation.specs.Answers.{IsPlayable};
 ghost use Rattle.chess_notation.specs.declared.problems.Outcome.TheVariants.{Mate};
 

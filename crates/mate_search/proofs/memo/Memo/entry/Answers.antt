@@ -2,7 +2,7 @@ use Rattle.std.proofs.Common.{sym, ap, subst}
 use Rattle.lru.specs.LruCache.{LruCache}
 use Rattle.chess_board.specs.Positions.{Setup}
 use Rattle.mate_search.specs.declared.entries.Entry.{Entry}
-use Rattle.mate_search.specs.Memos.{IsKept}
+use Rattle.mate_search.specs.Kept.{IsKept}
 use Rattle.mate_search.proofs.Known.{found_true, kept_promoted}
 use Rattle.mate_search.proofs.memo.Memo.entry.Goals.{in-Some, in-None}
 use Rattle.mate_search.proofs.memo.Memo.entry.Goals as goal
