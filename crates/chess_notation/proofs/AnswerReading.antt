@@ -6,6 +6,7 @@ use Rattle.chess_board.specs.Soundness.{IsSound}
 use Rattle.chess_board.specs.Fields.{IsCounter}
 use Rattle.chess_board.specs.Fens.{fields_text, position_text}
 use Rattle.chess_board.specs.Laws.{PrintedSpells}
+use Rattle.chess_board.specs.Moves.{Move}
 use Rattle.chess_moves.specs.Laws.{LegalListed}
 use Rattle.chess_notation.specs.declared.problems.Outcome.TheVariants.{Mate, NoMate}
 use Rattle.chess_notation.specs.Operations.{Operation, Entry, SpellsOperations, is_printable}
@@ -17,6 +18,7 @@ use Rattle.chess_notation.proofs.MergedOperations.{Each}
 use Rattle.chess_notation.proofs.SpellableOperations.{IsSpellable, spelled_operations, printed_operations, spellable_operations}
 use Rattle.chess_notation.proofs.OwnOperations.{keys_spellable, line_spellable}
 use Rattle.chess_notation.proofs.KeptOperations.{AreCopied, are_copied}
+use Rattle.chess_notation.proofs.AvoidedAnswers.{avoid_of_answer}
 use Rattle.chess_notation.proofs.AnswerContents.{IsAnswered, none_answered, mate_answered}
 
 -- What stands behind the words of a printable text is printable.
@@ -33,11 +35,11 @@ rest_spellable operations tail (inr (halfmove, fullmove, rest, words, spelt)) pr
     spellable_operations operations rest spelt (words_tail IsCounter (halfmove ∷ fullmove ∷ []) tail rest words printable)
 
 -- What a record keeps comes from operations of the line.
-copied_of : (line : List ℕ) (asked : ℕ) (r : RecordValue) → Reads line asked r → AreCopied r.rest
+copied_of : (line : List ℕ) (asked : ℕ) (r : RecordValue) (reads : Reads line asked r) → AreCopied reads.operations r.rest
 copied_of line asked r reads =
     let behind = words_tail IsWord (words_of reads.fields) line reads.tail reads.words reads.printable in
     let spellable = rest_spellable reads.operations reads.tail reads.spelt behind in
-    are_copied r.rest (λ entry at. let kept = (reads.kept.1 entry).0 at in (kept.0, (spellable kept.0 kept.1, kept.2), kept.3))
+    are_copied reads.operations r.rest (λ entry at. let kept = (reads.kept.1 entry).0 at in (kept.0, (spellable kept.0 kept.1, kept.2, kept.1), kept.3))
 
 entries_apart : (entries : List Entry) → IsApart (entries_text entries)
 entries_apart [] = tt
@@ -62,11 +64,11 @@ four_printable a b c d a_is b_is c_is d_is =
     list_all-both is_printable (a ++ 32 ∷ b ++ 32 ∷ c) (32 ∷ d) three d_is
 
 -- A sound position's text with an answer's operations behind it is a record.
-answer_says : PrintedSpells → (p : Setup) (default asked : ℕ) (entries rest : List Entry) → IsSound p → IsAnswered entries rest default asked
+answer_says : PrintedSpells → (p : Setup) (default asked : ℕ) (avoid : List Move) (entries rest : List Entry) → IsSound p → IsAnswered p avoid entries rest default asked
     → length (position_text p ++ entries_text entries) ≤ 1023
-    → Reads (position_text p ++ entries_text entries) default (record { position = p; bound = asked; rest = rest })
+    → Reads (position_text p ++ entries_text entries) default (record { position = p; bound = asked; avoid = avoid; rest = rest })
 unfolding position_text
-answer_says printed p default asked entries rest sound answered short =
+answer_says printed p default asked avoid entries rest sound answered short =
     let fields = fields_text p in
     let are = printed p sound in
     let placement = visible_word fields.placement are.placement in
@@ -89,6 +91,7 @@ answer_says printed p default asked entries rest sound answered short =
       spelt = inl (subst (λ es. SpellsOperations (entries_text es) all) answered.shown (spelled_operations all spellable));
       once = answered.answer.once;
       bound = answered.bound;
+      avoid = answered.avoid_is;
       kept = answered.kept;
     }
 
@@ -97,8 +100,12 @@ unfolding answer_text IsPlayable
 answer_reads printed listed line asked default r (Mate dm keys pv) reads playable length short =
     let keys_can = keys_spellable listed r.position keys.items playable.0 in
     let line_can = line_spellable r.position pv.items playable.1 in
-    let answered = mate_answered r.position keys.items pv.items default dm r.rest (copied_of line asked r reads) reads.kept.0 keys_can line_can length.0 length.1 in
-    answer_says printed r.position default dm _ r.rest reads.sound answered short
+    let copied = copied_of line asked r reads in
+    let avoids = avoid_of_answer reads.operations r.rest copied reads.once reads.kept r.position r.avoid reads.avoid in
+    let answered = mate_answered r.position r.avoid keys.items pv.items default dm r.rest copied reads.kept.0 avoids keys_can line_can length.0 length.1 in
+    answer_says printed r.position default dm r.avoid _ r.rest reads.sound answered short
 answer_reads printed listed line asked default r NoMate reads playable length short =
-    let answered = none_answered default r.bound r.rest (copied_of line asked r reads) reads.kept.0 in
-    answer_says printed r.position default default _ r.rest reads.sound answered short
+    let copied = copied_of line asked r reads in
+    let avoids = avoid_of_answer reads.operations r.rest copied reads.once reads.kept r.position r.avoid reads.avoid in
+    let answered = none_answered r.position r.avoid default r.bound r.rest copied reads.kept.0 avoids in
+    answer_says printed r.position default default r.avoid _ r.rest reads.sound answered short

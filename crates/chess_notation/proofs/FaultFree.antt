@@ -1,4 +1,4 @@
--- What the pieces of a line without a fault show.
+-- What the pieces of a line without one of the first nine faults show.
 use Rattle.std.proofs.Common.{◌≡◌, ℕ, ◌≤◌, ◌<◌, nat_le, nat_lt, List, Bool, true, false, length, refl, arith, if◌then◌else◌, ◌&&◌, ◌||◌}
 use Rattle.std.specs.List.{list_all}
 use Rattle.std.proofs.lemmas.Bool.{and_parts}
@@ -6,12 +6,13 @@ use Rattle.std.proofs.lemmas.Bool.Decides.{nat_tests}
 use mathlib.Core.Bool.{not}
 use Rattle.chess_board.specs.Fields.{digits_value}
 use Rattle.chess_notation.specs.declared.faults.EpdFault.TheVariants.{TooLong, NotPrintable, BadOpcode, BadString, MissingSemicolon, DoubleOpcode, BadBound, BoundTooLarge}
+use Rattle.chess_notation.specs.RecordReading.{IsClearTo}
 use Rattle.chess_notation.specs.Words.{word_at, behind, is_blank}
 use Rattle.chess_notation.specs.Pieces.{Pieces}
 use Rattle.chess_notation.specs.Strings.{strings_fit}
 use Rattle.chess_notation.specs.Operations.{is_printable}
 use Rattle.chess_notation.specs.Lines.{is_number, is_counter, behind_fields, behind_counters, operations_in, cut_of}
-use Rattle.chess_notation.specs.EpdFaults.{each_piece, has_opcode, are_distinct, is_bound_piece, has_number, has_number_if_bound, is_small_if_bound, HasNoFault}
+use Rattle.chess_notation.specs.EpdFaults.{each_piece, has_opcode, are_distinct, is_bound_piece, has_number, has_number_if_bound, is_small_if_bound}
 use Rattle.chess_notation.proofs.WordSplits.{all_behind}
 
 not_false : (b : Bool) → (b ≡ false → ⊥) → b ≡ true
@@ -56,33 +57,33 @@ pub record ArePassed (line : List ℕ) : Type 0 where
 each_ended : (test : List ℕ → Bool) (cut : Pieces) → (each_piece test cut ≡ false → ⊥) → list_all test cut.ended ≡ true
 each_ended test cut h = (and_parts (list_all test cut.ended) (is_blank cut.rest || test cut.rest) (not_false (each_piece test cut) h)).0
 
-pub no_fault_passes : (line : List ℕ) → HasNoFault line → ArePassed line
-unfolding HasNoFault
+pub no_fault_passes : (line : List ℕ) → IsClearTo 9 line → ArePassed line
+unfolding IsClearTo
 no_fault_passes line clear = record {
-  short = no_more (clear TooLong);
-  printable = not_false (list_all is_printable line) (clear NotPrintable);
-  opcodes = each_ended has_opcode (cut_of line) (clear BadOpcode);
-  fit = each_ended strings_fit (cut_of line) (clear BadString);
-  blank = not_false (is_blank (cut_of line).rest) (clear MissingSemicolon);
-  distinct = not_false (are_distinct (cut_of line).ended) (clear DoubleOpcode);
-  numbers = not_false (list_all has_number_if_bound (cut_of line).ended) (clear BadBound);
-  small = not_false (list_all is_small_if_bound (cut_of line).ended) (clear BoundTooLarge);
+  short = no_more (clear TooLong (omega arith));
+  printable = not_false (list_all is_printable line) (clear NotPrintable (omega arith));
+  opcodes = each_ended has_opcode (cut_of line) (clear BadOpcode (omega arith));
+  fit = each_ended strings_fit (cut_of line) (clear BadString (omega arith));
+  blank = not_false (is_blank (cut_of line).rest) (clear MissingSemicolon (omega arith));
+  distinct = not_false (are_distinct (cut_of line).ended) (clear DoubleOpcode (omega arith));
+  numbers = not_false (list_all has_number_if_bound (cut_of line).ended) (clear BadBound (omega arith));
+  small = not_false (list_all is_small_if_bound (cut_of line).ended) (clear BoundTooLarge (omega arith));
 } where
   no_more : (1023 < length line → ⊥) → length line ≤ 1023
   no_more h = omega (arith, h)
 
 -- So its operations are printable, each piece has an opcode of its own, and the bound is one.
-pub no_fault_opcodes : (line : List ℕ) → HasNoFault line → list_all has_opcode (cut_of line).ended ≡ true
+pub no_fault_opcodes : (line : List ℕ) → IsClearTo 9 line → list_all has_opcode (cut_of line).ended ≡ true
 no_fault_opcodes line clear = (no_fault_passes line clear).opcodes
 
-pub no_fault_distinct : (line : List ℕ) → HasNoFault line → are_distinct (cut_of line).ended ≡ true
+pub no_fault_distinct : (line : List ℕ) → IsClearTo 9 line → are_distinct (cut_of line).ended ≡ true
 no_fault_distinct line clear = (no_fault_passes line clear).distinct
 
 counters_keep : (b : Bool) (p : ℕ → Bool) (text : List ℕ) → list_all p text ≡ true → list_all p (if b then behind (behind text) else text) ≡ true
 counters_keep true p text h = all_behind p (behind text) (all_behind p text h)
 counters_keep false p text h = h
 
-pub no_fault_printable : (line : List ℕ) → HasNoFault line → list_all is_printable (operations_in line) ≡ true
+pub no_fault_printable : (line : List ℕ) → IsClearTo 9 line → list_all is_printable (operations_in line) ≡ true
 unfolding operations_in behind_counters behind_fields
 no_fault_printable line clear =
     let p = is_printable in

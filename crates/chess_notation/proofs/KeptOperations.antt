@@ -21,26 +21,27 @@ once_rising : (os : List Operation) → RisesByOpcode (map entry_of os) → AreO
 once_rising [] rises = tt
 once_rising (o ∷ os) rises = (below_is_new o.opcode os rises.0, once_rising os rises.1)
 
--- one that an answer copies
-abbrev pub IsCopied : Operation → Type 0
-IsCopied o = IsSpellable o × (is_own o.opcode ≡ false)
+-- one of the line's operations that an answer copies
+abbrev pub IsCopied : List Operation → Operation → Type 0
+IsCopied line o = IsSpellable o × (is_own o.opcode ≡ false) × Contains line o
 
 -- Entries of such operations.
-pub record AreCopied (entries : List Entry) : Type 0 where
+pub record AreCopied (line : List Operation) (entries : List Entry) : Type 0 where
   pub operations : List Operation
   pub shown : map entry_of operations ≡ entries
-  pub each : Each IsCopied operations
+  pub each : Each (IsCopied line) operations
 
-pub are_copied : (entries : List Entry) → ((entry : Entry) → Contains entries entry → (o : Operation) × IsCopied o × (entry ≡ entry_of o)) → AreCopied entries
-are_copied [] from = record { operations = []; shown = refl; each = λ x at. absurd (in_none x at) }
-are_copied (entry ∷ entries) from =
+pub are_copied : (line : List Operation) (entries : List Entry) → ((entry : Entry) → Contains entries entry → (o : Operation) × IsCopied line o × (entry ≡ entry_of o))
+    → AreCopied line entries
+are_copied line [] from = record { operations = []; shown = refl; each = λ x at. absurd (in_none x at) }
+are_copied line (entry ∷ entries) from =
     let here = from entry (in_front entry entries) in
-    let rest = are_copied entries (λ e at. from e (in_back entry entries e at)) in
+    let rest = are_copied line entries (λ e at. from e (in_back entry entries e at)) in
     record {
       operations = here.0 ∷ rest.operations;
       shown = ap (λ t. t ∷ map entry_of rest.operations) (sym here.2) ∙ ap (λ t. entry ∷ t) rest.shown;
       each = λ x at. elim (in_cases here.0 rest.operations x at) [
-        | inl is ↦ subst IsCopied (sym is) here.1
+        | inl is ↦ subst (IsCopied line) (sym is) here.1
         | inr there ↦ rest.each x there
       ];
     }
@@ -52,7 +53,7 @@ pub record IsAnswer (copied all : List Operation) : Type 0 where
   pub copies : (o : Operation) → Contains copied o → Contains all o
   pub only : (o : Operation) → is_own o.opcode ≡ false → Contains all o → Contains copied o
 
-pub answer_alone : (entries : List Entry) (copied : AreCopied entries) → RisesByOpcode entries → IsAnswer copied.operations copied.operations
+pub answer_alone : {line : List Operation} (entries : List Entry) (copied : AreCopied line entries) → RisesByOpcode entries → IsAnswer copied.operations copied.operations
 answer_alone entries copied rises = record {
   spellable = λ o at. (copied.each o at).0;
   once = once_rising copied.operations (subst RisesByOpcode (sym copied.shown) rises);
@@ -73,11 +74,11 @@ answer_with own copied all spellable written new answer = record {
 }
 
 -- No copied operation has an opcode that an answer writes itself.
-pub own_is_new : (opcode : List ℕ) (os : List Operation) → is_own opcode ≡ true → Each IsCopied os → IsNew opcode os
-own_is_new opcode os own each x at e = let other = (each x at).1 in let own_too : is_own x.opcode ≡ true = ap is_own e ∙ own in cc
+pub own_is_new : (line : List Operation) (opcode : List ℕ) (os : List Operation) → is_own opcode ≡ true → Each (IsCopied line) os → IsNew opcode os
+own_is_new line opcode os own each x at e = let other : is_own x.opcode ≡ false = (each x at).1 in let own_too : is_own x.opcode ≡ true = ap is_own e ∙ own in cc
 
 -- What an answer keeps when it is read is what was copied.
-pub rest_of_answer : (entries : List Entry) (copied : AreCopied entries) (all : List Operation) → RisesByOpcode entries → IsAnswer copied.operations all → IsRestOf all entries
+pub rest_of_answer : {line : List Operation} (entries : List Entry) (copied : AreCopied line entries) (all : List Operation) → RisesByOpcode entries → IsAnswer copied.operations all → IsRestOf all entries
 rest_of_answer entries copied all rises answer = (rises, λ entry. (to entry, from entry)) where
   to : (entry : Entry) → Contains entries entry → IsKeptOf all entry
   to entry at =

@@ -1,5 +1,6 @@
 pub mod AnswerContents
 pub mod AnswerReading
+pub mod AvoidedAnswers
 pub mod BareTexts
 pub mod CappedValues
 pub mod CastlingTexts
@@ -19,6 +20,7 @@ pub mod LineReads
 pub mod Members
 pub mod MergedOperations
 pub mod Merges
+pub mod NamedMoves
 pub mod Numerals
 pub mod OperandReading
 pub mod OperandTexts
@@ -37,6 +39,7 @@ pub mod Rivals
 pub mod SameMoves
 pub mod SanBytes
 pub mod ShownBounds
+pub mod ShownAvoided
 pub mod ShownOperations
 pub mod ShownRest
 pub mod SpellableOperations
@@ -46,3 +49,4 @@ pub mod TextMarks
 pub mod TextOrder
 pub mod TextPlaces
 pub mod WordSplits
+pub mod WordLists

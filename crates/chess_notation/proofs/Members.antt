@@ -1,6 +1,7 @@
 -- The members of a list, by its front.
-use Rattle.std.proofs.Common.{◌≡◌, ◌⊎◌, zero, suc, List, [], ◌∷◌, refl, ap, sym, subst, arith, inl, inr, map}
+use Rattle.std.proofs.Common.{◌≡◌, ◌⊎◌, zero, suc, List, [], ◌∷◌, Bool, true, false, ◌||◌, refl, ap, sym, subst, arith, inl, inr, map}
 use Rattle.std.specs.Prelude.{Contains}
+use Rattle.std.specs.List.{list_any}
 use Rattle.std.proofs.lemmas.List.Elements.{Contains-append_right}
 
 pub in_front : {X : Type 0} (x : X) (xs : List X) → Contains (x ∷ xs) x
@@ -32,3 +33,11 @@ in_map_from f (y ∷ ys) z h = elim (in_cases (f y) (map f ys) z h) [
   | inl e ↦ (y, in_front y ys, e)
   | inr more ↦ let got = in_map_from f ys z more in (got.0, in_back y ys got.0 got.1, got.2)
 ]
+
+-- Where some member passes a test, one is there that does.
+pub any_member : {X : Type 0} (f : X → Bool) (xs : List X) → list_any f xs ≡ true → (x : X) × Contains xs x × (f x ≡ true)
+any_member f [] h = cc
+any_member f (y ∷ ys) h = (elim (f y) as (λ b. f y ≡ b → (b || list_any f ys) ≡ true → (x : _) × Contains (y ∷ ys) x × (f x ≡ true)) [
+  | true ↦ λ is any. (y, in_front y ys, is)
+  | false ↦ λ is any. let more = any_member f ys any in (more.0, in_back y ys more.0 more.1, more.2)
+]) refl h

@@ -8,16 +8,14 @@ use Rattle.chess_board.specs.Fields.{digits_value}
 use Rattle.chess_notation.specs.Words.{front_word, word_at, behind, is_empty, is_blank}
 use Rattle.chess_notation.specs.Operations.{is_digit, Operand, operand_text, IsOperand, spaces, SpellsOperands, Operation}
 use Rattle.chess_notation.specs.Operations.Operand.{Word, Text}
-use Rattle.chess_notation.specs.Opcodes.{same_text}
 use Rattle.chess_notation.specs.Lines.{is_number}
 use Rattle.chess_notation.specs.EpdFaults.{is_bound_piece, has_number, has_number_if_bound, is_small_if_bound}
 use Rattle.chess_notation.specs.Records.{AreOnce, dm_of, IsBoundOf}
 use Rattle.chess_notation.specs.RecordReading.{bound_in}
 use Rattle.chess_notation.proofs.Members.{in_front, in_back, in_none, in_cases, in_same}
-use Rattle.chess_notation.proofs.TextOrder.{same_text_is}
 use Rattle.chess_notation.proofs.WordSplits.{not_byte, spaces_over, spaces_blank, word_again}
 use Rattle.chess_notation.proofs.FaultFree.{IsBoundNumber, bound_number}
-use Rattle.chess_notation.proofs.ShownOperations.{IsShown, AreShown, word_bytes_no_space, operands_apart}
+use Rattle.chess_notation.proofs.ShownOperations.{IsShown, AreShown, shown_opcode, shown_other_opcode, word_bytes_no_space, operands_apart}
 
 -- One plain operand is one word and nothing else.
 one_word : (rest word : List ℕ) → SpellsOperands rest (Word word ∷ []) → (word_at rest ≡ word) × (is_blank (behind rest) ≡ true)
@@ -25,7 +23,7 @@ one_word rest word h =
     let next = word_again (suc h.0) rest word h.1 h.2 (word_bytes_no_space word h.3.1) h.3.0 (operands_apart [] h.1 h.4) in
     (next.word_is, ap is_blank (next.rest_is ∙ h.4.1) ∙ spaces_blank h.4.0)
 
-operand_solid : (operand : Operand) (more : ℕ) (rest : List ℕ) → IsOperand operand → is_blank (spaces more ++ (operand_text operand ++ rest)) ≡ false
+pub operand_solid : (operand : Operand) (more : ℕ) (rest : List ℕ) → IsOperand operand → is_blank (spaces more ++ (operand_text operand ++ rest)) ≡ false
 operand_solid (Word []) more rest is = absurd (is.0 refl)
 operand_solid (Word (b ∷ bs)) more rest is =
     let no_space : (b == 32) ≡ false = not_byte b 32 is.1.0 in
@@ -57,12 +55,10 @@ one_operand (Text text ∷ operands) rest h number blank = let none : is_number 
 
 -- Whether the piece shows `dm`.
 bound_opcode : (piece : List ℕ) (operation : Operation) → IsShown piece operation → is_bound_piece piece ≡ true → operation.opcode ≡ codes "dm"
-bound_opcode piece operation shown h = sym shown.opcode ∙ sym (same_text_is (codes "dm") (word_at piece) h)
+bound_opcode = shown_opcode (codes "dm")
 
 other_opcode : (piece : List ℕ) (operation : Operation) → IsShown piece operation → is_bound_piece piece ≡ false → operation.opcode ≢ codes "dm"
-other_opcode piece operation shown h e =
-    let bound : is_bound_piece piece ≡ true = ap (same_text (codes "dm")) (shown.opcode ∙ e) in
-    cc
+other_opcode = shown_other_opcode (codes "dm") refl
 
 shown_dm : (piece : List ℕ) (operation : Operation) → IsShown piece operation → is_bound_piece piece ≡ true → IsBoundNumber piece
     → operation ≡ dm_of (word_at (behind piece))

@@ -6,8 +6,10 @@ use Rattle.chess_notation.specs.declared.strings.Mode.TheVariants.{Plain}
 use Rattle.chess_notation.specs.Words.{word_at, behind}
 use Rattle.chess_notation.specs.Strings.{fits_from, squeezed_from}
 use Rattle.chess_notation.specs.Operations.{is_letter, is_opcode_byte, is_opcode, AreWordBytes, Operand, SpellsOperands, operands_text, Operation, entry_of}
+use Rattle.chess_notation.specs.Opcodes.{same_text}
 use Rattle.chess_notation.specs.Lines.{entry_in}
 use Rattle.chess_notation.specs.Records.{HaveNoSpace, IsApart}
+use Rattle.chess_notation.proofs.TextOrder.{same_text_is}
 use Rattle.chess_notation.proofs.OperandTexts.{on_spaces, on_word, spelled_done}
 use Rattle.chess_notation.proofs.WordSplits.{not_byte}
 
@@ -19,6 +21,16 @@ abbrev pub AreShown : List (List ℕ) → List Operation → Type 0
 AreShown [] [] = Unit {0}
 AreShown (piece ∷ pieces) (operation ∷ operations) = IsShown piece operation × AreShown pieces operations
 AreShown _ _ = ⊥
+
+-- The piece shows an operation with this opcode, or with another one.
+pub shown_opcode : (opcode piece : List ℕ) (operation : Operation) → IsShown piece operation → same_text opcode (word_at piece) ≡ true → operation.opcode ≡ opcode
+shown_opcode opcode piece operation shown h = sym shown.opcode ∙ sym (same_text_is opcode (word_at piece) h)
+
+pub shown_other_opcode : (opcode : List ℕ) → same_text opcode opcode ≡ true → (piece : List ℕ) (operation : Operation) → IsShown piece operation
+    → same_text opcode (word_at piece) ≡ false → operation.opcode ≢ opcode
+shown_other_opcode opcode self piece operation shown h e =
+    let same : same_text opcode (word_at piece) ≡ true = ap (same_text opcode) (shown.opcode ∙ e) ∙ self in
+    cc
 
 shown_entry : (piece : List ℕ) (operation : Operation) → IsShown piece operation → entry_in piece ≡ entry_of operation
 shown_entry piece operation h =

@@ -4,14 +4,16 @@ use Rattle.std.specs.List.{list_all}
 use Rattle.chess_board.specs.declared.faults.FenFault.TheVariants.{FieldCount}
 use Rattle.chess_board.specs.Fields.{digits_value}
 use Rattle.chess_board.specs.Faults.{IsFirst, field_faults, fault_name}
-use Rattle.chess_board.specs.Fens.{IsAmiss}
+use Rattle.chess_board.specs.Positions.{Setup}
+use Rattle.chess_board.specs.Fens.{SpellsSetup, IsAmiss}
 use Rattle.chess_notation.specs.declared.faults.EpdFault.{EpdFault}
-use Rattle.chess_notation.specs.declared.faults.EpdFault.TheVariants.{TooLong, NotPrintable, Fen, BadOpcode, BadString, MissingSemicolon, DoubleOpcode, BadBound, BoundTooLarge, NoMemory}
-use Rattle.chess_notation.specs.Words.{word_at, behind, is_blank}
+use Rattle.chess_notation.specs.declared.faults.EpdFault.TheVariants.{TooLong, NotPrintable, Fen, BadOpcode, BadString, MissingSemicolon, DoubleOpcode, BadBound, BoundTooLarge, BadAvoid, NoMemory}
+use Rattle.chess_notation.specs.Words.{word_at, behind, is_blank, words_in}
 use Rattle.chess_notation.specs.Pieces.{Pieces}
 use Rattle.chess_notation.specs.Strings.{strings_fit}
 use Rattle.chess_notation.specs.Operations.{is_printable, is_opcode}
 use Rattle.chess_notation.specs.Opcodes.{same_text}
+use Rattle.chess_notation.specs.Avoided.{is_name}
 use Rattle.chess_notation.specs.Lines.{is_number, fourth_word, line_fields, cut_of}
 
 -- A fault prints as its name; that of the fields as the word `Fen`, a space and the name of the FEN's fault.
@@ -25,6 +27,7 @@ epd_fault_name MissingSemicolon = codes "MissingSemicolon"
 epd_fault_name DoubleOpcode = codes "DoubleOpcode"
 epd_fault_name BadBound = codes "BadBound"
 epd_fault_name BoundTooLarge = codes "BoundTooLarge"
+epd_fault_name BadAvoid = codes "BadAvoid"
 epd_fault_name NoMemory = codes "NoMemory"
 
 -- the order in which they are answered
@@ -38,7 +41,8 @@ number_of MissingSemicolon = 6
 number_of DoubleOpcode = 7
 number_of BadBound = 8
 number_of BoundTooLarge = 9
-number_of NoMemory = 10
+number_of BadAvoid = 10
+number_of NoMemory = 11
 
 -- each piece, and the rest unless it is blank
 abbrev pub each_piece : (List ℕ → Bool) → Pieces → Bool
@@ -69,7 +73,18 @@ has_number_if_bound piece = not (is_bound_piece piece) || has_number piece
 abbrev pub is_small_if_bound : List ℕ → Bool
 is_small_if_bound piece = not (is_bound_piece piece) || nat_le (digits_value (word_at (behind piece))) 15
 
--- What is wrong with a line, fault by fault. Of the fields it is their first fault; want of memory is no fault of a line.
+abbrev pub is_avoid_piece : List ℕ → Bool
+is_avoid_piece piece = same_text (codes "am") (word_at piece)
+
+-- Words, at least one, each of which names a legal move.
+abbrev pub are_names : Setup → List ℕ → Bool
+are_names p text = not (is_blank text) && list_all (is_name p) (words_in text)
+
+abbrev pub has_names_if_avoid : Setup → List ℕ → Bool
+has_names_if_avoid p piece = not (is_avoid_piece piece) || are_names p (behind piece)
+
+-- What is wrong with a line, fault by fault. Of the fields it is their first fault. Moves to avoid are asked about in the position
+-- that the fields spell. Want of memory is no fault of a line.
 abbrev pub IsAmissBy : List ℕ → EpdFault → Type 0
 IsAmissBy line TooLong = 1023 < length line
 IsAmissBy line NotPrintable = list_all is_printable line ≡ false
@@ -81,6 +96,7 @@ IsAmissBy line MissingSemicolon = is_blank (cut_of line).rest ≡ false
 IsAmissBy line DoubleOpcode = are_distinct (cut_of line).ended ≡ false
 IsAmissBy line BadBound = list_all has_number_if_bound (cut_of line).ended ≡ false
 IsAmissBy line BoundTooLarge = list_all is_small_if_bound (cut_of line).ended ≡ false
+IsAmissBy line BadAvoid = (p : Setup) × SpellsSetup (line_fields line) p × (list_all (has_names_if_avoid p) (cut_of line).ended ≡ false)
 IsAmissBy line NoMemory = ⊥
 
 -- The fault of a line is the first that applies, over the whole line.

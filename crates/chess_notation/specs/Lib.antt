@@ -4,6 +4,7 @@ pub mod Bounds
 pub mod Problems
 pub mod Operations
 pub mod Opcodes
+pub mod Avoided
 pub mod Records
 pub mod Words
 pub mod Pieces

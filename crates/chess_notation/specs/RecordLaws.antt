@@ -14,10 +14,11 @@ RecordsClear = (line : List ℕ) (default : ℕ) (r : RecordValue) → Reads lin
 abbrev pub SaysOne : Type 0
 SaysOne = (line : List ℕ) (default : ℕ) (r other : RecordValue) → Reads line default r → Reads line default other → r ≡ other
 
--- what an answer says when it is read as a record: its bound is the length of the mate, or the default where there is none
+-- what an answer says when it is read as a record: the same moves are to be avoided, and its bound is the length of the mate, or the
+-- default where there is none
 abbrev pub answered : RecordValue → Outcome → ℕ → RecordValue
-answered r (Mate dm keys pv) default = record { position = r.position; bound = dm; rest = r.rest }
-answered r NoMate default = record { position = r.position; bound = default; rest = r.rest }
+answered r (Mate dm keys pv) default = record { position = r.position; bound = dm; avoid = r.avoid; rest = r.rest }
+answered r NoMate default = record { position = r.position; bound = default; avoid = r.avoid; rest = r.rest }
 
 -- The mate is one in 1 to 15 moves.
 abbrev pub HasLength : Outcome → Type 0

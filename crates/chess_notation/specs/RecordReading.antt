@@ -1,12 +1,21 @@
 -- The record of a line without a fault, made from its pieces one after the other. A step of the proofs: what to believe of
 -- records stands in Records.antt.
-use Rattle.std.specs.Prelude.{ℕ, List, [], ◌∷◌, if◌then◌else◌}
+use Rattle.std.specs.Prelude.{ℕ, ◌≤◌, List, [], ◌∷◌, Option, Some, None, if◌then◌else◌}
+use Rattle.std.specs.Option.{option_map_or}
+use Rattle.chess_board.specs.Positions.{Setup}
+use Rattle.chess_board.specs.Moves.{Move}
 use Rattle.chess_board.specs.Fields.{digits_value}
-use Rattle.chess_notation.specs.Words.{word_at, behind}
+use Rattle.chess_notation.specs.Words.{word_at, behind, words_in}
 use Rattle.chess_notation.specs.Operations.{Entry}
 use Rattle.chess_notation.specs.Opcodes.{is_own, with_entry}
 use Rattle.chess_notation.specs.Lines.{entry_in}
-use Rattle.chess_notation.specs.EpdFaults.{is_bound_piece}
+use Rattle.chess_notation.specs.Avoided.{named}
+use Rattle.chess_notation.specs.EpdFaults.{is_bound_piece, is_avoid_piece, number_of, IsAmissBy}
+use Rattle.chess_notation.specs.declared.faults.EpdFault.{EpdFault}
+
+-- None of the faults up to this number applies.
+unfoldable pub IsClearTo : ℕ → List ℕ → Type 0
+IsClearTo n line = (fault : EpdFault) → number_of fault ≤ n → ¬ (IsAmissBy line fault)
 
 -- the entries of the pieces, but for those that an answer writes itself
 abbrev pub kept : List (List ℕ) → List Entry
@@ -25,3 +34,12 @@ rest_of pieces = inserted [] (kept pieces)
 unfoldable pub bound_in : List (List ℕ) → ℕ → ℕ
 bound_in [] default = default
 bound_in (piece ∷ pieces) default = if is_bound_piece piece then digits_value (word_at (behind piece)) else bound_in pieces default
+
+-- what stands behind `am`, if it is there
+unfoldable pub avoid_text_in : List (List ℕ) → Option (List ℕ)
+avoid_text_in [] = None
+avoid_text_in (piece ∷ pieces) = if is_avoid_piece piece then Some (behind piece) else avoid_text_in pieces
+
+-- the moves that it names, or none
+unfoldable pub avoid_in : Setup → List (List ℕ) → List Move
+avoid_in p pieces = option_map_or (λ text. named p (words_in text)) (avoid_text_in pieces) []

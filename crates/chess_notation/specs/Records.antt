@@ -1,21 +1,29 @@
 -- EPD records (PGN Specification, section 16.2): what a line says. Own to this project: a line has at most 1,023 printable ASCII
 -- bytes, runs of spaces outside strings are read as one, FEN's two counters may stand behind the four fields and are dropped,
--- no opcode stands twice, and the bound is that of `dm`, from 1 to 15.
-use Rattle.std.specs.Prelude.{◌≡◌, ◌≢◌, ◌⊎◌, ◌↔◌, ℕ, ◌≤◌, true, false, List, [], ◌∷◌, ◌++◌, length, replicate, codes, Contains}
+-- no opcode stands twice, the bound is that of `dm`, from 1 to 15, and each operand of `am` names a legal move.
+use Rattle.std.specs.Prelude.{◌≡◌, ◌≢◌, ◌⊎◌, ◌↔◌, ℕ, ◌≤◌, true, false, List, [], ◌∷◌, ◌++◌, length, map, replicate, codes, Contains}
 use Rattle.std.specs.List.{list_all}
 use Rattle.chess_board.specs.Positions.{Setup}
 use Rattle.chess_board.specs.Soundness.{IsSound}
 use Rattle.chess_board.specs.Fields.{IsCounter, digits_value}
 use Rattle.chess_board.specs.Fens.{Fields, SpellsSetup}
+use Rattle.chess_board.specs.Moves.{Move}
 use Rattle.chess_notation.specs.Operations.{Operation, Entry, entry_of, SpellsOperations, is_digit, is_printable}
 use Rattle.chess_notation.specs.Operations.Operand.{Word}
 use Rattle.chess_notation.specs.Opcodes.{is_own, RisesByOpcode}
+use Rattle.chess_notation.specs.Avoided.{is_name, named}
+use Rattle.chess_notation.specs.Problems.{ProblemValue}
 
--- what a record says: a position, the bound within which mate is asked for, and the other operations
+-- what a record says: a position, the bound within which mate is asked for, the first moves to avoid, and the other operations
 pub record RecordValue : Type 0 where
   pub position : Setup
   pub bound : ℕ
+  pub avoid : List Move
   pub rest : List Entry
+
+-- the problem that it asks
+abbrev pub problem_of : RecordValue → ProblemValue
+problem_of r = record { position = r.position; bound = r.bound; avoid = r.avoid }
 
 -- bytes other than space
 abbrev pub HaveNoSpace : List ℕ → Type 0
@@ -62,6 +70,19 @@ abbrev pub IsBoundOf : List Operation → ℕ → ℕ → Type 0
 IsBoundOf operations default bound =
     (((operation : Operation) → Contains operations operation → operation.opcode ≢ codes "dm") × (bound ≡ default)) ⊎ IsAskedBound operations bound
 
+abbrev pub am_of : List (List ℕ) → Operation
+am_of words = record { opcode = codes "am"; operands = map Word words }
+
+-- To avoid are the moves that the operands of `am` name: plain ones, at least one, each of which names a legal move.
+abbrev pub AreAskedToAvoid : Setup → List Operation → List Move → Type 0
+AreAskedToAvoid p operations avoid = (words : List (List ℕ)) × Contains operations (am_of words) × (words ≢ [])
+    × (list_all (is_name p) words ≡ true) × (avoid ≡ named p words)
+
+-- Where there is no `am`, there is none.
+abbrev pub AreToAvoid : Setup → List Operation → List Move → Type 0
+AreToAvoid p operations avoid =
+    (((operation : Operation) → Contains operations operation → operation.opcode ≢ codes "am") × (avoid ≡ [])) ⊎ AreAskedToAvoid p operations avoid
+
 -- Kept are the operations that an answer does not write itself.
 abbrev pub IsKeptOf : List Operation → Entry → Type 0
 IsKeptOf operations entry = (operation : Operation) × Contains operations operation × (is_own operation.opcode ≡ false) × (entry ≡ entry_of operation)
@@ -83,4 +104,5 @@ pub record Reads (line : List ℕ) (default : ℕ) (r : RecordValue) : Type 0 wh
   pub spelt : SpellsRest tail operations
   pub once : AreOnce operations
   pub bound : IsBoundOf operations default r.bound
+  pub avoid : AreToAvoid r.position operations r.avoid
   pub kept : IsRestOf operations r.rest

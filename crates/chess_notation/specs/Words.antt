@@ -1,5 +1,6 @@
 -- The words of a line, taken off from its front: a word is a longest run of bytes other than space.
-use Rattle.std.specs.Prelude.{ℕ, ◌==◌, List, [], ◌∷◌, Bool, true, false, if◌then◌else◌}
+use Rattle.std.specs.Prelude.{ℕ, ◌==◌, List, [], ◌∷◌, filter, Bool, true, false, not, if◌then◌else◌}
+use Rattle.std.specs.List.{slice_split}
 
 -- the text from its first byte that is no space
 abbrev pub after_spaces : List ℕ → List ℕ
@@ -30,3 +31,7 @@ is_empty (b ∷ bs) = false
 -- nothing but spaces
 abbrev pub is_blank : List ℕ → Bool
 is_blank text = is_empty (after_spaces text)
+
+-- the words of a text: what stands between its spaces, where that is something
+unfoldable pub words_in : List ℕ → List (List ℕ)
+words_in text = filter (λ word. not (is_empty word)) (slice_split (λ b. b == 32) text)

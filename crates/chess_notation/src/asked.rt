@@ -1,12 +1,12 @@
-//! The bound that a line asks for: the operand of `dm`.
+//! What a line asks for: the operand of `dm`, and those of `am`.
 
-ghost use Rattle.std.specs.Prelude.{◌≡◌, min, true};
+ghost use Rattle.std.specs.Prelude.{◌≡◌, min, true, IfSome, IfNone, Some, None};
 ghost use Rattle.std.specs.List.{list_all};
 ghost use Rattle.chess_board.specs.Fields.{digits_value};
 ghost use Rattle.chess_notation.specs.Words.{word_at as word_of_text, behind};
 ghost use Rattle.chess_notation.specs.Pieces.{pieces_of};
-ghost use Rattle.chess_notation.specs.EpdFaults.{is_bound_piece as is_bound_of, has_number as does_have_number, has_number_if_bound, is_small_if_bound};
-ghost use Rattle.chess_notation.specs.RecordReading.{bound_in};
+ghost use Rattle.chess_notation.specs.EpdFaults.{is_bound_piece as is_bound_of, is_avoid_piece as is_avoid_of, has_number as does_have_number, has_number_if_bound, is_small_if_bound};
+ghost use Rattle.chess_notation.specs.RecordReading.{bound_in, avoid_text_in};
 
 use crate::bounds::Bound;
 use crate::lines::is_number;
@@ -90,4 +90,27 @@ pub(crate) fn asked_bound(text: &[u8], default: Bound) -> Bound
         rest = back;
     }
     default
+}
+
+/// Whether the opcode of a piece is `am`.
+fn is_avoid_piece(piece: &[u8]) -> bool
+    ensures { result ≡ is_avoid_of piece.now }
+{
+    is_same_text(b"am", word_at(piece).0)
+}
+
+/// What stands behind the first `am`.
+#[tactic(auto, unfolding(crate::specs::RecordReading::avoid_text_in))]
+pub(crate) fn avoid_text(text: &[u8]) -> Option<&[u8]>
+    ensures there { IfSome result (λ behind. avoid_text_in (pieces_of text.now).ended ≡ Some behind.now) }
+    ensures none { IfNone result (avoid_text_in (pieces_of text.now).ended ≡ None) }
+{
+    let mut rest = text;
+    while let Some((piece, back)) = first_piece(rest) {
+        if is_avoid_piece(piece) {
+            return Some(word_at(piece).1);
+        }
+        rest = back;
+    }
+    None
 }

@@ -1,6 +1,6 @@
 //! The checks of a line, in the order in which their faults are answered.
 
-ghost use Rattle.std.specs.Prelude.{◌≡◌, ◌<◌, IfSome, IfNone, IfOk, IfErr, OnOk, true, false};
+ghost use Rattle.std.specs.Prelude.{◌≡◌, ◌<◌, ◌≤◌, IfSome, IfNone, IfOk, IfErr, OnOk, true, false};
 ghost use Rattle.std.specs.List.{list_all};
 ghost use Rattle.chess_board.specs.declared.faults.FenFault.{FenFault as FenFaultValue};
 ghost use Rattle.chess_board.specs.Soundness.{IsSound};
@@ -10,7 +10,8 @@ ghost use Rattle.chess_notation.specs.Pieces.{pieces_of};
 ghost use Rattle.chess_notation.specs.Strings.{strings_fit as do_strings_fit};
 ghost use Rattle.chess_notation.specs.Words.{word_at as word_of_text};
 ghost use Rattle.chess_notation.specs.Lines.{line_fields};
-ghost use Rattle.chess_notation.specs.EpdFaults.{each_piece, has_opcode as does_have_opcode, differs_from, are_distinct, number_of, IsAmissBy, IsFaultOf, HasNoFault};
+ghost use Rattle.chess_notation.specs.EpdFaults.{each_piece, has_opcode as does_have_opcode, differs_from, are_distinct, number_of, IsAmissBy, IsFaultOf};
+ghost use Rattle.chess_notation.specs.RecordReading.{IsClearTo};
 
 use crate::asked::{have_numbers, have_small_numbers};
 use crate::faults::EpdFault;
@@ -83,9 +84,10 @@ fn have_distinct_opcodes(text: &[u8]) -> bool
     true
 }
 
-/// Whether the operations of a line have a fault, one of those behind `Fen`.
+/// Whether the operations of a line have a fault, one of those behind `Fen` and before `BadAvoid`.
 #[tactic(auto, unfolding(crate::specs::Lines::cut_of))]
 fn applies(fault: EpdFault, line: &[u8]) -> bool
+    requires { number_of fault ≤ 9 }
     ensures applies { 3 < number_of fault → result ≡ true → IsAmissBy line.now fault }
     ensures clear { 3 < number_of fault → result ≡ false → ¬ (IsAmissBy line.now fault) }
 {
@@ -101,13 +103,13 @@ fn applies(fault: EpdFault, line: &[u8]) -> bool
     }
 }
 
-/// The first fault of the operations of a line.
+/// The first fault of the operations of a line, but for `BadAvoid`.
 fn operations_fault(line: &[u8]) -> Option<EpdFault>
     ensures later { IfSome result (λ fault. 3 < number_of fault) }
     ensures applies { IfSome result (λ fault. IsAmissBy line.now fault) }
     ensures first { IfSome result (λ fault. (earlier : EpdFaultValue) → 3 < number_of earlier → number_of earlier < number_of fault
         → ¬ (IsAmissBy line.now earlier)) }
-    ensures none { IfNone result ((fault : EpdFaultValue) → 3 < number_of fault → ¬ (IsAmissBy line.now fault)) }
+    ensures none { IfNone result ((fault : EpdFaultValue) → 3 < number_of fault → number_of fault ≤ 9 → ¬ (IsAmissBy line.now fault)) }
 {
     let faults = [
         EpdFault::BadOpcode,
@@ -144,11 +146,11 @@ fn position_of(line: &[u8]) -> Result<Position, EpdFault>
     }
 }
 
-/// The position of a line without a fault, or its first fault. It needs no memory.
-#[tactic(auto, unfolding(crate::specs::EpdFaults::HasNoFault))]
+/// The position of a line, or its first fault, where that is one before `BadAvoid`.
+#[tactic(auto, unfolding(crate::specs::RecordReading::IsClearTo))]
 pub(crate) fn check(line: &[u8]) -> Result<Position, EpdFault>
     ensures read { IfOk result (λ p. SpellsSetup (line_fields line.now) p × IsSound p) }
-    ensures clear { OnOk result (HasNoFault line.now) }
+    ensures clear { OnOk result (IsClearTo 9 line.now) }
     ensures refused { IfErr result (λ fault. IsFaultOf line.now fault) }
 {
     if 1023 < line.len() {

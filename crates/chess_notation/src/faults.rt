@@ -38,7 +38,10 @@ pub enum EpdFault {
     /// The value of `dm` is above 15.
     #[error("BoundTooLarge")]
     BoundTooLarge,
-    /// A growth was refused; the line has no fault.
+    /// `am` does not have plain operands, at least one, each of which names a legal move.
+    #[error("BadAvoid")]
+    BadAvoid,
+    /// A growth was refused; the line says a record.
     #[error("NoMemory")]
     NoMemory,
 }
@@ -78,6 +81,7 @@ impl EpdFault {
             EpdFault::DoubleOpcode => "DoubleOpcode",
             EpdFault::BadBound => "BadBound",
             EpdFault::BoundTooLarge => "BoundTooLarge",
+            EpdFault::BadAvoid => "BadAvoid",
             EpdFault::NoMemory => "NoMemory",
         }
     }

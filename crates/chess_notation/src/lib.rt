@@ -3,12 +3,13 @@
 //! Which moves are legal is `chess_moves`'s business, and solving is none of this crate's. To read: `specs/San.antt` and
 //! `move_texts`, over `hints` (what tells a man from others such) and `marks`; `problems` and `bounds`; then
 //! `specs/Records.antt`, `records` and `reading`, over `checks` (the faults of a line, in their order), `words`, `lines`,
-//! `pieces`, `strings`, `opcodes`, `asked` (what `dm` asks) and `operations`; at last `specs/Answers.antt` and `answers`, over
+//! `pieces`, `strings`, `opcodes`, `asked` (what `dm` and `am` ask), `avoided` and `operations`; at last `specs/Answers.antt` and `answers`, over
 //! `ordered`. `san_laws` and `record_laws` say what holds of them. Only `read_record` and `answer_text` take memory.
 #![tactic(auto)]
 
 mod answers;
 mod asked;
+mod avoided;
 mod bounds;
 mod checks;
 mod faults;

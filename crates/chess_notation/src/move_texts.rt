@@ -132,6 +132,15 @@ fn push_check(text: &mut ArrayString<8>, rays: &Rays, position: &Position)
     }
 }
 
+/// The text of a move without the mark of a check.
+pub(crate) fn bare(rays: &Rays, position: &Position, m: Move) -> ArrayString<8>
+    ensures { result.bytes ≡ bare_text position.now m }
+{
+    let mut text = ArrayString::new();
+    push_bare(&mut text, rays, position, m);
+    text
+}
+
 /// The text of a legal move in Standard Algebraic Notation (PGN Specification, section 8.2.3): `e4`, `exd6`, `c8=N#`, `Nf3`,
 /// `R1a3`, `Qh4e1`, `O-O-O`, with `+` where it gives check and `#` where it gives mate. It takes no memory.
 #[tactic(auto, unfolding(crate::specs::San::san_text))]

@@ -6,20 +6,24 @@ use chess_board::{Move, Position};
 use chess_moves::MoveList;
 use std::marker::Model;
 
-/// A direct-mate problem: whether the side to move mates within so many of its moves. It is of fixed size, and can't
-/// be cloned: `Record::problem` makes it anew.
+/// A direct-mate problem: whether the side to move mates within so many of its moves, the first of them none of those to avoid,
+/// which rise in the order of moves. It is of fixed size, and can't be cloned: `Record::problem` makes it anew.
 #[derive(Debug, Drop)]
 pub struct Problem {
     pub position: Position,
     pub bound: Bound,
+    pub avoid: MoveList,
 }
 
 impl Model for Problem {
+    ghost use Rattle.chess_moves.specs.Laws.{IsRising};
     ghost use Rattle.chess_notation.specs.Problems.{ProblemValue};
 
     ghost Value = { ProblemValue };
 
-    ghost view = { λ p. record { position = p.position; bound = p.bound } };
+    ghost view = { λ p. record { position = p.position; bound = p.bound; avoid = p.avoid.items } };
+
+    ghost invariant = { λ p. IsRising p.avoid.items };
 }
 
 /// What there is to say of a problem: plain data of fixed size.

@@ -1,11 +1,13 @@
 //! Records: what a line of EPD says.
 
 ghost use Rattle.std.specs.Prelude.{◌≡◌};
+ghost use Rattle.chess_notation.specs.Records.{problem_of};
 
 use crate::bounds::Bound;
 use crate::problems::Problem;
 use arrayvec::ArrayString;
 use chess_board::Position;
+use chess_moves::MoveList;
 use std::marker::Model;
 
 /// An operation: its opcode, a letter and up to 14 letters, digits and underscores, and each operand after one space.
@@ -24,34 +26,42 @@ impl Model for Operation {
     ghost view = { λ o. record { opcode = o.opcode.bytes; operands = string_bytes o.operands } };
 }
 
-/// What a line says: the position, the bound within which mate is asked for, and the operations that an answer copies. These
-/// rise by opcode, without repeats and without those that an answer writes itself: `bm`, `c0`, `dm` and `pv`.
+/// What a line says: the position, the bound within which mate is asked for, the first moves to avoid, and the operations that
+/// an answer copies. The moves rise by origin, then target, then promotion, each once. The operations rise by opcode, without
+/// repeats and without those that an answer writes itself: `bm`, `c0`, `dm` and `pv`.
 #[derive(Debug, Drop)]
 pub struct Record {
     pub position: Position,
     pub bound: Bound,
+    pub avoid: MoveList,
     pub rest: Vec<Operation>,
 }
 
 impl Model for Record {
+    ghost use Rattle.chess_moves.specs.Laws.{IsRising};
     ghost use Rattle.chess_notation.specs.Records.{RecordValue};
     ghost use Rattle.chess_notation.specs.Opcodes.{RisesByOpcode, AreKept};
 
     ghost Value = { RecordValue };
 
-    ghost view = { λ r. record { position = r.position; bound = r.bound; rest = r.rest.items } };
+    ghost view = { λ r. record { position = r.position; bound = r.bound; avoid = r.avoid.items; rest = r.rest.items } };
 
-    ghost invariant = { λ r. RisesByOpcode r.rest.items × AreKept r.rest.items };
+    ghost invariant = { λ r. IsRising r.avoid.items × RisesByOpcode r.rest.items × AreKept r.rest.items };
 }
 
 impl Record {
     /// The problem that the record asks, made anew.
     pub fn problem(&self) -> Problem
-        ensures { result ≡ record { position = self.now.position; bound = self.now.bound } }
+        ensures { result ≡ problem_of self.now }
     {
+        let mut avoid = MoveList::new();
+        for m in self.avoid.as_slice() {
+            avoid.push(*m);
+        }
         Problem {
             position: self.position,
             bound: self.bound,
+            avoid,
         }
     }
 }

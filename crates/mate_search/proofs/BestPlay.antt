@@ -1,5 +1,5 @@
 -- The line is the line of play as a chess player reads it, and what is told of a problem is its truth.
-use Rattle.std.proofs.Common.{◌≡◌, ℕ, zero, suc, ◌-◌, true, false, List, ◌∷◌, Some, None, refl, sym, ◌∙◌, arith, add-one}
+use Rattle.std.proofs.Common.{◌≡◌, ℕ, zero, suc, ◌-◌, ◌+◌, ◌<◌, ◌≤◌, true, false, List, ◌∷◌, Some, None, refl, ap, sym, ◌∙◌, arith, add-one}
 use Rattle.chess_board.specs.Positions.{Setup}
 use Rattle.chess_board.specs.Moves.{Move}
 use Rattle.chess_board.specs.After.{after_setup}
@@ -7,15 +7,26 @@ use Rattle.chess_moves.specs.Listing.{legal_moves}
 use Rattle.chess_moves.specs.Laws.{IsRising, LegalRise}
 use Rattle.mate_search.specs.Wins.{win, lost, leaves_lost, win_among}
 use Rattle.mate_search.specs.Lines.{line, least_key}
-use Rattle.mate_search.specs.Play.{IsBestPlay}
+use Rattle.mate_search.specs.Play.{IsKey, IsBestPlay}
 use Rattle.mate_search.specs.Play.IsBestPlay.{mates, goes_on}
-use Rattle.mate_search.specs.Truth.{dist, truth, truth_among}
+use Rattle.mate_search.specs.Truth.{dist, first_moves, truth, truth_among}
 use Rattle.mate_search.specs.Laws.{LineReads, IsTold, TruthReads}
-use Rattle.mate_search.proofs.Searches.{any_found, none_found, all_found, all_fails, all_contains}
+use Rattle.mate_search.proofs.Searches.{any_found, none_found, all_found, all_fails, all_contains, contains_any}
 use Rattle.mate_search.proofs.Least.{dist_least, dist_none}
 use Rattle.mate_search.proofs.Playing.{all_among, key_is, each_wins, not_each, not_mated}
 use Rattle.mate_search.proofs.Readings.{keys_read}
+use Rattle.mate_search.proofs.FirstMoves.{first_moves_are}
 use Rattle.mate_search.proofs.MoveOrder.{first_key, longest_defence, keys_rise}
+
+-- Where there is no mate within k moves, no move is a key of one.
+no_key : (first : List Move) (p : Setup) (k : ℕ) → 1 ≤ k → win_among first k p ≡ false → (m : Move) → ¬ (IsKey first p k m)
+unfolding win_among
+no_key first p zero some none m key = omega (arith, some)
+no_key first p (suc k) some none m key =
+    let before : suc k - 1 ≡ k = omega arith in
+    let lost_after : leaves_lost k p m ≡ true = ap (λ n. lost n (after_setup p m)) (sym before) ∙ key.1 in
+    let wins : win_among first (suc k) p ≡ true = contains_any (leaves_lost k p) first m key.0 lost_after in
+    cc
 
 module _ (rise : LegalRise) where
   best_play : (first : List Move) (n : ℕ) (p : Setup) → IsRising first → win_among first (suc n) p ≡ true → win_among first n p ≡ false → IsBestPlay first p (suc n) (line first p (suc n))
@@ -47,18 +58,23 @@ module _ (rise : LegalRise) where
       let s : n ≡ suc (n - 1) = omega (arith, least.0) in
       rw s (best_play first (n - 1) p rising (rw s at least.2) (least.3 (n - 1) (omega (arith, least.0))))
 
-  pub truth_reads : TruthReads
+  among_told : (first : List Move) (p : Setup) (b : ℕ) → IsRising first → IsTold first p b (truth_among first p b)
   unfolding truth_among
-  truth_reads p b = (elim (dist (legal_moves p) p b) as (λ o. dist (legal_moves p) p b ≡ o → IsTold p b (truth p b)) [
-    | None ↦ λ is. rw is (λ n within. sym (all_among n p) ∙ dist_none (legal_moves p) p b is n within)
+  among_told first p b rising = (elim (dist first p b) as (λ o. dist first p b ≡ o → IsTold first p b (truth_among first p b)) [
+    | None ↦ λ is. rw is (λ k some below. no_key first p k some (dist_none first p b is k (omega arith)))
     | Some n ↦ λ is.
-        let least = dist_least (legal_moves p) p b n is in
+        let least = dist_least first p b n is in
         rw is (
           least.0,
           least.1,
-          sym (all_among n p) ∙ least.2,
-          (λ k below. sym (all_among k p) ∙ least.3 k below),
-          (keys_read (legal_moves p) p n, keys_rise (legal_moves p) p n (rise p)),
-          line_reads (legal_moves p) p b n (rise p) is,
+          (λ k some below. no_key first p k some (least.3 k below)),
+          (keys_read first p n, keys_rise first p n rising),
+          line_reads first p b n rising is,
         )
   ]) refl
+
+  pub truth_reads : TruthReads
+  unfolding truth
+  truth_reads q =
+      let first = first_moves_are rise q in
+      (first_moves q, first, among_told (first_moves q) q.position q.bound first.1)

@@ -4,7 +4,8 @@ use Rattle.std.proofs.lemmas.List.{append-nil}
 use Rattle.chess_notation.specs.declared.faults.EpdFault.{EpdFault}
 use Rattle.chess_notation.specs.declared.faults.EpdFault.TheVariants.{NoMemory}
 use Rattle.chess_notation.specs.Words.{is_blank}
-use Rattle.chess_notation.specs.EpdFaults.{IsFaultOf, HasNoFault}
+use Rattle.chess_notation.specs.Records.{RecordValue, Reads}
+use Rattle.chess_notation.specs.EpdFaults.{IsFaultOf}
 use Rattle.mate_search.specs.Replies.{lines_of, without_cr, fault_line, refused, IsLineReply, IsReplyFrom}
 
 -- Whatever replies to the lines that are left completes the reply; so it does with one line fewer left.
@@ -34,7 +35,7 @@ reply_last default number before count input rest text here new whole added repl
 
 -- A line with this fault, which is not want of memory, is refused by it.
 pub reply_refused : {X E : Type 0} (default number : ℕ) (line : List ℕ) (fault : EpdFault) (text : X → List ℕ) (count : X → ℕ) (r : Result X E)
-    → is_blank line ≡ false → IsFaultOf line fault ⊎ ((fault ≡ NoMemory) × HasNoFault line)
+    → is_blank line ≡ false → IsFaultOf line fault ⊎ ((fault ≡ NoMemory) × ((r : RecordValue) × Reads line default r))
     → IfOk r (λ x. fault ≢ NoMemory) → IfOk r (λ x. text x ≡ fault_line number fault) → IfOk r (λ x. count x ≡ 1)
     → IfOk r (λ x. IsLineReply default number line (text x) (count x))
 reply_refused default number line fault text count (Ok x) some (inl first) other is one = rw (is, one) (refused fault some first)

@@ -10,3 +10,4 @@ pub mod InputReplies
 pub mod Room
 pub mod Known
 pub mod BestPlay
+pub mod FirstMoves

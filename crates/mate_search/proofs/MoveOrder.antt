@@ -27,7 +27,7 @@ module _ (f : Move → Bool) where
       let rest = above_kept place xs h.1 in
       elim (f x) as (λ b. IsAbove place (cond b (x ∷ filter f xs) (filter f xs))) [ true ↦ (h.0, rest) | false ↦ rest ]
 
-  rising_kept : (xs : List Move) → IsRising xs → IsRising (filter f xs)
+  pub rising_kept : (xs : List Move) → IsRising xs → IsRising (filter f xs)
   rising_kept [] h = tt
   rising_kept (x ∷ xs) h =
       let rest = rising_kept xs h.1 in

@@ -7,12 +7,14 @@ use Rattle.chess_board.specs.Moves.{Move}
 use Rattle.chess_board.specs.After.{after_setup}
 use Rattle.chess_moves.specs.Listing.{legal_moves}
 use Rattle.chess_moves.specs.Laws.{IsLine, LegalListed}
-use Rattle.chess_notation.specs.declared.problems.Outcome.{Outcome}
 use Rattle.mate_search.specs.Wins.{leaves_lost}
 use Rattle.mate_search.specs.Lines.{line, least_key, longest_reply, replies}
 use Rattle.chess_notation.specs.Answers.{AreLegal, IsPlayable}
-use Rattle.mate_search.specs.Truth.{dist, truth, truth_among}
+use Rattle.chess_notation.specs.declared.problems.Outcome.{Outcome}
+use Rattle.chess_notation.specs.Problems.{ProblemValue}
+use Rattle.mate_search.specs.Truth.{dist, first_moves, truth, truth_among}
 use Rattle.mate_search.proofs.Searches.{found_has}
+use Rattle.mate_search.proofs.FirstMoves.{first_moves_legal}
 
 module _ (law : LegalListed) where
   replies_playable : (n : ℕ) (rest : Setup → List Move) (q : Setup) → ((s : Setup) → IsLine s (rest s)) → IsLine q (replies n rest q)
@@ -36,17 +38,19 @@ each_legal : (p : Setup) (ms : List Move) → All (Contains (legal_moves p)) ms 
 each_legal p [] h = tt
 each_legal p (m ∷ ms) h = (h 0 m (omega arith), each_legal p ms (λ k d inside. h (suc k) d (omega arith)))
 
--- What there is to say of a problem can be played.
-pub truth_playable : LegalListed → (p : Setup) (b : ℕ) → IsPlayable p (truth p b)
+-- What there is to say of legal first moves can be played.
+among_playable : LegalListed → (first : List Move) (p : Setup) (b : ℕ) → All (Contains (legal_moves p)) first → IsPlayable p (truth_among first p b)
 unfolding truth_among IsPlayable
-truth_playable law p b = (elim (dist (legal_moves p) p b) as (λ o. dist (legal_moves p) p b ≡ o → IsPlayable p (truth p b)) [
+among_playable law first p b legal = (elim (dist first p b) as (λ o. dist first p b ≡ o → IsPlayable p (truth_among first p b)) [
   | None ↦ λ is. rw is tt
-  | Some n ↦ λ is. rw is (
-    each_legal p _ (All-filter (leaves_lost (n - 1) p) (Contains (legal_moves p)) (legal_moves p) (All-contains_itself (legal_moves p))),
-    line_playable law (legal_moves p) n p (All-contains_itself (legal_moves p)),
-  )
+  | Some n ↦ λ is. rw is (each_legal p _ (All-filter (leaves_lost (n - 1) p) (Contains (legal_moves p)) first legal), line_playable law first n p legal)
 ]) refl
 
+-- What there is to say of a problem can be played.
+pub truth_playable : LegalListed → (q : ProblemValue) → IsPlayable q.position (truth q)
+unfolding truth
+truth_playable law q = among_playable law (first_moves q) q.position q.bound (first_moves_legal q)
+
 -- An outcome that is the truth can be played.
-pub told_playable : (p : Setup) (o : Outcome) (b : ℕ) → LegalListed → o ≡ truth p b → IsPlayable p o
-told_playable p o b law is = rw is (truth_playable law p b)
+pub told_playable : (q : ProblemValue) (o : Outcome) → LegalListed → o ≡ truth q → IsPlayable q.position o
+told_playable q o law is = rw is (truth_playable law q)

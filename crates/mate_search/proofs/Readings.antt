@@ -12,7 +12,7 @@ use Rattle.chess_moves.specs.Verdicts.{has_legal_move, is_mate}
 use Rattle.mate_search.specs.Wins.{win, leaves_lost}
 use Rattle.chess_notation.specs.declared.problems.Outcome.{Outcome}
 use Rattle.chess_notation.specs.declared.problems.Outcome.TheVariants.{Mate, NoMate}
-use Rattle.mate_search.specs.Truth.{dist, truth, truth_among}
+use Rattle.mate_search.specs.Truth.{dist, truth_among}
 use Rattle.mate_search.specs.Laws.{WinReads, LostReads, KeysRead, DistReads, NoDistReads}
 use Rattle.mate_search.proofs.Searches.{any_contains, contains_any, all_contains, contains_all, filter_keeps}
 use Rattle.mate_search.proofs.Wins.{win_none}
@@ -87,9 +87,9 @@ abbrev pub IsTimeTold : Setup → ℕ → Outcome → Type 0
 IsTimeTold p b (Mate n found pv) = (1 ≤ n) × (n ≤ b) × (win n p ≡ true) × ((k : ℕ) → k < n → win k p ≡ false)
 IsTimeTold p b NoMate = (n : ℕ) → n ≤ b → win n p ≡ false
 
-pub time_told : (p : Setup) (b : ℕ) → IsTimeTold p b (truth p b)
+pub time_told : (p : Setup) (b : ℕ) → IsTimeTold p b (truth_among (legal_moves p) p b)
 unfolding truth_among
-time_told p b = (elim (dist (legal_moves p) p b) as (λ o. dist (legal_moves p) p b ≡ o → IsTimeTold p b (truth p b)) [
+time_told p b = (elim (dist (legal_moves p) p b) as (λ o. dist (legal_moves p) p b ≡ o → IsTimeTold p b (truth_among (legal_moves p) p b)) [
   | None ↦ λ is. rw is (λ n within. sym (all_among n p) ∙ dist_none (legal_moves p) p b is n within)
   | Some n ↦ λ is.
       let least = dist_least (legal_moves p) p b n is in

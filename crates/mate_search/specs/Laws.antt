@@ -11,6 +11,7 @@ use Rattle.chess_notation.specs.declared.problems.Outcome.TheVariants.{Mate, NoM
 use Rattle.mate_search.specs.Wins.{win, lost, win_among}
 use Rattle.mate_search.specs.Lines.{keys, line}
 use Rattle.mate_search.specs.Play.{IsKey, IsBestPlay}
+use Rattle.chess_notation.specs.Problems.{ProblemValue}
 use Rattle.mate_search.specs.Truth.{dist, truth}
 
 -- There is no mate within 0. One within n + 1 moves is a legal move that leaves the defender lost with n more.
@@ -54,15 +55,23 @@ NoDistReads = (first : List Move) (p : Setup) (b : ℕ) → (dist first p b ≡ 
 abbrev pub AreKeys : List Move → Setup → ℕ → List Move → Type 0
 AreKeys first p n found = ((m : Move) → Contains found m ↔ IsKey first p n m) × IsRising found
 
--- A mate is told with the least number of moves within which there is one, at most the bound, with its keys and its line of play.
--- That there is none is told where there is none within the bound.
-abbrev pub IsTold : Setup → ℕ → Outcome → Type 0
-IsTold p b (Mate n found pv) = (1 ≤ n) × (n ≤ b) × (win n p ≡ true) × ((k : ℕ) → k < n → win k p ≡ false) × AreKeys (legal_moves p) p n found.items
-    × IsBestPlay (legal_moves p) p n pv.items
-IsTold p b NoMate = (n : ℕ) → n ≤ b → win n p ≡ false
+-- No mate within fewer than n moves begins with one of these.
+abbrev pub HaveNoKeyBelow : List Move → Setup → ℕ → Type 0
+HaveNoKeyBelow first p n = (k : ℕ) → 1 ≤ k → k < n → (m : Move) → ¬ IsKey first p k m
 
+-- A mate is told with the least number of moves within which there is one that begins with one of these, at most the bound, with
+-- its keys and its line of play. That there is none is told where there is none within the bound.
+abbrev pub IsTold : List Move → Setup → ℕ → Outcome → Type 0
+IsTold first p b (Mate n found pv) = (1 ≤ n) × (n ≤ b) × HaveNoKeyBelow first p n × AreKeys first p n found.items × IsBestPlay first p n pv.items
+IsTold first p b NoMate = HaveNoKeyBelow first p (b + 1)
+
+-- The attacker may begin with the legal moves that are not to be avoided, in the order of moves.
+abbrev pub AreFirstMoves : ProblemValue → List Move → Type 0
+AreFirstMoves q first = ((m : Move) → Contains first m ↔ (Contains (legal_moves q.position) m × ¬ (Contains q.avoid m))) × IsRising first
+
+-- This is told of a problem.
 abbrev pub TruthReads : Type 0
-TruthReads = (p : Setup) (b : ℕ) → IsTold p b (truth p b)
+TruthReads = (q : ProblemValue) → (first : List Move) × AreFirstMoves q first × IsTold first q.position q.bound (truth q)
 
 -- The line to a mate within the least number of moves is the line of play as a chess player reads it.
 abbrev pub LineReads : Type 0

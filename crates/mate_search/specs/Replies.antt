@@ -3,7 +3,7 @@ use Rattle.std.specs.Prelude.{◌≡◌, ℕ, ◌+◌, ◌-◌, length, take, sl
 use Rattle.std.specs.List.{slice_split}
 use Rattle.chess_notation.specs.declared.faults.EpdFault.{EpdFault}
 use Rattle.chess_notation.specs.Words.{is_blank}
-use Rattle.chess_notation.specs.Records.{RecordValue, Reads}
+use Rattle.chess_notation.specs.Records.{RecordValue, problem_of, Reads}
 use Rattle.chess_notation.specs.EpdFaults.{IsFaultOf, epd_fault_name}
 use Rattle.chess_notation.specs.Answers.{answer_text}
 use Rattle.mate_search.specs.Truth.{truth}
@@ -22,7 +22,7 @@ fault_line number fault = codes "# line " ++ decimal number ++ codes ": " ++ epd
 
 -- the reply to a line that says this record: its answer is what is true of its problem
 abbrev pub answer_line : RecordValue → List ℕ
-answer_line r = answer_text r (truth r.position r.bound) ++ 10 ∷ []
+answer_line r = answer_text r (truth (problem_of r)) ++ 10 ∷ []
 
 -- What one line is answered, and how many refusals that is: nothing where it is blank.
 pub data IsLineReply (default number : ℕ) (line : List ℕ) : List ℕ → ℕ → Type 0 where

@@ -1,11 +1,13 @@
 -- Not for believing: what there is to say of a problem, as it is computed. It comes to `IsTold`.
-use Rattle.std.specs.Prelude.{ℕ, zero, suc, List, Option, Some, None, if◌then◌else◌}
+use Rattle.std.specs.Prelude.{ℕ, zero, suc, ◌==◌, List, filter, Option, Some, None, Bool, not, ◌&&◌, if◌then◌else◌}
+use Rattle.std.specs.List.{list_any}
 use Rattle.std.specs.Option.{option_map_or, option_or}
 use Rattle.chess_board.specs.Positions.{Setup}
-use Rattle.chess_board.specs.Moves.{Move}
+use Rattle.chess_board.specs.Moves.{Move, promotion_place}
 use Rattle.chess_moves.specs.Listing.{legal_moves}
 use Rattle.chess_notation.specs.declared.problems.Outcome.{Outcome}
 use Rattle.chess_notation.specs.declared.problems.Outcome.TheVariants.{Mate, NoMate}
+use Rattle.chess_notation.specs.Problems.{ProblemValue}
 use Rattle.mate_search.specs.Wins.{win_among}
 use Rattle.mate_search.specs.Lines.{keys, line}
 
@@ -19,6 +21,13 @@ dist first p (suc b) = option_or (dist first p b) (if win_among first (suc b) p 
 unfoldable pub truth_among : List Move → Setup → ℕ → Outcome
 truth_among first p b = option_map_or (λ n. Mate n (record { items = keys first p n }) (record { items = line first p n })) (dist first p b) NoMate
 
--- the same with every legal move to choose from
-abbrev pub truth : Setup → ℕ → Outcome
-truth p b = truth_among (legal_moves p) p b
+abbrev pub is_same_move : Move → Move → Bool
+is_same_move m n = (m.origin == n.origin) && (m.target == n.target) && (promotion_place m.promotion == promotion_place n.promotion)
+
+-- the moves that the attacker may begin with: the legal ones that are not to be avoided
+unfoldable pub first_moves : ProblemValue → List Move
+first_moves q = filter (λ m. not (list_any (is_same_move m) q.avoid)) (legal_moves q.position)
+
+-- the same with these to choose from
+unfoldable pub truth : ProblemValue → Outcome
+truth q = truth_among (first_moves q) q.position q.bound

@@ -125,7 +125,7 @@ pub fn answer_line(
             refused: 0,
         });
     }
-    match read_record(alloc, line, default) {
+    match read_record(alloc, rays, line, default) {
         Ok(record) => Ok(Output {
             text: record_text(alloc, rays, &record, memo)?,
             refused: 0,

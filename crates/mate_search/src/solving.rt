@@ -4,7 +4,9 @@ ghost use Rattle.std.specs.Prelude.{◌≡◌, ◌<◌, ◌≤◌, true, All, le
 ghost use Rattle.chess_board.specs.Legality.{is_legal};
 ghost use Rattle.mate_search.specs.Lines.{keys, line};
 ghost use Rattle.chess_board.specs.Positions.{Setup};
-ghost use Rattle.mate_search.specs.Truth.{dist, truth, truth_among};
+ghost use Rattle.mate_search.specs.Truth.{dist, is_same_move as are_same_move, first_moves as moves_to_begin, truth, truth_among};
+ghost use Rattle.chess_moves.specs.Listing.{legal_moves};
+ghost use Rattle.std.specs.List.{list_any};
 ghost use Rattle.mate_search.specs.Kept.{IsTrueOf};
 ghost use Rattle.chess_notation.specs.Answers.{IsPlayable};
 ghost use Rattle.chess_notation.specs.declared.problems.Outcome.TheVariants.{Mate};
@@ -15,21 +17,34 @@ use crate::memo::Memo;
 use crate::searching::wins_among;
 use arrayvec::ArrayVec;
 use chess_board::{Move, Position};
-use chess_moves::{Rays, legal, legal_listed};
+use chess_moves::{MoveList, Rays, legal, legal_listed};
 use chess_notation::{Bound, Outcome, Problem};
 
-/// What there is to say of a problem: the least number of the attacker's moves within which it mates, all keys in the order of
-/// moves, and one line of play; or that there is no mate within the bound. It never fails.
+/// What there is to say of a problem: the least number of the attacker's moves within which it mates with none of the moves to avoid
+/// for its first, all keys in the order of moves, and one line of play; or that there is no mate within the bound. It never fails.
 #[tactic(auto, using(crate::proofs::Playable::told_playable))]
 pub fn solve(rays: &Rays, problem: &Problem, memo: &mut Memo) -> Outcome
-    ensures truth { result ≡ truth problem.now.position problem.now.bound }
+    ensures truth { result ≡ truth problem.now }
     ensures playable { IsPlayable problem.now.position result }
     ensures room { memo.new.room ≡ memo.old.room }
     ensures within { memo.new.kept ≤ memo.new.room }
 {
-    // The last clause rests on this law.
+    // What can be played rests on this law.
     legal_listed();
-    let position = &problem.position;
+    if problem.avoid.is_empty() {
+        solve_all(rays, &problem.position, problem.bound, memo)
+    } else {
+        solve_rest(rays, problem, memo)
+    }
+}
+
+/// Where nothing is to be avoided: the memo may know of the position itself, and keeps what was found of it.
+#[tactic(auto, using(crate::proofs::Wins::legal_each))]
+fn solve_all(rays: &Rays, position: &Position, bound: Bound, memo: &mut Memo) -> Outcome
+    ensures truth { result ≡ truth_among (legal_moves position.now) position.now bound }
+    ensures room { memo.new.room ≡ memo.old.room }
+    ensures within { memo.new.kept ≤ memo.new.room }
+{
     let known = memo.entry(position);
     let first = legal(rays, position);
     let outcome = solve_among(
@@ -37,16 +52,69 @@ pub fn solve(rays: &Rays, problem: &Problem, memo: &mut Memo) -> Outcome
         position,
         first.as_slice(),
         known.none_within,
+        bound,
+        memo,
+    );
+    memo.keep(position, learned(known, &outcome, bound));
+    outcome
+}
+
+/// Where moves are to be avoided: what is found of the position so is not what a memo keeps, so it is not asked about it.
+#[tactic(auto, unfolding(crate::specs::Truth::dist, crate::specs::Truth::truth))]
+fn solve_rest(rays: &Rays, problem: &Problem, memo: &mut Memo) -> Outcome
+    ensures truth { result ≡ truth problem.now }
+    ensures room { memo.new.room ≡ memo.old.room }
+    ensures within { memo.new.kept ≤ memo.new.room }
+{
+    let first = first_moves(rays, problem);
+    let outcome = solve_among(
+        rays,
+        &problem.position,
+        first.as_slice(),
+        0,
         problem.bound,
         memo,
     );
-    memo.keep(position, learned(known, &outcome, problem.bound));
+    // That a memo keeps no more than it has room for is this call's clause.
+    let _kept = memo.len();
     outcome
+}
+
+fn is_same_move(m: Move, n: Move) -> bool
+    ensures { result ≡ are_same_move m n }
+{
+    m == n
+}
+
+/// Whether the move is one of these.
+fn is_among(m: Move, moves: &[Move]) -> bool
+    ensures { result ≡ list_any (are_same_move m) moves.now }
+{
+    for n in moves {
+        if is_same_move(m, *n) {
+            return true;
+        }
+    }
+    false
+}
+
+/// The legal moves that are not to be avoided.
+#[tactic(auto, unfolding(crate::specs::Truth::first_moves), using(crate::proofs::Searches::kept_more, crate::proofs::Searches::left_out))]
+fn first_moves(rays: &Rays, problem: &Problem) -> MoveList
+    ensures { result.items ≡ moves_to_begin problem.now }
+{
+    let mut first = MoveList::new();
+    for m in legal(rays, &problem.position).as_slice() {
+        if !is_among(*m, problem.avoid.as_slice()) {
+            first.push(*m);
+        }
+    }
+    first
 }
 
 /// What is known of a position once its problem is solved.
 fn learned(known: Entry, outcome: &Outcome, bound: Bound) -> Entry
-    ensures { (p : Setup) → IsTrueOf p known → outcome.now ≡ truth p bound → IsTrueOf p result }
+    ensures { (p : Setup) → IsTrueOf p known → outcome.now ≡ truth_among (legal_moves p) p bound → IsTrueOf p result }
 {
     match outcome {
         Outcome::Mate { dm, .. } => known.with(dm.get() - 1, false).with(dm.get(), true),

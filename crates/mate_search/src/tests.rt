@@ -3,7 +3,7 @@
 use crate::{Memo, MemoFault, solve, solve_input};
 use arrayvec::ArrayVec;
 use chess_board::{Move, read_fen};
-use chess_moves::Rays;
+use chess_moves::{MoveList, Rays};
 use chess_notation::{Bound, Outcome, Problem};
 use std::alloc::Global;
 use std::process::Abort;
@@ -13,6 +13,7 @@ fn outcome_of(alloc: Global, text: &str, bound: u8) -> Result<Outcome, Fail> {
     let problem = Problem {
         position: read_fen(text.as_bytes())?.position,
         bound: Bound::new(bound).ok_or("bound")?,
+        avoid: MoveList::new(),
     };
     let mut memo = Memo::new(alloc, 1)?;
     Ok(solve(&Rays::new(), &problem, &mut memo))
@@ -179,6 +180,7 @@ fn check_on_one_memo(rt: &impl Abort, alloc: Global, entries: usize) -> Result<u
         let problem = Problem {
             position: read_fen(b"7k/8/5K2/8/8/8/8/R7 w - - 0 1")?.position,
             bound: Bound::new(bound).ok_or("bound")?,
+            avoid: MoveList::new(),
         };
         match solve(&rays, &problem, &mut memo) {
             Outcome::Mate {
@@ -290,6 +292,7 @@ fn check_known(rt: &impl Abort, rays: &Rays, known: &Known, memo: &mut Memo) -> 
     let problem = Problem {
         position: read_fen(known.text.as_bytes())?.position,
         bound: Bound::new(known.bound).ok_or("bound")?,
+        avoid: MoveList::new(),
     };
     match solve(rays, &problem, memo) {
         Outcome::Mate { dm, keys, pv } => {

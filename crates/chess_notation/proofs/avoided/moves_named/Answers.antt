@@ -1,0 +1,29 @@
+use Rattle.std.proofs.Common.{◌≡◌, ℕ, Bool, cond, ◌++◌, ◌∷◌, [], map, filter, take, true, arith, ap, sym, ◌∙◌, append-nil}
+use Rattle.std.specs.List.{list_any}
+use Rattle.chess_notation.specs.Words.{words_in}
+use Rattle.chess_notation.specs.Opcodes.{same_text}
+use Rattle.chess_notation.specs.Avoided.{without_mark}
+use Rattle.chess_notation.specs.declared.avoided.Named.{Named}
+use Rattle.chess_notation.proofs.NamedMoves.{kept_more}
+use Rattle.chess_notation.proofs.avoided.moves_named.Goals as goal
+use Rattle.chess_notation.proofs.avoided.moves_named.Goals.{then-have_name, else-have_name}
+
+pub push-requires : goal.push-requires
+push-requires c = omega (arith, c.loop-name.invariant.few, c.requires)
+
+pub loop-name-preserved : goal.loop-name-preserved
+loop-name-preserved c =
+    let xs = c.args.names.now in
+    let words = words_in c.args.words.now in
+    let test = c.have_name.ensures ∙ ap (λ t. list_any (λ word. same_text (without_mark word) t) words) (c.as_bytes.ensures.value ∙ c.as_str.ensures.value) in
+    let i : ℕ = c.loop-name.name-index in
+    let passes : Named → Bool = λ n. list_any (λ word. same_text (without_mark word) n.text.bytes) words in
+    let more = kept_more passes xs i c.name-item.result (omega arith) c.name-item.is c.have_name.result test in
+    elim c.if-have_name.branch [
+      | then-have_name w ↦
+          let yes = more ∙ ap (λ b. map (λ n. n.m) (filter passes (take i xs)) ++ cond b (c.name-item.result.m ∷ []) []) w.if-have_name.true in
+          rw w.moves-is (record { moves = w.push.ensures.items ∙ ap (λ ms. ms ++ c.name-item.result.m ∷ []) c.loop-name.invariant.moves ∙ sym yes; few = omega (arith, w.push.ensures.len, c.loop-name.invariant.few) })
+      | else-have_name w ↦
+          let none = more ∙ ap (λ b. map (λ n. n.m) (filter passes (take i xs)) ++ cond b (c.name-item.result.m ∷ []) []) w.if-have_name.false in
+          rw w.moves-is (record { moves = c.loop-name.invariant.moves ∙ sym (none ∙ append-nil (map (λ n. n.m) (filter passes (take i xs)))); few = omega (arith, c.loop-name.invariant.few) })
+    ]

@@ -1,0 +1,156 @@
+//! The moves that a line asks to avoid: the legal moves that the operands of `am` name.
+
+ghost use Rattle.std.specs.Prelude.{◌≡◌, ℕ, ◌≤◌, List, length, map, filter, true, false, not, ◌&&◌, IfSome, IfNone};
+ghost use Rattle.std.specs.List.{list_any, list_all};
+ghost use Rattle.chess_moves.specs.Listing.{legal_moves};
+ghost use Rattle.chess_notation.specs.San.{bare_text};
+ghost use Rattle.chess_notation.specs.Words.{words_in, is_blank as is_blank_text};
+ghost use Rattle.chess_notation.specs.Opcodes.{same_text};
+ghost use Rattle.chess_notation.specs.Avoided.{is_check_mark as is_mark_of_check, without_mark as text_without_mark, named};
+ghost use Rattle.chess_notation.specs.EpdFaults.{are_names as do_words_name, are_distinct, has_names_if_avoid};
+ghost use Rattle.chess_notation.specs.Pieces.{pieces_of};
+ghost use Rattle.chess_notation.specs.RecordReading.{avoid_in};
+
+use crate::asked::avoid_text;
+use crate::move_texts::bare;
+use crate::opcodes::is_same_text;
+use crate::words::{is_blank, word_at};
+use arrayvec::{ArrayString, ArrayVec};
+use chess_board::{Move, Position};
+use chess_moves::{MoveList, Rays, legal};
+
+/// A legal move and its text without the mark of a check.
+#[derive(Clone, Copy, Default)]
+struct Named {
+    m: Move,
+    text: ArrayString<8>,
+}
+
+/// Whether a byte is `+` or `#`.
+fn is_check_mark(byte: u8) -> bool
+    ensures { result ≡ is_mark_of_check byte }
+{
+    byte == b'+' || byte == b'#'
+}
+
+/// A word without one mark of a check at its end.
+#[tactic(auto, unfolding(crate::specs::Avoided::without_mark))]
+fn without_mark(word: &[u8]) -> &[u8]
+    ensures { result.now ≡ text_without_mark word.now }
+{
+    if !word.is_empty() && is_check_mark(word[word.len() - 1]) {
+        word.split_at(word.len() - 1).0
+    } else {
+        word
+    }
+}
+
+/// The legal moves with their texts.
+fn legal_names(rays: &Rays, position: &Position) -> ArrayVec<Named, 1024>
+    ensures moves { map (λ n. n.m) result.items ≡ legal_moves position.now }
+    ensures texts { map (λ n. n.text.bytes) result.items ≡ map (bare_text position.now) (legal_moves position.now) }
+{
+    let mut names = ArrayVec::new();
+    for m in legal(rays, position).as_slice() {
+        names.push(Named {
+            m: *m,
+            text: bare(rays, position, *m),
+        });
+    }
+    names
+}
+
+/// Whether the word names one of these moves.
+fn is_name(word: &[u8], names: &[Named]) -> bool
+    ensures { result ≡ list_any (λ n. same_text (text_without_mark word.now) n.text.bytes) names.now }
+{
+    let bare = without_mark(word);
+    for name in names {
+        if is_same_text(bare, name.text.as_str().as_bytes()) {
+            return true;
+        }
+    }
+    false
+}
+
+/// Whether each word names one of these moves.
+#[tactic(auto, using(crate::proofs::WordLists::words_next, crate::proofs::WordLists::words_none, crate::proofs::WordLists::behind_shorter))]
+fn are_all_names(words: &[u8], names: &[Named]) -> bool
+    ensures { result ≡ list_all (λ word. list_any (λ n. same_text (text_without_mark word) n.text.bytes) names.now) (words_in words.now) }
+{
+    let mut rest = words;
+    while !is_blank(rest) {
+        let (word, back) = word_at(rest);
+        if !is_name(word, names) {
+            return false;
+        }
+        rest = back;
+    }
+    true
+}
+
+/// Whether there are words, each of which names one of these moves.
+fn are_names(words: &[u8], names: &[Named]) -> bool
+    ensures { result ≡ (not (is_blank_text words.now)
+        && list_all (λ word. list_any (λ n. same_text (text_without_mark word) n.text.bytes) names.now) (words_in words.now)) }
+{
+    !is_blank(words) && are_all_names(words, names)
+}
+
+/// Whether a word names the move with this text.
+#[tactic(auto, using(crate::proofs::WordLists::words_next, crate::proofs::WordLists::words_none, crate::proofs::WordLists::behind_shorter))]
+fn have_name(words: &[u8], text: &[u8]) -> bool
+    ensures { result ≡ list_any (λ word. same_text (text_without_mark word) text.now) (words_in words.now) }
+{
+    let mut rest = words;
+    while !is_blank(rest) {
+        let (word, back) = word_at(rest);
+        if is_same_text(without_mark(word), text) {
+            return true;
+        }
+        rest = back;
+    }
+    false
+}
+
+/// Those of these moves that a word names.
+fn moves_named(words: &[u8], names: &[Named]) -> MoveList
+    requires { length names.now ≤ 1024 }
+    ensures { result.items ≡ map (λ n. n.m) (filter (λ n. list_any (λ word. same_text (text_without_mark word) n.text.bytes) (words_in words.now)) names.now) }
+{
+    let mut moves = MoveList::new();
+    for name in names {
+        if have_name(words, name.text.as_str().as_bytes()) {
+            moves.push(name.m);
+        }
+    }
+    moves
+}
+
+/// The legal moves that the words name, in the order of moves; none where there is no word, or one that names no legal move.
+pub(crate) fn named_moves(rays: &Rays, position: &Position, words: &[u8]) -> Option<MoveList>
+    ensures names { IfSome result (λ moves. do_words_name position.now words.now ≡ true) }
+    ensures moves { IfSome result (λ moves. moves.items ≡ named position.now (words_in words.now)) }
+    ensures refused { IfNone result (do_words_name position.now words.now ≡ false) }
+{
+    let names = legal_names(rays, position);
+    if are_names(words, names.as_slice()) {
+        Some(moves_named(words, names.as_slice()))
+    } else {
+        None
+    }
+}
+
+/// The moves to avoid by the text of the operations; none where a word behind `am` names no legal move, or none stands there.
+#[tactic(auto, unfolding(crate::specs::RecordReading::avoid_in))]
+pub(crate) fn avoided_moves(rays: &Rays, position: &Position, text: &[u8]) -> Option<MoveList>
+    requires { are_distinct (pieces_of text.now).ended ≡ true }
+    ensures names { IfSome result (λ moves. list_all (has_names_if_avoid position.now) (pieces_of text.now).ended ≡ true) }
+    ensures moves { IfSome result (λ moves. moves.items ≡ avoid_in position.now (pieces_of text.now).ended) }
+    ensures refused { IfNone result (list_all (has_names_if_avoid position.now) (pieces_of text.now).ended ≡ false) }
+{
+    match avoid_text(text) {
+        Some(words) => named_moves(rays, position, words),
+        None => Some(MoveList::new()),
+    }
+}

@@ -1,0 +1,8 @@
+use Rattle.std.proofs.Common.{ap}
+use Rattle.chess_notation.specs.Problems.{ProblemValue}
+use Rattle.mate_search.proofs.FirstMoves.{first_moves_each}
+use Rattle.mate_search.proofs.solving.solve_rest.Goals as goal
+
+pub solve_among-outcome-requires-clause-legal : goal.solve_among-outcome-requires-clause-legal
+solve_among-outcome-requires-clause-legal c =
+    rw (c.as_slice.ensures.value, c.first_moves-first.ensures, ap (λ (q : ProblemValue). q.position) c.problem.view_is) (first_moves_each c.args.problem.now)
