@@ -3,7 +3,7 @@ use Rattle.std.specs.Prelude.{ℕ, ◌+◌, ◌/◌, List, Option, Some, None, B
 use Rattle.chess_board.specs.declared.men.Colour.{Colour}
 use Rattle.chess_board.specs.declared.men.Colour.TheVariants.{White, Black}
 use Rattle.chess_board.specs.declared.men.Kind.{Kind}
-use Rattle.chess_board.specs.declared.men.Kind.TheVariants.{Pawn, Knight, Bishop, Rook, Queen, King}
+use Rattle.chess_board.specs.declared.men.Kind.TheVariants.{Pawn, King}
 use Rattle.chess_board.specs.declared.men.Wing.{Wing}
 use Rattle.chess_board.specs.declared.men.Wing.TheVariants.{KingSide, QueenSide}
 use Rattle.chess_board.specs.declared.men.Man.{Man}

@@ -10,7 +10,7 @@ use Rattle.chess_board.specs.Moves.{Move}
 use Rattle.chess_moves.specs.Laws.{LegalListed}
 use Rattle.chess_notation.specs.declared.problems.Outcome.TheVariants.{Mate, NoMate}
 use Rattle.chess_notation.specs.Operations.{Operation, Entry, SpellsOperations, is_printable}
-use Rattle.chess_notation.specs.Records.{RecordValue, IsApart, IsWord, SpellsWords, words_of, SpellsRest, Reads}
+use Rattle.chess_notation.specs.Records.{RecordValue, IsApart, IsWord, SpellsWords, field_words, SpellsRest, Reads}
 use Rattle.chess_notation.specs.Answers.{entries_text, answer_text, IsPlayable}
 use Rattle.chess_notation.specs.RecordLaws.{AnswerReads}
 use Rattle.chess_notation.proofs.PlainBytes.{list_all-parts, list_all-both, visible_word}
@@ -37,7 +37,7 @@ rest_spellable operations tail (inr (halfmove, fullmove, rest, words, spelt)) pr
 -- What a record keeps comes from operations of the line.
 copied_of : (line : List ℕ) (asked : ℕ) (r : RecordValue) (reads : Reads line asked r) → AreCopied reads.operations r.rest
 copied_of line asked r reads =
-    let behind = words_tail IsWord (words_of reads.fields) line reads.tail reads.words reads.printable in
+    let behind = words_tail IsWord (field_words reads.fields) line reads.tail reads.words reads.printable in
     let spellable = rest_spellable reads.operations reads.tail reads.spelt behind in
     are_copied reads.operations r.rest (λ entry at. let kept = (reads.kept.1 entry).0 at in (kept.0, (spellable kept.0 kept.1, kept.2, kept.1), kept.3))
 

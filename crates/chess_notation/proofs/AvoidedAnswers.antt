@@ -1,5 +1,5 @@
 -- An answer asks to avoid what its record does, since it copies `am`.
-use Rattle.std.proofs.Common.{◌≡◌, ◌≢◌, ℕ, List, [], ◌∷◌, true, false, Contains, map, codes, refl, ap, sym, ◌∙◌, subst, inl, inr}
+use Rattle.std.proofs.Common.{◌≡◌, List, [], ◌∷◌, Contains, refl, ap, sym, ◌∙◌, subst, inl, inr}
 use Rattle.chess_board.specs.Positions.{Setup}
 use Rattle.chess_board.specs.Moves.{Move}
 use Rattle.chess_notation.specs.Operations.{Operation, Entry, entry_of}

@@ -14,7 +14,7 @@ use Rattle.chess_board.specs.Placement.{kind_letter}
 use Rattle.chess_board.specs.Moves.{Move}
 use Rattle.chess_board.specs.After.{is_castling, wing_of}
 use Rattle.chess_moves.specs.Laws.{LegalListed}
-use Rattle.chess_notation.specs.San.{is_capture, pawn_text, castling_text, man_text, bare_text}
+use Rattle.chess_notation.specs.San.{is_capture, pawn_text, wing_text, man_text, bare_text}
 use Rattle.chess_notation.specs.SanLaws.{BareTextsApart}
 use Rattle.chess_notation.proofs.LegalMen.{IsPlayed, played, man_same}
 use Rattle.chess_notation.proofs.TextBytes.{kind_said, kind_said-letter}
@@ -30,7 +30,7 @@ record IsPawnText (p : Setup) (m : Move) (man : Man) : Type 0 where
 record IsCastlingText (p : Setup) (m : Move) (man : Man) : Type 0 where
   piece : is_pawn_kind man.kind ≡ false
   castling : is_castling man m ≡ true
-  text : bare_text p m ≡ castling_text (wing_of m.origin m.target)
+  text : bare_text p m ≡ wing_text (wing_of m.origin m.target)
 
 record IsPieceText (p : Setup) (m : Move) (man : Man) : Type 0 where
   piece : is_pawn_kind man.kind ≡ false
@@ -67,7 +67,7 @@ pawn_first : (takes : Bool) (o t : ℕ) (becomes : Option Kind) → 96 < first (
 pawn_first true o t becomes = omega arith
 pawn_first false o t becomes = omega arith
 
-castling_first : (wing : Wing) → first (castling_text wing) ≡ 79
+castling_first : (wing : Wing) → first (wing_text wing) ≡ 79
 castling_first KingSide = refl
 castling_first QueenSide = refl
 

@@ -16,7 +16,7 @@ use Rattle.chess_board.specs.Men.{other_side, is_of, is_king_kind, has_right_of,
 use Rattle.chess_board.specs.Attacks.{is_clear, attacks_as, is_attacked}
 use Rattle.chess_board.specs.Candidates.{crossed, piece_goes, king_goal, castles_to, castles, goes}
 use Rattle.chess_board.specs.After.{is_castling, wing_of}
-use Rattle.chess_notation.specs.San.{castling_text}
+use Rattle.chess_notation.specs.San.{wing_text}
 
 king_near : (men : List (Option Man)) (colour : Colour) (a b : ℕ) → attacks_as men colour King a b ≡ true → eqb (file_gap a b) 2 ≡ false
 king_near men colour a b h = grind (arith, nat_tests)
@@ -68,14 +68,14 @@ castles_home p colour King a b h two = elim (or_cases (piece_goes p colour King 
   ]
 ]
 
-wing_same : (a b : Wing) → castling_text a ≡ castling_text b → a ≡ b
+wing_same : (a b : Wing) → wing_text a ≡ wing_text b → a ≡ b
 wing_same KingSide KingSide e = refl
 wing_same KingSide QueenSide e = let lengths = ap length e in absurd (omega arith)
 wing_same QueenSide KingSide e = let lengths = ap length e in absurd (omega arith)
 wing_same QueenSide QueenSide e = refl
 
 pub castling_same : (p : Setup) (man : Man) (m n : Move) → goes p man.colour man.kind m.origin m.target ≡ true → goes p man.colour man.kind n.origin n.target ≡ true →
-    is_castling man m ≡ true → is_castling man n ≡ true → castling_text (wing_of m.origin m.target) ≡ castling_text (wing_of n.origin n.target) → (m.origin ≡ n.origin) × (m.target ≡ n.target)
+    is_castling man m ≡ true → is_castling man n ≡ true → wing_text (wing_of m.origin m.target) ≡ wing_text (wing_of n.origin n.target) → (m.origin ≡ n.origin) × (m.target ≡ n.target)
 castling_same p man m n goes_m goes_n castles_m castles_n texts =
     let wings = wing_same (wing_of m.origin m.target) (wing_of n.origin n.target) texts in
     let at_m = castles_home p man.colour man.kind m.origin m.target goes_m castles_m in

@@ -5,12 +5,12 @@ use Rattle.std.proofs.lemmas.Bool.{and_parts}
 use Rattle.std.proofs.lemmas.Bool.Decides.{nat_tests}
 use Rattle.chess_board.specs.Fields.{IsDigit, IsCounter}
 use Rattle.chess_notation.specs.Words.{after_spaces, front_word, word_at, behind}
-use Rattle.chess_notation.specs.Pieces.{pieces_of}
+use Rattle.chess_notation.specs.Segments.{segments_of}
 use Rattle.chess_notation.specs.Operations.{is_digit, is_letter, is_opcode_byte, is_opcode, Operation, SpellsOperations}
 use Rattle.chess_notation.specs.Lines.{is_number, is_counter, behind_counters}
 use Rattle.chess_notation.specs.Records.{HaveNoSpace, SpellsRest}
 use Rattle.chess_notation.proofs.WordSplits.{words_split, spaces_over, word_again}
-use Rattle.chess_notation.proofs.OperationTexts.{ArePieces, spelled_pieces}
+use Rattle.chess_notation.proofs.OperationTexts.{AreSegments, spelled_segments}
 
 -- A counter, as FEN has it and as it is tested here.
 digit_from : (b : ℕ) → is_digit b ≡ true → IsDigit b
@@ -107,9 +107,9 @@ pub rest_spelled : (text : List ℕ) (operations : List Operation) → SpellsOpe
 unfolding behind_counters
 rest_spelled text operations h = rest_spelled_if (is_counter (word_at text) && is_counter (word_at (behind text))) text operations refl h
 
-pub spelled_rest : (operations : List Operation) (text : List ℕ) → SpellsRest text operations → ArePieces (pieces_of (behind_counters text)) operations
+pub spelled_rest : (operations : List Operation) (text : List ℕ) → SpellsRest text operations → AreSegments (segments_of (behind_counters text)) operations
 unfolding behind_counters
-spelled_rest operations text (inl h) = rw (no_counter operations text h) (spelled_pieces operations text h)
+spelled_rest operations text (inl h) = rw (no_counter operations text h) (spelled_segments operations text h)
 spelled_rest operations text (inr h) =
     let words = h.3 in
     let first_test = counter_to h.0 words.3 in
@@ -122,4 +122,4 @@ spelled_rest operations text (inr h) =
     let tail : behind (behind text) ≡ h.2 = ap behind first.rest_is ∙ second.rest_is ∙ more.5 in
     let one : is_counter (word_at text) ≡ true = ap is_counter first.word_is ∙ first_test in
     let two : is_counter (word_at (behind text)) ≡ true = ap (λ t. is_counter (word_at t)) first.rest_is ∙ ap is_counter second.word_is ∙ second_test in
-    rw (one, two, tail) (spelled_pieces operations h.2 h.4)
+    rw (one, two, tail) (spelled_segments operations h.2 h.4)

@@ -30,25 +30,25 @@ abbrev pub kept_entries : List Entry → List Entry
 kept_entries [] = []
 kept_entries (entry ∷ entries) = if is_own entry.opcode then kept_entries entries else entry ∷ kept_entries entries
 
-pub kept_shown : (pieces : List (List ℕ)) → kept pieces ≡ kept_entries (map entry_in pieces)
+pub kept_shown : (segments : List (List ℕ)) → kept segments ≡ kept_entries (map entry_in segments)
 kept_shown [] = refl
-kept_shown (piece ∷ pieces) = ap (λ entries. if is_own (word_at piece) then entries else entry_in piece ∷ entries) (kept_shown pieces)
+kept_shown (segment ∷ segments) = ap (λ entries. if is_own (word_at segment) then entries else entry_in segment ∷ entries) (kept_shown segments)
 
 not_true : (b : Bool) → not b ≡ true → b ≡ false
 not_true true h = cc
 not_true false h = refl
 
-shown_other : (opcode : List ℕ) (pieces : List (List ℕ)) → list_all (differs_from opcode) pieces ≡ true → IsOther opcode (map entry_in pieces)
+shown_other : (opcode : List ℕ) (segments : List (List ℕ)) → list_all (differs_from opcode) segments ≡ true → IsOther opcode (map entry_in segments)
 shown_other opcode [] h = tt
-shown_other opcode (piece ∷ pieces) h =
-    let parts = and_parts (differs_from opcode piece) (list_all (differs_from opcode) pieces) h in
-    (not_true (same_text opcode (word_at piece)) parts.0, shown_other opcode pieces parts.1)
+shown_other opcode (segment ∷ segments) h =
+    let parts = and_parts (differs_from opcode segment) (list_all (differs_from opcode) segments) h in
+    (not_true (same_text opcode (word_at segment)) parts.0, shown_other opcode segments parts.1)
 
-pub shown_distinct : (pieces : List (List ℕ)) → are_distinct pieces ≡ true → AreDistinct (map entry_in pieces)
+pub shown_distinct : (segments : List (List ℕ)) → are_distinct segments ≡ true → AreDistinct (map entry_in segments)
 shown_distinct [] h = tt
-shown_distinct (piece ∷ pieces) h =
-    let parts = and_parts (list_all (differs_from (word_at piece)) pieces) (are_distinct pieces) h in
-    (shown_other (word_at piece) pieces parts.0, shown_distinct pieces parts.1)
+shown_distinct (segment ∷ segments) h =
+    let parts = and_parts (list_all (differs_from (word_at segment)) segments) (are_distinct segments) h in
+    (shown_other (word_at segment) segments parts.0, shown_distinct segments parts.1)
 
 other_if : (own : Bool) (opcode : List ℕ) (entry : Entry) (entries : List Entry) → same_text opcode entry.opcode ≡ false → IsOther opcode entries
     → IsOther opcode (if own then entries else entry ∷ entries)
@@ -135,16 +135,16 @@ own_if : (own : Bool) (entry : Entry) (entries : List Entry) → is_own entry.op
 own_if true entry entries here more = more
 own_if false entry entries here more = (here, more)
 
-pieces_kept : (pieces : List (List ℕ)) → AreKept (kept pieces)
-pieces_kept [] = tt
-pieces_kept (piece ∷ pieces) = own_if (is_own (word_at piece)) (entry_in piece) (kept pieces) refl (pieces_kept pieces)
+segments_kept : (segments : List (List ℕ)) → AreKept (kept segments)
+segments_kept [] = tt
+segments_kept (segment ∷ segments) = own_if (is_own (word_at segment)) (entry_in segment) (kept segments) refl (segments_kept segments)
 
--- What is made of pieces with distinct opcodes rises by opcode, and has no entry that an answer writes itself.
-pub rest_rises : (pieces : List (List ℕ)) → are_distinct pieces ≡ true → RisesByOpcode (rest_of pieces)
+-- What is made of segments with distinct opcodes rises by opcode, and has no entry that an answer writes itself.
+pub rest_rises : (segments : List (List ℕ)) → are_distinct segments ≡ true → RisesByOpcode (rest_of segments)
 unfolding rest_of
-rest_rises pieces distinct =
-    rw (kept_shown pieces) (inserted_rises [] (kept_entries (map entry_in pieces)) tt tt (kept_distinct (map entry_in pieces) (shown_distinct pieces distinct)))
+rest_rises segments distinct =
+    rw (kept_shown segments) (inserted_rises [] (kept_entries (map entry_in segments)) tt tt (kept_distinct (map entry_in segments) (shown_distinct segments distinct)))
 
-pub rest_kept : (pieces : List (List ℕ)) → AreKept (rest_of pieces)
+pub rest_kept : (segments : List (List ℕ)) → AreKept (rest_of segments)
 unfolding rest_of
-rest_kept pieces = inserted_kept [] (kept pieces) tt (pieces_kept pieces)
+rest_kept segments = inserted_kept [] (kept segments) tt (segments_kept segments)

@@ -1,4 +1,4 @@
--- What the pieces of a line without one of the first nine faults show.
+-- What the segments of a line without one of the first nine faults show.
 use Rattle.std.proofs.Common.{◌≡◌, ℕ, ◌≤◌, ◌<◌, nat_le, nat_lt, List, Bool, true, false, length, refl, arith, if◌then◌else◌, ◌&&◌, ◌||◌}
 use Rattle.std.specs.List.{list_all}
 use Rattle.std.proofs.lemmas.Bool.{and_parts}
@@ -8,11 +8,11 @@ use Rattle.chess_board.specs.Fields.{digits_value}
 use Rattle.chess_notation.specs.declared.faults.EpdFault.TheVariants.{TooLong, NotPrintable, BadOpcode, BadString, MissingSemicolon, DoubleOpcode, BadBound, BoundTooLarge}
 use Rattle.chess_notation.specs.RecordReading.{IsClearTo}
 use Rattle.chess_notation.specs.Words.{word_at, behind, is_blank}
-use Rattle.chess_notation.specs.Pieces.{Pieces}
+use Rattle.chess_notation.specs.Segments.{Segments}
 use Rattle.chess_notation.specs.Strings.{strings_fit}
 use Rattle.chess_notation.specs.Operations.{is_printable}
 use Rattle.chess_notation.specs.Lines.{is_number, is_counter, behind_fields, behind_counters, operations_in, cut_of}
-use Rattle.chess_notation.specs.EpdFaults.{each_piece, has_opcode, are_distinct, is_bound_piece, has_number, has_number_if_bound, is_small_if_bound}
+use Rattle.chess_notation.specs.EpdFaults.{each_segment, has_opcode, are_distinct, is_bound_segment, has_number, has_number_if_bound, is_small_if_bound}
 use Rattle.chess_notation.proofs.WordSplits.{all_behind}
 
 not_false : (b : Bool) → (b ≡ false → ⊥) → b ≡ true
@@ -20,19 +20,19 @@ not_false true h = refl
 not_false false h = absurd (h refl)
 
 -- `dm` has a number above 0 and at most 15.
-pub record IsBoundNumber (piece : List ℕ) : Type 0 where
-  pub digits : is_number (word_at (behind piece)) ≡ true
-  pub alone : is_blank (behind (behind piece)) ≡ true
-  pub some : 1 ≤ digits_value (word_at (behind piece))
-  pub few : digits_value (word_at (behind piece)) ≤ 15
+pub record IsBoundNumber (segment : List ℕ) : Type 0 where
+  pub digits : is_number (word_at (behind segment)) ≡ true
+  pub alone : is_blank (behind (behind segment)) ≡ true
+  pub some : 1 ≤ digits_value (word_at (behind segment))
+  pub few : digits_value (word_at (behind segment)) ≤ 15
 
-pub bound_number : (piece : List ℕ) → is_bound_piece piece ≡ true → has_number_if_bound piece ≡ true → is_small_if_bound piece ≡ true → IsBoundNumber piece
-bound_number piece bound number small =
-    let here : has_number piece ≡ true = if_bound (is_bound_piece piece) (has_number piece) bound number in
-    let low : nat_le (digits_value (word_at (behind piece))) 15 ≡ true = if_bound (is_bound_piece piece) (nat_le (digits_value (word_at (behind piece))) 15) bound small in
-    let outer = and_parts (is_number (word_at (behind piece)) && is_blank (behind (behind piece))) (nat_lt 0 (digits_value (word_at (behind piece)))) here in
-    let inner = and_parts (is_number (word_at (behind piece))) (is_blank (behind (behind piece))) outer.0 in
-    record { digits = inner.0; alone = inner.1; some = above (digits_value (word_at (behind piece))) outer.1; few = below (digits_value (word_at (behind piece))) low } where
+pub bound_number : (segment : List ℕ) → is_bound_segment segment ≡ true → has_number_if_bound segment ≡ true → is_small_if_bound segment ≡ true → IsBoundNumber segment
+bound_number segment bound number small =
+    let here : has_number segment ≡ true = if_bound (is_bound_segment segment) (has_number segment) bound number in
+    let low : nat_le (digits_value (word_at (behind segment))) 15 ≡ true = if_bound (is_bound_segment segment) (nat_le (digits_value (word_at (behind segment))) 15) bound small in
+    let outer = and_parts (is_number (word_at (behind segment)) && is_blank (behind (behind segment))) (nat_lt 0 (digits_value (word_at (behind segment)))) here in
+    let inner = and_parts (is_number (word_at (behind segment))) (is_blank (behind (behind segment))) outer.0 in
+    record { digits = inner.0; alone = inner.1; some = above (digits_value (word_at (behind segment))) outer.1; few = below (digits_value (word_at (behind segment))) low } where
       if_bound : (bound test : Bool) → bound ≡ true → (not bound || test) ≡ true → test ≡ true
       if_bound true test b h = h
       if_bound false test b h = cc
@@ -54,8 +54,8 @@ pub record ArePassed (line : List ℕ) : Type 0 where
   pub numbers : list_all has_number_if_bound (cut_of line).ended ≡ true
   pub small : list_all is_small_if_bound (cut_of line).ended ≡ true
 
-each_ended : (test : List ℕ → Bool) (cut : Pieces) → (each_piece test cut ≡ false → ⊥) → list_all test cut.ended ≡ true
-each_ended test cut h = (and_parts (list_all test cut.ended) (is_blank cut.rest || test cut.rest) (not_false (each_piece test cut) h)).0
+each_ended : (test : List ℕ → Bool) (cut : Segments) → (each_segment test cut ≡ false → ⊥) → list_all test cut.ended ≡ true
+each_ended test cut h = (and_parts (list_all test cut.ended) (is_blank cut.rest || test cut.rest) (not_false (each_segment test cut) h)).0
 
 pub no_fault_passes : (line : List ℕ) → IsClearTo 9 line → ArePassed line
 unfolding IsClearTo
@@ -72,7 +72,7 @@ no_fault_passes line clear = record {
   no_more : (1023 < length line → ⊥) → length line ≤ 1023
   no_more h = omega (arith, h)
 
--- So its operations are printable, each piece has an opcode of its own, and the bound is one.
+-- So its operations are printable, each segment has an opcode of its own, and the bound is one.
 pub no_fault_opcodes : (line : List ℕ) → IsClearTo 9 line → list_all has_opcode (cut_of line).ended ≡ true
 no_fault_opcodes line clear = (no_fault_passes line clear).opcodes
 

@@ -3,7 +3,7 @@ use Rattle.std.proofs.Common.{◌≡◌, ◌≢◌, ℕ, ◌==◌, List, [], ◌
 use Rattle.chess_board.specs.Fens.{Fields}
 use Rattle.chess_notation.specs.Words.{after_spaces, front_word, after_word, word_at, behind}
 use Rattle.chess_notation.specs.Lines.{fourth_word, line_fields, behind_fields}
-use Rattle.chess_notation.specs.Records.{IsWord, SpellsWords, words_of}
+use Rattle.chess_notation.specs.Records.{IsWord, SpellsWords, field_words}
 use Rattle.chess_notation.proofs.WordSplits.{words_split, word_no_space, word_again}
 
 -- Where a second word stands there is a first.
@@ -20,7 +20,7 @@ word_before : (text : List ℕ) → word_at (behind text) ≢ [] → word_at tex
 unfolding word_at behind
 word_before text second none = second (ap (λ t. front_word (after_spaces t)) (no_word text none))
 
-pub read_fields : (line : List ℕ) → fourth_word line ≢ [] → SpellsWords IsWord line (words_of (line_fields line)) (behind_fields line)
+pub read_fields : (line : List ℕ) → fourth_word line ≢ [] → SpellsWords IsWord line (field_words (line_fields line)) (behind_fields line)
 unfolding fourth_word line_fields behind_fields
 read_fields line some4 =
     let second = behind line in
@@ -61,7 +61,7 @@ pub record HasFields (line : List ℕ) (fields : Fields) (tail : List ℕ) : Typ
   pub fields_are : line_fields line ≡ fields
   pub tail_is : behind_fields line ≡ tail
 
-pub spelled_fields : (line : List ℕ) (fields : Fields) (tail : List ℕ) → SpellsWords IsWord line (words_of fields) tail → HasFields line fields tail
+pub spelled_fields : (line : List ℕ) (fields : Fields) (tail : List ℕ) → SpellsWords IsWord line (field_words fields) tail → HasFields line fields tail
 unfolding fourth_word line_fields behind_fields
 spelled_fields line fields tail w1 =
     let n1 = word_again w1.0 line fields.placement w1.1 w1.2 w1.3.1 w1.3.0 w1.4 in

@@ -29,9 +29,9 @@ pub mod OperationTexts
 pub mod OwnOperations
 pub mod PawnOrigins
 pub mod PawnTexts
-pub mod PieceCuts
-pub mod PieceEnds
-pub mod PieceSteps
+pub mod SegmentCuts
+pub mod SegmentEnds
+pub mod SegmentSteps
 pub mod PieceTexts
 pub mod PlainBytes
 pub mod RecordMade

@@ -1,5 +1,5 @@
 -- The moves that words name, found by their texts.
-use Rattle.std.proofs.Common.{◌≡◌, ◌<◌, ◌≤◌, ◌+◌, ℕ, List, [], ◌∷◌, ◌++◌, Bool, true, false, Some, None, not, ◌&&◌, length, map, filter, take, get_or, cond, refl, ap, sym, ◌∙◌, subst, arith}
+use Rattle.std.proofs.Common.{◌≡◌, ◌<◌, ◌+◌, ℕ, List, [], ◌∷◌, ◌++◌, Bool, true, false, Some, None, not, ◌&&◌, length, map, filter, take, get_or, cond, refl, ap, sym, ◌∙◌}
 use Rattle.std.specs.List.{list_any, list_all}
 use Rattle.std.specs.Option.{option_map_or}
 use Rattle.std.proofs.lemmas.List.Elements.{filter_more}
@@ -112,9 +112,9 @@ rising_kept f (x ∷ xs) h =
     let rest = rising_kept f xs h.1 in
     elim (f x) as (λ b. IsRising (cond b (x ∷ filter f xs) (filter f xs))) [ true ↦ (above_kept f (move_place x) xs h.0, rest) | false ↦ rest ]
 
-pub avoid_rises : LegalRise → (p : Setup) (pieces : List (List ℕ)) → IsRising (avoid_in p pieces)
+pub avoid_rises : LegalRise → (p : Setup) (segments : List (List ℕ)) → IsRising (avoid_in p segments)
 unfolding avoid_in named
-avoid_rises rise p pieces = elim (avoid_text_in pieces) as (λ text. IsRising (option_map_or (λ t. named p (words_in t)) text [])) [
+avoid_rises rise p segments = elim (avoid_text_in segments) as (λ text. IsRising (option_map_or (λ t. named p (words_in t)) text [])) [
   | None ↦ tt
   | Some text ↦ rising_kept (λ m. list_any (λ word. names p word m) (words_in text)) (legal_moves p) (rise p)
 ]

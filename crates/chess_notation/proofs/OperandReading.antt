@@ -1,11 +1,11 @@
--- Where the strings of a piece fit and no semicolon stands outside them, operands are spelled.
+-- Where the strings of a segment fit and no semicolon stands outside them, operands are spelled.
 use Rattle.std.proofs.Common.{◌≡◌, ◌≢◌, ℕ, suc, ◌+◌, ◌-◌, ◌<◌, ◌≤◌, ◌==◌, nat_le, List, [], ◌∷◌, ◌++◌, Bool, true, false, Some, None, length, refl, ap, sym, ◌∙◌, arith, append_assoc, subst, if◌then◌else◌}
 use Rattle.std.proofs.lemmas.Bool.Decides.{nat_tests}
 use Rattle.std.proofs.lemmas.Bool.{eqb-true}
 use mathlib.Core.Bool.{not}
 use Rattle.chess_notation.specs.declared.strings.Mode.{Mode}
 use Rattle.chess_notation.specs.declared.strings.Mode.TheVariants.{Gap, Plain, Quoted, Closed}
-use Rattle.chess_notation.specs.Pieces.{inside_after, ends_piece}
+use Rattle.chess_notation.specs.Segments.{inside_after, ends_segment}
 use Rattle.chess_notation.specs.Strings.{is_outside, on_mode, fits_from}
 use Rattle.chess_notation.specs.Operations.{Operand, AreWordBytes, HaveNoMark, SpellsOperands}
 use Rattle.chess_notation.specs.Operations.Operand.{Word, Text}
@@ -13,12 +13,12 @@ use Rattle.chess_notation.specs.Operations.Operand.{Word, Text}
 -- no semicolon outside a string
 abbrev pub is_uncut : Bool → List ℕ → Bool
 is_uncut inside [] = true
-is_uncut inside (b ∷ bs) = if ends_piece inside b then false else is_uncut (inside_after inside b) bs
+is_uncut inside (b ∷ bs) = if ends_segment inside b then false else is_uncut (inside_after inside b) bs
 
 abbrev pub is_inside : Mode → Bool
 is_inside mode = not (is_outside mode)
 
--- what is left of a piece, behind a byte
+-- what is left of a segment, behind a byte
 abbrev pub Left : Mode → List ℕ → Type 0
 Left Gap bs = (operands : List Operand) × SpellsOperands (32 ∷ bs) operands
 Left Plain bs = (word : List ℕ) × (rest : List ℕ) × (operands : List Operand) × (bs ≡ word ++ rest) × AreWordBytes word × SpellsOperands rest operands

@@ -1,16 +1,16 @@
--- Operations that are spelled are cut into their pieces, and these pass the tests.
+-- Operations that are spelled are cut into their segments, and these pass the tests.
 use Rattle.std.proofs.Common.{◌≡◌, ℕ, zero, suc, List, [], ◌∷◌, ◌++◌, true, false, refl, ap, sym, ◌∙◌, replicate, subst}
 use Rattle.std.specs.List.{list_all}
 use Rattle.std.proofs.lemmas.List.{append-nil}
 use Rattle.chess_notation.specs.Words.{is_blank}
-use Rattle.chess_notation.specs.Pieces.{Pieces, with_piece, pieces_of}
+use Rattle.chess_notation.specs.Segments.{Segments, with_segment, segments_of}
 use Rattle.chess_notation.specs.Strings.{strings_fit}
 use Rattle.chess_notation.specs.Operations.{is_opcode, Operand, operand_text, IsOperand, AreWordBytes, HaveNoMark, SpellsOperands, Operation, SpellsOperation, SpellsOperations}
 use Rattle.chess_notation.specs.Operations.Operand.{Word, Text}
 use Rattle.chess_notation.specs.EpdFaults.{has_opcode}
 use Rattle.chess_notation.proofs.WordSplits.{word_again, spaces_blank}
 use Rattle.chess_notation.proofs.OperandTexts.{spelled_done}
-use Rattle.chess_notation.proofs.PieceCuts.{with_front-none, Passes, passes_none, passes_mark, passes_other, passes_append, passes_cons, pieces_of_ended}
+use Rattle.chess_notation.proofs.SegmentCuts.{with_front-none, Passes, passes_none, passes_mark, passes_other, passes_append, passes_cons, segments_of_ended}
 use Rattle.chess_notation.proofs.ShownOperations.{IsShown, AreShown, opcode_is_word, word_bytes_no_space, opcode_fits, operands_apart}
 
 passes_space : Passes false (32 ∷ []) false
@@ -38,17 +38,17 @@ passes_operands (operand ∷ operands) text h =
     let token = passes_append false (operand_text operand) false h.1 false (passes_operand operand h.3) (passes_operands operands h.1 h.4) in
     rw h.2 (passes_append false (replicate (suc h.0) 32) false (operand_text operand ++ h.1) false (passes_spaces (suc h.0)) token)
 
-record IsPiece (piece : List ℕ) (operation : Operation) : Type 0 where
-  pub passes : Passes false piece false
-  pub opcode : has_opcode piece ≡ true
-  pub fits : strings_fit piece ≡ true
-  pub shown : IsShown piece operation
+record IsSegment (segment : List ℕ) (operation : Operation) : Type 0 where
+  pub passes : Passes false segment false
+  pub opcode : has_opcode segment ≡ true
+  pub fits : strings_fit segment ≡ true
+  pub shown : IsShown segment operation
 
-spelled_piece : (piece : List ℕ) (operation : Operation) → SpellsOperation piece operation → IsPiece piece operation
-spelled_piece piece operation h =
+spelled_segment : (segment : List ℕ) (operation : Operation) → SpellsOperation segment operation → IsSegment segment operation
+spelled_segment segment operation h =
     let word = opcode_is_word operation.opcode h.3 in
     let apart = operands_apart operation.operands h.1 h.4 in
-    let found = word_again h.0 piece operation.opcode h.1 h.2 (word_bytes_no_space operation.opcode word.0) word.1 apart in
+    let found = word_again h.0 segment operation.opcode h.1 h.2 (word_bytes_no_space operation.opcode word.0) word.1 apart in
     let done = spelled_done operation.operands h.1 h.4 in
     let rest = passes_append false operation.opcode false h.1 false (passes_word operation.opcode word.0) (passes_operands operation.operands h.1 h.4) in
     let P : List ℕ → Type 0 = λ t. SpellsOperands t operation.operands in
@@ -59,20 +59,20 @@ spelled_piece piece operation h =
       shown = record { opcode = found.word_is; operands = subst P (sym found.rest_is) h.4 };
     }
 
-pub record ArePieces (cut : Pieces) (operations : List Operation) : Type 0 where
+pub record AreSegments (cut : Segments) (operations : List Operation) : Type 0 where
   pub opcodes : list_all has_opcode cut.ended ≡ true
   pub fit : list_all strings_fit cut.ended ≡ true
   pub blank : is_blank cut.rest ≡ true
   pub shown : AreShown cut.ended operations
 
-pub spelled_pieces : (operations : List Operation) (text : List ℕ) → SpellsOperations text operations → ArePieces (pieces_of text) operations
-spelled_pieces [] text h =
-    let spaces : pieces_of text ≡ record { ended = []; rest = replicate h.0 32 } =
-    ap pieces_of (h.1 ∙ sym (append-nil (replicate h.0 32))) ∙ (passes_spaces h.0).passes [] ∙ with_front-none (replicate h.0 32) []
+pub spelled_segments : (operations : List Operation) (text : List ℕ) → SpellsOperations text operations → AreSegments (segments_of text) operations
+spelled_segments [] text h =
+    let spaces : segments_of text ≡ record { ended = []; rest = replicate h.0 32 } =
+    ap segments_of (h.1 ∙ sym (append-nil (replicate h.0 32))) ∙ (passes_spaces h.0).passes [] ∙ with_front-none (replicate h.0 32) []
     ∙ ap (λ t. record { ended = []; rest = t }) (append-nil (replicate h.0 32)) in
     rw spaces (record { opcodes = refl; fit = refl; blank = spaces_blank h.0; shown = tt })
-spelled_pieces (operation ∷ operations) text h =
-    let piece = spelled_piece h.0 operation h.3 in
-    let more = spelled_pieces operations h.1 h.4 in
-    let cut : pieces_of text ≡ with_piece h.0 (pieces_of h.1) = ap pieces_of h.2 ∙ pieces_of_ended h.0 h.1 piece.passes in
-    rw cut (record { opcodes = rw piece.opcode more.opcodes; fit = rw piece.fits more.fit; blank = more.blank; shown = (piece.shown, more.shown) })
+spelled_segments (operation ∷ operations) text h =
+    let segment = spelled_segment h.0 operation h.3 in
+    let more = spelled_segments operations h.1 h.4 in
+    let cut : segments_of text ≡ with_segment h.0 (segments_of h.1) = ap segments_of h.2 ∙ segments_of_ended h.0 h.1 segment.passes in
+    rw cut (record { opcodes = rw segment.opcode more.opcodes; fit = rw segment.fits more.fit; blank = more.blank; shown = (segment.shown, more.shown) })

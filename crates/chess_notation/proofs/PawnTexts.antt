@@ -3,11 +3,11 @@ use Rattle.std.proofs.Common.{◌≡◌, ℕ, ◌+◌, ◌<◌, ◌≤◌, Bool,
 use Rattle.chess_board.specs.declared.men.Kind.{Kind}
 use Rattle.chess_board.specs.Squares.{file_of, rank_of}
 use Rattle.chess_board.specs.Fields.{square_text}
-use Rattle.chess_notation.specs.San.{file_text, becomes_text}
+use Rattle.chess_notation.specs.San.{file_letter, becomes_text}
 use Rattle.chess_notation.proofs.TextBytes.{kind_said, kind_said-letter, unmarked, file_unmarked, rank_unmarked, kind_unmarked, rank_no_capture}
 
 abbrev pub pawn_form : Bool → ℕ → ℕ → Option Kind → List ℕ
-pawn_form captures o t becomes = (if captures then file_text o ++ codes "x" else []) ++ square_text t ++ becomes_text becomes
+pawn_form captures o t becomes = (if captures then file_letter o ++ codes "x" else []) ++ square_text t ++ becomes_text becomes
 
 -- the parts of the text, files and ranks by their bytes
 pub record PawnSaid : Type 0 where

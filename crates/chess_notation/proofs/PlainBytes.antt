@@ -6,7 +6,7 @@ use Rattle.std.proofs.lemmas.List.Folds.{list_all-append}
 use Rattle.std.proofs.lemmas.List.Elements.{All-head, All-tail}
 use Rattle.std.specs.List.{list_all}
 use Rattle.chess_board.specs.Laws.{IsVisible, IsVisibleWord}
-use Rattle.chess_notation.specs.Operations.{is_between, is_digit, is_letter, is_opcode_byte, is_opcode, is_printable, AreWordBytes}
+use Rattle.chess_notation.specs.Operations.{is_in_range, is_digit, is_letter, is_opcode_byte, is_opcode, is_printable, AreWordBytes}
 use Rattle.chess_notation.specs.Records.{HaveNoSpace, IsWord}
 
 -- both parts pass a test where the whole does, and the other way round
@@ -22,12 +22,12 @@ list_all-weaker f g weaker (x ∷ xs) h =
     let both = and_parts (f x) (list_all f xs) h in
     rw (weaker x both.0, list_all-weaker f g weaker xs both.1) refl
 
-pub is_between_from : (low high b : ℕ) → low ≤ b → b ≤ high → is_between low high b ≡ true
+pub is_between_from : (low high b : ℕ) → low ≤ b → b ≤ high → is_in_range low high b ≡ true
 is_between_from low high b from to = grind (arith, nat_tests)
 
 -- a visible byte that is no quotation mark and no semicolon: what moves, numbers and opcodes are written with
 abbrev pub is_plain : ℕ → Bool
-is_plain b = is_between 35 58 b || is_between 60 126 b
+is_plain b = is_in_range 35 58 b || is_in_range 60 126 b
 
 pub is_plain_low : (b : ℕ) → 35 ≤ b → b ≤ 58 → is_plain b ≡ true
 is_plain_low b from to = rw (is_between_from 35 58 b from to) refl

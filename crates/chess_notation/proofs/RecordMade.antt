@@ -1,18 +1,17 @@
 -- The record that is made of a line without a fault is the one that the line says.
-use Rattle.std.proofs.Common.{◌≡◌, ◌<◌, ◌≤◌, ℕ, List, true, false, ap, sym, ◌∙◌, subst, arith}
+use Rattle.std.proofs.Common.{◌≡◌, ℕ, List, true, false, ap, sym, ◌∙◌, subst, arith}
 use Rattle.std.specs.List.{list_all}
 use Rattle.chess_board.specs.Positions.{Setup}
 use Rattle.chess_board.specs.Soundness.{IsSound}
 use Rattle.chess_board.specs.Fens.{SpellsSetup}
 use Rattle.chess_board.specs.Moves.{Move}
 use Rattle.chess_moves.specs.Laws.{LegalListed}
-use Rattle.chess_notation.specs.declared.faults.EpdFault.{EpdFault}
 use Rattle.chess_notation.specs.declared.faults.EpdFault.TheVariants.{BadAvoid}
-use Rattle.chess_notation.specs.Pieces.{pieces_of}
+use Rattle.chess_notation.specs.Segments.{segments_of}
 use Rattle.chess_notation.specs.Operations.{Entry}
 use Rattle.chess_notation.specs.Lines.{line_fields, operations_in, cut_of}
-use Rattle.chess_notation.specs.EpdFaults.{has_names_if_avoid, number_of, IsAmissBy, IsFaultOf}
-use Rattle.chess_notation.specs.RecordReading.{IsClearTo, bound_in, avoid_in, rest_of}
+use Rattle.chess_notation.specs.EpdFaults.{has_names_if_avoid, IsFaultOf}
+use Rattle.chess_notation.specs.RecordReading.{IsClearTo, bound_said, avoid_in, rest_of}
 use Rattle.chess_notation.specs.Records.{RecordValue, Reads}
 use Rattle.chess_notation.proofs.LineReads.{no_fault_reads}
 
@@ -22,23 +21,23 @@ pub record IsChecked (line text : List ℕ) (p : Setup) : Type 0 where
   pub clear : IsClearTo 9 line
   pub spelt : SpellsSetup (line_fields line) p
   pub sound : IsSound p
-  pub names : list_all (has_names_if_avoid p) (pieces_of text).ended ≡ true
+  pub names : list_all (has_names_if_avoid p) (segments_of text).ended ≡ true
 
 -- what is made of them
 abbrev pub made : List ℕ → Setup → ℕ → RecordValue
 made text p default =
-    record { position = p; bound = bound_in (pieces_of text).ended default; avoid = avoid_in p (pieces_of text).ended; rest = rest_of (pieces_of text).ended }
+    record { position = p; bound = bound_said (segments_of text).ended default; avoid = avoid_in p (segments_of text).ended; rest = rest_of (segments_of text).ended }
 
 pub made_reads : LegalListed → (line text : List ℕ) (p : Setup) (default : ℕ) → IsChecked line text p → Reads line default (made text p default)
 unfolding cut_of
 made_reads listed line text p default is =
     let names : list_all (has_names_if_avoid p) (cut_of line).ended ≡ true =
-    sym (ap (λ t. list_all (has_names_if_avoid p) (pieces_of t).ended) is.text_is) ∙ is.names in
+    sym (ap (λ t. list_all (has_names_if_avoid p) (segments_of t).ended) is.text_is) ∙ is.names in
     subst (λ (t : List ℕ). Reads line default (made t p default)) (sym is.text_is) (no_fault_reads listed line default p is.clear is.spelt is.sound names)
 
 -- So is the same with its parts under other names.
 pub made_as : LegalListed → (line text : List ℕ) (p : Setup) (default bound : ℕ) (avoid : List Move) (rest : List Entry) → IsChecked line text p
-    → bound ≡ bound_in (pieces_of text).ended default → avoid ≡ avoid_in p (pieces_of text).ended → rest ≡ rest_of (pieces_of text).ended
+    → bound ≡ bound_said (segments_of text).ended default → avoid ≡ avoid_in p (segments_of text).ended → rest ≡ rest_of (segments_of text).ended
     → Reads line default (record { position = p; bound = bound; avoid = avoid; rest = rest })
 made_as listed line text p default bound avoid rest is bound_is avoid_is rest_is =
     let same : made text p default ≡ record { position = p; bound = bound; avoid = avoid; rest = rest } =
@@ -47,9 +46,9 @@ made_as listed line text p default bound avoid rest is bound_is avoid_is rest_is
 
 -- A line whose moves to avoid are not named has that fault, and no other before it.
 pub avoid_is_fault : (line text : List ℕ) (p : Setup) → IsClearTo 9 line → SpellsSetup (line_fields line) p → text ≡ operations_in line
-    → list_all (has_names_if_avoid p) (pieces_of text).ended ≡ false → IsFaultOf line BadAvoid
+    → list_all (has_names_if_avoid p) (segments_of text).ended ≡ false → IsFaultOf line BadAvoid
 unfolding IsClearTo cut_of
 avoid_is_fault line text p clear spelt text_is none = record {
-  applies = (p, spelt, sym (ap (λ t. list_all (has_names_if_avoid p) (pieces_of t).ended) text_is) ∙ none);
+  applies = (p, spelt, sym (ap (λ t. list_all (has_names_if_avoid p) (segments_of t).ended) text_is) ∙ none);
   first = λ earlier before. clear earlier (omega (arith, before));
 }

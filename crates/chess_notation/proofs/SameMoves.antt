@@ -10,7 +10,7 @@ use Rattle.chess_board.specs.Positions.{Setup, is_empty}
 use Rattle.chess_board.specs.Moves.{Move}
 use Rattle.chess_board.specs.Candidates.{suits, pawn_goes}
 use Rattle.chess_board.specs.After.{is_in_passing, is_castling, wing_of}
-use Rattle.chess_notation.specs.San.{is_capture, pawn_text, castling_text}
+use Rattle.chess_notation.specs.San.{is_capture, pawn_text, wing_text}
 use Rattle.chess_notation.proofs.LegalMen.{IsPlayed, move_same}
 use Rattle.chess_notation.proofs.TextBytes.{same_square}
 use Rattle.chess_notation.proofs.PawnTexts.{read_pawn, read_pawn-form}
@@ -54,7 +54,7 @@ same_pawn p man m n by_m by_n pawn texts =
 
 -- Castling.
 pub same_castling : (p : Setup) (man : Man) (m n : Move) → IsPlayed p m man → IsPlayed p n man → is_pawn_kind man.kind ≡ false → is_castling man m ≡ true → is_castling man n ≡ true →
-    castling_text (wing_of m.origin m.target) ≡ castling_text (wing_of n.origin n.target) → m ≡ n
+    wing_text (wing_of m.origin m.target) ≡ wing_text (wing_of n.origin n.target) → m ≡ n
 same_castling p man m n by_m by_n piece castles_m castles_n texts =
     let at = castling_same p man m n by_m.goes by_n.goes castles_m castles_n texts in
     move_same m n at.0 at.1 (unpromoted man m.target m.promotion piece by_m.suits ∙ sym (unpromoted man n.target n.promotion piece by_n.suits))

@@ -19,7 +19,7 @@ use Rattle.chess_board.specs.Candidates.{man_may, is_candidate}
 use Rattle.chess_board.specs.Legality.{is_safe, is_legal}
 use Rattle.chess_moves.specs.Verdicts.{is_mate}
 use Rattle.chess_moves.specs.Laws.{IsLegalOnBoard}
-use Rattle.chess_notation.specs.San.{some_rival, file_text, rank_text, origin_text, hint_text, is_capture, pawn_origin_text, becomes_text, pawn_text, piece_text, castling_text, man_text, bare_text, check_text, san_text}
+use Rattle.chess_notation.specs.San.{some_rival, file_letter, rank_digit, origin_text, hint_text, is_capture, pawn_origin_text, becomes_text, pawn_text, piece_text, wing_text, man_text, bare_text, check_text, san_text}
 use Rattle.chess_notation.proofs.PlainBytes.{is_plain, is_plain_low, is_plain_high, list_all-both}
 
 -- at least one byte, and none that is a space, a quotation mark or a semicolon
@@ -38,14 +38,14 @@ either_plain : (b : Bool) (xs ys : List ℕ) → list_all is_plain xs ≡ true �
 either_plain true xs ys h k = h
 either_plain false xs ys h k = k
 
-file_plain : (s : ℕ) → list_all is_plain (file_text s) ≡ true
+file_plain : (s : ℕ) → list_all is_plain (file_letter s) ≡ true
 file_plain s = rw (is_plain_high (97 + file_of s) (omega arith) (omega arith)) refl
 
-rank_plain : (s : ℕ) → s < 64 → list_all is_plain (rank_text s) ≡ true
+rank_plain : (s : ℕ) → s < 64 → list_all is_plain (rank_digit s) ≡ true
 rank_plain s on = rw (is_plain_low (49 + rank_of s) (omega arith) (omega arith)) refl
 
 square_plain : (s : ℕ) → s < 64 → IsPlainWord (square_text s)
-square_plain s on = ((λ e. cc), list_all-both is_plain (file_text s) (rank_text s) (file_plain s) (rank_plain s on))
+square_plain s on = ((λ e. cc), list_all-both is_plain (file_letter s) (rank_digit s) (file_plain s) (rank_plain s on))
 
 letter_plain : (kind : Kind) → is_plain (kind_letter kind) ≡ true
 letter_plain Pawn = refl
@@ -73,7 +73,7 @@ becomes_plain (Some kind) = rw (letter_plain kind) refl
 pawn_plain : (p : Setup) (man : Man) (m : Move) → m.target < 64 → IsPlainWord (pawn_text p man m)
 pawn_plain p man m on =
     let origin : list_all is_plain (pawn_origin_text p man m) ≡ true =
-    either_plain (is_capture p man m) (file_text m.origin ++ codes "x") [] (list_all-both is_plain (file_text m.origin) (codes "x") (file_plain m.origin) refl) refl in
+    either_plain (is_capture p man m) (file_letter m.origin ++ codes "x") [] (list_all-both is_plain (file_letter m.origin) (codes "x") (file_plain m.origin) refl) refl in
     IsPlainWord-left (pawn_origin_text p man m ++ square_text m.target) (becomes_text m.promotion)
     (IsPlainWord-right (pawn_origin_text p man m) (square_text m.target) origin (square_plain m.target on)) (becomes_plain m.promotion)
 
@@ -84,7 +84,7 @@ piece_plain p man m from on =
     let rest = list_all-both is_plain (hint_text p man m ++ mark) (square_text m.target) marked (square_plain m.target on).1 in
     IsPlainWord-left (kind_letter man.kind ∷ []) (hint_text p man m ++ mark ++ square_text m.target) ((λ e. cc), rw (letter_plain man.kind) refl) rest
 
-castling_plain : (wing : Wing) → IsPlainWord (castling_text wing)
+castling_plain : (wing : Wing) → IsPlainWord (wing_text wing)
 castling_plain KingSide = ((λ e. cc), refl)
 castling_plain QueenSide = ((λ e. cc), refl)
 
@@ -95,8 +95,8 @@ either_word false xs ys h k = k
 man_plain : (p : Setup) (place : Option Man) (m : Move) → m.origin < 64 → m.target < 64 → man_may p place m ≡ true → IsPlainWord (man_text p place m)
 man_plain p None m from on may = cc
 man_plain p (Some man) m from on may =
-    let piece = either_word (is_castling man m) (castling_text (wing_of m.origin m.target)) (piece_text p man m) (castling_plain (wing_of m.origin m.target)) (piece_plain p man m from on) in
-    either_word (is_pawn_kind man.kind) (pawn_text p man m) (if is_castling man m then castling_text (wing_of m.origin m.target) else piece_text p man m) (pawn_plain p man m on) piece
+    let piece = either_word (is_castling man m) (wing_text (wing_of m.origin m.target)) (piece_text p man m) (castling_plain (wing_of m.origin m.target)) (piece_plain p man m from on) in
+    either_word (is_pawn_kind man.kind) (pawn_text p man m) (if is_castling man m then wing_text (wing_of m.origin m.target) else piece_text p man m) (pawn_plain p man m on) piece
 
 check_plain : (p : Setup) → list_all is_plain (check_text p) ≡ true
 unfolding check_text

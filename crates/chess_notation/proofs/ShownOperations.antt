@@ -1,4 +1,4 @@
--- A piece shows an operation: its opcode is the first word, and its operands stand behind.
+-- A segment shows an operation: its opcode is the first word, and its operands stand behind.
 use Rattle.std.proofs.Common.{◌≡◌, ◌≢◌, ℕ, zero, suc, ◌==◌, nat_le, List, [], ◌∷◌, ◌++◌, true, false, length, refl, ap, sym, ◌∙◌, replicate, map, ◌&&◌}
 use Rattle.std.specs.List.{list_all}
 use Rattle.std.proofs.lemmas.Bool.{and_parts}
@@ -13,36 +13,36 @@ use Rattle.chess_notation.proofs.TextOrder.{same_text_is}
 use Rattle.chess_notation.proofs.OperandTexts.{on_spaces, on_word, spelled_done}
 use Rattle.chess_notation.proofs.WordSplits.{not_byte}
 
-pub record IsShown (piece : List ℕ) (operation : Operation) : Type 0 where
-  pub opcode : word_at piece ≡ operation.opcode
-  pub operands : SpellsOperands (behind piece) operation.operands
+pub record IsShown (segment : List ℕ) (operation : Operation) : Type 0 where
+  pub opcode : word_at segment ≡ operation.opcode
+  pub operands : SpellsOperands (behind segment) operation.operands
 
 abbrev pub AreShown : List (List ℕ) → List Operation → Type 0
 AreShown [] [] = Unit {0}
-AreShown (piece ∷ pieces) (operation ∷ operations) = IsShown piece operation × AreShown pieces operations
+AreShown (segment ∷ segments) (operation ∷ operations) = IsShown segment operation × AreShown segments operations
 AreShown _ _ = ⊥
 
--- The piece shows an operation with this opcode, or with another one.
-pub shown_opcode : (opcode piece : List ℕ) (operation : Operation) → IsShown piece operation → same_text opcode (word_at piece) ≡ true → operation.opcode ≡ opcode
-shown_opcode opcode piece operation shown h = sym shown.opcode ∙ sym (same_text_is opcode (word_at piece) h)
+-- The segment shows an operation with this opcode, or with another one.
+pub shown_opcode : (opcode segment : List ℕ) (operation : Operation) → IsShown segment operation → same_text opcode (word_at segment) ≡ true → operation.opcode ≡ opcode
+shown_opcode opcode segment operation shown h = sym shown.opcode ∙ sym (same_text_is opcode (word_at segment) h)
 
-pub shown_other_opcode : (opcode : List ℕ) → same_text opcode opcode ≡ true → (piece : List ℕ) (operation : Operation) → IsShown piece operation
-    → same_text opcode (word_at piece) ≡ false → operation.opcode ≢ opcode
-shown_other_opcode opcode self piece operation shown h e =
-    let same : same_text opcode (word_at piece) ≡ true = ap (same_text opcode) (shown.opcode ∙ e) ∙ self in
+pub shown_other_opcode : (opcode : List ℕ) → same_text opcode opcode ≡ true → (segment : List ℕ) (operation : Operation) → IsShown segment operation
+    → same_text opcode (word_at segment) ≡ false → operation.opcode ≢ opcode
+shown_other_opcode opcode self segment operation shown h e =
+    let same : same_text opcode (word_at segment) ≡ true = ap (same_text opcode) (shown.opcode ∙ e) ∙ self in
     cc
 
-shown_entry : (piece : List ℕ) (operation : Operation) → IsShown piece operation → entry_in piece ≡ entry_of operation
-shown_entry piece operation h =
-    let operands : squeezed_from Plain (behind piece) ≡ operands_text operation.operands = (spelled_done operation.operands (behind piece) h.operands).plain_squeezed in
+shown_entry : (segment : List ℕ) (operation : Operation) → IsShown segment operation → entry_in segment ≡ entry_of operation
+shown_entry segment operation h =
+    let operands : squeezed_from Plain (behind segment) ≡ operands_text operation.operands = (spelled_done operation.operands (behind segment) h.operands).plain_squeezed in
     λ i. record { opcode = h.opcode i; operands = operands i }
 
-pub shown_entries : (pieces : List (List ℕ)) (operations : List Operation) → AreShown pieces operations → map entry_in pieces ≡ map entry_of operations
+pub shown_entries : (segments : List (List ℕ)) (operations : List Operation) → AreShown segments operations → map entry_in segments ≡ map entry_of operations
 shown_entries [] [] h = refl
 shown_entries [] (operation ∷ operations) h = absurd h
-shown_entries (piece ∷ pieces) [] h = absurd h
-shown_entries (piece ∷ pieces) (operation ∷ operations) h =
-    ap (λ e. e ∷ map entry_in pieces) (shown_entry piece operation h.0) ∙ ap (λ es. entry_of operation ∷ es) (shown_entries pieces operations h.1)
+shown_entries (segment ∷ segments) [] h = absurd h
+shown_entries (segment ∷ segments) (operation ∷ operations) h =
+    ap (λ e. e ∷ map entry_in segments) (shown_entry segment operation h.0) ∙ ap (λ es. entry_of operation ∷ es) (shown_entries segments operations h.1)
 
 -- the bytes of an opcode
 opcode_byte_is_word : (b : ℕ) → is_opcode_byte b ≡ true → (b ≢ 32) × (b ≢ 34) × (b ≢ 59)
@@ -72,7 +72,7 @@ pub word_bytes_no_space : (word : List ℕ) → AreWordBytes word → HaveNoSpac
 word_bytes_no_space [] bytes = tt
 word_bytes_no_space (b ∷ bs) bytes = (bytes.0, word_bytes_no_space bs bytes.3)
 
--- the strings of a piece, behind its opcode
+-- the strings of a segment, behind its opcode
 pub opcode_fits : (n : ℕ) (word rest : List ℕ) → AreWordBytes word → word ≢ [] → fits_from Plain (replicate n 32 ++ (word ++ rest)) ≡ fits_from Plain rest
 opcode_fits zero word rest bytes some = (on_word word bytes).fits rest
 opcode_fits (suc n) [] rest bytes some = absurd (some refl)

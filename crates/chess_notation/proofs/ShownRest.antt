@@ -1,4 +1,4 @@
--- Pieces with distinct opcodes show operations with distinct ones, and the record keeps what they show.
+-- Segments with distinct opcodes show operations with distinct ones, and the record keeps what they show.
 use Rattle.std.proofs.Common.{◌≡◌, ◌≢◌, ℕ, List, [], ◌∷◌, true, false, refl, ap, sym, ◌∙◌, subst, map, inl, inr}
 use Rattle.std.specs.Prelude.{Contains}
 use Rattle.std.specs.List.{list_all}
@@ -43,19 +43,19 @@ distinct_from : (operations : List Operation) → AreOnce operations → AreDist
 distinct_from [] once = tt
 distinct_from (operation ∷ operations) once = (others_from operation.opcode operations once.0, distinct_from operations once.1)
 
-differ_from : (opcode : List ℕ) (pieces : List (List ℕ)) → IsOther opcode (map entry_in pieces) → list_all (differs_from opcode) pieces ≡ true
+differ_from : (opcode : List ℕ) (segments : List (List ℕ)) → IsOther opcode (map entry_in segments) → list_all (differs_from opcode) segments ≡ true
 differ_from opcode [] h = refl
-differ_from opcode (piece ∷ pieces) h = rw h.0 (differ_from opcode pieces h.1)
+differ_from opcode (segment ∷ segments) h = rw h.0 (differ_from opcode segments h.1)
 
-pieces_distinct : (pieces : List (List ℕ)) → AreDistinct (map entry_in pieces) → are_distinct pieces ≡ true
-pieces_distinct [] h = refl
-pieces_distinct (piece ∷ pieces) h = let here : list_all (differs_from (word_at piece)) pieces ≡ true = differ_from (word_at piece) pieces h.0 in rw here (pieces_distinct pieces h.1)
+segments_distinct : (segments : List (List ℕ)) → AreDistinct (map entry_in segments) → are_distinct segments ≡ true
+segments_distinct [] h = refl
+segments_distinct (segment ∷ segments) h = let here : list_all (differs_from (word_at segment)) segments ≡ true = differ_from (word_at segment) segments h.0 in rw here (segments_distinct segments h.1)
 
-pub distinct_once : (pieces : List (List ℕ)) (operations : List Operation) → AreShown pieces operations → are_distinct pieces ≡ true → AreOnce operations
-distinct_once pieces operations shown h = once_from operations (subst AreDistinct (shown_entries pieces operations shown) (shown_distinct pieces h))
+pub distinct_once : (segments : List (List ℕ)) (operations : List Operation) → AreShown segments operations → are_distinct segments ≡ true → AreOnce operations
+distinct_once segments operations shown h = once_from operations (subst AreDistinct (shown_entries segments operations shown) (shown_distinct segments h))
 
-pub once_distinct : (pieces : List (List ℕ)) (operations : List Operation) → AreShown pieces operations → AreOnce operations → are_distinct pieces ≡ true
-once_distinct pieces operations shown once = pieces_distinct pieces (subst AreDistinct (sym (shown_entries pieces operations shown)) (distinct_from operations once))
+pub once_distinct : (segments : List (List ℕ)) (operations : List Operation) → AreShown segments operations → AreOnce operations → are_distinct segments ≡ true
+once_distinct segments operations shown once = segments_distinct segments (subst AreDistinct (sym (shown_entries segments operations shown)) (distinct_from operations once))
 
 -- The rest has exactly the kept operations' entries.
 rest_has : (operations : List Operation) (entry : Entry) → Contains (inserted [] (kept_entries (map entry_of operations))) entry → IsKeptOf operations entry
@@ -72,14 +72,14 @@ has_rest operations entry h =
     let inside : Contains (map entry_of operations) entry = subst (Contains (map entry_of operations)) (sym h.3) (in_map entry_of operations h.0 h.1) in
     inserted_to [] (kept_entries (map entry_of operations)) entry (inr (kept_to (map entry_of operations) entry inside (ap (λ e. is_own e.opcode) h.3 ∙ h.2)))
 
-rest_shown : (pieces : List (List ℕ)) (operations : List Operation) → AreShown pieces operations → rest_of pieces ≡ inserted [] (kept_entries (map entry_of operations))
+rest_shown : (segments : List (List ℕ)) (operations : List Operation) → AreShown segments operations → rest_of segments ≡ inserted [] (kept_entries (map entry_of operations))
 unfolding rest_of
-rest_shown pieces operations shown = ap (inserted []) (kept_shown pieces ∙ ap kept_entries (shown_entries pieces operations shown))
+rest_shown segments operations shown = ap (inserted []) (kept_shown segments ∙ ap kept_entries (shown_entries segments operations shown))
 
-pub rest_is_kept : (pieces : List (List ℕ)) (operations : List Operation) → AreShown pieces operations → are_distinct pieces ≡ true → IsRestOf operations (rest_of pieces)
-rest_is_kept pieces operations shown distinct =
-    let same = rest_shown pieces operations shown in (
-      rest_rises pieces distinct,
+pub rest_is_kept : (segments : List (List ℕ)) (operations : List Operation) → AreShown segments operations → are_distinct segments ≡ true → IsRestOf operations (rest_of segments)
+rest_is_kept segments operations shown distinct =
+    let same = rest_shown segments operations shown in (
+      rest_rises segments distinct,
       λ entry. (
         (λ h. rest_has operations entry (subst (λ es. Contains es entry) same h)),
         (λ h. subst (λ es. Contains es entry) (sym same) (has_rest operations entry h)),

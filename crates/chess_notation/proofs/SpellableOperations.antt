@@ -27,11 +27,11 @@ pub spelled_operations : (os : List Operation) → Each IsSpellable os → Spell
 spelled_operations [] each = (0, refl)
 spelled_operations (o ∷ os) each =
     let is = each o (in_front o os) in
-    let piece = 32 ∷ (o.opcode ++ operands_text o.operands) in
+    let segment = 32 ∷ (o.opcode ++ operands_text o.operands) in
     let rest = entries_text (map entry_of os) in (
-      piece,
+      segment,
       rest,
-      append_assoc piece (59 ∷ []) rest,
+      append_assoc segment (59 ∷ []) rest,
       (1, operands_text o.operands, refl, is.opcode, spelled_operands o.operands is.operands),
       spelled_operations os (Each-tail IsSpellable o os each),
     )
@@ -40,10 +40,10 @@ pub printed_operations : (os : List Operation) → Each IsSpellable os → list_
 printed_operations [] each = refl
 printed_operations (o ∷ os) each =
     let is = each o (in_front o os) in
-    let piece : list_all is_printable (32 ∷ (o.opcode ++ operands_text o.operands)) ≡ true =
+    let segment : list_all is_printable (32 ∷ (o.opcode ++ operands_text o.operands)) ≡ true =
     list_all-both is_printable o.opcode (operands_text o.operands) (opcode_printable o.opcode is.opcode) is.printable in
     list_all-both is_printable (entry_text (entry_of o)) (entries_text (map entry_of os))
-    (list_all-both is_printable (32 ∷ (o.opcode ++ operands_text o.operands)) (59 ∷ []) piece refl) (printed_operations os (Each-tail IsSpellable o os each))
+    (list_all-both is_printable (32 ∷ (o.opcode ++ operands_text o.operands)) (59 ∷ []) segment refl) (printed_operations os (Each-tail IsSpellable o os each))
 
 -- Operations that a printable text spells are such.
 spellable_operands : (operands : List Operand) (text : List ℕ) → SpellsOperands text operands → list_all is_printable text ≡ true
@@ -55,8 +55,8 @@ spellable_operands (operand ∷ operands) text (more, rest, e, is, spelt) printa
     let others = spellable_operands operands rest spelt token.1 in
     ((is, others.0), list_all-both is_printable (operand_text operand) (operands_text operands) token.0 others.1)
 
-spellable_operation : (o : Operation) (piece : List ℕ) → SpellsOperation piece o → list_all is_printable piece ≡ true → IsSpellable o
-spellable_operation o piece (n, rest, e, opcode, spelt) printable =
+spellable_operation : (o : Operation) (segment : List ℕ) → SpellsOperation segment o → list_all is_printable segment ≡ true → IsSpellable o
+spellable_operation o segment (n, rest, e, opcode, spelt) printable =
     let parts = list_all-parts is_printable (replicate n 32) (o.opcode ++ rest) (sym (ap (list_all is_printable) e) ∙ printable) in
     let behind = list_all-parts is_printable o.opcode rest parts.1 in
     let are = spellable_operands o.operands rest spelt behind.1 in
@@ -64,11 +64,11 @@ spellable_operation o piece (n, rest, e, opcode, spelt) printable =
 
 pub spellable_operations : (os : List Operation) (text : List ℕ) → SpellsOperations text os → list_all is_printable text ≡ true → Each IsSpellable os
 spellable_operations [] text h printable x at = absurd (in_none x at)
-spellable_operations (o ∷ os) text (piece, rest, e, one, spelt) printable x at =
-    let parts = list_all-parts is_printable piece (59 ∷ rest) (sym (ap (list_all is_printable) e) ∙ printable) in
+spellable_operations (o ∷ os) text (segment, rest, e, one, spelt) printable x at =
+    let parts = list_all-parts is_printable segment (59 ∷ rest) (sym (ap (list_all is_printable) e) ∙ printable) in
     let behind : list_all is_printable rest ≡ true = parts.1 in
     elim (in_cases o os x at) [
-      | inl here ↦ subst IsSpellable (sym here) (spellable_operation o piece one parts.0)
+      | inl here ↦ subst IsSpellable (sym here) (spellable_operation o segment one parts.0)
       | inr there ↦ spellable_operations os rest spelt behind x there
     ]
 

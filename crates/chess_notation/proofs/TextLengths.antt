@@ -9,7 +9,7 @@ use Rattle.chess_board.specs.Moves.{Move}
 use Rattle.chess_board.specs.After.{is_castling, wing_of, after_setup}
 use Rattle.chess_board.specs.Attacks.{is_in_check}
 use Rattle.chess_moves.specs.Verdicts.{is_mate}
-use Rattle.chess_notation.specs.San.{is_capture, pawn_text, piece_text, castling_text, man_text, bare_text, check_text, san_text}
+use Rattle.chess_notation.specs.San.{is_capture, pawn_text, piece_text, wing_text, man_text, bare_text, check_text, san_text}
 use Rattle.chess_notation.proofs.PawnTexts.{length-pawn_form}
 use Rattle.chess_notation.proofs.PieceTexts.{length-tail_text}
 
@@ -19,16 +19,16 @@ length-pawn_text p man m = length-pawn_form (is_capture p man m) m.origin m.targ
 pub length-piece_text : (p : Setup) (man : Man) (m : Move) → length (piece_text p man m) ≤ 6
 length-piece_text p man m = omega (arith, length-tail_text p man m)
 
-pub length-castling_text : (wing : Wing) → length (castling_text wing) ≤ 5
-length-castling_text KingSide = omega arith
-length-castling_text QueenSide = omega arith
+pub length-wing_text : (wing : Wing) → length (wing_text wing) ≤ 5
+length-wing_text KingSide = omega arith
+length-wing_text QueenSide = omega arith
 
 pub length-man_text : (p : Setup) (place : Option Man) (m : Move) → length (man_text p place m) ≤ 6
 length-man_text p None m = omega arith
 length-man_text p (Some man) m = by_kind (is_pawn_kind man.kind) (is_castling man m) where
-  by_kind : (pawn castling : Bool) → length (if pawn then pawn_text p man m else (if castling then castling_text (wing_of m.origin m.target) else piece_text p man m)) ≤ 6
+  by_kind : (pawn castling : Bool) → length (if pawn then pawn_text p man m else (if castling then wing_text (wing_of m.origin m.target) else piece_text p man m)) ≤ 6
   by_kind true castling = length-pawn_text p man m
-  by_kind false true = omega (arith, length-castling_text (wing_of m.origin m.target))
+  by_kind false true = omega (arith, length-wing_text (wing_of m.origin m.target))
   by_kind false false = length-piece_text p man m
 
 pub length-bare_text : (p : Setup) (m : Move) → length (bare_text p m) ≤ 6

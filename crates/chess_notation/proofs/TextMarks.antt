@@ -11,7 +11,7 @@ use Rattle.chess_board.specs.Placement.{kind_letter}
 use Rattle.chess_board.specs.After.{is_castling, wing_of, after_setup}
 use Rattle.chess_board.specs.Attacks.{is_in_check}
 use Rattle.chess_moves.specs.Verdicts.{is_mate}
-use Rattle.chess_notation.specs.San.{is_capture, pawn_text, piece_text, castling_text, man_text, bare_text, check_text, san_text}
+use Rattle.chess_notation.specs.San.{is_capture, pawn_text, piece_text, wing_text, man_text, bare_text, check_text, san_text}
 use Rattle.chess_notation.proofs.TextBytes.{unmarked, kind_unmarked}
 use Rattle.chess_notation.proofs.PawnTexts.{unmarked-pawn_form}
 use Rattle.chess_notation.proofs.PieceTexts.{tail_text, unmarked-tail_text}
@@ -22,17 +22,17 @@ unmarked-letter letter rest plain same = rw plain (ap (λ bytes. letter ∷ byte
 unmarked-piece_text : (p : Setup) (man : Man) (m : Move) → unmarked (piece_text p man m) ≡ piece_text p man m
 unmarked-piece_text p man m = unmarked-letter (kind_letter man.kind) (tail_text p man m) (kind_unmarked man.kind) (unmarked-tail_text p man m)
 
-unmarked-castling_text : (wing : Wing) → unmarked (castling_text wing) ≡ castling_text wing
-unmarked-castling_text KingSide = refl
-unmarked-castling_text QueenSide = refl
+unmarked-wing_text : (wing : Wing) → unmarked (wing_text wing) ≡ wing_text wing
+unmarked-wing_text KingSide = refl
+unmarked-wing_text QueenSide = refl
 
 unmarked-man_text : (p : Setup) (place : Option Man) (m : Move) → unmarked (man_text p place m) ≡ man_text p place m
 unmarked-man_text p None m = refl
 unmarked-man_text p (Some man) m = by_kind (is_pawn_kind man.kind) (is_castling man m) where
-  by_kind : (pawn castling : Bool) → unmarked (if pawn then pawn_text p man m else (if castling then castling_text (wing_of m.origin m.target) else piece_text p man m))
-      ≡ (if pawn then pawn_text p man m else (if castling then castling_text (wing_of m.origin m.target) else piece_text p man m))
+  by_kind : (pawn castling : Bool) → unmarked (if pawn then pawn_text p man m else (if castling then wing_text (wing_of m.origin m.target) else piece_text p man m))
+      ≡ (if pawn then pawn_text p man m else (if castling then wing_text (wing_of m.origin m.target) else piece_text p man m))
   by_kind true castling = unmarked-pawn_form (is_capture p man m) m.origin m.target m.promotion
-  by_kind false true = unmarked-castling_text (wing_of m.origin m.target)
+  by_kind false true = unmarked-wing_text (wing_of m.origin m.target)
   by_kind false false = unmarked-piece_text p man m
 
 unmarked-bare_text : (p : Setup) (m : Move) → unmarked (bare_text p m) ≡ bare_text p m

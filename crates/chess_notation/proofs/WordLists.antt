@@ -1,12 +1,11 @@
 -- The words of a text, one after the other.
 use Rattle.std.proofs.Common.{◌≡◌, ◌≢◌, ℕ, zero, suc, ◌<◌, ◌≤◌, ◌+◌, ◌==◌, Bool, if◌then◌else◌, List, [], ◌∷◌, ◌++◌, true, false, refl, ap, sym, ◌∙◌, arith, replicate, filter, length, append-nil}
 use Rattle.std.specs.List.{All, slice_split}
-use Rattle.std.proofs.lemmas.Bool.Decides.{nat_tests}
 use Rattle.std.proofs.lemmas.List.Elements.{All-nil, All-cons}
 use Rattle.std.proofs.lemmas.List.Splits.{slice_split_none, slice_split_at}
 use Rattle.std.proofs.lemmas.List.{length-append}
 use mathlib.Core.Bool.{not}
-use Rattle.chess_notation.specs.Words.{after_spaces, front_word, after_word, word_at, behind, is_empty, is_blank, words_in}
+use Rattle.chess_notation.specs.Words.{after_spaces, front_word, word_at, behind, is_empty_text, is_blank, words_in}
 use Rattle.chess_notation.specs.Records.{HaveNoSpace, IsApart}
 use Rattle.chess_notation.proofs.WordSplits.{not_byte, words_split, word_no_space, blank_is_spaces}
 
@@ -18,7 +17,7 @@ no_spaces [] h = All-nil (λ b. is_space b ≡ false)
 no_spaces (b ∷ bs) h = All-cons (λ x. is_space x ≡ false) b bs (not_byte b 32 h.0) (no_spaces bs h.1)
 
 abbrev is_word : List ℕ → Bool
-is_word word = not (is_empty word)
+is_word word = not (is_empty_text word)
 
 word_kept : (word : List ℕ) (words : List (List ℕ)) → word ≢ [] → filter is_word (word ∷ words) ≡ word ∷ filter is_word words
 word_kept [] words some = absurd (some refl)
@@ -40,12 +39,12 @@ words_front word (b ∷ rest) bytes some apart =
     ap (filter is_word) cut ∙ word_kept word (slice_split is_space rest) some ∙ ap (λ ws. word ∷ ws) (sym behind)
 
 -- A text that is not blank begins with a word.
-solid_word_at : (space : Bool) (b : ℕ) (bs : List ℕ) → (b == 32) ≡ space → is_empty (if space then after_spaces bs else b ∷ bs) ≡ false
-    → (is_empty (after_spaces bs) ≡ false → front_word (after_spaces bs) ≢ []) → front_word (if space then after_spaces bs else b ∷ bs) ≢ []
+solid_word_at : (space : Bool) (b : ℕ) (bs : List ℕ) → (b == 32) ≡ space → is_empty_text (if space then after_spaces bs else b ∷ bs) ≡ false
+    → (is_empty_text (after_spaces bs) ≡ false → front_word (after_spaces bs) ≢ []) → front_word (if space then after_spaces bs else b ∷ bs) ≢ []
 solid_word_at true b bs is solid rest = rest solid
 solid_word_at false b bs is solid rest = λ e. let front : front_word (b ∷ bs) ≡ b ∷ front_word bs = rw is refl in cc
 
-solid_word : (text : List ℕ) → is_empty (after_spaces text) ≡ false → front_word (after_spaces text) ≢ []
+solid_word : (text : List ℕ) → is_empty_text (after_spaces text) ≡ false → front_word (after_spaces text) ≢ []
 solid_word [] solid = cc
 solid_word (b ∷ bs) solid = solid_word_at (b == 32) b bs refl solid (solid_word bs)
 

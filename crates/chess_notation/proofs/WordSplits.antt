@@ -5,7 +5,7 @@ use Rattle.std.proofs.lemmas.Bool.{and_parts, eqb-true}
 use Rattle.std.proofs.lemmas.List.{append-nil}
 use Rattle.std.proofs.lemmas.List.Folds.{list_all-append}
 use Rattle.std.specs.List.{list_all}
-use Rattle.chess_notation.specs.Words.{after_spaces, front_word, after_word, word_at, behind, is_empty, is_blank}
+use Rattle.chess_notation.specs.Words.{after_spaces, front_word, after_word, word_at, behind, is_empty_text, is_blank}
 use Rattle.chess_notation.specs.Records.{HaveNoSpace, IsApart}
 
 pub not_byte : (a b : ℕ) → a ≢ b → (a == b) ≡ false
@@ -73,7 +73,7 @@ blank_is_spaces text h =
     let split = spaces_split text in
     let none : after_spaces text ≡ [] = empty_is (after_spaces text) h in
     (split.0, split.1 ∙ ap (λ t. replicate split.0 32 ++ t) none ∙ append-nil (replicate split.0 32)) where
-      empty_is : (t : List ℕ) → is_empty t ≡ true → t ≡ []
+      empty_is : (t : List ℕ) → is_empty_text t ≡ true → t ≡ []
       empty_is [] h = refl
       empty_is (b ∷ bs) h = cc
 

@@ -1,6 +1,7 @@
 -- The text that answers a record: its four fields, then operations in ASCII order of opcode (PGN Specification, sections 16.2.4
 -- and 16.2.5). Own to this project: that there is no mate is said in `c0`.
 use Rattle.std.specs.Prelude.{ℕ, List, [], ◌∷◌, ◌++◌, codes, map, decimal, Contains, if◌then◌else◌}
+use Rattle.chess_board.specs.Characters.{char}
 use Rattle.chess_board.specs.Positions.{Setup}
 use Rattle.chess_board.specs.Fens.{position_text}
 use Rattle.chess_board.specs.Moves.{Move}
@@ -16,7 +17,7 @@ use Rattle.chess_notation.specs.Records.{RecordValue}
 
 -- an operation: a space, the opcode, its operands with one space before each, a semicolon
 abbrev pub entry_text : Entry → List ℕ
-entry_text entry = (32 ∷ (entry.opcode ++ entry.operands)) ++ 59 ∷ []
+entry_text entry = (char " " ∷ (entry.opcode ++ entry.operands)) ++ char ";" ∷ []
 
 abbrev pub entries_text : List Entry → List ℕ
 entries_text [] = []
@@ -34,7 +35,7 @@ in_order (text ∷ texts) = with_text text (in_order texts)
 -- the texts with one space before each
 abbrev pub operand_words : List (List ℕ) → List ℕ
 operand_words [] = []
-operand_words (text ∷ texts) = 32 ∷ (text ++ operand_words texts)
+operand_words (text ∷ texts) = char " " ∷ (text ++ operand_words texts)
 
 -- the moves of a line, each in SAN of the position where it is played
 abbrev pub line_texts : Setup → List Move → List (List ℕ)

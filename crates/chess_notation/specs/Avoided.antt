@@ -1,16 +1,17 @@
 -- Moves to avoid, which the operands of `am` name (PGN Specification, section 16.2.5): each is the text of a legal move, with the
 -- mark of a check or without it. That the mark may be left out or stand there wrongly is own to this project.
-use Rattle.std.specs.Prelude.{ℕ, ◌-◌, ◌==◌, List, filter, map, length, take, slice_index, codes, Bool, ◌||◌, if◌then◌else◌}
+use Rattle.std.specs.Prelude.{ℕ, ◌-◌, ◌==◌, List, filter, length, take, slice_index, Bool, ◌||◌, if◌then◌else◌}
 use Rattle.std.specs.List.{list_any}
+use Rattle.chess_board.specs.Characters.{char}
 use Rattle.chess_board.specs.Positions.{Setup}
 use Rattle.chess_board.specs.Moves.{Move}
 use Rattle.chess_moves.specs.Listing.{legal_moves}
 use Rattle.chess_notation.specs.Opcodes.{same_text}
 use Rattle.chess_notation.specs.San.{bare_text}
 
--- `+` or `#`
+-- the mark of a check or of mate
 abbrev pub is_check_mark : ℕ → Bool
-is_check_mark b = (b == 43) || (b == 35)
+is_check_mark b = (b == char "+") || (b == char "#")
 
 -- a word without one mark at its end
 unfoldable pub without_mark : List ℕ → List ℕ

@@ -9,7 +9,7 @@ use Rattle.chess_board.specs.Fens.{SpellsSetup, IsAmiss}
 use Rattle.chess_notation.specs.declared.faults.EpdFault.{EpdFault}
 use Rattle.chess_notation.specs.declared.faults.EpdFault.TheVariants.{TooLong, NotPrintable, Fen, BadOpcode, BadString, MissingSemicolon, DoubleOpcode, BadBound, BoundTooLarge, BadAvoid, NoMemory}
 use Rattle.chess_notation.specs.Words.{word_at, behind, is_blank, words_in}
-use Rattle.chess_notation.specs.Pieces.{Pieces}
+use Rattle.chess_notation.specs.Segments.{Segments}
 use Rattle.chess_notation.specs.Strings.{strings_fit}
 use Rattle.chess_notation.specs.Operations.{is_printable, is_opcode}
 use Rattle.chess_notation.specs.Opcodes.{same_text}
@@ -31,57 +31,57 @@ epd_fault_name BadAvoid = codes "BadAvoid"
 epd_fault_name NoMemory = codes "NoMemory"
 
 -- the order in which they are answered
-abbrev pub number_of : EpdFault → ℕ
-number_of TooLong = 1
-number_of NotPrintable = 2
-number_of (Fen fault) = 3
-number_of BadOpcode = 4
-number_of BadString = 5
-number_of MissingSemicolon = 6
-number_of DoubleOpcode = 7
-number_of BadBound = 8
-number_of BoundTooLarge = 9
-number_of BadAvoid = 10
-number_of NoMemory = 11
+abbrev pub fault_number : EpdFault → ℕ
+fault_number TooLong = 1
+fault_number NotPrintable = 2
+fault_number (Fen fault) = 3
+fault_number BadOpcode = 4
+fault_number BadString = 5
+fault_number MissingSemicolon = 6
+fault_number DoubleOpcode = 7
+fault_number BadBound = 8
+fault_number BoundTooLarge = 9
+fault_number BadAvoid = 10
+fault_number NoMemory = 11
 
--- each piece, and the rest unless it is blank
-abbrev pub each_piece : (List ℕ → Bool) → Pieces → Bool
-each_piece test cut = list_all test cut.ended && (is_blank cut.rest || test cut.rest)
+-- each segment, and the rest unless it is blank
+abbrev pub each_segment : (List ℕ → Bool) → Segments → Bool
+each_segment test cut = list_all test cut.ended && (is_blank cut.rest || test cut.rest)
 
 abbrev pub has_opcode : List ℕ → Bool
-has_opcode piece = is_opcode (word_at piece)
+has_opcode segment = is_opcode (word_at segment)
 
--- The piece has another opcode.
+-- The segment has another opcode.
 abbrev pub differs_from : List ℕ → List ℕ → Bool
-differs_from opcode piece = not (same_text opcode (word_at piece))
+differs_from opcode segment = not (same_text opcode (word_at segment))
 
--- No two pieces have one opcode.
+-- No two segments have one opcode.
 abbrev pub are_distinct : List (List ℕ) → Bool
 are_distinct [] = true
-are_distinct (piece ∷ pieces) = list_all (differs_from (word_at piece)) pieces && are_distinct pieces
+are_distinct (segment ∷ segments) = list_all (differs_from (word_at segment)) segments && are_distinct segments
 
-abbrev pub is_bound_piece : List ℕ → Bool
-is_bound_piece piece = same_text (codes "dm") (word_at piece)
+abbrev pub is_bound_segment : List ℕ → Bool
+is_bound_segment segment = same_text (codes "dm") (word_at segment)
 
 -- Behind the opcode stand digits that are not all zeros, and nothing else.
 abbrev pub has_number : List ℕ → Bool
-has_number piece = is_number (word_at (behind piece)) && is_blank (behind (behind piece)) && nat_lt 0 (digits_value (word_at (behind piece)))
+has_number segment = is_number (word_at (behind segment)) && is_blank (behind (behind segment)) && nat_lt 0 (digits_value (word_at (behind segment)))
 
 abbrev pub has_number_if_bound : List ℕ → Bool
-has_number_if_bound piece = not (is_bound_piece piece) || has_number piece
+has_number_if_bound segment = not (is_bound_segment segment) || has_number segment
 
 abbrev pub is_small_if_bound : List ℕ → Bool
-is_small_if_bound piece = not (is_bound_piece piece) || nat_le (digits_value (word_at (behind piece))) 15
+is_small_if_bound segment = not (is_bound_segment segment) || nat_le (digits_value (word_at (behind segment))) 15
 
-abbrev pub is_avoid_piece : List ℕ → Bool
-is_avoid_piece piece = same_text (codes "am") (word_at piece)
+abbrev pub is_avoid_segment : List ℕ → Bool
+is_avoid_segment segment = same_text (codes "am") (word_at segment)
 
 -- Words, at least one, each of which names a legal move.
 abbrev pub are_names : Setup → List ℕ → Bool
 are_names p text = not (is_blank text) && list_all (is_name p) (words_in text)
 
 abbrev pub has_names_if_avoid : Setup → List ℕ → Bool
-has_names_if_avoid p piece = not (is_avoid_piece piece) || are_names p (behind piece)
+has_names_if_avoid p segment = not (is_avoid_segment segment) || are_names p (behind segment)
 
 -- What is wrong with a line, fault by fault. Of the fields it is their first fault. Moves to avoid are asked about in the position
 -- that the fields spell. Want of memory is no fault of a line.
@@ -90,8 +90,8 @@ IsAmissBy line TooLong = 1023 < length line
 IsAmissBy line NotPrintable = list_all is_printable line ≡ false
 IsAmissBy line (Fen FieldCount) = fourth_word line ≡ []
 IsAmissBy line (Fen fault) = (fourth_word line ≢ []) × IsFirst (IsAmiss (line_fields line)) field_faults fault
-IsAmissBy line BadOpcode = each_piece has_opcode (cut_of line) ≡ false
-IsAmissBy line BadString = each_piece strings_fit (cut_of line) ≡ false
+IsAmissBy line BadOpcode = each_segment has_opcode (cut_of line) ≡ false
+IsAmissBy line BadString = each_segment strings_fit (cut_of line) ≡ false
 IsAmissBy line MissingSemicolon = is_blank (cut_of line).rest ≡ false
 IsAmissBy line DoubleOpcode = are_distinct (cut_of line).ended ≡ false
 IsAmissBy line BadBound = list_all has_number_if_bound (cut_of line).ended ≡ false
@@ -102,7 +102,7 @@ IsAmissBy line NoMemory = ⊥
 -- The fault of a line is the first that applies, over the whole line.
 pub record IsFaultOf (line : List ℕ) (fault : EpdFault) : Type 0 where
   pub applies : IsAmissBy line fault
-  pub first : (earlier : EpdFault) → number_of earlier < number_of fault → ¬ (IsAmissBy line earlier)
+  pub first : (earlier : EpdFault) → fault_number earlier < fault_number fault → ¬ (IsAmissBy line earlier)
 
 unfoldable pub HasNoFault : List ℕ → Type 0
 HasNoFault line = (fault : EpdFault) → ¬ (IsAmissBy line fault)

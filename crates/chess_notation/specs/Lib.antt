@@ -7,7 +7,7 @@ pub mod Opcodes
 pub mod Avoided
 pub mod Records
 pub mod Words
-pub mod Pieces
+pub mod Segments
 pub mod Strings
 pub mod Lines
 pub mod EpdFaults

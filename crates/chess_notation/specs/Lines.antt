@@ -1,16 +1,16 @@
--- The parts of a line, taken apart: the four fields, the text of the operations, its pieces, and what a piece shows.
+-- The parts of a line, taken apart: the four fields, the text of the operations, its segments, and what a segment shows.
 use Rattle.std.specs.Prelude.{ℕ, ◌&&◌, nat_le, List, length, Bool, not, if◌then◌else◌}
 use Rattle.std.specs.List.{list_all}
 use Rattle.chess_board.specs.Fens.{Fields}
-use Rattle.chess_notation.specs.Words.{word_at, behind, is_empty}
-use Rattle.chess_notation.specs.Pieces.{Pieces, pieces_of}
+use Rattle.chess_notation.specs.Words.{word_at, behind, is_empty_text}
+use Rattle.chess_notation.specs.Segments.{Segments, segments_of}
 use Rattle.chess_notation.specs.Operations.{Entry, is_digit}
 use Rattle.chess_notation.specs.Strings.{squeezed_from}
 use Rattle.chess_notation.specs.declared.strings.Mode.TheVariants.{Plain}
 
 -- digits, one at least
 abbrev pub is_number : List ℕ → Bool
-is_number word = not (is_empty word) && list_all is_digit word
+is_number word = not (is_empty_text word) && list_all is_digit word
 
 -- one to four digits
 abbrev pub is_counter : List ℕ → Bool
@@ -35,9 +35,9 @@ unfoldable pub operations_in : List ℕ → List ℕ
 operations_in line = behind_counters (behind_fields line)
 
 -- the operations of a line, cut at their semicolons
-unfoldable pub cut_of : List ℕ → Pieces
-cut_of line = pieces_of (operations_in line)
+unfoldable pub cut_of : List ℕ → Segments
+cut_of line = segments_of (operations_in line)
 
--- the entry that a piece shows
+-- the entry that a segment shows
 abbrev pub entry_in : List ℕ → Entry
-entry_in piece = record { opcode = word_at piece; operands = squeezed_from Plain (behind piece) }
+entry_in segment = record { opcode = word_at segment; operands = squeezed_from Plain (behind segment) }

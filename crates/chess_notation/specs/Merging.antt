@@ -1,5 +1,5 @@
--- Entries put at their places one after the other, the last of them first. A step of the proofs: what to believe of an answer's
--- text stands in Answers.antt.
+-- Not for believing: entries put at their places one after the other, the last of them first, a step of the proofs. What an
+-- answer's text is stands in Answers.antt.
 use Rattle.std.specs.Prelude.{List, [], ◌∷◌}
 use Rattle.chess_notation.specs.Operations.{Entry}
 use Rattle.chess_notation.specs.Opcodes.{with_entry}

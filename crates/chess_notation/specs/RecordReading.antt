@@ -1,5 +1,5 @@
--- The record of a line without a fault, made from its pieces one after the other. A step of the proofs: what to believe of
--- records stands in Records.antt.
+-- Not for believing: the record of a line without a fault, made from its segments one after the other, a step of the proofs. What
+-- a record is stands in Records.antt.
 use Rattle.std.specs.Prelude.{ℕ, ◌≤◌, List, [], ◌∷◌, Option, Some, None, if◌then◌else◌}
 use Rattle.std.specs.Option.{option_map_or}
 use Rattle.chess_board.specs.Positions.{Setup}
@@ -10,17 +10,17 @@ use Rattle.chess_notation.specs.Operations.{Entry}
 use Rattle.chess_notation.specs.Opcodes.{is_own, with_entry}
 use Rattle.chess_notation.specs.Lines.{entry_in}
 use Rattle.chess_notation.specs.Avoided.{named}
-use Rattle.chess_notation.specs.EpdFaults.{is_bound_piece, is_avoid_piece, number_of, IsAmissBy}
+use Rattle.chess_notation.specs.EpdFaults.{is_bound_segment, is_avoid_segment, fault_number, IsAmissBy}
 use Rattle.chess_notation.specs.declared.faults.EpdFault.{EpdFault}
 
 -- None of the faults up to this number applies.
 unfoldable pub IsClearTo : ℕ → List ℕ → Type 0
-IsClearTo n line = (fault : EpdFault) → number_of fault ≤ n → ¬ (IsAmissBy line fault)
+IsClearTo n line = (fault : EpdFault) → fault_number fault ≤ n → ¬ (IsAmissBy line fault)
 
--- the entries of the pieces, but for those that an answer writes itself
+-- the entries of the segments, but for those that an answer writes itself
 abbrev pub kept : List (List ℕ) → List Entry
 kept [] = []
-kept (piece ∷ pieces) = if is_own (word_at piece) then kept pieces else entry_in piece ∷ kept pieces
+kept (segment ∷ segments) = if is_own (word_at segment) then kept segments else entry_in segment ∷ kept segments
 
 -- the entries put at their places one after the other
 abbrev pub inserted : List Entry → List Entry → List Entry
@@ -28,18 +28,18 @@ inserted done [] = done
 inserted done (entry ∷ entries) = inserted (with_entry entry done) entries
 
 unfoldable pub rest_of : List (List ℕ) → List Entry
-rest_of pieces = inserted [] (kept pieces)
+rest_of segments = inserted [] (kept segments)
 
 -- the value of `dm`, or the default
-unfoldable pub bound_in : List (List ℕ) → ℕ → ℕ
-bound_in [] default = default
-bound_in (piece ∷ pieces) default = if is_bound_piece piece then digits_value (word_at (behind piece)) else bound_in pieces default
+unfoldable pub bound_said : List (List ℕ) → ℕ → ℕ
+bound_said [] default = default
+bound_said (segment ∷ segments) default = if is_bound_segment segment then digits_value (word_at (behind segment)) else bound_said segments default
 
 -- what stands behind `am`, if it is there
 unfoldable pub avoid_text_in : List (List ℕ) → Option (List ℕ)
 avoid_text_in [] = None
-avoid_text_in (piece ∷ pieces) = if is_avoid_piece piece then Some (behind piece) else avoid_text_in pieces
+avoid_text_in (segment ∷ segments) = if is_avoid_segment segment then Some (behind segment) else avoid_text_in segments
 
 -- the moves that it names, or none
 unfoldable pub avoid_in : Setup → List (List ℕ) → List Move
-avoid_in p pieces = option_map_or (λ text. named p (words_in text)) (avoid_text_in pieces) []
+avoid_in p segments = option_map_or (λ text. named p (words_in text)) (avoid_text_in segments) []

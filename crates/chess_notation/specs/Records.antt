@@ -3,6 +3,7 @@
 -- no opcode stands twice, the bound is that of `dm`, from 1 to 15, and each operand of `am` names a legal move.
 use Rattle.std.specs.Prelude.{◌≡◌, ◌≢◌, ◌⊎◌, ◌↔◌, ℕ, ◌≤◌, true, false, List, [], ◌∷◌, ◌++◌, length, map, replicate, codes, Contains}
 use Rattle.std.specs.List.{list_all}
+use Rattle.chess_board.specs.Characters.{char}
 use Rattle.chess_board.specs.Positions.{Setup}
 use Rattle.chess_board.specs.Soundness.{IsSound}
 use Rattle.chess_board.specs.Fields.{IsCounter, digits_value}
@@ -28,7 +29,7 @@ problem_of r = record { position = r.position; bound = r.bound; avoid = r.avoid 
 -- bytes other than space
 abbrev pub HaveNoSpace : List ℕ → Type 0
 HaveNoSpace [] = Unit {0}
-HaveNoSpace (b ∷ bs) = (b ≢ 32) × HaveNoSpace bs
+HaveNoSpace (b ∷ bs) = (b ≢ char " ") × HaveNoSpace bs
 
 abbrev pub IsWord : List ℕ → Type 0
 IsWord word = (word ≢ []) × HaveNoSpace word
@@ -36,16 +37,16 @@ IsWord word = (word ≢ []) × HaveNoSpace word
 -- empty, or from a space on: what follows a word
 abbrev pub IsApart : List ℕ → Type 0
 IsApart [] = Unit {0}
-IsApart (b ∷ bs) = b ≡ 32
+IsApart (b ∷ bs) = b ≡ char " "
 
 -- Words, each after spaces or none, and what follows the last.
 abbrev pub SpellsWords : (List ℕ → Type 0) → List ℕ → List (List ℕ) → List ℕ → Type 0
 SpellsWords IsOne text [] tail = text ≡ tail
-SpellsWords IsOne text (word ∷ words) tail = (n : ℕ) × (rest : List ℕ) × (text ≡ replicate n 32 ++ (word ++ rest)) × IsOne word × IsApart rest
+SpellsWords IsOne text (word ∷ words) tail = (n : ℕ) × (rest : List ℕ) × (text ≡ replicate n (char " ") ++ (word ++ rest)) × IsOne word × IsApart rest
     × SpellsWords IsOne rest words tail
 
-abbrev pub words_of : Fields → List (List ℕ)
-words_of f = f.placement ∷ f.side ∷ f.castling ∷ f.target ∷ []
+abbrev pub field_words : Fields → List (List ℕ)
+field_words f = f.placement ∷ f.side ∷ f.castling ∷ f.target ∷ []
 
 -- Operations stand behind the fields, or behind FEN's two counters.
 abbrev pub SpellsRest : List ℕ → List Operation → Type 0
@@ -98,7 +99,7 @@ pub record Reads (line : List ℕ) (default : ℕ) (r : RecordValue) : Type 0 wh
   pub fields : Fields
   pub tail : List ℕ
   pub operations : List Operation
-  pub words : SpellsWords IsWord line (words_of fields) tail
+  pub words : SpellsWords IsWord line (field_words fields) tail
   pub position : SpellsSetup fields r.position
   pub sound : IsSound r.position
   pub spelt : SpellsRest tail operations

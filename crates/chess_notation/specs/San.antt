@@ -1,6 +1,7 @@
 -- How a move is written: Standard Algebraic Notation (PGN Specification, section 8.2.3; FIDE Laws of Chess, appendix C).
 use Rattle.std.specs.Prelude.{ℕ, ◌+◌, List, [], ◌∷◌, ◌++◌, codes, Option, Some, None, Bool, true, false, ◌&&◌, ◌||◌, not, ◌==◌, if◌then◌else◌}
 use Rattle.std.specs.List.{list_any}
+use Rattle.chess_board.specs.Characters.{char}
 use Rattle.chess_board.specs.declared.men.Kind.{Kind}
 use Rattle.chess_board.specs.declared.men.Man.{Man}
 use Rattle.chess_board.specs.declared.men.Wing.{Wing}
@@ -29,17 +30,17 @@ is_rival p man m n = (n.target == m.target) && not (n.origin == m.origin) && is_
 unfoldable pub some_rival : Setup → Man → Move → (Move → Bool) → Bool
 some_rival p man m passes = list_any (λ n. is_rival p man m n && passes n) (legal_moves p)
 
-abbrev pub file_text : ℕ → List ℕ
-file_text square = (97 + file_of square) ∷ []
+abbrev pub file_letter : ℕ → List ℕ
+file_letter square = (char "a" + file_of square) ∷ []
 
-abbrev pub rank_text : ℕ → List ℕ
-rank_text square = (49 + rank_of square) ∷ []
+abbrev pub rank_digit : ℕ → List ℕ
+rank_digit square = (char "1" + rank_of square) ∷ []
 
 -- the origin's file, or its rank where a rival stands on that file, or both where others stand on the file and on the rank
 -- (section 8.2.3.4)
 abbrev pub origin_text : Bool → Bool → ℕ → List ℕ
 origin_text on_file on_rank square =
-    if not on_file then file_text square else (if not on_rank then rank_text square else square_text square)
+    if not on_file then file_letter square else (if not on_rank then rank_digit square else square_text square)
 
 -- what tells the man from its rivals: nothing where it has none
 abbrev pub hint_text : Setup → Man → Move → List ℕ
@@ -54,12 +55,12 @@ is_capture p man m = not (is_empty p.men m.target) || is_in_passing p man m
 
 -- A pawn has no letter. Its capture begins with the file that it leaves.
 abbrev pub pawn_origin_text : Setup → Man → Move → List ℕ
-pawn_origin_text p man m = if is_capture p man m then file_text m.origin ++ codes "x" else []
+pawn_origin_text p man m = if is_capture p man m then file_letter m.origin ++ codes "x" else []
 
 -- what the pawn becomes, by its capital letter (section 8.2.3.3)
 abbrev pub becomes_text : Option Kind → List ℕ
 becomes_text None = []
-becomes_text (Some kind) = 61 ∷ kind_letter kind ∷ []
+becomes_text (Some kind) = char "=" ∷ kind_letter kind ∷ []
 
 abbrev pub pawn_text : Setup → Man → Move → List ℕ
 pawn_text p man m = pawn_origin_text p man m ++ square_text m.target ++ becomes_text m.promotion
@@ -70,15 +71,15 @@ piece_text p man m =
     kind_letter man.kind ∷ (hint_text p man m ++ (if is_capture p man m then codes "x" else []) ++ square_text m.target)
 
 -- Castling is written with the letter O (section 8.2.3.3).
-abbrev pub castling_text : Wing → List ℕ
-castling_text KingSide = codes "O-O"
-castling_text QueenSide = codes "O-O-O"
+abbrev pub wing_text : Wing → List ℕ
+wing_text KingSide = codes "O-O"
+wing_text QueenSide = codes "O-O-O"
 
 abbrev pub man_text : Setup → Option Man → Move → List ℕ
 man_text p None m = []
 man_text p (Some man) m =
     if is_pawn_kind man.kind then pawn_text p man m
-    else (if is_castling man m then castling_text (wing_of m.origin m.target) else piece_text p man m)
+    else (if is_castling man m then wing_text (wing_of m.origin m.target) else piece_text p man m)
 
 -- The move's text without the mark of a check.
 unfoldable pub bare_text : Setup → Move → List ℕ

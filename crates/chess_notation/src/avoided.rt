@@ -8,7 +8,7 @@ ghost use Rattle.chess_notation.specs.Words.{words_in, is_blank as is_blank_text
 ghost use Rattle.chess_notation.specs.Opcodes.{same_text};
 ghost use Rattle.chess_notation.specs.Avoided.{is_check_mark as is_mark_of_check, without_mark as text_without_mark, named};
 ghost use Rattle.chess_notation.specs.EpdFaults.{are_names as do_words_name, are_distinct, has_names_if_avoid};
-ghost use Rattle.chess_notation.specs.Pieces.{pieces_of};
+ghost use Rattle.chess_notation.specs.Segments.{segments_of};
 ghost use Rattle.chess_notation.specs.RecordReading.{avoid_in};
 
 use crate::asked::avoid_text;
@@ -144,10 +144,10 @@ pub(crate) fn named_moves(rays: &Rays, position: &Position, words: &[u8]) -> Opt
 /// The moves to avoid by the text of the operations; none where a word behind `am` names no legal move, or none stands there.
 #[tactic(auto, unfolding(crate::specs::RecordReading::avoid_in))]
 pub(crate) fn avoided_moves(rays: &Rays, position: &Position, text: &[u8]) -> Option<MoveList>
-    requires { are_distinct (pieces_of text.now).ended ≡ true }
-    ensures names { IfSome result (λ moves. list_all (has_names_if_avoid position.now) (pieces_of text.now).ended ≡ true) }
-    ensures moves { IfSome result (λ moves. moves.items ≡ avoid_in position.now (pieces_of text.now).ended) }
-    ensures refused { IfNone result (list_all (has_names_if_avoid position.now) (pieces_of text.now).ended ≡ false) }
+    requires { are_distinct (segments_of text.now).ended ≡ true }
+    ensures names { IfSome result (λ moves. list_all (has_names_if_avoid position.now) (segments_of text.now).ended ≡ true) }
+    ensures moves { IfSome result (λ moves. moves.items ≡ avoid_in position.now (segments_of text.now).ended) }
+    ensures refused { IfNone result (list_all (has_names_if_avoid position.now) (segments_of text.now).ended ≡ false) }
 {
     match avoid_text(text) {
         Some(words) => named_moves(rays, position, words),

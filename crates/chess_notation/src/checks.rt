@@ -6,35 +6,35 @@ ghost use Rattle.chess_board.specs.declared.faults.FenFault.{FenFault as FenFaul
 ghost use Rattle.chess_board.specs.Soundness.{IsSound};
 ghost use Rattle.chess_board.specs.Fens.{SpellsSetup};
 ghost use Rattle.chess_notation.specs.declared.faults.EpdFault.{EpdFault as EpdFaultValue};
-ghost use Rattle.chess_notation.specs.Pieces.{pieces_of};
+ghost use Rattle.chess_notation.specs.Segments.{segments_of};
 ghost use Rattle.chess_notation.specs.Strings.{strings_fit as do_strings_fit};
 ghost use Rattle.chess_notation.specs.Words.{word_at as word_of_text};
 ghost use Rattle.chess_notation.specs.Lines.{line_fields};
-ghost use Rattle.chess_notation.specs.EpdFaults.{each_piece, has_opcode as does_have_opcode, differs_from, are_distinct, number_of, IsAmissBy, IsFaultOf};
+ghost use Rattle.chess_notation.specs.EpdFaults.{each_segment, has_opcode as does_have_opcode, differs_from, are_distinct, fault_number, IsAmissBy, IsFaultOf};
 ghost use Rattle.chess_notation.specs.RecordReading.{IsClearTo};
 
 use crate::asked::{have_numbers, have_small_numbers};
 use crate::faults::EpdFault;
 use crate::lines::{are_printable, operations_in, parts_of};
 use crate::opcodes::{is_opcode, is_same_text};
-use crate::pieces::{first_piece, last_rest};
+use crate::segments::{first_segment, last_rest};
 use crate::strings::strings_fit;
 use crate::words::{is_blank, word_at};
 use chess_board::{FenFault, Position, read_fields, spells_one};
 
-fn has_opcode(piece: &[u8]) -> bool
-    ensures { result ≡ does_have_opcode piece.now }
+fn has_opcode(segment: &[u8]) -> bool
+    ensures { result ≡ does_have_opcode segment.now }
 {
-    is_opcode(word_at(piece).0)
+    is_opcode(word_at(segment).0)
 }
 
-/// Whether each piece has an opcode.
+/// Whether each segment has an opcode.
 fn have_opcodes(text: &[u8]) -> bool
-    ensures { result ≡ each_piece does_have_opcode (pieces_of text.now) }
+    ensures { result ≡ each_segment does_have_opcode (segments_of text.now) }
 {
     let mut rest = text;
-    while let Some((piece, back)) = first_piece(rest) {
-        if !has_opcode(piece) {
+    while let Some((segment, back)) = first_segment(rest) {
+        if !has_opcode(segment) {
             return false;
         }
         rest = back;
@@ -42,13 +42,13 @@ fn have_opcodes(text: &[u8]) -> bool
     is_blank(rest) || has_opcode(rest)
 }
 
-/// Whether the strings of each piece stand as they have to.
+/// Whether the strings of each segment stand as they have to.
 fn have_fit_strings(text: &[u8]) -> bool
-    ensures { result ≡ each_piece do_strings_fit (pieces_of text.now) }
+    ensures { result ≡ each_segment do_strings_fit (segments_of text.now) }
 {
     let mut rest = text;
-    while let Some((piece, back)) = first_piece(rest) {
-        if !strings_fit(piece) {
+    while let Some((segment, back)) = first_segment(rest) {
+        if !strings_fit(segment) {
             return false;
         }
         rest = back;
@@ -56,13 +56,13 @@ fn have_fit_strings(text: &[u8]) -> bool
     is_blank(rest) || strings_fit(rest)
 }
 
-/// Whether no ended piece has the opcode.
+/// Whether no ended segment has the opcode.
 fn differ_from(opcode: &[u8], text: &[u8]) -> bool
-    ensures { result ≡ list_all (differs_from opcode.now) (pieces_of text.now).ended }
+    ensures { result ≡ list_all (differs_from opcode.now) (segments_of text.now).ended }
 {
     let mut rest = text;
-    while let Some((piece, back)) = first_piece(rest) {
-        if is_same_text(opcode, word_at(piece).0) {
+    while let Some((segment, back)) = first_segment(rest) {
+        if is_same_text(opcode, word_at(segment).0) {
             return false;
         }
         rest = back;
@@ -70,13 +70,13 @@ fn differ_from(opcode: &[u8], text: &[u8]) -> bool
     true
 }
 
-/// Whether no two ended pieces have one opcode.
+/// Whether no two ended segments have one opcode.
 fn have_distinct_opcodes(text: &[u8]) -> bool
-    ensures { result ≡ are_distinct (pieces_of text.now).ended }
+    ensures { result ≡ are_distinct (segments_of text.now).ended }
 {
     let mut rest = text;
-    while let Some((piece, back)) = first_piece(rest) {
-        if !differ_from(word_at(piece).0, back) {
+    while let Some((segment, back)) = first_segment(rest) {
+        if !differ_from(word_at(segment).0, back) {
             return false;
         }
         rest = back;
@@ -87,9 +87,9 @@ fn have_distinct_opcodes(text: &[u8]) -> bool
 /// Whether the operations of a line have a fault, one of those behind `Fen` and before `BadAvoid`.
 #[tactic(auto, unfolding(crate::specs::Lines::cut_of))]
 fn applies(fault: EpdFault, line: &[u8]) -> bool
-    requires { number_of fault ≤ 9 }
-    ensures applies { 3 < number_of fault → result ≡ true → IsAmissBy line.now fault }
-    ensures clear { 3 < number_of fault → result ≡ false → ¬ (IsAmissBy line.now fault) }
+    requires { fault_number fault ≤ 9 }
+    ensures applies { 3 < fault_number fault → result ≡ true → IsAmissBy line.now fault }
+    ensures clear { 3 < fault_number fault → result ≡ false → ¬ (IsAmissBy line.now fault) }
 {
     let text = operations_in(line);
     match fault {
@@ -105,11 +105,11 @@ fn applies(fault: EpdFault, line: &[u8]) -> bool
 
 /// The first fault of the operations of a line, but for `BadAvoid`.
 fn operations_fault(line: &[u8]) -> Option<EpdFault>
-    ensures later { IfSome result (λ fault. 3 < number_of fault) }
+    ensures later { IfSome result (λ fault. 3 < fault_number fault) }
     ensures applies { IfSome result (λ fault. IsAmissBy line.now fault) }
-    ensures first { IfSome result (λ fault. (earlier : EpdFaultValue) → 3 < number_of earlier → number_of earlier < number_of fault
+    ensures first { IfSome result (λ fault. (earlier : EpdFaultValue) → 3 < fault_number earlier → fault_number earlier < fault_number fault
         → ¬ (IsAmissBy line.now earlier)) }
-    ensures none { IfNone result ((fault : EpdFaultValue) → 3 < number_of fault → number_of fault ≤ 9 → ¬ (IsAmissBy line.now fault)) }
+    ensures none { IfNone result ((fault : EpdFaultValue) → 3 < fault_number fault → fault_number fault ≤ 9 → ¬ (IsAmissBy line.now fault)) }
 {
     let faults = [
         EpdFault::BadOpcode,
@@ -132,7 +132,7 @@ fn operations_fault(line: &[u8]) -> Option<EpdFault>
 fn position_of(line: &[u8]) -> Result<Position, EpdFault>
     ensures read { IfOk result (λ p. SpellsSetup (line_fields line.now) p × IsSound p) }
     ensures clear { OnOk result ((fault : FenFaultValue) → ¬ (IsAmissBy line.now (EpdFaultValue.Fen fault))) }
-    ensures refused { IfErr result (λ fault. (number_of fault ≡ 3) × IsAmissBy line.now fault) }
+    ensures refused { IfErr result (λ fault. (fault_number fault ≡ 3) × IsAmissBy line.now fault) }
 {
     // That the fields spell no other position is the clause of `spells_one`.
     spells_one();

@@ -20,7 +20,7 @@ pub enum EpdFault {
     /// There are fewer than four fields (`FieldCount`), or they have this fault.
     #[error("Fen {0}")]
     Fen(FenFault),
-    /// A piece between semicolons does not begin with an opcode.
+    /// A segment between semicolons does not begin with an opcode.
     #[error("BadOpcode")]
     BadOpcode,
     /// A string is not closed, has more than 255 bytes, or does not stand apart.

@@ -3,7 +3,7 @@
 //! Which moves are legal is `chess_moves`'s business, and solving is none of this crate's. To read: `specs/San.antt` and
 //! `move_texts`, over `hints` (what tells a man from others such) and `marks`; `problems` and `bounds`; then
 //! `specs/Records.antt`, `records` and `reading`, over `checks` (the faults of a line, in their order), `words`, `lines`,
-//! `pieces`, `strings`, `opcodes`, `asked` (what `dm` and `am` ask), `avoided` and `operations`; at last `specs/Answers.antt` and `answers`, over
+//! `segments`, `strings`, `opcodes`, `asked` (what `dm` and `am` ask), `avoided` and `operations`; at last `specs/Answers.antt` and `answers`, over
 //! `ordered`. `san_laws` and `record_laws` say what holds of them. Only `read_record` and `answer_text` take memory.
 #![tactic(auto)]
 
@@ -21,12 +21,12 @@ mod no_memory;
 mod opcodes;
 mod operations;
 mod ordered;
-mod pieces;
 mod problems;
 mod reading;
 mod record_laws;
 mod records;
 mod san_laws;
+mod segments;
 mod strings;
 mod words;
 

@@ -4,7 +4,7 @@ ghost use Rattle.std.specs.Prelude.{◌≡◌, ◌+◌, ◌++◌, ◌∷◌, [],
 ghost use Rattle.arrayvec.specs.ArrayString.{array_string_len};
 ghost use Rattle.chess_board.specs.Placement.{kind_letter};
 ghost use Rattle.chess_board.specs.Fields.{square_text};
-ghost use Rattle.chess_notation.specs.San.{file_text, rank_text, becomes_text};
+ghost use Rattle.chess_notation.specs.San.{file_letter, rank_digit, becomes_text};
 
 use arrayvec::ArrayString;
 use chess_board::{Kind, Square};
@@ -12,7 +12,7 @@ use chess_board::{Kind, Square};
 /// Writes the letter of a square's file.
 pub(crate) fn push_file(text: &mut ArrayString<8>, square: Square)
     requires { array_string_len text.old < 8 }
-    ensures text { text.new.bytes ≡ text.old.bytes ++ file_text square }
+    ensures text { text.new.bytes ≡ text.old.bytes ++ file_letter square }
     ensures short { array_string_len text.new ≤ array_string_len text.old + 1 }
 {
     text.push((b'a' + square.file()) as char);
@@ -21,7 +21,7 @@ pub(crate) fn push_file(text: &mut ArrayString<8>, square: Square)
 /// Writes the digit of a square's rank.
 pub(crate) fn push_rank(text: &mut ArrayString<8>, square: Square)
     requires { array_string_len text.old < 8 }
-    ensures text { text.new.bytes ≡ text.old.bytes ++ rank_text square }
+    ensures text { text.new.bytes ≡ text.old.bytes ++ rank_digit square }
     ensures short { array_string_len text.new ≤ array_string_len text.old + 1 }
 {
     text.push((b'1' + square.rank()) as char);

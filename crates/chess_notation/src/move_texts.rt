@@ -5,7 +5,7 @@ ghost use Rattle.arrayvec.specs.ArrayString.{array_string_len};
 ghost use Rattle.chess_board.specs.After.{is_in_passing as is_in_passing_in, is_castling as is_castling_in, wing_of as wing_from};
 ghost use Rattle.chess_board.specs.Candidates.{is_square as is_square_in};
 ghost use Rattle.chess_board.specs.Legality.{is_legal};
-ghost use Rattle.chess_notation.specs.San.{is_capture as is_capture_in, pawn_text, piece_text, castling_text, bare_text, check_text, san_text};
+ghost use Rattle.chess_notation.specs.San.{is_capture as is_capture_in, pawn_text, piece_text, wing_text, bare_text, check_text, san_text};
 
 use crate::hints::{push_hint, rivals_among};
 use crate::marks::{push_file, push_letter, push_promotion, push_square};
@@ -72,7 +72,7 @@ fn push_pawn(text: &mut ArrayString<8>, position: &Position, man: Man, m: Move)
 /// Writes castling on a wing.
 fn push_castling(text: &mut ArrayString<8>, wing: Wing)
     requires { array_string_len text.old + 5 ≤ 8 }
-    ensures text { text.new.bytes ≡ text.old.bytes ++ castling_text wing }
+    ensures text { text.new.bytes ≡ text.old.bytes ++ wing_text wing }
     ensures short { array_string_len text.new ≤ array_string_len text.old + 5 }
 {
     match wing {

@@ -3,7 +3,7 @@
 ghost use Rattle.std.specs.Prelude.{◌≡◌, ℕ, ◌<◌, ◌≤◌, ◌++◌, ◌∷◌, List, [], IfOk, OnOk, string_bytes, length, IsTrue, true, if◌then◌else◌};
 ghost use Rattle.std.specs.List.{list_all, insert};
 ghost use Rattle.chess_notation.specs.Words.{word_at as word_of_text};
-ghost use Rattle.chess_notation.specs.Pieces.{pieces_of};
+ghost use Rattle.chess_notation.specs.Segments.{segments_of};
 ghost use Rattle.chess_notation.specs.Strings.{squeezed_from};
 ghost use Rattle.chess_notation.specs.Operations.{Entry, is_opcode, is_printable};
 ghost use Rattle.chess_notation.specs.Opcodes.{is_own as is_own_opcode, with_entry};
@@ -12,8 +12,8 @@ ghost use Rattle.chess_notation.specs.EpdFaults.{has_opcode};
 ghost use Rattle.chess_notation.specs.RecordReading.{rest_of};
 
 use crate::opcodes::{comes_before, is_own};
-use crate::pieces::first_piece;
 use crate::records::Operation;
+use crate::segments::first_segment;
 use crate::strings::Mode;
 use crate::words::word_at;
 use arrayvec::ArrayString;
@@ -102,13 +102,13 @@ fn operands_behind(alloc: Global, text: &[u8]) -> Result<String, AllocError>
     Ok(operands)
 }
 
-/// The operation that a piece shows.
-fn operation_of(alloc: Global, piece: &[u8]) -> Result<Operation, AllocError>
-    requires opcode { is_opcode (word_of_text piece.now) ≡ true }
-    requires printable { list_all is_printable piece.now ≡ true }
-    ensures { IfOk result (λ operation. operation ≡ entry_in piece.now) }
+/// The operation that a segment shows.
+fn operation_of(alloc: Global, segment: &[u8]) -> Result<Operation, AllocError>
+    requires opcode { is_opcode (word_of_text segment.now) ≡ true }
+    requires printable { list_all is_printable segment.now ≡ true }
+    ensures { IfOk result (λ operation. operation ≡ entry_in segment.now) }
 {
-    let (word, rest) = word_at(piece);
+    let (word, rest) = word_at(segment);
     let operands = operands_behind(alloc, rest)?;
     Ok(Operation {
         opcode: opcode_text(word),
@@ -116,16 +116,20 @@ fn operation_of(alloc: Global, piece: &[u8]) -> Result<Operation, AllocError>
     })
 }
 
-/// Adds the operation of a piece, unless it is one that an answer writes itself.
-fn add_piece(alloc: Global, operations: &mut Vec<Operation>, piece: &[u8]) -> Result<(), AllocError>
-    requires opcode { is_opcode (word_of_text piece.now) ≡ true }
-    requires printable { list_all is_printable piece.now ≡ true }
+/// Adds the operation of a segment, unless it is one that an answer writes itself.
+fn add_segment(
+    alloc: Global,
+    operations: &mut Vec<Operation>,
+    segment: &[u8],
+) -> Result<(), AllocError>
+    requires opcode { is_opcode (word_of_text segment.now) ≡ true }
+    requires printable { list_all is_printable segment.now ≡ true }
     ensures { OnOk result (operations.new.items
-        ≡ (if is_own_opcode (word_of_text piece.now) then operations.old.items
-        else with_entry (entry_in piece.now) operations.old.items)) }
+        ≡ (if is_own_opcode (word_of_text segment.now) then operations.old.items
+        else with_entry (entry_in segment.now) operations.old.items)) }
 {
-    if !is_own(word_at(piece).0) {
-        put(operations, operation_of(alloc, piece)?)?;
+    if !is_own(word_at(segment).0) {
+        put(operations, operation_of(alloc, segment)?)?;
     }
     Ok(())
 }
@@ -133,14 +137,14 @@ fn add_piece(alloc: Global, operations: &mut Vec<Operation>, piece: &[u8]) -> Re
 /// The operations that a record keeps.
 #[tactic(auto, unfolding(crate::specs::RecordReading::rest_of))]
 pub(crate) fn operations_of(alloc: Global, text: &[u8]) -> Result<Vec<Operation>, AllocError>
-    requires opcodes { list_all has_opcode (pieces_of text.now).ended ≡ true }
+    requires opcodes { list_all has_opcode (segments_of text.now).ended ≡ true }
     requires printable { list_all is_printable text.now ≡ true }
-    ensures { IfOk result (λ operations. operations.items ≡ rest_of (pieces_of text.now).ended) }
+    ensures { IfOk result (λ operations. operations.items ≡ rest_of (segments_of text.now).ended) }
 {
     let mut operations = Vec::new(alloc);
     let mut rest = text;
-    while let Some((piece, back)) = first_piece(rest) {
-        add_piece(alloc, &mut operations, piece)?;
+    while let Some((segment, back)) = first_segment(rest) {
+        add_segment(alloc, &mut operations, segment)?;
         rest = back;
     }
     Ok(operations)

@@ -32,12 +32,12 @@ fn next_mode(mode: Mode, byte: u8) -> Option<Mode>
     }
 }
 
-/// Whether the strings of a piece stand as they have to.
-pub(crate) fn strings_fit(piece: &[u8]) -> bool
-    ensures { result ≡ do_strings_fit piece.now }
+/// Whether the strings of a segment stand as they have to.
+pub(crate) fn strings_fit(segment: &[u8]) -> bool
+    ensures { result ≡ do_strings_fit segment.now }
 {
     let mut mode = Mode::Plain;
-    for byte in piece {
+    for byte in segment {
         match next_mode(mode, *byte) {
             Some(next) => mode = next,
             None => return false,

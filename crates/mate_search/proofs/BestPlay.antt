@@ -1,5 +1,5 @@
 -- The line is the line of play as a chess player reads it, and what is told of a problem is its truth.
-use Rattle.std.proofs.Common.{◌≡◌, ℕ, zero, suc, ◌-◌, ◌+◌, ◌<◌, ◌≤◌, true, false, List, ◌∷◌, Some, None, refl, ap, sym, ◌∙◌, arith, add-one}
+use Rattle.std.proofs.Common.{◌≡◌, ℕ, zero, suc, ◌-◌, ◌≤◌, true, false, List, ◌∷◌, Some, None, refl, ap, sym, ◌∙◌, arith, add-one}
 use Rattle.chess_board.specs.Positions.{Setup}
 use Rattle.chess_board.specs.Moves.{Move}
 use Rattle.chess_board.specs.After.{after_setup}
@@ -10,7 +10,8 @@ use Rattle.mate_search.specs.Lines.{line, least_key}
 use Rattle.mate_search.specs.Play.{IsKey, IsBestPlay}
 use Rattle.mate_search.specs.Play.IsBestPlay.{mates, goes_on}
 use Rattle.mate_search.specs.Truth.{dist, first_moves, truth, truth_among}
-use Rattle.mate_search.specs.Laws.{LineReads, IsTold, TruthReads}
+use Rattle.mate_search.specs.Laws.{IsTold, TruthReads}
+use Rattle.mate_search.specs.PartLaws.{LineReads}
 use Rattle.mate_search.proofs.Searches.{any_found, none_found, all_found, all_fails, all_contains, contains_any}
 use Rattle.mate_search.proofs.Least.{dist_least, dist_none}
 use Rattle.mate_search.proofs.Playing.{all_among, key_is, each_wins, not_each, not_mated}

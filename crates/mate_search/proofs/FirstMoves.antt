@@ -1,16 +1,15 @@
 -- The moves that the attacker may begin with.
-use Rattle.std.proofs.Common.{◌≡◌, ◌↔◌, ℕ, ◌<◌, ◌≤◌, ◌==◌, Bool, true, false, not, ◌&&◌, List, [], ◌∷◌, length, filter, Option, Some, None, refl, ap, sym, ◌∙◌, arith, subst, if◌then◌else◌}
+use Rattle.std.proofs.Common.{◌≡◌, ◌↔◌, ℕ, ◌==◌, Bool, true, false, not, ◌&&◌, List, [], ◌∷◌, length, filter, Option, Some, None, refl, ap, sym, ◌∙◌, arith, subst, if◌then◌else◌}
 use Rattle.std.specs.List.{All, Contains, list_any}
 use Rattle.std.proofs.lemmas.Bool.{and_parts, eqb-true}
 use Rattle.std.proofs.lemmas.Bool.Decides.{nat_tests}
 use Rattle.std.proofs.lemmas.List.Elements.{filter_passes, All-filter, All-contains, All-contains_itself}
 use Rattle.chess_board.specs.declared.men.Kind.{Kind}
 use Rattle.chess_board.specs.declared.men.Kind.TheVariants.{Pawn, Knight, Bishop, Rook, Queen, King}
-use Rattle.chess_board.specs.Positions.{Setup}
 use Rattle.chess_board.specs.Moves.{Move, promotion_place}
 use Rattle.chess_board.specs.Legality.{is_legal}
 use Rattle.chess_moves.specs.Listing.{legal_moves}
-use Rattle.chess_moves.specs.Laws.{IsRising, LegalRise}
+use Rattle.chess_moves.specs.Laws.{LegalRise}
 use Rattle.chess_notation.specs.Problems.{ProblemValue}
 use Rattle.mate_search.specs.Truth.{is_same_move, first_moves, truth_among, truth}
 use Rattle.mate_search.specs.Laws.{AreFirstMoves}

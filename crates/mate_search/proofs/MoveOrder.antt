@@ -11,7 +11,7 @@ use Rattle.chess_moves.specs.Laws.{IsAbove, IsRising, LegalRise}
 use Rattle.mate_search.specs.Wins.{win, leaves_lost}
 use Rattle.mate_search.specs.Lines.{least_key, longest_reply}
 use Rattle.mate_search.specs.Play.{IsFirstKey, IsLongestReply}
-use Rattle.mate_search.specs.Laws.{KeysRise}
+use Rattle.mate_search.specs.PartLaws.{KeysRise}
 use Rattle.mate_search.proofs.Searches.{found_has}
 use Rattle.mate_search.proofs.Known.{win_within_more, no_win_within_fewer}
 

@@ -8,8 +8,8 @@ use Rattle.chess_moves.specs.Listing.{legal_moves}
 use Rattle.chess_moves.specs.Verdicts.{has_legal_move, is_mate}
 use Rattle.mate_search.specs.Wins.{win, lost, loses_by, leaves_lost, win_among}
 use Rattle.mate_search.specs.Lines.{line, least_key, longest_reply}
-use Rattle.mate_search.specs.Laws.{after_line, LineLength, LineMates}
-use Rattle.mate_search.specs.Truth.{dist}
+use Rattle.mate_search.specs.Laws.{after_line, HasMatingLine, LineMates}
+use Rattle.mate_search.specs.Truth.{dist, first_moves, truth, truth_among}
 use Rattle.mate_search.proofs.Searches.{any_found, none_found, all_found, all_fails}
 use Rattle.mate_search.proofs.Least.{dist_least}
 use Rattle.mate_search.proofs.Wins.{lost_none}
@@ -96,8 +96,12 @@ line_of_least first p b n e =
     let s : n ≡ suc (n - 1) = omega (arith, least.0) in
     rw s (line_long first (n - 1) p (rw s at least.2) (least.3 (n - 1) (omega (arith, least.0))))
 
-pub line_length : LineLength
-line_length first p b n e = (line_of_least first p b n e).0
-
 pub line_mates : LineMates
-line_mates first p b n e = (line_of_least first p b n e).1
+unfolding truth truth_among
+line_mates q =
+    let first : List Move = first_moves q in
+    let p : Setup = q.position in
+    (elim (dist first p q.bound) as (λ o. dist first p q.bound ≡ o → HasMatingLine p (truth q)) [
+      | None ↦ λ is. rw is tt
+      | Some n ↦ λ is. rw is (line_of_least first p q.bound n is)
+    ]) refl

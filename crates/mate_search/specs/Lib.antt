@@ -5,4 +5,5 @@ pub mod Play
 pub mod Kept
 pub mod Memos
 pub mod Laws
+pub mod PartLaws
 pub mod Replies

@@ -1,4 +1,4 @@
--- Not for believing: what there is to say of a problem, as it is computed. It comes to `IsTold`.
+-- Not for believing: what there is to say of a problem, as it is computed. It comes to `TruthReads`.
 use Rattle.std.specs.Prelude.{ℕ, zero, suc, ◌==◌, List, filter, Option, Some, None, Bool, not, ◌&&◌, if◌then◌else◌}
 use Rattle.std.specs.List.{list_any}
 use Rattle.std.specs.Option.{option_map_or, option_or}

@@ -1,6 +1,7 @@
 //! Laws about the definitions. A function here does nothing, beyond citing a law of the rules: its contract is the law.
 
-ghost use Rattle.mate_search.specs.Laws.{WinReads, LostReads, WinGrows, AmongAll, KeysRead, KeysRise, LineReads, DistReads, NoDistReads, TruthReads, LineLength, LineMates};
+ghost use Rattle.mate_search.specs.Laws.{WinReads, LostReads, WinGrows, TruthReads, LineMates};
+ghost use Rattle.mate_search.specs.PartLaws.{AmongAll, KeysRead, KeysRise, LineReads, DistReads, NoDistReads};
 
 use chess_moves::legal_rise;
 
@@ -61,12 +62,7 @@ pub fn truth_reads()
     legal_rise();
 }
 
-/// The line to the least mate has 2n - 1 moves.
-pub fn line_length()
-    ensures { LineLength }
-{}
-
-/// The line to the least mate ends in mate.
+/// The line that `solve` tells of a mate in n moves has 2n - 1 moves, and ends in mate.
 pub fn line_mates()
     ensures { LineMates }
 {}

@@ -18,8 +18,8 @@ mod searching;
 mod solving;
 
 pub use laws::{
-    among_all, dist_reads, keys_read, keys_rise, line_length, line_mates, line_reads, lost_reads,
-    no_dist_reads, truth_reads, win_grows, win_reads,
+    among_all, dist_reads, keys_read, keys_rise, line_mates, line_reads, lost_reads, no_dist_reads,
+    truth_reads, win_grows, win_reads,
 };
 pub use memo::{Memo, MemoFault};
 pub use replies::{Output, answer_line, first_line, solve_input};

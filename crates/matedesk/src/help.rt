@@ -40,8 +40,8 @@ pub const AFTER_SOLVE: &str =
     "Each line is a record in Extended Position Description (EPD): the first four fields of
 a FEN (placement, side, castling rights, en passant target), and operations, each of
 which ends with a semicolon. The operation `dm N` asks for a mate within N moves of
-the side to move, 1 to 15; a record without it is asked for one within B. A blank line
-is passed over.
+the side to move, 1 to 15; a record without it is asked for one within B, also where it
+claims a mate by `bm #N;`. All bytes are printable ASCII. A blank line is passed over.
 
 Example:
   $ cat problems.epd
@@ -50,11 +50,11 @@ Example:
   7k/8/5K2/8/8/8/8/R7 w - - bm Kf7 Kg6; dm 2; pv Kg6 Kg8 Ra8#;
 
 Each record is answered on a line of its own, as soon as it is solved: `bm` has each
-first move that mates soonest, `dm` the number of moves that the mate takes, and `pv`
-one line that leads to it. Where there is no mate within its bound N, the answer says
-`c0 \"no mate in N\"`. A line that is no record is answered `# line K: CODE`: K is its
-number in its file, and CODE names its fault. A bound of many moves may take longer
-than one can wait, and the lines behind it wait too.
+first move that mates soonest (a second one is a cook), `dm` the number of moves that
+the mate takes, and `pv` one line that leads to it. Where there is no mate within its
+bound N, the answer says `c0 \"no mate in N\"`. A line that is no record is answered
+`# line K: CODE`: K is its number in its file, and CODE names its fault. A bound of
+many moves may take longer than one can wait, and the lines behind it wait too.
 
 /dev/stdin is a FILE like any other.
 

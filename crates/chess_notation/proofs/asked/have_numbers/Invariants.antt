@@ -1,11 +1,11 @@
 use Rattle.std.proofs.Common.{◌≡◌, length}
 use Rattle.std.specs.List.{list_all}
-use Rattle.chess_notation.specs.Pieces.{pieces_of}
+use Rattle.chess_notation.specs.Segments.{segments_of}
 use Rattle.chess_notation.specs.EpdFaults.{has_number_if_bound}
 use Rattle.chess_notation.proofs.asked.have_numbers.Given as goal
 
-abbrev pub invariant-loop-piece : goal.invariant-loop-piece
-invariant-loop-piece l = list_all has_number_if_bound (pieces_of l.rest).ended ≡ list_all has_number_if_bound (pieces_of l.text).ended
+abbrev pub invariant-loop-segment : goal.invariant-loop-segment
+invariant-loop-segment l = list_all has_number_if_bound (segments_of l.rest).ended ≡ list_all has_number_if_bound (segments_of l.text).ended
 
-abbrev pub decreases-loop-piece : goal.decreases-loop-piece
-decreases-loop-piece l = length l.rest
+abbrev pub decreases-loop-segment : goal.decreases-loop-segment
+decreases-loop-segment l = length l.rest

@@ -1,4 +1,4 @@
-use Rattle.std.proofs.Common.{◌≡◌, List, map, filter, ap, sym, ◌∙◌, arith}
+use Rattle.std.proofs.Common.{List, map, filter, ap, sym, ◌∙◌}
 use Rattle.std.specs.List.{list_any}
 use Rattle.chess_notation.specs.declared.avoided.Named.{Named}
 use Rattle.chess_notation.specs.Words.{words_in}

@@ -1,8 +1,5 @@
-use Rattle.std.proofs.Common.{◌≡◌, List, ℕ, true, ap, sym, ◌∙◌, subst, inl, inr, refl}
-use Rattle.chess_board.specs.Moves.{Move}
-use Rattle.chess_notation.specs.Operations.{Entry}
+use Rattle.std.proofs.Common.{inl, inr, refl}
 use Rattle.chess_notation.specs.Lines.{cut_of}
-use Rattle.chess_notation.specs.Records.{Reads}
 use Rattle.chess_notation.proofs.EntryOrder.{rest_rises, rest_kept}
 use Rattle.chess_notation.proofs.FaultFree.{no_fault_passes, no_fault_opcodes, no_fault_printable, no_fault_distinct}
 use Rattle.chess_notation.proofs.LineReads.{says_one}

@@ -1,4 +1,4 @@
-use Rattle.std.proofs.Common.{◌≡◌, ◌==◌, length, ap, sym, ◌∙◌}
+use Rattle.std.proofs.Common.{◌==◌, length, ap, sym, ◌∙◌}
 use Rattle.chess_notation.specs.Problems.{ProblemValue}
 use Rattle.chess_moves.specs.Listing.{legal_moves}
 use Rattle.mate_search.specs.Truth.{truth_among}

@@ -1,10 +1,10 @@
 //! A text cut at each semicolon outside a string.
 
 ghost use Rattle.std.specs.Prelude.{◌≡◌, ◌<◌, ◌++◌, ◌∷◌, length, [], IfSome, IfNone};
-ghost use Rattle.chess_notation.specs.Pieces.{Pieces, pieces_of, with_piece, ends_piece as does_end_piece, inside_after as is_inside_after};
+ghost use Rattle.chess_notation.specs.Segments.{Segments, segments_of, with_segment, ends_segment as does_end_segment, inside_after as is_inside_after};
 
-fn ends_piece(is_inside: bool, byte: u8) -> bool
-    ensures { result ≡ does_end_piece is_inside byte }
+fn ends_segment(is_inside: bool, byte: u8) -> bool
+    ensures { result ≡ does_end_segment is_inside byte }
 {
     !is_inside && byte == b';'
 }
@@ -17,15 +17,15 @@ fn inside_after(is_inside: bool, byte: u8) -> bool
 }
 
 /// What stands before the first semicolon outside a string, and what stands after it.
-pub(crate) fn first_piece(text: &[u8]) -> Option<(&[u8], &[u8])>
-    ensures none { IfNone result (pieces_of text.now ≡ record { ended = []; rest = text.now }) }
-    ensures cut { IfSome result (λ cut. pieces_of text.now ≡ with_piece cut.0.now (pieces_of cut.1.now)) }
+pub(crate) fn first_segment(text: &[u8]) -> Option<(&[u8], &[u8])>
+    ensures none { IfNone result (segments_of text.now ≡ record { ended = []; rest = text.now }) }
+    ensures cut { IfSome result (λ cut. segments_of text.now ≡ with_segment cut.0.now (segments_of cut.1.now)) }
     ensures parts { IfSome result (λ cut. text.now ≡ cut.0.now ++ 59 ∷ cut.1.now) }
     ensures shorter { IfSome result (λ cut. length cut.1.now < length text.now) }
 {
     let mut is_inside = false;
     for (index, byte) in text.iter().enumerate() {
-        if ends_piece(is_inside, *byte) {
+        if ends_segment(is_inside, *byte) {
             let (front, _) = text.split_at(index);
             let (_, back) = text.split_at(index + 1);
             return Some((front, back));
@@ -37,10 +37,10 @@ pub(crate) fn first_piece(text: &[u8]) -> Option<(&[u8], &[u8])>
 
 /// What follows the last semicolon outside a string.
 pub(crate) fn last_rest(text: &[u8]) -> &[u8]
-    ensures { result.now ≡ (pieces_of text.now).rest }
+    ensures { result.now ≡ (segments_of text.now).rest }
 {
     let mut rest = text;
-    while let Some((_, back)) = first_piece(rest) {
+    while let Some((_, back)) = first_segment(rest) {
         rest = back;
     }
     rest
