@@ -10,7 +10,8 @@ use Rattle.chess_board.specs.declared.men.Wing.TheVariants.{KingSide, QueenSide}
 use Rattle.chess_board.specs.declared.men.Man.{Man}
 use Rattle.chess_board.specs.Moves.{Move}
 use Rattle.chess_board.specs.Positions.{Setup, man_at}
-use Rattle.chess_board.specs.Men.{other_side, is_colour, is_of, is_king_of, is_rook_of, is_pawn_of, is_pawn_kind, is_kind, man_of, king_home, rook_home}
+use Rattle.chess_board.specs.Men.{other_side, is_colour, is_of, is_kind, man_of, king_home, rook_home}
+use Rattle.chess_board.specs.KindTests.{is_king_of, is_rook_of, is_pawn_of, is_pawn_kind}
 use Rattle.chess_board.specs.Soundness.{HasOneKingEach, HasAtMostSixteenEach}
 use Rattle.chess_board.specs.Candidates.{crossed, king_goal, is_promotion, promotes, suits}
 use Rattle.chess_board.specs.After.{moved, becomes, passed_pawn, rook, men_after}

@@ -10,7 +10,8 @@ use Rattle.chess_board.specs.declared.men.Rights.{Rights}
 use Rattle.chess_board.specs.Moves.{Move}
 use Rattle.chess_board.specs.Squares.{rank_of}
 use Rattle.chess_board.specs.Positions.{Setup, man_at}
-use Rattle.chess_board.specs.Men.{is_king_of, is_rook_of, has_right_of, king_home, rook_home}
+use Rattle.chess_board.specs.Men.{has_right_of, king_home, rook_home}
+use Rattle.chess_board.specs.KindTests.{is_king_of, is_rook_of}
 use Rattle.chess_board.specs.Soundness.{IsSound, has_men_of_right, has_men_of_rights}
 use Rattle.chess_board.specs.Candidates.{crossed, king_goal}
 use Rattle.chess_board.specs.After.{moved, becomes, passed_pawn, rook, men_after, touches, right_after, rights_after}

@@ -14,7 +14,8 @@ use Rattle.chess_board.specs.declared.men.Kind.TheVariants.{Pawn, Knight, Bishop
 use Rattle.chess_board.specs.declared.boards.Board.TheInside.{Inside}
 use Rattle.chess_board.specs.Positions.{man_at}
 use Rattle.std.specs.Int.RustNames.{bit_and, bit_or}
-use Rattle.chess_board.specs.Men.{man_of, is_colour, is_king_kind, is_of, is_man, is_king_of}
+use Rattle.chess_board.specs.Men.{man_of, is_colour, is_of, is_man}
+use Rattle.chess_board.specs.KindTests.{is_king_kind, is_king_of}
 use Rattle.chess_board.specs.Sets.{IsSetOf}
 use Rattle.chess_board.specs.Boards.{is_of_kind, word_of, kind_by, place_by, place_at, listed, men_of, AreWordsOf, AreTheirWords}
 use Rattle.chess_board.proofs.Counting.{count_by_none}

@@ -11,7 +11,8 @@ use Rattle.chess_board.specs.declared.men.Man.{Man}
 use Rattle.chess_board.specs.Moves.{Move}
 use Rattle.chess_board.specs.Squares.{rank_of}
 use Rattle.chess_board.specs.Positions.{Setup, man_at}
-use Rattle.chess_board.specs.Men.{other_side, is_colour, is_of, is_king_of, is_rook_of, is_pawn_of, man_of, king_home, rook_home}
+use Rattle.chess_board.specs.Men.{other_side, is_colour, is_of, man_of, king_home, rook_home}
+use Rattle.chess_board.specs.KindTests.{is_king_of, is_rook_of, is_pawn_of}
 use Rattle.chess_board.specs.Attacks.{attacks_as, attacks_from, is_attacked, is_king_attacked, is_in_check}
 use Rattle.chess_board.specs.Soundness.{IsSound}
 use Rattle.chess_board.specs.Candidates.{crossed, king_goal, goes, promotes, suits}

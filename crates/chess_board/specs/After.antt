@@ -3,7 +3,7 @@ use Rattle.std.specs.Prelude.{ℕ, ◌+◌, ◌*◌, List, Option, Some, None, B
 use Rattle.chess_board.specs.declared.men.Colour.{Colour}
 use Rattle.chess_board.specs.declared.men.Colour.TheVariants.{White, Black}
 use Rattle.chess_board.specs.declared.men.Kind.{Kind}
-use Rattle.chess_board.specs.declared.men.Kind.TheVariants.{Rook}
+use Rattle.chess_board.specs.declared.men.Kind.TheVariants.{Pawn, Rook, King}
 use Rattle.chess_board.specs.declared.men.Wing.{Wing}
 use Rattle.chess_board.specs.declared.men.Wing.TheVariants.{KingSide, QueenSide}
 use Rattle.chess_board.specs.declared.men.Man.{Man}
@@ -11,7 +11,7 @@ use Rattle.chess_board.specs.declared.men.Rights.{Rights}
 use Rattle.chess_board.specs.Moves.{Move}
 use Rattle.chess_board.specs.Squares.{file_of, rank_of, file_gap, rank_gap}
 use Rattle.chess_board.specs.Positions.{Setup, man_at}
-use Rattle.chess_board.specs.Men.{other_side, is_king_kind, is_pawn_kind, has_right_of, king_home, rook_home}
+use Rattle.chess_board.specs.Men.{other_side, is_kind, has_right_of, king_home, rook_home}
 use Rattle.chess_board.specs.Candidates.{crossed, is_square}
 
 -- the men without the one on a square
@@ -33,11 +33,11 @@ passed_pawn a b = 8 * rank_of a + file_of b
 
 -- A pawn goes to the square that a double step has just passed over: no other way leads a pawn there.
 abbrev pub is_in_passing : Setup → Man → Move → Bool
-is_in_passing p man m = is_pawn_kind man.kind && is_square p.target m.target
+is_in_passing p man m = is_kind Pawn man.kind && is_square p.target m.target
 
 -- The king goes two files: it castles (article 3.8.2).
 abbrev pub is_castling : Man → Move → Bool
-is_castling man m = is_king_kind man.kind && (file_gap m.origin m.target == 2)
+is_castling man m = is_kind King man.kind && (file_gap m.origin m.target == 2)
 
 -- the wing towards which the king goes
 abbrev pub wing_of : ℕ → ℕ → Wing
@@ -76,7 +76,7 @@ rights_after rights m = record {
 
 -- The target is the square that a double step has passed over, whether or not a pawn can capture there.
 abbrev pub target_after : Man → Move → Option ℕ
-target_after man m = if is_pawn_kind man.kind && (rank_gap m.origin m.target == 2) then Some (crossed m.origin m.target) else None
+target_after man m = if is_kind Pawn man.kind && (rank_gap m.origin m.target == 2) then Some (crossed m.origin m.target) else None
 
 -- the position once the man on the origin made the move; with no man there, nothing changes
 abbrev pub after_man : Setup → Option Man → Move → Setup

@@ -7,7 +7,7 @@ use Rattle.chess_board.specs.declared.men.Kind.{Kind}
 use Rattle.chess_board.specs.declared.men.Kind.TheVariants.{Pawn, Knight, Bishop, Rook, Queen, King}
 use Rattle.chess_board.specs.declared.men.Man.{Man}
 use Rattle.chess_board.specs.Squares.{file_of, rank_of, file_gap, rank_gap, some_square, each_square}
-use Rattle.chess_board.specs.Men.{is_colour, is_king_of, other_side}
+use Rattle.chess_board.specs.Men.{is_colour, is_man, other_side}
 use Rattle.chess_board.specs.Positions.{man_at, is_empty}
 
 -- x lies strictly between a and b
@@ -79,7 +79,7 @@ is_attacked men square colour = some_square (λ a. attacks_from men colour a squ
 
 -- The colour's king stands on the square and is attacked there.
 abbrev pub is_king_attacked : List (Option Man) → Colour → ℕ → Bool
-is_king_attacked men colour square = is_king_of colour (man_at men square) && is_attacked men square (other_side colour)
+is_king_attacked men colour square = is_man colour King (man_at men square) && is_attacked men square (other_side colour)
 
 -- The colour's king is attacked (article 3.9).
 abbrev pub is_in_check : List (Option Man) → Colour → Bool

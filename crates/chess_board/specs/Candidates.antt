@@ -10,7 +10,7 @@ use Rattle.chess_board.specs.declared.men.Man.{Man}
 use Rattle.chess_board.specs.Moves.{Move}
 use Rattle.chess_board.specs.Squares.{file_of, rank_of}
 use Rattle.chess_board.specs.Positions.{Setup, man_at, is_empty}
-use Rattle.chess_board.specs.Men.{other_side, is_colour, is_of, is_pawn_kind, has_right_of, king_home, rook_home}
+use Rattle.chess_board.specs.Men.{other_side, is_colour, is_of, is_kind, has_right_of, king_home, rook_home}
 use Rattle.chess_board.specs.Attacks.{is_forward, is_clear, attacks_as, is_attacked}
 
 -- the rank on which a colour's pawns start, and the one on which they become other men
@@ -89,7 +89,7 @@ is_promotion _ = true
 
 -- The man is a pawn that goes to its last rank.
 abbrev pub promotes : Man → ℕ → Bool
-promotes man b = is_pawn_kind man.kind && (rank_of b == last_rank man.colour)
+promotes man b = is_kind Pawn man.kind && (rank_of b == last_rank man.colour)
 
 -- A pawn on its last rank becomes another man, and no man does so anywhere else (article 3.7).
 abbrev pub suits : Man → ℕ → Option Kind → Bool

@@ -1,6 +1,7 @@
 pub mod Characters
 pub mod Squares
 pub mod Men
+pub mod KindTests
 pub mod Positions
 pub mod Sets
 pub mod Boards

@@ -34,12 +34,6 @@ is_kind Queen Queen = true
 is_kind King King = true
 is_kind _ _ = false
 
-abbrev pub is_pawn_kind : Kind → Bool
-is_pawn_kind kind = is_kind Pawn kind
-
-abbrev pub is_king_kind : Kind → Bool
-is_king_kind kind = is_kind King kind
-
 -- Whether a man of the colour stands there.
 abbrev pub is_of : Colour → Option Man → Bool
 is_of colour None = false
@@ -50,22 +44,10 @@ abbrev pub is_man : Colour → Kind → Option Man → Bool
 is_man colour asked None = false
 is_man colour asked (Some man) = is_colour colour man.colour && is_kind asked man.kind
 
--- Whether the colour's king stands there.
-abbrev pub is_king_of : Colour → Option Man → Bool
-is_king_of colour place = is_man colour King place
-
--- Whether a rook of the colour stands there.
-abbrev pub is_rook_of : Colour → Option Man → Bool
-is_rook_of colour place = is_man colour Rook place
-
--- Whether a pawn of the colour stands there.
-abbrev pub is_pawn_of : Colour → Option Man → Bool
-is_pawn_of colour place = is_man colour Pawn place
-
 -- Whether a pawn of either colour stands there.
 abbrev pub is_pawn : Option Man → Bool
 is_pawn None = false
-is_pawn (Some man) = is_pawn_kind man.kind
+is_pawn (Some man) = is_kind Pawn man.kind
 
 -- Whether a side may still castle on a wing.
 abbrev pub has_right_of : Rights → Colour → Wing → Bool

@@ -3,12 +3,13 @@ use Rattle.std.specs.Prelude.{◌≡◌, ℕ, ◌+◌, ◌-◌, ◌≤◌, List,
 use Rattle.std.specs.Option.{option_map_or}
 use Rattle.chess_board.specs.declared.men.Colour.{Colour}
 use Rattle.chess_board.specs.declared.men.Colour.TheVariants.{White, Black}
+use Rattle.chess_board.specs.declared.men.Kind.TheVariants.{Pawn, Rook, King}
 use Rattle.chess_board.specs.declared.men.Wing.{Wing}
 use Rattle.chess_board.specs.declared.men.Wing.TheVariants.{KingSide, QueenSide}
 use Rattle.chess_board.specs.declared.men.Man.{Man}
 use Rattle.chess_board.specs.declared.men.Rights.{Rights}
 use Rattle.chess_board.specs.Squares.{rank_of, each_square}
-use Rattle.chess_board.specs.Men.{other_side, is_of, is_king_of, is_rook_of, is_pawn_of, is_pawn, has_right_of, king_home, rook_home}
+use Rattle.chess_board.specs.Men.{other_side, is_of, is_man, is_pawn, has_right_of, king_home, rook_home}
 use Rattle.chess_board.specs.Positions.{Setup, man_at, is_empty}
 use Rattle.chess_board.specs.Attacks.{is_in_check}
 
@@ -18,7 +19,7 @@ BothSides P = P White × P Black
 
 -- Each side has exactly one king (FIDE Laws of Chess, article 2).
 abbrev pub HasOneKingEach : List (Option Man) → Type 0
-HasOneKingEach men = BothSides (λ colour. count_by (is_king_of colour) men ≡ 1)
+HasOneKingEach men = BothSides (λ colour. count_by (is_man colour King) men ≡ 1)
 
 -- No side has more than 16 men (article 2).
 abbrev pub HasAtMostSixteenEach : List (Option Man) → Type 0
@@ -36,7 +37,7 @@ has_no_end_pawn men = each_square (λ square. is_no_end_pawn (man_at men square)
 abbrev pub has_men_of_right : List (Option Man) → Rights → Colour → Wing → Bool
 has_men_of_right men rights colour wing =
     not (has_right_of rights colour wing)
-    || (is_king_of colour (man_at men (king_home colour)) && is_rook_of colour (man_at men (rook_home colour wing)))
+    || (is_man colour King (man_at men (king_home colour)) && is_man colour Rook (man_at men (rook_home colour wing)))
 
 abbrev pub has_men_of_rights : List (Option Man) → Rights → Bool
 has_men_of_rights men rights =
@@ -47,9 +48,9 @@ has_men_of_rights men rights =
 -- just beyond, and the square that this pawn came from is empty (article 3.7).
 abbrev pub has_pawn_of_target : List (Option Man) → Colour → ℕ → Bool
 has_pawn_of_target men White target =
-    (rank_of target == 5) && is_empty men target && is_pawn_of Black (man_at men (target - 8)) && is_empty men (target + 8)
+    (rank_of target == 5) && is_empty men target && is_man Black Pawn (man_at men (target - 8)) && is_empty men (target + 8)
 has_pawn_of_target men Black target =
-    (rank_of target == 2) && is_empty men target && is_pawn_of White (man_at men (target + 8)) && is_empty men (target - 8)
+    (rank_of target == 2) && is_empty men target && is_man White Pawn (man_at men (target + 8)) && is_empty men (target - 8)
 
 abbrev pub has_pawn_of_some_target : Setup → Bool
 has_pawn_of_some_target p = option_map_or (has_pawn_of_target p.men p.side) p.target true

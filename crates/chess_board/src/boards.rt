@@ -4,7 +4,8 @@ ghost use Rattle.std.specs.Prelude.{◌≡◌, ℕ, ◌<◌, ◌==◌, if◌then
 ghost use Rattle.square_sets.specs.Members.{has};
 ghost use Rattle.chess_board.specs.declared.men.Kind.TheVariants as kind;
 ghost use Rattle.chess_board.specs.Positions.{man_at};
-ghost use Rattle.chess_board.specs.Men.{man_of, is_of, is_man, is_king_of};
+ghost use Rattle.chess_board.specs.Men.{man_of, is_of, is_man};
+ghost use Rattle.chess_board.specs.KindTests.{is_king_of};
 ghost use Rattle.chess_board.specs.Sets.{IsSetOf};
 ghost use Rattle.chess_board.specs.Boards.{is_of_kind, kind_by};
 

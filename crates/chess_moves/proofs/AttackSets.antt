@@ -6,7 +6,8 @@ use Rattle.chess_board.specs.declared.men.Colour.{Colour}
 use Rattle.chess_board.specs.declared.men.Kind.{Kind}
 use Rattle.chess_board.specs.declared.men.Kind.TheVariants.{Pawn, Knight, Bishop, Rook, Queen, King}
 use Rattle.chess_board.specs.declared.men.Man.{Man}
-use Rattle.chess_board.specs.Men.{is_colour, is_pawn_kind, is_king_kind}
+use Rattle.chess_board.specs.Men.{is_colour}
+use Rattle.chess_board.specs.KindTests.{is_pawn_kind, is_king_kind}
 use Rattle.chess_board.specs.Positions.{man_at}
 use Rattle.chess_board.specs.Sets.{IsSetOf}
 use Rattle.chess_moves.specs.declared.directions.Direction.{Direction}

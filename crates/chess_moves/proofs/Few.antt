@@ -8,7 +8,8 @@ use Rattle.chess_board.specs.declared.men.Colour.{Colour}
 use Rattle.chess_board.specs.declared.men.Colour.TheVariants.{White, Black}
 use Rattle.chess_board.specs.declared.men.Man.{Man}
 use Rattle.chess_board.specs.Squares.{rank_of}
-use Rattle.chess_board.specs.Men.{is_of, is_pawn_kind}
+use Rattle.chess_board.specs.Men.{is_of}
+use Rattle.chess_board.specs.KindTests.{is_pawn_kind}
 use Rattle.chess_board.specs.Positions.{Setup, man_at}
 use Rattle.chess_board.specs.Soundness.{IsSound}
 use Rattle.chess_board.specs.Moves.{Move}

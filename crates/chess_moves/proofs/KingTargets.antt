@@ -12,7 +12,8 @@ use Rattle.chess_board.specs.declared.men.Wing.{Wing}
 use Rattle.chess_board.specs.declared.men.Wing.TheVariants.{KingSide, QueenSide}
 use Rattle.chess_board.specs.declared.men.Man.{Man}
 use Rattle.chess_board.specs.Squares.{file_gap}
-use Rattle.chess_board.specs.Men.{other_side, is_colour, is_of, is_king_of, is_rook_of, has_right_of, king_home, rook_home}
+use Rattle.chess_board.specs.Men.{other_side, is_colour, is_of, has_right_of, king_home, rook_home}
+use Rattle.chess_board.specs.KindTests.{is_king_of, is_rook_of}
 use Rattle.chess_board.specs.Positions.{Setup, man_at}
 use Rattle.chess_board.specs.Attacks.{attacks_as, is_clear, is_attacked, is_in_check}
 use Rattle.chess_board.specs.Soundness.{IsSound, has_men_of_right}

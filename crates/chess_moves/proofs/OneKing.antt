@@ -6,7 +6,8 @@ use Rattle.chess_board.specs.declared.men.Colour.{Colour}
 use Rattle.chess_board.specs.declared.men.Colour.TheVariants.{White, Black}
 use Rattle.chess_board.specs.declared.men.Kind.TheVariants.{King}
 use Rattle.chess_board.specs.declared.men.Man.{Man}
-use Rattle.chess_board.specs.Men.{is_king_of, man_of, other_side}
+use Rattle.chess_board.specs.Men.{man_of, other_side}
+use Rattle.chess_board.specs.KindTests.{is_king_of}
 use Rattle.chess_board.specs.Positions.{Setup, man_at}
 use Rattle.chess_board.specs.Attacks.{is_attacked, is_king_attacked, is_in_check}
 use Rattle.chess_board.specs.Soundness.{IsSound, HasOneKingEach}

@@ -4,7 +4,8 @@ use Rattle.chess_board.specs.declared.men.Colour.{Colour}
 use Rattle.chess_board.specs.declared.men.Kind.{Kind}
 use Rattle.chess_board.specs.declared.men.Kind.TheVariants.{Pawn, Knight, Bishop, Rook, Queen, King}
 use Rattle.chess_board.specs.declared.men.Man.{Man}
-use Rattle.chess_board.specs.Men.{other_side, is_king_kind, is_of, is_king_of, man_of}
+use Rattle.chess_board.specs.Men.{other_side, is_of, man_of}
+use Rattle.chess_board.specs.KindTests.{is_king_kind, is_king_of}
 use Rattle.chess_board.specs.Positions.{Setup, man_at}
 use Rattle.chess_board.specs.Attacks.{is_in_check}
 use Rattle.chess_board.specs.Candidates.{promotes, suits}

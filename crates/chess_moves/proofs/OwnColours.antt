@@ -5,7 +5,8 @@ use Rattle.chess_board.specs.declared.men.Colour.{Colour}
 use Rattle.chess_board.specs.declared.men.Colour.TheVariants.{White, Black}
 use Rattle.chess_board.specs.declared.men.Man.{Man}
 use Rattle.chess_board.specs.declared.men.Kind.TheVariants.{Rook}
-use Rattle.chess_board.specs.Men.{other_side, is_colour, is_king_kind, is_kind, is_of, is_king_of, is_rook_of}
+use Rattle.chess_board.specs.Men.{other_side, is_colour, is_kind, is_of}
+use Rattle.chess_board.specs.KindTests.{is_king_kind, is_king_of, is_rook_of}
 use Rattle.chess_board.specs.Positions.{Setup, man_at}
 
 pub same_colour : (a b : Colour) → a ≡ b → is_colour a b ≡ true

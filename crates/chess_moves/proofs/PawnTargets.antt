@@ -8,7 +8,8 @@ use Rattle.chess_board.specs.declared.men.Kind.{Kind}
 use Rattle.chess_board.specs.declared.men.Kind.TheVariants.{Pawn}
 use Rattle.chess_board.specs.declared.men.Man.{Man}
 use Rattle.chess_board.specs.Squares.{file_of, rank_of}
-use Rattle.chess_board.specs.Men.{other_side, is_pawn_kind, is_king_kind, is_of}
+use Rattle.chess_board.specs.Men.{other_side, is_of}
+use Rattle.chess_board.specs.KindTests.{is_pawn_kind, is_king_kind}
 use Rattle.chess_board.specs.Positions.{Setup, man_at, is_empty}
 use Rattle.chess_board.specs.Attacks.{is_forward, attacks_as, is_in_check}
 use Rattle.chess_board.specs.Candidates.{crossed, second_rank, is_square, steps_once, steps_twice, takes, takes_in_passing, goes, suits}

@@ -5,7 +5,8 @@ use Rattle.chess_board.specs.declared.men.Colour.{Colour}
 use Rattle.chess_board.specs.declared.men.Kind.{Kind}
 use Rattle.chess_board.specs.declared.men.Kind.TheVariants.{Pawn, Knight, Bishop, Rook, Queen, King}
 use Rattle.chess_board.specs.declared.men.Man.{Man}
-use Rattle.chess_board.specs.Men.{other_side, is_pawn_kind, is_king_kind, is_of}
+use Rattle.chess_board.specs.Men.{other_side, is_of}
+use Rattle.chess_board.specs.KindTests.{is_pawn_kind, is_king_kind}
 use Rattle.chess_board.specs.Positions.{Setup, man_at}
 use Rattle.chess_board.specs.Attacks.{attacks_as, is_in_check}
 use Rattle.chess_board.specs.Candidates.{piece_goes, goes, suits}

@@ -8,7 +8,8 @@ use Rattle.chess_board.specs.declared.men.Kind.{Kind}
 use Rattle.chess_board.specs.declared.men.Kind.TheVariants.{Pawn, Knight, Bishop, Rook, Queen, King}
 use Rattle.chess_board.specs.declared.men.Man.{Man}
 use Rattle.chess_board.specs.Squares.{gap, any_below}
-use Rattle.chess_board.specs.Men.{is_colour, is_king_kind, is_king_of, other_side, man_of}
+use Rattle.chess_board.specs.Men.{is_colour, other_side, man_of}
+use Rattle.chess_board.specs.KindTests.{is_king_kind, is_king_of}
 use Rattle.chess_board.specs.Positions.{Setup, man_at}
 use Rattle.chess_board.specs.Attacks.{is_attacked, is_king_attacked, is_in_check}
 use Rattle.chess_board.specs.Moves.{Move}

@@ -4,7 +4,8 @@ ghost use Rattle.std.specs.Prelude.{◌≡◌, ℕ, ◌<◌, true, false, not, �
 ghost use Rattle.square_sets.specs.Members.{has};
 ghost use Rattle.chess_board.specs.declared.men.Kind.TheVariants as kind;
 ghost use Rattle.chess_board.specs.Positions.{Setup, man_at};
-ghost use Rattle.chess_board.specs.Men.{is_king_kind, is_pawn_kind, rook_home as rook_home_of};
+ghost use Rattle.chess_board.specs.Men.{rook_home as rook_home_of};
+ghost use Rattle.chess_board.specs.KindTests.{is_king_kind, is_pawn_kind};
 ghost use Rattle.chess_board.specs.Attacks.{is_in_check};
 ghost use Rattle.chess_board.specs.Candidates.{goes, takes_in_passing};
 ghost use Rattle.chess_board.specs.After.{cleared, moved, passed_pawn, wing_of, men_after};

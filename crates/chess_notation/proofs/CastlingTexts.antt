@@ -12,7 +12,8 @@ use Rattle.chess_board.specs.declared.men.Man.{Man}
 use Rattle.chess_board.specs.Moves.{Move}
 use Rattle.chess_board.specs.Squares.{file_gap}
 use Rattle.chess_board.specs.Positions.{Setup, man_at}
-use Rattle.chess_board.specs.Men.{other_side, is_of, is_king_kind, has_right_of, king_home, rook_home}
+use Rattle.chess_board.specs.Men.{other_side, is_of, has_right_of, king_home, rook_home}
+use Rattle.chess_board.specs.KindTests.{is_king_kind}
 use Rattle.chess_board.specs.Attacks.{is_clear, attacks_as, is_attacked}
 use Rattle.chess_board.specs.Candidates.{crossed, piece_goes, king_goal, castles_to, castles, goes}
 use Rattle.chess_board.specs.After.{is_castling, wing_of}

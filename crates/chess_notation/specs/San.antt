@@ -3,11 +3,12 @@ use Rattle.std.specs.Prelude.{ℕ, ◌+◌, List, [], ◌∷◌, ◌++◌, codes
 use Rattle.std.specs.List.{list_any}
 use Rattle.chess_board.specs.Characters.{char}
 use Rattle.chess_board.specs.declared.men.Kind.{Kind}
+use Rattle.chess_board.specs.declared.men.Kind.TheVariants.{Pawn}
 use Rattle.chess_board.specs.declared.men.Man.{Man}
 use Rattle.chess_board.specs.declared.men.Wing.{Wing}
 use Rattle.chess_board.specs.declared.men.Wing.TheVariants.{KingSide, QueenSide}
 use Rattle.chess_board.specs.Squares.{file_of, rank_of}
-use Rattle.chess_board.specs.Men.{is_colour, is_pawn_kind}
+use Rattle.chess_board.specs.Men.{is_colour, is_kind}
 use Rattle.chess_board.specs.Positions.{Setup, man_at, is_empty}
 use Rattle.chess_board.specs.Placement.{kind_letter}
 use Rattle.chess_board.specs.Fields.{square_text}
@@ -78,7 +79,7 @@ wing_text QueenSide = codes "O-O-O"
 abbrev pub man_text : Setup → Option Man → Move → List ℕ
 man_text p None m = []
 man_text p (Some man) m =
-    if is_pawn_kind man.kind then pawn_text p man m
+    if is_kind Pawn man.kind then pawn_text p man m
     else (if is_castling man m then wing_text (wing_of m.origin m.target) else piece_text p man m)
 
 -- The move's text without the mark of a check.

@@ -1,4 +1,4 @@
-use Rattle.chess_board.specs.Men.{is_pawn_kind, is_king_kind}
+use Rattle.chess_board.specs.KindTests.{is_pawn_kind, is_king_kind}
 use Rattle.chess_moves.specs.Forces.{is_knight_kind, is_one, is_diagonal_kind, is_straight_kind}
 use Rattle.chess_moves.proofs.Moved.{stands_without, is_one-not_of}
 use Rattle.chess_moves.proofs.guards.without.Goals as goal

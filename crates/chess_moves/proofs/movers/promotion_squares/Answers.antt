@@ -1,5 +1,5 @@
 use Rattle.std.proofs.Common.{◌≡◌, true, rules}
-use Rattle.chess_board.specs.Men.{is_pawn_kind}
+use Rattle.chess_board.specs.KindTests.{is_pawn_kind}
 use Rattle.chess_moves.proofs.Promotions.{has-eighth, has-first}
 use Rattle.chess_moves.proofs.movers.promotion_squares.Goals as goal
 
