@@ -21,6 +21,7 @@ pub mod Members
 pub mod MergedOperations
 pub mod Merges
 pub mod NamedMoves
+mod NamedOnce
 pub mod Numerals
 pub mod OperandReading
 pub mod OperandTexts

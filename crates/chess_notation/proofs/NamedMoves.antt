@@ -106,7 +106,7 @@ above_kept f place (x ∷ xs) h =
     let rest = above_kept f place xs h.1 in
     elim (f x) as (λ b. IsAbove place (cond b (x ∷ filter f xs) (filter f xs))) [ true ↦ (h.0, rest) | false ↦ rest ]
 
-rising_kept : (f : Move → Bool) (xs : List Move) → IsRising xs → IsRising (filter f xs)
+pub rising_kept : (f : Move → Bool) (xs : List Move) → IsRising xs → IsRising (filter f xs)
 rising_kept f [] h = tt
 rising_kept f (x ∷ xs) h =
     let rest = rising_kept f xs h.1 in

@@ -1,9 +1,11 @@
--- Texts tell the legal moves of a position apart, and are short.
-use Rattle.std.specs.Prelude.{◌≡◌, ◌≤◌, length, Contains}
+-- Texts tell the legal moves of a position apart, and are short. So a word names one of them at most.
+use Rattle.std.specs.Prelude.{◌≡◌, ◌↔◌, ◌≤◌, ℕ, List, length, true, Contains}
 use Rattle.chess_board.specs.Positions.{Setup}
 use Rattle.chess_board.specs.Moves.{Move}
 use Rattle.chess_moves.specs.Listing.{legal_moves}
+use Rattle.chess_moves.specs.Laws.{IsRising}
 use Rattle.chess_notation.specs.San.{bare_text, san_text}
+use Rattle.chess_notation.specs.Avoided.{names, named}
 
 -- Two legal moves of one position that have one text are one move.
 abbrev pub TextsApart : Type 0
@@ -16,3 +18,13 @@ BareTextsApart = (p : Setup) (m n : Move) → Contains (legal_moves p) m → Con
 -- A text has at most seven bytes, as Qh4xe1# has.
 abbrev pub TextsShort : Type 0
 TextsShort = (p : Setup) (m : Move) → length (san_text p m) ≤ 7
+
+-- A word names one legal move at most.
+abbrev pub NamesOne : Type 0
+NamesOne = (p : Setup) (word : List ℕ) (m n : Move) → Contains (legal_moves p) m → Contains (legal_moves p) n
+    → names p word m ≡ true → names p word n ≡ true → m ≡ n
+
+-- What words name are exactly the legal moves that some word names, in the order of moves, each once.
+abbrev pub NamedRead : Type 0
+NamedRead = (p : Setup) (words : List (List ℕ)) → ((m : Move) → Contains (named p words) m
+    ↔ (Contains (legal_moves p) m × ((word : List ℕ) × Contains words word × (names p word m ≡ true)))) × IsRising (named p words)

@@ -39,7 +39,7 @@ pub use problems::{Outcome, Problem};
 pub use reading::read_record;
 pub use record_laws::{answer_reads, records_clear, says_one};
 pub use records::{Operation, Record};
-pub use san_laws::{bare_texts_apart, texts_apart, texts_short};
+pub use san_laws::{bare_texts_apart, named_read, names_one, texts_apart, texts_short};
 
 #[cfg(test)]
 mod answer_tests;

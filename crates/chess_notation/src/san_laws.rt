@@ -1,8 +1,8 @@
 //! What the texts of moves tell, however they are made.
 
-ghost use Rattle.chess_notation.specs.SanLaws.{TextsApart, BareTextsApart, TextsShort};
+ghost use Rattle.chess_notation.specs.SanLaws.{TextsApart, BareTextsApart, TextsShort, NamesOne, NamedRead};
 
-use chess_moves::legal_listed;
+use chess_moves::{legal_listed, legal_rise};
 
 /// Two legal moves of one position never share a text (PGN Specification, section 8.2.3.4).
 pub fn texts_apart()
@@ -22,3 +22,17 @@ pub fn bare_texts_apart()
 pub fn texts_short()
     ensures { TextsShort }
 {}
+
+/// A word names one legal move at most, whether the mark of a check stands at its end or not.
+pub fn names_one()
+    ensures { NamesOne }
+{
+    bare_texts_apart();
+}
+
+/// What words name are exactly the legal moves that some word names, in the order of moves, each once.
+pub fn named_read()
+    ensures { NamedRead }
+{
+    legal_rise();
+}

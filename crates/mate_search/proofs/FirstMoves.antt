@@ -40,7 +40,7 @@ promotion_there (Some King) = refl
 promotion_is : (a b : Option Kind) → promotion_place a ≡ promotion_place b → a ≡ b
 promotion_is a b e = sym (promotion_there a) ∙ ap promotion_at e ∙ promotion_there b
 
-same_move_is : (m n : Move) → is_same_move m n ≡ true → m ≡ n
+pub same_move_is : (m n : Move) → is_same_move m n ≡ true → m ≡ n
 same_move_is m n h =
     let squares = and_parts ((m.origin == n.origin) && (m.target == n.target)) (promotion_place m.promotion == promotion_place n.promotion) h in
     let each = and_parts (m.origin == n.origin) (m.target == n.target) squares.0 in
@@ -49,7 +49,7 @@ same_move_is m n h =
     let promotion : m.promotion ≡ n.promotion = promotion_is m.promotion n.promotion (eqb-true (promotion_place m.promotion) (promotion_place n.promotion) squares.1) in
     λ i. record { origin = origin i; target = target i; promotion = promotion i }
 
-same_move_self : (m : Move) → is_same_move m m ≡ true
+pub same_move_self : (m : Move) → is_same_move m m ≡ true
 same_move_self m =
     let o : (m.origin == m.origin) ≡ true = grind (arith, nat_tests) in
     let t : (m.target == m.target) ≡ true = grind (arith, nat_tests) in

@@ -8,6 +8,8 @@ pub mod MoveOrder
 pub mod InputLines
 pub mod InputReplies
 pub mod Room
+pub mod KeptLines
 pub mod Known
 pub mod BestPlay
 pub mod FirstMoves
+pub mod SameProblems

@@ -7,3 +7,7 @@ pub mod Memos
 pub mod Laws
 pub mod PartLaws
 pub mod Replies
+pub mod Inputs
+pub mod Stops
+pub mod Takings
+pub mod Jobs

@@ -40,3 +40,7 @@ IsReplyFrom default number (line ∷ lines) text refusals = (here : List ℕ) ×
 -- What an input is answered, and how many of its lines are refused.
 unfoldable pub IsReply : ℕ → List ℕ → List ℕ → ℕ → Type 0
 IsReply default input text refusals = IsReplyFrom default 1 (lines_of input) text refusals
+
+-- What some of the first lines of an input are answered.
+unfoldable pub IsReplyToFirst : ℕ → List ℕ → List ℕ → Type 0
+IsReplyToFirst default input text = (count : ℕ) × (refusals : ℕ) × IsReplyFrom default 1 (take count (lines_of input)) text refusals

@@ -5,25 +5,41 @@
 //! stands in `specs/Wins.antt`, keys and the line of play in `specs/Play.antt`, and what there is to say of a problem in
 //! `specs/Laws.antt`; an outcome is exactly that.
 //!
-//! To read: `entries`, `memo`, `searching`, `lines`, `solving`; `laws` says of the definitions what they are meant to say; then
-//! `specs/Replies.antt` and `replies`. `solve` takes memory for its memo alone, and never fails for want of it.
+//! To read: `entries`, `refutations`, `memo`, `searching`, `lines`, `solving`; `laws` says of the definitions what they are meant to say; then
+//! `specs/Replies.antt` and `replies`, over `inputs` (bytes as they come), `taking` (lines of them), `writing` and `stops`; at last
+//! `specs/Jobs.antt`, `tickets` and `jobs`, what a desk hands out and takes back, and `problems`. `solve` takes memory for its memo
+//! alone, and never fails for want of it.
 #![tactic(auto)]
 
 mod entries;
+mod inputs;
+mod jobs;
 mod laws;
 mod lines;
 mod memo;
+mod problems;
+mod refutations;
 mod replies;
 mod searching;
 mod solving;
+mod stops;
+mod taking;
+mod tickets;
+mod writing;
 
+pub use inputs::{Input, InputFault};
+pub use jobs::{Answer, Done, Job};
 pub use laws::{
     among_all, dist_reads, keys_read, keys_rise, line_mates, line_reads, lost_reads, no_dist_reads,
     truth_reads, win_grows, win_reads,
 };
 pub use memo::{Memo, MemoFault};
-pub use replies::{Output, answer_line, first_line, solve_input};
+pub use problems::{is_same_problem, same_problem_reads};
+pub use replies::{Output, answer_input, solve_input};
 pub use solving::solve;
+pub use stops::Stop;
+pub use tickets::Ticket;
+pub use writing::{put, stop_of_output};
 
 #[cfg(test)]
 mod tests;

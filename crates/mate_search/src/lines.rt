@@ -27,9 +27,8 @@ pub(crate) fn keys_among(
     ensures room { memo.new.room ≡ memo.old.room }
 {
     let mut keys = MoveList::new();
-    let mut refutation = None;
     for m in first {
-        if loses(rays, &after(position, *m), n - 1, &mut refutation, memo) {
+        if loses(rays, &after(position, *m), n - 1, memo) {
             keys.push(*m);
         }
     }
@@ -51,9 +50,8 @@ fn least_key(
     ensures legal { IfSome result (λ m. is_legal position.now m ≡ true) }
     ensures room { memo.new.room ≡ memo.old.room }
 {
-    let mut refutation = None;
     for m in first {
-        if loses(rays, &after(position, *m), n - 1, &mut refutation, memo) {
+        if loses(rays, &after(position, *m), n - 1, memo) {
             return Some(*m);
         }
     }

@@ -6,18 +6,21 @@ ghost use Rattle.mate_search.specs.Kept.{IsTrueOf};
 ghost use Rattle.mate_search.specs.Memos.{memo_fault_name};
 
 use crate::entries::Entry;
-use chess_board::{Position, equal_reads};
+use crate::refutations::Refutations;
+use chess_board::{Move, Position, equal_reads};
 use lru::LruCache;
 use std::alloc::Global;
 use std::marker::Model;
 use std::num::NonZeroUsize;
 use thiserror::Error;
 
-/// What a search found about the positions that it met last, at most as many as there is room for. Each entry is true, so no
-/// outcome depends on what is kept. Contracts see how many entries there are, and the room.
+/// What a search found about the positions that it met last, at most as many as there is room for, and the replies that refuted
+/// last. Each entry is true and each reply is tried, so no outcome depends on what is kept. Contracts see how many entries there
+/// are, and the room.
 #[derive(Drop)]
 pub struct Memo {
     cache: LruCache<Position, Entry>,
+    refutations: Refutations,
 }
 
 impl Model for Memo {
@@ -71,7 +74,10 @@ impl Memo {
             return Err(MemoFault::BadSize);
         };
         match LruCache::new(alloc, size) {
-            Ok(cache) => Ok(Memo { cache }),
+            Ok(cache) => Ok(Memo {
+                cache,
+                refutations: Refutations::none(),
+            }),
             Err(_) => Err(MemoFault::NoMemory),
         }
     }
@@ -106,5 +112,17 @@ impl Memo {
     {
         equal_reads();
         let _ = self.cache.put(*position, entry);
+    }
+
+    /// The two replies that refuted last with `k` moves left to the attacker.
+    pub(crate) fn refutations(&self, k: u8) -> (Option<Move>, Option<Move>) {
+        self.refutations.two(k)
+    }
+
+    /// Keeps a reply that refuted with `k` moves left to the attacker.
+    pub(crate) fn keep_refutation(&mut self, k: u8, reply: Move)
+        ensures { self.new ≡ self.old }
+    {
+        self.refutations.keep(k, reply);
     }
 }

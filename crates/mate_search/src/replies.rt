@@ -1,36 +1,29 @@
 //! What an input of records is answered.
 
-ghost use Rattle.std.specs.Prelude.{◌≡◌, ◌≢◌, ◌++◌, ◌<◌, ◌≤◌, [], ◌∷◌, IfNone, IfOk, IfSome, length};
+ghost use Rattle.std.specs.Prelude.{◌≡◌, ◌≢◌, ◌≤◌, ℕ, Bool, List, [], IfErr, IfOk, true, false};
+ghost use Rattle.std.specs.Io.KnownBytes.{Appends};
 ghost use Rattle.chess_notation.specs.Words.{is_blank as is_blank_text};
-ghost use Rattle.mate_search.specs.Replies.{answer_line as answer_line_of, fault_line, lines_of, without_cr as text_without_cr, IsLineReply, IsReply};
+ghost use Rattle.mate_search.specs.Inputs.{MayBe};
+ghost use Rattle.mate_search.specs.Replies.{answer_line as answer_line_of, fault_line, without_cr as text_without_cr, IsLineReply, IsReply, IsReplyToFirst};
+ghost use Rattle.mate_search.specs.Stops.{AppendsBy, AppendsPart, is_of_output};
+ghost use Rattle.mate_search.specs.Takings.{IsKept, TakesLine, left_of};
 
+use crate::inputs::Input;
 use crate::memo::Memo;
 use crate::solving::solve;
+use crate::stops::Stop;
+use crate::taking::{Kept, Lines, MOST_KEPT};
+use crate::writing::put;
 use chess_moves::Rays;
 use chess_notation::{Bound, EpdFault, NoMemory, Record, answer_text, read_record};
 use std::alloc::{AllocError, Global};
+use std::io::Write;
 
 /// A reply to a line or to an input: its text, and how many lines it refuses.
 #[derive(Debug, Drop)]
 pub struct Output {
     pub text: Vec<u8>,
     pub refused: usize,
-}
-
-/// The first line of a text, and what follows the newline behind it; none where the text is one line.
-pub fn first_line(text: &[u8]) -> Option<(&[u8], &[u8])>
-    ensures none { IfNone result (lines_of text.now ≡ text.now ∷ []) }
-    ensures cut { IfSome result (λ cut. lines_of text.now ≡ cut.0.now ∷ lines_of cut.1.now) }
-    ensures shorter { IfSome result (λ cut. length cut.1.now < length text.now) }
-{
-    for (index, byte) in text.iter().enumerate() {
-        if *byte == b'\n' {
-            let (line, _) = text.split_at(index);
-            let (_, more) = text.split_at(index + 1);
-            return Some((line, more));
-        }
-    }
-    None
 }
 
 /// A line without one CR at its end.
@@ -101,9 +94,20 @@ fn record_text(
     Ok(text.into_bytes())
 }
 
+/// The reply to a blank line.
+fn nothing(alloc: Global) -> Output
+    ensures text { result.text.items ≡ [] }
+    ensures none { result.refused ≡ 0 }
+{
+    Output {
+        text: Vec::new(alloc),
+        refused: 0,
+    }
+}
+
 /// What one line of an input is answered, by its number there, counted from 1: its answer or its fault with a newline behind
 /// it, or nothing where the line is blank. One CR at its end is dropped. Only a growth that is refused is an error.
-pub fn answer_line(
+fn answer_line(
     alloc: Global,
     rays: &Rays,
     number: usize,
@@ -120,10 +124,7 @@ pub fn answer_line(
     memo.len();
     let line = without_cr(line);
     if is_blank(line) {
-        return Ok(Output {
-            text: Vec::new(alloc),
-            refused: 0,
-        });
+        return Ok(nothing(alloc));
     }
     match read_record(alloc, rays, line, default) {
         Ok(record) => Ok(Output {
@@ -134,7 +135,104 @@ pub fn answer_line(
     }
 }
 
-/// What an input is answered, line by line, and how many of its lines are refused. Want of memory leaves no part of the text.
+/// The reply to a line by what is kept of it: a line of which bytes are left out is blank or too long.
+fn answer_kept(
+    alloc: Global,
+    rays: &Rays,
+    number: usize,
+    kept: &Kept,
+    default: Bound,
+    memo: &mut Memo,
+) -> Result<Output, NoMemory>
+    ensures reply { IfOk result (λ output. (line : List ℕ) → IsKept kept.now line → IsLineReply default number (text_without_cr line) output.text.items output.refused) }
+    ensures few { IfOk result (λ output. output.refused ≤ 1) }
+    ensures room { memo.new.room ≡ memo.old.room }
+    ensures within { memo.new.kept ≤ memo.new.room }
+{
+    memo.len();
+    if kept.bytes.len() < MOST_KEPT {
+        return answer_line(alloc, rays, number, kept.bytes.as_slice(), default, memo);
+    }
+    if kept.is_blank() {
+        return Ok(nothing(alloc));
+    }
+    refusal(alloc, number, EpdFault::TooLong)
+}
+
+/// What is known once a line is answered: whether it was refused, and whether it is the last.
+#[derive(Clone, Copy)]
+struct Answered {
+    refused: usize,
+    is_last: bool,
+}
+
+/// Takes the next line of an input, and has written the reply to it when it returns.
+fn answer_next<I: Input + Drop, O: Write>(
+    alloc: Global,
+    rays: &Rays,
+    number: usize,
+    lines: &mut Lines<I>,
+    default: Bound,
+    memo: &mut Memo,
+    out: &mut O,
+) -> Result<Answered, Stop>
+    ensures ok { IfOk result (λ answered. (line : List ℕ) × (here : List ℕ) × IsLineReply default number (text_without_cr line) here answered.refused
+        × TakesLine answered.is_last (left_of I.left lines.old) (left_of I.left lines.new) line × Appends (O.contents out.old) (O.contents out.new) here) }
+    ensures few { IfOk result (λ answered. answered.refused ≤ 1) }
+    ensures unanswered { IfErr result (λ stop. is_of_output stop ≡ false → out.new ≡ out.old) }
+    ensures cut { IfErr result (λ stop. is_of_output stop ≡ true → (is_last : Bool) × (line : List ℕ) × (here : List ℕ) × (count : ℕ)
+        × IsLineReply default number (text_without_cr line) here count × TakesLine is_last (left_of I.left lines.old) (left_of I.left lines.new) line
+        × AppendsPart (O.contents out.old) (O.contents out.new) here) }
+    ensures unreadable { IfErr result (λ stop. stop ≡ Stop.Unreadable → I.breaks lines.old.input) }
+    ensures steady { I.breaks lines.new.input → I.breaks lines.old.input }
+    ensures room { memo.new.room ≡ memo.old.room }
+    ensures within { memo.new.kept ≤ memo.new.room }
+{
+    memo.len();
+    let taken = lines.take_line(alloc)?;
+    let output = answer_kept(alloc, rays, number, &taken.kept, default, memo)?;
+    put(out, output.text.as_slice())?;
+    Ok(Answered {
+        refused: output.refused,
+        is_last: taken.is_last,
+    })
+}
+
+/// Answers an input line by line: each line before the next is waited for. Gives how many lines are refused.
+///
+/// Where it stops before the end, the replies to some of the first lines are written. A line is taken into memory no further
+/// than a record is long.
+pub fn answer_input<I: Input + Drop, O: Write>(
+    alloc: Global,
+    rays: &Rays,
+    input: I,
+    default: Bound,
+    memo: &mut Memo,
+    out: &mut O,
+) -> Result<usize, Stop>
+    ensures ok { IfOk result (λ refused. (bytes : List ℕ) × (text : List ℕ) × MayBe (I.left input) bytes × IsReply default bytes text refused
+        × Appends (O.contents out.old) (O.contents out.new) text) }
+    ensures err { IfErr result (λ stop. (bytes : List ℕ) × (text : List ℕ) × MayBe (I.left input) bytes × IsReplyToFirst default bytes text
+        × AppendsBy stop (O.contents out.old) (O.contents out.new) text) }
+    ensures unreadable { IfErr result (λ stop. stop ≡ Stop.Unreadable → I.breaks input) }
+    ensures room { memo.new.room ≡ memo.old.room }
+    ensures within { memo.new.kept ≤ memo.new.room }
+{
+    memo.len();
+    let mut lines = Lines::new(alloc, input);
+    let mut refused = 0;
+    for number in 1..usize::MAX {
+        let answered = answer_next(alloc, rays, number, &mut lines, default, memo, out)?;
+        refused += answered.refused;
+        if answered.is_last {
+            return Ok(refused);
+        }
+    }
+    Err(Stop::NoMemory)
+}
+
+/// What an input that is there already is answered, and how many of its lines are refused. Want of memory leaves no part of the
+/// text.
 pub fn solve_input(
     alloc: Global,
     rays: &Rays,
@@ -148,18 +246,9 @@ pub fn solve_input(
 {
     memo.len();
     let mut text = Vec::new(alloc);
-    let mut refused = 0;
-    let mut number = 1;
-    let mut rest = input;
-    while let Some((line, more)) = first_line(rest) {
-        let reply = answer_line(alloc, rays, number, line, default, memo)?;
-        text.extend_from_slice(reply.text.as_slice())?;
-        refused += reply.refused;
-        number += 1;
-        rest = more;
+    match answer_input(alloc, rays, input, default, memo, &mut text) {
+        Ok(refused) => Ok(Output { text, refused }),
+        // Neither can a text that is there be unreadable, nor does a list refuse to be written but for want of memory.
+        Err(_) => Err(NoMemory),
     }
-    let reply = answer_line(alloc, rays, number, rest, default, memo)?;
-    text.extend_from_slice(reply.text.as_slice())?;
-    refused += reply.refused;
-    Ok(Output { text, refused })
 }

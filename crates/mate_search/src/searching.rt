@@ -97,26 +97,19 @@ pub(crate) fn wins_among(
     ensures found { result ≡ list_any (leaves_lost (n - 1) position.now) first.now }
     ensures room { memo.new.room ≡ memo.old.room }
 {
-    let mut refutation = None;
     for m in first {
-        if loses(rays, &after(position, *m), n - 1, &mut refutation, memo) {
+        if loses(rays, &after(position, *m), n - 1, memo) {
             return true;
         }
     }
     false
 }
 
-/// Whether the defender, to move, is mated, or the attacker mates within `k` moves whatever the reply. The reply that refuted the
-/// attacker's last move is tried first, and one that refutes this move is left for the next.
+/// Whether the defender, to move, is mated, or the attacker mates within `k` moves whatever the reply. First the memo is asked
+/// about all replies, then those are tried that refuted elsewhere.
 #[tactic(auto, using(crate::proofs::Wins::lost_none))]
 #[cycle(search)]
-pub(crate) fn loses(
-    rays: &Rays,
-    position: &Position,
-    k: u8,
-    refutation: &mut Option<Move>,
-    memo: &mut Memo,
-) -> bool
+pub(crate) fn loses(rays: &Rays, position: &Position, k: u8, memo: &mut Memo) -> bool
     ensures lost { result ≡ lost k position.now }
     ensures room { memo.new.room ≡ memo.old.room }
 {
@@ -124,23 +117,50 @@ pub(crate) fn loses(
     if k == 0 {
         return is_mated(rays, position);
     }
-    if let Some(r) = refutation {
-        if refutes(rays, position, *r, k, memo) {
-            return false;
-        }
+    if k > 1 && is_known_refuted(rays, position, k, memo) {
+        return false;
     }
-    loses_each(rays, position, k, refutation, memo)
+    let (last, earlier) = memo.refutations(k);
+    if refutes(rays, position, last, k, memo) {
+        return false;
+    }
+    if refutes(rays, position, earlier, k, memo) {
+        return false;
+    }
+    loses_each(rays, position, k, memo)
 }
 
-/// Whether this is a legal reply after which the attacker does not mate within `k` moves.
-#[cycle(search)]
-fn refutes(rays: &Rays, position: &Position, reply: Move, k: u8, memo: &mut Memo) -> bool
+/// Whether the memo knows of a reply after which the attacker does not mate within `k` moves. To ask about all of them costs
+/// less than to search one.
+fn is_known_refuted(rays: &Rays, position: &Position, k: u8, memo: &mut Memo) -> bool
     ensures refuted { result ≡ true → lost k position.now ≡ false }
     ensures room { memo.new.room ≡ memo.old.room }
 {
     for r in legal_moves(rays, position) {
+        if memo.entry(&after(position, r)).answer(k) == Some(false) {
+            memo.keep_refutation(k, r);
+            return true;
+        }
+    }
+    false
+}
+
+/// Whether this is a legal reply after which the attacker does not mate within `k` moves.
+#[cycle(search)]
+fn refutes(rays: &Rays, position: &Position, reply: Option<Move>, k: u8, memo: &mut Memo) -> bool
+    ensures refuted { result ≡ true → lost k position.now ≡ false }
+    ensures room { memo.new.room ≡ memo.old.room }
+{
+    let Some(reply) = reply else {
+        return false;
+    };
+    for r in legal_moves(rays, position) {
         if r == reply {
-            return !wins(rays, &after(position, r), k, memo);
+            let wins = wins(rays, &after(position, r), k, memo);
+            if !wins {
+                memo.keep_refutation(k, r);
+            }
+            return !wins;
         }
     }
     false
@@ -148,13 +168,7 @@ fn refutes(rays: &Rays, position: &Position, reply: Move, k: u8, memo: &mut Memo
 
 /// The same as `loses` by all replies, each of which has to lose.
 #[cycle(search)]
-fn loses_each(
-    rays: &Rays,
-    position: &Position,
-    k: u8,
-    refutation: &mut Option<Move>,
-    memo: &mut Memo,
-) -> bool
+fn loses_each(rays: &Rays, position: &Position, k: u8, memo: &mut Memo) -> bool
     ensures lost { result ≡ lost k position.now }
     ensures room { memo.new.room ≡ memo.old.room }
 {
@@ -162,7 +176,7 @@ fn loses_each(
     for r in legal_moves(rays, position) {
         moves = true;
         if !wins(rays, &after(position, r), k, memo) {
-            *refutation = Some(r);
+            memo.keep_refutation(k, r);
             return false;
         }
     }

@@ -80,7 +80,8 @@ fn solve_rest(rays: &Rays, problem: &Problem, memo: &mut Memo) -> Outcome
     outcome
 }
 
-fn is_same_move(m: Move, n: Move) -> bool
+/// Whether two moves are one.
+pub(crate) fn is_same_move(m: Move, n: Move) -> bool
     ensures { result ≡ are_same_move m n }
 {
     m == n

@@ -149,6 +149,47 @@ fn answers_the_lines_of_an_input(rt: HostRuntime) -> Result<(), Fail> {
 }
 
 #[test]
+fn a_long_line_is_blank_or_too_long(rt: HostRuntime) -> Result<(), Fail> {
+    let alloc = rt.alloc();
+    let back_rank = "6k1/5ppp/8/8/8/8/8/R3K3 w Q - bm Ra8#; dm 1; pv Ra8#;\n";
+    let record = "6k1/5ppp/8/8/8/8/8/R3K3 w Q - dm 1;";
+    let too_long = "# line 1: TooLong\n";
+    // What a line begins with, how many bytes it has with the spaces behind that, what it ends with, and the reply.
+    let table = [
+        (record, 1023, "", back_rank),
+        (record, 1023, "\r", back_rank),
+        (record, 1024, "", too_long),
+        (record, 1024, "\r", too_long),
+        (record, 1023, "\r\r", too_long),
+        (record, 100_000, "", too_long),
+        ("", 1024, "", ""),
+        ("", 1025, "\r", ""),
+        ("", 100_000, "", ""),
+        ("", 100_000, "\r", ""),
+        ("", 100_000, "\r\r", too_long),
+        ("", 100_000, "\r ", too_long),
+        ("", 100_000, "x", too_long),
+        ("", 1024, "x", too_long),
+        ("x", 100_000, "", too_long),
+        ("\r", 100_000, "\r", too_long),
+    ];
+    let default = Bound::new(1).ok_or("bound")?;
+    let mut memo = Memo::new(alloc, 16)?;
+    for (begin, bytes, end, reply) in table {
+        let mut input = Vec::from_slice(alloc, begin.as_bytes())?;
+        input.resize(bytes, b' ')?;
+        input.extend_from_slice(end.as_bytes())?;
+        input.extend_from_slice(b"\n8/8")?;
+        let want = format!(in alloc; "{reply}# line 2: Fen FieldCount\n")?;
+        let refused = if reply == too_long { 2 } else { 1 };
+        let output = solve_input(alloc, &Rays::new(), input.as_slice(), default, &mut memo)?;
+        assert_eq!(rt; output.text.as_slice(), want.as_bytes(), "{bytes} {end:?}");
+        assert_eq!(rt; output.refused, refused, "{bytes} {end:?}");
+    }
+    Ok(())
+}
+
+#[test]
 fn makes_memos_of_some_sizes(rt: HostRuntime) -> Result<(), Fail> {
     for entries in [0, 65_537] {
         match Memo::new(rt.alloc(), entries) {

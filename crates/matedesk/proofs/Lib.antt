@@ -1,3 +1,4 @@
+mod Endings
 mod Escapes
 mod Numbers
 mod Parsed

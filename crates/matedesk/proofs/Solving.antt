@@ -1,48 +1,26 @@
--- A line more and a file more of what `solve` shows.
-use Rattle.std.proofs.Common.{◌≡◌, ◌∙◌, ◌+◌, ◌++◌, ◌||◌, ◌<◌, Bor, ℕ, zero, suc, Bool, List, [], ◌∷◌, false, refl, sym, ap, subst, arith, lt-ltb, map, take, length, nat_lt, append_assoc, slice_index_or}
-use Rattle.std.proofs.lemmas.List.{append-nil, take_more, map-append}
+-- A file more of what `solve` shows, and where it stops.
+use Rattle.std.proofs.Common.{◌≡◌, ◌∙◌, ◌+◌, ◌++◌, ◌||◌, ◌<◌, Bor, ℕ, zero, suc, Bool, List, [], ◌∷◌, Option, None, Some, false, refl, sym, ap, subst, arith, lt-ltb, map, take, drop, length, nat_lt, append_assoc, slice_index_or}
+use Rattle.std.specs.Bool.{⊤}
+use Rattle.std.proofs.lemmas.List.{append-nil, take_more, map-append, take-append-drop}
+use Rattle.std.proofs.KnownBytes.{Appends-kept, Appends-nil, Appends-trans}
+use Rattle.std.proofs.Math.Seq.{drop-append_seam, drop-cons, take-append_seam}
+use Rattle.std.specs.Io.KnownBytes.{Appends, Keeps}
 use Rattle.clap.specs.Words.{Text}
-use Rattle.mate_search.specs.Replies.{lines_of, without_cr, IsLineReply, IsReply, IsReplyFrom}
+use Rattle.mate_search.specs.Inputs.{MayBe}
+use Rattle.mate_search.specs.Replies.{IsReply, IsReplyToFirst}
+use Rattle.mate_search.specs.Stops.{AppendsBy, AppendsPart}
+use Rattle.mate_search.specs.declared.stops.Stop.{Stop}
+use Rattle.mate_search.specs.declared.stops.Stop.TheVariants as stop
+use Rattle.matedesk.specs.Command.{FirstRefused, Gains, GainsPart, StopsSolving}
 use Rattle.matedesk.specs.Sources.{Holds}
-use Rattle.matedesk.specs.Solved.{IsReplies, Solves}
+use Rattle.matedesk.specs.Solved.{IsReplies, IsReplyIn, Solves, SolvesFirst}
 
 pub refused_more : (a b : Bool) (m n : ℕ) → a ≡ nat_lt 0 m → b ≡ nat_lt 0 n → (a || b) ≡ nat_lt 0 (m + n)
 refused_more a b zero n first second = let same : n ≡ 0 + n = omega arith in rw (first, second) (ap (nat_lt 0) same)
 refused_more a b (suc m) n first second = rw (first, second, lt-ltb 0 (suc m) (omega arith), lt-ltb 0 (suc m + n) (omega arith)) refl
 
--- Whatever is the reply to the lines left completes the reply to the input.
-abbrev pub Continues : ℕ → ℕ → List ℕ → List ℕ → List ℕ → ℕ → Type 0
-Continues bound number input rest gained count =
-    (more : List ℕ) (others : ℕ) → IsReplyFrom bound number (lines_of rest) more others → IsReplyFrom bound 1 (lines_of input) (gained ++ more) (count + others)
-
-pub continues_none : (bound : ℕ) (input : List ℕ) → Continues bound 1 input input [] 0
-continues_none bound input more others on =
-    let P : ℕ → Type 0 = λ n. IsReplyFrom bound 1 (lines_of input) more n in
-    subst P (omega arith) on
-
-pub continues_more : (bound number count few : ℕ) (input rest line back gained here : List ℕ) → lines_of rest ≡ line ∷ lines_of back
-    → IsLineReply bound number (without_cr line) here few → Continues bound number input rest gained count
-    → Continues bound (number + 1) input back (gained ++ here) (count + few)
-continues_more bound number count few input rest line back gained here cut reply so_far more others on =
-    let P : List (List ℕ) → Type 0 = λ lines. IsReplyFrom bound number lines (here ++ more) (few + others) in
-    let there : P (line ∷ lines_of back) = (here, few, more, others, reply, on, refl, refl) in
-    let whole : IsReplyFrom bound 1 (lines_of input) (gained ++ (here ++ more)) (count + (few + others)) = so_far (here ++ more) (few + others) (subst P (sym cut) there) in
-    let Q : List ℕ → Type 0 = λ t. IsReplyFrom bound 1 (lines_of input) t (count + (few + others)) in
-    let R : ℕ → Type 0 = λ n. IsReplyFrom bound 1 (lines_of input) ((gained ++ here) ++ more) n in
-    subst R (omega arith) (subst Q (sym (append_assoc gained here more)) whole)
-
--- The last line has no newline behind it.
-pub continues_last : (bound number count few : ℕ) (input rest gained here : List ℕ) → lines_of rest ≡ rest ∷ []
-    → IsLineReply bound number (without_cr rest) here few → Continues bound number input rest gained count
-    → IsReply bound input (gained ++ here) (count + few)
-unfolding IsReply
-continues_last bound number count few input rest gained here last reply so_far =
-    let P : List (List ℕ) → Type 0 = λ lines. IsReplyFrom bound number lines here few in
-    let there : P (rest ∷ []) = (here, few, [], 0, reply, (refl, refl), sym (append-nil here), omega arith) in
-    so_far here few (subst P (sym last) there)
-
-holds_more : (holds : Text → List ℕ → Type 0) (names : List Text) (inputs : List (List ℕ)) (name : Text) (input : List ℕ)
-    → Holds holds names inputs → holds name input → Holds holds (names ++ name ∷ []) (inputs ++ input ∷ [])
+holds_more : (holds : Text → Option (List ℕ)) (names : List Text) (inputs : List (List ℕ)) (name : Text) (input : List ℕ)
+    → Holds holds names inputs → MayBe (holds name) input → Holds holds (names ++ name ∷ []) (inputs ++ input ∷ [])
 holds_more holds [] [] name input held last = (last, tt)
 holds_more holds [] (x ∷ xs) name input held last = absurd held
 holds_more holds (n ∷ ns) [] name input held last = absurd held
@@ -63,8 +41,8 @@ replies_more bound (x ∷ xs) input text here count few (first, n, rest, m, is_f
   omega (arith, total),
 )
 
-solves_more : (holds : Text → List ℕ → Type 0) (bound : ℕ) (names : List Text) (name : Text) (a b : Bool) (gained input here : List ℕ) (few : ℕ)
-    → Solves holds bound names a gained → holds name input → IsReply bound input here few → b ≡ nat_lt 0 few
+solves_more : (holds : Text → Option (List ℕ)) (bound : ℕ) (names : List Text) (name : Text) (a b : Bool) (gained input here : List ℕ) (few : ℕ)
+    → Solves holds bound names a gained → MayBe (holds name) input → IsReply bound input here few → b ≡ nat_lt 0 few
     → Solves holds bound (names ++ name ∷ []) (a || b) (gained ++ here)
 solves_more holds bound names name a b gained input here few so_far held reply refusal = record {
   inputs = so_far.inputs ++ input ∷ [];
@@ -75,11 +53,90 @@ solves_more holds bound names name a b gained input here few so_far held reply r
 }
 
 -- One name more of those that are taken is solved.
-pub solves_next : (holds : Text → List ℕ → Type 0) (bound : ℕ) (names : List (Bor Text)) (i : ℕ) (d : Bor Text) (a b : Bool) (gained input read here : List ℕ) (few : ℕ)
-    → i < length names → Solves holds bound (map (λ s. s.now) (take i names)) a gained → holds (slice_index_or names i d).now input
-    → read ≡ input → IsReply bound read here few → b ≡ nat_lt 0 few
+pub solves_next : (holds : Text → Option (List ℕ)) (bound : ℕ) (names : List (Bor Text)) (i : ℕ) (d : Bor Text) (a b : Bool) (gained input here : List ℕ) (few : ℕ)
+    → i < length names → Solves holds bound (map (λ s. s.now) (take i names)) a gained → MayBe (holds (slice_index_or names i d).now) input
+    → IsReply bound input here few → b ≡ nat_lt 0 few
     → Solves holds bound (map (λ s. s.now) (take (i + 1) names)) (a || b) (gained ++ here)
-solves_next holds bound names i d a b gained input read here few within so_far held same reply refusal =
-    let P : List ℕ → Type 0 = λ t. IsReply bound t here few in
-    let more = solves_more holds bound (map (λ s. s.now) (take i names)) (slice_index_or names i d).now a b gained input here few so_far held (subst P same reply) refusal in
+solves_next holds bound names i d a b gained input here few within so_far held reply refusal =
+    let more = solves_more holds bound (map (λ s. s.now) (take i names)) (slice_index_or names i d).now a b gained input here few so_far held reply refusal in
     rw (take_more names i d within, map-append (λ (s : Bor Text). s.now) (take i names) (slice_index_or names i d ∷ [])) more
+
+-- ---- where it stops
+
+holds_length : (holds : Text → Option (List ℕ)) (names : List Text) (inputs : List (List ℕ)) → Holds holds names inputs → length inputs ≡ length names
+holds_length holds [] [] held = refl
+holds_length holds [] (x ∷ xs) held = absurd held
+holds_length holds (n ∷ ns) [] held = absurd held
+holds_length holds (n ∷ ns) (x ∷ xs) held = ap suc (holds_length holds ns xs held.1)
+
+solves_first : (holds : Text → Option (List ℕ)) (bound : ℕ) (front : List Text) (name : Text) (back : List Text) (a : Bool) (Ends_at : List Text → Type 0) (gained input part : List ℕ)
+    → Solves holds bound front a gained → MayBe (holds name) input → IsReplyToFirst bound input part → Ends_at (name ∷ back)
+    → SolvesFirst holds bound (front ++ name ∷ back) Ends_at (gained ++ part)
+solves_first holds bound front name back a Ends_at gained input part so_far held reply ends =
+    let count = holds_length holds front so_far.inputs so_far.given in
+    let taken : take (length so_far.inputs) (front ++ name ∷ back) ≡ front = ap (λ n. take n (front ++ name ∷ back)) count ∙ take-append_seam front (name ∷ back) in
+    let left : drop (length so_far.inputs) (front ++ name ∷ back) ≡ name ∷ back = ap (λ n. drop n (front ++ name ∷ back)) count ∙ drop-append_seam front (name ∷ back) in
+    record {
+      inputs = so_far.inputs;
+      whole = gained;
+      refusals = so_far.refusals;
+      part = part;
+      given = subst (λ names. Holds holds names so_far.inputs) (sym taken) so_far.given;
+      replies = so_far.replies;
+      next = subst (λ names. IsReplyIn holds bound names part) (sym left) (input, held, reply);
+      text_is = refl;
+      stops = subst Ends_at (sym left) ends;
+    }
+
+part_behind : (old mid new : Option (List ℕ)) (gained text : List ℕ) → Appends old mid gained → AppendsPart mid new text → AppendsPart old new (gained ++ text)
+part_behind old mid new gained text before (part, rest, is, on) =
+    (gained ++ part, rest, ap (λ t. gained ++ t) is ∙ sym (append_assoc gained part rest), Appends-trans old mid new gained part before on)
+
+stops_at : (holds : Text → Option (List ℕ)) (refuses : Text → Type 0) (bound : ℕ) (front : List Text) (name : Text) (back : List Text) (a : Bool) (s : Stop) (old mid new : Option (List ℕ))
+    (gained input part : List ℕ) → Solves holds bound front a gained → Appends old mid gained → MayBe (holds name) input → IsReplyToFirst bound input part
+    → AppendsBy s mid new part → (s ≡ stop.Unreadable → refuses name) → StopsSolving holds refuses bound (front ++ name ∷ back) s old new
+stops_at holds refuses bound front name back a stop.NoMemory old mid new gained input part so_far before held reply appends may =
+    record { gained = gained ++ part; shows = solves_first holds bound front name back a (λ _. ⊤) gained input part so_far held reply tt; appends = Appends-trans old mid new gained part before appends }
+stops_at holds refuses bound front name back a stop.Unreadable old mid new gained input part so_far before held reply appends may = record {
+  gained = gained ++ part;
+  shows = solves_first holds bound front name back a (FirstRefused refuses) gained input part so_far held reply (may refl);
+  appends = Appends-trans old mid new gained part before appends;
+}
+stops_at holds refuses bound front name back a stop.Unwritable old mid new gained input part so_far before held reply appends may =
+    record { whole = gained ++ part; shows = solves_first holds bound front name back a (λ _. ⊤) gained input part so_far held reply tt; appends = part_behind old mid new gained part before appends }
+stops_at holds refuses bound front name back a stop.NoReader old mid new gained input part so_far before held reply appends may =
+    record { whole = gained ++ part; shows = solves_first holds bound front name back a (λ _. ⊤) gained input part so_far held reply tt; appends = part_behind old mid new gained part before appends }
+
+names_split : (names : List (Bor Text)) (i : ℕ) (d : Bor Text) → i < length names
+    → map (λ s. s.now) names ≡ map (λ s. s.now) (take i names) ++ (slice_index_or names i d).now ∷ map (λ s. s.now) (drop (suc i) names)
+names_split names i d within =
+    let split : names ≡ take i names ++ slice_index_or names i d ∷ drop (suc i) names = sym (take-append-drop i names) ∙ ap (λ l. take i names ++ l) (drop-cons names i d within) in
+    ap (map (λ (s : Bor Text). s.now)) split ∙ map-append (λ (s : Bor Text). s.now) (take i names) (slice_index_or names i d ∷ drop (suc i) names)
+
+-- It stops at the file of this index.
+pub stops_there : (holds : Text → Option (List ℕ)) (refuses : Text → Type 0) (bound : ℕ) (names : List (Bor Text)) (i : ℕ) (d : Bor Text) (a : Bool) (s : Stop) (old mid new : Option (List ℕ))
+    (gained input part : List ℕ) → i < length names → Solves holds bound (map (λ s. s.now) (take i names)) a gained → Appends old mid gained → MayBe (holds (slice_index_or names i d).now) input
+    → IsReplyToFirst bound input part → AppendsBy s mid new part → (s ≡ stop.Unreadable → refuses (slice_index_or names i d).now)
+    → StopsSolving holds refuses bound (map (λ s. s.now) names) s old new
+stops_there holds refuses bound names i d a s old mid new gained input part within so_far before held reply appends may =
+    rw (names_split names i d within)
+    (stops_at holds refuses bound (map (λ s. s.now) (take i names)) (slice_index_or names i d).now (map (λ s. s.now) (drop (suc i) names)) a s old mid new gained input part
+    so_far before held reply appends may)
+
+pub some_input : (known : Option (List ℕ)) → (input : List ℕ) × MayBe known input
+some_input None = ([], tt)
+some_input (Some x) = (x, refl)
+
+no_reply_in : (holds : Text → Option (List ℕ)) (bound : ℕ) (names : List Text) → IsReplyIn holds bound names []
+unfolding IsReplyToFirst
+no_reply_in holds bound [] = refl
+no_reply_in holds bound (name ∷ names) = let (input, may) = some_input (holds name) in (input, may, (0, 0, (refl, refl)))
+
+-- It stops before it has opened a file.
+pub stops_at_once : (holds : Text → Option (List ℕ)) (refuses : Text → Type 0) (bound : ℕ) (names : List Text) (old new : Option (List ℕ)) → Keeps old new
+    → StopsSolving holds refuses bound names stop.NoMemory old new
+stops_at_once holds refuses bound names old new kept = record {
+  gained = [];
+  shows = record { inputs = []; whole = []; refusals = 0; part = []; given = tt; replies = (refl, refl); next = no_reply_in holds bound names; text_is = refl; stops = tt };
+  appends = Appends-kept old old new [] (Appends-nil old) kept;
+}

@@ -1,6 +1,6 @@
 -- What the words of a command line ask for.
 use Rattle.std.specs.Prelude.{ℕ, Bool, List, [], ◌∷◌, Option, None, true, false, codes, option_map, option_and_then, if◌then◌else◌}
-use Rattle.std.specs.List.{list_any}
+use Rattle.std.specs.List.{list_all, list_any}
 use Rattle.std.specs.Option.{option_map_or}
 use Rattle.std.specs.Str.{bytes_eq}
 use Rattle.clap.specs.Words.{App, Kinds, Row, Text, all_of, fault_of, first_of, one_of, subcommand_of, subcommand_rows_of}
@@ -55,12 +55,23 @@ is_display DisplayHelp = true
 is_display DisplayVersion = true
 is_display _ = false
 
-abbrev pub asks_display_in : App → List Text → Bool
-asks_display_in a words = list_any is_display (fault_of a words)
+-- Where `clap` may answer words with one of several kinds, some of these, or all of them.
+abbrev pub may_display_in : App → List Text → Bool
+may_display_in a words = list_any is_display (fault_of a words)
 
--- both of the program's own command line, whose words stand as `clap` is given them
+abbrev pub all_display : Kinds → Bool
+all_display [] = false
+all_display (kind ∷ kinds) = list_all is_display (kind ∷ kinds)
+
+abbrev pub asks_display_in : App → List Text → Bool
+asks_display_in a words = all_display (fault_of a words)
+
+-- these of the program's own command line, whose words stand as `clap` is given them
 unfoldable pub asked_exactly : List Text → Option Asked
 asked_exactly words = asked_in desk_app words
+
+unfoldable pub may_display_exactly : List Text → Bool
+may_display_exactly words = may_display_in desk_app words
 
 unfoldable pub asks_display_exactly : List Text → Bool
 asks_display_exactly words = asks_display_in desk_app words
@@ -69,6 +80,10 @@ asks_display_exactly words = asks_display_in desk_app words
 abbrev pub asked : List Text → Option Asked
 asked words = asked_exactly (escaped words)
 
--- whether the words ask for help or the version
+-- whether the words may be taken to ask for help or the version
+abbrev pub may_display : List Text → Bool
+may_display words = may_display_exactly (escaped words)
+
+-- whether they ask for nothing else
 abbrev pub asks_display : List Text → Bool
 asks_display words = asks_display_exactly (escaped words)

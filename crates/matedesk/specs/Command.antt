@@ -1,38 +1,85 @@
 -- How the program ends.
-use Rattle.std.specs.Prelude.{◌≡◌, ◌==◌, ◌<◌, ◌≤◌, ℕ, Bool, List, Option, None, IfSome, IsSome, ⊤}
+use Rattle.std.specs.Prelude.{◌≡◌, ◌≤◌, ◌⊎◌, ℕ, Bool, List, [], ◌∷◌, Option, None, Some, Result, Ok, Err, IfSome, IsSomeAnd, true, false, ⊤}
 use Rattle.std.specs.Io.KnownBytes.{Appends, Keeps}
 use Rattle.clap.specs.Words.{Text}
+use Rattle.mate_search.specs.Stops.{AppendsPart}
+use Rattle.mate_search.specs.declared.stops.Stop.{Stop}
+use Rattle.mate_search.specs.declared.stops.Stop.TheVariants.{NoMemory, Unreadable, Unwritable, NoReader}
 use Rattle.matedesk.specs.Asked.{Asked, look, moves, perft, solve}
 use Rattle.matedesk.specs.Look.{look_text}
 use Rattle.matedesk.specs.MovesShown.{moves_text, perft_text}
-use Rattle.matedesk.specs.Shown.{IsRead, ShowsFen}
-use Rattle.matedesk.specs.Solved.{Solves}
+use Rattle.matedesk.specs.Shown.{ShowsFen}
+use Rattle.matedesk.specs.Solved.{Solves, SolvesFirst}
 
--- what a command shows where names may hold such inputs, and whether anything that it was given is refused
-abbrev pub Shows : (Text → List ℕ → Type 0) → Asked → Bool → List ℕ → Type 0
-Shows holds (look fen) refused gained = ShowsFen look_text fen refused gained
-Shows holds (moves fen) refused gained = ShowsFen moves_text fen refused gained
-Shows holds (perft fen depth) refused gained = ShowsFen (perft_text depth) fen refused gained
-Shows holds (solve bound names) refused gained = Solves holds bound names refused gained
+-- what a command shows where names hold such inputs, and whether anything that it was given is refused
+abbrev pub Shows : (Text → Option (List ℕ)) → Asked → Bool → List ℕ → Type 0
+Shows holds (look fen) refused text = ShowsFen look_text fen refused text
+Shows holds (moves fen) refused text = ShowsFen moves_text fen refused text
+Shows holds (perft fen depth) refused text = ShowsFen (perft_text depth) fen refused text
+Shows holds (solve bound names) refused text = Solves holds bound names refused text
 
--- the command has something to show, or files to read
-abbrev pub HasText : Asked → Type 0
-HasText (look fen) = IsRead fen
-HasText (moves fen) = IsRead fen
-HasText (perft fen depth) = IsRead fen
-HasText (solve bound names) = ⊤
+-- The first of the names is one that may be refused.
+abbrev pub FirstRefused : (Text → Type 0) → List Text → Type 0
+FirstRefused refuses [] = ⊥
+FirstRefused refuses (name ∷ names) = refuses name
 
 -- The known bytes of an output grow by exactly what is shown.
-pub record Gains (Shown : Bool → List ℕ → Type 0) (refused : Bool) (old new : Option (List ℕ)) : Type 0 where
+pub record Gains (Shown : List ℕ → Type 0) (old new : Option (List ℕ)) : Type 0 where
   pub gained : List ℕ
-  pub shows : Shown refused gained
+  pub shows : Shown gained
   pub appends : Appends old new gained
 
--- The status, by what was asked for, what names may hold, and what the output gained: 0 where all was answered, 1 where
--- anything was refused, 2 where the words ask for nothing, 3 where memory and 4 where a file or the output gave out.
-pub record Ends (holds : Text → List ℕ → Type 0) (asks : Option Asked) (status : ℕ) (old new : Option (List ℕ)) : Type 0 where
-  pub answered : status < 2 → IfSome asks (λ a. Gains (Shows holds a) (status == 1) old new)
-  pub refused : status ≡ 1 → IsSome asks
+-- The known bytes of an output grow by a first part of it.
+pub record GainsPart (Shown : List ℕ → Type 0) (old new : Option (List ℕ)) : Type 0 where
+  pub whole : List ℕ
+  pub shows : Shown whole
+  pub appends : AppendsPart old new whole
+
+-- What the output gained where a command over a FEN stops: nothing where memory gives out, and a first part of what there is
+-- to show where a write breaks off.
+abbrev pub StopsOverFen : (List ℕ → Type 0) → Stop → (old new : Option (List ℕ)) → Type 0
+StopsOverFen Shown NoMemory old new = Keeps old new
+StopsOverFen Shown Unreadable old new = ⊥
+StopsOverFen Shown Unwritable old new = GainsPart Shown old new
+StopsOverFen Shown NoReader old new = GainsPart Shown old new
+
+-- What it gained where `solve` stops: the replies to first lines; where a file can't be read, which may be refused, to all lines
+-- before that file; and where a write breaks off, a first part of such replies.
+abbrev pub StopsSolving : (Text → Option (List ℕ)) → (Text → Type 0) → ℕ → List Text → Stop → (old new : Option (List ℕ)) → Type 0
+StopsSolving holds refuses bound names NoMemory old new = Gains (SolvesFirst holds bound names (λ _. ⊤)) old new
+StopsSolving holds refuses bound names Unreadable old new = Gains (SolvesFirst holds bound names (FirstRefused refuses)) old new
+StopsSolving holds refuses bound names Unwritable old new = GainsPart (SolvesFirst holds bound names (λ _. ⊤)) old new
+StopsSolving holds refuses bound names NoReader old new = GainsPart (SolvesFirst holds bound names (λ _. ⊤)) old new
+
+abbrev pub Stops : (Text → Option (List ℕ)) → (Text → Type 0) → Asked → Stop → (old new : Option (List ℕ)) → Type 0
+Stops holds refuses (solve bound names) stop old new = StopsSolving holds refuses bound names stop old new
+Stops holds refuses asks stop old new = StopsOverFen (Shows holds asks false) stop old new
+
+-- the status that a command ends with: whether it refused anything, or why it stopped
+abbrev pub status_of : Result Bool Stop → ℕ
+status_of (Ok false) = 0
+status_of (Ok true) = 1
+status_of (Err NoMemory) = 3
+status_of (Err Unreadable) = 4
+status_of (Err Unwritable) = 4
+status_of (Err NoReader) = 4
+
+-- The program stops where a command does.
+abbrev pub StopsBy : (Text → Option (List ℕ)) → (Text → Type 0) → Option Asked → Stop → (old new : Option (List ℕ)) → Type 0
+StopsBy holds refuses None stop old new = Keeps old new
+StopsBy holds refuses (Some asks) stop old new = Stops holds refuses asks stop old new
+
+-- How the program ends, by what the words ask for, what names hold, and which names may be refused. Help and the version are
+-- shown where the words ask for nothing.
+pub record Ends (holds : Text → Option (List ℕ)) (refuses : Text → Type 0) (asks : Option Asked) (status : ℕ) (old new : Option (List ℕ)) : Type 0 where
+  -- 0: what was asked for is shown, and nothing was refused
+  pub answered : status ≡ 0 → IfSome asks (λ a. Gains (Shows holds a false) old new)
+  -- 1: the same, and something was refused
+  pub refused : status ≡ 1 → IsSomeAnd asks (λ a. Gains (Shows holds a true) old new)
+  -- 2: the words ask for nothing
   pub misused : status ≡ 2 → (asks ≡ None) × Keeps old new
-  pub no_access : status ≡ 4 → IfSome asks HasText
+  -- 3: memory gave out
+  pub no_memory : status ≡ 3 → StopsBy holds refuses asks NoMemory old new
+  -- 4: a file can't be read, or the output can't be written
+  pub no_access : status ≡ 4 → IfSome asks (λ a. Stops holds refuses a Unreadable old new ⊎ Stops holds refuses a Unwritable old new)
   pub bounded : status ≤ 4

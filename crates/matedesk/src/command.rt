@@ -1,11 +1,10 @@
 //! The program: words in, text and a status out.
 
-ghost use Rattle.std.specs.Prelude.{◌≡◌, ◌≢◌, ◌⊎◌, ◌==◌, ◌<◌, ◌≤◌, Err, None, Some, IfOk, IsSome, map, option_map, true};
-ghost use Rattle.std.specs.Io.KnownBytes.{Keeps};
+ghost use Rattle.std.specs.Prelude.{◌≡◌, ◌≢◌, ◌⊎◌, ◌≤◌, None, IfErr, IfOk, IsSome, map, option_map, true, false};
 ghost use Rattle.std.specs.String.{string_bytes};
 ghost use Rattle.clap.specs.Words.{kind_of};
-ghost use Rattle.matedesk.specs.Asked.{asked, asks_display, is_display};
-ghost use Rattle.matedesk.specs.Command.{Ends, Gains, HasText, Shows};
+ghost use Rattle.matedesk.specs.Asked.{asked, asks_display, is_display, may_display};
+ghost use Rattle.matedesk.specs.Command.{Ends, Gains, Shows, Stops};
 ghost use Rattle.matedesk.specs.Request.{plan_of};
 
 use crate::hyphens::escaped;
@@ -15,9 +14,10 @@ use crate::perft::perft;
 use crate::request::{Request, parse, request_of};
 use crate::solve::solve;
 use crate::source::Source;
-use crate::status::{ANSWERED, MISUSED, Stop, UNWRITABLE, no_memory, status_of};
+use crate::status::{ANSWERED, MISUSED, no_memory, status_of};
 use clap::Error;
 use clap::error::ErrorKind;
+use mate_search::{Stop, stop_of_output};
 use std::alloc::Global;
 use std::io::Write;
 
@@ -29,8 +29,8 @@ fn answer<S: Source, O: Write, E: Write>(
     out: &mut O,
     err: &mut E,
 ) -> Result<bool, Stop>
-    ensures ok { IfOk result (λ refused. Gains (Shows (S.holds source.now) (plan_of request.now)) refused (O.contents out.old) (O.contents out.new)) }
-    ensures no_access { (result ≡ Err Stop.Unreadable) ⊎ (result ≡ Err Stop.Unwritable) → HasText (plan_of request.now) }
+    ensures ok { IfOk result (λ refused. Gains (Shows (S.holds source.now) (plan_of request.now) refused) (O.contents out.old) (O.contents out.new)) }
+    ensures err { IfErr result (λ stop. Stops (S.holds source.now) (S.refuses source.now) (plan_of request.now) stop (O.contents out.old) (O.contents out.new)) }
 {
     match request {
         Request::Look(fen) => look(alloc, fen, out, err),
@@ -48,7 +48,7 @@ fn run<S: Source, O: Write, E: Write>(
     out: &mut O,
     err: &mut E,
 ) -> u8
-    ensures ends { Ends (S.holds source.now) (option_map plan_of request.now) result (O.contents out.old) (O.contents out.new) }
+    ensures ends { Ends (S.holds source.now) (S.refuses source.now) (option_map plan_of request.now) result (O.contents out.old) (O.contents out.new) }
     ensures asked { result ≢ 2 → IsSome (option_map plan_of request.now) }
 {
     let Some(request) = request else {
@@ -59,12 +59,12 @@ fn run<S: Source, O: Write, E: Write>(
 }
 
 /// Prints the help or the version.
-fn display<O: Write>(error: &Error, out: &mut O) -> u8
-    ensures { (result ≢ 1) × (result ≢ 2) × (result ≢ 3) × (result ≤ 4) }
+fn display<O: Write, E: Write>(error: &Error, out: &mut O, err: &mut E) -> u8
+    ensures { (result ≡ 0) ⊎ (result ≡ 4) }
 {
     match write!(out, "{error}") {
         Ok(()) => ANSWERED,
-        Err(_) => UNWRITABLE,
+        Err(fault) => status_of(Err(stop_of_output(&fault)), err),
     }
 }
 
@@ -82,12 +82,12 @@ fn usage<O: Write, E: Write>(error: &Error, out: &mut O, err: &mut E) -> u8
     ensures display { (result ≡ 0) ⊎ (result ≡ 4) → is_display (kind_of error.now) ≡ true }
     ensures no_misuse { is_display (kind_of error.now) ≡ true → result ≢ 2 }
     ensures no_refusal { result ≢ 1 }
-    ensures misuse { result ≡ 2 → Keeps (O.contents out.old) (O.contents out.new) }
+    ensures kept { (result ≡ 2) ⊎ (result ≡ 3) → out.new ≡ out.old }
     ensures bounded { result ≤ 4 }
 {
     match error.kind() {
         ErrorKind::OutOfMemory => no_memory(err),
-        ErrorKind::DisplayHelp | ErrorKind::DisplayVersion => display(error, out),
+        ErrorKind::DisplayHelp | ErrorKind::DisplayVersion => display(error, out, err),
         _ => misuse(error, err),
     }
 }
@@ -102,8 +102,9 @@ pub fn command<S: Source, O: Write, E: Write>(
     out: &mut O,
     err: &mut E,
 ) -> u8
-    ensures ends { Ends (S.holds source.now) (asked (map string_bytes words.now)) result (O.contents out.old) (O.contents out.new) }
-    ensures display { (result ≡ 0) ⊎ (result ≡ 4) → asked (map string_bytes words.now) ≡ None → asks_display (map string_bytes words.now) ≡ true }
+    ensures ends { Ends (S.holds source.now) (S.refuses source.now) (asked (map string_bytes words.now)) result (O.contents out.old) (O.contents out.new) }
+    ensures display { (result ≡ 0) ⊎ (result ≡ 4) → asked (map string_bytes words.now) ≡ None → may_display (map string_bytes words.now) ≡ true }
+    ensures no_misuse { result ≡ 2 → asks_display (map string_bytes words.now) ≡ false }
 {
     let Ok(texts) = escaped(alloc, words) else {
         return no_memory(err);

@@ -1,15 +1,13 @@
 //! The command `look`.
 
-ghost use Rattle.std.specs.Prelude.{◌≡◌, ◌++◌, Err, IfOk};
-ghost use Rattle.matedesk.specs.Asked.{look as look_asked};
-ghost use Rattle.matedesk.specs.Command.{Gains, HasText};
+ghost use Rattle.std.specs.Prelude.{◌≡◌, ◌++◌, IfErr, IfOk, false};
+ghost use Rattle.matedesk.specs.Command.{Gains, StopsOverFen};
 ghost use Rattle.matedesk.specs.Look.{check_text, look_text};
 ghost use Rattle.matedesk.specs.Shown.{ShowsFen};
 
-use crate::shown::{push_line, read};
-use crate::status::Stop;
-use crate::writing::put;
+use crate::shown::{push_line, read, show};
 use chess_board::{Fen, Position};
+use mate_search::Stop;
 use std::alloc::{AllocError, Global};
 use std::io::Write;
 
@@ -37,21 +35,18 @@ fn look_text(alloc: Global, fen: &Fen) -> Result<Vec<u8>, AllocError>
 }
 
 /// Shows a FEN, or names its fault on `err`; gives whether it was refused.
-#[tactic(auto, unfolding(crate::specs::Shown::IsRead))]
 pub fn look<O: Write, E: Write>(
     alloc: Global,
     fen: &str,
     out: &mut O,
     err: &mut E,
 ) -> Result<bool, Stop>
-    ensures ok { IfOk result (λ refused. Gains (ShowsFen look_text fen.now) refused (O.contents out.old) (O.contents out.new)) }
-    ensures unwritable { result ≡ Err Stop.Unwritable → HasText (look_asked fen.now) }
-    ensures readable { ¬ (result ≡ Err Stop.Unreadable) }
+    ensures ok { IfOk result (λ refused. Gains (ShowsFen look_text fen.now refused) (O.contents out.old) (O.contents out.new)) }
+    ensures err { IfErr result (λ stop. StopsOverFen (ShowsFen look_text fen.now false) stop (O.contents out.old) (O.contents out.new)) }
 {
     let Some(fen) = read(fen, err) else {
         return Ok(true);
     };
     let text = look_text(alloc, &fen)?;
-    put(out, text.as_slice())?;
-    Ok(false)
+    show(out, text.as_slice())
 }

@@ -2,12 +2,14 @@
 //!
 //! What a word means is settled here, and what an answer is in the crates below. Read `command` first, whose contract is
 //! the program's; then `request` (words to a request) over `command_line` (what `clap` is told) and `hyphens` (the words
-//! as it is given them); then each command in the file of its name, `solve` over `source` (where files come from).
+//! as it is given them); then each command in the file of its name, `solve` over `source` (where files
+//! come from) and `files` (those of the system).
 #![tactic(auto)]
 
 mod command;
 mod command_line;
 mod depths;
+mod files;
 mod help;
 mod hyphens;
 mod look;
@@ -21,7 +23,7 @@ mod status;
 mod writing;
 
 use command::command;
-use source::FileSystem;
+use files::FileSystem;
 use status::{MISUSED, no_memory};
 use std::alloc::Global;
 use std::process::ExitCode;
@@ -40,7 +42,10 @@ fn main(rt: HostRuntime) -> ExitCode {
     let mut err = rt.stderr();
     let status = match words_of(&rt, alloc) {
         Ok(words) => {
-            let files = FileSystem { rt: &rt };
+            let files = FileSystem {
+                rt: &rt,
+                stdin: rt.stdin(),
+            };
             command(alloc, words.as_slice(), &files, &mut out, &mut err)
         }
         Err(fault) if fault.kind() == io::ErrorKind::OutOfMemory => no_memory(&mut err),

@@ -1,17 +1,15 @@
 //! The command `moves`.
 
-ghost use Rattle.std.specs.Prelude.{◌≡◌, ◌++◌, Err, IfOk};
-ghost use Rattle.matedesk.specs.Asked.{moves as moves_asked};
-ghost use Rattle.matedesk.specs.Command.{Gains, HasText};
+ghost use Rattle.std.specs.Prelude.{◌≡◌, ◌++◌, IfErr, IfOk, false};
+ghost use Rattle.matedesk.specs.Command.{Gains, StopsOverFen};
 ghost use Rattle.matedesk.specs.MovesShown.{list_text, moves_text, text_by};
 ghost use Rattle.matedesk.specs.Shown.{ShowsFen, line};
 
-use crate::shown::{push_line, read};
-use crate::status::Stop;
-use crate::writing::put;
+use crate::shown::{push_line, read, show};
 use chess_board::{Fen, Position};
 use chess_moves::{Rays, Verdict, legal, legal_listed, verdict};
 use chess_notation::san;
+use mate_search::Stop;
 use std::alloc::{AllocError, Global};
 use std::io::Write;
 
@@ -54,21 +52,18 @@ fn moves_text(alloc: Global, fen: &Fen) -> Result<Vec<u8>, AllocError>
 }
 
 /// Lists the legal moves of a FEN, or names its fault on `err`; gives whether it was refused.
-#[tactic(auto, unfolding(crate::specs::Shown::IsRead))]
 pub fn moves<O: Write, E: Write>(
     alloc: Global,
     fen: &str,
     out: &mut O,
     err: &mut E,
 ) -> Result<bool, Stop>
-    ensures ok { IfOk result (λ refused. Gains (ShowsFen moves_text fen.now) refused (O.contents out.old) (O.contents out.new)) }
-    ensures unwritable { result ≡ Err Stop.Unwritable → HasText (moves_asked fen.now) }
-    ensures readable { ¬ (result ≡ Err Stop.Unreadable) }
+    ensures ok { IfOk result (λ refused. Gains (ShowsFen moves_text fen.now refused) (O.contents out.old) (O.contents out.new)) }
+    ensures err { IfErr result (λ stop. StopsOverFen (ShowsFen moves_text fen.now false) stop (O.contents out.old) (O.contents out.new)) }
 {
     let Some(fen) = read(fen, err) else {
         return Ok(true);
     };
     let text = moves_text(alloc, &fen)?;
-    put(out, text.as_slice())?;
-    Ok(false)
+    show(out, text.as_slice())
 }

@@ -1,18 +1,16 @@
 //! The command `perft`.
 
-ghost use Rattle.std.specs.Prelude.{◌≡◌, Err, IfOk};
-ghost use Rattle.matedesk.specs.Asked.{perft as perft_asked};
-ghost use Rattle.matedesk.specs.Command.{Gains, HasText};
+ghost use Rattle.std.specs.Prelude.{◌≡◌, IfErr, IfOk, false};
+ghost use Rattle.matedesk.specs.Command.{Gains, StopsOverFen};
 ghost use Rattle.matedesk.specs.MovesShown.{perft_text};
 ghost use Rattle.matedesk.specs.Shown.{ShowsFen};
 
 use crate::depths::Depth;
-use crate::shown::{push_line, read};
-use crate::status::Stop;
-use crate::writing::put;
+use crate::shown::{push_line, read, show};
 use chess_board::Fen;
 use chess_moves::Rays;
 use itoa::Buffer;
+use mate_search::Stop;
 use std::alloc::{AllocError, Global};
 use std::io::Write;
 
@@ -29,7 +27,6 @@ fn perft_text(alloc: Global, fen: &Fen, depth: Depth) -> Result<Vec<u8>, AllocEr
 }
 
 /// Counts lines of play from a FEN, or names its fault on `err`; gives whether it was refused.
-#[tactic(auto, unfolding(crate::specs::Shown::IsRead))]
 pub fn perft<O: Write, E: Write>(
     alloc: Global,
     fen: &str,
@@ -37,14 +34,12 @@ pub fn perft<O: Write, E: Write>(
     out: &mut O,
     err: &mut E,
 ) -> Result<bool, Stop>
-    ensures ok { IfOk result (λ refused. Gains (ShowsFen (perft_text depth) fen.now) refused (O.contents out.old) (O.contents out.new)) }
-    ensures unwritable { result ≡ Err Stop.Unwritable → HasText (perft_asked fen.now depth) }
-    ensures readable { ¬ (result ≡ Err Stop.Unreadable) }
+    ensures ok { IfOk result (λ refused. Gains (ShowsFen (perft_text depth) fen.now refused) (O.contents out.old) (O.contents out.new)) }
+    ensures err { IfErr result (λ stop. StopsOverFen (ShowsFen (perft_text depth) fen.now false) stop (O.contents out.old) (O.contents out.new)) }
 {
     let Some(fen) = read(fen, err) else {
         return Ok(true);
     };
     let text = perft_text(alloc, &fen, depth)?;
-    put(out, text.as_slice())?;
-    Ok(false)
+    show(out, text.as_slice())
 }

@@ -1,10 +1,10 @@
 //! From the words of a command line to a request.
 
-ghost use Rattle.std.specs.Prelude.{◌≡◌, ◌≢◌, None, IfOk, IfErr, map, option_map, true};
+ghost use Rattle.std.specs.Prelude.{◌≡◌, ◌≢◌, None, IfOk, IfErr, map, option_map, false, true};
 ghost use Rattle.std.specs.Option.{option_map_or};
 ghost use Rattle.clap.specs.Walk.{byte_or_zero};
 ghost use Rattle.clap.specs.Words.{all_of, first_of, found_of, kind_of, one_of, rows_of};
-ghost use Rattle.matedesk.specs.Asked.{asked_by, asked_exactly, bound_in, depth_in, asked_of, asks_display_exactly, is_display};
+ghost use Rattle.matedesk.specs.Asked.{asked_by, asked_exactly, bound_in, depth_in, asked_of, asks_display_exactly, is_display, may_display_exactly};
 ghost use Rattle.matedesk.specs.Request.{plan_of};
 
 use crate::command_line::desk_command;
@@ -93,8 +93,10 @@ pub fn request_of<'m, 'a>(matches: &'m ArgMatches<'a>) -> Option<Request<'m, 'a>
 /// Parses the words of a command line. A request for help or for the version is an `Err`.
 pub fn parse<'a>(alloc: Global, words: &'a [&'a str]) -> Result<ArgMatches<'a>, Error>
     ensures ok { IfOk result (λ m. asked_of m ≡ asked_exactly (map (λ s. s.now) words.entry.now)) }
+    ensures clear { IfOk result (λ _. asks_display_exactly (map (λ s. s.now) words.entry.now) ≡ false) }
     ensures err { IfErr result (λ e. kind_of e ≢ ErrorKind.OutOfMemory → asked_exactly (map (λ s. s.now) words.entry.now) ≡ None) }
-    ensures display { IfErr result (λ e. is_display (kind_of e) ≡ true → asks_display_exactly (map (λ s. s.now) words.entry.now) ≡ true) }
+    ensures display { IfErr result (λ e. is_display (kind_of e) ≡ true → may_display_exactly (map (λ s. s.now) words.entry.now) ≡ true) }
+    ensures misuse { IfErr result (λ e. kind_of e ≢ ErrorKind.OutOfMemory → is_display (kind_of e) ≡ false → asks_display_exactly (map (λ s. s.now) words.entry.now) ≡ false) }
 {
     desk_command(alloc)?.try_get_matches_from(words)
 }

@@ -1,6 +1,8 @@
-//! What the commands over one FEN share: reading it, and making the text that is shown.
+//! What the commands over one FEN share: reading it, making the text that is shown, and writing that.
 
-ghost use Rattle.std.specs.Prelude.{◌≡◌, ◌++◌, ℕ, IfOk, IfSome, IfNone};
+ghost use Rattle.std.specs.Prelude.{◌≡◌, ◌++◌, ℕ, IfErr, IfOk, IfSome, IfNone, OnErr, false, true};
+ghost use Rattle.std.specs.Io.KnownBytes.{Appends};
+ghost use Rattle.mate_search.specs.Stops.{AppendsPart, is_of_output};
 ghost use Rattle.chess_board.specs.Fens.{Spells, IsFault};
 ghost use Rattle.chess_board.specs.Soundness.{IsSound};
 ghost use Rattle.chess_board.specs.declared.faults.FenFault.{FenFault as FenFaultValue};
@@ -8,6 +10,7 @@ ghost use Rattle.matedesk.specs.Shown.{line};
 
 use crate::writing::complain;
 use chess_board::{Fen, read_fen};
+use mate_search::{Stop, put};
 use std::alloc::AllocError;
 use std::io::Write;
 
@@ -32,4 +35,14 @@ pub fn push_line(text: &mut Vec<u8>, words: &str) -> Result<(), AllocError>
     text.extend_from_slice(words.as_bytes())?;
     text.push(b'\n')?;
     Ok(())
+}
+
+/// Writes the whole text that is shown. Nothing is refused then.
+pub fn show<O: Write>(out: &mut O, text: &[u8]) -> Result<bool, Stop>
+    ensures ok { IfOk result (λ refused. (refused ≡ false) × Appends (O.contents out.old) (O.contents out.new) text.now) }
+    ensures err { IfErr result (λ stop. is_of_output stop ≡ true) }
+    ensures part { OnErr result (AppendsPart (O.contents out.old) (O.contents out.new) text.now) }
+{
+    put(out, text)?;
+    Ok(false)
 }

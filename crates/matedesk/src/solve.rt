@@ -2,16 +2,18 @@
 
 ghost use Rattle.std.specs.Prelude.{◌≡◌, ℕ, List, IfErr, IfOk, map, nat_lt};
 ghost use Rattle.std.specs.Io.KnownBytes.{Appends};
-ghost use Rattle.mate_search.specs.Replies.{IsLineReply, IsReply, without_cr};
-ghost use Rattle.matedesk.specs.Command.{Gains};
+ghost use Rattle.mate_search.specs.Inputs.{MayBe};
+ghost use Rattle.mate_search.specs.Replies.{IsReply, IsReplyToFirst};
+ghost use Rattle.mate_search.specs.Stops.{AppendsBy};
+ghost use Rattle.matedesk.specs.Asked.{solve as solve_asked};
+ghost use Rattle.matedesk.specs.Command.{Gains, Stops};
 ghost use Rattle.matedesk.specs.Solved.{Solves};
 
-use crate::source::{Source, SourceFault};
-use crate::status::Stop;
-use crate::writing::{complain_unreadable, put};
+use crate::source::Source;
+use crate::writing::complain_unreadable;
 use chess_moves::Rays;
 use chess_notation::Bound;
-use mate_search::{Memo, MemoFault, answer_line, first_line};
+use mate_search::{Memo, MemoFault, Stop, answer_input};
 use std::alloc::Global;
 use std::io::Write;
 
@@ -29,69 +31,28 @@ fn new_memo(alloc: Global) -> Result<Memo, Stop>
     }
 }
 
-/// Reads a file, or names it on `err`.
-fn read_file<S: Source, E: Write>(
+/// Answers each line of a file, before it reads on for the next; gives how many lines are refused.
+fn solve_file<S: Source, O: Write>(
     alloc: Global,
+    rays: &Rays,
+    bound: Bound,
     name: &str,
     source: &S,
-    err: &mut E,
-) -> Result<Vec<u8>, Stop>
-    ensures { IfOk result (λ bytes. S.holds source.now name.now bytes.items) }
-{
-    match source.read(alloc, name) {
-        Ok(bytes) => Ok(bytes),
-        Err(SourceFault::NoMemory) => Err(Stop::NoMemory),
-        Err(SourceFault::Unreadable) => {
-            complain_unreadable(err, name);
-            Err(Stop::Unreadable)
-        }
-    }
-}
-
-/// Answers one line of an input, by its number there; gives whether it was refused.
-fn solve_line<O: Write>(
-    alloc: Global,
-    rays: &Rays,
-    number: usize,
-    line: &[u8],
-    bound: Bound,
     memo: &mut Memo,
     out: &mut O,
-) -> Result<bool, Stop>
-    ensures { IfOk result (λ refused. (here : List ℕ) × (count : ℕ) × IsLineReply bound number (without_cr line.now) here count
-        × (refused ≡ nat_lt 0 count) × Appends (O.contents out.old) (O.contents out.new) here) }
+) -> Result<usize, Stop>
+    ensures ok { IfOk result (λ count. (input : List ℕ) × (text : List ℕ) × MayBe (S.holds source.now name.now) input × IsReply bound input text count
+        × Appends (O.contents out.old) (O.contents out.new) text) }
+    ensures err { IfErr result (λ stop. (input : List ℕ) × (text : List ℕ) × MayBe (S.holds source.now name.now) input × IsReplyToFirst bound input text
+        × AppendsBy stop (O.contents out.old) (O.contents out.new) text) }
+    ensures unreadable { IfErr result (λ stop. stop ≡ Stop.Unreadable → S.refuses source.now name.now) }
 {
-    let output = answer_line(alloc, rays, number, line, bound, memo)?;
-    put(out, output.text.as_slice())?;
-    Ok(output.refused > 0)
+    let file = source.open(alloc, name)?;
+    answer_input(alloc, rays, file, bound, memo, out)
 }
 
-/// Answers each line of an input, and writes each answer as soon as it is found; gives whether a line was refused.
-fn solve_lines<O: Write>(
-    alloc: Global,
-    rays: &Rays,
-    input: &[u8],
-    bound: Bound,
-    memo: &mut Memo,
-    out: &mut O,
-) -> Result<bool, Stop>
-    ensures { IfOk result (λ refused. (gained : List ℕ) × (count : ℕ) × IsReply bound input.now gained count
-        × (refused ≡ nat_lt 0 count) × Appends (O.contents out.old) (O.contents out.new) gained) }
-{
-    let mut refused = false;
-    let mut number = 1;
-    let mut rest = input;
-    while let Some((line, more)) = first_line(rest) {
-        refused |= solve_line(alloc, rays, number, line, bound, memo, out)?;
-        number += 1;
-        rest = more;
-    }
-    refused |= solve_line(alloc, rays, number, rest, bound, memo, out)?;
-    Ok(refused)
-}
-
-/// Answers each line of each file in order, and reads a file only after the answers to those before were written; gives
-/// whether a line was refused.
+/// Answers each line of each file in order, and opens a file only after the answers to those before were written; gives
+/// whether a line was refused. A file that can't be read is named on `err`.
 pub fn solve<S: Source, O: Write, E: Write>(
     alloc: Global,
     bound: Bound,
@@ -100,14 +61,22 @@ pub fn solve<S: Source, O: Write, E: Write>(
     out: &mut O,
     err: &mut E,
 ) -> Result<bool, Stop>
-    ensures { IfOk result (λ refused. Gains (Solves (S.holds source.now) bound (map (λ s. s.now) names.now)) refused (O.contents out.old) (O.contents out.new)) }
+    ensures ok { IfOk result (λ refused. Gains (Solves (S.holds source.now) bound (map (λ s. s.now) names.now) refused) (O.contents out.old) (O.contents out.new)) }
+    ensures err { IfErr result (λ stop. Stops (S.holds source.now) (S.refuses source.now) (solve_asked bound (map (λ s. s.now) names.now)) stop (O.contents out.old) (O.contents out.new)) }
 {
     let rays = Rays::new();
     let mut memo = new_memo(alloc)?;
     let mut refused = false;
     for name in names {
-        let input = read_file(alloc, name, source, err)?;
-        refused |= solve_lines(alloc, &rays, input.as_slice(), bound, &mut memo, out)?;
+        match solve_file(alloc, &rays, bound, name, source, &mut memo, out) {
+            Ok(count) => refused |= count > 0,
+            Err(stop) => {
+                if stop == Stop::Unreadable {
+                    complain_unreadable(err, name);
+                }
+                return Err(stop);
+            }
+        }
     }
     Ok(refused)
 }

@@ -1,44 +1,54 @@
 //! Where the program's files come from.
 
-ghost use Rattle.std.specs.Prelude.{ℕ, List, IfOk, ⊤};
+ghost use Rattle.std.specs.Prelude.{◌≡◌, ℕ, List, Option, IfOk, IfErr};
+ghost use Rattle.mate_search.specs.Inputs.{MayBe};
 
+use mate_search::Input;
 use std::alloc::Global;
-use std::rt::Files;
-use std::{fs, io};
 
-/// Why a file has no bytes to give.
-#[derive(Clone, Copy, Debug, PartialEq, Eq)]
-pub enum SourceFault {
-    /// The name is no file's, or the file can't be read.
-    Unreadable,
-    /// Memory was refused.
-    NoMemory,
-}
+/// Why a file can't be had: it can't be read, or memory was refused.
+pub use mate_search::InputFault as SourceFault;
 
 /// Files by their names.
 pub trait Source {
-    /// What a name may hold.
-    ghost holds: { Self → List ℕ → List ℕ → Type 0 };
+    /// A file that was opened.
+    type File: Input + Drop;
 
-    /// The bytes of the file of this name.
+    /// What the file of a name holds, where that is known.
+    ghost holds: { Self → List ℕ → Option (List ℕ) };
+
+    /// The file of a name may be refused, or break off before its end.
+    ghost refuses: { Self → List ℕ → Type 0 };
+
+    /// The file of this name, of which nothing is read yet.
+    fn open(&self, alloc: Global, name: &str) -> Result<Self::File, SourceFault>
+        ensures bytes { IfOk result (λ file. Self.File.Input.left file ≡ holds self.now name.now) }
+        ensures breaks { IfOk result (λ file. Self.File.Input.breaks file → refuses self.now name.now) }
+        ensures refused { IfErr result (λ fault. fault ≡ SourceFault.Unreadable → refuses self.now name.now) };
+
+    /// All bytes of the file of this name.
     fn read(&self, alloc: Global, name: &str) -> Result<Vec<u8>, SourceFault>
-        ensures { IfOk result (λ bytes. holds self.now name.now bytes.items) };
+        ensures bytes { IfOk result (λ bytes. MayBe (holds self.now name.now) bytes.items) }
+        ensures refused { IfErr result (λ fault. fault ≡ SourceFault.Unreadable → refuses self.now name.now) };
 }
 
-/// The files of the system, of which nothing is known.
-#[derive(Clone, Copy)]
-pub struct FileSystem<'r, R> {
-    pub rt: &'r R,
-}
-
-impl<'r, R: Files + AllocGlobal> Source for FileSystem<'r, R> {
-    ghost holds = { λ _ _ _. ⊤ };
-
-    fn read(&self, _alloc: Global, name: &str) -> Result<Vec<u8>, SourceFault> {
-        match fs::read(self.rt, name) {
-            Ok(bytes) => Ok(bytes),
-            Err(fault) if fault.kind() == io::ErrorKind::OutOfMemory => Err(SourceFault::NoMemory),
-            Err(_) => Err(SourceFault::Unreadable),
+/// Reads a file to its end.
+pub fn whole<I: Input + Drop>(alloc: Global, file: I) -> Result<Vec<u8>, SourceFault>
+    ensures bytes { IfOk result (λ bytes. MayBe (I.left file) bytes.items) }
+    ensures refused { IfErr result (λ fault. fault ≡ SourceFault.Unreadable → I.breaks file) }
+{
+    let mut file = file;
+    let mut bytes = Vec::new(alloc);
+    let mut room = Vec::from_elem(alloc, 0, PIECE)?;
+    for _ in 0..u64::MAX {
+        let count = file.read(room.as_mut_slice())?;
+        if count == 0 {
+            return Ok(bytes);
         }
+        bytes.extend_from_slice(&room.as_slice()[..count])?;
     }
+    Err(SourceFault::NoMemory)
 }
+
+/// How many bytes are asked for at once.
+const PIECE: usize = 4096;

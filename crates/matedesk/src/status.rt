@@ -1,11 +1,10 @@
-//! The statuses that the program ends with, and why it stops before its end.
+//! The statuses that the program ends with.
 
-ghost use Rattle.std.specs.Prelude.{◌≡◌, ◌↔◌, ◌⊎◌, ◌==◌, ◌<◌, ◌≤◌, Err, IfOk, IfErr};
-ghost use Rattle.matedesk.specs.declared.status.Stop.TheVariants.{NoMemory};
+ghost use Rattle.std.specs.Prelude.{◌≡◌};
+ghost use Rattle.matedesk.specs.Command.{status_of};
 
 use crate::writing::complain;
-use chess_notation::NoMemory;
-use std::alloc::AllocError;
+use mate_search::Stop;
 use std::io::Write;
 
 /// Everything was answered, or help or the version was asked for.
@@ -21,33 +20,6 @@ pub const UNREADABLE: u8 = 4;
 /// The output can't be written.
 pub const UNWRITABLE: u8 = 4;
 
-/// Why the program stops before its end.
-#[derive(Clone, Copy, Debug, PartialEq, Eq)]
-pub enum Stop {
-    /// Memory was refused.
-    NoMemory,
-    /// A file can't be read, which was said where its name is known.
-    Unreadable,
-    /// The output can't be written.
-    Unwritable,
-}
-
-impl From<AllocError> for Stop {
-    ghost from_gives = { λ _ stop. stop ≡ NoMemory };
-
-    fn from(_fault: AllocError) -> Stop {
-        Stop::NoMemory
-    }
-}
-
-impl From<NoMemory> for Stop {
-    ghost from_gives = { λ _ stop. stop ≡ NoMemory };
-
-    fn from(_fault: NoMemory) -> Stop {
-        Stop::NoMemory
-    }
-}
-
 /// Says that memory was refused, and gives the status.
 pub fn no_memory<E: Write>(err: &mut E) -> u8
     ensures { result ≡ 3 }
@@ -56,18 +28,25 @@ pub fn no_memory<E: Write>(err: &mut E) -> u8
     NO_MEMORY
 }
 
-/// The status of a command that ended: with whether it refused anything, or with a stop.
+/// Says that the output can't be written, and gives the status.
+pub fn unwritable<E: Write>(err: &mut E) -> u8
+    ensures { result ≡ 4 }
+{
+    complain(err, "cannot write");
+    UNWRITABLE
+}
+
+/// The status of a command that ended: with whether it refused anything, or with a stop. A file that can't be read was named
+/// where it was opened, and a pipe that nobody reads is no fault to speak of.
 pub fn status_of<E: Write>(ended: Result<bool, Stop>, err: &mut E) -> u8
-    ensures ok { IfOk ended (λ refused. (result < 2) × ((result == 1) ≡ refused)) }
-    ensures err { IfErr ended (λ _. (3 ≤ result) × (result ≤ 4)) }
-    ensures no_memory { (result ≡ 3) ↔ (ended ≡ Err Stop.NoMemory) }
-    ensures no_access { (result ≡ 4) ↔ ((ended ≡ Err Stop.Unreadable) ⊎ (ended ≡ Err Stop.Unwritable)) }
+    ensures { result ≡ status_of ended }
 {
     match ended {
         Ok(false) => ANSWERED,
         Ok(true) => REFUSED,
         Err(Stop::NoMemory) => no_memory(err),
         Err(Stop::Unreadable) => UNREADABLE,
-        Err(Stop::Unwritable) => UNWRITABLE,
+        Err(Stop::Unwritable) => unwritable(err),
+        Err(Stop::NoReader) => UNWRITABLE,
     }
 }

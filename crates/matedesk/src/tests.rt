@@ -1,37 +1,41 @@
 //! What no contract says: the texts, the streams that they go to, and what a faulty writer leads to.
 
-ghost use Rattle.std.specs.Prelude.{⊤};
+ghost use Rattle.std.specs.Prelude.{None, ⊤};
 
 use crate::command::command;
+use crate::files::Reading;
 use crate::help::VERSION;
-use crate::source::{Source, SourceFault};
+use crate::source::{Source, SourceFault, whole};
 use std::alloc::Global;
 use std::io;
-use std::io::Write;
+use std::io::{Read, Write};
 use std::test::Fail;
 
 const START: &str = "rnbqkbnr/pppppppp/8/8/8/8/PPPPPPPP/RNBQKBNR w KQkq - 0 1";
 
 const MATED: &str = "rnb1kbnr/pppp1ppp/8/4p3/6Pq/5P2/PPPPP2P/RNBQKBNR w KQkq - 1 3";
 
-/// More calls than any command makes.
-const ALWAYS: usize = 1000;
+/// More calls than any command makes, and more bytes than any text here has.
+const ALWAYS: usize = 10_000;
 
-/// A writer that takes so many calls, and fails at the next.
+/// A writer that takes so many calls, and fails at the next. It may take no more than so many bytes at once.
 #[derive(Drop)]
 struct Failing {
     calls_left: usize,
+    most: usize,
+    fault: io::ErrorKind,
     text: Vec<u8>,
 }
 
 impl Write for Failing {
     fn write(&mut self, buf: &[u8]) -> io::Result<usize> {
         if self.calls_left == 0 {
-            return Err(io::Error::from(io::ErrorKind::BrokenPipe));
+            return Err(io::Error::from(self.fault));
         }
         self.calls_left -= 1;
-        self.text.extend_from_slice(buf)?;
-        Ok(buf.len())
+        let count = self.most.min(buf.len());
+        self.text.extend_from_slice(&buf[..count])?;
+        Ok(count)
     }
 
     fn flush(&mut self) -> io::Result<()> {
@@ -39,25 +43,80 @@ impl Write for Failing {
     }
 }
 
-/// Files by name and text, and no others.
+/// A text that comes in pieces of so many bytes at most. Each read may be interrupted once, and reads may break off.
+#[derive(Drop)]
+struct Pieces<'a> {
+    text: &'a [u8],
+    piece: usize,
+    is_interrupted: bool,
+    /// Whether the next read is the one that is interrupted.
+    interrupts_next: bool,
+    /// How many reads there are before one breaks off.
+    reads_left: usize,
+}
+
+impl<'a> Read for Pieces<'a> {
+    fn read(&mut self, buf: &mut [u8]) -> io::Result<usize> {
+        self.interrupts_next = self.is_interrupted && !self.interrupts_next;
+        if self.interrupts_next {
+            return Err(io::Error::from(io::ErrorKind::Interrupted));
+        }
+        if self.reads_left == 0 {
+            return Err(io::Error::from(io::ErrorKind::IsADirectory));
+        }
+        self.reads_left -= 1;
+        let count = self.piece.min(self.text.len()).min(buf.len());
+        let (now, later) = self.text.split_at(count);
+        buf[..count].copy_from_slice(now);
+        self.text = later;
+        Ok(count)
+    }
+}
+
+/// Files by name and text, and no others, with how they come.
 #[derive(Drop)]
 struct Shelf<'a> {
     files: &'a [(&'a str, &'a str)],
+    piece: usize,
+    is_interrupted: bool,
+    reads: usize,
+}
+
+/// Files that come as they are.
+fn shelf_of<'a>(files: &'a [(&'a str, &'a str)]) -> Shelf<'a> {
+    Shelf {
+        files,
+        piece: ALWAYS,
+        is_interrupted: false,
+        reads: ALWAYS,
+    }
 }
 
 impl<'a> Source for Shelf<'a> {
-    ghost holds = { λ _ _ _. ⊤ };
+    type File = Reading<Pieces<'a>>;
 
-    fn read(&self, alloc: Global, name: &str) -> Result<Vec<u8>, SourceFault> {
+    ghost holds = { λ _ _. None };
+
+    ghost refuses = { λ _ _. ⊤ };
+
+    fn open(&self, _alloc: Global, name: &str) -> Result<Self::File, SourceFault> {
         for (known, text) in self.files {
             if *known == name {
-                return match Vec::from_slice(alloc, text.as_bytes()) {
-                    Ok(bytes) => Ok(bytes),
-                    Err(_) => Err(SourceFault::NoMemory),
+                let reader = Pieces {
+                    text: text.as_bytes(),
+                    piece: self.piece,
+                    is_interrupted: self.is_interrupted,
+                    interrupts_next: false,
+                    reads_left: self.reads,
                 };
+                return Ok(Reading { reader });
             }
         }
         Err(SourceFault::Unreadable)
+    }
+
+    fn read(&self, alloc: Global, name: &str) -> Result<Vec<u8>, SourceFault> {
+        whole(alloc, self.open(alloc, name)?)
     }
 }
 
@@ -71,7 +130,7 @@ struct Ending {
 
 /// Runs the words after the program's name where there is no file, with writers that take so many calls.
 fn run(alloc: Global, words: &[&str], outs: usize, errs: usize) -> Result<Ending, Fail> {
-    run_with(alloc, &Shelf { files: &[] }, words, outs, errs)
+    run_with(alloc, &shelf_of(&[]), words, outs, errs)
 }
 
 /// The same where there are such files.
@@ -89,10 +148,14 @@ fn run_with(
     }
     let mut out = Failing {
         calls_left: outs,
+        most: ALWAYS,
+        fault: io::ErrorKind::BrokenPipe,
         text: Vec::new(alloc),
     };
     let mut err = Failing {
         calls_left: errs,
+        most: ALWAYS,
+        fault: io::ErrorKind::BrokenPipe,
         text: Vec::new(alloc),
     };
     let status = command(alloc, all.as_slice(), shelf, &mut out, &mut err);
@@ -257,7 +320,7 @@ fn no_name_is_misuse_too(rt: HostRuntime) -> Result<(), Fail> {
     let words: Vec<String> = Vec::new(alloc);
     let mut out = Vec::new(alloc);
     let mut err = Vec::new(alloc);
-    let shelf = Shelf { files: &[] };
+    let shelf = shelf_of(&[]);
     let status = command(alloc, words.as_slice(), &shelf, &mut out, &mut err);
     assert_eq!(rt; status, 2);
     assert_eq!(rt; out.as_slice(), b"".as_slice());
@@ -375,9 +438,7 @@ fn solve_answers_each_line_of_each_file(rt: HostRuntime) -> Result<(), Fail> {
         ("solve two", 0, 4, ""),
         ("solve two two", 1, 4, mates),
     ];
-    let shelf = Shelf {
-        files: files.as_slice(),
-    };
+    let shelf = shelf_of(files.as_slice());
     for (line, outs, status, text) in rows {
         let mut words = Vec::new(alloc);
         for word in line.split(' ') {
@@ -386,6 +447,113 @@ fn solve_answers_each_line_of_each_file(rt: HostRuntime) -> Result<(), Fail> {
         let ended = run_with(alloc, &shelf, words.as_slice(), outs, ALWAYS)?;
         assert_eq!(rt; ended.status, status, "{line} {outs}");
         assert_eq!(rt; ended.out.as_slice(), text.as_bytes(), "{line} {outs}");
+    }
+    Ok(())
+}
+
+/// Two problems with their answers, a fault between two blank lines, and no newline at the end.
+const LINES: &str =
+    "7k/8/5K2/8/8/8/8/R7 w - - dm 2;\r\n \r\n8/8\n\n6k1/5ppp/8/8/8/8/8/R3K3 w Q - dm 1;\r";
+
+const ANSWERS: &str = "7k/8/5K2/8/8/8/8/R7 w - - bm Kf7 Kg6; dm 2; pv Kg6 Kg8 Ra8#;
+# line 3: Fen FieldCount
+6k1/5ppp/8/8/8/8/8/R3K3 w Q - bm Ra8#; dm 1; pv Ra8#;
+";
+
+#[test]
+fn lines_are_the_same_in_pieces(rt: HostRuntime) -> Result<(), Fail> {
+    let alloc = rt.alloc();
+    for piece in [1, 2, 3, 31, 32, 33, 34, 63, 4096] {
+        for is_interrupted in [false, true] {
+            let shelf = Shelf {
+                files: &[("lines", LINES)],
+                piece,
+                is_interrupted,
+                reads: ALWAYS,
+            };
+            let ended = run_with(alloc, &shelf, &["solve", "lines"], ALWAYS, ALWAYS)?;
+            assert_eq!(rt; ended.status, 1, "{piece}");
+            assert_eq!(rt; ended.out.as_slice(), ANSWERS.as_bytes(), "{piece}");
+            assert_eq!(rt; ended.err.as_slice(), b"".as_slice(), "{piece}");
+            let read = shelf.read(alloc, "lines")?;
+            assert_eq!(rt; read.as_slice(), LINES.as_bytes(), "{piece}");
+        }
+    }
+    Ok(())
+}
+
+#[test]
+fn a_file_that_breaks_off_ends_with_four_behind_its_first_answers(
+    rt: HostRuntime,
+) -> Result<(), Fail> {
+    let alloc = rt.alloc();
+    // Line 1 ends with byte 33, line 3 with byte 40, and the last with byte 77, behind which it takes a read to see the end.
+    for (reads, lines) in [(0, 0), (32, 0), (33, 1), (39, 1), (40, 2), (77, 2)] {
+        let shelf = Shelf {
+            files: &[("lines", LINES), ("other", LINES)],
+            piece: 1,
+            is_interrupted: false,
+            reads,
+        };
+        let ended = run_with(alloc, &shelf, &["solve", "lines", "other"], ALWAYS, ALWAYS)?;
+        let mut first = String::new(alloc);
+        for line in ANSWERS.split_inclusive('\n').take(lines) {
+            first.push_str(line)?;
+        }
+        assert_eq!(rt; ended.status, 4, "{reads}");
+        assert_eq!(rt; ended.out.as_slice(), first.as_bytes(), "{reads}");
+        let message = b"matedesk: cannot read lines\n".as_slice();
+        assert_eq!(rt; ended.err.as_slice(), message, "{reads}");
+        assert!(rt; shelf.read(alloc, "lines").is_err(), "{reads}");
+    }
+    Ok(())
+}
+
+#[test]
+fn an_output_that_breaks_off_holds_a_first_part(rt: HostRuntime) -> Result<(), Fail> {
+    let alloc = rt.alloc();
+    let files = [("lines", LINES)];
+    let rows = [
+        (io::ErrorKind::StorageFull, "matedesk: cannot write\n"),
+        (io::ErrorKind::BrokenPipe, ""),
+    ];
+    for words in [
+        ["solve", "lines"],
+        ["look", START],
+        ["moves", MATED],
+        ["solve", "--help"],
+    ] {
+        let whole = run_with(
+            alloc,
+            &shelf_of(files.as_slice()),
+            words.as_slice(),
+            ALWAYS,
+            ALWAYS,
+        )?;
+        for (fault, message) in rows {
+            for calls in 0..5 {
+                let mut all = Vec::new(alloc);
+                all.push(String::from_str(alloc, "matedesk")?)?;
+                all.push(String::from_str(alloc, words[0])?)?;
+                all.push(String::from_str(alloc, words[1])?)?;
+                let mut out = Failing {
+                    calls_left: calls,
+                    most: 1,
+                    fault,
+                    text: Vec::new(alloc),
+                };
+                let mut err = Vec::new(alloc);
+                let shelf = shelf_of(files.as_slice());
+                let status = command(alloc, all.as_slice(), &shelf, &mut out, &mut err);
+                assert_eq!(rt; status, 4, "{calls}");
+                assert_eq!(rt; out.text.len(), calls, "{calls}");
+                assert!(rt;
+                    whole.out.as_slice().starts_with(out.text.as_slice()),
+                    "{calls}"
+                );
+                assert_eq!(rt; err.as_slice(), message.as_bytes(), "{calls}");
+            }
+        }
     }
     Ok(())
 }

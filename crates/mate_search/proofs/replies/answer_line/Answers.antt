@@ -4,7 +4,7 @@ use Rattle.mate_search.proofs.InputReplies.{reply_refused}
 use Rattle.mate_search.proofs.replies.answer_line.Goals as goal
 
 pub returns-then-is_blank-clause-reply : goal.returns-then-is_blank-clause-reply
-returns-then-is_blank-clause-reply c = rw (← c.without_cr-line.ensures, c.new.ensures.items) (skipped (sym c.is_blank.ensures ∙ c.if-is_blank.true))
+returns-then-is_blank-clause-reply c = rw (← c.without_cr-line.ensures, c.nothing.ensures.text, c.nothing.ensures.none) (skipped (sym c.is_blank.ensures ∙ c.if-is_blank.true))
 
 pub returns-in_ok-record_text-in-Ok-clause-reply : goal.returns-in_ok-record_text-in-Ok-clause-reply
 returns-in_ok-record_text-in-Ok-clause-reply c =

@@ -1,9 +1,9 @@
 use Rattle.std.proofs.Common.{◌≡◌, ◌∙◌, ap, refl, true}
 use Rattle.clap.specs.Words.{app_of, is_simple, is_simple_and_free}
 use Rattle.clap.proofs.OnLiterals.{clap_on_literals}
-use Rattle.matedesk.specs.Asked.{asked_exactly, asks_display_exactly}
+use Rattle.matedesk.specs.Asked.{asked_exactly, asks_display_exactly, may_display_exactly}
 use Rattle.matedesk.specs.CommandLine.{desk_app}
-use Rattle.matedesk.proofs.Parsed.{asked_at_ok, display_at_err, none_at_err}
+use Rattle.matedesk.proofs.Parsed.{asked_at_ok, clear_at_ok, display_at_err, misuse_at_err, none_at_err}
 use Rattle.matedesk.proofs.request.parse.Goals as goal
 
 desk_is_simple : is_simple desk_app ≡ true
@@ -29,8 +29,22 @@ returns-clause-err c =
     (c.try_get_matches_from.ensures.kinds (ap is_simple_and_free same ∙ desk_is_free))
 
 pub returns-clause-display : goal.returns-clause-display
-unfolding asks_display_exactly
+unfolding may_display_exactly
 returns-clause-display c =
     let same : app_of c.in_ok-desk_command.field-0 ≡ desk_app = c.in_ok-desk_command.ensures in
     display_at_err _ desk_app same _ _
+    (c.try_get_matches_from.ensures.kinds (ap is_simple_and_free same ∙ desk_is_free))
+
+pub returns-clause-misuse : goal.returns-clause-misuse
+unfolding asks_display_exactly
+returns-clause-misuse c =
+    let same : app_of c.in_ok-desk_command.field-0 ≡ desk_app = c.in_ok-desk_command.ensures in
+    misuse_at_err _ desk_app same _ _
+    (c.try_get_matches_from.ensures.kinds (ap is_simple_and_free same ∙ desk_is_free))
+
+pub returns-clause-clear : goal.returns-clause-clear
+unfolding asks_display_exactly
+returns-clause-clear c =
+    let same : app_of c.in_ok-desk_command.field-0 ≡ desk_app = c.in_ok-desk_command.ensures in
+    clear_at_ok _ desk_app same _ _
     (c.try_get_matches_from.ensures.kinds (ap is_simple_and_free same ∙ desk_is_free))

@@ -1,14 +1,27 @@
-use Rattle.std.proofs.Common.{rules, ◌++◌}
-use Rattle.std.proofs.KnownBytes.{Appends-trans}
-use Rattle.matedesk.proofs.Solving.{solves_next}
+use Rattle.std.proofs.Common.{rules, ◌++◌, refl, subst}
+use Rattle.std.proofs.KnownBytes.{Appends-trans, Keeps-refl}
+use Rattle.std.proofs.lemmas.Result.{err_from_is_err_and}
+use Rattle.matedesk.proofs.Solving.{solves_next, stops_at_once, stops_there}
 use Rattle.matedesk.proofs.solve.solve.Goals as goal
+
+pub returns-in_err-memo-clause-err : goal.returns-in_err-memo-clause-err
+returns-in_err-memo-clause-err g c =
+    let (other, is, same) = err_from_is_err_and c.from_residual.result c.from_residual.ensures.1 in
+    rw (is, same, c.in_err-memo.ensures) (stops_at_once (g.S.Source.holds c.args.source.now) (g.S.Source.refuses c.args.source.now) c.args.bound _ _ _ (Keeps-refl (g.O.Write.contents c.args.out.now)))
+
+pub returns-in-Err-clause-err : goal.returns-in-Err-clause-err
+returns-in-Err-clause-err g c =
+    let (gained, so_far, before) = c.loop-name.invariant in
+    let (input, part, may, reply, appends) = c.in-Err.ensures.err in
+    stops_there (g.S.Source.holds c.args.source.now) (g.S.Source.refuses c.args.source.now) c.args.bound c.args.names.now c.loop-name.name-index _ c.loop-name.refused c.in-Err.stop
+    (g.O.Write.contents c.args.out.now) _ _ gained input part (search rules) so_far before may reply appends c.in-Err.ensures.unreadable
 
 pub loop-name-preserved : goal.loop-name-preserved
 loop-name-preserved g c =
-    let before = c.loop-name.invariant in
-    let here = c.in_ok-refused.ensures in (
-      before.0 ++ here.0,
-      solves_next (g.S.Source.holds c.args.source.now) c.args.bound c.args.names.now c.loop-name.name-index _ c.loop-name.refused _ before.0 _ _ here.0 here.1
-          (search rules) before.1 c.in_ok-input.ensures c.as_slice.ensures.value here.2 here.3,
-      Appends-trans _ _ _ before.0 here.0 before.2 here.4,
+    let (gained, so_far, before) = c.loop-name.invariant in
+    let (input, text, may, reply, appends) = c.in-Ok.ensures.ok in (
+      gained ++ text,
+      solves_next (g.S.Source.holds c.args.source.now) c.args.bound c.args.names.now c.loop-name.name-index _ c.loop-name.refused _ gained input text c.in-Ok.count
+          (search rules) so_far may reply refl,
+      Appends-trans _ _ _ gained text before appends,
     )

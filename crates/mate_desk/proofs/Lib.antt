@@ -1,0 +1,12 @@
+pub mod Tests
+pub mod Tasks
+pub mod Bits
+pub mod Changes
+pub mod Waiting
+pub mod Seeking
+pub mod Counting
+pub mod Kept
+pub mod Joined
+pub mod Distinct
+pub mod Following
+pub mod Steps

@@ -1,0 +1,7 @@
+use Rattle.std.proofs.Common.{subst}
+use Rattle.mate_desk.specs.Content.{Content}
+use Rattle.mate_desk.specs.Laws.{AreKept}
+use Rattle.mate_desk.proofs.desks.Desk.kept.Goals as goal
+
+pub returns : goal.returns
+returns c = subst (λ (d : Content). AreKept d.next d.queues) c.self.view_is c.self.invariant

@@ -1,0 +1,20 @@
+//! The desk: which submitter asked what, what is out to be solved, and in which order answers go back.
+//!
+//! Solving is `mate_search`'s business, and texts are `chess_notation`'s. What a desk holds stands in `specs/Content.antt`, and
+//! what its calls answer and leave behind in `specs/Calls.antt`.
+//!
+//! To read: `refusals` and `deliveries`; then `desks`, over `lookups`, `queues` (what one submitter has pending), `entries` and
+//! `places`. `Desk::new` takes all memory that a desk ever needs.
+#![tactic(auto)]
+
+mod deliveries;
+mod desks;
+mod entries;
+mod lookups;
+mod places;
+mod queues;
+mod refusals;
+
+pub use deliveries::Delivery;
+pub use desks::Desk;
+pub use refusals::{DeskFault, NoSuchSubmitter, Stranger, SubmitRefusal, WithdrawRefusal};

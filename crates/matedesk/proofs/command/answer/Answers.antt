@@ -1,0 +1,5 @@
+use Rattle.std.proofs.Common.{rules}
+use Rattle.matedesk.proofs.command.answer.Goals as goal
+
+pub returns-in-Perft-clause-err : goal.returns-in-Perft-clause-err
+returns-in-Perft-clause-err g c = rw (c.in-Perft.is) c.perft.ensures.err
