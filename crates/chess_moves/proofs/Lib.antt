@@ -50,3 +50,7 @@ pub mod PawnShifts
 pub mod PawnCounts
 pub mod InCheck
 pub mod PlainChecks
+pub mod Mates
+pub mod SpecialMoves
+pub mod SeenBack
+pub mod Narrowed

@@ -1,8 +1,9 @@
 -- The list holds exactly the legal moves.
-use Rattle.std.proofs.Common.{◌≡◌, ℕ, zero, suc, ◌<◌, Bool, true, false, cond, List, [], ◌∷◌, filter, Option, Some, None, refl, sym, ap, ◌∙◌, arith, inl, inr}
+use Rattle.std.proofs.Common.{◌≡◌, ℕ, zero, suc, ◌<◌, Bool, true, false, cond, List, [], ◌∷◌, filter, Option, Some, None, refl, sym, ap, subst, ◌∙◌, arith, inl, inr}
 use Rattle.std.specs.Prelude.{Contains}
 use Rattle.std.specs.List.{list_all}
-use Rattle.std.proofs.lemmas.Bool.{cases_eq, and_parts}
+use Rattle.std.specs.Prelude.{nat_lt, length}
+use Rattle.std.proofs.lemmas.Bool.{cases_eq, and_parts, lt-ltb}
 use Rattle.std.proofs.lemmas.List.Elements.{Contains-append_left, Contains-append_right, Contains-append_cases}
 use Rattle.chess_board.specs.declared.men.Kind.{Kind}
 use Rattle.chess_board.specs.declared.men.Kind.TheVariants.{Pawn, Knight, Bishop, Rook, Queen, King}
@@ -11,11 +12,12 @@ use Rattle.chess_board.specs.Moves.{Move}
 use Rattle.chess_board.specs.Positions.{Setup}
 use Rattle.chess_board.specs.Candidates.{suits, promotes, is_promotion}
 use Rattle.chess_board.specs.Legality.{is_legal}
-use Rattle.chess_moves.specs.Listing.{move_of, moves_between, moves_to, moves_below, legal_moves}
+use Rattle.chess_moves.specs.Listing.{move_of, promotions, moves_between, moves_to, moves_below, legal_moves}
 use Rattle.chess_moves.specs.Laws.{LegalListed}
+use Rattle.chess_moves.specs.Targets.{ways, IsTarget}
 use Rattle.chess_moves.proofs.Played.{played}
 
-kept : (f : Move → Bool) (xs : List Move) (x : Move) → Contains xs x → f x ≡ true → Contains (filter f xs) x
+pub kept : (f : Move → Bool) (xs : List Move) (x : Move) → Contains xs x → f x ≡ true → Contains (filter f xs) x
 kept f [] x (k, on, e) t = absurd (omega arith)
 kept f (y ∷ ys) x (zero, on, e) t =
     let g : f y ≡ true = ap f e ∙ t in
@@ -24,7 +26,7 @@ kept f (y ∷ ys) x (suc k, on, e) t =
     let r = kept f ys x (k, omega arith, e) t in
     elim (f y) as (λ b. Contains (cond b (y ∷ filter f ys) (filter f ys)) x) [ true ↦ Contains-append_right (y ∷ []) (filter f ys) x r | false ↦ r ]
 
-sifted : (f : Move → Bool) (xs : List Move) (x : Move) → Contains (filter f xs) x → Contains xs x × (f x ≡ true)
+pub sifted : (f : Move → Bool) (xs : List Move) (x : Move) → Contains (filter f xs) x → Contains xs x × (f x ≡ true)
 sifted f [] x (k, on, e) = absurd (omega arith)
 sifted f (y ∷ ys) x c =
     (elim (f y) as (λ b. f y ≡ b → Contains (cond b (y ∷ filter f ys) (filter f ys)) x → Contains (y ∷ ys) x × (f x ≡ true)) [
@@ -39,7 +41,7 @@ sifted f (y ∷ ys) x c =
     only y x (zero, on, e) = e
     only y x (suc k, on, e) = absurd (omega arith)
 
-between_in : (o t : ℕ) (m : Move) → Contains (moves_between o t) m → (m.origin ≡ o) × (m.target ≡ t)
+pub between_in : (o t : ℕ) (m : Move) → Contains (moves_between o t) m → (m.origin ≡ o) × (m.target ≡ t)
 unfolding moves_between
 between_in o t m (zero, on, e) = (ap (λ x. x.origin) (sym e), ap (λ x. x.target) (sym e))
 between_in o t m (suc zero, on, e) = (ap (λ x. x.origin) (sym e), ap (λ x. x.target) (sym e))
@@ -48,7 +50,7 @@ between_in o t m (suc (suc (suc zero)), on, e) = (ap (λ x. x.origin) (sym e), a
 between_in o t m (suc (suc (suc (suc zero))), on, e) = (ap (λ x. x.origin) (sym e), ap (λ x. x.target) (sym e))
 between_in o t m (suc (suc (suc (suc (suc k)))), on, e) = absurd (omega arith)
 
-to_in : (o n : ℕ) (m : Move) → Contains (moves_to o n) m → (m.origin ≡ o) × (m.target < n)
+pub to_in : (o n : ℕ) (m : Move) → Contains (moves_to o n) m → (m.origin ≡ o) × (m.target < n)
 unfolding moves_to
 to_in o zero m (k, on, e) = absurd (omega arith)
 to_in o (suc n) m c = elim (Contains-append_cases (moves_to o n) (moves_between o n) m c) [
@@ -81,7 +83,7 @@ below_has o (suc n) m l c = elim (cases_eq o n) [
 ]
 
 -- The move itself stands between its squares.
-between_has : (man : Man) (o t : ℕ) (r : Option Kind) → suits man t r ≡ true → Contains (moves_between o t) (move_of o t r)
+pub between_has : (man : Man) (o t : ℕ) (r : Option Kind) → suits man t r ≡ true → Contains (moves_between o t) (move_of o t r)
 unfolding moves_between
 between_has man o t None s = (0, omega arith, refl)
 between_has man o t (Some Knight) s = (1, omega arith, refl)
@@ -106,3 +108,42 @@ all_legal p = all_kept (is_legal p) (moves_below 64)
     all_kept : (f : Move → Bool) (xs : List Move) → list_all f (filter f xs) ≡ true
     all_kept f [] = refl
     all_kept f (x ∷ xs) = (elim (f x) as (λ b. f x ≡ b → list_all f (cond b (x ∷ filter f xs) (filter f xs)) ≡ true) [ true ↦ λ e. rw e (all_kept f xs) | false ↦ λ e. all_kept f xs ]) refl
+
+-- A way that suits the man stands among its ways.
+ways_have : (man : Man) (o t : ℕ) (r : Option Kind) → suits man t r ≡ true → Contains (ways man o t) (move_of o t r)
+ways_have man o t None s = (elim (promotes man t) as (λ b. promotes man t ≡ b → Contains (cond b (promotions o t) (move_of o t None ∷ [])) (move_of o t None)) [
+  | true ↦ λ e. let never = rw e at s in cc
+  | false ↦ λ e. (0, omega arith, refl)
+]) refl
+ways_have man o t (Some asked) s =
+    let both = and_parts (promotes man t) (is_promotion asked) s in
+    let promoted : promotes man t ≡ true = both.0 in
+    rw promoted (one asked both.1)
+  where
+    one : (k : Kind) → is_promotion k ≡ true → Contains (promotions o t) (move_of o t (Some k))
+    one Knight h = (0, omega arith, refl)
+    one Bishop h = (1, omega arith, refl)
+    one Rook h = (2, omega arith, refl)
+    one Queen h = (3, omega arith, refl)
+    one Pawn h = cc
+    one King h = cc
+
+-- Such a way is legal where its square is a target.
+pub legal_target : (p : Setup) (man : Man) (o t : ℕ) (r : Option Kind) (is : Bool) → suits man t r ≡ true → IsTarget is p man o t → is_legal p (move_of o t r) ≡ is
+legal_target p man o t r true s are =
+    (sifted (is_legal p) (moves_between o t) (move_of o t r) (subst (λ (ms : List Move). Contains ms (move_of o t r)) (sym are) (ways_have man o t r s))).1
+legal_target p man o t r false s are = (elim (is_legal p (move_of o t r)) as (λ b. is_legal p (move_of o t r) ≡ b → b ≡ false) [
+  | false ↦ λ e. refl
+  | true ↦ λ e. absurd (nowhere (subst (λ (ms : List Move). Contains ms (move_of o t r)) are (kept (is_legal p) (moves_between o t) (move_of o t r) (between_has man o t r s) e)))
+]) refl
+  where
+    nowhere : Contains {X = Move} [] (move_of o t r) → ⊥
+    nowhere (k, on, e) = omega arith
+
+-- A man that is not promoted on a target has a legal move.
+pub some_legal : (p : Setup) (man : Man) (o t : ℕ) → t < 64 → promotes man t ≡ false → IsTarget true p man o t → nat_lt 0 (length (filter (is_legal p) (moves_to o 64))) ≡ true
+some_legal p man o t on last are =
+    let suited : suits man t None ≡ true = rw last refl in
+    let legal = legal_target p man o t None true suited are in
+    let there = kept (is_legal p) (moves_to o 64) (move_of o t None) (to_has o t 64 (move_of o t None) on (between_has man o t None suited)) legal in
+    lt-ltb 0 (length (filter (is_legal p) (moves_to o 64))) (let inside = there.1 in omega arith)

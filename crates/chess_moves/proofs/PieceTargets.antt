@@ -18,7 +18,7 @@ use Rattle.chess_moves.specs.Scenes.{IsSceneOf}
 use Rattle.chess_moves.proofs.KeptWays.{goes_safely, and_when}
 use Rattle.chess_moves.proofs.OtherMen.{becomes_no_king, in_check_beside}
 
-goes_as_piece : (p : Setup) (c : Colour) (k : Kind) (a b : ℕ) → is_pawn_kind k ≡ false → is_king_kind k ≡ false → goes p c k a b ≡ piece_goes p c k a b
+pub goes_as_piece : (p : Setup) (c : Colour) (k : Kind) (a b : ℕ) → is_pawn_kind k ≡ false → is_king_kind k ≡ false → goes p c k a b ≡ piece_goes p c k a b
 goes_as_piece p c Pawn a b no_pawn no_king = cc
 goes_as_piece p c Knight a b no_pawn no_king = refl
 goes_as_piece p c Bishop a b no_pawn no_king = refl

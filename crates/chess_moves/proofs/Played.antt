@@ -32,7 +32,7 @@ played p m legal =
     ]) refl
 
 -- the same of the man that is known to stand there
-played_by : (p : Setup) (m : Move) (man : Man) → man_at p.men m.origin ≡ Some man → is_legal p m ≡ true → IsPlayed p m man
+pub played_by : (p : Setup) (m : Move) (man : Man) → man_at p.men m.origin ≡ Some man → is_legal p m ≡ true → IsPlayed p m man
 played_by p m man is legal =
     let by = played p m legal in
     let same : by.0 ≡ man = let there = by.1.there in cc in

@@ -147,7 +147,7 @@ fn is_attacked_in(rays: &Rays, scene: &Scene, square: u8) -> bool
 }
 
 /// Whether the king of the side to move is attacked: only then does its own square answer no check.
-fn is_checked(scene: &Scene) -> bool
+pub(crate) fn is_checked(scene: &Scene) -> bool
     requires { scene.now.king < 64 }
     ensures { (p : Setup) → IsSceneOf scene.now p → result ≡ is_attacked p.men scene.now.king (other_side p.side) }
 {

@@ -19,7 +19,7 @@ use crate::rays::Rays;
 use chess_board::Colour;
 
 /// One side's sets without what stands on a square.
-fn without(force: &Force, square: u8) -> Force
+pub(crate) fn without(force: &Force, square: u8) -> Force
     requires { square < 64 }
     ensures { (men : List (Option ManValue)) (by : ColourValue) (place : Option ManValue) → length men ≡ 64 → StandFor force.now by men
         → is_of by place ≡ false → StandFor result by (slice_set men square place) }

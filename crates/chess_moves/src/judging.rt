@@ -1,11 +1,17 @@
 //! The verdict of a position: whether the game goes on.
 
-ghost use Rattle.std.specs.Prelude.{◌≡◌};
+ghost use Rattle.std.specs.Prelude.{◌≡◌, length, nat_lt};
 ghost use Rattle.chess_board.specs.Attacks.{is_in_check};
-ghost use Rattle.chess_moves.specs.Verdicts.{verdict_of};
+ghost use Rattle.chess_moves.specs.Scenes.{IsSceneOf};
+ghost use Rattle.chess_moves.specs.Verdicts.{verdict_of, is_mate};
+ghost use Rattle.chess_moves.specs.Walking.{members, moves_of_men, HaveOwnMen};
 
 use crate::attacking::attacked;
+use crate::candidates::is_checked;
+use crate::movers::{count_ways, own_man};
 use crate::rays::Rays;
+use crate::scenes::{Scene, scene_of};
+use crate::targets::{has_flight, targets_from};
 use crate::verdicts::Verdict;
 use crate::walking::legal_moves;
 use chess_board::Position;
@@ -30,4 +36,38 @@ pub(crate) fn in_check(rays: &Rays, position: &Position) -> bool
 {
     let side = position.side();
     attacked(rays, position, position.king(side), side.other())
+}
+
+/// Whether the side to move is mated, told in the order that refutes soonest: no check, a flight of the king, an answer of
+/// another man to the checks.
+pub(crate) fn is_mated(rays: &Rays, position: &Position) -> bool
+    ensures { result ≡ is_mate position.now }
+{
+    let scene = scene_of(rays, position);
+    if !is_checked(&scene) {
+        return false;
+    }
+    if has_flight(rays, position, &scene) {
+        return false;
+    }
+    let king = square_sets::with(0, scene.king);
+    !can_move(rays, position, &scene, scene.own & !king)
+}
+
+/// Whether one of these men of the side to move has a legal move.
+fn can_move(rays: &Rays, position: &Position, scene: &Scene, men: u64) -> bool
+    requires scene { IsSceneOf scene.now position.now }
+    requires men { HaveOwnMen men position.now }
+    ensures { result ≡ nat_lt 0 (length (moves_of_men position.now (members men))) }
+{
+    let mut origins = men;
+    while origins != 0 {
+        let origin = origins.trailing_zeros() as u8;
+        origins &= !(1 << origin);
+        let man = own_man(position, origin);
+        if count_ways(man, targets_from(rays, position, scene, man, origin)) != 0 {
+            return true;
+        }
+    }
+    false
 }

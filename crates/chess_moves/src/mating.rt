@@ -1,45 +1,140 @@
 //! Whether a legal move mates.
 
-ghost use Rattle.std.specs.Prelude.{◌≡◌, true};
+ghost use Rattle.std.specs.Prelude.{◌≡◌, ℕ, ◌<◌, true, Some, filter};
+ghost use Rattle.std.specs.List.{list_any};
+ghost use Rattle.square_sets.specs.Members.{has};
 ghost use Rattle.chess_board.specs.After.{after_setup};
+ghost use Rattle.chess_board.specs.Candidates.{goes};
 ghost use Rattle.chess_board.specs.Legality.{is_legal};
+ghost use Rattle.chess_board.specs.Men.{is_of};
+ghost use Rattle.chess_board.specs.Positions.{man_at};
+ghost use Rattle.chess_moves.specs.Listing.{moves_to};
+ghost use Rattle.chess_moves.specs.Scenes.{IsSceneOf};
 ghost use Rattle.chess_moves.specs.Sights.{IsSightsOf};
 ghost use Rattle.chess_moves.specs.Verdicts.{is_mate, has_mating_move as some_move_mates};
 
-use crate::judging::verdict;
+use crate::candidates::{castling_targets, passing_targets, pawn_targets, piece_targets};
+use crate::judging::is_mated;
+use crate::movers::own_man;
 use crate::rays::Rays;
-use crate::sights::{Sights, attacks_king, is_told, sights_of};
-use crate::verdicts::Verdict;
-use crate::walking::legal_moves;
-use chess_board::{Move, Position, after};
+use crate::scenes::{Scene, scene_of};
+use crate::sights::{Sights, check_squares, sights_of};
+use crate::targets::targets_from;
+use crate::walking::ManMoves;
+use chess_board::{Kind, Man, Position, after};
 
-/// Whether some legal move mates: the last move of a search. Most moves are seen to give no check, and are not made.
-#[tactic(auto, unfolding(crate::specs::Verdicts::has_mating_move), using(crate::proofs::Listed::all_legal))]
+/// Whether some legal move mates: the last move of a search. Of the moves only those that give check, or may, are made.
 pub fn has_mating_move(rays: &Rays, position: &Position) -> bool
     ensures { result ≡ some_move_mates position.now }
 {
+    let scene = scene_of(rays, position);
     let sights = sights_of(rays, position);
-    for m in legal_moves(rays, position) {
-        if mates(rays, position, &sights, m) {
+    let mut origins = scene.own;
+    while origins != 0 {
+        let origin = origins.trailing_zeros() as u8;
+        origins &= !(1 << origin);
+        if man_mates(rays, position, &scene, &sights, origin) {
             return true;
         }
     }
     false
 }
 
-/// Whether a legal move mates.
-fn mates(rays: &Rays, position: &Position, sights: &Sights, m: Move) -> bool
+/// Whether a legal move of the man of the side to move on a square mates. Where it goes to no square from which it may give
+/// check, its king's safety is not asked about.
+fn man_mates(rays: &Rays, position: &Position, scene: &Scene, sights: &Sights, origin: u8) -> bool
+    requires on_board { origin < 64 }
+    requires scene { IsSceneOf scene.now position.now }
     requires sights { IsSightsOf sights.now position.now }
-    requires legal { is_legal position.now m ≡ true }
-    ensures { result ≡ is_mate (after_setup position.now m) }
+    requires own { is_of position.now.side (man_at position.now.men origin) ≡ true }
+    ensures { result ≡ list_any (λ m. is_mate (after_setup position.now m)) (filter (is_legal position.now) (moves_to origin 64)) }
 {
-    let Some(man) = position.man(m.origin) else {
-        return false;
-    };
-    if is_told(position, sights, man, m)
-        && !attacks_king(sights, man.kind, m.target.index() as u8)
-    {
+    let man = own_man(position, origin);
+    let squares = check_squares(rays, position, scene, sights, man, origin);
+    if squares & goals_of(rays, position, scene, man, origin) == 0 {
         return false;
     }
-    verdict(rays, &after(position, m)) == Verdict::Mate
+    let targets = squares & targets_from(rays, position, scene, man, origin);
+    let mut left = ManMoves {
+        man,
+        origin,
+        targets,
+        promotion: Kind::Knight,
+    };
+    while left.targets != 0 {
+        let m = left.take();
+        if is_mated(rays, &after(position, m)) {
+            return true;
+        }
+    }
+    false
+}
+
+/// Where a man of the side to move goes, whatever becomes of its king.
+fn goals_of(rays: &Rays, position: &Position, scene: &Scene, man: Man, origin: u8) -> u64
+    requires on_board { origin < 64 }
+    requires scene { IsSceneOf scene.now position.now }
+    requires there { man_at position.now.men origin ≡ Some man }
+    requires own { man.colour ≡ position.now.side }
+    ensures { (t : ℕ) → t < 64 → goes position.now man.colour man.kind origin t ≡ true → has result t ≡ true }
+{
+    match man.kind {
+        Kind::Pawn => {
+            pawn_targets(rays, position, scene, man, origin)
+                | passing_targets(rays, position, man, origin)
+        }
+        Kind::King => {
+            piece_targets(rays, position, scene, man, origin)
+                | castling_targets(rays, position, scene)
+        }
+        Kind::Knight | Kind::Bishop | Kind::Rook | Kind::Queen => {
+            piece_targets(rays, position, scene, man, origin)
+        }
+    }
+}
+
+#[cfg(test)]
+mod tests {
+    use super::*;
+    use chess_board::read_fen;
+    use std::test::Fail;
+
+    #[test]
+    fn tells_whether_a_move_mates(rt: HostRuntime) -> Result<(), Fail> {
+        let table = [
+            // The back rank; and where the king may step off it.
+            ("6k1/5ppp/8/8/8/8/8/R5K1 w - - 0 1", true),
+            ("7k/8/5K2/8/8/8/8/R7 w - - 0 1", false),
+            // Smothered, and where the knight can be taken.
+            ("6rk/6pp/7N/8/8/8/8/6K1 w - - 0 1", true),
+            ("6rk/6pp/7N/8/8/1b6/8/6K1 w - - 0 1", false),
+            // The king opens the rank, the pawn the diagonal.
+            ("k1K4R/p7/8/8/8/8/8/8 w - - 0 1", true),
+            ("k7/p7/8/8/4P3/8/8/1R2K2B w - - 0 1", true),
+            // Castling alone mates.
+            ("8/8/8/8/7p/8/7Q/2k1K2R w K - 0 1", true),
+            ("8/8/8/8/7p/8/7Q/2k1K2R w - - 0 1", false),
+            // The capture en passant alone mates.
+            ("7k/5K2/8/6pP/8/7R/8/8 w - g6 0 1", true),
+            ("7k/5K2/8/6pP/8/7R/8/8 w - - 0 1", false),
+            ("1K6/3k4/4R3/2pP2N1/3R4/p7/8/8 w - c6 0 1", true),
+            // The promotion to a knight alone mates; to a queen or a rook.
+            ("7R/1P1k4/8/4Q3/8/2p5/8/5K2 w - - 0 1", true),
+            ("6R1/2P1k1K1/8/2N5/8/8/8/8 w - - 0 1", true),
+            ("k7/2P5/K7/8/8/8/8/8 w - - 0 1", true),
+            ("6bk/5P1p/7P/8/8/8/8/6K1 w - - 0 1", false),
+            // The man that gives check is guarded.
+            ("7k/R7/5N2/8/8/8/8/K7 w - - 0 1", true),
+            ("7k/R7/8/8/8/8/8/K7 w - - 0 1", false),
+            ("4rk2/5p2/6R1/8/2B5/8/8/K4R2 w - - 0 1", true),
+            // No check.
+            ("8/8/8/8/8/5k2/5p2/5K2 w - - 0 1", false),
+        ];
+        let rays = Rays::new();
+        for (text, expected) in table {
+            let position = read_fen(text.as_bytes())?.position;
+            assert_eq!(rt; has_mating_move(&rays, &position), expected, "{text}");
+        }
+        Ok(())
+    }
 }

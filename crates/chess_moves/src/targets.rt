@@ -1,6 +1,6 @@
 //! The targets of a man's legal moves, as a set of squares: none of them is made.
 
-ghost use Rattle.std.specs.Prelude.{◌≡◌, ℕ, ◌<◌, true, false, not, ◌&&◌, Some, None};
+ghost use Rattle.std.specs.Prelude.{◌≡◌, ℕ, ◌<◌, true, false, not, ◌&&◌, Some, None, filter, length, nat_lt};
 ghost use Rattle.square_sets.specs.Members.{has};
 ghost use Rattle.chess_board.specs.declared.men.Kind.TheVariants as kind;
 ghost use Rattle.chess_board.specs.Positions.{Setup, man_at};
@@ -9,9 +9,10 @@ ghost use Rattle.chess_board.specs.KindTests.{is_king_kind, is_pawn_kind};
 ghost use Rattle.chess_board.specs.Attacks.{is_in_check};
 ghost use Rattle.chess_board.specs.Candidates.{goes, takes_in_passing};
 ghost use Rattle.chess_board.specs.After.{cleared, moved, passed_pawn, wing_of, men_after};
-ghost use Rattle.chess_moves.specs.Listing.{move_of};
+ghost use Rattle.chess_board.specs.Legality.{is_legal};
+ghost use Rattle.chess_moves.specs.Listing.{move_of, moves_to};
 ghost use Rattle.chess_moves.specs.Scenes.{IsSceneOf};
-ghost use Rattle.chess_moves.specs.Targets.{AreTargets};
+ghost use Rattle.chess_moves.specs.Targets.{AreTargets, IsTarget};
 
 use crate::candidates::{castling_targets, passing_targets, pawn_targets, piece_targets};
 use crate::guards::{allowed_from, is_safe_after, is_safe_castled, is_safe_in_passing};
@@ -40,6 +41,31 @@ pub(crate) fn targets_from(
         Kind::Knight | Kind::Bishop | Kind::Rook | Kind::Queen => {
             targets_of_piece(rays, position, scene, man, origin)
         }
+    }
+}
+
+/// Whether a square is such a target. Of a king no other square is asked about.
+pub(crate) fn is_target(
+    rays: &Rays,
+    position: &Position,
+    scene: &Scene,
+    man: Man,
+    origin: u8,
+    target: u8,
+) -> bool
+    requires on_board { (origin < 64) × (target < 64) }
+    requires scene { IsSceneOf scene.now position.now }
+    requires there { man_at position.now.men origin ≡ Some man }
+    requires own { man.colour ≡ position.now.side }
+    ensures { IsTarget result position.now man origin target }
+{
+    match man.kind {
+        Kind::King => {
+            let goals = piece_targets(rays, position, scene, man, origin)
+                | castling_targets(rays, position, scene);
+            square_sets::contains(goals, target) && is_king_safe(rays, scene, target)
+        }
+        _ => square_sets::contains(targets_from(rays, position, scene, man, origin), target),
     }
 }
 
@@ -142,6 +168,28 @@ fn targets_of_king(rays: &Rays, position: &Position, scene: &Scene, man: Man, or
         rest &= !(1 << target);
     }
     safe
+}
+
+/// Whether the king has a legal move. It looks no further than the first.
+pub(crate) fn has_flight(rays: &Rays, position: &Position, scene: &Scene) -> bool
+    requires scene { IsSceneOf scene.now position.now }
+    ensures { result ≡ nat_lt 0 (length (filter (is_legal position.now) (moves_to scene.now.king 64))) }
+{
+    let king = Man {
+        colour: scene.side,
+        kind: Kind::King,
+    };
+    let goals = piece_targets(rays, position, scene, king, scene.king)
+        | castling_targets(rays, position, scene);
+    let mut rest = goals;
+    while rest != 0 {
+        let flight = rest.trailing_zeros() as u8;
+        if is_king_safe(rays, scene, flight) {
+            return true;
+        }
+        rest &= !(1 << flight);
+    }
+    false
 }
 
 /// Whether the king is safe where it goes, by a step or by castling.

@@ -88,12 +88,12 @@ impl<'a> FusedIterator for LegalMoves<'a> {}
 
 /// One man's legal moves that are still to come.
 #[derive(Clone, Copy, Debug)]
-struct ManMoves {
-    man: Man,
-    origin: u8,
-    targets: u64,
+pub(crate) struct ManMoves {
+    pub man: Man,
+    pub origin: u8,
+    pub targets: u64,
     /// What the man becomes first on the lowest of its targets, if it is promoted there.
-    promotion: Kind,
+    pub promotion: Kind,
 }
 
 /// The legal moves of the man of the side to move on a square.
@@ -115,7 +115,7 @@ fn moves_of_man(rays: &Rays, position: &Position, scene: &Scene, origin: u8) -> 
 
 impl ManMoves {
     /// Takes the first of the moves.
-    fn take(&mut self) -> Move
+    pub(crate) fn take(&mut self) -> Move
         requires on_board { self.old.origin < 64 }
         requires some { 0 < self.old.targets }
         ensures moves { man_moves self.old ≡ result ∷ man_moves self.new }

@@ -5,7 +5,7 @@ use Rattle.std.proofs.lemmas.Bool.{and_parts}
 use Rattle.std.proofs.lemmas.Bool.Decides.{nat_tests}
 use mathlib.Core.Bool.{not}
 use Rattle.chess_board.specs.Fields.{digits_value}
-use Rattle.chess_notation.specs.declared.faults.EpdFault.TheVariants.{TooLong, NotPrintable, BadOpcode, BadString, MissingSemicolon, DoubleOpcode, BadBound, BoundTooLarge}
+use Rattle.chess_notation.specs.declared.faults.EpdFault.TheVariants.{TooLong, NotPrintable, Fen, BadOpcode, BadString, MissingSemicolon, DoubleOpcode, BadBound, BoundTooLarge, BadAvoid, NoMemory}
 use Rattle.chess_notation.specs.RecordReading.{IsClearTo}
 use Rattle.chess_notation.specs.Words.{word_at, behind, is_blank}
 use Rattle.chess_notation.specs.Segments.{Segments}
@@ -14,6 +14,7 @@ use Rattle.chess_notation.specs.Operations.{is_printable}
 use Rattle.chess_notation.specs.Lines.{is_number, is_counter, behind_fields, behind_counters, operations_in, cut_of}
 use Rattle.chess_notation.specs.EpdFaults.{each_segment, has_opcode, are_distinct, is_bound_segment, has_number, has_number_if_bound, is_small_if_bound}
 use Rattle.chess_notation.proofs.WordSplits.{all_behind}
+use Rattle.chess_notation.proofs.WordLists.{behind_within}
 
 not_false : (b : Bool) → (b ≡ false → ⊥) → b ≡ true
 not_false true h = refl
@@ -90,3 +91,34 @@ no_fault_printable line clear =
     let tail = behind (behind (behind (behind line))) in
     counters_keep (is_counter (word_at tail) && is_counter (word_at (behind tail))) p tail
     (all_behind p (behind (behind (behind line))) (all_behind p (behind (behind line)) (all_behind p (behind line) (all_behind p line (no_fault_passes line clear).printable))))
+
+-- The text of its operations is no longer than the line.
+pub operations_within : (line : List ℕ) → length (operations_in line) ≤ length line
+unfolding operations_in behind_counters behind_fields
+operations_within line =
+    let tail = behind (behind (behind (behind line))) in
+    let fields : length tail ≤ length line = omega (arith, behind_within line, behind_within (behind line), behind_within (behind (behind line)), behind_within (behind (behind (behind line)))) in
+    by_counters (is_counter (word_at tail) && is_counter (word_at (behind tail))) fields where
+      by_counters : (b : Bool) → length (behind (behind (behind (behind line)))) ≤ length line
+          → length (if b then behind (behind (behind (behind (behind (behind line))))) else behind (behind (behind (behind line)))) ≤ length line
+      by_counters true fields = omega (arith, fields, behind_within (behind (behind (behind (behind line)))), behind_within (behind (behind (behind (behind (behind line))))))
+      by_counters false fields = fields
+
+-- Without one of the first eight, each `dm` has a number. Where this is a bound, there is none of the first nine.
+pub numbers_passed : (line : List ℕ) → IsClearTo 8 line → list_all has_number_if_bound (cut_of line).ended ≡ true
+unfolding IsClearTo
+numbers_passed line clear = not_false (list_all has_number_if_bound (cut_of line).ended) (clear BadBound (omega arith))
+
+pub clear_of_large : (line : List ℕ) → IsClearTo 8 line → list_all is_small_if_bound (cut_of line).ended ≡ true → IsClearTo 9 line
+unfolding IsClearTo
+clear_of_large line clear small TooLong low = clear TooLong (omega arith)
+clear_of_large line clear small NotPrintable low = clear NotPrintable (omega arith)
+clear_of_large line clear small (Fen fault) low = clear (Fen fault) (omega arith)
+clear_of_large line clear small BadOpcode low = clear BadOpcode (omega arith)
+clear_of_large line clear small BadString low = clear BadString (omega arith)
+clear_of_large line clear small MissingSemicolon low = clear MissingSemicolon (omega arith)
+clear_of_large line clear small DoubleOpcode low = clear DoubleOpcode (omega arith)
+clear_of_large line clear small BadBound low = clear BadBound (omega arith)
+clear_of_large line clear small BoundTooLarge low = λ large. cc
+clear_of_large line clear small BadAvoid low = absurd (omega (arith, low))
+clear_of_large line clear small NoMemory low = absurd (omega (arith, low))

@@ -10,6 +10,7 @@ pub mod Drops
 pub mod EntryMembers
 pub mod EntryOrder
 pub mod FaultFree
+mod FewWords
 pub mod FieldWords
 pub mod FirstFaults
 pub mod FullTexts

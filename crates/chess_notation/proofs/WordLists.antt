@@ -78,3 +78,11 @@ behind_shorter text solid =
     let whole : length text ≡ length front + (length (word_at text) + length (behind text)) =
     ap length split.1 ∙ length-append front (word_at text ++ behind text) ∙ ap (λ n. length front + n) (length-append (word_at text) (behind text)) in
     omega (arith, whole, some)
+
+pub behind_within : (text : List ℕ) → length (behind text) ≤ length text
+behind_within text =
+    let split = words_split text in
+    let front : List ℕ = replicate split.0 32 in
+    let whole : length text ≡ length front + (length (word_at text) + length (behind text)) =
+    ap length split.1 ∙ length-append front (word_at text ++ behind text) ∙ ap (λ n. length front + n) (length-append (word_at text) (behind text)) in
+    omega (arith, whole)

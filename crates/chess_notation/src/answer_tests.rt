@@ -6,10 +6,10 @@ ghost use Rattle.chess_notation.specs.Opcodes.{IsBelow, RisesByOpcode, AreKept};
 ghost use Rattle.chess_notation.specs.Answers.{AreLegal, IsPlayable};
 
 use crate::opcodes::{comes_before, is_own};
-use crate::{Bound, NoMemory, Operation, Outcome, Record, answer_text};
+use crate::{AvoidList, Bound, NoMemory, Operation, Outcome, Record, answer_text};
 use arrayvec::{ArrayString, ArrayVec};
 use chess_board::{Move, Position, Square, after, read_fen};
-use chess_moves::{MoveList, Rays, is_legal, legal_listed};
+use chess_moves::{Rays, is_legal, legal_listed};
 use std::alloc::Global;
 use std::process::Abort;
 use std::test::Fail;
@@ -117,7 +117,7 @@ fn record_of(fen: &str, bound: u8, rest: Vec<Operation>) -> Result<Record, Fail>
     Ok(Record {
         position: read_fen(fen.as_bytes())?.position,
         bound: Bound::new(bound).ok_or("bound")?,
-        avoid: MoveList::new(),
+        avoid: AvoidList::new(),
         rest,
     })
 }

@@ -1,6 +1,6 @@
 //! What a line asks for: the operand of `dm`, and those of `am`.
 
-ghost use Rattle.std.specs.Prelude.{◌≡◌, min, true, IfSome, IfNone, Some, None};
+ghost use Rattle.std.specs.Prelude.{◌≡◌, ◌≤◌, min, length, true, false, IfSome, IfNone, Some, None};
 ghost use Rattle.std.specs.List.{list_all};
 ghost use Rattle.chess_board.specs.Fields.{digits_value};
 ghost use Rattle.chess_notation.specs.Words.{word_at as word_of_text, behind};
@@ -32,6 +32,13 @@ fn is_bound_segment(segment: &[u8]) -> bool
     is_same_text(b"dm", word_at(segment).0)
 }
 
+/// Whether the opcode of a segment is `am`.
+fn is_avoid_segment(segment: &[u8]) -> bool
+    ensures { result ≡ is_avoid_of segment.now }
+{
+    is_same_text(b"am", word_at(segment).0)
+}
+
 /// Whether digits that are not all zeros stand behind the opcode, and nothing else.
 fn has_number(segment: &[u8]) -> bool
     ensures { result ≡ does_have_number segment.now }
@@ -61,56 +68,38 @@ pub(crate) fn have_numbers(text: &[u8]) -> bool
     true
 }
 
-/// Whether the number of each `dm` is a bound.
-pub(crate) fn have_small_numbers(text: &[u8]) -> bool
-    ensures { result ≡ list_all is_small_if_bound (segments_of text.now).ended }
-{
-    let mut rest = text;
-    while let Some((segment, back)) = first_segment(rest) {
-        if is_bound_segment(segment) && 15 < number_of_segment(segment) {
-            return false;
-        }
-        rest = back;
-    }
-    true
+/// What a line asks for: the bound of `dm`, or the default one, and what stands behind `am`.
+#[derive(Clone, Copy)]
+pub(crate) struct Asked<'a> {
+    pub(crate) bound: Bound,
+    pub(crate) avoid: Option<&'a [u8]>,
 }
 
-/// The bound of the first `dm`, or the default one.
-#[tactic(auto, unfolding(crate::specs::RecordReading::bound_said))]
-pub(crate) fn asked_bound(text: &[u8], default: Bound) -> Bound
+/// What the operations ask for, each by the first that does; none where the number of a `dm` is no bound.
+#[tactic(auto, unfolding(crate::specs::RecordReading::bound_said, crate::specs::RecordReading::avoid_text_in), using(crate::proofs::WordLists::behind_within))]
+pub(crate) fn asked_of(text: &[u8], default: Bound) -> Option<Asked<'_>>
     requires numbers { list_all has_number_if_bound (segments_of text.now).ended ≡ true }
-    requires small { list_all is_small_if_bound (segments_of text.now).ended ≡ true }
-    ensures { result ≡ bound_said (segments_of text.now).ended default }
+    ensures bound { IfSome result (λ asked. asked.bound ≡ bound_said (segments_of text.now).ended default) }
+    ensures avoid { IfSome result (λ asked. IfSome asked.avoid (λ words. avoid_text_in (segments_of text.now).ended ≡ Some words.now)) }
+    ensures nothing { IfSome result (λ asked. IfNone asked.avoid (avoid_text_in (segments_of text.now).ended ≡ None)) }
+    ensures shorter { IfSome result (λ asked. IfSome asked.avoid (λ words. length words.now ≤ length text.now)) }
+    ensures small { IfSome result (λ asked. list_all is_small_if_bound (segments_of text.now).ended ≡ true) }
+    ensures large { IfNone result (list_all is_small_if_bound (segments_of text.now).ended ≡ false) }
 {
+    let mut bound = None;
+    let mut avoid = None;
     let mut rest = text;
     while let Some((segment, back)) = first_segment(rest) {
         if is_bound_segment(segment) {
-            return Bound::new(number_of_segment(segment)).unwrap();
+            let number = Bound::new(number_of_segment(segment))?;
+            bound = bound.or(Some(number));
+        } else if avoid.is_none() && is_avoid_segment(segment) {
+            avoid = Some(word_at(segment).1);
         }
         rest = back;
     }
-    default
-}
-
-/// Whether the opcode of a segment is `am`.
-fn is_avoid_segment(segment: &[u8]) -> bool
-    ensures { result ≡ is_avoid_of segment.now }
-{
-    is_same_text(b"am", word_at(segment).0)
-}
-
-/// What stands behind the first `am`.
-#[tactic(auto, unfolding(crate::specs::RecordReading::avoid_text_in))]
-pub(crate) fn avoid_text(text: &[u8]) -> Option<&[u8]>
-    ensures there { IfSome result (λ behind. avoid_text_in (segments_of text.now).ended ≡ Some behind.now) }
-    ensures none { IfNone result (avoid_text_in (segments_of text.now).ended ≡ None) }
-{
-    let mut rest = text;
-    while let Some((segment, back)) = first_segment(rest) {
-        if is_avoid_segment(segment) {
-            return Some(word_at(segment).1);
-        }
-        rest = back;
-    }
-    None
+    Some(Asked {
+        bound: bound.unwrap_or(default),
+        avoid,
+    })
 }

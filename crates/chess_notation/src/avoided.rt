@@ -7,17 +7,16 @@ ghost use Rattle.chess_notation.specs.San.{bare_text};
 ghost use Rattle.chess_notation.specs.Words.{words_in, is_blank as is_blank_text};
 ghost use Rattle.chess_notation.specs.Opcodes.{same_text};
 ghost use Rattle.chess_notation.specs.Avoided.{is_check_mark as is_mark_of_check, without_mark as text_without_mark, named};
-ghost use Rattle.chess_notation.specs.EpdFaults.{are_names as do_words_name, are_distinct, has_names_if_avoid};
-ghost use Rattle.chess_notation.specs.Segments.{segments_of};
-ghost use Rattle.chess_notation.specs.RecordReading.{avoid_in};
+ghost use Rattle.chess_notation.specs.EpdFaults.{are_names as do_words_name};
 
-use crate::asked::avoid_text;
 use crate::move_texts::bare;
 use crate::opcodes::is_same_text;
+use crate::problems::AvoidList;
+use crate::san_laws::bare_texts_apart;
 use crate::words::{is_blank, word_at};
 use arrayvec::{ArrayString, ArrayVec};
 use chess_board::{Move, Position};
-use chess_moves::{MoveList, Rays, legal};
+use chess_moves::{Rays, legal, legal_listed, legal_rise};
 
 /// A legal move and its text without the mark of a check.
 #[derive(Clone, Copy, Default)]
@@ -114,11 +113,11 @@ fn have_name(words: &[u8], text: &[u8]) -> bool
 }
 
 /// Those of these moves that a word names.
-fn moves_named(words: &[u8], names: &[Named]) -> MoveList
-    requires { length names.now ≤ 1024 }
+fn moves_named(words: &[u8], names: &[Named]) -> AvoidList
+    requires { length (filter (λ n. list_any (λ word. same_text (text_without_mark word) n.text.bytes) (words_in words.now)) names.now) ≤ 341 }
     ensures { result.items ≡ map (λ n. n.m) (filter (λ n. list_any (λ word. same_text (text_without_mark word) n.text.bytes) (words_in words.now)) names.now) }
 {
-    let mut moves = MoveList::new();
+    let mut moves = AvoidList::new();
     for name in names {
         if have_name(words, name.text.as_str().as_bytes()) {
             moves.push(name.m);
@@ -128,29 +127,22 @@ fn moves_named(words: &[u8], names: &[Named]) -> MoveList
 }
 
 /// The legal moves that the words name, in the order of moves; none where there is no word, or one that names no legal move.
-pub(crate) fn named_moves(rays: &Rays, position: &Position, words: &[u8]) -> Option<MoveList>
+/// It stands by itself, so that its lists take no room where nothing is to be avoided.
+#[inline(never)]
+pub(crate) fn named_moves(rays: &Rays, position: &Position, words: &[u8]) -> Option<AvoidList>
+    requires { length words.now ≤ 1023 }
     ensures names { IfSome result (λ moves. do_words_name position.now words.now ≡ true) }
     ensures moves { IfSome result (λ moves. moves.items ≡ named position.now (words_in words.now)) }
     ensures refused { IfNone result (do_words_name position.now words.now ≡ false) }
 {
+    // That there is room for all of them rests on these laws.
+    legal_listed();
+    legal_rise();
+    bare_texts_apart();
     let names = legal_names(rays, position);
     if are_names(words, names.as_slice()) {
         Some(moves_named(words, names.as_slice()))
     } else {
         None
-    }
-}
-
-/// The moves to avoid by the text of the operations; none where a word behind `am` names no legal move, or none stands there.
-#[tactic(auto, unfolding(crate::specs::RecordReading::avoid_in))]
-pub(crate) fn avoided_moves(rays: &Rays, position: &Position, text: &[u8]) -> Option<MoveList>
-    requires { are_distinct (segments_of text.now).ended ≡ true }
-    ensures names { IfSome result (λ moves. list_all (has_names_if_avoid position.now) (segments_of text.now).ended ≡ true) }
-    ensures moves { IfSome result (λ moves. moves.items ≡ avoid_in position.now (segments_of text.now).ended) }
-    ensures refused { IfNone result (list_all (has_names_if_avoid position.now) (segments_of text.now).ended ≡ false) }
-{
-    match avoid_text(text) {
-        Some(words) => named_moves(rays, position, words),
-        None => Some(MoveList::new()),
     }
 }

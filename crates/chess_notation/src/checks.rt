@@ -1,6 +1,6 @@
 //! The checks of a line, in the order in which their faults are answered.
 
-ghost use Rattle.std.specs.Prelude.{◌≡◌, ◌<◌, ◌≤◌, IfSome, IfNone, IfOk, IfErr, OnOk, true, false};
+ghost use Rattle.std.specs.Prelude.{◌≡◌, ◌<◌, ◌≤◌, ℕ, List, IfSome, IfNone, IfOk, IfErr, OnOk, true, false};
 ghost use Rattle.std.specs.List.{list_all};
 ghost use Rattle.chess_board.specs.declared.faults.FenFault.{FenFault as FenFaultValue};
 ghost use Rattle.chess_board.specs.Soundness.{IsSound};
@@ -9,11 +9,11 @@ ghost use Rattle.chess_notation.specs.declared.faults.EpdFault.{EpdFault as EpdF
 ghost use Rattle.chess_notation.specs.Segments.{segments_of};
 ghost use Rattle.chess_notation.specs.Strings.{strings_fit as do_strings_fit};
 ghost use Rattle.chess_notation.specs.Words.{word_at as word_of_text};
-ghost use Rattle.chess_notation.specs.Lines.{line_fields};
+ghost use Rattle.chess_notation.specs.Lines.{line_fields, operations_in as text_of_operations};
 ghost use Rattle.chess_notation.specs.EpdFaults.{each_segment, has_opcode as does_have_opcode, differs_from, are_distinct, fault_number, IsAmissBy, IsFaultOf};
 ghost use Rattle.chess_notation.specs.RecordReading.{IsClearTo};
 
-use crate::asked::{have_numbers, have_small_numbers};
+use crate::asked::have_numbers;
 use crate::faults::EpdFault;
 use crate::lines::{are_printable, operations_in, parts_of};
 use crate::opcodes::{is_opcode, is_same_text};
@@ -84,32 +84,30 @@ fn have_distinct_opcodes(text: &[u8]) -> bool
     true
 }
 
-/// Whether the operations of a line have a fault, one of those behind `Fen` and before `BadAvoid`.
+/// Whether these operations of a line have a fault, one of those behind `Fen` and before `BoundTooLarge`.
 #[tactic(auto, unfolding(crate::specs::Lines::cut_of))]
-fn applies(fault: EpdFault, line: &[u8]) -> bool
-    requires { fault_number fault ≤ 9 }
-    ensures applies { 3 < fault_number fault → result ≡ true → IsAmissBy line.now fault }
-    ensures clear { 3 < fault_number fault → result ≡ false → ¬ (IsAmissBy line.now fault) }
+fn applies(fault: EpdFault, text: &[u8]) -> bool
+    requires { fault_number fault ≤ 8 }
+    ensures applies { 3 < fault_number fault → result ≡ true → (line : List ℕ) → text.now ≡ text_of_operations line → IsAmissBy line fault }
+    ensures clear { 3 < fault_number fault → result ≡ false → (line : List ℕ) → text.now ≡ text_of_operations line → ¬ (IsAmissBy line fault) }
 {
-    let text = operations_in(line);
     match fault {
         EpdFault::BadOpcode => !have_opcodes(text),
         EpdFault::BadString => !have_fit_strings(text),
         EpdFault::MissingSemicolon => !is_blank(last_rest(text)),
         EpdFault::DoubleOpcode => !have_distinct_opcodes(text),
         EpdFault::BadBound => !have_numbers(text),
-        EpdFault::BoundTooLarge => !have_small_numbers(text),
         _ => false,
     }
 }
 
-/// The first fault of the operations of a line, but for `BadAvoid`.
+/// The first fault of the operations of a line, of those before `BoundTooLarge`.
 fn operations_fault(line: &[u8]) -> Option<EpdFault>
     ensures later { IfSome result (λ fault. 3 < fault_number fault) }
     ensures applies { IfSome result (λ fault. IsAmissBy line.now fault) }
     ensures first { IfSome result (λ fault. (earlier : EpdFaultValue) → 3 < fault_number earlier → fault_number earlier < fault_number fault
         → ¬ (IsAmissBy line.now earlier)) }
-    ensures none { IfNone result ((fault : EpdFaultValue) → 3 < fault_number fault → fault_number fault ≤ 9 → ¬ (IsAmissBy line.now fault)) }
+    ensures none { IfNone result ((fault : EpdFaultValue) → 3 < fault_number fault → fault_number fault ≤ 8 → ¬ (IsAmissBy line.now fault)) }
 {
     let faults = [
         EpdFault::BadOpcode,
@@ -117,10 +115,10 @@ fn operations_fault(line: &[u8]) -> Option<EpdFault>
         EpdFault::MissingSemicolon,
         EpdFault::DoubleOpcode,
         EpdFault::BadBound,
-        EpdFault::BoundTooLarge,
     ];
+    let text = operations_in(line);
     for fault in faults {
-        if applies(fault, line) {
+        if applies(fault, text) {
             return Some(fault);
         }
     }
@@ -146,11 +144,11 @@ fn position_of(line: &[u8]) -> Result<Position, EpdFault>
     }
 }
 
-/// The position of a line, or its first fault, where that is one before `BadAvoid`.
+/// The position of a line, or its first fault, where that is one before `BoundTooLarge`.
 #[tactic(auto, unfolding(crate::specs::RecordReading::IsClearTo))]
 pub(crate) fn check(line: &[u8]) -> Result<Position, EpdFault>
     ensures read { IfOk result (λ p. SpellsSetup (line_fields line.now) p × IsSound p) }
-    ensures clear { OnOk result (IsClearTo 9 line.now) }
+    ensures clear { OnOk result (IsClearTo 8 line.now) }
     ensures refused { IfErr result (λ fault. IsFaultOf line.now fault) }
 {
     if 1023 < line.len() {

@@ -35,7 +35,7 @@ pub use bounds::Bound;
 pub use faults::EpdFault;
 pub use move_texts::san;
 pub use no_memory::NoMemory;
-pub use problems::{Outcome, Problem};
+pub use problems::{AvoidList, Outcome, Problem};
 pub use reading::read_record;
 pub use record_laws::{answer_reads, records_clear, says_one};
 pub use records::{Operation, Record};

@@ -6,13 +6,16 @@ use chess_board::{Move, Position};
 use chess_moves::MoveList;
 use std::marker::Model;
 
+/// Moves to avoid, with room for all that a line can name: each has two bytes at least there, and a space between it and the next.
+pub type AvoidList = ArrayVec<Move, 341>;
+
 /// A direct-mate problem: whether the side to move mates within so many of its moves, the first of them none of those to avoid,
 /// which rise in the order of moves. It is of fixed size, and can't be cloned: `Record::problem` makes it anew.
 #[derive(Debug, Drop)]
 pub struct Problem {
     pub position: Position,
     pub bound: Bound,
-    pub avoid: MoveList,
+    pub avoid: AvoidList,
 }
 
 impl Model for Problem {

@@ -1,54 +1,68 @@
 //! Lines read as records.
 
-ghost use Rattle.std.specs.Prelude.{◌≡◌, ◌⊎◌, IfOk, IfErr};
+ghost use Rattle.std.specs.Prelude.{◌≡◌, ◌⊎◌, ◌≤◌, length, IfOk, OnOk, IfErr, IfSome, IfNone, Some, None, true, false};
+ghost use Rattle.std.specs.List.{list_all};
 ghost use Rattle.chess_board.specs.Soundness.{IsSound};
-ghost use Rattle.chess_board.specs.Fens.{SpellsSetup};
+ghost use Rattle.chess_notation.specs.Segments.{segments_of};
+ghost use Rattle.chess_notation.specs.Operations.{is_printable};
 ghost use Rattle.chess_notation.specs.Records.{RecordValue, Reads};
-ghost use Rattle.chess_notation.specs.Lines.{line_fields};
-ghost use Rattle.chess_notation.specs.EpdFaults.{IsFaultOf};
-ghost use Rattle.chess_notation.specs.RecordReading.{IsClearTo};
+ghost use Rattle.chess_notation.specs.EpdFaults.{IsFaultOf, has_opcode, are_distinct, has_names_if_avoid};
+ghost use Rattle.chess_notation.specs.RecordReading.{avoid_text_in, avoid_in, rest_of};
 
-use crate::asked::asked_bound;
-use crate::avoided::avoided_moves;
+use crate::asked::{Asked, asked_of};
+use crate::avoided::named_moves;
 use crate::bounds::Bound;
 use crate::checks::check;
 use crate::faults::EpdFault;
 use crate::lines::operations_in;
 use crate::operations::operations_of;
+use crate::problems::AvoidList;
 use crate::records::Record;
 use chess_board::{Position, spells_one};
 use chess_moves::{Rays, legal_listed, legal_rise};
 use std::alloc::Global;
 
-/// The record of a line that has none of the faults before `BadAvoid`, whose fields spell this position. Lines with one of these
-/// faults are spared the room for a record.
+/// The record of operations that have none of the faults before `BadAvoid`, which ask for this in this position. Lines with one
+/// of these faults are spared the room for a record.
 fn record_of(
     alloc: Global,
     rays: &Rays,
-    line: &[u8],
+    text: &[u8],
     position: Position,
-    default: Bound,
+    asked: Asked<'_>,
 ) -> Result<Record, EpdFault>
-    requires clear { IsClearTo 9 line.now }
-    requires spelt { SpellsSetup (line_fields line.now) position }
+    requires short { length text.now ≤ 1023 }
+    requires printable { list_all is_printable text.now ≡ true }
+    requires opcodes { list_all has_opcode (segments_of text.now).ended ≡ true }
+    requires distinct { are_distinct (segments_of text.now).ended ≡ true }
     requires sound { IsSound position }
-    ensures reads { IfOk result (λ r. Reads line.now default r) }
-    ensures only { IfOk result (λ r. (other : RecordValue) → Reads line.now default other → r ≡ other) }
-    ensures refused { IfErr result (λ fault. IsFaultOf line.now fault ⊎ ((fault ≡ EpdFault.NoMemory) × ((r : RecordValue) × Reads line.now default r))) }
+    requires avoid { IfSome asked.avoid (λ words. avoid_text_in (segments_of text.now).ended ≡ Some words.now) }
+    requires nothing { IfNone asked.avoid (avoid_text_in (segments_of text.now).ended ≡ None) }
+    requires shorter { IfSome asked.avoid (λ words. length words.now ≤ length text.now) }
+    ensures made { IfOk result (λ r. r ≡ record {
+      position = position;
+      bound = asked.entry.bound;
+      avoid = avoid_in position (segments_of text.now).ended;
+      rest = rest_of (segments_of text.now).ended;
+    }) }
+    ensures names { OnOk result (list_all (has_names_if_avoid position) (segments_of text.now).ended ≡ true) }
+    ensures refused { IfErr result (λ fault.
+        ((fault ≡ EpdFault.BadAvoid) × (list_all (has_names_if_avoid position) (segments_of text.now).ended ≡ false))
+        ⊎ ((fault ≡ EpdFault.NoMemory) × (list_all (has_names_if_avoid position) (segments_of text.now).ended ≡ true))) }
 {
-    // That the fields spell no other position, and what words name and that it rises, rest on these laws.
-    spells_one();
-    legal_listed();
+    // That the moves to avoid rise rests on this law.
     legal_rise();
-    let text = operations_in(line);
-    let bound = asked_bound(text, default);
-    let Some(avoid) = avoided_moves(rays, &position, text) else {
-        return Err(EpdFault::BadAvoid);
+    let avoid = match asked.avoid {
+        Some(words) => match named_moves(rays, &position, words) {
+            Some(avoid) => avoid,
+            None => return Err(EpdFault::BadAvoid),
+        },
+        None => AvoidList::new(),
     };
     match operations_of(alloc, text) {
         Ok(rest) => Ok(Record {
             position,
-            bound,
+            bound: asked.bound,
             avoid,
             rest,
         }),
@@ -70,6 +84,13 @@ pub fn read_record(
     ensures only { IfOk result (λ r. (other : RecordValue) → Reads line.now default other → r ≡ other) }
     ensures refused { IfErr result (λ fault. IsFaultOf line.now fault ⊎ ((fault ≡ EpdFault.NoMemory) × ((r : RecordValue) × Reads line.now default r))) }
 {
+    // That the fields spell no other position, and what words name, rest on these laws.
+    spells_one();
+    legal_listed();
     let position = check(line)?;
-    record_of(alloc, rays, line, position, default)
+    let text = operations_in(line);
+    let Some(asked) = asked_of(text, default) else {
+        return Err(EpdFault::BoundTooLarge);
+    };
+    record_of(alloc, rays, text, position, asked)
 }

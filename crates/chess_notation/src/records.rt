@@ -4,10 +4,9 @@ ghost use Rattle.std.specs.Prelude.{◌≡◌};
 ghost use Rattle.chess_notation.specs.Records.{problem_of};
 
 use crate::bounds::Bound;
-use crate::problems::Problem;
+use crate::problems::{AvoidList, Problem};
 use arrayvec::ArrayString;
 use chess_board::Position;
-use chess_moves::MoveList;
 use std::marker::Model;
 
 /// An operation: its opcode, a letter and up to 14 letters, digits and underscores, and each operand after one space.
@@ -33,7 +32,7 @@ impl Model for Operation {
 pub struct Record {
     pub position: Position,
     pub bound: Bound,
-    pub avoid: MoveList,
+    pub avoid: AvoidList,
     pub rest: Vec<Operation>,
 }
 
@@ -54,7 +53,7 @@ impl Record {
     pub fn problem(&self) -> Problem
         ensures { result ≡ problem_of self.now }
     {
-        let mut avoid = MoveList::new();
+        let mut avoid = AvoidList::new();
         for m in self.avoid.as_slice() {
             avoid.push(*m);
         }

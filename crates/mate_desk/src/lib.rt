@@ -10,11 +10,27 @@
 mod deliveries;
 mod desks;
 mod entries;
+mod events;
+mod history_laws;
 mod lookups;
 mod places;
 mod queues;
 mod refusals;
+mod reply_texts;
+mod runs;
+mod stepping;
 
 pub use deliveries::Delivery;
 pub use desks::Desk;
+pub use events::{Reply, Step};
+pub use history_laws::{accepted_reads, closed_reads, count_reads, delivered_reads, phase_reads, withdrawn_reads};
 pub use refusals::{DeskFault, NoSuchSubmitter, Stranger, SubmitRefusal, WithdrawRefusal};
+pub use reply_texts::reply_text;
+pub use runs::{RunFault, run};
+
+#[cfg(test)]
+mod row_tests;
+#[cfg(test)]
+mod run_tests;
+#[cfg(test)]
+mod walk_tests;

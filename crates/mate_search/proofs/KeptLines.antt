@@ -4,8 +4,8 @@ use Rattle.std.proofs.Math.Bool.{and-true, or_comm}
 use Rattle.std.proofs.lemmas.List.{length-take, take_all, take_min}
 use Rattle.chess_notation.specs.declared.faults.EpdFault.{EpdFault}
 use Rattle.chess_notation.specs.declared.faults.EpdFault.TheVariants as fault
-use Rattle.chess_notation.specs.EpdFaults.{IsAmissBy, number_of}
-use Rattle.chess_notation.specs.Words.{after_spaces, is_blank, is_empty}
+use Rattle.chess_notation.specs.EpdFaults.{IsAmissBy, fault_number}
+use Rattle.chess_notation.specs.Words.{after_spaces, is_blank, is_empty_text}
 use Rattle.mate_search.specs.Replies.{IsLineReply, skipped, refused, fault_line, without_cr}
 use Rattle.mate_search.specs.Takings.{IsKept, last_or, spaces_before, most_kept}
 use Rattle.mate_search.specs.declared.taking.Kept.{Kept}
@@ -25,7 +25,7 @@ cr_last b c cs =
     let less : suc n - 1 ≡ n = omega arith in
     rw (more, less) (cond_ap (get_or (c ∷ cs) n 0 == 13) b (take n (c ∷ cs)) (c ∷ cs))
 
-blank_by : (is : Bool) (b : ℕ) (bs : List ℕ) → is_empty (cond is (after_spaces bs) (b ∷ bs)) ≡ (is && is_blank bs)
+blank_by : (is : Bool) (b : ℕ) (bs : List ℕ) → is_empty_text (cond is (after_spaces bs) (b ∷ bs)) ≡ (is && is_blank bs)
 blank_by true b bs = refl
 blank_by false b bs = refl
 
@@ -106,7 +106,7 @@ whole_reply default number kept text count (Err e) few reply = tt
 pub blank_reply : (default number : ℕ) (text line : List ℕ) (count : ℕ) → is_blank (without_cr line) ≡ true → text ≡ [] → count ≡ 0 → IsLineReply default number (without_cr line) text count
 blank_reply default number text line count blank none nobody = rw (none, nobody) (skipped blank)
 
-none_before : (line : List ℕ) (earlier : EpdFault) → number_of earlier < 1 → ¬ (IsAmissBy line earlier)
+none_before : (line : List ℕ) (earlier : EpdFault) → fault_number earlier < 1 → ¬ (IsAmissBy line earlier)
 none_before line fault.TooLong less = absurd (omega (arith, less))
 none_before line fault.NotPrintable less = absurd (omega (arith, less))
 none_before line (fault.Fen f) less = absurd (omega (arith, less))

@@ -1,16 +1,19 @@
 -- Forced mate, step by step.
-use Rattle.std.proofs.Common.{◌≡◌, ℕ, zero, suc, ◌-◌, ◌<◌, Bool, true, false, cond, ◌&&◌, ◌||◌, List, [], ◌∷◌, filter, refl, ◌∙◌, arith, sub-one}
-use Rattle.std.specs.Prelude.{nat_lt, length}
+use Rattle.std.proofs.Common.{◌≡◌, ℕ, zero, suc, ◌-◌, ◌<◌, Bool, true, false, cond, not, ◌&&◌, ◌||◌, List, [], ◌∷◌, filter, refl, ◌∙◌, arith, sub-one}
+use Rattle.std.specs.Prelude.{nat_lt, length, Contains}
+use Rattle.std.proofs.lemmas.Bool.{lt-ltb, false_from_ne_true}
 use Rattle.std.specs.List.{All, list_any, list_all}
 use Rattle.std.proofs.lemmas.List.Elements.{filter_passes}
 use Rattle.chess_board.specs.Positions.{Setup}
 use Rattle.chess_board.specs.Moves.{Move}
 use Rattle.chess_board.specs.After.{after_setup}
 use Rattle.chess_board.specs.Legality.{is_legal}
+use Rattle.chess_board.specs.Attacks.{is_in_check}
+use Rattle.chess_moves.specs.Laws.{LegalListed}
 use Rattle.chess_moves.specs.Listing.{legal_moves, moves_below}
 use Rattle.chess_moves.specs.Verdicts.{has_legal_move, is_mate, has_mating_move}
 use Rattle.mate_search.specs.Wins.{win, lost, loses_by, leaves_lost, win_among}
-use Rattle.mate_search.proofs.Searches.{any_weaker, all_weaker}
+use Rattle.mate_search.proofs.Searches.{any_weaker, all_weaker, all_contains}
 
 -- Each move of the list is legal.
 pub legal_each : (p : Setup) → All (λ m. is_legal p m ≡ true) (legal_moves p)
@@ -80,3 +83,19 @@ win_one p =
     any_same : (f g : Move → Bool) (xs : List Move) → ((x : Move) → f x ≡ g x) → list_any f xs ≡ list_any g xs
     any_same f g [] h = refl
     any_same f g (x ∷ xs) h = rw (h x, any_same f g xs h)
+
+-- One legal reply after which the attacker does not win refutes.
+pub refuted_by : LegalListed → (k : ℕ) (q : Setup) (r : Move) → r.origin < 64 → r.target < 64 → is_legal q r ≡ true → win k (after_setup q r) ≡ false → lost k q ≡ false
+refuted_by listed k q r from to legal fails =
+    let there : Contains (legal_moves q) r = (listed q r).1 (from, to, legal) in
+    let some : has_legal_move q ≡ true = found (legal_moves q) there in
+    let all : list_all (λ s. win k (after_setup q s)) (legal_moves q) ≡ false = false_from_ne_true _ (λ e.
+    let won = all_contains (λ s. win k (after_setup q s)) (legal_moves q) r e there in cc) in
+    rw (some, all) (no_mate (is_in_check q.men q.side))
+  where
+    found : (ms : List Move) → Contains ms r → nat_lt 0 (length ms) ≡ true
+    found ms (j, on, e) = lt-ltb 0 (length ms) (omega arith)
+
+    no_mate : (b : Bool) → ((b && not true) || (true && false)) ≡ false
+    no_mate true = refl
+    no_mate false = refl

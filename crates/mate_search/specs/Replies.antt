@@ -1,6 +1,7 @@
 -- What an input of records is answered, line by line (own to this project).
 use Rattle.std.specs.Prelude.{◌≡◌, ℕ, ◌+◌, ◌-◌, length, take, slice_index, ◌==◌, List, [], ◌∷◌, ◌++◌, codes, decimal, true, false, if◌then◌else◌}
 use Rattle.std.specs.List.{slice_split}
+use Rattle.chess_board.specs.Characters.{char}
 use Rattle.chess_notation.specs.declared.faults.EpdFault.{EpdFault}
 use Rattle.chess_notation.specs.Words.{is_blank}
 use Rattle.chess_notation.specs.Records.{RecordValue, problem_of, Reads}
@@ -8,21 +9,21 @@ use Rattle.chess_notation.specs.EpdFaults.{IsFaultOf, epd_fault_name}
 use Rattle.chess_notation.specs.Answers.{answer_text}
 use Rattle.mate_search.specs.Truth.{truth}
 
--- the lines of an input: what stands between the bytes 10
+-- the lines of an input: what stands between its newlines
 abbrev pub lines_of : List ℕ → List (List ℕ)
-lines_of input = slice_split (λ b. b == 10) input
+lines_of input = slice_split (λ b. b == char "\n") input
 
 -- a line without one CR at its end
 abbrev pub without_cr : List ℕ → List ℕ
-without_cr line = if slice_index line (length line - 1) == 13 then take (length line - 1) line else line
+without_cr line = if slice_index line (length line - 1) == char "\r" then take (length line - 1) line else line
 
 -- the reply to a line that says no record, by its number in the input and its fault
 abbrev pub fault_line : ℕ → EpdFault → List ℕ
-fault_line number fault = codes "# line " ++ decimal number ++ codes ": " ++ epd_fault_name fault ++ 10 ∷ []
+fault_line number fault = codes "# line " ++ decimal number ++ codes ": " ++ epd_fault_name fault ++ char "\n" ∷ []
 
 -- the reply to a line that says this record: its answer is what is true of its problem
 abbrev pub answer_line : RecordValue → List ℕ
-answer_line r = answer_text r (truth (problem_of r)) ++ 10 ∷ []
+answer_line r = answer_text r (truth (problem_of r)) ++ char "\n" ∷ []
 
 -- What one line is answered, and how many refusals that is: nothing where it is blank.
 pub data IsLineReply (default number : ℕ) (line : List ℕ) : List ℕ → ℕ → Type 0 where

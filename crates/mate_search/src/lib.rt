@@ -42,4 +42,6 @@ pub use tickets::Ticket;
 pub use writing::{put, stop_of_output};
 
 #[cfg(test)]
+mod avoid_tests;
+#[cfg(test)]
 mod tests;

@@ -8,7 +8,9 @@ ghost use Rattle.mate_search.specs.Wins.{win, lost, leaves_lost};
 
 use crate::memo::Memo;
 use chess_board::{Move, Position, after};
-use chess_moves::{Rays, Verdict, has_mating_move, legal, legal_moves, verdict};
+use chess_moves::{
+    Rays, Verdict, has_mating_move, is_legal, legal, legal_listed, legal_moves, verdict,
+};
 
 /// Whether the attacker, to move, mates within `n` moves. A position one move from the end is not worth keeping.
 #[tactic(auto, using(crate::proofs::Wins::win_none))]
@@ -113,7 +115,6 @@ pub(crate) fn loses(rays: &Rays, position: &Position, k: u8, memo: &mut Memo) ->
     ensures lost { result ≡ lost k position.now }
     ensures room { memo.new.room ≡ memo.old.room }
 {
-    // Most positions of a search are met here.
     if k == 0 {
         return is_mated(rays, position);
     }
@@ -151,19 +152,17 @@ fn refutes(rays: &Rays, position: &Position, reply: Option<Move>, k: u8, memo: &
     ensures refuted { result ≡ true → lost k position.now ≡ false }
     ensures room { memo.new.room ≡ memo.old.room }
 {
-    let Some(reply) = reply else {
+    let Some(r) = reply else {
         return false;
     };
-    for r in legal_moves(rays, position) {
-        if r == reply {
-            let wins = wins(rays, &after(position, r), k, memo);
-            if !wins {
-                memo.keep_refutation(k, r);
-            }
-            return !wins;
-        }
+    // That a legal reply is one of the list is this law, and that its squares are on the board is seen where one is read.
+    legal_listed();
+    let _origin = r.origin;
+    if !is_legal(rays, position, r) || wins(rays, &after(position, r), k, memo) {
+        return false;
     }
-    false
+    memo.keep_refutation(k, r);
+    true
 }
 
 /// The same as `loses` by all replies, each of which has to lose.

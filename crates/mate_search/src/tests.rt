@@ -3,8 +3,8 @@
 use crate::{Memo, MemoFault, solve, solve_input};
 use arrayvec::ArrayVec;
 use chess_board::{Move, read_fen};
-use chess_moves::{MoveList, Rays};
-use chess_notation::{Bound, Outcome, Problem};
+use chess_moves::Rays;
+use chess_notation::{AvoidList, Bound, Outcome, Problem};
 use std::alloc::Global;
 use std::process::Abort;
 use std::test::Fail;
@@ -13,7 +13,7 @@ fn outcome_of(alloc: Global, text: &str, bound: u8) -> Result<Outcome, Fail> {
     let problem = Problem {
         position: read_fen(text.as_bytes())?.position,
         bound: Bound::new(bound).ok_or("bound")?,
-        avoid: MoveList::new(),
+        avoid: AvoidList::new(),
     };
     let mut memo = Memo::new(alloc, 1)?;
     Ok(solve(&Rays::new(), &problem, &mut memo))
@@ -180,11 +180,12 @@ fn a_long_line_is_blank_or_too_long(rt: HostRuntime) -> Result<(), Fail> {
         input.resize(bytes, b' ')?;
         input.extend_from_slice(end.as_bytes())?;
         input.extend_from_slice(b"\n8/8")?;
-        let want = format!(in alloc; "{reply}# line 2: Fen FieldCount\n")?;
+        let mut want = Vec::from_slice(alloc, reply.as_bytes())?;
+        want.extend_from_slice(b"# line 2: Fen FieldCount\n")?;
         let refused = if reply == too_long { 2 } else { 1 };
         let output = solve_input(alloc, &Rays::new(), input.as_slice(), default, &mut memo)?;
-        assert_eq!(rt; output.text.as_slice(), want.as_bytes(), "{bytes} {end:?}");
-        assert_eq!(rt; output.refused, refused, "{bytes} {end:?}");
+        assert_eq!(rt; output.text.as_slice(), want.as_slice(), "{bytes}");
+        assert_eq!(rt; output.refused, refused, "{bytes}");
     }
     Ok(())
 }
@@ -221,7 +222,7 @@ fn check_on_one_memo(rt: &impl Abort, alloc: Global, entries: usize) -> Result<u
         let problem = Problem {
             position: read_fen(b"7k/8/5K2/8/8/8/8/R7 w - - 0 1")?.position,
             bound: Bound::new(bound).ok_or("bound")?,
-            avoid: MoveList::new(),
+            avoid: AvoidList::new(),
         };
         match solve(&rays, &problem, &mut memo) {
             Outcome::Mate {
@@ -333,7 +334,7 @@ fn check_known(rt: &impl Abort, rays: &Rays, known: &Known, memo: &mut Memo) -> 
     let problem = Problem {
         position: read_fen(known.text.as_bytes())?.position,
         bound: Bound::new(known.bound).ok_or("bound")?,
-        avoid: MoveList::new(),
+        avoid: AvoidList::new(),
     };
     match solve(rays, &problem, memo) {
         Outcome::Mate { dm, keys, pv } => {

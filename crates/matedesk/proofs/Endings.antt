@@ -1,6 +1,6 @@
 -- How a command ends, and the program with it.
-use Rattle.std.proofs.Common.{◌≡◌, ◌≢◌, ◌∙◌, ◌⊎◌, ◌≤◌, ◌++◌, Bool, true, false, ℕ, List, [], ◌∷◌, Option, None, Some, Result, Ok, Err, IfErr, IfOk, OnErr, IfSome, IsSomeAnd, inl, inr, refl, sym, ap, subst, arith}
-use Rattle.std.proofs.KnownBytes.{Appends-nil, Keeps-refl}
+use Rattle.std.proofs.Common.{◌≡◌, ◌≢◌, ◌⊎◌, ◌≤◌, Bool, true, false, ℕ, List, [], Option, None, Some, Result, Ok, Err, IfErr, IfOk, OnErr, inl, inr, refl, sym, subst, arith}
+use Rattle.std.proofs.KnownBytes.{Appends-nil}
 use Rattle.std.specs.Io.KnownBytes.{Appends, Keeps}
 use Rattle.clap.specs.Words.{Text}
 use Rattle.mate_search.specs.Inputs.{MayBe}
@@ -11,7 +11,7 @@ use Rattle.mate_search.specs.declared.inputs.InputFault.TheVariants as fault
 use Rattle.mate_search.specs.declared.stops.Stop.{Stop}
 use Rattle.mate_search.specs.declared.stops.Stop.TheVariants as stop
 use Rattle.matedesk.specs.Asked.{Asked, look, moves, perft, solve}
-use Rattle.matedesk.specs.Command.{Ends, Gains, GainsPart, Shows, Stops, StopsBy, StopsOverFen, status_of}
+use Rattle.matedesk.specs.Command.{Ends, Gains, Shows, Stops, StopsBy, StopsOverFen, status_of}
 use Rattle.matedesk.proofs.Solving.{some_input, stops_at_once}
 
 -- ---- a command over a FEN

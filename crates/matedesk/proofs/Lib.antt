@@ -3,3 +3,4 @@ mod Escapes
 mod Numbers
 mod Parsed
 mod Solving
+mod Worked

@@ -1,5 +1,5 @@
 -- A file more of what `solve` shows, and where it stops.
-use Rattle.std.proofs.Common.{◌≡◌, ◌∙◌, ◌+◌, ◌++◌, ◌||◌, ◌<◌, Bor, ℕ, zero, suc, Bool, List, [], ◌∷◌, Option, None, Some, false, refl, sym, ap, subst, arith, lt-ltb, map, take, drop, length, nat_lt, append_assoc, slice_index_or}
+use Rattle.std.proofs.Common.{◌≡◌, ◌∙◌, ◌+◌, ◌++◌, ◌||◌, ◌<◌, Bor, ℕ, zero, suc, Bool, List, [], ◌∷◌, Option, None, Some, refl, sym, ap, subst, arith, lt-ltb, map, take, drop, length, nat_lt, append_assoc, slice_index_or}
 use Rattle.std.specs.Bool.{⊤}
 use Rattle.std.proofs.lemmas.List.{append-nil, take_more, map-append, take-append-drop}
 use Rattle.std.proofs.KnownBytes.{Appends-kept, Appends-nil, Appends-trans}
@@ -11,7 +11,7 @@ use Rattle.mate_search.specs.Replies.{IsReply, IsReplyToFirst}
 use Rattle.mate_search.specs.Stops.{AppendsBy, AppendsPart}
 use Rattle.mate_search.specs.declared.stops.Stop.{Stop}
 use Rattle.mate_search.specs.declared.stops.Stop.TheVariants as stop
-use Rattle.matedesk.specs.Command.{FirstRefused, Gains, GainsPart, StopsSolving}
+use Rattle.matedesk.specs.Command.{FirstRefused, StopsSolving}
 use Rattle.matedesk.specs.Sources.{Holds}
 use Rattle.matedesk.specs.Solved.{IsReplies, IsReplyIn, Solves, SolvesFirst}
 

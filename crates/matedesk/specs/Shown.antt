@@ -1,11 +1,12 @@
 -- What is shown of a FEN.
 use Rattle.std.specs.Prelude.{◌≡◌, ◌++◌, ℕ, Bool, List, [], ◌∷◌, true, false}
+use Rattle.chess_board.specs.Characters.{char}
 use Rattle.chess_board.specs.Fens.{FenValue, IsFault, Spells}
 use Rattle.chess_board.specs.Soundness.{IsSound}
 use Rattle.chess_board.specs.declared.faults.FenFault.{FenFault}
 
 abbrev pub line : List ℕ → List ℕ
-line text = text ++ 10 ∷ []
+line text = text ++ char "\n" ∷ []
 
 -- the text spells a sound position
 unfoldable pub IsRead : List ℕ → Type 0

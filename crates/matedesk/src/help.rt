@@ -49,14 +49,21 @@ Example:
   $ matedesk solve problems.epd
   7k/8/5K2/8/8/8/8/R7 w - - bm Kf7 Kg6; dm 2; pv Kg6 Kg8 Ra8#;
 
-Each record is answered on a line of its own, as soon as it is solved: `bm` has each
+Each record is answered on a line of its own, before the next line is waited for: a
+program that holds both ends open can write a line and read its answer. `bm` has each
 first move that mates soonest (a second one is a cook), `dm` the number of moves that
 the mate takes, and `pv` one line that leads to it. Where there is no mate within its
 bound N, the answer says `c0 \"no mate in N\"`. A line that is no record is answered
 `# line K: CODE`: K is its number in its file, and CODE names its fault. A bound of
 many moves may take longer than one can wait, and the lines behind it wait too.
 
-/dev/stdin is a FILE like any other.
+To look for a second solution, name the author's key as a move to avoid (`am`), with
+others behind it if need be. It is left out at the first move alone:
+  8/8/3p1p2/1N2p3/4kNQ1/5n2/2K3B1/8 w - - am Bh1; dm 2;
+A sound problem then has no mate within its bound:
+  8/8/3p1p2/1N2p3/4kNQ1/5n2/2K3B1/8 w - - am Bh1; c0 \"no mate in 2\";
+
+The FILE `-` is standard input; a file by that name is `./-`.
 
 Status:
   0  every line was answered
@@ -70,7 +77,7 @@ At 3 and 4 the first of the answers may have been written.";
 pub const ABOUT_BOUND: &str = "Within how many moves a record without `dm` asks for mate, 1 to 15";
 
 /// The argument FILE in one line.
-pub const ABOUT_FILE: &str = "Files of records, each answered in its place";
+pub const ABOUT_FILE: &str = "Files of records, each answered in its place; `-` is standard input";
 
 /// `look` in one line.
 pub const ABOUT_LOOK: &str =

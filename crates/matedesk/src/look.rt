@@ -2,7 +2,7 @@
 
 ghost use Rattle.std.specs.Prelude.{◌≡◌, ◌++◌, IfErr, IfOk, false};
 ghost use Rattle.matedesk.specs.Command.{Gains, StopsOverFen};
-ghost use Rattle.matedesk.specs.Look.{check_text, look_text};
+ghost use Rattle.matedesk.specs.Look.{check_words, look_text};
 ghost use Rattle.matedesk.specs.Shown.{ShowsFen};
 
 use crate::shown::{push_line, read, show};
@@ -13,7 +13,7 @@ use std::io::Write;
 
 /// Whether the side to move is in check, in words.
 fn check_text(position: &Position) -> &'static str
-    ensures { result.now ≡ check_text position.now }
+    ensures { result.now ≡ check_words position.now }
 {
     if position.in_check() {
         "check"

@@ -1,4 +1,4 @@
-use Rattle.std.proofs.Common.{◌≡◌, ◌≤◌, length, take, map, filter}
+use Rattle.std.proofs.Common.{◌≡◌, take, map, filter}
 use Rattle.std.specs.List.{list_any}
 use Rattle.chess_notation.specs.Words.{words_in}
 use Rattle.chess_notation.specs.Opcodes.{same_text}
@@ -6,7 +6,5 @@ use Rattle.chess_notation.specs.Avoided.{without_mark}
 use Rattle.chess_notation.proofs.avoided.moves_named.Given as goal
 
 abbrev pub invariant-loop-name : goal.invariant-loop-name
-invariant-loop-name l = record {
-  moves : l.moves.items ≡ map (λ n. n.m) (filter (λ n. list_any (λ word. same_text (without_mark word) n.text.bytes) (words_in l.words)) (take l.name-index l.names));
-  few : length l.moves.items ≤ l.name-index;
-}
+invariant-loop-name l =
+    l.moves.items ≡ map (λ n. n.m) (filter (λ n. list_any (λ word. same_text (without_mark word) n.text.bytes) (words_in l.words)) (take l.name-index l.names))

@@ -1,6 +1,7 @@
-use Rattle.std.proofs.Common.{◌≡◌, refl, sym, ◌∙◌, arith}
+use Rattle.std.proofs.Common.{◌≡◌, refl, sym, ap, ◌∙◌, arith}
 use Rattle.chess_moves.specs.Listing.{legal_moves}
-use Rattle.mate_search.proofs.Wins.{all_legal}
+use Rattle.mate_search.specs.Wins.{win}
+use Rattle.mate_search.proofs.Wins.{all_legal, refuted_by}
 use Rattle.mate_search.proofs.Known.{win_within_more, no_win_within_fewer}
 use Rattle.mate_search.proofs.searching.+search.Goals as goal
 
@@ -12,11 +13,6 @@ loses_each-loop-r-init t c =
     let moves : c.into_iter-r-iterator.result ≡ legal_moves c.args.position.now = c.into_iter-r-iterator.ensures.into_iter_gives ∙ c.legal_moves-r-items.ensures.moves in
     record { all = rw moves refl; some = rw moves refl; legal = rw moves (all_legal c.args.position.now); room = refl }
 
-pub refutes-loop-r-init : goal.refutes-loop-r-init
-refutes-loop-r-init t c =
-    let moves : c.into_iter-r-iterator.result ≡ legal_moves c.args.position.now = c.into_iter-r-iterator.ensures.into_iter_gives ∙ c.legal_moves-r-items.ensures.moves in
-    record { all = rw moves (λ e. e); some = rw moves (λ e. e); legal = rw moves (all_legal c.args.position.now); room = refl }
-
 pub wins_longer-returns-then-mates-clause-found : goal.wins_longer-returns-then-mates-clause-found
 wins_longer-returns-then-mates-clause-found t c = sym (win_within_more 1 c.args.n c.args.position.now (omega arith) (sym c.mates.ensures ∙ c.if-mates.true))
 
@@ -24,3 +20,7 @@ pub wins_longer-returns-in-Some-least_win-clause-found : goal.wins_longer-return
 wins_longer-returns-in-Some-least_win-clause-found t c =
     let least = c.in-Some-least_win.ensures.least in
     sym (win_within_more c.in-Some-least_win.k c.args.n c.args.position.now least.1 least.3)
+
+pub refutes-returns-clause-refuted : goal.refutes-returns-clause-refuted
+refutes-returns-clause-refuted t c = λ e. refuted_by c.legal_listed.ensures c.args.k c.args.position.now c.in-Some.r (omega (arith, c.r.invariant)) (omega (arith, c.r.invariant))
+    (sym c.is_legal.ensures ∙ c.if-not-is_legal.false) (ap (win c.args.k) (sym c.after.ensures) ∙ sym c.wins.ensures.found ∙ c.if-wins.false)

@@ -45,15 +45,6 @@ invariant-loses_each-loop-r l = record {
   room : l.memo.room ≡ l.fn.memo.room;
 }
 
--- the replies to come are among the legal moves
-abbrev pub invariant-refutes-loop-r : goal.invariant-refutes-loop-r
-invariant-refutes-loop-r l = record {
-  all : list_all (λ r. win l.k (after_setup l.position r)) (legal_moves l.position) ≡ true → list_all (λ r. win l.k (after_setup l.position r)) l.r-iterator ≡ true;
-  some : nat_lt 0 (length l.r-iterator) ≡ true → has_legal_move l.position ≡ true;
-  legal : list_all (is_legal l.position) l.r-iterator ≡ true;
-  room : l.memo.room ≡ l.fn.memo.room;
-}
-
 -- no move so far wins
 abbrev pub invariant-wins_among-loop-m : goal.invariant-wins_among-loop-m
 invariant-wins_among-loop-m l = record {

@@ -1,4 +1,3 @@
-use Rattle.std.proofs.Common.{rules}
 use Rattle.matedesk.proofs.command.answer.Goals as goal
 
 pub returns-in-Perft-clause-err : goal.returns-in-Perft-clause-err

@@ -1,4 +1,4 @@
-use Rattle.std.proofs.Common.{rules, ◌++◌, refl, subst}
+use Rattle.std.proofs.Common.{rules, ◌++◌, refl}
 use Rattle.std.proofs.KnownBytes.{Appends-trans, Keeps-refl}
 use Rattle.std.proofs.lemmas.Result.{err_from_is_err_and}
 use Rattle.matedesk.proofs.Solving.{solves_next, stops_at_once, stops_there}

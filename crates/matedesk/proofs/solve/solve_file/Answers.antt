@@ -1,4 +1,3 @@
-use Rattle.std.proofs.Common.{◌∙◌, refl}
 use Rattle.std.proofs.lemmas.Result.{err_from_is_err_and}
 use Rattle.matedesk.proofs.Endings.{not_opened}
 use Rattle.matedesk.proofs.solve.solve_file.Goals as goal

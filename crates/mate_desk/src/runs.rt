@@ -1,0 +1,92 @@
+//! Runs: a list of steps at a new desk, and the reply to each.
+
+ghost use Rattle.std.specs.Prelude.{◌≡◌, ◌⊎◌, ◌↔◌, ◌<◌, ◌≤◌, length, IfOk, Err};
+ghost use Rattle.mate_desk.specs.Refusals.{AreServed, IsRoom};
+ghost use Rattle.mate_desk.specs.History.{past};
+ghost use Rattle.mate_desk.specs.Replies.{AreReplies};
+ghost use Rattle.mate_desk.specs.Headline.{AfterEachPrefix, DeliversInOrder, GivesNoticeOfWithdrawn, DeliversAllOnceDrained, AcceptsNoneAfterClose};
+ghost use Rattle.mate_desk.specs.RunFaults.{run_fault_name};
+ghost use Rattle.mate_desk.specs.declared.runs.RunFault.TheVariants as fault;
+
+use crate::desks::Desk;
+use crate::refusals::DeskFault;
+use crate::stepping::make;
+use crate::events::{Reply, Step};
+use chess_moves::Rays;
+use chess_notation::Bound;
+use mate_search::Memo;
+use std::alloc::Global;
+use thiserror::Error;
+
+/// Why no step was made.
+#[derive(Clone, Copy, Debug, PartialEq, Eq, Error)]
+pub enum RunFault {
+    /// The number of submitters is not one of 1 to 16.
+    #[error("BadSubmitters")]
+    BadSubmitters,
+    /// The room of a submitter is not one of 1 to 64 records.
+    #[error("BadRoom")]
+    BadRoom,
+    /// Memory was refused.
+    #[error("NoMemory")]
+    NoMemory,
+}
+
+impl RunFault {
+    /// The fault's name.
+    pub fn code(&self) -> &'static str
+        ensures { result.now ≡ run_fault_name self.now }
+    {
+        match self {
+            RunFault::BadSubmitters => "BadSubmitters",
+            RunFault::BadRoom => "BadRoom",
+            RunFault::NoMemory => "NoMemory",
+        }
+    }
+}
+
+/// Makes every step in turn at a new desk of so many submitters, 1 to 16, each with room for so many pending records, 1 to 64, and
+/// gives the reply to each. Lines without `dm` are read with the default bound. Room for all replies and for all jobs in hand is
+/// taken before the first step; later a line for which memory is refused is a reply, and the other steps go on.
+pub fn run(
+    alloc: Global,
+    rays: &Rays,
+    submitters: usize,
+    room: usize,
+    default: Bound,
+    steps: &[Step],
+    memo: &mut Memo,
+) -> Result<Vec<Reply>, RunFault>
+    ensures one_for_each_step { IfOk result (λ replies. length replies.items ≡ length steps.now) }
+    ensures fixed_by_the_past { IfOk result (λ replies. AreReplies submitters room default (past steps.now replies.items)) }
+    ensures in_order_and_each_once { IfOk result (λ replies. AfterEachPrefix (DeliversInOrder default) steps.now replies.items) }
+    ensures notices_for_the_withdrawn { IfOk result (λ replies. AfterEachPrefix GivesNoticeOfWithdrawn steps.now replies.items) }
+    ensures all_once_drained { IfOk result (λ replies. AfterEachPrefix (DeliversAllOnceDrained submitters) steps.now replies.items) }
+    ensures nothing_after_close { IfOk result (λ replies. AcceptsNoneAfterClose (past steps.now replies.items)) }
+    ensures ok { IfOk result (λ _. AreServed submitters × IsRoom room) }
+    ensures bad_submitters { (result ≡ Err fault.BadSubmitters) ↔ ((submitters ≡ 0) ⊎ (16 < submitters)) }
+    ensures bad_room { (result ≡ Err fault.BadRoom) ↔ (AreServed submitters × ((room ≡ 0) ⊎ (64 < room))) }
+    ensures no_memory { result ≡ Err fault.NoMemory → AreServed submitters × IsRoom room }
+    ensures memo_room { memo.new.room ≡ memo.old.room }
+    ensures memo_within { memo.new.kept ≤ memo.new.room }
+{
+    // That a memo keeps no more than it has room for is this call's clause.
+    memo.len();
+    let mut desk = match Desk::new(alloc, submitters, room, 0) {
+        Ok(desk) => desk,
+        Err(DeskFault::BadSubmitters) => return Err(RunFault::BadSubmitters),
+        Err(DeskFault::BadRoom) => return Err(RunFault::BadRoom),
+        Err(DeskFault::NoMemory) => return Err(RunFault::NoMemory),
+    };
+    let Ok(mut replies) = Vec::with_capacity(alloc, steps.len()) else {
+        return Err(RunFault::NoMemory);
+    };
+    let Ok(mut hand) = Vec::with_capacity(alloc, steps.len().min(submitters * room)) else {
+        return Err(RunFault::NoMemory);
+    };
+    for step in steps {
+        let reply = make(alloc, rays, default, &mut desk, &mut hand, step, memo);
+        replies.push_reserved(reply);
+    }
+    Ok(replies)
+}

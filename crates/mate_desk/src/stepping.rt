@@ -1,0 +1,186 @@
+//! One step at a desk with the jobs in hand.
+
+ghost use Rattle.std.specs.Prelude.{ℕ, List, ◌≡◌, ◌<◌, ◌≤◌, ◌+◌, ◌-◌, ◌^◌, Some, vec_len, vec_capacity};
+ghost use Rattle.mate_search.specs.Jobs.{Task};
+ghost use Rattle.mate_desk.specs.Content.{entries, lowest};
+ghost use Rattle.mate_desk.specs.Mirrors.{Makes};
+ghost use Rattle.mate_desk.specs.Stepping.{delivery_reply, found_reply};
+ghost use Rattle.mate_desk.specs.declared.events.Step.TheVariants as step;
+
+use crate::deliveries::Delivery;
+use crate::desks::Desk;
+use crate::events::{Reply, Step};
+use chess_moves::Rays;
+use chess_notation::{Bound, read_record};
+use mate_search::{Job, Memo};
+use std::alloc::Global;
+
+/// Makes one step.
+pub(crate) fn make(
+    alloc: Global,
+    rays: &Rays,
+    default: Bound,
+    desk: &mut Desk,
+    hand: &mut Vec<Job>,
+    step: &Step,
+    memo: &mut Memo,
+) -> Reply
+    requires room { (t : ℕ) → lowest (entries desk.old) ≡ Some t → vec_len hand.old < vec_capacity hand.old }
+    requires few { desk.old.next < 2 ^ 64 - 1 }
+    ensures makes { Makes default step.now result desk.old hand.old.items desk.new hand.new.items }
+    ensures room { vec_capacity hand.new ≡ vec_capacity hand.old }
+    ensures grows { vec_len hand.new ≤ vec_len hand.old + 1 }
+    ensures few { desk.new.next ≤ desk.old.next + 1 }
+    ensures memo_room { memo.new.room ≡ memo.old.room }
+    ensures memo_within { memo.new.kept ≤ memo.new.room }
+{
+    memo.len();
+    match step {
+        Step::Submit(s, line) => submit(alloc, rays, default, desk, *s, line),
+        Step::Take => take(desk, hand),
+        Step::Finish(i) => finish(rays, desk, hand, *i, memo),
+        Step::HandBack(i) => hand_back(desk, hand, *i),
+        Step::Collect(s) => collect(desk, *s),
+        Step::Withdraw(s, n) => withdraw(desk, *s, *n),
+        Step::Drained => drained(desk),
+        Step::Close => close(desk),
+    }
+}
+
+/// Hands in the record that a line says.
+fn submit(
+    alloc: Global,
+    rays: &Rays,
+    default: Bound,
+    desk: &mut Desk,
+    s: usize,
+    line: &Vec<u8>,
+) -> Reply
+    requires { desk.old.next < 2 ^ 64 - 1 }
+    ensures makes { (jobs : List Task) → Makes default (step.Submit s line.now) result desk.old jobs desk.new jobs }
+    ensures few { desk.new.next ≤ desk.old.next + 1 }
+{
+    let asked = match read_record(alloc, rays, line, default) {
+        Ok(asked) => asked,
+        Err(fault) => return Reply::BadRecord(fault),
+    };
+    match desk.submit(s, asked) {
+        Ok(ticket) => Reply::Ticket(ticket),
+        Err((refusal, _)) => Reply::Refused(refusal),
+    }
+}
+
+/// Takes a job into the hand.
+fn take(desk: &mut Desk, hand: &mut Vec<Job>) -> Reply
+    requires { (t : ℕ) → lowest (entries desk.old) ≡ Some t → vec_len hand.old < vec_capacity hand.old }
+    ensures makes { (default : ℕ) → Makes default step.Take result desk.old hand.old.items desk.new hand.new.items }
+    ensures room { vec_capacity hand.new ≡ vec_capacity hand.old }
+    ensures grows { vec_len hand.new ≤ vec_len hand.old + 1 }
+    ensures few { desk.new.next ≤ desk.old.next + 1 }
+{
+    match desk.take() {
+        Some(job) => {
+            let ticket = job.ticket();
+            hand.push_reserved(job);
+            Reply::Job(ticket)
+        }
+        None => Reply::Nothing,
+    }
+}
+
+/// Solves a job in hand and finishes it.
+fn finish(rays: &Rays, desk: &mut Desk, hand: &mut Vec<Job>, i: usize, memo: &mut Memo) -> Reply
+    ensures makes { (default : ℕ) → Makes default (step.Finish i) result desk.old hand.old.items desk.new hand.new.items }
+    ensures room { vec_capacity hand.new ≡ vec_capacity hand.old }
+    ensures grows { vec_len hand.new ≤ vec_len hand.old + 1 }
+    ensures few { desk.new.next ≤ desk.old.next + 1 }
+    ensures memo_room { memo.new.room ≡ memo.old.room }
+    ensures memo_within { memo.new.kept ≤ memo.new.room }
+{
+    memo.len();
+    if hand.len() <= i {
+        return Reply::NoJob;
+    }
+    let job = hand.remove(i);
+    let ticket = job.ticket();
+    match desk.finish(job.solve(rays, memo)) {
+        Ok(()) => Reply::Done(ticket),
+        Err(_) => Reply::NoJob,
+    }
+}
+
+/// Hands a job in hand back.
+fn hand_back(desk: &mut Desk, hand: &mut Vec<Job>, i: usize) -> Reply
+    ensures makes { (default : ℕ) → Makes default (step.HandBack i) result desk.old hand.old.items desk.new hand.new.items }
+    ensures room { vec_capacity hand.new ≡ vec_capacity hand.old }
+    ensures grows { vec_len hand.new ≤ vec_len hand.old + 1 }
+    ensures few { desk.new.next ≤ desk.old.next + 1 }
+{
+    if hand.len() <= i {
+        return Reply::NoJob;
+    }
+    let unsolved = hand.remove(i);
+    let ticket = unsolved.ticket();
+    match desk.hand_back(unsolved) {
+        Ok(()) => Reply::Back(ticket),
+        Err(_) => Reply::NoJob,
+    }
+}
+
+/// Collects what is owed for a submitter's first pending record.
+fn collect(desk: &mut Desk, s: usize) -> Reply
+    ensures makes { (default : ℕ) (jobs : List Task) → Makes default (step.Collect s) result desk.old jobs desk.new jobs }
+    ensures few { desk.new.next ≤ desk.old.next + 1 }
+{
+    match desk.collect(s) {
+        Ok(found) => collected(found),
+        Err(_) => Reply::NoSuchSubmitter,
+    }
+}
+
+/// The reply that hands on what was found.
+fn collected(found: Option<Delivery>) -> Reply
+    ensures { result ≡ found_reply found }
+{
+    match found {
+        Some(delivery) => delivered(delivery),
+        None => Reply::Empty,
+    }
+}
+
+/// The reply that hands a delivery on.
+fn delivered(delivery: Delivery) -> Reply
+    ensures { result ≡ delivery_reply delivery }
+{
+    match delivery {
+        Delivery::Answer(answer) => Reply::Answer(answer),
+        Delivery::Notice(ticket, _) => Reply::Notice(ticket),
+    }
+}
+
+/// Withdraws a record.
+fn withdraw(desk: &mut Desk, s: usize, n: u64) -> Reply
+    ensures makes { (default : ℕ) (jobs : List Task) → Makes default (step.Withdraw s n) result desk.old jobs desk.new jobs }
+    ensures few { desk.new.next ≤ desk.old.next + 1 }
+{
+    match desk.withdraw(s, n) {
+        Ok(()) => Reply::Withdrawn,
+        Err(refusal) => Reply::NotWithdrawn(refusal),
+    }
+}
+
+/// Whether nothing is pending.
+fn drained(desk: &Desk) -> Reply
+    ensures { (default : ℕ) (jobs : List Task) → Makes default step.Drained result desk.now jobs desk.now jobs }
+{
+    Reply::Drained(desk.is_drained())
+}
+
+/// Closes the desk.
+fn close(desk: &mut Desk) -> Reply
+    ensures makes { (default : ℕ) (jobs : List Task) → Makes default step.Close result desk.old jobs desk.new jobs }
+    ensures few { desk.new.next ≤ desk.old.next + 1 }
+{
+    desk.close();
+    Reply::Closed
+}
