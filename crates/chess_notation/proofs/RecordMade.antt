@@ -1,5 +1,5 @@
 -- The record that is made of a line without a fault is the one that the line says.
-use Rattle.std.proofs.Common.{◌≡◌, ◌<◌, ◌≤◌, ℕ, List, [], Option, Some, None, true, false, ap, sym, ◌∙◌, subst, arith}
+use Rattle.std.proofs.Common.{◌≡◌, ℕ, List, [], Option, Some, None, true, false, ap, sym, ◌∙◌, subst, arith}
 use Rattle.std.specs.List.{list_all}
 use Rattle.std.specs.Option.{option_map_or}
 use Rattle.chess_board.specs.Positions.{Setup}
@@ -7,7 +7,6 @@ use Rattle.chess_board.specs.Soundness.{IsSound}
 use Rattle.chess_board.specs.Fens.{SpellsSetup}
 use Rattle.chess_board.specs.Moves.{Move}
 use Rattle.chess_moves.specs.Laws.{LegalListed}
-use Rattle.chess_notation.specs.declared.faults.EpdFault.{EpdFault}
 use Rattle.chess_notation.specs.declared.faults.EpdFault.TheVariants.{BoundTooLarge, BadAvoid}
 use Rattle.chess_notation.specs.Segments.{segments_of}
 use Rattle.chess_notation.specs.Operations.{Entry}

@@ -50,11 +50,7 @@ fn record_of(alloc: Global, rays: &Rays) -> Result<Record, &'static str> {
 }
 
 /// The record of a notice, and a new one after an answer.
-fn record_after(
-    alloc: Global,
-    rays: &Rays,
-    delivery: Delivery,
-) -> Result<Record, &'static str> {
+fn record_after(alloc: Global, rays: &Rays, delivery: Delivery) -> Result<Record, &'static str> {
     match delivery {
         Delivery::Notice(_, record) => Ok(record),
         Delivery::Answer(_) => record_of(alloc, rays),

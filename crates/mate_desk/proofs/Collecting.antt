@@ -105,15 +105,19 @@ by_phase asks n room default h c jobs s claim m inside at b p w v = by_cases b p
   where
     d : ℕ
     d = length (delivered h s)
+
     none_first : (b : Bool) (p : Phase) → withdrawn h s d ≡ b → phase h claim.ticket ≡ p → is_ready (record { ticket = claim.ticket; asked = asks claim.ticket; phase = p; withdrawn = b }) ≡ false → ready_first (queue_of asks room h s).pending ≡ None
     none_first b p w v r =
         let e = ap ready_first (pending_some asks (phase h) (withdrawn h s) d d (accepted h s) claim at) in
         let q : is_ready (entry_at asks (phase h) (withdrawn h s) d claim) ≡ false = rw (w, v) r in
         e ∙ (rw q refl)
+
     ready_then : (b : Bool) (p : Phase) → withdrawn h s d ≡ b → phase h claim.ticket ≡ p → is_ready (record { ticket = claim.ticket; asked = asks claim.ticket; phase = p; withdrawn = b }) ≡ true → is_ready (entry_at asks (phase h) (withdrawn h s) d claim) ≡ true
     ready_then b p w v r = rw (w, v) r
+
     owed : (r : Reply) (b : Bool) (p : Phase) → withdrawn h s d ≡ b → phase h claim.ticket ≡ p → IsOwed default b p claim r → IsCollectReply n default h s r
     owed r b p w v is = collect_known n default h s r inside (subst (λ o. IsFirstOwed default h s o r) (sym at) (subst (λ q. IsOwed default (withdrawn h s d) q claim r) (sym v) (subst (λ q. IsOwed default q p claim r) (sym w) is)))
+
     by_cases : (b : Bool) (p : Phase) → withdrawn h s d ≡ b → phase h claim.ticket ≡ p
         → MirrorsBy asks n room default (record { step = step.Collect s; reply = found_reply (delivery (if is_ready (record { ticket = claim.ticket; asked = asks claim.ticket; phase = p; withdrawn = b }) then Some (record { ticket = claim.ticket; asked = asks claim.ticket; phase = p; withdrawn = b }) else None)) } ∷ h) (after_collect c s) jobs
     by_cases true Waiting w v = gives_notice asks n room default h c jobs s claim m at w (ready_then true Waiting w v refl) (owed (reply.Notice claim.ticket) true Waiting w v refl)
@@ -152,15 +156,17 @@ no_submitter default c jobs s past n room h x =
     let m : MirrorsBy asks n room default h c jobs = x.1 in
     let len : length c.queues ≡ n = ap length m.queues ∙ length_each (queue_of asks room h) 0 n in
     let w : nat_lt s n ≡ false = (let y : n ≤ s = omega (arith, len, past) in grind (arith, nat_tests, y)) in
-    let f : IsCollectReply n default h s reply.NoSuchSubmitter = subst (λ b. IsCollectReplyBy b default h s reply.NoSuchSubmitter) (sym w) refl in
-    (asks, record {
-      queues = m.queues;
-      next = m.next;
-      shut = m.shut;
-      nobody = m.nobody;
-      sound = m.sound;
-      tickets = m.tickets;
-      apart = m.apart;
-      out = m.out;
-      fixed = and_fixed n room default h (step.Collect s) reply.NoSuchSubmitter f m.fixed;
-    })
+    let f : IsCollectReply n default h s reply.NoSuchSubmitter = subst (λ b. IsCollectReplyBy b default h s reply.NoSuchSubmitter) (sym w) refl in (
+      asks,
+      record {
+        queues = m.queues;
+        next = m.next;
+        shut = m.shut;
+        nobody = m.nobody;
+        sound = m.sound;
+        tickets = m.tickets;
+        apart = m.apart;
+        out = m.out;
+        fixed = and_fixed n room default h (step.Collect s) reply.NoSuchSubmitter f m.fixed;
+      },
+    )

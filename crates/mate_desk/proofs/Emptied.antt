@@ -48,15 +48,17 @@ drained_is asks n room default h c jobs m =
 pub tells : (default : ℕ) (c : Content) (jobs : List Task) → Makes default step.Drained (reply.Drained (is_drained c)) c jobs c jobs
 tells default c jobs n room h x =
     let asks : ℕ → RecordValue = x.0 in
-    let m : MirrorsBy asks n room default h c jobs = x.1 in
-    (asks, record {
-      queues = m.queues;
-      next = m.next;
-      shut = m.shut;
-      nobody = m.nobody;
-      sound = m.sound;
-      tickets = m.tickets;
-      apart = m.apart;
-      out = m.out;
-      fixed = and_fixed n room default h step.Drained (reply.Drained (is_drained c)) (ap (λ b. reply.Drained b) (drained_is asks n room default h c jobs m)) m.fixed;
-    })
+    let m : MirrorsBy asks n room default h c jobs = x.1 in (
+      asks,
+      record {
+        queues = m.queues;
+        next = m.next;
+        shut = m.shut;
+        nobody = m.nobody;
+        sound = m.sound;
+        tickets = m.tickets;
+        apart = m.apart;
+        out = m.out;
+        fixed = and_fixed n room default h step.Drained (reply.Drained (is_drained c)) (ap (λ b. reply.Drained b) (drained_is asks n room default h c jobs m)) m.fixed;
+      },
+    )

@@ -176,5 +176,6 @@ phase_after (x ∷ later) h t none = (elim (says_by x.reply t) as (λ b. says_by
 
 pub phase_reads : PhaseReads
 phase_reads h t = (
-    (find_last t Out (reply.Job t) (job_says t) (λ e. cc) h, λ a. ap (λ l. phase l t) a.3 ∙ (phase_after a.0 _ t a.4 ∙ (rw (same t) refl))),
-    (find_last t Finished (reply.Done t) (done_says t) (λ e. cc) h, λ a. ap (λ l. phase l t) a.3 ∙ (phase_after a.0 _ t a.4 ∙ (rw (same t) refl))))
+  (find_last t Out (reply.Job t) (job_says t) (λ e. cc) h, λ a. ap (λ l. phase l t) a.3 ∙ (phase_after a.0 _ t a.4 ∙ (rw (same t) refl))),
+  (find_last t Finished (reply.Done t) (done_says t) (λ e. cc) h, λ a. ap (λ l. phase l t) a.3 ∙ (phase_after a.0 _ t a.4 ∙ (rw (same t) refl))),
+)

@@ -101,59 +101,66 @@ accepts default c jobs s text asked reads r few n room h x =
     let fits = room_for n room h s f in
     let new : History = record { step = step.Submit s text; reply = reply.Ticket g } ∷ h in
     let queues : d.queues ≡ map (queue_of now room new) (from 0 n) = ap (λ k. change_at s (with_entry k asked) c.queues) m.next ∙ (ap (change_at s (with_entry g asked)) m.queues ∙ queues_pushed asks room default h s n text asked m.sound) in
-    let all : Mirrors n room default new d jobs = (now, record {
-      queues = queues;
-      next = ap (λ k. k + 1) m.next;
-      shut = m.shut;
-      nobody = λ i past. (let q : (i == s) ≡ false = (let y : i ≢ s = λ p. omega (arith, past, p, fits.known) in grind (arith, nat_tests, y)) in rw q (m.nobody i past));
-      fixed = and_fixed n room default h (step.Submit s text) (reply.Ticket g) (inr (asked, reads, inr (sym f))) m.fixed;
-      sound = λ i. (elim (i == s) as (λ b. (i == s) ≡ b → Sound room default now (if b then accepted h i ++ record { ticket = g; line = text.items } ∷ [] else accepted h i) (delivered h i) (g + 1) (but (phase h) g Waiting) (withdrawn h i)) [
-        | true ↦ λ q.
-            let same : i ≡ s = grind (arith, nat_tests, q) in
-            let few_here = (m.sound i).few in
-            let space : pending h i < room = subst (λ t. pending h t < room) (sym same) fits.space in
-            sound_pushed room default g text.items asked asks (accepted h i) (delivered h i) (phase h) (withdrawn h i) reads (omega (arith, few_here, space)) (m.sound i)
-        | false ↦ λ q. sound_fresh room default g asked asks (accepted h i) (delivered h i) (phase h) (withdrawn h i) (m.sound i)
-      ]) refl;
-      tickets = m.tickets;
-      apart = m.apart;
-      out = out_kept c d jobs (λ task o. out_change c d s (with_entry c.next asked) task refl (λ q y. any_append (is_out_with task) q.pending _ y) o) m.out;
-    }) in
+    let all : Mirrors n room default new d jobs = (
+      now,
+      record {
+        queues = queues;
+        next = ap (λ k. k + 1) m.next;
+        shut = m.shut;
+        nobody = λ i past. (let q : (i == s) ≡ false = (let y : i ≢ s = λ p. omega (arith, past, p, fits.known) in grind (arith, nat_tests, y)) in rw q (m.nobody i past));
+        fixed = and_fixed n room default h (step.Submit s text) (reply.Ticket g) (inr (asked, reads, inr (sym f))) m.fixed;
+        sound = λ i. (elim (i == s) as (λ b. (i == s) ≡ b → Sound room default now (if b then accepted h i ++ record { ticket = g; line = text.items } ∷ [] else accepted h i) (delivered h i) (g + 1) (but (phase h) g Waiting) (withdrawn h i)) [
+          | true ↦ λ q.
+              let same : i ≡ s = grind (arith, nat_tests, q) in
+              let few_here = (m.sound i).few in
+              let space : pending h i < room = subst (λ t. pending h t < room) (sym same) fits.space in
+              sound_pushed room default g text.items asked asks (accepted h i) (delivered h i) (phase h) (withdrawn h i) reads (omega (arith, few_here, space)) (m.sound i)
+          | false ↦ λ q. sound_fresh room default g asked asks (accepted h i) (delivered h i) (phase h) (withdrawn h i) (m.sound i)
+        ]) refl;
+        tickets = m.tickets;
+        apart = m.apart;
+        out = out_kept c d jobs (λ task o. out_change c d s (with_entry c.next asked) task refl (λ q y. any_append (is_out_with task) q.pending _ y) o) m.out;
+      },
+    ) in
     subst (λ k. Mirrors n room default (record { step = step.Submit s text; reply = reply.Ticket k } ∷ h) d jobs) (sym m.next) all
 
 -- The desk refuses it.
 pub refuses : (default : ℕ) (c : Content) (jobs : List Task) (s : ℕ) (text : Vec ℕ Global) (asked : RecordValue) (r : SubmitRefusal) → Reads text.items default asked → submit_refusal c s ≡ Some r → c.next < 2 ^ 64 - 1 → Makes default (step.Submit s text) (reply.Refused r) c jobs c jobs
 refuses default c jobs s text asked r reads w few n room h x =
     let asks : ℕ → RecordValue = x.0 in
-    let m : MirrorsBy asks n room default h c jobs = x.1 in
-    (asks, record {
-      queues = m.queues;
-      next = m.next;
-      shut = m.shut;
-      nobody = m.nobody;
-      sound = m.sound;
-      tickets = m.tickets;
-      apart = m.apart;
-      out = m.out;
-      fixed = and_fixed n room default h (step.Submit s text) (reply.Refused r) (inr (asked, reads, inr (sym (submit_is asks n room default h c jobs s m few ∙ ap (desk_reply (count_accepted h)) w)))) m.fixed;
-    })
+    let m : MirrorsBy asks n room default h c jobs = x.1 in (
+      asks,
+      record {
+        queues = m.queues;
+        next = m.next;
+        shut = m.shut;
+        nobody = m.nobody;
+        sound = m.sound;
+        tickets = m.tickets;
+        apart = m.apart;
+        out = m.out;
+        fixed = and_fixed n room default h (step.Submit s text) (reply.Refused r) (inr (asked, reads, inr (sym (submit_is asks n room default h c jobs s m few ∙ ap (desk_reply (count_accepted h)) w)))) m.fixed;
+      },
+    )
 
 -- The line says no record, or memory was refused for it.
 pub faulty : (default : ℕ) (c : Content) (jobs : List Task) (s : ℕ) (text : Vec ℕ Global) (fault : EpdFault) → IsFaultOf text.items fault ⊎ ((fault ≡ NoMemory) × ((asked : RecordValue) × Reads text.items default asked)) → Makes default (step.Submit s text) (reply.BadRecord fault) c jobs c jobs
 faulty default c jobs s text fault f n room h x =
     let asks : ℕ → RecordValue = x.0 in
-    let m : MirrorsBy asks n room default h c jobs = x.1 in
-    (asks, record {
-      queues = m.queues;
-      next = m.next;
-      shut = m.shut;
-      nobody = m.nobody;
-      sound = m.sound;
-      tickets = m.tickets;
-      apart = m.apart;
-      out = m.out;
-      fixed = and_fixed n room default h (step.Submit s text) (reply.BadRecord fault) (by_fault f) m.fixed;
-    })
+    let m : MirrorsBy asks n room default h c jobs = x.1 in (
+      asks,
+      record {
+        queues = m.queues;
+        next = m.next;
+        shut = m.shut;
+        nobody = m.nobody;
+        sound = m.sound;
+        tickets = m.tickets;
+        apart = m.apart;
+        out = m.out;
+        fixed = and_fixed n room default h (step.Submit s text) (reply.BadRecord fault) (by_fault f) m.fixed;
+      },
+    )
   where
     by_fault : IsFaultOf text.items fault ⊎ ((fault ≡ NoMemory) × ((asked : RecordValue) × Reads text.items default asked)) → IsSubmitReply n room default h s text.items (reply.BadRecord fault)
     by_fault (inl e) = inl (fault, e, refl)

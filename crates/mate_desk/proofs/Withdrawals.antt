@@ -177,34 +177,38 @@ withdraws default c jobs s k w n room h x =
     let m : MirrorsBy asks n room default h c jobs = x.1 in
     let d : Content = after_withdraw c s k in
     let e : reply.Withdrawn ≡ withdraw_reply n h s k = ap withdrawal_reply (sym w) ∙ withdraw_is asks n room default h c jobs s k m in
-    let p = place_of n h s k (sym e) in
-    (asks, record {
-      queues = ap (change_at s (withdrawn_at k)) m.queues ∙ queues_marked asks room h s k n p.due;
-      next = m.next;
-      shut = m.shut;
-      nobody = m.nobody;
-      fixed = and_fixed n room default h (step.Withdraw s k) reply.Withdrawn e m.fixed;
-      sound = λ i. (elim (i == s) as (λ b. (i == s) ≡ b → Sound room default asks (accepted h i) (delivered h i) (count_accepted h) (phase h) (λ j. (b && (j == k)) || withdrawn h i j)) [
-        | true ↦ λ q. let z : i ≡ s = grind (arith, nat_tests, q) in sound_marked room default asks (accepted h i) (delivered h i) (count_accepted h) (phase h) (withdrawn h i) k (subst (λ t. length (delivered h t) ≤ k) (sym z) p.due) (subst (λ t. k < length (accepted h t)) (sym z) p.inside) (m.sound i)
-        | false ↦ λ q. m.sound i
-      ]) refl;
-      tickets = m.tickets;
-      apart = m.apart;
-      out = out_kept c d jobs (λ task o. out_change c d s (withdrawn_at k) task refl (λ q y. out_marked task k q y) o) m.out;
-    })
+    let p = place_of n h s k (sym e) in (
+      asks,
+      record {
+        queues = ap (change_at s (withdrawn_at k)) m.queues ∙ queues_marked asks room h s k n p.due;
+        next = m.next;
+        shut = m.shut;
+        nobody = m.nobody;
+        fixed = and_fixed n room default h (step.Withdraw s k) reply.Withdrawn e m.fixed;
+        sound = λ i. (elim (i == s) as (λ b. (i == s) ≡ b → Sound room default asks (accepted h i) (delivered h i) (count_accepted h) (phase h) (λ j. (b && (j == k)) || withdrawn h i j)) [
+          | true ↦ λ q. let z : i ≡ s = grind (arith, nat_tests, q) in sound_marked room default asks (accepted h i) (delivered h i) (count_accepted h) (phase h) (withdrawn h i) k (subst (λ t. length (delivered h t) ≤ k) (sym z) p.due) (subst (λ t. k < length (accepted h t)) (sym z) p.inside) (m.sound i)
+          | false ↦ λ q. m.sound i
+        ]) refl;
+        tickets = m.tickets;
+        apart = m.apart;
+        out = out_kept c d jobs (λ task o. out_change c d s (withdrawn_at k) task refl (λ q y. out_marked task k q y) o) m.out;
+      },
+    )
 
 pub not_withdrawn : (default : ℕ) (c : Content) (jobs : List Task) (s k : ℕ) (r : WithdrawRefusal) → withdraw_refusal c s k ≡ Some r → Makes default (step.Withdraw s k) (reply.NotWithdrawn r) c jobs c jobs
 not_withdrawn default c jobs s k r w n room h x =
     let asks : ℕ → RecordValue = x.0 in
-    let m : MirrorsBy asks n room default h c jobs = x.1 in
-    (asks, record {
-      queues = m.queues;
-      next = m.next;
-      shut = m.shut;
-      nobody = m.nobody;
-      sound = m.sound;
-      tickets = m.tickets;
-      apart = m.apart;
-      out = m.out;
-      fixed = and_fixed n room default h (step.Withdraw s k) (reply.NotWithdrawn r) (ap withdrawal_reply (sym w) ∙ withdraw_is asks n room default h c jobs s k m) m.fixed;
-    })
+    let m : MirrorsBy asks n room default h c jobs = x.1 in (
+      asks,
+      record {
+        queues = m.queues;
+        next = m.next;
+        shut = m.shut;
+        nobody = m.nobody;
+        sound = m.sound;
+        tickets = m.tickets;
+        apart = m.apart;
+        out = m.out;
+        fixed = and_fixed n room default h (step.Withdraw s k) (reply.NotWithdrawn r) (ap withdrawal_reply (sym w) ∙ withdraw_is asks n room default h c jobs s k m) m.fixed;
+      },
+    )

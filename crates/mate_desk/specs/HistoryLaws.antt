@@ -24,9 +24,9 @@ AcceptedReads = (h : History) (s k : ℕ) (claim : Claim) → (slice_get (accept
 abbrev pub DeliveredReads : Type 0
 DeliveredReads = (h : History) (s k : ℕ)
     → ((asked : RecordValue) → (slice_get (delivered h s) k ≡ Some (Answered asked)) ↔
-        ((before : History) × WasMade h (step.Collect s) (reply.Answer asked) before × (length (delivered before s) ≡ k)))
+    ((before : History) × WasMade h (step.Collect s) (reply.Answer asked) before × (length (delivered before s) ≡ k)))
     × ((t : ℕ) → (slice_get (delivered h s) k ≡ Some (Noticed t)) ↔
-        ((before : History) × WasMade h (step.Collect s) (reply.Notice t) before × (length (delivered before s) ≡ k)))
+    ((before : History) × WasMade h (step.Collect s) (reply.Notice t) before × (length (delivered before s) ≡ k)))
 
 -- A record was withdrawn where the step that withdraws it was answered so.
 abbrev pub WithdrawnReads : Type 0

@@ -39,7 +39,10 @@ fn answers<R: Abort>(
     assert!(rt; replies.len() == texts.len(), "{} replies", replies.len());
     for (i, reply) in replies.iter().enumerate() {
         let text = reply_text(alloc, &rays, reply)?;
-        assert!(rt; i < texts.len() && text.as_str() == texts[i], "step {i}: {text}");
+        assert!(rt;
+            i < texts.len() && text.as_str() == texts[i],
+            "step {i}: {text}"
+        );
     }
     Ok(())
 }
@@ -302,7 +305,15 @@ fn no_desk_no_steps(rt: HostRuntime) -> Result<(), Fail> {
         (1, 0, RunFault::BadRoom),
         (16, 65, RunFault::BadRoom),
     ] {
-        let refused = run(alloc, &rays, submitters, room, default, &[Drained], &mut memo);
+        let refused = run(
+            alloc,
+            &rays,
+            submitters,
+            room,
+            default,
+            &[Drained],
+            &mut memo,
+        );
         assert!(&rt; refused.err() == Some(fault), "{fault}");
     }
     answers(&rt, alloc, (16, 64), &[], &[])

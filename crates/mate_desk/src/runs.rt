@@ -9,9 +9,9 @@ ghost use Rattle.mate_desk.specs.RunFaults.{run_fault_name};
 ghost use Rattle.mate_desk.specs.declared.runs.RunFault.TheVariants as fault;
 
 use crate::desks::Desk;
+use crate::events::{Reply, Step};
 use crate::refusals::DeskFault;
 use crate::stepping::make;
-use crate::events::{Reply, Step};
 use chess_moves::Rays;
 use chess_notation::Bound;
 use mate_search::Memo;

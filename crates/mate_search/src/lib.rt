@@ -35,7 +35,7 @@ pub use laws::{
 };
 pub use memo::{Memo, MemoFault};
 pub use problems::{is_same_problem, same_problem_reads};
-pub use replies::{Output, answer_input, solve_input};
+pub use replies::{Output, answer_input, is_blank, solve_input, without_cr};
 pub use solving::solve;
 pub use stops::Stop;
 pub use tickets::Ticket;

@@ -27,7 +27,7 @@ pub struct Output {
 }
 
 /// A line without one CR at its end.
-fn without_cr(line: &[u8]) -> &[u8]
+pub fn without_cr(line: &[u8]) -> &[u8]
     ensures { result.now ≡ text_without_cr line.now }
 {
     if !line.is_empty() && line[line.len() - 1] == b'\r' {
@@ -38,7 +38,7 @@ fn without_cr(line: &[u8]) -> &[u8]
 }
 
 /// Whether a line has nothing but spaces.
-fn is_blank(line: &[u8]) -> bool
+pub fn is_blank(line: &[u8]) -> bool
     ensures { result ≡ is_blank_text line.now }
 {
     for byte in line {

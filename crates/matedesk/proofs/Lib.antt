@@ -1,6 +1,13 @@
+mod Cuts
+mod DeskLaws
 mod Endings
 mod Escapes
+mod LineLaws
+mod NumberLaws
 mod Numbers
+mod OneScript
 mod Parsed
+mod ScriptLaws
 mod Solving
+mod StepLaws
 mod Worked

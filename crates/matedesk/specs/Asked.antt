@@ -19,6 +19,7 @@ pub data Asked : Type 0 where
   moves : Text → Asked
   perft : Text → ℕ → Asked
   solve : ℕ → List Text → Asked
+  replay : Text → Asked
 
 -- the number that a word stands for, which `clap` has read; none above the depths that are counted
 abbrev pub depth_in : List Row → Option ℕ
@@ -35,6 +36,7 @@ asked_by name rows =
     else if bytes_eq name (codes "moves") then option_map moves (first_of (codes "FEN") rows)
     else if bytes_eq name (codes "perft") then option_and_then (λ depth. option_map (λ fen. perft fen depth) (first_of (codes "FEN") rows)) (depth_in rows)
     else if bytes_eq name (codes "solve") then option_and_then (λ bound. option_map (λ names. solve bound names) (all_of (codes "FILE") rows)) (bound_in rows)
+    else if bytes_eq name (codes "replay") then option_map replay (first_of (codes "SCRIPT") rows)
     else None
 
 -- what the matches of a whole command line ask for

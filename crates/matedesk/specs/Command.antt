@@ -5,9 +5,10 @@ use Rattle.clap.specs.Words.{Text}
 use Rattle.mate_search.specs.Stops.{AppendsPart}
 use Rattle.mate_search.specs.declared.stops.Stop.{Stop}
 use Rattle.mate_search.specs.declared.stops.Stop.TheVariants.{NoMemory, Unreadable, Unwritable, NoReader}
-use Rattle.matedesk.specs.Asked.{Asked, look, moves, perft, solve}
+use Rattle.matedesk.specs.Asked.{Asked, look, moves, perft, solve, replay}
 use Rattle.matedesk.specs.Look.{look_text}
 use Rattle.matedesk.specs.MovesShown.{moves_text, perft_text}
+use Rattle.matedesk.specs.Replayed.{ReplaysFile}
 use Rattle.matedesk.specs.Shown.{ShowsFen}
 use Rattle.matedesk.specs.Solved.{Solves, SolvesFirst}
 
@@ -17,6 +18,7 @@ Shows holds (look fen) refused text = ShowsFen look_text fen refused text
 Shows holds (moves fen) refused text = ShowsFen moves_text fen refused text
 Shows holds (perft fen depth) refused text = ShowsFen (perft_text depth) fen refused text
 Shows holds (solve bound names) refused text = Solves holds bound names refused text
+Shows holds (replay name) refused text = ReplaysFile (holds name) refused text
 
 -- The first of the names is one that may be refused.
 abbrev pub FirstRefused : (Text → Type 0) → List Text → Type 0
@@ -51,8 +53,17 @@ StopsSolving holds refuses bound names Unreadable old new = Gains (SolvesFirst h
 StopsSolving holds refuses bound names Unwritable old new = GainsPart (SolvesFirst holds bound names (λ _. ⊤)) old new
 StopsSolving holds refuses bound names NoReader old new = GainsPart (SolvesFirst holds bound names (λ _. ⊤)) old new
 
+-- What it gained where `replay` stops: nothing where memory gives out or where the script can't be read, and a first part of the
+-- replies where a write breaks off.
+abbrev pub StopsReplaying : Option (List ℕ) → Type 0 → Stop → (old new : Option (List ℕ)) → Type 0
+StopsReplaying known refuses NoMemory old new = Keeps old new
+StopsReplaying known refuses Unreadable old new = refuses × Keeps old new
+StopsReplaying known refuses Unwritable old new = GainsPart (ReplaysFile known false) old new
+StopsReplaying known refuses NoReader old new = GainsPart (ReplaysFile known false) old new
+
 abbrev pub Stops : (Text → Option (List ℕ)) → (Text → Type 0) → Asked → Stop → (old new : Option (List ℕ)) → Type 0
 Stops holds refuses (solve bound names) stop old new = StopsSolving holds refuses bound names stop old new
+Stops holds refuses (replay name) stop old new = StopsReplaying (holds name) (refuses name) stop old new
 Stops holds refuses asks stop old new = StopsOverFen (Shows holds asks false) stop old new
 
 -- the status that a command ends with: whether it refused anything, or why it stopped

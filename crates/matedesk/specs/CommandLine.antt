@@ -38,6 +38,9 @@ moves_app = with_rule (new_app (codes "moves")) (wanted (codes "FEN"))
 abbrev pub perft_app : App
 perft_app = with_rule (with_rule (new_app (codes "perft")) (wanted (codes "FEN"))) depth_rule
 
+abbrev pub replay_app : App
+replay_app = with_rule (new_app (codes "replay")) (wanted (codes "SCRIPT"))
+
 -- the program's own options: a version, a command that has to be given, and no command `help`
 abbrev pub bare_app : App
 bare_app = record (new_app (codes "matedesk")) {
@@ -54,7 +57,7 @@ with_fen_apps a = with_subcommand (with_subcommand (with_subcommand a look_app.t
 
 -- the whole command line
 abbrev pub desk_app : App
-desk_app = with_fen_apps (with_subcommand bare_app solve_app.top)
+desk_app = with_fen_apps (with_subcommand (with_subcommand bare_app solve_app.top) replay_app.top)
 
 -- no argument of the command is global
 abbrev pub IsLocal : Command → Type 0

@@ -5,7 +5,10 @@ pub mod Depths
 pub mod Hyphens
 pub mod Look
 pub mod MovesShown
+pub mod Replayed
 pub mod Request
+pub mod ScriptReading
+pub mod Scripts
 pub mod Shown
 pub mod Solved
 pub mod Sources

@@ -11,6 +11,7 @@ use crate::hyphens::escaped;
 use crate::look::look;
 use crate::moves::moves;
 use crate::perft::perft;
+use crate::replay::replay;
 use crate::request::{Request, parse, request_of};
 use crate::solve::solve;
 use crate::source::Source;
@@ -37,6 +38,7 @@ fn answer<S: Source, O: Write, E: Write>(
         Request::Moves(fen) => moves(alloc, fen, out, err),
         Request::Perft(fen, depth) => perft(alloc, fen, *depth, out, err),
         Request::Solve(bound, names) => solve(alloc, *bound, names, source, out, err),
+        Request::Replay(name) => replay(alloc, name, source, out, err),
     }
 }
 

@@ -2,11 +2,12 @@
 
 ghost use Rattle.std.specs.Prelude.{◌≡◌, IfOk, codes, false};
 ghost use Rattle.clap.specs.Words.{app_of, rule_of, with_rule, with_subcommand};
-ghost use Rattle.matedesk.specs.CommandLine.{IsLocal, bare_app, bound_rule, depth_rule, desk_app, files_rule, look_app, moves_app, perft_app, solve_app, wanted, with_fen_apps};
+ghost use Rattle.matedesk.specs.CommandLine.{IsLocal, bare_app, bound_rule, depth_rule, desk_app, files_rule, look_app, moves_app, perft_app, replay_app, solve_app, wanted, with_fen_apps};
 
 use crate::help::{
     ABOUT, ABOUT_BOUND, ABOUT_DEPTH, ABOUT_FEN, ABOUT_FILE, ABOUT_LOOK, ABOUT_MOVES, ABOUT_PERFT,
-    ABOUT_SOLVE, AFTER_HELP, AFTER_LOOK, AFTER_MOVES, AFTER_PERFT, AFTER_SOLVE, VERSION,
+    ABOUT_REPLAY, ABOUT_SCRIPT, ABOUT_SOLVE, AFTER_HELP, AFTER_LOOK, AFTER_MOVES, AFTER_PERFT,
+    AFTER_REPLAY, AFTER_SOLVE, VERSION,
 };
 use clap::{Arg, Command, value_parser};
 use std::alloc::{AllocError, Global};
@@ -74,6 +75,15 @@ fn solve_command<'a>(alloc: Global) -> Result<Command<'a>, AllocError>
     with_arg(command, files_arg(alloc))
 }
 
+fn replay_command<'a>(alloc: Global) -> Result<Command<'a>, AllocError>
+    ensures { IfOk result (λ c. (app_of c ≡ replay_app) × IsLocal c) }
+{
+    let command = Command::new(alloc, "replay")
+        .about(ABOUT_REPLAY)
+        .after_help(AFTER_REPLAY);
+    with_arg(command, wanted_arg(alloc, "SCRIPT", ABOUT_SCRIPT))
+}
+
 fn look_command<'a>(alloc: Global) -> Result<Command<'a>, AllocError>
     ensures { IfOk result (λ c. (app_of c ≡ look_app) × IsLocal c) }
 {
@@ -128,5 +138,6 @@ pub fn desk_command<'a>(alloc: Global) -> Result<Command<'a>, AllocError>
     ensures { IfOk result (λ c. app_of c ≡ desk_app) }
 {
     let command = with_command(bare_command(alloc), solve_command(alloc)?)?;
+    let command = with_command(command, replay_command(alloc)?)?;
     with_fen_commands(alloc, command)
 }

@@ -18,6 +18,7 @@ number), given as ONE argument in quotes.
 
 Examples:
   matedesk solve problems.epd
+  matedesk replay small.script
   matedesk look \"rnbqkbnr/pppppppp/8/8/8/8/PPPPPPPP/RNBQKBNR w KQkq - 0 1\"
   matedesk moves \"8/8/8/K2pP2r/8/8/8/7k w - d6 0 1\"
   matedesk perft \"rnbqkbnr/pppppppp/8/8/8/8/PPPPPPPP/RNBQKBNR w KQkq - 0 1\" 3
@@ -72,6 +73,63 @@ Status:
   3  no memory
   4  a FILE can't be read, or the output can't be written
 At 3 and 4 the first of the answers may have been written.";
+
+/// `replay` in one line.
+pub const ABOUT_REPLAY: &str =
+    "Runs a script of steps at a desk that hands out problems and gives their answers back in order";
+
+/// What stands below the arguments of `replay`: what a script is, an example with its replies, and the statuses.
+pub const AFTER_REPLAY: &str =
+    "The first line of a script, `desk S R B`, opens a desk: S submitters, 1 to 16, numbered from
+0; each may have R records pending, 1 to 64; and a record without `dm` asks for mate
+within B moves, 1 to 15. Each line behind it is a step, and has a line of reply:
+
+  submit S RECORD  submitter S hands in a record, as `solve` reads it: `ticket T`
+  take             the waiting record of the lowest ticket becomes a job: `job T`, `nothing`
+  finish I         the I-th job in hand, counted from 0, is solved: `done T`, `no job`
+  handback I       the I-th job in hand waits again: `back T`, `no job`
+  collect S        S is given what its first pending record is owed: the answer,
+                   `notice T` where that was withdrawn, or `none` so far
+  withdraw S N     S withdraws its N-th accepted record, counted from 0: `withdrawn`
+  drained          whether nothing is pending: `drained yes`, `drained no`
+  close            nothing is accepted any more: `closed`
+
+What the desk refuses is `refused CODE`. Numbers have one to nine digits, and one space
+stands between words. A blank line is passed over.
+
+Example:
+  $ cat small.script
+  desk 1 2 3
+  submit 0 7k/8/5K2/8/8/8/8/R7 w - - dm 2;
+  submit 0 6k1/5ppp/8/8/8/8/8/R3K3 w Q - dm 1;
+  take
+  withdraw 0 1
+  finish 0
+  collect 0
+  collect 0
+  drained
+  $ matedesk replay small.script
+  ticket 0
+  ticket 1
+  job 0
+  withdrawn
+  done 0
+  7k/8/5K2/8/8/8/8/R7 w - - bm Kf7 Kg6; dm 2; pv Kg6 Kg8 Ra8#;
+  notice 1
+  drained yes
+
+The SCRIPT `-` is standard input; a file by that name is `./-`.
+
+Status:
+  0  every step was made
+  1  the script is refused: the error output names its first faulty line, 0 where
+     all are blank, or says BadSubmitters or BadRoom
+  2  the words ask for nothing
+  3  no memory
+  4  SCRIPT can't be read, or the output can't be written";
+
+/// The argument SCRIPT in one line.
+pub const ABOUT_SCRIPT: &str = "A file with a desk and its steps; `-` is standard input";
 
 /// The option `--bound` in one line.
 pub const ABOUT_BOUND: &str = "Within how many moves a record without `dm` asks for mate, 1 to 15";

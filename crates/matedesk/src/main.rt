@@ -13,9 +13,16 @@ mod files;
 mod help;
 mod hyphens;
 mod look;
+mod memo;
 mod moves;
 mod perft;
+mod replay;
 mod request;
+mod script_desk;
+mod script_lines;
+mod script_steps;
+mod script_words;
+mod scripts;
 mod shown;
 mod solve;
 mod source;
@@ -57,6 +64,8 @@ fn main(rt: HostRuntime) -> ExitCode {
     ExitCode::from(status)
 }
 
+#[cfg(test)]
+mod script_tests;
 #[cfg(test)]
 mod tests;
 #[cfg(test)]

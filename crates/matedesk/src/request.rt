@@ -25,6 +25,8 @@ pub enum Request<'m, 'a> {
     Perft(&'a str, Depth),
     /// Answer the records of files, in order; the bound is for records that say none.
     Solve(Bound, &'m [&'a str]),
+    /// Run the script of a file at a desk.
+    Replay(&'a str),
 }
 
 /// The value of a positional.
@@ -77,6 +79,8 @@ fn request_by<'m, 'a>(name: &str, matches: &'m ArgMatches<'a>) -> Option<Request
     } else if name == "solve" {
         let bound = bound_in(matches)?;
         names_in(matches, "FILE").map(|names| Request::Solve(bound, names))
+    } else if name == "replay" {
+        text_in(matches, "SCRIPT").map(Request::Replay)
     } else {
         None
     }

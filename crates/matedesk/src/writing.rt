@@ -11,3 +11,8 @@ pub fn complain<E: Write>(err: &mut E, message: &str) {
 pub fn complain_unreadable<E: Write>(err: &mut E, name: &str) {
     let _ = writeln!(err, "matedesk: cannot read {name}");
 }
+
+/// Says which line of a script is at fault.
+pub fn complain_faulty<E: Write>(err: &mut E, number: usize) {
+    let _ = writeln!(err, "matedesk: script line {number}");
+}

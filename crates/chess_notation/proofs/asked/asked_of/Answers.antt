@@ -1,4 +1,4 @@
-use Rattle.std.proofs.Common.{not, Bor, ◌≡◌, ℕ, ◌∷◌, List, Bool, true, false, Option, Some, None, refl, length, ap, sym, ◌∙◌, subst, arith}
+use Rattle.std.proofs.Common.{not, Bor, ◌≡◌, ℕ, ◌∷◌, List, true, false, Option, Some, None, refl, length, ap, sym, ◌∙◌, arith}
 use Rattle.std.specs.List.{list_all}
 use Rattle.std.specs.Option.{option_map_or, is_some}
 use Rattle.std.proofs.lemmas.Bool.{and_parts}

@@ -1,4 +1,4 @@
-use Rattle.std.proofs.Common.{◌≡◌, ℕ, ◌+◌, Bool, cond, ◌++◌, ◌∷◌, [], length, map, filter, take, true, arith, ap, sym, ◌∙◌, append-nil}
+use Rattle.std.proofs.Common.{ℕ, ◌+◌, Bool, cond, ◌++◌, ◌∷◌, [], length, map, filter, take, arith, ap, sym, ◌∙◌, append-nil}
 use Rattle.std.specs.List.{list_any}
 use Rattle.std.proofs.lemmas.List.{length-map, length-append}
 use Rattle.chess_notation.specs.Words.{words_in}

@@ -1,12 +1,12 @@
-use Rattle.std.proofs.Common.{◌≡◌, ◌⊎◌, ℕ, List, length, Result, Ok, Err, IfOk, OnOk, IfErr, true, false, ap, sym, ◌∙◌, subst, inl, inr, refl, arith}
+use Rattle.std.proofs.Common.{◌≡◌, ◌⊎◌, ℕ, List, length, Result, Ok, Err, IfOk, OnOk, IfErr, true, ap, sym, ◌∙◌, subst, inl, inr, refl, arith}
 use Rattle.std.specs.List.{list_all}
 use Rattle.chess_board.specs.Positions.{Setup}
 use Rattle.chess_notation.specs.declared.faults.EpdFault.{EpdFault}
 use Rattle.chess_notation.specs.declared.faults.EpdFault.TheVariants.{BadAvoid, NoMemory}
 use Rattle.chess_notation.specs.Segments.{segments_of}
 use Rattle.chess_notation.specs.Lines.{operations_in, cut_of}
-use Rattle.chess_notation.specs.EpdFaults.{is_small_if_bound, has_names_if_avoid, IsFaultOf}
-use Rattle.chess_notation.specs.Records.{RecordValue, Reads}
+use Rattle.chess_notation.specs.EpdFaults.{is_small_if_bound}
+use Rattle.chess_notation.specs.Records.{RecordValue}
 use Rattle.chess_notation.specs.RecordReading.{IsClearTo, avoid_in, rest_of}
 use Rattle.chess_notation.proofs.FaultFree.{no_fault_passes, no_fault_opcodes, no_fault_distinct, no_fault_printable, operations_within, numbers_passed, clear_of_large}
 use Rattle.chess_notation.proofs.LineReads.{says_one}
