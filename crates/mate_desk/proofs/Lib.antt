@@ -25,3 +25,4 @@ pub mod Promises
 pub mod Beginnings
 pub mod HistoryReadings
 pub mod EventReadings
+pub mod HandReadings

@@ -62,3 +62,17 @@ IsLast t r h = (later : History) × (s : Step) × (before : History) × (h ≡ l
 -- A ticket is out where the last reply that says its phase is its job, and finished where that is that its job was done. Else it waits.
 abbrev pub PhaseReads : Type 0
 PhaseReads = (h : History) (t : ℕ) → ((phase h t ≡ Out) ↔ IsLast t (reply.Job t) h) × ((phase h t ≡ Finished) ↔ IsLast t (reply.Done t) h)
+
+abbrev pub puts_down_by : Reply → ℕ → Bool
+puts_down_by (reply.Done u) t = t == u
+puts_down_by (reply.Back u) t = t == u
+puts_down_by _ t = false
+
+-- The job of the ticket was finished or handed back.
+abbrev pub puts_down : ℕ → Event → Bool
+puts_down t e = puts_down_by e.reply t
+
+-- A job is in hand where it was taken, and since then neither finished nor handed back.
+abbrev pub HandReads : Type 0
+HandReads = (h : History) (t : ℕ) → (list_any (λ u. u == t) (hand h) ≡ true) ↔
+    ((later : History) × (s : Step) × (before : History) × (h ≡ later ++ record { step = s; reply = reply.Job t } ∷ before) × (list_any (puts_down t) later ≡ false))

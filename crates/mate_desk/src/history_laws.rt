@@ -1,6 +1,6 @@
 //! What the readings of a history say. Each function here does nothing: its contract is the law.
 
-ghost use Rattle.mate_desk.specs.HistoryLaws.{AcceptedReads, DeliveredReads, WithdrawnReads, ClosedReads, CountReads, PhaseReads};
+ghost use Rattle.mate_desk.specs.HistoryLaws.{AcceptedReads, DeliveredReads, WithdrawnReads, ClosedReads, CountReads, PhaseReads, HandReads};
 
 /// The k-th accepted record of a submitter is that of its k-th step to hand one in whose reply is a ticket.
 pub fn accepted_reads()
@@ -30,4 +30,9 @@ pub fn count_reads()
 /// What phase a ticket is in is told by the last reply that says so of it.
 pub fn phase_reads()
     ensures { PhaseReads }
+{}
+
+/// A job is in hand exactly where it was taken, and since then neither finished nor handed back.
+pub fn hand_reads()
+    ensures { HandReads }
 {}

@@ -24,7 +24,8 @@ pub use deliveries::Delivery;
 pub use desks::Desk;
 pub use events::{Reply, Step};
 pub use history_laws::{
-    accepted_reads, closed_reads, count_reads, delivered_reads, phase_reads, withdrawn_reads,
+    accepted_reads, closed_reads, count_reads, delivered_reads, hand_reads, phase_reads,
+    withdrawn_reads,
 };
 pub use refusals::{DeskFault, NoSuchSubmitter, Stranger, SubmitRefusal, WithdrawRefusal};
 pub use reply_texts::reply_text;
