@@ -18,8 +18,9 @@ use Rattle.chess_moves.specs.Directions.{toward, opposite, is_blocked, reaches, 
 use Rattle.chess_moves.specs.Leaps.{leaps, capture_of, capture_back}
 use Rattle.chess_moves.specs.Hits.{is_taken, hits_as, place_hits, hits_from}
 use Rattle.chess_moves.specs.Forces.{is_knight_kind, StandFor, is_one, is_diagonal_kind, is_straight_kind}
+use Rattle.std.proofs.Math.Bool.{and-false}
 use Rattle.chess_moves.proofs.SetBits.{has_and, has_or, has_none}
-use Rattle.chess_moves.proofs.AnyLemmas.{any_same, any_none}
+use Rattle.chess_moves.proofs.AnyLemmas.{any_same, any_none, any_at}
 use Rattle.chess_moves.proofs.SharedSquares.{meets_is}
 use Rattle.chess_board.specs.Squares.{any_below}
 use Rattle.chess_moves.proofs.Geometry.{toward_back, knight_back, king_back, capture_mirrored}
@@ -225,3 +226,30 @@ attackers_are occupied force by men square l1 l2 d r l3 stands sets h1 h2 h3 h4 
   where
     and_both : (x y p q : Bool) → x ≡ p → y ≡ q → (x && y) ≡ (p && q)
     and_both x y p q ex ey = rw (ex, ey)
+
+-- A slider is seen towards sliders exactly where it is reached.
+seen_itself : (sliders taken : ℕ → Bool) (d : Direction) (square t : ℕ) → t < 64 → sliders t ≡ true → sights taken sliders d square t ≡ reaches taken d square t
+seen_itself sliders taken d square t l on = (elim (toward d square t) as (λ b. toward d square t ≡ b → sights taken sliders d square t ≡ (b && not (is_blocked taken d square t))) [
+  | true ↦ λ e. let some : any_below 64 (λ s. sliders s && toward d square s) ≡ true = any_at (λ s. sliders s && toward d square s) 64 t l (rw (on, e) refl) in rw (some, e) refl
+  | false ↦ λ e. rw e (and-false (any_below 64 (λ s. sliders s && toward d square s)))
+]) refl
+
+same_within : (x p q : Bool) → (x ≡ true → p ≡ q) → (x && p) ≡ (x && q)
+same_within true p q h = h refl
+same_within false p q h = refl
+
+pub slants_towards : (sliders sight occupied square t : ℕ) → t < 64 → has sight t ≡ sights_as_bishop (has occupied) (has sliders) square t
+    → has (bit_and sliders sight) t ≡ (has sliders t && reaches_as_bishop (has occupied) square t)
+unfolding sights_as_bishop reaches_as_bishop
+slants_towards sliders sight occupied square t l e =
+    part sliders sight t _ _ refl e
+    ∙ same_within (has sliders t) _ _ (λ on. let s = λ (d : Direction). seen_itself (has sliders) (has occupied) d square t l on in
+    rw (s NorthEast, s SouthEast, s SouthWest, s NorthWest) refl)
+
+pub straight_towards : (sliders sight occupied square t : ℕ) → t < 64 → has sight t ≡ sights_as_rook (has occupied) (has sliders) square t
+    → has (bit_and sliders sight) t ≡ (has sliders t && reaches_as_rook (has occupied) square t)
+unfolding sights_as_rook reaches_as_rook
+straight_towards sliders sight occupied square t l e =
+    part sliders sight t _ _ refl e
+    ∙ same_within (has sliders t) _ _ (λ on. let s = λ (d : Direction). seen_itself (has sliders) (has occupied) d square t l on in
+    rw (s North, s East, s South, s West) refl)

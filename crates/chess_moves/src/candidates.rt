@@ -183,6 +183,9 @@ pub(crate) fn castling_targets(rays: &Rays, position: &Position, scene: &Scene) 
     requires scene { IsSceneOf scene.now position.now }
     ensures { (t : ℕ) → t < 64 → has result t ≡ castles position.now position.now.side scene.now.king t }
 {
+    if scene.king != king_home(scene.side) {
+        return 0;
+    }
     castling_target(rays, position, scene, Wing::KingSide)
         | castling_target(rays, position, scene, Wing::QueenSide)
 }

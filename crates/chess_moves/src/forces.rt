@@ -130,6 +130,29 @@ pub(crate) fn attackers(rays: &Rays, occupied: u64, force: &Force, by: Colour, s
         | force.king & rays.leap(square, Leap::KingStep)
 }
 
+/// The squares from which men of a colour attack a square, where it is known what the square sees on its diagonals, and on its rank
+/// and its file, towards their sliders.
+pub(crate) fn attackers_seen(
+    rays: &Rays,
+    force: &Force,
+    by: Colour,
+    square: u8,
+    diagonal: u64,
+    straight: u64,
+) -> u64
+    requires { square < 64 }
+    ensures { (men : List (Option ManValue)) (occupied : ℕ) → IsSetOf occupied is_some men → StandFor force.now by men
+        → ((t : ℕ) → t < 64 → has diagonal t ≡ sights_as_bishop (has occupied) (has force.now.diagonal) square t)
+        → ((t : ℕ) → t < 64 → has straight t ≡ sights_as_rook (has occupied) (has force.now.straight) square t)
+        → (s : ℕ) → s < 64 → has result s ≡ hits_from men by s square }
+{
+    force.pawns & rays.leap(square, Leap::capture_back(by))
+        | force.knights & rays.leap(square, Leap::KnightLeap)
+        | force.diagonal & diagonal
+        | force.straight & straight
+        | force.king & rays.leap(square, Leap::KingStep)
+}
+
 /// Whether a man of the colour attacks a square, on whatever board these sets stand for.
 pub(crate) fn is_hit_over(rays: &Rays, occupied: u64, force: &Force, by: Colour, square: u8) -> bool
     requires { square < 64 }

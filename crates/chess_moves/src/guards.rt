@@ -14,7 +14,7 @@ ghost use Rattle.chess_moves.specs.Hits.{hits_from, is_hit};
 ghost use Rattle.chess_moves.specs.Forces.{StandFor};
 ghost use Rattle.chess_moves.specs.Scenes.{gets_through};
 
-use crate::forces::{Force, attackers, is_hit_over};
+use crate::forces::{Force, attackers, attackers_seen, is_hit_over};
 use crate::rays::Rays;
 use chess_board::Colour;
 
@@ -112,19 +112,23 @@ fn keeping_from(rays: &Rays, attackers: u64, king: u8) -> u64
     allowed
 }
 
-/// The squares on which a man answers the checks that there are: all squares where there is none.
+/// The squares on which a man answers the checks that there are: all squares where there is none. What the king sees towards the
+/// sliders is known.
 pub(crate) fn answers_to_check(
     rays: &Rays,
-    occupied: u64,
     force: &Force,
     by: Colour,
     king: u8,
+    diagonal: u64,
+    straight: u64,
 ) -> u64
     requires { king < 64 }
-    ensures { (men : List (Option ManValue)) → IsSetOf occupied is_some men → StandFor force.now by men
+    ensures { (men : List (Option ManValue)) (occupied : ℕ) → IsSetOf occupied is_some men → StandFor force.now by men
+        → ((t : ℕ) → t < 64 → has diagonal t ≡ sights_as_bishop (has occupied) (has force.now.diagonal) king t)
+        → ((t : ℕ) → t < 64 → has straight t ≡ sights_as_rook (has occupied) (has force.now.straight) king t)
         → (t : ℕ) → t < 64 → has result t ≡ not (some_square (λ a. hits_from men by a king && gets_through a king t)) }
 {
-    let checkers = attackers(rays, occupied, force, by, king);
+    let checkers = attackers_seen(rays, force, by, king, diagonal, straight);
     keeping_from(rays, checkers, king)
 }
 

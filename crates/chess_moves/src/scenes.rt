@@ -36,14 +36,15 @@ pub(crate) fn scene_of(rays: &Rays, position: &Position) -> Scene
     let enemy = force_of(position, by);
     let occupied = position.occupied();
     let king = position.king(side).index() as u8;
+    let diagonal = diagonal_sight(rays, occupied, enemy.diagonal, king);
+    let straight = straight_sight(rays, occupied, enemy.straight, king);
     Scene {
         side,
         occupied,
         own: all_of(&force_of(position, side)),
         enemy,
         king,
-        nearest: diagonal_sight(rays, occupied, enemy.diagonal, king)
-            | straight_sight(rays, occupied, enemy.straight, king),
-        answers: answers_to_check(rays, occupied, &enemy, by, king),
+        nearest: diagonal | straight,
+        answers: answers_to_check(rays, &enemy, by, king, diagonal, straight),
     }
 }

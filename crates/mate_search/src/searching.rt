@@ -8,9 +8,7 @@ ghost use Rattle.mate_search.specs.Wins.{win, lost, leaves_lost};
 
 use crate::memo::Memo;
 use chess_board::{Move, Position, after};
-use chess_moves::{
-    Rays, Verdict, has_mating_move, is_legal, legal, legal_listed, legal_moves, verdict,
-};
+use chess_moves::{Rays, Verdict, has_mating_move, is_legal, legal_listed, legal_moves, verdict};
 
 /// Whether the attacker, to move, mates within `n` moves. A position one move from the end is not worth keeping.
 #[tactic(auto, using(crate::proofs::Wins::win_none))]
@@ -68,7 +66,6 @@ fn wins_longer(rays: &Rays, position: &Position, n: u8, memo: &mut Memo) -> bool
 }
 
 /// The least number of moves up to `n` within which the attacker mates, where it does not within `none`.
-#[tactic(auto, using(crate::proofs::Wins::win_step, crate::proofs::Wins::legal_each))]
 #[cycle(search)]
 fn least_win(rays: &Rays, position: &Position, none: u8, n: u8, memo: &mut Memo) -> Option<u8>
     requires { win none position.now ≡ false }
@@ -76,17 +73,31 @@ fn least_win(rays: &Rays, position: &Position, none: u8, n: u8, memo: &mut Memo)
     ensures none { result ≡ None → win n position.now ≡ false }
     ensures room { memo.new.room ≡ memo.old.room }
 {
-    let moves = legal(rays, position);
     for k in none..n {
-        if wins_among(rays, position, moves.as_slice(), k + 1, memo) {
+        if wins_by_some(rays, position, k + 1, memo) {
             return Some(k + 1);
         }
     }
     None
 }
 
-/// Whether the attacker mates within `n` moves, the first of which is one of these.
+/// Whether the attacker mates within `n` moves. No list of its moves is made.
+#[tactic(auto, using(crate::proofs::Wins::win_step))]
 #[cycle(search)]
+fn wins_by_some(rays: &Rays, position: &Position, n: u8, memo: &mut Memo) -> bool
+    requires some { 0 < n }
+    ensures found { result ≡ win n position.now }
+    ensures room { memo.new.room ≡ memo.old.room }
+{
+    for m in legal_moves(rays, position) {
+        if loses(rays, &after(position, m), n - 1, memo) {
+            return true;
+        }
+    }
+    false
+}
+
+/// Whether the attacker mates within `n` moves, the first of which is one of these.
 pub(crate) fn wins_among(
     rays: &Rays,
     position: &Position,

@@ -6,8 +6,8 @@ use Rattle.chess_moves.proofs.AnyLemmas.{any_same}
 use Rattle.chess_moves.proofs.guards.answers_to_check.Goals as goal
 
 pub returns : goal.returns
-returns c = λ men stands sets t on.
+returns c = λ men occupied stands sets slants lines t on.
     let k : ℕ = c.args.king in
     c.keeping_from.ensures t on
-    ∙ ap not (any_same (λ a. has c.attackers-checkers.result a && gets_through a k t) (λ a. hits_from men c.args.by a k && gets_through a k t) 64
-    (λ a l. ap (λ x. x && gets_through a k t) (c.attackers-checkers.ensures men stands sets a l)))
+    ∙ ap not (any_same (λ a. has c.attackers_seen-checkers.result a && gets_through a k t) (λ a. hits_from men c.args.by a k && gets_through a k t) 64
+    (λ a l. ap (λ x. x && gets_through a k t) (c.attackers_seen-checkers.ensures men occupied stands sets slants lines a l)))

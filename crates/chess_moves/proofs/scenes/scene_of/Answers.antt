@@ -15,6 +15,8 @@ returns c =
     let p = c.args.position.now in
     let side = c.side-side.ensures.side in
     let by = c.other-by.ensures ∙ ap other_side side in
+    let slants = c.diagonal_sight-diagonal.ensures in
+    let lines = c.straight_sight-straight.ensures in
     record {
       side = side;
       occupied = c.occupied-occupied.ensures;
@@ -22,9 +24,9 @@ returns c =
       enemy = subst (λ b. StandFor c.force_of-enemy.result b p.men) by c.force_of-enemy.ensures;
       on_board = omega arith;
       king = ap (man_at p.men) c.index-king.ensures.number ∙ c.king.ensures.king ∙ ap (λ s. man_of s King) side;
-      nearest = λ t l. joined c.diagonal_sight.result c.straight_sight.result t _ _ (c.diagonal_sight.ensures t l) (c.straight_sight.ensures t l);
+      nearest = λ t l. joined c.diagonal_sight-diagonal.result c.straight_sight-straight.result t _ _ (slants t l) (lines t l);
       answers = λ t l.
-          c.answers_to_check.ensures p.men c.occupied-occupied.ensures c.force_of-enemy.ensures t l
+          c.answers_to_check.ensures p.men c.occupied-occupied.result c.occupied-occupied.ensures c.force_of-enemy.ensures slants lines t l
           ∙ ap (λ b. not (some_square (λ a. hits_from p.men b a c.index-king.result && gets_through a c.index-king.result t))) by;
       sound = c.side-side.ensures.sound;
     }

@@ -24,3 +24,8 @@ wins_longer-returns-in-Some-least_win-clause-found t c =
 pub refutes-returns-clause-refuted : goal.refutes-returns-clause-refuted
 refutes-returns-clause-refuted t c = λ e. refuted_by c.legal_listed.ensures c.args.k c.args.position.now c.in-Some.r (omega (arith, c.r.invariant)) (omega (arith, c.r.invariant))
     (sym c.is_legal.ensures ∙ c.if-not-is_legal.false) (ap (win c.args.k) (sym c.after.ensures) ∙ sym c.wins.ensures.found ∙ c.if-wins.false)
+
+pub wins_by_some-loop-m-init : goal.wins_by_some-loop-m-init
+wins_by_some-loop-m-init t c =
+    let moves : c.into_iter-m-iterator.result ≡ legal_moves c.args.position.now = c.into_iter-m-iterator.ensures.into_iter_gives ∙ c.legal_moves-m-items.ensures.moves in
+    record { any = rw moves refl; legal = rw moves (all_legal c.args.position.now); room = refl }

@@ -1,4 +1,4 @@
-use Rattle.std.proofs.Common.{◌≡◌, ◌+◌, ◌-◌, ◌*◌, ◌||◌, true, false, take, length}
+use Rattle.std.proofs.Common.{◌≡◌, ◌+◌, ◌-◌, ◌*◌, ◌||◌, true, false, length}
 use Rattle.std.specs.Prelude.{nat_lt}
 use Rattle.std.specs.List.{list_any, list_all}
 use Rattle.chess_board.specs.After.{after_setup}
@@ -17,8 +17,8 @@ decreases-wins_longer l = 8 * l.n + 2
 abbrev pub decreases-least_win : goal.decreases-least_win
 decreases-least_win l = 8 * l.n + 1
 
-abbrev pub decreases-wins_among : goal.decreases-wins_among
-decreases-wins_among l = 8 * l.n
+abbrev pub decreases-wins_by_some : goal.decreases-wins_by_some
+decreases-wins_by_some l = 8 * l.n
 
 abbrev pub decreases-loses : goal.decreases-loses
 decreases-loses l = 8 * l.k + 7
@@ -36,18 +36,19 @@ invariant-least_win-loop-k l = record {
   room : l.memo.room ≡ l.fn.memo.room;
 }
 
+-- no move so far wins
+abbrev pub invariant-wins_by_some-loop-m : goal.invariant-wins_by_some-loop-m
+invariant-wins_by_some-loop-m l = record {
+  any : list_any (leaves_lost (l.n - 1) l.position) l.m-iterator ≡ list_any (leaves_lost (l.n - 1) l.position) (legal_moves l.position);
+  legal : list_all (is_legal l.position) l.m-iterator ≡ true;
+  room : l.memo.room ≡ l.fn.memo.room;
+}
+
 -- each reply so far loses
 abbrev pub invariant-loses_each-loop-r : goal.invariant-loses_each-loop-r
 invariant-loses_each-loop-r l = record {
   all : list_all (λ r. win l.k (after_setup l.position r)) l.r-iterator ≡ list_all (λ r. win l.k (after_setup l.position r)) (legal_moves l.position);
   some : (l.moves || nat_lt 0 (length l.r-iterator)) ≡ has_legal_move l.position;
   legal : list_all (is_legal l.position) l.r-iterator ≡ true;
-  room : l.memo.room ≡ l.fn.memo.room;
-}
-
--- no move so far wins
-abbrev pub invariant-wins_among-loop-m : goal.invariant-wins_among-loop-m
-invariant-wins_among-loop-m l = record {
-  none : list_any (leaves_lost (l.n - 1) l.position) (take l.m-index l.first) ≡ false;
   room : l.memo.room ≡ l.fn.memo.room;
 }
