@@ -191,7 +191,7 @@ hits_by_kind taken by Queen a b = refl
 hits_by_kind taken by King a b = refl
 
 -- the five tests of a place say whether its man attacks
-place_by_kind : (taken : ℕ → Bool) (by : Colour) (place : Option Man) (a b : ℕ)
+pub place_by_kind : (taken : ℕ → Bool) (by : Colour) (place : Option Man) (a b : ℕ)
     → (is_one by is_pawn_kind place && leaps (capture_of by) a b || is_one by is_knight_kind place && leaps KnightLeap a b || is_one by is_diagonal_kind place && reaches_as_bishop taken a b
     || is_one by is_straight_kind place && reaches_as_rook taken a b || is_one by is_king_kind place && leaps KingStep a b)
     ≡ place_hits taken by place a b

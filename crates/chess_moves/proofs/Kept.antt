@@ -11,7 +11,7 @@ use Rattle.chess_moves.proofs.SetBits.{has_and}
 use Rattle.chess_moves.proofs.AnyLemmas.{any_same, any_or, any_none, any_at}
 
 -- the first of a set, and the rest
-any_first : (set rest : ℕ) (p : ℕ → Bool) (a : ℕ) → a < 64 → has set a ≡ true
+pub any_first : (set rest : ℕ) (p : ℕ → Bool) (a : ℕ) → a < 64 → has set a ≡ true
     → ((t : ℕ) → t < 64 → has rest t ≡ (not (eqb t a) && has set t))
     → any_below 64 (λ s. has set s && p s) ≡ (p a || any_below 64 (λ s. has rest s && p s))
 any_first set rest p a on there less =

@@ -32,7 +32,7 @@ abbrev pub king : Colour → Man
 king c = record { colour = c; kind = King }
 
 -- A king's step is no castling.
-step_is_near : (men : List (Option Man)) (c : Colour) (a b : ℕ) → attacks_as men c King a b ≡ true → eqb (file_gap a b) 2 ≡ false
+pub step_is_near : (men : List (Option Man)) (c : Colour) (a b : ℕ) → attacks_as men c King a b ≡ true → eqb (file_gap a b) 2 ≡ false
 step_is_near men c a b h = grind (arith, nat_tests)
 
 four_parts : (a b c d : Bool) → (a && b && c && d) ≡ true → (a ≡ true) × (b ≡ true) × (c ≡ true) × (d ≡ true)

@@ -54,3 +54,6 @@ pub mod Mates
 pub mod SpecialMoves
 pub mod SeenBack
 pub mod Narrowed
+pub mod AttackedSets
+pub mod EmptyLines
+pub mod FlightSquares

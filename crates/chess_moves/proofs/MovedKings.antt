@@ -31,7 +31,7 @@ king_of_scene scene p h = record {
 }
 
 -- What holds of the man that moved, of an empty square, and of what stood elsewhere, holds of each square after the move.
-there_after : (P : Option Man → Type 0) (men : List (Option Man)) (a b : ℕ) (man : Man) (s : ℕ) → length men ≡ 64 → s < 64
+pub there_after : (P : Option Man → Type 0) (men : List (Option Man)) (a b : ℕ) (man : Man) (s : ℕ) → length men ≡ 64 → s < 64
     → (s ≡ b → P (Some man)) → P None → (s ≢ a → s ≢ b → P (man_at men s)) → P (man_at (moved men a b man) s)
 there_after P men a b man s long on new gone old = elim (cases_eq s b) [
   | inl here ↦

@@ -74,35 +74,44 @@ all_narrowed f man o set targets (suc n) h =
     cases true false k = refl
     cases false t k = refl
 
--- Legal moves from a square to others than these give no check.
+-- Legal moves from a square to others than these give no check; they do not mate.
 abbrev pub AreCheckSquares : ℕ → Setup → ℕ → Type 0
 AreCheckSquares set p o = (m : Move) → is_legal p m ≡ true → m.origin ≡ o → m.target < 64 → has set m.target ≡ false → gives_check p m ≡ false
 
-module _ (p : Setup) (man : Man) (o set targets : ℕ) (checks : AreCheckSquares set p o) where
-  quiet : (m : Move) → is_legal p m ≡ true → m.origin ≡ o → m.target < 64 → has set m.target ≡ false → is_mate (after_setup p m) ≡ false
-  quiet m legal e t none = no_mate p m (checks m legal e t none)
+abbrev pub AreMateSquares : ℕ → Setup → ℕ → Type 0
+AreMateSquares set p o = (m : Move) → is_legal p m ≡ true → m.origin ≡ o → m.target < 64 → has set m.target ≡ false → is_mate (after_setup p m) ≡ false
 
-  -- A man that goes to none of them does not mate.
-  pub none_mates : (goals : ℕ) → man_at p.men o ≡ Some man → ((t : ℕ) → t < 64 → goes p man.colour man.kind o t ≡ true → has goals t ≡ true)
-      → bit_and set goals ≡ 0 → list_any (λ m. is_mate (after_setup p m)) (filter (is_legal p) (moves_to o 64)) ≡ false
-  none_mates goals there reached none = none_kept (λ m. is_mate (after_setup p m)) (is_legal p) (moves_to o 64) (λ m c legal.
+-- So only a move from the one to the other may mate.
+pub mate_squares : (p : Setup) (man : Man) (o checks goals : ℕ) → man_at p.men o ≡ Some man → AreCheckSquares checks p o
+    → ((t : ℕ) → t < 64 → goes p man.colour man.kind o t ≡ true → has goals t ≡ true) → AreMateSquares (bit_and checks goals) p o
+mate_squares p man o checks goals there check reached m legal at t_on out =
+    let by = played p m legal in
+    let here : man_at p.men m.origin ≡ Some man = ap (man_at p.men) at ∙ there in
+    let same : by.0 ≡ man = let is = by.1.there in cc in
+    let gone : goes p man.colour man.kind o m.target ≡ true = ap (λ s. goes p man.colour man.kind s m.target) (sym at)
+    ∙ ap (λ (x : Man). goes p x.colour x.kind m.origin m.target) (sym same) ∙ by.1.goes in
+    no_mate p m (check m legal at t_on (cases (has checks m.target) (has goals m.target) (sym (has_and checks goals m.target) ∙ out) (reached m.target t_on gone)))
+  where
+    cases : (x y : Bool) → (x && y) ≡ false → y ≡ true → x ≡ false
+    cases true true e f = e
+    cases true false e f = cc
+    cases false y e f = refl
+
+-- Fewer squares, where moves to those that were dropped do not mate.
+pub fewer_squares : (p : Setup) (o hopes set : ℕ) → AreMateSquares hopes p o
+    → ((m : Move) → is_legal p m ≡ true → m.origin ≡ o → m.target < 64 → has hopes m.target ≡ true → has set m.target ≡ false → is_mate (after_setup p m) ≡ false)
+    → AreMateSquares set p o
+fewer_squares p o hopes set all dropped m legal at t_on out = (elim (has hopes m.target) as (λ b. has hopes m.target ≡ b → is_mate (after_setup p m) ≡ false) [
+  | true ↦ λ e. dropped m legal at t_on e out
+  | false ↦ λ e. all m legal at t_on e
+]) refl
+
+module _ (p : Setup) (man : Man) (o set targets : ℕ) (quiet : AreMateSquares set p o) where
+  -- Where there are none, the man does not mate.
+  pub none_mates : set ≡ 0 → list_any (λ m. is_mate (after_setup p m)) (filter (is_legal p) (moves_to o 64)) ≡ false
+  none_mates none = none_kept (λ m. is_mate (after_setup p m)) (is_legal p) (moves_to o 64) (λ m c legal.
       let at = to_in o 64 m c in
-      let by = played p m legal in
-      let here : man_at p.men m.origin ≡ Some man = ap (man_at p.men) at.0 ∙ there in
-      let same : by.0 ≡ man = let is = by.1.there in cc in
-      let gone : goes p man.colour man.kind o m.target ≡ true = ap (λ s. goes p man.colour man.kind s m.target) (sym at.0)
-      ∙ ap (λ (x : Man). goes p x.colour x.kind m.origin m.target) (sym same) ∙ by.1.goes in
-      let on = reached m.target at.1 gone in
-      let off : (has set m.target && has goals m.target) ≡ false = sym (has_and set goals m.target) ∙ ap (λ s. has s m.target) none ∙ nothing m.target in
-      quiet m legal at.0 at.1 (cases (has set m.target) (has goals m.target) off on))
-    where
-      nothing : (t : ℕ) → has 0 t ≡ false
-      nothing t = has_none 0 t refl
-
-      cases : (x y : Bool) → (x && y) ≡ false → y ≡ true → x ≡ false
-      cases true true e f = e
-      cases true false e f = cc
-      cases false y e f = refl
+      quiet m legal at.0 at.1 (has_none set m.target none))
 
   -- It mates exactly where a move to one of them does.
   pub narrowed_mates : AreTargets targets p man o

@@ -15,7 +15,7 @@ use Rattle.chess_moves.specs.Hits.{is_hit}
 use Rattle.chess_moves.proofs.AnyLemmas.{any_none, any_at}
 use Rattle.chess_moves.proofs.Bridge.{attacked_same}
 
-count_by-cons : {X : Type 0} (p : X → Bool) (x : X) (xs : List X) → count_by p (x ∷ xs) ≡ cond (p x) 1 0 + count_by p xs
+pub count_by-cons : {X : Type 0} (p : X → Bool) (x : X) (xs : List X) → count_by p (x ∷ xs) ≡ cond (p x) 1 0 + count_by p xs
 count_by-cons p x xs = sum_by-cons (λ y. cond (p y) 1 0) x xs
 
 count_by_positive : {X : Type 0} (p : X → Bool) (xs : List X) (i : ℕ) (d : X) → i < length xs → p (get_or xs i d) ≡ true → 0 < count_by p xs
@@ -44,7 +44,7 @@ king_found : (men : List (Option Man)) (c : Colour) (square : ℕ) → man_at me
 king_found men White square h = rw h refl
 king_found men Black square h = rw h refl
 
-one_king : (men : List (Option Man)) (c : Colour) → HasOneKingEach men → count_by (is_king_of c) men ≡ 1
+pub one_king : (men : List (Option Man)) (c : Colour) → HasOneKingEach men → count_by (is_king_of c) men ≡ 1
 one_king men White kings = kings.0
 one_king men Black kings = kings.1
 

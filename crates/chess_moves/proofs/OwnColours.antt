@@ -1,11 +1,11 @@
 -- A side's own men, and those of the other side.
-use Rattle.std.proofs.Common.{◌≡◌, ℕ, true, false, ◌&&◌, Option, Some, None, refl}
+use Rattle.std.proofs.Common.{◌≡◌, ℕ, true, false, not, ◌&&◌, Option, Some, None, is_some, refl}
 use Rattle.std.proofs.lemmas.Bool.{and_parts}
 use Rattle.chess_board.specs.declared.men.Colour.{Colour}
 use Rattle.chess_board.specs.declared.men.Colour.TheVariants.{White, Black}
 use Rattle.chess_board.specs.declared.men.Man.{Man}
-use Rattle.chess_board.specs.declared.men.Kind.TheVariants.{Rook}
-use Rattle.chess_board.specs.Men.{other_side, is_colour, is_kind, is_of}
+use Rattle.chess_board.specs.declared.men.Kind.TheVariants.{Rook, King}
+use Rattle.chess_board.specs.Men.{other_side, is_colour, is_kind, is_of, man_of}
 use Rattle.chess_board.specs.KindTests.{is_king_kind, is_king_of, is_rook_of}
 use Rattle.chess_board.specs.Positions.{Setup, man_at}
 
@@ -46,3 +46,19 @@ own_rook_not_other c (Some man) h = own_is_not_other c man.colour ((and_parts (i
 -- A man that is no king is not the colour's king.
 pub no_king_of : (c : Colour) (man : Man) → is_king_kind man.kind ≡ false → is_king_of c (Some man) ≡ false
 no_king_of c man h = (elim (is_colour c man.colour) as (λ b. (b && is_king_kind man.kind) ≡ false) [ true ↦ h | false ↦ refl ])
+
+-- the other side's king is no man of this side
+pub not_of_other : (c : Colour) → is_of c (man_of (other_side c) King) ≡ false
+not_of_other White = refl
+not_of_other Black = refl
+
+-- a square with no man, or with one of this side, has none of the other
+pub free_of_other : (c : Colour) (place : Option Man) → not (is_some place && not (is_of c place)) ≡ true → is_of (other_side c) place ≡ false
+free_of_other c None h = refl
+free_of_other c (Some man) h = of_colour c man.colour h
+  where
+    of_colour : (c d : Colour) → not (not (is_colour c d)) ≡ true → is_colour (other_side c) d ≡ false
+    of_colour White White h = refl
+    of_colour White Black h = absurd (cc)
+    of_colour Black White h = absurd (cc)
+    of_colour Black Black h = refl

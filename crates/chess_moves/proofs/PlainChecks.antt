@@ -50,7 +50,7 @@ each_moved men o t man len o_on t_on P came gone stayed s s_on =
 man_came : (men : List (Option Man)) (o t : ℕ) (man : Man) → length men ≡ 64 → t < 64 → man_at (moved men o t man) t ≡ Some man
 man_came men o t man len on = let inside : t < length (set men o None) = simp length-set (omega arith) in rw get_or-set_same refl
 
-man_stayed : (men : List (Option Man)) (o t s : ℕ) (man : Man) → s ≢ t → s ≢ o → man_at (moved men o t man) s ≡ man_at men s
+pub man_stayed : (men : List (Option Man)) (o t s : ℕ) (man : Man) → s ≢ t → s ≢ o → man_at (moved men o t man) s ≡ man_at men s
 man_stayed men o t s man apart other = rw get_or-set_other (rw get_or-set_other refl)
 
 -- A man leaves o: at most that square is left.
@@ -117,7 +117,7 @@ hit_placed men t man len t_on by k own safe =
     ]) refl
 
 -- Where k was safe, a man that leaves a square from which a queen would not attack k opens no line to it, and attacks as before.
-hidden_lifted : (men : List (Option Man)) (o : ℕ) → length men ≡ 64 → o < 64 → (by : Colour) (k : ℕ)
+pub hidden_lifted : (men : List (Option Man)) (o : ℕ) → length men ≡ 64 → o < 64 → (by : Colour) (k : ℕ)
     → hits_as (λ s. is_taken men s) by Queen o k ≡ false → is_hit men k by ≡ false
     → (is_hit (set men o None) k by ≡ false) × ((man : Man) (t : ℕ) → is_colour by man.colour ≡ true
     → hits_as (λ s. is_taken (set men o None) s) by man.kind t k ≡ hits_as (λ s. is_taken men s) by man.kind t k)
@@ -157,17 +157,17 @@ not_itself taken c Queen k =
     let r = reached_self taken in rw (r NorthEast k, r SouthEast k, r SouthWest k, r NorthWest k, r North k, r East k, r South k, r West k)
 not_itself taken c King k = rw (eq-eqb k k refl)
 
-side_back : (c : Colour) → other_side (other_side c) ≡ c
+pub side_back : (c : Colour) → other_side (other_side c) ≡ c
 side_back White = refl
 side_back Black = refl
 
-colour_back : (a b : Colour) → is_colour a b ≡ true → is_colour b a ≡ true
+pub colour_back : (a b : Colour) → is_colour a b ≡ true → is_colour b a ≡ true
 colour_back White White h = refl
 colour_back White Black h = h
 colour_back Black White h = h
 colour_back Black Black h = refl
 
-other_colour : (by c : Colour) → is_colour by c ≡ true → is_colour (other_side by) c ≡ false
+pub other_colour : (by c : Colour) → is_colour by c ≡ true → is_colour (other_side by) c ≡ false
 other_colour White White h = refl
 other_colour White Black h = absurd (cc)
 other_colour Black White h = absurd (cc)
@@ -220,7 +220,7 @@ not_promoted man None h = refl
 not_promoted man (Some asked) h = absurd (cc)
 
 -- A move that is not special takes its man from one square to another.
-plainly : (p : Setup) (man : Man) (m : Move) → is_special p man m ≡ false → men_after p man m ≡ moved p.men m.origin m.target man
+pub plainly : (p : Setup) (man : Man) (m : Move) → is_special p man m ≡ false → men_after p man m ≡ moved p.men m.origin m.target man
 plainly p man m plain =
     let x = or_parts (is_some m.promotion || is_in_passing p man m) (is_castling man m) plain in
     let y = or_parts (is_some m.promotion) (is_in_passing p man m) x.0 in

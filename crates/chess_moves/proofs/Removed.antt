@@ -29,7 +29,7 @@ same_test false false f g = refl
 hidden_by : (taken : ℕ → Bool) (d : Direction) (o k : ℕ) → reaches taken d o k ≡ false → toward d o k ≡ true → is_blocked taken d o k ≡ true
 hidden_by taken d o k none line = true_from_ne_false (is_blocked taken d o k) (λ f. let seen : reaches taken d o k ≡ true = rw (line, f) in cc)
 
-four_none : (p q r s : Bool) → (p || q || r || s) ≡ false → (p ≡ false) × (q ≡ false) × (r ≡ false) × (s ≡ false)
+pub four_none : (p q r s : Bool) → (p || q || r || s) ≡ false → (p ≡ false) × (q ≡ false) × (r ≡ false) × (s ≡ false)
 four_none true q r s h = absurd (cc)
 four_none false true r s h = absurd (cc)
 four_none false false true s h = absurd (cc)

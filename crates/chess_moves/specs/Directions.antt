@@ -64,6 +64,13 @@ is_rising SouthWest = false
 is_rising West = false
 is_rising NorthWest = true
 
+-- b lies on a diagonal of a, and on its file or its rank
+unfoldable pub is_on_diagonal : ℕ → ℕ → Bool
+is_on_diagonal a b = toward NorthEast a b || toward SouthEast a b || toward SouthWest a b || toward NorthWest a b
+
+unfoldable pub is_on_straight : ℕ → ℕ → Bool
+is_on_straight a b = toward North a b || toward East a b || toward South a b || toward West a b
+
 -- Some square strictly between a and b in this direction is taken.
 abbrev pub is_blocked : (ℕ → Bool) → Direction → ℕ → ℕ → Bool
 is_blocked taken d a b = some_square (λ s. toward d a s && toward d s b && taken s)

@@ -10,6 +10,7 @@ pub mod Walking
 pub mod Verdicts
 pub mod Checks
 pub mod Sights
+pub mod Flights
 pub mod Plays
 pub mod Laws
 pub mod Shifts

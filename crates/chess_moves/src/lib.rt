@@ -6,15 +6,17 @@
 //!
 //! To read: `specs/Listing.antt`; `directions`, `rays` and `forces` (what is seen and attacked), `scenes`, `candidates` and `guards`
 //! (where a man goes, and where it leaves its king safe), `targets`; then `walking`, `listing`, `pawns`, `counting`, `judging` and
-//! `plays`; `sights`, `checking` and `mating`. `laws` says what the lists hold in words that do not speak of how they are made. No
-//! call takes memory.
+//! `plays`; `sights` and `checking`; `attacked_sets`, `flights` and `mating`. `laws` says what the lists hold in words that do not
+//! speak of how they are made. No call takes memory.
 #![tactic(auto)]
 
+mod attacked_sets;
 mod attacking;
 mod candidates;
 mod checking;
 mod counting;
 mod directions;
+mod flights;
 mod forces;
 mod guards;
 mod judging;
@@ -42,5 +44,7 @@ pub use rays::{Rays, rays_in_order};
 pub use verdicts::Verdict;
 pub use walking::{LegalMoves, legal_moves};
 
+#[cfg(test)]
+mod random_games;
 #[cfg(test)]
 mod tests;

@@ -1,6 +1,6 @@
 //! Whether a legal move mates.
 
-ghost use Rattle.std.specs.Prelude.{◌≡◌, ℕ, ◌<◌, true, Some, filter};
+ghost use Rattle.std.specs.Prelude.{◌≡◌, ℕ, ◌<◌, true, Some, IfSome, filter};
 ghost use Rattle.std.specs.List.{list_any};
 ghost use Rattle.square_sets.specs.Members.{has};
 ghost use Rattle.chess_board.specs.After.{after_setup};
@@ -8,12 +8,14 @@ ghost use Rattle.chess_board.specs.Candidates.{goes};
 ghost use Rattle.chess_board.specs.Legality.{is_legal};
 ghost use Rattle.chess_board.specs.Men.{is_of};
 ghost use Rattle.chess_board.specs.Positions.{man_at};
+ghost use Rattle.chess_moves.specs.Flights.{AreFlightsOf};
 ghost use Rattle.chess_moves.specs.Listing.{moves_to};
 ghost use Rattle.chess_moves.specs.Scenes.{IsSceneOf};
 ghost use Rattle.chess_moves.specs.Sights.{IsSightsOf};
 ghost use Rattle.chess_moves.specs.Verdicts.{is_mate, has_mating_move as some_move_mates};
 
 use crate::candidates::{castling_targets, passing_targets, pawn_targets, piece_targets};
+use crate::flights::{Flights, flights_once, squares_that_cover};
 use crate::judging::is_mated;
 use crate::movers::own_man;
 use crate::rays::Rays;
@@ -29,11 +31,12 @@ pub fn has_mating_move(rays: &Rays, position: &Position) -> bool
 {
     let scene = scene_of(rays, position);
     let sights = sights_of(rays, position);
+    let mut flights = None;
     let mut origins = scene.own;
     while origins != 0 {
         let origin = origins.trailing_zeros() as u8;
         origins &= !(1 << origin);
-        if man_mates(rays, position, &scene, &sights, origin) {
+        if man_mates(rays, position, &scene, &sights, &mut flights, origin) {
             return true;
         }
     }
@@ -41,17 +44,32 @@ pub fn has_mating_move(rays: &Rays, position: &Position) -> bool
 }
 
 /// Whether a legal move of the man of the side to move on a square mates. Where it goes to no square from which it may give
-/// check, its king's safety is not asked about.
-fn man_mates(rays: &Rays, position: &Position, scene: &Scene, sights: &Sights, origin: u8) -> bool
+/// check, the flights of the other king are not asked about; where it goes to none that may cover them, its king's safety is not.
+fn man_mates(
+    rays: &Rays,
+    position: &Position,
+    scene: &Scene,
+    sights: &Sights,
+    flights: &mut Option<Flights>,
+    origin: u8,
+) -> bool
     requires on_board { origin < 64 }
     requires scene { IsSceneOf scene.now position.now }
     requires sights { IsSightsOf sights.now position.now }
+    requires flights { IfSome flights.old (λ f. AreFlightsOf f position.now) }
     requires own { is_of position.now.side (man_at position.now.men origin) ≡ true }
-    ensures { result ≡ list_any (λ m. is_mate (after_setup position.now m)) (filter (is_legal position.now) (moves_to origin 64)) }
+    ensures mates { result ≡ list_any (λ m. is_mate (after_setup position.now m)) (filter (is_legal position.now) (moves_to origin 64)) }
+    ensures flights { IfSome flights.new (λ f. AreFlightsOf f position.now) }
 {
     let man = own_man(position, origin);
-    let squares = check_squares(rays, position, scene, sights, man, origin);
-    if squares & goals_of(rays, position, scene, man, origin) == 0 {
+    let hopes = check_squares(rays, position, scene, sights, man, origin)
+        & goals_of(rays, position, scene, man, origin);
+    if hopes == 0 {
+        return false;
+    }
+    let known = flights_once(rays, position, scene, flights);
+    let squares = squares_that_cover(rays, position, scene, known, man, origin, hopes);
+    if squares == 0 {
         return false;
     }
     let targets = squares & targets_from(rays, position, scene, man, origin);

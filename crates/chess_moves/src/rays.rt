@@ -3,7 +3,7 @@
 ghost use Rattle.std.specs.Prelude.{◌≡◌, ℕ, ◌<◌};
 ghost use Rattle.square_sets.specs.Members.{has};
 ghost use Rattle.chess_board.specs.Squares.{gap};
-ghost use Rattle.chess_moves.specs.Directions.{toward, reaches, reaches_as_bishop, reaches_as_rook, stands_between, RaysInOrder};
+ghost use Rattle.chess_moves.specs.Directions.{toward, reaches, reaches_as_bishop, reaches_as_rook, is_on_diagonal, is_on_straight, stands_between, RaysInOrder};
 ghost use Rattle.chess_moves.specs.Leaps.{leaps};
 ghost use Rattle.chess_moves.specs.Rays.{AreRaysFrom, AreLeapsFrom, AreRays};
 
@@ -205,6 +205,28 @@ impl Rays {
             | self.reach(square, Direction::East, occupied)
             | self.reach(square, Direction::South, occupied)
             | self.reach(square, Direction::West, occupied)
+    }
+
+    /// The squares on the diagonals of a square.
+    pub(crate) fn diagonals(&self, square: u8) -> u64
+        requires { square < 64 }
+        ensures { (t : ℕ) → t < 64 → has result t ≡ is_on_diagonal square t }
+    {
+        self.ray(square, Direction::NorthEast)
+            | self.ray(square, Direction::SouthEast)
+            | self.ray(square, Direction::SouthWest)
+            | self.ray(square, Direction::NorthWest)
+    }
+
+    /// The squares on the file and the rank of a square.
+    pub(crate) fn straights(&self, square: u8) -> u64
+        requires { square < 64 }
+        ensures { (t : ℕ) → t < 64 → has result t ≡ is_on_straight square t }
+    {
+        self.ray(square, Direction::North)
+            | self.ray(square, Direction::East)
+            | self.ray(square, Direction::South)
+            | self.ray(square, Direction::West)
     }
 
     /// The squares strictly between two squares of one line, or none.

@@ -119,7 +119,7 @@ pub(crate) fn check_squares(
 }
 
 /// The squares to which a man's special moves go.
-fn special_squares(rays: &Rays, position: &Position, scene: &Scene, man: Man) -> u64
+pub(crate) fn special_squares(rays: &Rays, position: &Position, scene: &Scene, man: Man) -> u64
     requires scene { IsSceneOf scene.now position.now }
     ensures { (m : MoveValue) → is_legal position.now m ≡ true → man_at position.now.men m.origin ≡ Some man → m.origin < 64
         → m.target < 64 → has result m.target ≡ false → is_special_move position.now man m ≡ false }

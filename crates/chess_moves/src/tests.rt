@@ -12,7 +12,7 @@ use std::test::Fail;
 /// The position before the first move.
 const INITIAL: &str = "rnbqkbnr/pppppppp/8/8/8/8/PPPPPPPP/RNBQKBNR w KQkq - 0 1";
 
-fn position_of(text: &str) -> Result<Position, Fail> {
+pub(crate) fn position_of(text: &str) -> Result<Position, Fail> {
     Ok(read_fen(text.as_bytes())?.position)
 }
 
@@ -214,7 +214,7 @@ fn check_between(
 }
 
 /// Refuses where the moves of a position are not those of all moves of the board that are legal one by one.
-fn check_moves(rt: &impl Abort, rays: &Rays, position: &Position) {
+pub(crate) fn check_moves(rt: &impl Abort, rays: &Rays, position: &Position) {
     let list = legal(rays, position);
     let mut to_come = ToCome {
         listed: list.as_slice().iter(),
@@ -239,7 +239,7 @@ fn check_moves(rt: &impl Abort, rays: &Rays, position: &Position) {
 }
 
 /// Refuses where the moves that give check, or whether one mates, are not told as by playing each.
-fn check_checks(rt: &impl Abort, rays: &Rays, position: &Position) {
+pub(crate) fn check_checks(rt: &impl Abort, rays: &Rays, position: &Position) {
     let list = checks(rays, position);
     let mut listed = list.as_slice().iter();
     let mut mates = false;
@@ -271,7 +271,7 @@ fn check_attacks(rt: &impl Abort, rays: &Rays, position: &Position) {
 }
 
 /// Checks a position and those after each of its moves.
-fn check_replies(rt: &impl Abort, rays: &Rays, position: &Position) {
+pub(crate) fn check_replies(rt: &impl Abort, rays: &Rays, position: &Position) {
     check_moves(rt, rays, position);
     for m in legal_moves(rays, position) {
         if chess_board::is_legal(position, m) {

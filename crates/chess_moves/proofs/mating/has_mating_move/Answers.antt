@@ -20,6 +20,7 @@ loop-origins-init c =
     record {
       any = ap (list_any (λ m. is_mate (after_setup p m))) (sym (legal_of_men p c.scene_of-scene.result.own h.own));
       own = own_all p c.scene_of-scene.result.own h.own;
+      flights = tt;
     }
 
 pub man_mates-requires-clause-own : goal.man_mates-requires-clause-own
@@ -32,7 +33,7 @@ returns-then-man_mates c =
     let o = trailing_zeros w64 c.loop-origins.origins in
     let first = ap (list_any (λ m. is_mate (after_setup p m))) (first_man p c.loop-origins.origins (omega arith) (omega arith))
     ∙ list_any-append (λ m. is_mate (after_setup p m)) (filter (is_legal p) (moves_to o 64)) (moves_of_men p (members (clear c.loop-origins.origins o))) in
-    let found = sym c.man_mates.ensures ∙ c.if-man_mates.true in
+    let found = sym c.man_mates.ensures.mates ∙ c.if-man_mates.true in
     sym (sym c.loop-origins.invariant.any ∙ first ∙ ap (λ x. x || list_any (λ m. is_mate (after_setup p m)) (moves_of_men p (members (clear c.loop-origins.origins o)))) found)
 
 pub loop-origins-smaller : goal.loop-origins-smaller
@@ -45,10 +46,11 @@ loop-origins-preserved c =
     let on_board = bit_at-trailing_zeros w64 c.loop-origins.origins (omega arith) (omega arith) in
     let first = ap (list_any (λ m. is_mate (after_setup p m))) (first_man p c.loop-origins.origins (omega arith) (omega arith))
     ∙ list_any-append (λ m. is_mate (after_setup p m)) (filter (is_legal p) (moves_to o 64)) (moves_of_men p (members (clear c.loop-origins.origins o))) in
-    let none = sym c.man_mates.ensures ∙ c.if-man_mates.false in
+    let none = sym c.man_mates.ensures.mates ∙ c.if-man_mates.false in
     record {
       any = sym (ap (λ x. x || list_any (λ m. is_mate (after_setup p m)) (moves_of_men p (members (clear c.loop-origins.origins o)))) none) ∙ sym first ∙ c.loop-origins.invariant.any;
       own = own_others p c.loop-origins.origins o on_board.0 c.loop-origins.invariant.own;
+      flights = c.man_mates.ensures.flights;
     }
 
 pub returns : goal.returns

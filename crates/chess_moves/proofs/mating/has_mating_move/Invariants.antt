@@ -1,6 +1,8 @@
 use Rattle.std.proofs.Common.{◌≡◌}
 use Rattle.std.specs.List.{list_any}
 use Rattle.chess_board.specs.After.{after_setup}
+use Rattle.std.specs.Option.{IfSome}
+use Rattle.chess_moves.specs.Flights.{AreFlightsOf}
 use Rattle.chess_moves.specs.Listing.{legal_moves}
 use Rattle.chess_moves.specs.Verdicts.{is_mate}
 use Rattle.chess_moves.specs.Walking.{members, moves_of_men, HaveOwnMen}
@@ -11,6 +13,7 @@ abbrev pub invariant-loop-origins : goal.invariant-loop-origins
 invariant-loop-origins l = record {
   any : list_any (λ m. is_mate (after_setup l.position m)) (moves_of_men l.position (members l.origins)) ≡ list_any (λ m. is_mate (after_setup l.position m)) (legal_moves l.position);
   own : HaveOwnMen l.origins l.position;
+  flights : IfSome l.flights (λ f. AreFlightsOf f l.position);
 }
 
 abbrev pub decreases-loop-origins : goal.decreases-loop-origins

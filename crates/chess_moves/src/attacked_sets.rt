@@ -1,0 +1,70 @@
+//! All squares that a side attacks, as one set.
+
+ghost use Rattle.std.specs.Prelude.{◌≡◌, ℕ, ◌<◌, ◌&&◌, List, Option, is_some};
+ghost use Rattle.square_sets.specs.Members.{has};
+ghost use Rattle.chess_board.specs.declared.men.Man.{Man as ManValue};
+ghost use Rattle.chess_board.specs.Sets.{IsSetOf};
+ghost use Rattle.chess_board.specs.Squares.{some_square};
+ghost use Rattle.chess_moves.specs.Directions.{reaches_as_bishop, reaches_as_rook};
+ghost use Rattle.chess_moves.specs.Forces.{StandFor};
+ghost use Rattle.chess_moves.specs.Hits.{is_hit};
+ghost use Rattle.chess_moves.specs.Leaps.{leaps};
+
+use crate::directions::Leap;
+use crate::forces::Force;
+use crate::rays::Rays;
+use chess_board::Colour;
+
+/// The squares that men of a colour attack, on whatever board these sets stand for.
+pub(crate) fn attacked_squares(rays: &Rays, occupied: u64, force: &Force, by: Colour) -> u64
+    ensures { (men : List (Option ManValue)) → IsSetOf occupied is_some men → StandFor force.now by men
+        → (t : ℕ) → t < 64 → has result t ≡ is_hit men t by }
+{
+    leapt_to(rays, force.pawns, Leap::capture_of(by))
+        | leapt_to(rays, force.knights, Leap::KnightLeap)
+        | seen_by_bishops(rays, force.diagonal, occupied)
+        | seen_by_rooks(rays, force.straight, occupied)
+        | leapt_to(rays, force.king, Leap::KingStep)
+}
+
+/// The squares to which a leap goes from one of these.
+fn leapt_to(rays: &Rays, from: u64, leap: Leap) -> u64
+    ensures { (t : ℕ) → t < 64 → has result t ≡ some_square (λ a. has from a && leaps leap a t) }
+{
+    let mut set = 0;
+    let mut rest = from;
+    while rest != 0 {
+        let a = rest.trailing_zeros();
+        rest &= !(1 << a);
+        set |= rays.leap(a as u8, leap);
+    }
+    set
+}
+
+/// The squares that bishops on these see.
+fn seen_by_bishops(rays: &Rays, from: u64, occupied: u64) -> u64
+    ensures { (t : ℕ) → t < 64 → has result t ≡ some_square (λ a. has from a && reaches_as_bishop (has occupied) a t) }
+{
+    let mut set = 0;
+    let mut rest = from;
+    while rest != 0 {
+        let a = rest.trailing_zeros();
+        rest &= !(1 << a);
+        set |= rays.bishop_reach(a as u8, occupied);
+    }
+    set
+}
+
+/// The squares that rooks on these see.
+fn seen_by_rooks(rays: &Rays, from: u64, occupied: u64) -> u64
+    ensures { (t : ℕ) → t < 64 → has result t ≡ some_square (λ a. has from a && reaches_as_rook (has occupied) a t) }
+{
+    let mut set = 0;
+    let mut rest = from;
+    while rest != 0 {
+        let a = rest.trailing_zeros();
+        rest &= !(1 << a);
+        set |= rays.rook_reach(a as u8, occupied);
+    }
+    set
+}

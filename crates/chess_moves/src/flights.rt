@@ -1,0 +1,141 @@
+//! The flights of the king of the side that is not to move: a move that leaves one of them does not mate.
+
+ghost use Rattle.std.specs.Prelude.{◌≡◌, ℕ, ◌<◌, Bool, true, false, Some, IfSome};
+ghost use Rattle.square_sets.specs.Members.{has};
+ghost use Rattle.chess_board.specs.After.{after_setup};
+ghost use Rattle.chess_board.specs.Legality.{is_legal};
+ghost use Rattle.chess_board.specs.Moves.{Move as MoveValue};
+ghost use Rattle.chess_board.specs.Positions.{man_at};
+ghost use Rattle.chess_moves.specs.Flights.{AreFlightsOf, leaves_flight};
+ghost use Rattle.chess_moves.specs.Hits.{hits_as};
+ghost use Rattle.chess_moves.specs.Scenes.{IsSceneOf};
+ghost use Rattle.chess_moves.specs.Verdicts.{is_mate};
+
+use crate::attacked_sets::attacked_squares;
+use crate::directions::Leap;
+use crate::forces::{force_of, is_hit_over};
+use crate::guards::without;
+use crate::rays::Rays;
+use crate::scenes::Scene;
+use crate::sights::special_squares;
+use chess_board::{Colour, Kind, Man, Position, sound_after};
+
+/// The king of the side that is not to move, and its flights: the squares beside it that hold none of its own men and that nobody
+/// attacks once it is lifted off the board.
+#[derive(Clone, Copy, Debug)]
+pub(crate) struct Flights {
+    pub king: u8,
+    pub squares: u64,
+}
+
+/// The flights of a position, found at the first question about them.
+pub(crate) fn flights_once(
+    rays: &Rays,
+    position: &Position,
+    scene: &Scene,
+    found: &mut Option<Flights>,
+) -> Flights
+    requires scene { IsSceneOf scene.now position.now }
+    requires found { IfSome found.old (λ f. AreFlightsOf f position.now) }
+    ensures flights { AreFlightsOf result position.now }
+    ensures found { IfSome found.new (λ f. AreFlightsOf f position.now) }
+{
+    match *found {
+        Some(flights) => flights,
+        None => {
+            let flights = flights_of(rays, position, scene);
+            *found = Some(flights);
+            flights
+        }
+    }
+}
+
+/// The flights of a position.
+fn flights_of(rays: &Rays, position: &Position, scene: &Scene) -> Flights
+    requires scene { IsSceneOf scene.now position.now }
+    ensures { AreFlightsOf result position.now }
+{
+    let side = scene.side;
+    let king = position.king(side.other()).index() as u8;
+    let lifted = square_sets::without(scene.occupied, king);
+    let attacked = attacked_squares(rays, lifted, &force_of(position, side), side);
+    let enemies = scene.occupied & !scene.own;
+    Flights {
+        king,
+        squares: rays.leap(king, Leap::KingStep) & !enemies & !attacked,
+    }
+}
+
+/// Of these squares those to which a man's legal move may mate: it attacks each flight from there, opens a line, or is special.
+pub(crate) fn squares_that_cover(
+    rays: &Rays,
+    position: &Position,
+    scene: &Scene,
+    flights: Flights,
+    man: Man,
+    origin: u8,
+    hopes: u64,
+) -> u64
+    requires on_board { origin < 64 }
+    requires scene { IsSceneOf scene.now position.now }
+    requires flights { AreFlightsOf flights position.now }
+    requires there { man_at position.now.men origin ≡ Some man }
+    ensures { (m : MoveValue) → is_legal position.now m ≡ true → m.origin ≡ origin → m.target < 64 → has hopes m.target ≡ true
+        → has result m.target ≡ false → is_mate (after_setup position.now m) ≡ false }
+{
+    // That a legal move leaves a sound position is this law.
+    sound_after();
+    let special = special_squares(rays, position, scene, man);
+    let mut covering = hopes;
+    let mut rest = flights.squares;
+    while rest != 0 && covering != 0 {
+        let flight = rest.trailing_zeros() as u8;
+        rest &= !(1 << flight);
+        covering &= special | squares_covering(rays, position, scene, flights, man, origin, flight);
+    }
+    covering
+}
+
+/// The squares from which a man may attack a flight once it moved: all where it opens a line to it.
+fn squares_covering(
+    rays: &Rays,
+    position: &Position,
+    scene: &Scene,
+    flights: Flights,
+    man: Man,
+    origin: u8,
+    flight: u8,
+) -> u64
+    requires on_board { (origin < 64) × (flight < 64) }
+    requires scene { IsSceneOf scene.now position.now }
+    requires flights { AreFlightsOf flights position.now }
+    requires flight { has flights.squares flight ≡ true }
+    ensures { (t : ℕ) → t < 64 → has result t ≡ false → leaves_flight position.now flights.king origin man.kind t flight ≡ true }
+{
+    let side = scene.side;
+    let lines = lines_to(rays, Kind::Queen, side, flight);
+    if square_sets::contains(lines, origin) {
+        let lifted = square_sets::without(scene.occupied, flights.king);
+        let gone = square_sets::without(lifted, origin);
+        let others = without(&force_of(position, side), origin);
+        if is_hit_over(rays, gone, &others, side, flight) {
+            return u64::MAX;
+        }
+    }
+    lines_to(rays, man.kind, side, flight)
+}
+
+/// The squares from which a man of a kind would attack a square on an empty board.
+fn lines_to(rays: &Rays, kind: Kind, colour: Colour, square: u8) -> u64
+    requires { square < 64 }
+    ensures { (taken : ℕ → Bool) (t : ℕ) → t < 64 → has result t ≡ false → hits_as taken colour kind t square ≡ false }
+{
+    match kind {
+        Kind::Pawn => rays.leap(square, Leap::capture_back(colour)),
+        Kind::Knight => rays.leap(square, Leap::KnightLeap),
+        Kind::Bishop => rays.diagonals(square),
+        Kind::Rook => rays.straights(square),
+        Kind::Queen => rays.diagonals(square) | rays.straights(square),
+        Kind::King => rays.leap(square, Leap::KingStep),
+    }
+}
