@@ -1,0 +1,2 @@
+pub mod LetterCounts
+pub mod RingEnds

@@ -1,0 +1,4 @@
+pub mod Letters
+pub mod Lines
+pub mod WindowFaults
+pub mod Windows
