@@ -1,5 +1,5 @@
 -- Letters are counted over two lists one after the other.
-use Rattle.std.proofs.Common.{◌≡◌, ◌≤◌, ◌+◌, nat_lt, Bool, true, false, if◌then◌else◌, List, [], ◌∷◌, ◌++◌, length, refl, ap, arith}
+use Rattle.std.proofs.Common.{◌≡◌, ◌<◌, ◌≤◌, ◌+◌, nat_lt, Bool, true, false, if◌then◌else◌, List, [], ◌∷◌, ◌++◌, length, refl, ap, arith}
 use Rattle.std.proofs.lemmas.Bool.Decides.{nat_tests}
 use Rattle.desk_room.specs.Letters.{records, farewells}
 use Rattle.desk_room.specs.declared.letters.Letter.{Letter}
@@ -32,3 +32,10 @@ records_few (Farewell ∷ xs) = omega (arith, records_few xs)
 pub is_said : (xs : List Letter) (said : Bool) → farewells xs ≡ (if said then 1 else 0) → nat_lt 0 (farewells xs) ≡ said
 is_said xs true e = grind (arith, nat_tests, e)
 is_said xs false e = grind (arith, nat_tests, e)
+
+-- whether a farewell is among the letters, with one more
+pub still_said : (xs : List Letter) (x : Letter) → farewells (x ∷ []) ≡ 0 → nat_lt 0 (farewells (xs ++ x ∷ [])) ≡ nat_lt 0 (farewells xs)
+still_said xs x e = ap (nat_lt 0) (omega (arith, e, farewells_count xs (x ∷ [])))
+
+pub now_said : (xs : List Letter) → nat_lt 0 (farewells (xs ++ Farewell ∷ [])) ≡ true
+now_said xs = let e : 0 < farewells (xs ++ Farewell ∷ []) = omega (arith, farewells_count xs (Farewell ∷ [])) in grind (arith, nat_tests, e)

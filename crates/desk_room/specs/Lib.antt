@@ -1,4 +1,16 @@
+pub mod Benches
+pub mod Dealing
 pub mod Letters
+pub mod Deliveries
+pub mod Withdrawals
+pub mod Events
+pub mod Kept
+pub mod Passes
+pub mod Turns
 pub mod Lines
 pub mod WindowFaults
 pub mod Windows
+pub mod Orders
+pub mod Keepers
+pub mod Steps
+pub mod Opening

@@ -1,8 +1,8 @@
 //! The keeper's ends of one window's rings.
 
-ghost use Rattle.std.specs.Prelude.{◌≡◌, ◌≤◌, length};
+ghost use Rattle.std.specs.Prelude.{◌≡◌, ◌≤◌, nat_lt, length};
 ghost use Rattle.rtrb.specs.Ring.{received, consumer_capacity, producer_capacity};
-ghost use Rattle.desk_room.specs.Letters.{records};
+ghost use Rattle.desk_room.specs.Letters.{records, farewells};
 
 use crate::letters::Letter;
 use mate_desk::Delivery;
@@ -16,7 +16,10 @@ pub(crate) struct Line {
     pub(crate) ring: usize,
     // The records among the letters taken.
     pub(crate) taken: u64,
+    // A farewell is among the letters taken.
+    pub(crate) gone: bool,
     ghost counted: { taken ≡ length (records (received letters)) },
+    ghost said: { gone ≡ nat_lt 0 (farewells (received letters)) },
     ghost letter_places: { consumer_capacity letters ≡ ring },
     ghost answer_places: { producer_capacity answers ≡ ring },
     ghost small: { ring ≤ 64 },
@@ -42,7 +45,7 @@ impl Line {
     }
 
     /// Takes the first of the letters that are known to lie in the record ring.
-    #[tactic(auto, using(crate::proofs::LetterCounts::records_count))]
+    #[tactic(auto, using(crate::proofs::LetterCounts::records_count, crate::proofs::LetterCounts::farewells_count, crate::proofs::LetterCounts::still_said, crate::proofs::LetterCounts::now_said))]
     pub(crate) fn take_known(&mut self) -> Letter
         requires known { 0 < length (letters_known self.old) }
         requires few { length (records (letters_taken self.old)) < 2 ^ 64 - 1 }
@@ -53,8 +56,10 @@ impl Line {
         ensures free { places_free self.new ≡ places_free self.old }
     {
         let letter = self.letters.pop_known();
-        if let Letter::Record(_) = &letter {
-            self.taken += 1;
+        match &letter {
+            Letter::Record(_) => self.taken += 1,
+            Letter::Withdrawal(_) => {}
+            Letter::Farewell => self.gone = true,
         }
         letter
     }

@@ -55,6 +55,7 @@ pub(crate) fn open_line(
         answers,
         ring,
         taken: 0,
+        gone: false,
     };
     Ok((window, line))
 }

@@ -1,6 +1,6 @@
 //! The desk.
 
-ghost use Rattle.std.specs.Prelude.{ℕ, ◌≡◌, ◌↔◌, ◌⊎◌, ◌<◌, ◌≤◌, true, false, length, count_by, slice_get, IfOk, IfErr, IfNone, IfSome, Some, None, Ok, Err, is_none};
+ghost use Rattle.std.specs.Prelude.{ℕ, ◌≡◌, ◌↔◌, ◌⊎◌, ◌<◌, ◌≤◌, ◌^◌, true, false, length, count_by, slice_get, IfOk, IfErr, IfNone, IfSome, Some, None, Ok, Err, is_none};
 ghost use Rattle.mate_desk.specs.Content.{entries, lowest, waits, waits_as, has_ticket, is_out_with, Waiting as waiting_phase, Out as out, Finished as finished};
 ghost use Rattle.mate_desk.specs.Calls.{empty, everywhere, into_phase, submit_refusal, after_submit, after_take, has_out, after_return, ready, after_collect, withdraw_refusal, after_withdraw, after_close, pending_of, is_drained as is_drained_content};
 ghost use Rattle.mate_desk.specs.Deliveries.{delivery};
@@ -239,10 +239,11 @@ impl Desk {
     }
 
     /// The pending records of a desk have distinct tickets, which rise for each submitter, and no submitter has more pending than
-    /// there is room for. It does nothing: its contract is the law.
+    /// there is room for; the next ticket is 2^64 - 1 at most. It does nothing: its contract is the law.
     pub fn kept(&self)
-        ensures { AreKept self.now.next self.now.queues }
+        ensures kept { AreKept self.now.next self.now.queues }
+        ensures next { self.now.next < 2 ^ 64 }
     {
-        let _closed = self.closed;
+        let _next = self.next;
     }
 }

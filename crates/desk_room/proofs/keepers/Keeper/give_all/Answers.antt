@@ -1,0 +1,23 @@
+use Rattle.std.proofs.Common.{rules, arith, ◌∙◌}
+use Rattle.desk_room.specs.Keepers.{lists}
+use Rattle.desk_room.proofs.Fewness.{gain_more}
+use Rattle.desk_room.proofs.Runs.{giving_then}
+use Rattle.desk_room.proofs.Served.{served_more}
+use Rattle.desk_room.proofs.Staying.{room_then}
+use Rattle.desk_room.proofs.keepers.Keeper.give_all.Goals as goal
+
+pub loop-n-preserved : goal.loop-n-preserved
+loop-n-preserved c =
+    let i = c.loop-n.invariant in
+    let e = c.give_answers-delivered.ensures in
+    record {
+      gave = giving_then _ _ _ _ _ i.gave e.gave;
+      few = omega (arith, i.few, e.few, c.loop-n.self.small);
+      gained = gain_more c.loop-n.n c.args.self.now.ring (lists c.args.self.now).put (lists c.loop-n.self).put (lists c.give_answers-delivered.new.self).put i.gained e.untouched (omega (arith, e.longer, i.ring));
+      served = served_more c.loop-n.n c.loop-n.self c.give_answers-delivered.new.self i.served e.others e.served;
+      known = e.known ∙ i.known;
+      size = e.size ∙ i.size;
+      room = room_then _ _ _ i.room e.room;
+      ring = e.ring ∙ i.ring;
+      home = e.home ∙ i.home;
+    }

@@ -1,0 +1,18 @@
+use Rattle.std.proofs.Common.{ℕ, ◌≡◌, ◌≤◌, ◌<◌, ◌+◌, ◌*◌, length}
+use Rattle.desk_room.specs.Keepers.{lists, known, IsServed, SameRoom}
+use Rattle.desk_room.specs.Passes.{Giving}
+use Rattle.desk_room.specs.Steps.{GainBefore}
+use Rattle.desk_room.proofs.keepers.Keeper.give_all.Given as goal
+
+abbrev pub invariant-loop-n : goal.invariant-loop-n
+invariant-loop-n l = record {
+  gave : Giving (lists l.fn.self) (lists l.self) l.delivered;
+  few : l.delivered ≤ 64 * l.n;
+  gained : GainBefore l.n l.fn.self.ring (lists l.fn.self).put (lists l.self).put;
+  served : (i : ℕ) → i < l.n → IsServed i l.self;
+  known : known l.self ≡ known l.fn.self;
+  size : length l.self.lines.items ≡ length l.fn.self.lines.items;
+  room : SameRoom l.fn.self l.self;
+  ring : l.self.ring ≡ l.fn.self.ring;
+  home : l.self.is_home ≡ l.fn.self.is_home;
+}

@@ -1,0 +1,16 @@
+use Rattle.std.proofs.Common.{◌≡◌, ◌≤◌, ◌+◌, ◌*◌, length}
+use Rattle.desk_room.specs.Keepers.{lists}
+use Rattle.desk_room.specs.Passes.{Hearing}
+use Rattle.desk_room.specs.Steps.{GainBefore}
+use Rattle.desk_room.proofs.keepers.Keeper.hear_all.Given as goal
+
+abbrev pub invariant-loop-b : goal.invariant-loop-b
+invariant-loop-b l = record {
+  heard : Hearing (lists l.fn.self) (lists l.self) l.all.solved l.all.returned l.all.strangers;
+  few : l.all.solved + (l.all.returned + l.all.strangers) ≤ 64 * l.b;
+  gained : GainBefore l.b l.fn.self.ring (lists l.fn.self).heard (lists l.self).heard;
+  lines : l.self.lines ≡ l.fn.self.lines;
+  size : length l.self.ears.items ≡ length l.fn.self.ears.items;
+  ring : l.self.ring ≡ l.fn.self.ring;
+  home : l.self.is_home ≡ l.fn.self.is_home;
+}

@@ -1,0 +1,18 @@
+use Rattle.std.proofs.Common.{◌≡◌, ◌≤◌, ◌+◌, length, get_or, []}
+use Rattle.desk_room.specs.Keepers.{lists, backs_known}
+use Rattle.desk_room.specs.Passes.{Hearing}
+use Rattle.desk_room.specs.Steps.{Untouched}
+use Rattle.desk_room.proofs.keepers.Keeper.hear_from.Given as goal
+
+abbrev pub invariant-loop : goal.invariant-loop
+invariant-loop l = record {
+  heard : Hearing (lists l.fn.self) (lists l.self) l.all.solved l.all.returned l.all.strangers;
+  few : l.all.solved + (l.all.returned + l.all.strangers) ≤ l.counter;
+  longer : length (get_or (lists l.self).heard l.b []) ≤ length (get_or (lists l.fn.self).heard l.b []) + l.counter;
+  others : Untouched l.b (lists l.fn.self).heard (lists l.self).heard;
+  known : length (get_or (backs_known l.self) l.b []) + l.counter ≡ l.lying;
+  lines : l.self.lines ≡ l.fn.self.lines;
+  size : length l.self.ears.items ≡ length l.fn.self.ears.items;
+  ring : l.self.ring ≡ l.fn.self.ring;
+  home : l.self.is_home ≡ l.fn.self.is_home;
+}

@@ -1,0 +1,6 @@
+use Rattle.std.proofs.Common.{rules, refl}
+use Rattle.desk_room.proofs.Staying.{stays_lines}
+use Rattle.desk_room.proofs.keepers.Keeper.send_home.Goals as goal
+
+pub returns-clause-stays : goal.returns-clause-stays
+returns-clause-stays c = stays_lines _ _ refl refl refl

@@ -1,0 +1,25 @@
+use Rattle.std.proofs.Common.{rules, arith, ◌∙◌}
+use Rattle.desk_room.specs.Keepers.{lists}
+use Rattle.desk_room.proofs.Fewness.{gain_more}
+use Rattle.desk_room.proofs.Runs.{taking_then}
+use Rattle.desk_room.proofs.Ahead.{read_more, ahead_then}
+use Rattle.desk_room.proofs.Staying.{room_then}
+use Rattle.desk_room.proofs.keepers.Keeper.take_all.Goals as goal
+
+pub loop-n-preserved : goal.loop-n-preserved
+loop-n-preserved c =
+    let i = c.loop-n.invariant in
+    let e = c.take_letters-one.ensures in
+    record {
+      took = taking_then _ _ _ _ _ _ _ _ _ i.took e.took;
+      accepted = omega (arith, i.accepted, e.few.0, c.loop-n.self.small);
+      byes = omega (arith, i.byes, e.few.1, c.loop-n.self.small);
+      withdrawn = omega (arith, i.withdrawn, e.few.2, c.loop-n.self.small);
+      gained = gain_more c.loop-n.n c.args.self.now.ring (lists c.args.self.now).taken (lists c.loop-n.self).taken (lists c.take_letters-one.new.self).taken i.gained e.untouched (omega (arith, e.longer, i.ring));
+      read = read_more c.loop-n.n c.loop-n.self c.take_letters-one.new.self i.read e.others e.read;
+      ahead = ahead_then _ _ _ i.ahead e.ahead;
+      size = e.size ∙ i.size;
+      room = room_then _ _ _ i.room e.room;
+      ring = e.ring ∙ i.ring;
+      home = e.home ∙ i.home;
+    }

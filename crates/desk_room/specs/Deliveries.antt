@@ -1,0 +1,14 @@
+-- What was delivered, and for which record.
+use Rattle.std.specs.Prelude.{Bool, true, false}
+use Rattle.chess_notation.specs.Records.{RecordValue}
+use Rattle.mate_desk.specs.declared.deliveries.Delivery.{Delivery}
+use Rattle.mate_desk.specs.declared.deliveries.Delivery.TheVariants.{Answer, Notice}
+
+-- the record that it is for: the one that was answered, or that the notice names
+abbrev pub asked : Delivery → RecordValue
+asked (Answer r) = r
+asked (Notice t r) = r
+
+abbrev pub is_answer : Delivery → Bool
+is_answer (Answer r) = true
+is_answer (Notice t r) = false

@@ -1,0 +1,56 @@
+//! Benches, where jobs are solved.
+
+ghost use Rattle.std.specs.Prelude.{◌+◌, ◌≤◌, length};
+ghost use Rattle.rtrb.specs.Ring.{sent, known_free, producer_capacity};
+
+use crate::letters::Back;
+use crate::seats::{Seat, Taken};
+use rtrb::{Producer, PushError};
+
+/// A solver's end of a room: it takes orders, and gives back what came of them. It may go to a thread of its own, and no call
+/// waits.
+#[derive(Drop)]
+pub struct Bench {
+    pub(crate) seat: Seat,
+    pub(crate) back: Producer<Back>,
+    ghost places: { producer_capacity back ≤ known_free back + length (sent back) },
+}
+
+impl Bench {
+    ghost use Rattle.std.specs.Prelude.{◌≡◌, ◌<◌, ◌⊎◌, [], ◌∷◌, ◌++◌, length, IsOk, OnOk, IfErr, OnErr};
+    ghost use Rattle.desk_room.specs.Dealing.{stops, WasEmpty};
+    ghost use Rattle.desk_room.specs.Orders.{taken_order};
+    ghost use Rattle.desk_room.specs.Benches.{got, known_taken, given, places_known, bench_ring, SameBench};
+    ghost use Rattle.desk_room.specs.declared.seats.Taken.TheVariants.{Stop, Nothing};
+
+    /// Tries to take the next order. Once it has answered `Stop` it always does, and takes nothing more.
+    pub fn take(&mut self) -> Taken
+        ensures taken { stops (got self.old) ≡ 0 → got self.new ≡ got self.old ++ taken_order result }
+        ensures nothing { result ≡ Nothing → (known_taken self.old < known_taken self.new) ⊎ WasEmpty (got self.old) }
+        ensures stopped { 0 < stops (got self.old) → (result ≡ Stop) × (got self.new ≡ got self.old) }
+        ensures given { given self.new ≡ given self.old }
+        ensures places { places_known self.new ≡ places_known self.old }
+        ensures ends { SameBench self.old self.new }
+    {
+        self.seat.take()
+    }
+
+    /// Gives a job back, solved or not. A refused value is handed back: the keeper has yet to hear `ring` earlier ones, where the
+    /// room was opened with rings of `ring` places.
+    pub fn back(&mut self, back: Back) -> Result<(), Back>
+        ensures given { OnOk result (given self.new ≡ given self.old ++ back ∷ []) }
+        ensures refused { IfErr result (λ value. value ≡ back) }
+        ensures unchanged { OnErr result (given self.new ≡ given self.old) }
+        ensures full { OnErr result (places_known self.new ≡ 0) }
+        ensures succeeds { 0 < places_known self.old → IsOk result }
+        ensures first { length (given self.old) < bench_ring self.old → IsOk result }
+        ensures got { got self.new ≡ got self.old }
+        ensures taken { known_taken self.new ≡ known_taken self.old }
+        ensures ends { SameBench self.old self.new }
+    {
+        match self.back.push(back) {
+            Ok(()) => Ok(()),
+            Err(PushError::Full(value)) => Err(value),
+        }
+    }
+}

@@ -1,0 +1,117 @@
+//! The keeper.
+
+ghost use Rattle.std.specs.Prelude.{◌≡◌, ◌≤◌, ◌<◌, true, false, length, map, replicate, count_by};
+ghost use Rattle.desk_room.specs.Letters.{records};
+ghost use Rattle.desk_room.specs.Dealing.{stops};
+ghost use Rattle.desk_room.specs.Orders.{orders, passes};
+ghost use Rattle.desk_room.specs.Lines.{letters_taken, deliveries_put, ring_of as line_ring};
+ghost use Rattle.desk_room.specs.Benches.{ear_ring};
+ghost use Rattle.desk_room.specs.Kept.{owed, room_of, EachIsMarked};
+
+use crate::dealers::Dealer;
+use crate::ears::Ear;
+use crate::lines::Line;
+use mate_desk::Desk;
+
+/// The keeper of a room's desk. It alone calls the desk: between turns letters and jobs wait in the rings.
+#[derive(Drop)]
+pub struct Keeper {
+    pub(crate) lines: Vec<Line>,
+    pub(crate) ears: Vec<Ear>,
+    pub(crate) desk: Desk,
+    pub(crate) dealer: Dealer,
+    pub(crate) ring: usize,
+    // Stops were asked for, so that nothing more is ordered.
+    pub(crate) is_home: bool,
+    ghost windows: { length desk.queues ≡ length lines.items },
+    ghost few_windows: { length lines.items ≤ 16 },
+    ghost few_benches: { length ears.items ≤ 16 },
+    ghost small: { ring ≤ 64 },
+    ghost line_rings: { map line_ring lines.items ≡ replicate (length lines.items) ring },
+    ghost ear_rings: { map ear_ring ears.items ≡ replicate (length ears.items) ring },
+    ghost rooms: { map room_of desk.queues ≡ replicate (length desk.queues) ring },
+    ghost kept: { map records (map letters_taken lines.items) ≡ owed (map deliveries_put lines.items) desk.queues },
+    ghost marked: { ∥ EachIsMarked (map letters_taken lines.items) (map deliveries_put lines.items) desk.queues ∥₁ },
+    ghost seats: { passes dealer ≡ length ears.items },
+    ghost a_bench: { 0 < length ears.items },
+    ghost working: { is_home ≡ false → stops (orders dealer) ≡ 0 },
+    ghost sent_home: { is_home ≡ true → 0 < length (orders dealer) },
+}
+
+#[tactic(auto, using(crate::proofs::Staying::gone_more))]
+// How many windows said farewell.
+fn count_gone(lines: &[Line]) -> usize
+    ensures { result ≡ count_by (λ line. line.gone) lines.now }
+{
+    let mut gone = 0;
+    for line in lines {
+        if line.gone {
+            gone += 1;
+        }
+    }
+    gone
+}
+
+impl Keeper {
+    ghost use Rattle.std.specs.Prelude.{◌≡◌, ℕ, ◌+◌, ◌++◌, true, replicate};
+    ghost use Rattle.mate_desk.specs.Calls.{after_close, is_drained as is_drained_content};
+    ghost use Rattle.desk_room.specs.Dealing.{stops};
+    ghost use Rattle.desk_room.specs.Kept.{AreOwed, AreMarked};
+    ghost use Rattle.desk_room.specs.Keepers.{lists, known, benches_of, is_home, windows_gone, Stays, SameRoom};
+    ghost use Rattle.desk_room.specs.declared.orders.Order.TheVariants.{Stop};
+
+    /// What was taken of each window is what was delivered to it and then what it has pending, and withdrawals are marked so. It
+    /// does nothing: its contract is the law.
+    pub fn kept(&self)
+        ensures owed { AreOwed (lists self.now) }
+        ensures marked { ∥ AreMarked (lists self.now) ∥₁ }
+    {
+        let _home = self.is_home;
+    }
+
+    /// How many windows said farewell, as far as their letters were taken.
+    #[tactic(auto, using(crate::proofs::Staying::gone_counted))]
+    pub fn byes(&self) -> usize
+        ensures { result ≡ windows_gone (lists self.now).taken }
+    {
+        count_gone(&self.lines)
+    }
+
+    /// Closes the desk: no letter is taken from now on. All else goes on.
+    pub fn close(&mut self)
+        ensures content { (lists self.new).content ≡ after_close (lists self.old).content }
+        ensures taken { (lists self.new).taken ≡ (lists self.old).taken }
+        ensures put { (lists self.new).put ≡ (lists self.old).put }
+        ensures heard { (lists self.new).heard ≡ (lists self.old).heard }
+        ensures orders { (lists self.new).orders ≡ (lists self.old).orders }
+        ensures known { known self.new ≡ known self.old }
+        ensures home { is_home self.new ≡ is_home self.old }
+        ensures stays { Stays self.old self.new }
+    {
+        self.desk.close();
+    }
+
+    /// Whether nothing is pending at the desk, and so no job out.
+    pub fn is_drained(&self) -> bool
+        ensures { result ≡ is_drained_content (lists self.now).content }
+    {
+        self.desk.is_drained()
+    }
+
+    /// Puts a stop out for each bench, behind the orders, and answers how many are still owed because memory was refused. A later
+    /// call goes on. From the first call on nothing more is ordered.
+    pub fn send_home(&mut self) -> usize
+        ensures stops { (n : ℕ) × ((lists self.new).orders ≡ (lists self.old).orders ++ replicate n Stop) }
+        ensures owed { result + stops (lists self.new).orders ≡ benches_of self.new }
+        ensures content { (lists self.new).content ≡ (lists self.old).content }
+        ensures taken { (lists self.new).taken ≡ (lists self.old).taken }
+        ensures put { (lists self.new).put ≡ (lists self.old).put }
+        ensures heard { (lists self.new).heard ≡ (lists self.old).heard }
+        ensures known { known self.new ≡ known self.old }
+        ensures home { is_home self.new ≡ true }
+        ensures stays { Stays self.old self.new }
+    {
+        self.is_home = true;
+        self.dealer.send_home()
+    }
+}
