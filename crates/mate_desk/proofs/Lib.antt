@@ -21,6 +21,8 @@ pub mod Emptied
 pub mod Withdrawals
 pub mod Handovers
 pub mod Collecting
+pub mod Finishing
+pub mod Placing
 pub mod Promises
 pub mod Beginnings
 pub mod HistoryReadings

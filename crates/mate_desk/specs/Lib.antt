@@ -11,5 +11,6 @@ pub mod Headline
 pub mod RunFaults
 pub mod Mirrors
 pub mod Stepping
+pub mod Holding
 pub mod ReplyTexts
 pub mod HistoryLaws

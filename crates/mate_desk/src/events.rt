@@ -3,9 +3,10 @@
 ghost use Rattle.std.specs.Prelude.{◌≡◌, false, IfNone, IfSome};
 ghost use Rattle.mate_desk.specs.Headline.{AnswersTruly, is_answer};
 
+use crate::held_answers::HeldAnswer;
 use crate::refusals::{SubmitRefusal, WithdrawRefusal};
 use chess_notation::{EpdFault, Outcome};
-use mate_search::{Answer, Ticket, truth_reads};
+use mate_search::{Ticket, truth_reads};
 
 /// What is done with a desk. Submitters are numbered from 0.
 #[derive(Debug, PartialEq, Eq, Drop)]
@@ -49,7 +50,7 @@ pub enum Reply {
     /// The job of this ticket was handed back.
     Back(Ticket),
     /// The answer to the first pending record.
-    Answer(Answer),
+    Answer(HeldAnswer),
     /// The first pending record was withdrawn; this was its ticket.
     Notice(Ticket),
     /// Nothing can be collected yet.
@@ -76,7 +77,7 @@ impl Reply {
     {
         truth_reads();
         match self {
-            Reply::Answer(answer) => Some(answer.outcome()),
+            Reply::Answer(held) => Some(held.answer().outcome()),
             _ => None,
         }
     }

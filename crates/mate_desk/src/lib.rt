@@ -11,6 +11,7 @@ mod deliveries;
 mod desks;
 mod entries;
 mod events;
+mod held_answers;
 mod history_laws;
 mod lookups;
 mod places;
@@ -23,6 +24,7 @@ mod stepping;
 pub use deliveries::Delivery;
 pub use desks::Desk;
 pub use events::{Reply, Step};
+pub use held_answers::HeldAnswer;
 pub use history_laws::{
     accepted_reads, closed_reads, count_reads, delivered_reads, hand_reads, phase_reads,
     withdrawn_reads,

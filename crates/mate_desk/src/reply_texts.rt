@@ -55,7 +55,7 @@ pub fn reply_text(alloc: Global, rays: &Rays, reply: &Reply) -> Result<String, N
         Reply::Done(ticket) => numbered(alloc, "done ", *ticket)?,
         Reply::NoJob => plain(alloc, "no job")?,
         Reply::Back(ticket) => numbered(alloc, "back ", *ticket)?,
-        Reply::Answer(answer) => answer.text(alloc, rays)?,
+        Reply::Answer(held) => held.answer().text(alloc, rays)?,
         Reply::Notice(ticket) => numbered(alloc, "notice ", *ticket)?,
         Reply::Empty => plain(alloc, "none")?,
         Reply::NoSuchSubmitter => refused(alloc, "NoSuchSubmitter")?,

@@ -1,15 +1,17 @@
 //! Runs: a list of steps at a new desk, and the reply to each.
 
-ghost use Rattle.std.specs.Prelude.{◌≡◌, ◌⊎◌, ◌↔◌, ◌<◌, ◌≤◌, length, IfOk, Err};
+ghost use Rattle.std.specs.Prelude.{◌≡◌, ◌⊎◌, ◌↔◌, ◌<◌, ◌≤◌, length, min, count_by, IfOk, Err};
 ghost use Rattle.mate_desk.specs.Refusals.{AreServed, IsRoom};
 ghost use Rattle.mate_desk.specs.History.{past};
 ghost use Rattle.mate_desk.specs.Replies.{AreReplies};
 ghost use Rattle.mate_desk.specs.Headline.{AfterEachPrefix, DeliversInOrder, GivesNoticeOfWithdrawn, DeliversAllOnceDrained, AcceptsNoneAfterClose};
 ghost use Rattle.mate_desk.specs.RunFaults.{run_fault_name};
+ghost use Rattle.mate_desk.specs.Stepping.{collects, finishes};
 ghost use Rattle.mate_desk.specs.declared.runs.RunFault.TheVariants as fault;
 
 use crate::desks::Desk;
 use crate::events::{Reply, Step};
+use crate::held_answers::new_places;
 use crate::refusals::DeskFault;
 use crate::stepping::make;
 use chess_moves::Rays;
@@ -45,9 +47,36 @@ impl RunFault {
     }
 }
 
+/// How many of the steps collect.
+fn collecting(steps: &[Step]) -> usize
+    ensures { result ≡ count_by collects steps.now }
+{
+    steps
+        .iter()
+        .filter(|step| matches!(step, Step::Collect(_)))
+        .count()
+}
+
+/// How many of the steps finish a job.
+fn finishing(steps: &[Step]) -> usize
+    ensures { result ≡ count_by finishes steps.now }
+{
+    steps
+        .iter()
+        .filter(|step| matches!(step, Step::Finish(_)))
+        .count()
+}
+
+/// There are no more answers than steps that collect, nor than steps that finish a job.
+fn most_answers(steps: &[Step]) -> usize
+    ensures { result ≡ min (count_by collects steps.now) (count_by finishes steps.now) }
+{
+    collecting(steps).min(finishing(steps))
+}
+
 /// Makes every step in turn at a new desk of so many submitters, 1 to 16, each with room for so many pending records, 1 to 64, and
-/// gives the reply to each. Lines without `dm` are read with the default bound. Room for all replies and for all jobs in hand is
-/// taken before the first step; later a line for which memory is refused is a reply, and the other steps go on.
+/// gives the reply to each. Lines without `dm` are read with the default bound. Room for all replies, for all answers among them and
+/// for all jobs in hand is taken before the first step; later a line for which memory is refused is a reply, and the other steps go on.
 pub fn run(
     alloc: Global,
     rays: &Rays,
@@ -84,8 +113,20 @@ pub fn run(
     let Ok(mut hand) = Vec::with_capacity(alloc, steps.len().min(submitters * room)) else {
         return Err(RunFault::NoMemory);
     };
+    let Ok(mut places) = new_places(alloc, most_answers(steps)) else {
+        return Err(RunFault::NoMemory);
+    };
     for step in steps {
-        let reply = make(alloc, rays, default, &mut desk, &mut hand, step, memo);
+        let reply = make(
+            alloc,
+            rays,
+            default,
+            &mut desk,
+            &mut hand,
+            &mut places,
+            step,
+            memo,
+        );
         replies.push_reserved(reply);
     }
     Ok(replies)

@@ -1,36 +1,42 @@
 //! One step at a desk with the jobs in hand.
 
-ghost use Rattle.std.specs.Prelude.{ℕ, List, ◌≡◌, ◌<◌, ◌≤◌, ◌+◌, ◌-◌, ◌^◌, Some, vec_len, vec_capacity};
+ghost use Rattle.std.specs.Prelude.{ℕ, List, ◌≡◌, ◌<◌, ◌≤◌, ◌+◌, ◌-◌, ◌^◌, Some, true, cond, vec_len, vec_capacity};
 ghost use Rattle.mate_search.specs.Jobs.{Task};
 ghost use Rattle.mate_desk.specs.Content.{entries, lowest};
 ghost use Rattle.mate_desk.specs.Mirrors.{Makes};
-ghost use Rattle.mate_desk.specs.Stepping.{delivery_reply, found_reply};
+ghost use Rattle.mate_desk.specs.Stepping.{delivery_reply, found_reply, answers, collects, finishes, count_done};
 ghost use Rattle.mate_desk.specs.declared.events.Step.TheVariants as step;
 
 use crate::deliveries::Delivery;
 use crate::desks::Desk;
 use crate::events::{Reply, Step};
+use crate::held_answers::{Place, hold};
 use chess_moves::Rays;
 use chess_notation::{Bound, read_record};
 use mate_search::{Job, Memo};
 use std::alloc::Global;
 
-/// Makes one step.
+/// Makes one step. An answer is held in one of the places.
 pub(crate) fn make(
     alloc: Global,
     rays: &Rays,
     default: Bound,
     desk: &mut Desk,
     hand: &mut Vec<Job>,
+    places: &mut Vec<Place>,
     step: &Step,
     memo: &mut Memo,
 ) -> Reply
     requires room { (t : ℕ) → lowest (entries desk.old) ≡ Some t → vec_len hand.old < vec_capacity hand.old }
     requires few { desk.old.next < 2 ^ 64 - 1 }
+    requires place { collects step.now ≡ true → 0 < count_done desk.old → 0 < vec_len places.old }
     ensures makes { Makes default step.now result desk.old hand.old.items desk.new hand.new.items }
     ensures room { vec_capacity hand.new ≡ vec_capacity hand.old }
     ensures grows { vec_len hand.new ≤ vec_len hand.old + 1 }
     ensures few { desk.new.next ≤ desk.old.next + 1 }
+    ensures left { vec_len places.new + answers result ≡ vec_len places.old }
+    ensures asked_for { answers result ≤ cond (collects step.now) 1 0 }
+    ensures finished { count_done desk.new + answers result ≤ count_done desk.old + cond (finishes step.now) 1 0 }
     ensures memo_room { memo.new.room ≡ memo.old.room }
     ensures memo_within { memo.new.kept ≤ memo.new.room }
 {
@@ -40,7 +46,7 @@ pub(crate) fn make(
         Step::Take => take(desk, hand),
         Step::Finish(i) => finish(rays, desk, hand, *i, memo),
         Step::HandBack(i) => hand_back(desk, hand, *i),
-        Step::Collect(s) => collect(desk, *s),
+        Step::Collect(s) => collect(desk, places, *s),
         Step::Withdraw(s, n) => withdraw(desk, *s, *n),
         Step::Drained => drained(desk),
         Step::Close => close(desk),
@@ -59,6 +65,8 @@ fn submit(
     requires { desk.old.next < 2 ^ 64 - 1 }
     ensures makes { (jobs : List Task) → Makes default (step.Submit s line.now) result desk.old jobs desk.new jobs }
     ensures few { desk.new.next ≤ desk.old.next + 1 }
+    ensures no_answer { answers result ≡ 0 }
+    ensures finished { count_done desk.new ≤ count_done desk.old }
 {
     let asked = match read_record(alloc, rays, line, default) {
         Ok(asked) => asked,
@@ -77,6 +85,8 @@ fn take(desk: &mut Desk, hand: &mut Vec<Job>) -> Reply
     ensures room { vec_capacity hand.new ≡ vec_capacity hand.old }
     ensures grows { vec_len hand.new ≤ vec_len hand.old + 1 }
     ensures few { desk.new.next ≤ desk.old.next + 1 }
+    ensures no_answer { answers result ≡ 0 }
+    ensures finished { count_done desk.new ≤ count_done desk.old }
 {
     match desk.take() {
         Some(job) => {
@@ -96,8 +106,12 @@ fn finish(rays: &Rays, desk: &mut Desk, hand: &mut Vec<Job>, i: usize, memo: &mu
     ensures few { desk.new.next ≤ desk.old.next + 1 }
     ensures memo_room { memo.new.room ≡ memo.old.room }
     ensures memo_within { memo.new.kept ≤ memo.new.room }
+    ensures no_answer { answers result ≡ 0 }
+    ensures finished { count_done desk.new ≤ count_done desk.old + 1 }
 {
     memo.len();
+    // That no more than one record is finished rests on this law.
+    desk.kept();
     if hand.len() <= i {
         return Reply::NoJob;
     }
@@ -115,6 +129,8 @@ fn hand_back(desk: &mut Desk, hand: &mut Vec<Job>, i: usize) -> Reply
     ensures room { vec_capacity hand.new ≡ vec_capacity hand.old }
     ensures grows { vec_len hand.new ≤ vec_len hand.old + 1 }
     ensures few { desk.new.next ≤ desk.old.next + 1 }
+    ensures no_answer { answers result ≡ 0 }
+    ensures finished { count_done desk.new ≤ count_done desk.old }
 {
     if hand.len() <= i {
         return Reply::NoJob;
@@ -128,32 +144,39 @@ fn hand_back(desk: &mut Desk, hand: &mut Vec<Job>, i: usize) -> Reply
 }
 
 /// Collects what is owed for a submitter's first pending record.
-fn collect(desk: &mut Desk, s: usize) -> Reply
+fn collect(desk: &mut Desk, places: &mut Vec<Place>, s: usize) -> Reply
+    requires { 0 < count_done desk.old → 0 < vec_len places.old }
     ensures makes { (default : ℕ) (jobs : List Task) → Makes default (step.Collect s) result desk.old jobs desk.new jobs }
     ensures few { desk.new.next ≤ desk.old.next + 1 }
+    ensures left { vec_len places.new + answers result ≡ vec_len places.old }
+    ensures finished { count_done desk.new + answers result ≤ count_done desk.old }
 {
     match desk.collect(s) {
-        Ok(found) => collected(found),
+        Ok(found) => collected(found, places),
         Err(_) => Reply::NoSuchSubmitter,
     }
 }
 
 /// The reply that hands on what was found.
-fn collected(found: Option<Delivery>) -> Reply
-    ensures { result ≡ found_reply found }
+fn collected(found: Option<Delivery>, places: &mut Vec<Place>) -> Reply
+    requires { answers (found_reply found) ≤ vec_len places.old }
+    ensures reply { result ≡ found_reply found }
+    ensures left { vec_len places.new + answers result ≡ vec_len places.old }
 {
     match found {
-        Some(delivery) => delivered(delivery),
+        Some(delivery) => delivered(delivery, places),
         None => Reply::Empty,
     }
 }
 
 /// The reply that hands a delivery on.
-fn delivered(delivery: Delivery) -> Reply
-    ensures { result ≡ delivery_reply delivery }
+fn delivered(delivery: Delivery, places: &mut Vec<Place>) -> Reply
+    requires { answers (delivery_reply delivery) ≤ vec_len places.old }
+    ensures reply { result ≡ delivery_reply delivery }
+    ensures left { vec_len places.new + answers result ≡ vec_len places.old }
 {
     match delivery {
-        Delivery::Answer(answer) => Reply::Answer(answer),
+        Delivery::Answer(answer) => Reply::Answer(hold(places, answer)),
         Delivery::Notice(ticket, _) => Reply::Notice(ticket),
     }
 }
@@ -162,6 +185,8 @@ fn delivered(delivery: Delivery) -> Reply
 fn withdraw(desk: &mut Desk, s: usize, n: u64) -> Reply
     ensures makes { (default : ℕ) (jobs : List Task) → Makes default (step.Withdraw s n) result desk.old jobs desk.new jobs }
     ensures few { desk.new.next ≤ desk.old.next + 1 }
+    ensures no_answer { answers result ≡ 0 }
+    ensures finished { count_done desk.new ≤ count_done desk.old }
 {
     match desk.withdraw(s, n) {
         Ok(()) => Reply::Withdrawn,
@@ -171,7 +196,8 @@ fn withdraw(desk: &mut Desk, s: usize, n: u64) -> Reply
 
 /// Whether nothing is pending.
 fn drained(desk: &Desk) -> Reply
-    ensures { (default : ℕ) (jobs : List Task) → Makes default step.Drained result desk.now jobs desk.now jobs }
+    ensures makes { (default : ℕ) (jobs : List Task) → Makes default step.Drained result desk.now jobs desk.now jobs }
+    ensures no_answer { answers result ≡ 0 }
 {
     Reply::Drained(desk.is_drained())
 }
@@ -180,6 +206,8 @@ fn drained(desk: &Desk) -> Reply
 fn close(desk: &mut Desk) -> Reply
     ensures makes { (default : ℕ) (jobs : List Task) → Makes default step.Close result desk.old jobs desk.new jobs }
     ensures few { desk.new.next ≤ desk.old.next + 1 }
+    ensures no_answer { answers result ≡ 0 }
+    ensures finished { count_done desk.new ≤ count_done desk.old }
 {
     desk.close();
     Reply::Closed

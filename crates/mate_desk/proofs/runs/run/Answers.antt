@@ -1,9 +1,7 @@
-use Rattle.std.proofs.Common.{◌≡◌, ◌≢◌, ◌⊎◌, ◌∙◌, ◌+◌, ◌*◌, ◌<◌, ◌≤◌, ap, sym, subst, inl, inr, refl, List, ◌∷◌, [], arith, length, take, get_or, rules, ℕ, length-append, vec_len, vec_capacity, None, true, false, min, nat_le}
+use Rattle.std.proofs.Common.{◌≡◌, ◌≢◌, ◌⊎◌, ◌∙◌, ◌+◌, ◌*◌, ◌<◌, ◌≤◌, ap, sym, subst, inl, inr, refl, List, ◌∷◌, [], arith, length, take, get_or, rules, ℕ, length-append, vec_len, vec_capacity, None, true, false, min, nat_le, count_by}
 use Rattle.std.proofs.Math.Nat.{min-eq_left, min-eq_right}
 use Rattle.std.proofs.lemmas.Bool.Decides.{nat_tests}
 use Rattle.std.proofs.lemmas.List.{get_or_default, take_all}
-use Rattle.chess_board.specs.declared.men.Colour.TheVariants.{White}
-use Rattle.chess_notation.specs.Records.{RecordValue}
 use Rattle.mate_search.specs.Jobs.{Task}
 use Rattle.mate_desk.specs.Content.{Content}
 use Rattle.mate_desk.specs.declared.events.Step.{Step}
@@ -14,16 +12,10 @@ use Rattle.mate_desk.specs.Headline.{DeliversInOrder, GivesNoticeOfWithdrawn, De
 use Rattle.mate_desk.specs.Mirrors.{MirrorsBy, Mirrors, AtEachMoment}
 use Rattle.mate_desk.proofs.Promises.{in_order, notices, all_delivered, none_after_close, first_moment, and_moment, prefix_has}
 use Rattle.mate_desk.proofs.Beginnings.{start, past_more, hand_fits}
+use Rattle.mate_desk.specs.Holding.{nothing}
+use Rattle.mate_desk.specs.Stepping.{collects, finishes, count_done, answers}
+use Rattle.mate_desk.proofs.Placing.{HasPlaces, none_done, place_there, places_left}
 use Rattle.mate_desk.proofs.runs.run.Goals as goal
-
--- a record that nobody asks
-nothing : RecordValue
-nothing = record {
-  position = record { men = []; side = White; rights = record { white_king_side = false; white_queen_side = false; black_king_side = false; black_queen_side = false }; target = None };
-  bound = 0;
-  avoid = [];
-  rest = [];
-}
 
 -- Room for the less of two is room for one of them.
 held_either : (a b cap : ℕ) → min a b ≤ cap → (a ≤ cap) ⊎ (b ≤ cap)
@@ -31,6 +23,13 @@ held_either a b cap h = (elim (nat_le a b) as (λ t. nat_le a b ≡ t → (a ≤
   | true ↦ λ w. let y : a ≤ b = grind (arith, nat_tests, w) in let z : min a b ≡ a = min-eq_left y in inl (omega (arith, z, h))
   | false ↦ λ w. let y : b ≤ a = grind (arith, nat_tests, w) in let z : min a b ≡ b = min-eq_right y in inr (omega (arith, z, h))
 ]) refl
+
+-- Places for the less of two numbers of answers, at a desk where nothing is finished.
+first_places : (a b places done : ℕ) → places ≡ min a b → done ≡ 0 → (a ≤ places) ⊎ (done + b ≤ places)
+first_places a b places done e none = elim (held_either a b places (omega (arith, e))) [
+  | inl p ↦ inl p
+  | inr p ↦ inr (omega (arith, p, none))
+]
 
 pub loop-step-init : goal.loop-step-init
 loop-step-init c =
@@ -48,6 +47,7 @@ loop-step-init c =
       room = search rules;
       hand = omega (arith, c.in-Ok-with_capacity-2.ensures.len);
       held = held_either (length c.args.steps.now) (n * c.args.room) (vec_capacity c.in-Ok-with_capacity-2.hand) (omega (arith, c.in-Ok-with_capacity-2.ensures.capacity, c.min.ensures));
+      places = first_places (count_by collects c.args.steps.now) (count_by finishes c.args.steps.now) (vec_len c.in-Ok-new_places.places) (count_done c.in-Ok.desk) (c.in-Ok-new_places.ensures ∙ c.most_answers.ensures) (ap count_done c.in-Ok.ensures.empty ∙ none_done n c.args.room 0);
       next = omega (arith, ap (λ (d : Content). d.next) c.in-Ok.ensures.empty);
       memo_room = refl;
       memo_within = omega (arith, c.len.ensures.kept, c.len.ensures.within);
@@ -63,6 +63,10 @@ make-reply-requires-clause-room c t low =
       | inl p ↦ omega (arith, p, i.hand, c.loop-step-test.true)
       | inr p ↦ omega (arith, p, fits)
     ]
+
+pub make-reply-requires-clause-place : goal.make-reply-requires-clause-place
+make-reply-requires-clause-place c asked some =
+    place_there c.args.steps.now c.loop-step.step-index c.step-item.result (count_done c.loop-step.desk) (vec_len c.loop-step.places) c.loop-step-test.true (sym c.step-item.is) c.loop-step.invariant.places asked some
 
 pub loop-step-preserved : goal.loop-step-preserved
 loop-step-preserved c =
@@ -91,6 +95,7 @@ loop-step-preserved c =
         | inl p ↦ inl (omega (arith, p, c.make-reply.ensures.room))
         | inr p ↦ inr (omega (arith, p, c.make-reply.ensures.room))
       ];
+      places = places_left ss k s (count_done c.loop-step.desk) (vec_len c.loop-step.places) (count_done d) (vec_len c.make-reply.new.places) (answers c.make-reply.result) c.loop-step-test.true at c.make-reply.ensures.left c.make-reply.ensures.asked_for c.make-reply.ensures.finished i.places;
       next = omega (arith, i.next, c.make-reply.ensures.few);
       memo_room = c.make-reply.ensures.memo_room ∙ i.memo_room;
       memo_within = c.make-reply.ensures.memo_within;

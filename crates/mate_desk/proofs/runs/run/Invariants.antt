@@ -1,7 +1,9 @@
-use Rattle.std.proofs.Common.{◌≡◌, ◌≤◌, ◌⊎◌, ◌*◌, length, take, vec_len, vec_capacity}
+use Rattle.std.proofs.Common.{◌≡◌, ◌≤◌, ◌⊎◌, ◌*◌, length, take, drop, vec_len, vec_capacity}
 use Rattle.mate_desk.specs.History.{past}
 use Rattle.mate_desk.specs.Mirrors.{Mirrors, AtEachMoment}
 use Rattle.mate_desk.specs.Headline.{DeliversInOrder, GivesNoticeOfWithdrawn, DeliversAllOnceDrained}
+use Rattle.mate_desk.specs.Stepping.{count_done}
+use Rattle.mate_desk.proofs.Placing.{HasPlaces}
 use Rattle.mate_desk.proofs.runs.run.Given as goal
 
 -- The desk is what the history so far says, and at each moment so far what is promised was kept.
@@ -15,6 +17,7 @@ invariant-loop-step l = record {
   room : length l.steps ≤ vec_capacity l.replies;
   hand : vec_len l.hand ≤ l.step-index;
   held : (length l.steps ≤ vec_capacity l.hand) ⊎ (l.fn.submitters * l.fn.room ≤ vec_capacity l.hand);
+  places : HasPlaces (drop l.step-index l.steps) (count_done l.desk) (vec_len l.places);
   next : l.desk.next ≤ l.step-index;
   memo_room : l.memo.room ≡ l.initial.memo.room;
   memo_within : l.memo.kept ≤ l.memo.room;

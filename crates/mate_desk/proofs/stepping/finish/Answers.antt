@@ -5,6 +5,7 @@ use Rattle.mate_desk.specs.Content.{Finished, has_ticket}
 use Rattle.mate_desk.specs.Calls.{into_phase, everywhere, has_out}
 use Rattle.mate_desk.proofs.Leaving.{finished, none_finished}
 use Rattle.mate_desk.proofs.Hands.{out_get}
+use Rattle.mate_desk.proofs.Finishing.{last_phase}
 use Rattle.mate_desk.proofs.stepping.finish.Goals as goal
 
 pub returns-then-len-i-clause-makes : goal.returns-then-len-i-clause-makes
@@ -26,3 +27,6 @@ returns-in-Err-clause-makes c default n room h m =
     let o : has_out c.args.desk.now job ≡ true = out_get c.args.desk.now jobs c.args.i job at m.1.out in
     let p : has_out c.args.desk.now job ≡ false = ap (has_out c.args.desk.now) (sym c.solve.ensures.job) ∙ c.in-Err.ensures.stranger in
     cc
+
+pub returns-in-Ok-clause-finished : goal.returns-in-Ok-clause-finished
+returns-in-Ok-clause-finished c = rw c.in-Ok.ensures.by_ticket (last_phase c.solve.result.ticket c.args.desk.now c.kept.ensures.kept.distinct)

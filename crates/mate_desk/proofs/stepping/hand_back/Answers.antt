@@ -1,10 +1,11 @@
-use Rattle.std.proofs.Common.{◌≡◌, true, false, ◌∙◌, sym, ap, Some, List, arith, slice_get}
+use Rattle.std.proofs.Common.{refl, ◌≡◌, true, false, ◌∙◌, sym, ap, Some, List, arith, slice_get}
 use Rattle.std.proofs.lemmas.Option.{slice_get-get_or}
 use Rattle.mate_search.specs.Jobs.{Task}
 use Rattle.mate_desk.specs.Content.{Waiting, has_ticket}
 use Rattle.mate_desk.specs.Calls.{into_phase, everywhere, has_out}
 use Rattle.mate_desk.proofs.Leaving.{handed_back, none_handed_back}
 use Rattle.mate_desk.proofs.Hands.{out_get}
+use Rattle.mate_desk.proofs.Finishing.{other_phase}
 use Rattle.mate_desk.proofs.stepping.hand_back.Goals as goal
 
 pub returns-then-len-i-clause-makes : goal.returns-then-len-i-clause-makes
@@ -26,3 +27,6 @@ returns-in-Err-clause-makes c default n room h m =
     let o : has_out c.args.desk.now job ≡ true = out_get c.args.desk.now jobs c.args.i job at m.1.out in
     let p : has_out c.args.desk.now job ≡ false = c.in-Err.ensures.stranger in
     cc
+
+pub returns-in-Ok-clause-finished : goal.returns-in-Ok-clause-finished
+returns-in-Ok-clause-finished c = rw c.in-Ok.ensures.by_ticket (other_phase (has_ticket c.remove-unsolved.result.ticket) Waiting c.args.desk.now refl)

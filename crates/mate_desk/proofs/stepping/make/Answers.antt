@@ -19,7 +19,7 @@ pub returns-in-Withdraw-clause-makes : goal.returns-in-Withdraw-clause-makes
 returns-in-Withdraw-clause-makes c = rw c.in-Withdraw.is (c.withdraw.ensures.makes c.args.default c.args.hand.now.items)
 
 pub returns-in-Drained-clause-makes : goal.returns-in-Drained-clause-makes
-returns-in-Drained-clause-makes c = rw c.in-Drained.is (c.drained.ensures c.args.default c.args.hand.now.items)
+returns-in-Drained-clause-makes c = rw c.in-Drained.is (c.drained.ensures.makes c.args.default c.args.hand.now.items)
 
 pub returns-in-Close-clause-makes : goal.returns-in-Close-clause-makes
 returns-in-Close-clause-makes c = rw c.in-Close.is (c.close.ensures.makes c.args.default c.args.hand.now.items)

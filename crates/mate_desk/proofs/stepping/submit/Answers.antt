@@ -1,8 +1,9 @@
-use Rattle.std.proofs.Common.{List, ℕ, ◌⊎◌, ◌≡◌, subst}
+use Rattle.std.proofs.Common.{List, ℕ, ◌⊎◌, ◌≡◌, subst, arith}
 use Rattle.chess_notation.specs.Records.{RecordValue, Reads}
 use Rattle.chess_notation.specs.EpdFaults.{IsFaultOf}
 use Rattle.chess_notation.specs.declared.faults.EpdFault.TheVariants.{NoMemory}
 use Rattle.mate_desk.proofs.Submissions.{accepts, refuses, faulty}
+use Rattle.mate_desk.proofs.Finishing.{submitted}
 use Rattle.mate_desk.proofs.stepping.submit.Goals.{in-Ok-submit, in-Err-submit}
 use Rattle.mate_desk.proofs.stepping.submit.Goals as goal
 
@@ -18,3 +19,9 @@ pub returns-in-Err-clause-makes : goal.returns-in-Err-clause-makes
 returns-in-Err-clause-makes c jobs n room h m =
     let refused = subst (λ line. IsFaultOf line c.in-Err.fault ⊎ ((c.in-Err.fault ≡ NoMemory) × ((asked : RecordValue) × Reads line c.args.default asked))) c.deref.ensures.value c.in-Err.ensures.refused in
     faulty c.args.default c.args.desk.now jobs c.args.s c.args.line.now c.in-Err.fault refused n room h m
+
+pub returns-clause-finished : goal.returns-clause-finished
+returns-clause-finished c = elim c.match-submit.branch [
+  | in-Ok-submit w ↦ rw w.in-Ok-submit.ensures.waits (submitted c.args.desk.now c.args.s c.in-Ok.asked)
+  | in-Err-submit w ↦ rw w.in-Err-submit.ensures.unchanged (omega arith)
+]
