@@ -1,7 +1,7 @@
 //! Runs, told with their replies as texts.
 
 use crate::Step::{Close, Collect, Drained, Finish, HandBack, Take, Withdraw};
-use crate::{RunFault, Step, reply_text, run};
+use crate::{Reply, RunFault, Step, reply_text, run};
 use chess_moves::Rays;
 use chess_notation::Bound;
 use mate_search::Memo;
@@ -317,4 +317,21 @@ fn no_desk_no_steps(rt: HostRuntime) -> Result<(), Fail> {
         assert!(&rt; refused.err() == Some(fault), "{fault}");
     }
     answers(&rt, alloc, (16, 64), &[], &[])
+}
+
+#[test]
+fn an_answer_is_handed_out_as_it_is_held(rt: HostRuntime) -> Result<(), Fail> {
+    let alloc = rt.alloc();
+    let rays = Rays::new();
+    let mut memo = Memo::new(alloc, 16)?;
+    let default = Bound::new(3).ok_or("bound")?;
+    let steps = [submit(alloc, 0, A)?, Take, Finish(0), Collect(0)];
+    let replies = run(alloc, &rays, 1, 1, default, &steps, &mut memo)?;
+    let held = match replies.get(3) {
+        Some(Reply::Answer(held)) => Ok(held),
+        _ => Err("no answer"),
+    }?;
+    let text = held.answer().text(alloc, &rays)?;
+    assert!(&rt; text.as_str() == ANSWER_A, "{text}");
+    Ok(())
 }
