@@ -1,6 +1,6 @@
 //! Runs: a list of steps at a new desk, and the reply to each.
 
-ghost use Rattle.std.specs.Prelude.{◌≡◌, ◌⊎◌, ◌↔◌, ◌<◌, ◌≤◌, length, min, count_by, IfOk, Err};
+ghost use Rattle.std.specs.Prelude.{◌≡◌, ◌⊎◌, ◌↔◌, ◌<◌, ◌≤◌, length, min, count_by, IfOk, IfErr, Err};
 ghost use Rattle.mate_desk.specs.Refusals.{AreServed, IsRoom};
 ghost use Rattle.mate_desk.specs.History.{past};
 ghost use Rattle.mate_desk.specs.Replies.{AreReplies};
@@ -96,6 +96,7 @@ pub fn run(
     ensures bad_submitters { (result ≡ Err fault.BadSubmitters) ↔ ((submitters ≡ 0) ⊎ (16 < submitters)) }
     ensures bad_room { (result ≡ Err fault.BadRoom) ↔ (AreServed submitters × ((room ≡ 0) ⊎ (64 < room))) }
     ensures no_memory { result ≡ Err fault.NoMemory → AreServed submitters × IsRoom room }
+    ensures no_step { IfErr result (λ _. memo.new ≡ memo.old) }
     ensures memo_room { memo.new.room ≡ memo.old.room }
     ensures memo_within { memo.new.kept ≤ memo.new.room }
 {
