@@ -1,10 +1,12 @@
 //! The desk: which submitter asked what, what is out to be solved, and in which order answers go back.
 //!
-//! Solving is `mate_search`'s business, and texts are `chess_notation`'s. What a desk holds stands in `specs/Content.antt`, and
-//! what its calls answer and leave behind in `specs/Calls.antt`.
+//! Solving is `mate_search`'s business, and texts of records are `chess_notation`'s. What a desk holds stands in
+//! `specs/Content.antt`, and what its calls answer and leave behind in `specs/Calls.antt`. Of a run, `specs/History.antt` says how
+//! its steps and replies are read, `specs/Replies.antt` what each reply is, and `specs/Headline.antt` what follows.
 //!
 //! To read: `refusals` and `deliveries`; then `desks`, over `lookups`, `queues` (what one submitter has pending), `entries` and
-//! `places`. `Desk::new` takes all memory that a desk ever needs.
+//! `places`. `Desk::new` takes all memory that a desk ever needs. Then `events` and `held_answers`, the steps and the replies;
+//! `runs`, over `stepping`; `reply_texts`; and `history_laws`, which tells the history in plain words (`specs/HistoryLaws.antt`).
 #![tactic(auto)]
 
 mod deliveries;

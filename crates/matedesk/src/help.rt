@@ -87,7 +87,8 @@ within B moves, 1 to 15. Each line behind it is a step, and has a line of reply:
   submit S RECORD  submitter S hands in a record, as `solve` reads it: `ticket T`
   take             the waiting record of the lowest ticket becomes a job: `job T`, `nothing`
   finish I         the I-th job in hand, counted from 0, is solved: `done T`, `no job`
-  handback I       the I-th job in hand waits again: `back T`, `no job`
+  handback I       the I-th job in hand is given back, and its record waits again
+                   unless it was withdrawn: `back T`, `no job`
   collect S        S is given what its first pending record is owed: the answer,
                    `notice T` where that was withdrawn, or `none` so far
   withdraw S N     S withdraws its N-th accepted record, counted from 0: `withdrawn`
