@@ -1,11 +1,11 @@
 -- One segment more: what building a record needs of it.
-use Rattle.std.proofs.Common.{◌≡◌, ℕ, List, ◌∷◌, ◌++◌, Bool, true, false, refl, ap, sym, ◌∙◌, replicate, if◌then◌else◌}
+use Rattle.std.proofs.Common.{◌≡◌, ◌≢◌, ℕ, List, [], ◌∷◌, ◌++◌, Bool, true, false, refl, ap, sym, ◌∙◌, replicate, subst, if◌then◌else◌}
 use Rattle.std.proofs.lemmas.Bool.{and_parts}
 use Rattle.std.specs.List.{list_all}
 use Rattle.chess_notation.specs.Words.{word_at, behind}
 use Rattle.chess_notation.specs.Segments.{with_segment, segments_of}
 use Rattle.chess_notation.specs.Operations.{Entry}
-use Rattle.chess_notation.specs.Opcodes.{is_own, with_entry}
+use Rattle.chess_notation.specs.Opcodes.{is_own, comes_before, with_entry}
 use Rattle.chess_notation.specs.Lines.{entry_in}
 use Rattle.chess_notation.specs.RecordReading.{inserted, kept}
 use Rattle.chess_notation.proofs.WordSplits.{words_split, both_parts}
@@ -33,3 +33,25 @@ kept_more entries next text segment back cut is =
 
 pub all_behind_segment : (test : List ℕ → Bool) (text segment back : List ℕ) → segments_of text ≡ with_segment segment (segments_of back) → list_all test (segments_of text).ended ≡ true → list_all test (segments_of back).ended ≡ true
 all_behind_segment test text segment back cut h = (and_parts (test segment) (list_all test (segments_of back).ended) (sym (ap (λ c. list_all test c.ended) cut) ∙ h)).1
+
+no_cons : {A : Type 0} (x : A) (xs : List A) → x ∷ xs ≡ [] → ⊥
+no_cons x xs e = cc
+
+-- A list in which an entry was put isn't empty, and stays so.
+with_some : (entry : Entry) (entries : List Entry) → with_entry entry entries ≢ []
+with_some entry [] = λ e. no_cons _ _ e
+with_some entry (next ∷ entries) = (elim (comes_before entry.opcode next.opcode) as (λ b. (if b then entry ∷ next ∷ entries else next ∷ with_entry entry entries) ≢ []) [
+  | true ↦ λ e. no_cons _ _ e
+  | false ↦ λ e. no_cons _ _ e
+])
+
+inserted_some : (done entries : List Entry) → done ≢ [] → inserted done entries ≢ []
+inserted_some done [] some = some
+inserted_some done (entry ∷ entries) some = inserted_some (with_entry entry done) entries (with_some entry done)
+
+-- Where the next segment is kept, so is something in the end.
+pub some_kept : (entries : List Entry) (text segment back : List ℕ) → segments_of text ≡ with_segment segment (segments_of back) → is_own (word_at segment) ≡ false
+    → inserted entries (kept (segments_of text).ended) ≢ []
+some_kept entries text segment back cut other =
+    subst (λ es. es ≢ []) (kept_more entries (with_entry (entry_in segment) entries) text segment back cut (rw other refl))
+    (inserted_some (with_entry (entry_in segment) entries) (kept (segments_of back).ended) (with_some (entry_in segment) entries))

@@ -1,6 +1,6 @@
 //! The operations that a record keeps, in ASCII order of opcode.
 
-ghost use Rattle.std.specs.Prelude.{◌≡◌, ℕ, ◌<◌, ◌≤◌, ◌++◌, ◌∷◌, List, [], IfOk, OnOk, string_bytes, length, IsTrue, true, if◌then◌else◌};
+ghost use Rattle.std.specs.Prelude.{◌≡◌, ◌≢◌, ℕ, ◌<◌, ◌≤◌, ◌++◌, ◌∷◌, List, [], IfOk, OnOk, OnErr, string_bytes, length, IsTrue, true, false, if◌then◌else◌};
 ghost use Rattle.std.specs.List.{list_all, insert};
 ghost use Rattle.chess_notation.specs.Words.{word_at as word_of_text};
 ghost use Rattle.chess_notation.specs.Segments.{segments_of};
@@ -124,9 +124,10 @@ fn add_segment(
 ) -> Result<(), AllocError>
     requires opcode { is_opcode (word_of_text segment.now) ≡ true }
     requires printable { list_all is_printable segment.now ≡ true }
-    ensures { OnOk result (operations.new.items
+    ensures ok { OnOk result (operations.new.items
         ≡ (if is_own_opcode (word_of_text segment.now) then operations.old.items
         else with_entry (entry_in segment.now) operations.old.items)) }
+    ensures err { OnErr result (is_own_opcode (word_of_text segment.now) ≡ false) }
 {
     if !is_own(word_at(segment).0) {
         put(operations, operation_of(alloc, segment)?)?;
@@ -139,7 +140,8 @@ fn add_segment(
 pub(crate) fn operations_of(alloc: Global, text: &[u8]) -> Result<Vec<Operation>, AllocError>
     requires opcodes { list_all has_opcode (segments_of text.now).ended ≡ true }
     requires printable { list_all is_printable text.now ≡ true }
-    ensures { IfOk result (λ operations. operations.items ≡ rest_of (segments_of text.now).ended) }
+    ensures ok { IfOk result (λ operations. operations.items ≡ rest_of (segments_of text.now).ended) }
+    ensures err { OnErr result (rest_of (segments_of text.now).ended ≢ []) }
 {
     let mut operations = Vec::new(alloc);
     let mut rest = text;

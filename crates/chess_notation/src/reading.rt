@@ -1,6 +1,6 @@
 //! Lines read as records.
 
-ghost use Rattle.std.specs.Prelude.{◌≡◌, ◌⊎◌, ◌≤◌, length, IfOk, OnOk, IfErr, IfSome, IfNone, Some, None, true, false};
+ghost use Rattle.std.specs.Prelude.{◌≡◌, ◌≢◌, ◌⊎◌, ◌≤◌, length, IfOk, OnOk, IfErr, IfSome, IfNone, Some, None, true, false, []};
 ghost use Rattle.std.specs.List.{list_all};
 ghost use Rattle.chess_board.specs.Soundness.{IsSound};
 ghost use Rattle.chess_notation.specs.Segments.{segments_of};
@@ -48,7 +48,7 @@ fn record_of(
     ensures names { OnOk result (list_all (has_names_if_avoid position) (segments_of text.now).ended ≡ true) }
     ensures refused { IfErr result (λ fault.
         ((fault ≡ EpdFault.BadAvoid) × (list_all (has_names_if_avoid position) (segments_of text.now).ended ≡ false))
-        ⊎ ((fault ≡ EpdFault.NoMemory) × (list_all (has_names_if_avoid position) (segments_of text.now).ended ≡ true))) }
+        ⊎ ((fault ≡ EpdFault.NoMemory) × ((list_all (has_names_if_avoid position) (segments_of text.now).ended ≡ true) × (rest_of (segments_of text.now).ended ≢ [])))) }
 {
     // That the moves to avoid rise rests on this law.
     legal_rise();
@@ -73,7 +73,8 @@ fn record_of(
 /// Reads a record (PGN Specification, section 16.2): four fields of a FEN, two counters or none, and operations.
 ///
 /// The bound is that of `dm`, or the default one, and the moves to avoid are those that `am` names. A line that says no record is
-/// refused by the first fault of it, in the order of `EpdFault`; memory is asked for only when there is none.
+/// refused by the first fault of it, in the order of `EpdFault`; memory is asked for only when there is none, for the operations
+/// that are kept.
 pub fn read_record(
     alloc: Global,
     rays: &Rays,
@@ -82,7 +83,7 @@ pub fn read_record(
 ) -> Result<Record, EpdFault>
     ensures reads { IfOk result (λ r. Reads line.now default r) }
     ensures only { IfOk result (λ r. (other : RecordValue) → Reads line.now default other → r ≡ other) }
-    ensures refused { IfErr result (λ fault. IsFaultOf line.now fault ⊎ ((fault ≡ EpdFault.NoMemory) × ((r : RecordValue) × Reads line.now default r))) }
+    ensures refused { IfErr result (λ fault. IsFaultOf line.now fault ⊎ ((fault ≡ EpdFault.NoMemory) × ((r : RecordValue) × Reads line.now default r × (r.rest ≢ [])))) }
 {
     // That the fields spell no other position, and what words name, rest on these laws.
     spells_one();

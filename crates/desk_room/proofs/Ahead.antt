@@ -1,10 +1,10 @@
 -- The letters of the windows: what was taken and is known only grows, and a window that was read stays so.
-use Rattle.std.proofs.Common.{◌≡◌, ◌≢◌, ◌<◌, ◌≤◌, ◌⊎◌, inl, inr, ⊎_elim, true≢false, ℕ, zero, suc, ◌+◌, ◌-◌, ◌^◌, ◌==◌, Bool, true, false, not, ◌&&◌, nat_lt, nat_le, if◌then◌else◌, List, [], ◌∷◌, ◌++◌, length, map, set, get_or, slice_get, is_none, Option, Some, None, refl, sym, ap, ◌∙◌, subst, arith, append_assoc, length-append}
+use Rattle.std.proofs.Common.{◌≡◌, ◌≢◌, ◌<◌, ◌≤◌, ◌⊎◌, inl, inr, ⊎_elim, true≢false, ℕ, zero, suc, ◌+◌, ◌-◌, ◌^◌, ◌==◌, Bool, true, false, nat_lt, nat_le, if◌then◌else◌, List, [], ◌∷◌, ◌++◌, length, map, set, get_or, slice_get, is_none, Option, Some, None, refl, sym, ap, ◌∙◌, subst, arith, append_assoc, length-append}
 use mathlib.Core.List.{IsPrefix}
 use Rattle.std.proofs.lemmas.Bool.Decides.{nat_tests}
 use Rattle.chess_notation.specs.Records.{RecordValue}
-use Rattle.mate_desk.specs.Content.{Content, QueueValue, EntryValue, Waiting}
-use Rattle.mate_desk.specs.Calls.{change_at, submit_refusal, submit_refusal_by, with_entry, withdrawn, withdrawn_at}
+use Rattle.mate_desk.specs.Content.{Content, QueueValue, Waiting}
+use Rattle.mate_desk.specs.Calls.{change_at, submit_refusal_by, with_entry, withdrawn, withdrawn_at}
 use Rattle.mate_desk.specs.declared.refusals.SubmitRefusal.TheVariants as refusal
 use Rattle.desk_room.specs.Events.{taking, accepts}
 use Rattle.desk_room.specs.Lines.{letters_taken, letters_known}

@@ -1,7 +1,6 @@
 -- A closed desk takes no letter, and where nothing was ordered the orders stay.
-use Rattle.std.proofs.Common.{◌≡◌, true≢false, ℕ, ◌==◌, ◌-◌, ◌^◌, Bool, true, false, List, [], ◌∷◌, length, slice_get, Option, Some, None, refl, sym, ap, ◌∙◌}
-use Rattle.mate_desk.specs.Content.{Content}
-use Rattle.desk_room.specs.Events.{RoomLists, Event, Takes, Gives, Orders, Hears, May, after, Leads, AllOf, accepts, is_heard, is_taken, is_ordered, is_given}
+use Rattle.std.proofs.Common.{◌≡◌, true≢false, ℕ, true, List, [], ◌∷◌, length, slice_get, refl, sym, ap, ◌∙◌}
+use Rattle.desk_room.specs.Events.{RoomLists, Event, Takes, Gives, Orders, Hears, after, Leads, AllOf, is_heard, is_taken, is_ordered, is_given}
 use Rattle.desk_room.specs.Turns.{Turned, GainFew, AreFew}
 use Rattle.desk_room.specs.Passes.{Hearing, Taking, Ordering, Giving}
 use Rattle.desk_room.proofs.Fewness.{few_same}

@@ -1,9 +1,9 @@
 -- How many entries of a desk pass a test.
-use Rattle.std.proofs.Common.{◌≡◌, ◌<◌, ◌≤◌, ℕ, zero, suc, ◌+◌, Bool, true, false, cond, if◌then◌else◌, List, [], ◌∷◌, ◌++◌, length, map, flat_map, drop, Option, Some, None, refl, sym, ap, ◌∙◌, subst, arith, count_by}
+use Rattle.std.proofs.Common.{◌≡◌, ℕ, zero, suc, ◌+◌, Bool, true, false, cond, List, [], ◌∷◌, ◌++◌, map, flat_map, refl, sym, ap, ◌∙◌, arith, count_by}
 use Rattle.std.specs.List.{list_any}
 use Rattle.std.proofs.lemmas.List.Sums.{sum_by-cons}
-use Rattle.mate_desk.specs.Content.{Content, QueueValue, EntryValue, Phase, entries}
-use Rattle.mate_desk.specs.Calls.{change_at, in_queue, into_phase, ready_first}
+use Rattle.mate_desk.specs.Content.{Content, QueueValue, EntryValue, entries}
+use Rattle.mate_desk.specs.Calls.{change_at, in_queue}
 use Rattle.desk_room.specs.Events.{one_if}
 
 -- so many of these entries, and of those of all these queues

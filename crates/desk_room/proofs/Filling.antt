@@ -1,12 +1,12 @@
 -- What holds at the end of a turn.
-use Rattle.std.proofs.Common.{◌≡◌, ◌≢◌, ◌<◌, ◌≤◌, ◌⊎◌, inl, inr, ⊎_elim, true≢false, ℕ, zero, suc, ◌+◌, ◌-◌, ◌^◌, ◌==◌, Bool, true, false, not, ◌&&◌, nat_lt, nat_le, if◌then◌else◌, List, [], ◌∷◌, ◌++◌, length, map, get_or, slice_get, is_none, drop, Option, Some, None, refl, sym, ap, ◌∙◌, subst, arith, length-append, count_by}
+use Rattle.std.proofs.Common.{◌≡◌, ◌<◌, ◌≤◌, ◌⊎◌, inl, inr, ⊎_elim, true≢false, ℕ, zero, suc, ◌+◌, ◌-◌, ◌^◌, ◌==◌, Bool, true, false, not, ◌&&◌, nat_lt, nat_le, if◌then◌else◌, List, [], ◌∷◌, length, map, get_or, slice_get, is_none, Option, Some, None, refl, sym, ap, ◌∙◌, arith, length-append, count_by}
 use Rattle.std.proofs.lemmas.Bool.Decides.{nat_tests}
-use Rattle.mate_desk.specs.Content.{Content, QueueValue, EntryValue, Phase, Waiting, Out, Finished, entries, is_waiting, is_out, is_finished, is_ready, waits, waits_as, is_out_with}
+use Rattle.mate_desk.specs.Content.{Content, QueueValue, EntryValue, Phase, Waiting, Out, Finished, entries, is_waiting, is_out, is_finished, waits, waits_as, is_out_with}
 use Rattle.mate_desk.specs.Calls.{change_at, in_queue, into_phase, with_entry, withdrawn_at, submit_refusal, submit_refusal_by, ready_first, collected, collected_by}
 use Rattle.mate_desk.specs.Deliveries.{delivery}
 use Rattle.mate_desk.specs.declared.refusals.SubmitRefusal.TheVariants as refusal
 use Rattle.mate_desk.specs.declared.deliveries.Delivery.{Delivery}
-use Rattle.desk_room.specs.Events.{RoomLists, Event, Takes, Gives, Orders, Hears, May, after, one_more, Leads, AllOf, accepts, is_heard, is_taken, is_ordered, is_given}
+use Rattle.desk_room.specs.Events.{RoomLists, Event, Takes, Gives, Orders, Hears, May, after, one_more, accepts, is_heard, is_taken, is_ordered, is_given}
 use Rattle.desk_room.specs.Passes.{Taking, Giving, Ordering, Hearing}
 use Rattle.desk_room.specs.Turns.{IsFilled, pending_at, room_at}
 use Rattle.desk_room.specs.declared.letters.Letter.TheVariants.{Record, Withdrawal, Farewell}
@@ -14,7 +14,7 @@ use Rattle.desk_room.specs.declared.letters.Back.TheVariants.{Solved, Returned}
 use Rattle.desk_room.proofs.Places.{map_length}
 use Rattle.desk_room.proofs.Counting.{count_in, count_all, count_entries}
 use Rattle.desk_room.proofs.Queues.{ready_at, pending_map, gone, first_is, collected_is, ready_fewer}
-use Rattle.desk_room.proofs.Leaving.{run_same, run_keeps, heard_put, taken_put, ordered_put, ordered_next, given_next, given_orders, given_taken, closed_kept}
+use Rattle.desk_room.proofs.Leaving.{run_same, run_keeps, heard_put, taken_put, ordered_next, given_next, given_orders, given_taken, closed_kept}
 
 -- What is ready neither waits nor is out.
 not_waiting : (p : Phase) (w : Bool) → (if w then not (is_out p) else is_finished p) ≡ true → (is_waiting p && not w) ≡ false

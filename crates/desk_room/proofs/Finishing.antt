@@ -1,15 +1,15 @@
 -- Only what is heard solved becomes finished.
-use Rattle.std.proofs.Common.{◌≡◌, ◌<◌, ◌⊎◌, inl, inr, ⊎_elim, true≢false, ℕ, zero, suc, ◌+◌, ◌-◌, Bool, true, false, not, ◌&&◌, ◌||◌, nat_lt, if◌then◌else◌, List, [], ◌∷◌, ◌++◌, length, map, get_or, drop, Option, Some, None, refl, sym, ap, ◌∙◌, subst, arith, append_assoc}
+use Rattle.std.proofs.Common.{◌≡◌, ◌<◌, inl, inr, ⊎_elim, true≢false, ℕ, zero, suc, ◌-◌, Bool, true, false, not, ◌||◌, nat_lt, if◌then◌else◌, List, [], ◌∷◌, ◌++◌, length, map, get_or, drop, Some, refl, sym, ap, ◌∙◌, subst, arith, append_assoc}
 use Rattle.std.specs.List.{list_any}
 use Rattle.mate_search.specs.Jobs.{Task}
 use Rattle.chess_notation.specs.Records.{RecordValue}
-use Rattle.mate_desk.specs.Content.{QueueValue, EntryValue, Phase, Waiting, Out, Finished, is_out, is_finished, is_ready, has_task, waits_as, is_out_with}
-use Rattle.mate_desk.specs.Calls.{change_at, in_queue, into_phase, with_entry, withdrawn, withdrawn_at, ready_first}
-use Rattle.mate_desk.specs.Deliveries.{delivery, delivery_of}
+use Rattle.mate_desk.specs.Content.{QueueValue, EntryValue, Phase, Waiting, Out, Finished, is_out, is_finished, has_task, waits_as, is_out_with}
+use Rattle.mate_desk.specs.Calls.{change_at, into_phase, with_entry, withdrawn, withdrawn_at, ready_first}
+use Rattle.mate_desk.specs.Deliveries.{delivery}
 use Rattle.mate_desk.specs.declared.deliveries.Delivery.{Delivery}
 use Rattle.mate_desk.specs.declared.deliveries.Delivery.TheVariants.{Answer, Notice}
 use Rattle.desk_room.specs.Deliveries.{is_answer}
-use Rattle.desk_room.specs.Events.{RoomLists, Event, Takes, Gives, Orders, Hears, May, after, one_more, Leads, AllOf, is_heard, is_taken, is_ordered, is_given}
+use Rattle.desk_room.specs.Events.{RoomLists, Event, Takes, Gives, Orders, Hears, after, one_more, Leads, AllOf, is_heard, is_taken, is_ordered, is_given}
 use Rattle.desk_room.specs.Turns.{Turned, gained, pending_at, solves, MayBeFinished, AreFinishedBy}
 use Rattle.desk_room.specs.declared.turns.Turn.{Turn}
 use Rattle.desk_room.specs.declared.letters.Letter.TheVariants.{Record, Withdrawal, Farewell}

@@ -1,25 +1,23 @@
 -- The counts of a turn are what its lists gained.
-use Rattle.std.proofs.Common.{◌≡◌, ◌≢◌, ◌<◌, ◌≤◌, true≢false, ℕ, zero, suc, ◌+◌, ◌-◌, Bool, true, false, not, ◌&&◌, nat_lt, nat_le, if◌then◌else◌, List, [], ◌∷◌, ◌++◌, length, map, slice_get, is_none, Option, Some, None, refl, sym, ap, ◌∙◌, subst, arith, length-append, count_by}
+use Rattle.std.proofs.Common.{◌≡◌, ◌<◌, ◌≤◌, true≢false, ℕ, zero, suc, ◌+◌, ◌-◌, Bool, true, false, nat_lt, nat_le, if◌then◌else◌, List, [], ◌∷◌, ◌++◌, length, slice_get, is_none, Some, None, refl, sym, ap, ◌∙◌, arith, length-append}
 use Rattle.std.proofs.lemmas.Bool.Decides.{nat_tests}
-use Rattle.mate_desk.specs.Content.{Content, QueueValue, EntryValue, Phase, Waiting, Out, Finished, entries, waits_as, is_out_with}
-use Rattle.mate_desk.specs.Calls.{change_at, in_queue, into_phase, has_out, with_entry, withdrawn, withdrawn_at, withdraw_refusal, withdraw_refusal_of, withdraw_refusal_by, ready_first, collected}
+use Rattle.mate_desk.specs.Content.{QueueValue, EntryValue, Phase, Waiting, Out, Finished, waits_as, is_out_with}
+use Rattle.mate_desk.specs.Calls.{change_at, into_phase, has_out, with_entry, withdrawn, withdrawn_at, withdraw_refusal_of, withdraw_refusal_by, ready_first}
 use Rattle.mate_desk.specs.Deliveries.{delivery, delivery_of}
 use Rattle.mate_desk.specs.declared.refusals.WithdrawRefusal.TheVariants as refusal
 use Rattle.mate_desk.specs.declared.deliveries.Delivery.{Delivery}
 use Rattle.mate_desk.specs.declared.deliveries.Delivery.TheVariants.{Answer, Notice}
 use Rattle.desk_room.specs.Letters.{records, farewells}
-use Rattle.desk_room.specs.Deliveries.{is_answer}
-use Rattle.desk_room.specs.Events.{RoomLists, Event, Takes, Gives, Orders, Hears, May, after, one_more, one_if, Leads, AllOf, tally, is_heard, is_taken, is_ordered, is_given, accepted_by, byes_by, withdrawn_by, solved_by, returned_by, strangers_by}
+use Rattle.desk_room.specs.Events.{RoomLists, Event, Takes, Gives, Orders, Hears, May, after, one_more, one_if, tally, is_heard, is_taken, is_ordered, is_given, accepted_by, byes_by, withdrawn_by, solved_by, returned_by, strangers_by}
 use Rattle.desk_room.specs.Kept.{is_withdrawn}
-use Rattle.desk_room.specs.Passes.{Taking, Giving, Ordering, Hearing}
 use Rattle.desk_room.specs.Turns.{Turned, AreGains, total, notices, withdrawals, pending_at}
 use Rattle.desk_room.specs.declared.turns.Turn.{Turn}
-use Rattle.desk_room.specs.declared.letters.Letter.{Letter}
 use Rattle.desk_room.specs.declared.letters.Letter.TheVariants.{Record, Withdrawal, Farewell}
 use Rattle.desk_room.specs.declared.letters.Back.{Back}
 use Rattle.desk_room.specs.declared.letters.Back.TheVariants.{Solved, Returned}
 use Rattle.desk_room.specs.declared.orders.Order.TheVariants.{Solve}
-use Rattle.desk_room.proofs.Owing.{records_append}
+use Rattle.desk_room.proofs.LetterCounts.{records_append, farewells_count}
+use Rattle.desk_room.proofs.Places.{change_past}
 use Rattle.desk_room.proofs.Counting.{count_in, count_all, count_entries, count_same, count_change, count_snoc}
 use Rattle.desk_room.proofs.Queues.{ready_at, gone, first_is, collected_is}
 use Rattle.desk_room.proofs.Leaving.{run_same, run_keeps, run_adds, run_counts, heard_taken, heard_put, heard_orders, taken_put, taken_heard, taken_orders, ordered_taken, ordered_put, ordered_heard, given_taken, given_heard, given_orders, closed_kept}
@@ -29,12 +27,6 @@ total_change h g k n [] each m = absurd (omega arith)
 total_change h g k zero (x ∷ xs) each m = omega (arith, each x)
 total_change h g k (suc n) (x ∷ xs) each m = omega (arith, total_change h g k n xs each (omega arith))
 
-farewells_append : (xs ys : List Letter) → farewells (xs ++ ys) ≡ farewells xs + farewells ys
-farewells_append [] ys = omega arith
-farewells_append (Record r ∷ xs) ys = farewells_append xs ys
-farewells_append (Withdrawal m ∷ xs) ys = farewells_append xs ys
-farewells_append (Farewell ∷ xs) ys = omega (arith, farewells_append xs ys)
-
 adds_records : (e : Event) (s : RoomLists) → is_taken e ≡ true → May e s → total (λ l. length (records l)) (after e s).taken ≡ total (λ l. length (records l)) s.taken + accepted_by e s
 adds_records (Hears b x) s k m = absurd (true≢false (sym k))
 adds_records (Takes n x) s k m = total_change (λ l. length (records l)) (one_more x) (length (records (x ∷ []))) n s.taken (λ a. omega (arith, ap length (records_append a (x ∷ [])), length-append (records a) (records (x ∷ [])))) m.0
@@ -43,7 +35,7 @@ adds_records (Gives n d) s k m = absurd (true≢false (sym k))
 
 adds_farewells : (e : Event) (s : RoomLists) → is_taken e ≡ true → May e s → total farewells (after e s).taken ≡ total farewells s.taken + byes_by e s
 adds_farewells (Hears b x) s k m = absurd (true≢false (sym k))
-adds_farewells (Takes n x) s k m = total_change farewells (one_more x) (farewells (x ∷ [])) n s.taken (λ a. farewells_append a (x ∷ [])) m.0
+adds_farewells (Takes n x) s k m = total_change farewells (one_more x) (farewells (x ∷ [])) n s.taken (λ a. farewells_count a (x ∷ [])) m.0
 adds_farewells (Orders job) s k m = absurd (true≢false (sym k))
 adds_farewells (Gives n d) s k m = absurd (true≢false (sym k))
 
@@ -136,12 +128,6 @@ given_withdrawn (Gives n d) s k m =
     )
 
 -- of a withdrawal
-change_past : {A : Type 0} (j : ℕ) (f : A → A) (xs : List A) → length xs ≤ j → change_at j f xs ≡ xs
-change_past zero f [] h = refl
-change_past (suc j) f [] h = refl
-change_past zero f (x ∷ xs) h = absurd (omega arith)
-change_past (suc j) f (x ∷ xs) h = ap (λ l. x ∷ l) (change_past j f xs (omega arith))
-
 mark_counts : (j : ℕ) (es : List EntryValue) → j < length es → count_in is_withdrawn (change_at j withdrawn es) ≡ count_in is_withdrawn es + one_if (is_none (withdraw_refusal_by (slice_get es j)))
 mark_counts j [] h = absurd (omega arith)
 mark_counts zero (e ∷ es) h = here e.withdrawn (count_in is_withdrawn es)

@@ -1,8 +1,8 @@
 -- A job goes out, and one that was not ordered comes back at once.
-use Rattle.std.proofs.Common.{◌≡◌, ◌<◌, ℕ, ◌+◌, ◌==◌, Bool, true, false, not, ◌&&◌, if◌then◌else◌, List, [], ◌∷◌, length, map, refl, sym, ap, ◌∙◌, subst, arith, count_by}
+use Rattle.std.proofs.Common.{◌≡◌, ◌+◌, Bool, true, false, not, ◌&&◌, if◌then◌else◌, List, [], ◌∷◌, map, refl, sym, ap, ◌∙◌, arith, count_by}
 use Rattle.mate_search.specs.Jobs.{Task}
-use Rattle.mate_desk.specs.Content.{Content, QueueValue, EntryValue, Phase, Waiting, Out, Finished, entries, is_waiting, is_out, waits, waits_as, has_task, is_out_with}
-use Rattle.mate_desk.specs.Calls.{in_queue, into_phase, everywhere, after_take, after_return}
+use Rattle.mate_desk.specs.Content.{Content, QueueValue, EntryValue, Phase, Waiting, Out, Finished, entries, is_waiting, waits, waits_as, has_task, is_out_with}
+use Rattle.mate_desk.specs.Calls.{in_queue, into_phase, after_take, after_return}
 use Rattle.desk_room.specs.Events.{one_if}
 use Rattle.desk_room.proofs.Places.{cons_is}
 use Rattle.desk_room.proofs.Counting.{count_in, count_all, count_entries, count_less}

@@ -25,3 +25,4 @@ pub mod Meeting
 pub mod Closing
 pub mod Openings
 pub mod Fewness
+pub mod Opened

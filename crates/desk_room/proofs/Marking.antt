@@ -1,10 +1,10 @@
 -- Each event keeps that withdrawals are marked.
-use Rattle.std.proofs.Common.{◌≡◌, ◌<◌, ◌≤◌, true≢false, ℕ, zero, suc, ◌+◌, ◌-◌, Bool, true, false, not, ◌&&◌, ◌||◌, nat_lt, if◌then◌else◌, List, [], ◌∷◌, ◌++◌, length, map, drop, Option, Some, None, refl, sym, ap, ◌∙◌, subst, arith, length-append}
+use Rattle.std.proofs.Common.{◌≡◌, ◌<◌, ◌≤◌, ℕ, zero, suc, ◌+◌, ◌-◌, Bool, true, false, ◌||◌, nat_lt, if◌then◌else◌, List, [], ◌∷◌, ◌++◌, length, map, drop, Some, refl, sym, ap, ◌∙◌, subst, arith, length-append}
 use Rattle.std.proofs.Math.Logic.{∥∥₁_map}
 use Rattle.std.proofs.lemmas.List.{map-append}
 use Rattle.std.proofs.lemmas.Bool.Decides.{nat_tests}
 use Rattle.chess_notation.specs.Records.{RecordValue}
-use Rattle.mate_desk.specs.Content.{QueueValue, EntryValue, Phase, Waiting, is_ready}
+use Rattle.mate_desk.specs.Content.{QueueValue, EntryValue, Phase, Waiting}
 use Rattle.mate_desk.specs.Calls.{change_at, in_queue, into_phase, with_entry, withdrawn, withdrawn_at, ready_first}
 use Rattle.mate_desk.specs.Deliveries.{delivery, delivery_of}
 use Rattle.mate_desk.specs.declared.deliveries.Delivery.{Delivery}

@@ -1,13 +1,12 @@
 -- The entries out, through a turn.
-use Rattle.std.proofs.Common.{◌≡◌, ◌<◌, true≢false, ℕ, zero, suc, ◌+◌, ◌-◌, ◌==◌, Bool, true, false, not, ◌&&◌, ◌||◌, nat_lt, if◌then◌else◌, List, [], ◌∷◌, ◌++◌, length, map, drop, Option, Some, None, refl, sym, ap, ◌∙◌, subst, arith, append_assoc, count_by}
+use Rattle.std.proofs.Common.{◌≡◌, true≢false, ℕ, zero, suc, ◌+◌, ◌-◌, ◌==◌, Bool, true, false, not, ◌&&◌, ◌||◌, nat_lt, if◌then◌else◌, List, [], ◌∷◌, ◌++◌, length, map, drop, Some, refl, sym, ap, ◌∙◌, subst, arith, append_assoc}
 use Rattle.std.specs.List.{list_any}
-use Rattle.mate_search.specs.Jobs.{Task, is_same_problem}
-use Rattle.chess_notation.specs.Records.{problem_of}
-use Rattle.mate_desk.specs.Content.{Content, QueueValue, EntryValue, Phase, Waiting, Out, Finished, entries, is_waiting, is_out, is_finished, is_ready, has_ticket, has_task, waits, waits_as, is_out_with}
+use Rattle.mate_search.specs.Jobs.{Task}
+use Rattle.mate_desk.specs.Content.{Content, QueueValue, EntryValue, Phase, Waiting, Out, Finished, is_out, is_finished, has_ticket, has_task, waits_as, is_out_with}
 use Rattle.mate_desk.specs.Calls.{change_at, in_queue, into_phase, with_entry, withdrawn, withdrawn_at, ready_first}
 use Rattle.mate_desk.specs.Deliveries.{delivery}
 use Rattle.mate_desk.specs.declared.deliveries.Delivery.{Delivery}
-use Rattle.desk_room.specs.Events.{RoomLists, Event, Takes, Gives, Orders, Hears, May, after, one_more, one_if, hearing, job_of, Leads, AllOf, tally, is_heard, is_taken, is_ordered, is_given}
+use Rattle.desk_room.specs.Events.{RoomLists, Event, Takes, Gives, Orders, Hears, May, after, one_more, one_if, hearing, job_of, Leads, AllOf, is_heard, is_taken, is_ordered, is_given}
 use Rattle.desk_room.specs.Turns.{Turned, gained, pending_at, is_out_under, outs, is_named, still_out, times_ordered}
 use Rattle.desk_room.specs.declared.turns.Turn.{Turn}
 use Rattle.desk_room.specs.declared.letters.Letter.TheVariants.{Record, Withdrawal, Farewell}

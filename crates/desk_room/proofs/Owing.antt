@@ -1,9 +1,8 @@
 -- Each event keeps that the records taken are those delivered and then those pending.
-use Rattle.std.proofs.Common.{◌≡◌, ◌≢◌, ◌<◌, ℕ, zero, suc, ◌+◌, ◌-◌, Bool, true, false, nat_lt, if◌then◌else◌, List, [], ◌∷◌, ◌++◌, length, map, drop, Option, Some, None, refl, sym, ap, ◌∙◌, subst, arith, append_assoc}
+use Rattle.std.proofs.Common.{◌≡◌, ℕ, zero, suc, ◌-◌, Bool, true, false, nat_lt, if◌then◌else◌, List, [], ◌∷◌, ◌++◌, map, drop, Some, refl, sym, ap, ◌∙◌, subst, append_assoc}
 use Rattle.std.proofs.lemmas.List.{map-append}
-use Rattle.chess_notation.specs.Records.{RecordValue}
-use Rattle.mate_desk.specs.Content.{Content, QueueValue, EntryValue, Phase}
-use Rattle.mate_desk.specs.Calls.{change_at, in_queue, into_phase, with_entry, withdrawn, withdrawn_at, ready_first, collected}
+use Rattle.mate_desk.specs.Content.{QueueValue, EntryValue, Phase}
+use Rattle.mate_desk.specs.Calls.{change_at, in_queue, into_phase, with_entry, withdrawn, withdrawn_at, ready_first}
 use Rattle.mate_desk.specs.Deliveries.{delivery, delivery_of}
 use Rattle.mate_desk.specs.declared.deliveries.Delivery.{Delivery}
 use Rattle.mate_desk.specs.declared.deliveries.Delivery.TheVariants.{Answer, Notice}
@@ -15,14 +14,9 @@ use Rattle.desk_room.specs.Turns.{pending_at}
 use Rattle.desk_room.specs.declared.letters.Letter.{Letter}
 use Rattle.desk_room.specs.declared.letters.Letter.TheVariants.{Record, Withdrawal, Farewell}
 use Rattle.desk_room.specs.declared.letters.Back.TheVariants.{Solved, Returned}
+use Rattle.desk_room.proofs.LetterCounts.{records_append}
 use Rattle.desk_room.proofs.Places.{nil_append, head_is, tail_is, cons_is, change_id}
 use Rattle.desk_room.proofs.Queues.{ready_at, gone, first_is, collected_is}
-
-pub records_append : (xs ys : List Letter) → records (xs ++ ys) ≡ records xs ++ records ys
-records_append [] ys = refl
-records_append (Record r ∷ xs) ys = ap (λ l. r ∷ l) (records_append xs ys)
-records_append (Withdrawal m ∷ xs) ys = records_append xs ys
-records_append (Farewell ∷ xs) ys = records_append xs ys
 
 -- A change at one window keeps it, if it does there.
 pub owed_change : (g : List Letter → List Letter) (f : List Delivery → List Delivery) (h : QueueValue → QueueValue) (ts : List (List Letter)) (ps : List (List Delivery)) (qs : List QueueValue) (n : ℕ)

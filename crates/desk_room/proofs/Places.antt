@@ -1,5 +1,5 @@
 -- A list with one place changed.
-use Rattle.std.proofs.Common.{◌≡◌, ◌≢◌, ◌<◌, ◌⊎◌, inl, inr, ⊎_elim, ℕ, zero, suc, ◌+◌, List, [], ◌∷◌, ◌++◌, length, map, set, get_or, drop, refl, sym, ap, ◌∙◌, arith}
+use Rattle.std.proofs.Common.{◌≡◌, ◌≢◌, ◌<◌, ◌≤◌, ◌⊎◌, inl, inr, ⊎_elim, ℕ, zero, suc, ◌+◌, List, [], ◌∷◌, ◌++◌, length, map, set, get_or, drop, refl, sym, ap, ◌∙◌, arith}
 use Rattle.mate_desk.specs.Calls.{change_at}
 
 pub nil_append : {A : Type 0} (xs : List A) → xs ++ [] ≡ xs
@@ -30,6 +30,12 @@ change_length zero f [] = refl
 change_length (suc n) f [] = refl
 change_length zero f (x ∷ xs) = refl
 change_length (suc n) f (x ∷ xs) = ap suc (change_length n f xs)
+
+pub change_past : {A : Type 0} (j : ℕ) (f : A → A) (xs : List A) → length xs ≤ j → change_at j f xs ≡ xs
+change_past zero f [] h = refl
+change_past (suc j) f [] h = refl
+change_past zero f (x ∷ xs) h = absurd (omega arith)
+change_past (suc j) f (x ∷ xs) h = ap (λ l. x ∷ l) (change_past j f xs (omega arith))
 
 pub map_change : {A B : Type 0} (f : A → B) (g : B → B) (ls : List A) (n : ℕ) (l m : A) → n < length ls → l ≡ get_or ls n l → f m ≡ g (f l) → map f (set ls n m) ≡ change_at n g (map f ls)
 map_change f g [] n l m h e s = absurd (omega arith)

@@ -1,7 +1,7 @@
 -- What a window has pending, where one queue changes.
-use Rattle.std.proofs.Common.{◌≡◌, ◌≢◌, ◌<◌, ℕ, zero, suc, ◌+◌, Bool, true, false, if◌then◌else◌, List, [], ◌∷◌, ◌++◌, length, map, drop, slice_get, Option, Some, None, refl, sym, ap, ◌∙◌, arith}
-use Rattle.mate_desk.specs.Content.{Content, QueueValue, EntryValue, is_ready}
-use Rattle.mate_desk.specs.Calls.{change_at, in_queue, ready_first, ready_of, ready, collected, collected_by, after_collect, with_queue}
+use Rattle.std.proofs.Common.{◌≡◌, ◌≢◌, ℕ, zero, suc, ◌+◌, true, false, if◌then◌else◌, List, [], ◌∷◌, length, map, drop, slice_get, Option, Some, None, refl, ap, arith}
+use Rattle.mate_desk.specs.Content.{QueueValue, EntryValue, is_ready}
+use Rattle.mate_desk.specs.Calls.{change_at, in_queue, ready_first, ready_of, collected, collected_by}
 use Rattle.mate_desk.specs.Deliveries.{delivery, delivery_of}
 use Rattle.mate_desk.specs.declared.deliveries.Delivery.{Delivery}
 use Rattle.desk_room.specs.Turns.{pending_at}

@@ -1,6 +1,6 @@
 -- The deliveries of one window leave the others as they were.
-use Rattle.std.proofs.Common.{◌≡◌, ◌≢◌, ◌<◌, ◌≤◌, ◌⊎◌, inl, inr, ⊎_elim, ℕ, zero, suc, ◌+◌, Bool, true, false, if◌then◌else◌, List, [], ◌∷◌, ◌++◌, length, map, set, get_or, slice_get, drop, Option, Some, None, refl, sym, ap, ◌∙◌, subst, arith}
-use Rattle.mate_desk.specs.Content.{Content, QueueValue, EntryValue}
+use Rattle.std.proofs.Common.{◌≡◌, ◌≢◌, ◌<◌, ◌⊎◌, inl, inr, ⊎_elim, ℕ, zero, suc, ◌+◌, Bool, true, false, if◌then◌else◌, List, [], ◌∷◌, length, map, set, get_or, slice_get, Some, None, sym, ap, ◌∙◌, subst, arith}
+use Rattle.mate_desk.specs.Content.{Content, QueueValue}
 use Rattle.mate_desk.specs.Calls.{change_at, ready, ready_of, ready_first, collected, pending_of}
 use Rattle.mate_desk.specs.Deliveries.{delivery}
 use Rattle.desk_room.specs.Lines.{deliveries_put, places_free}
@@ -11,7 +11,7 @@ use Rattle.desk_room.specs.declared.lines.Line.{Line}
 use Rattle.desk_room.specs.declared.keepers.Keeper.{Keeper}
 use Rattle.desk_room.proofs.Places.{below_or, at_same}
 use Rattle.desk_room.proofs.Fewness.{one_longer, as_long}
-use Rattle.desk_room.proofs.Queues.{ready_at, gone, pending_gone, pending_other, collected_is, ready_fewer, none_ready}
+use Rattle.desk_room.proofs.Queues.{ready_at, pending_gone, pending_other, collected_is, ready_fewer, none_ready}
 
 pub served_same : (n : ℕ) (k : Keeper) → OthersServed n k k
 unfolding OthersServed

@@ -1,7 +1,7 @@
 -- The windows of a room stay those that they were.
 use Rattle.std.proofs.lemmas.List.Sums.{sum_by-cons, count_by_more_yes, count_by_more_no}
 use Rattle.desk_room.specs.Letters.{farewells}
-use Rattle.std.proofs.Common.{take, Bool, true, false, if◌then◌else◌, count_by, sum_by, cond, nat_lt, ◌+◌, ◌≡◌, ◌≢◌, ◌<◌, ◌⊎◌, inl, inr, ⊎_elim, ℕ, zero, suc, List, [], ◌∷◌, length, map, set, get_or, slice_get, Option, Some, None, refl, sym, ap, ◌∙◌, subst, arith}
+use Rattle.std.proofs.Common.{take, Bool, true, false, if◌then◌else◌, count_by, sum_by, cond, nat_lt, ◌+◌, ◌≡◌, ◌≢◌, ◌<◌, ◌⊎◌, inl, inr, ℕ, zero, suc, List, [], ◌∷◌, length, map, set, get_or, slice_get, Some, refl, sym, ap, ◌∙◌, subst, arith}
 use Rattle.desk_room.specs.Windows.{number_of}
 use Rattle.desk_room.specs.Lines.{letters_taken, SameLine, AreEnds}
 use Rattle.desk_room.specs.Keepers.{windows_gone, IsOf, SameRoom, Stays}

@@ -1,18 +1,17 @@
 -- Each step of the keeper is an event over its lists.
-use Rattle.std.proofs.Common.{◌≡◌, ◌≢◌, ◌<◌, ◌≤◌, ◌⊎◌, inl, inr, ⊎_elim, ℕ, zero, suc, ◌+◌, ◌-◌, ◌^◌, Bool, true, false, if◌then◌else◌, List, [], ◌∷◌, ◌++◌, length, map, set, get_or, drop, replicate, Option, Some, None, refl, sym, ap, ◌∙◌, subst, arith, length-append, length-set, count_by}
+use Rattle.std.proofs.Common.{◌≡◌, ◌<◌, ℕ, zero, suc, Bool, true, false, if◌then◌else◌, List, [], ◌∷◌, ◌++◌, length, map, set, get_or, replicate, refl, sym, ap, ◌∙◌, subst, arith, length-set}
 use Rattle.mate_search.specs.Jobs.{Task}
-use Rattle.mate_desk.specs.Content.{Content, QueueValue, EntryValue, Waiting, Out, Finished, entries, lowest, waits_as, is_out_with}
-use Rattle.mate_desk.specs.Calls.{change_at, in_queue, into_phase, with_entry, withdrawn_at, ready, ready_first, collected, after_take, after_collect}
-use Rattle.mate_desk.specs.Deliveries.{delivery}
+use Rattle.mate_desk.specs.Content.{Content, QueueValue, EntryValue, Waiting, Out, Finished, waits_as, is_out_with}
+use Rattle.mate_desk.specs.Calls.{change_at, in_queue, into_phase, with_entry, withdrawn_at, collected, after_take, after_collect}
 use Rattle.mate_desk.specs.declared.deliveries.Delivery.{Delivery}
 use Rattle.desk_room.specs.Dealing.{stops}
-use Rattle.desk_room.specs.Benches.{heard, back_known}
-use Rattle.desk_room.specs.Lines.{letters_taken, letters_known, deliveries_put, places_free}
+use Rattle.desk_room.specs.Benches.{heard}
+use Rattle.desk_room.specs.Lines.{letters_taken, deliveries_put}
 use Rattle.desk_room.specs.Events.{RoomLists, Takes, Gives, Orders, Hears, May, after, one_more, taking, hearing}
 use Rattle.desk_room.specs.Kept.{room_of, AreOwed, AreMarked}
-use Rattle.desk_room.specs.Passes.{Taking, Giving, Ordering, Hearing}
+use Rattle.desk_room.specs.Passes.{Taking, Giving, Hearing}
 use Rattle.desk_room.specs.Steps.{HeardOne, TookOne, OrderedOne, GaveOne, Trying}
-use Rattle.desk_room.specs.Turns.{pending_at, waiting}
+use Rattle.desk_room.specs.Turns.{waiting}
 use Rattle.desk_room.specs.declared.letters.Letter.{Letter}
 use Rattle.desk_room.specs.declared.letters.Letter.TheVariants.{Record, Withdrawal, Farewell}
 use Rattle.desk_room.specs.declared.letters.Back.{Back}
@@ -25,14 +24,13 @@ use Rattle.desk_room.specs.declared.hearing.Heard.{Heard}
 use Rattle.desk_room.specs.declared.taking.Took.{Took}
 use Rattle.desk_room.specs.declared.ordering.Tried.{Tried}
 use Rattle.desk_room.specs.declared.ordering.Tried.TheVariants.{Ordered, Refused, NoneWaits}
-use Rattle.desk_room.proofs.Places.{map_change, map_same, map_length, change_length, head_is, tail_is}
+use Rattle.desk_room.proofs.Places.{map_change, map_same, map_length, head_is, tail_is}
 use Rattle.desk_room.proofs.Runs.{taking_one, hearing_one, ordering_one, giving_one, giving_same}
 use Rattle.desk_room.proofs.Owing.{owed_after, owed_run}
 use Rattle.desk_room.proofs.Marking.{marked_step, marked_same, marked_runs}
 use Rattle.desk_room.proofs.Filling.{room_withdrawn, room_collected}
 use Rattle.desk_room.proofs.GoingOut.{waiting_less}
 use Rattle.desk_room.proofs.Deals.{stops_append}
-use Rattle.desk_room.proofs.Queues.{ready_at, gone, pending_gone, pending_other, collected_is, ready_fewer}
 
 -- the lists of these parts
 abbrev pub of : List Line → List Ear → List Order → Content → RoomLists

@@ -1,5 +1,5 @@
 -- What the desk was told, and where that changes nothing.
-use Rattle.std.proofs.Common.{◌≡◌, ◌<◌, ◌≤◌, ℕ, zero, suc, ◌+◌, ◌-◌, Bool, true, false, not, ◌&&◌, nat_lt, nat_le, if◌then◌else◌, List, [], ◌∷◌, length, map, slice_get, Option, Some, None, refl, sym, ap, ◌∙◌, subst, arith, count_by}
+use Rattle.std.proofs.Common.{◌≡◌, ◌≤◌, ℕ, zero, suc, ◌+◌, ◌-◌, Bool, true, false, nat_lt, nat_le, if◌then◌else◌, List, [], ◌∷◌, length, slice_get, Option, Some, None, refl, sym, ap, ◌∙◌, arith}
 use Rattle.std.proofs.lemmas.Bool.Decides.{nat_tests}
 use Rattle.mate_search.specs.Jobs.{Task}
 use Rattle.mate_desk.specs.Content.{Content, QueueValue, EntryValue, Phase, Waiting, Finished, entries, waits, lower, lowest, is_out_with}
@@ -7,11 +7,11 @@ use Rattle.mate_desk.specs.Calls.{change_at, has_out, after_return, ready, ready
 use Rattle.mate_desk.specs.Deliveries.{delivery}
 use Rattle.mate_desk.specs.declared.refusals.WithdrawRefusal.{WithdrawRefusal}
 use Rattle.mate_desk.specs.declared.refusals.WithdrawRefusal.TheVariants as refusal
-use Rattle.mate_desk.specs.declared.deliveries.Delivery.{Delivery}
 use Rattle.desk_room.specs.Events.{one_if, job_of, hearing, solved_in, returned_in, stranger_in}
 use Rattle.desk_room.specs.declared.letters.Back.{Back}
 use Rattle.desk_room.specs.declared.letters.Back.TheVariants.{Solved, Returned}
 use Rattle.desk_room.specs.Turns.{waiting}
+use Rattle.desk_room.proofs.Places.{change_past}
 use Rattle.desk_room.proofs.Counting.{count_in, count_is, none_counted}
 use Rattle.desk_room.proofs.GoingOut.{land_none}
 
@@ -30,12 +30,6 @@ is_stranger (Solved d) c h = record { content = stranger_same c d Finished h; so
 is_stranger (Returned j) c h = record { content = stranger_same c j Waiting h; solved = refl; returned = rw h refl; stranger = rw h refl }
 
 -- a withdrawal that is refused
-change_past : {A : Type 0} (j : ℕ) (f : A → A) (xs : List A) → length xs ≤ j → change_at j f xs ≡ xs
-change_past zero f [] h = refl
-change_past (suc j) f [] h = refl
-change_past zero f (x ∷ xs) h = absurd (omega arith)
-change_past (suc j) f (x ∷ xs) h = ap (λ l. x ∷ l) (change_past j f xs (omega arith))
-
 marked_before : (j : ℕ) (es : List EntryValue) (r : WithdrawRefusal) → withdraw_refusal_by (slice_get es j) ≡ Some r → change_at j withdrawn es ≡ es
 marked_before zero [] r h = refl
 marked_before (suc j) [] r h = refl

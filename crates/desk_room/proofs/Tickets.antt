@@ -1,9 +1,8 @@
 -- Each record that was taken has a ticket, and none has more pending than there is room for.
-use Rattle.std.proofs.Common.{◌≡◌, ◌<◌, ◌≤◌, ℕ, zero, suc, ◌+◌, ◌-◌, ◌^◌, ◌==◌, true, false, List, [], ◌∷◌, ◌++◌, length, map, get_or, slice_get, replicate, Some, refl, sym, ap, ◌∙◌, arith, length-append}
+use Rattle.std.proofs.Common.{◌≡◌, ◌<◌, ◌≤◌, ℕ, zero, suc, ◌+◌, ◌-◌, ◌^◌, ◌==◌, true, false, List, [], ◌∷◌, ◌++◌, length, map, get_or, slice_get, replicate, Some, refl, ap, ◌∙◌, arith, length-append}
 use Rattle.std.proofs.lemmas.Bool.Decides.{nat_tests}
 use Rattle.std.proofs.Math.Logic.{∥∥₁_elim}
 use Rattle.std.specs.Coded.{Coded-set, coded_ℕ}
-use Rattle.chess_notation.specs.Records.{RecordValue}
 use Rattle.mate_desk.specs.Content.{Content, QueueValue}
 use Rattle.mate_desk.specs.Laws.{AreOrdered}
 use Rattle.mate_desk.specs.declared.deliveries.Delivery.{Delivery}

@@ -1,7 +1,6 @@
 -- What a contract sees of a keeper: what it did, what its desk holds, and what it knows of its rings (own to this project).
-use Rattle.std.specs.Prelude.{◌≡◌, ◌≢◌, ◌⊎◌, ◌<◌, ◌≤◌, ℕ, nat_lt, Bool, true, false, List, [], ◌∷◌, ◌++◌, length, map, get_or, count_by, slice_get, Some, None}
+use Rattle.std.specs.Prelude.{◌≡◌, ◌≢◌, ◌⊎◌, ℕ, nat_lt, Bool, false, List, [], ◌++◌, length, map, get_or, count_by, slice_get, Some, None}
 use mathlib.Core.List.{IsPrefix}
-use Rattle.mate_desk.specs.Content.{Content, QueueValue}
 use Rattle.mate_desk.specs.Calls.{ready}
 use Rattle.desk_room.specs.Letters.{farewells}
 use Rattle.desk_room.specs.Events.{RoomLists, accepts}

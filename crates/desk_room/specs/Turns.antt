@@ -1,7 +1,6 @@
 -- What a turn is, and what is said of it.
-use Rattle.std.specs.Prelude.{◌≡◌, ◌≤◌, ◌⊎◌, ℕ, zero, suc, ◌+◌, ◌^◌, ◌-◌, ◌==◌, Bool, true, false, not, ◌&&◌, ◌||◌, if◌then◌else◌, List, [], ◌∷◌, ◌++◌, length, drop, get_or, count_by}
+use Rattle.std.specs.Prelude.{◌≡◌, ◌≤◌, ◌⊎◌, ℕ, zero, suc, ◌+◌, ◌^◌, ◌-◌, ◌==◌, Bool, true, false, not, ◌&&◌, if◌then◌else◌, List, [], ◌∷◌, ◌++◌, length, drop, get_or, count_by}
 use Rattle.std.specs.List.{list_any}
-use Rattle.mate_search.specs.Jobs.{Task}
 use Rattle.mate_desk.specs.Content.{Content, EntryValue, QueueValue, entries, has_ticket, has_task, is_out, is_finished, waits}
 use Rattle.mate_desk.specs.declared.deliveries.Delivery.{Delivery}
 use Rattle.desk_room.specs.Letters.{records, farewells}

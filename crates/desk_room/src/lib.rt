@@ -1,7 +1,13 @@
 //! The desk across threads: submitters at windows, solvers at benches, and one keeper of the desk between them. No call waits, and
 //! none takes a lock.
 //!
-//! What a desk holds is `mate_desk`'s business, and solving is `mate_search`'s.
+//! What a desk holds and what its calls answer is `mate_desk`'s business, solving is `mate_search`'s, and how a ring and a stealing
+//! deque work is that of `rtrb` and `crossbeam_deque`. No thread is started here: whoever opens a room puts its ends on threads.
+//!
+//! To read: `letters` (what goes over the rings); `windows`, with `window_faults`, and `lines`, the keeper's ends of a window's two
+//! rings, which `pairs` opens and lets meet. Then `orders`; `dealing`, the rule of the deque; `dealers`, its end at the keeper, and
+//! `seats`, its ends at the `benches`; `ears`, the keeper's ends of the `back_rings`. Then `keepers`, and a turn, pass by pass:
+//! `hearing`, `taking`, `ordering`, `giving`, and `turns` as a whole. Last `rooms`, which opens all of it, and `settling`.
 #![tactic(auto)]
 
 mod back_rings;
@@ -40,6 +46,8 @@ pub use windows::Window;
 mod order_tests;
 #[cfg(test)]
 mod room_tests;
+#[cfg(test)]
+mod scenes;
 #[cfg(test)]
 mod shared_tests;
 #[cfg(test)]

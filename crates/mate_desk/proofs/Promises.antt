@@ -61,7 +61,7 @@ by_submit n room h k cl = by_if (nat_le n k) (reply.Refused refused.NoSuchSubmit
 by_line : (n room default : ℕ) (h : History) (k : ℕ) (line : List ℕ) (r : Reply) → closed h ≡ true → IsSubmitReply n room default h k line r → is_ticket r ≡ false
 by_line n room default h k line r cl (inl e) = ap is_ticket e.2
 by_line n room default h k line r cl (inr e) = elim e.2 [
-  | inl q ↦ ap is_ticket q
+  | inl q ↦ ap is_ticket q.1
   | inr q ↦ ap is_ticket q ∙ by_submit n room h k cl
 ]
 

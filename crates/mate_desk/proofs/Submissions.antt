@@ -144,7 +144,7 @@ refuses default c jobs s text asked r reads w few n room h x =
     )
 
 -- The line says no record, or memory was refused for it.
-pub faulty : (default : ℕ) (c : Content) (jobs : List Task) (s : ℕ) (text : Vec ℕ Global) (fault : EpdFault) → IsFaultOf text.items fault ⊎ ((fault ≡ NoMemory) × ((asked : RecordValue) × Reads text.items default asked)) → Makes default (step.Submit s text) (reply.BadRecord fault) c jobs c jobs
+pub faulty : (default : ℕ) (c : Content) (jobs : List Task) (s : ℕ) (text : Vec ℕ Global) (fault : EpdFault) → IsFaultOf text.items fault ⊎ ((fault ≡ NoMemory) × ((asked : RecordValue) × Reads text.items default asked × (asked.rest ≢ []))) → Makes default (step.Submit s text) (reply.BadRecord fault) c jobs c jobs
 faulty default c jobs s text fault f n room h x =
     let asks : ℕ → RecordValue = x.0 in
     let m : MirrorsBy asks n room default h c jobs = x.1 in (
@@ -162,6 +162,6 @@ faulty default c jobs s text fault f n room h x =
       },
     )
   where
-    by_fault : IsFaultOf text.items fault ⊎ ((fault ≡ NoMemory) × ((asked : RecordValue) × Reads text.items default asked)) → IsSubmitReply n room default h s text.items (reply.BadRecord fault)
+    by_fault : IsFaultOf text.items fault ⊎ ((fault ≡ NoMemory) × ((asked : RecordValue) × Reads text.items default asked × (asked.rest ≢ []))) → IsSubmitReply n room default h s text.items (reply.BadRecord fault)
     by_fault (inl e) = inl (fault, e, refl)
-    by_fault (inr e) = inr (e.1.0, e.1.1, inl (ap (λ q. reply.BadRecord q) e.0))
+    by_fault (inr e) = inr (e.1.0, e.1.1, inl (e.1.2, ap (λ q. reply.BadRecord q) e.0))

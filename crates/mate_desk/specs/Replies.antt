@@ -1,5 +1,5 @@
 -- The reply to each step is fixed by what happened before it (own to this project).
-use Rattle.std.specs.Prelude.{◌≡◌, ◌⊎◌, ℕ, zero, suc, ◌+◌, ◌==◌, nat_lt, nat_le, Bool, true, false, not, ◌&&◌, if◌then◌else◌, List, [], ◌∷◌, length, flat_map, slice_get, Option, Some, None}
+use Rattle.std.specs.Prelude.{◌≡◌, ◌≢◌, ◌⊎◌, ℕ, zero, suc, ◌+◌, ◌==◌, nat_lt, nat_le, Bool, true, false, not, ◌&&◌, if◌then◌else◌, List, [], ◌∷◌, length, flat_map, slice_get, Option, Some, None}
 use Rattle.std.specs.List.{list_all}
 use Rattle.chess_notation.specs.Records.{RecordValue, Reads}
 use Rattle.chess_notation.specs.EpdFaults.{IsFaultOf}
@@ -47,11 +47,12 @@ submit_reply n room h s =
     else (if nat_le room (pending h s) then reply.Refused submit.Full
     else reply.Ticket (count_accepted h)))
 
--- To a line: it says no record and has this fault; or it says one, and memory for that was refused, or it is handed in.
+-- To a line: it says no record and has this fault; or it says one, and memory for the operations that it keeps was refused, or it
+-- is handed in.
 abbrev pub IsSubmitReply : ℕ → ℕ → ℕ → History → ℕ → List ℕ → Reply → Type 0
 IsSubmitReply n room default h s line r =
     ((fault : EpdFault) × IsFaultOf line fault × (r ≡ reply.BadRecord fault))
-    ⊎ ((asked : RecordValue) × Reads line default asked × ((r ≡ reply.BadRecord NoMemory) ⊎ (r ≡ submit_reply n room h s)))
+    ⊎ ((asked : RecordValue) × Reads line default asked × (((asked.rest ≢ []) × (r ≡ reply.BadRecord NoMemory)) ⊎ (r ≡ submit_reply n room h s)))
 
 -- to a step that takes, finishes or hands back, where this ticket is the one, or where there is none
 abbrev pub take_reply : Option ℕ → Reply

@@ -143,7 +143,7 @@ gave_up default refusals known left old new seen text lines taken opens replies 
 
 -- A line with this fault, which is not want of memory, is refused by it.
 pub reply_refused : {X E : Type 0} (default number : ℕ) (line : List ℕ) (fault : EpdFault) (text : X → List ℕ) (count : X → ℕ) (r : Result X E)
-    → is_blank line ≡ false → IsFaultOf line fault ⊎ ((fault ≡ NoMemory) × ((r : RecordValue) × Reads line default r))
+    → is_blank line ≡ false → IsFaultOf line fault ⊎ ((fault ≡ NoMemory) × ((r : RecordValue) × Reads line default r × (r.rest ≢ [])))
     → IfOk r (λ x. fault ≢ NoMemory) → IfOk r (λ x. text x ≡ fault_line number fault) → IfOk r (λ x. count x ≡ 1)
     → IfOk r (λ x. IsLineReply default number line (text x) (count x))
 reply_refused default number line fault text count (Ok x) some (inl first) other is one = rw (is, one) (refused fault some first)

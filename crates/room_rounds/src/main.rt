@@ -2,21 +2,22 @@
 //!
 //! In a round of the kind `letters` the last window fills its ring with records, the keeper turns, the last bench solves each job
 //! and gives it back, the keeper turns again, and the window collects what it is given. In one of the kind `idle` the keeper turns,
-//! and nothing lies in any ring. At last the number of the answers that were collected is printed. Where something is refused, its
-//! name is said on standard error, and the status is 1. `bench/room` runs it.
+//! and nothing lies in any ring. At last the benches are sent home, and the number of the answers that were collected is printed.
+//! Where a growth is refused, what was refused is tried again; where something else is, its name is said on standard error, and the
+//! status is 1. `bench/room` runs it, and `tests/no_memory` with refused growths.
 #![tactic(auto)]
 
 use chess_moves::Rays;
-use chess_notation::Bound;
-use desk_room::{Back, Bench, Keeper, Room, Taken, Window, open_room};
+use chess_notation::{Bound, EpdFault};
+use desk_room::{Back, Bench, Keeper, Room, Taken, Window, WindowFault, open_room};
 use mate_search::Memo;
 use std::alloc::Global;
 use std::env;
 use std::process::ExitCode;
 use std::rt::Env;
 
-/// A mate in one.
-const LINE: &[u8] = b"6k1/5ppp/8/8/8/8/8/R3K3 w Q - dm 1;";
+/// A mate in one, whose operation is kept for the answer.
+const LINE: &[u8] = b"6k1/5ppp/8/8/8/8/8/R3K3 w Q - dm 1; id \"back rank\";";
 
 /// What is asked for.
 #[derive(Clone, Copy)]
@@ -43,15 +44,16 @@ fn rounds_of(words: &[String]) -> Option<Rounds> {
     })
 }
 
-/// Sends as many records as the ring has places.
-fn send(alloc: Global, rays: &Rays, window: &mut Window, ring: usize) -> Result<(), &'static str> {
-    for _ in 0..ring {
+/// Sends a record. Where memory is refused for it, the ring is as it was, and it is sent again.
+fn send(alloc: Global, rays: &Rays, window: &mut Window) -> Result<(), &'static str> {
+    for _ in 0..2 {
         match window.submit(alloc, rays, LINE) {
-            Ok(()) => {}
+            Ok(()) => return Ok(()),
+            Err(WindowFault::BadRecord(EpdFault::NoMemory)) => {}
             Err(fault) => return Err(fault.code()),
         }
     }
-    Ok(())
+    Err("NoMemory")
 }
 
 /// Solves the jobs that are ordered, and gives them back.
@@ -62,8 +64,7 @@ fn solve(rays: &Rays, memo: &mut Memo, bench: &mut Bench, ring: usize) -> Result
                 .back(Back::Solved(job.solve(rays, memo)))
                 .ok()
                 .ok_or("back")?,
-            Taken::Stop => return Err("stop"),
-            Taken::Nothing => return Err("nothing"),
+            _ => break,
         }
     }
     Ok(())
@@ -80,7 +81,7 @@ fn collect(window: &mut Window, ring: usize) -> usize {
     collected
 }
 
-/// Makes one round, and answers how many deliveries were collected.
+/// Makes one round, and answers how many deliveries were collected. Where the deque can't grow, jobs wait for a later turn.
 fn make_round(
     alloc: Global,
     rays: &Rays,
@@ -90,11 +91,36 @@ fn make_round(
     bench: &mut Bench,
     ring: usize,
 ) -> Result<usize, &'static str> {
-    send(alloc, rays, window, ring)?;
-    keeper.turn();
-    solve(rays, memo, bench, ring)?;
-    keeper.turn();
-    Ok(collect(window, ring))
+    for _ in 0..ring {
+        send(alloc, rays, window)?;
+    }
+    let mut collected: usize = 0;
+    for _ in 0..=ring {
+        keeper.turn();
+        solve(rays, memo, bench, ring)?;
+        keeper.turn();
+        collected = collected.wrapping_add(collect(window, ring));
+        if ring <= collected {
+            return Ok(collected);
+        }
+    }
+    Err("stuck")
+}
+
+/// Sends the benches home. Where the deque can't grow, stops stay owed until one was taken.
+fn close(keeper: &mut Keeper, bench: &mut Bench) -> Result<(), &'static str> {
+    keeper.close();
+    for _ in 0..16 {
+        let owed = keeper.send_home();
+        match bench.take() {
+            Taken::Stop => {}
+            _ => return Err("no stop"),
+        }
+        if owed == 0 {
+            return Ok(());
+        }
+    }
+    Err("owed")
 }
 
 /// Makes all the rounds that are asked for, and counts what was collected.
@@ -132,6 +158,7 @@ fn make_rounds(alloc: Global, asked: Rounds) -> Result<usize, &'static str> {
             collected = collected.wrapping_add(more);
         }
     }
+    close(&mut keeper, &mut bench)?;
     Ok(collected)
 }
 

@@ -93,7 +93,7 @@ returns-clause-refused c =
     let nine = clear_to_nine line text c.operations_in-text.ensures c.in_ok-position.ensures.clear c.in-Some.ensures.small in
     when_none _ c.record_of.result c.record_of.ensures.refused
     (λ none. inl (avoid_is_fault line text c.in_ok-position.position nine c.in_ok-position.ensures.read.0 c.operations_in-text.ensures none))
-    (λ names.
+    (λ both.
     let is : IsChecked line text c.in_ok-position.position =
-    record { text_is = c.operations_in-text.ensures; clear = nine; spelt = c.in_ok-position.ensures.read.0; sound = c.in_ok-position.ensures.read.1; names = names } in
-    inr (refl, (made text c.in_ok-position.position c.args.default, made_reads c.legal_listed.ensures line text c.in_ok-position.position c.args.default is)))
+    record { text_is = c.operations_in-text.ensures; clear = nine; spelt = c.in_ok-position.ensures.read.0; sound = c.in_ok-position.ensures.read.1; names = both.0 } in
+    inr (refl, (made text c.in_ok-position.position c.args.default, made_reads c.legal_listed.ensures line text c.in_ok-position.position c.args.default is, both.1)))

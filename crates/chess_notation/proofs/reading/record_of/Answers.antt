@@ -36,8 +36,8 @@ invariant_of-result c =
           rw w.avoid-is (w.new-avoid.ensures ∙ unasked_moves c.args.position (segments_of c.args.text.now).ended none)
     ] in (
       rw avoid (avoid_rises c.legal_rise.ensures c.args.position _),
-      rw c.in-Ok.ensures (rest_rises _ c.requires.distinct),
-      rw c.in-Ok.ensures (rest_kept _),
+      rw c.in-Ok.ensures.ok (rest_rises _ c.requires.distinct),
+      rw c.in-Ok.ensures.ok (rest_kept _),
     )
 
 pub returns-in-Ok-clause-made : goal.returns-in-Ok-clause-made
@@ -50,7 +50,7 @@ returns-in-Ok-clause-made c =
           let none = subst (IsNothing c.args.text.now) w.in-None.is c.requires.nothing in
           rw w.avoid-is (w.new-avoid.ensures ∙ unasked_moves c.args.position (segments_of c.args.text.now).ended none)
     ] in
-    λ i. record { position = c.args.position; bound = c.args.asked.bound; avoid = avoid i; rest = c.in-Ok.ensures i }
+    λ i. record { position = c.args.position; bound = c.args.asked.bound; avoid = avoid i; rest = c.in-Ok.ensures.ok i }
 
 pub returns-in-Ok-clause-names : goal.returns-in-Ok-clause-names
 returns-in-Ok-clause-names c = elim c.match-asked.branch [
@@ -65,12 +65,15 @@ returns-in-Ok-clause-names c = elim c.match-asked.branch [
 pub returns-in-Err-clause-refused : goal.returns-in-Err-clause-refused
 returns-in-Err-clause-refused c = inr (
   refl,
-  elim c.match-asked.branch [
-    | in-Some+in-Some-named_moves w ↦
-        let there = subst (IsBehind c.args.text.now) w.in-Some.is c.requires.avoid in
-        asked_names c.args.position (segments_of c.args.text.now).ended w.in-Some.words.now c.requires.distinct there ∙ w.in-Some-named_moves.ensures.names
-    | in-None w ↦
-        let none = subst (IsNothing c.args.text.now) w.in-None.is c.requires.nothing in
-        unasked_names c.args.position (segments_of c.args.text.now).ended c.requires.distinct none
-  ],
+  (
+    elim c.match-asked.branch [
+      | in-Some+in-Some-named_moves w ↦
+          let there = subst (IsBehind c.args.text.now) w.in-Some.is c.requires.avoid in
+          asked_names c.args.position (segments_of c.args.text.now).ended w.in-Some.words.now c.requires.distinct there ∙ w.in-Some-named_moves.ensures.names
+      | in-None w ↦
+          let none = subst (IsNothing c.args.text.now) w.in-None.is c.requires.nothing in
+          unasked_names c.args.position (segments_of c.args.text.now).ended c.requires.distinct none
+    ],
+    c.in-Err.ensures.err,
+  ),
 )

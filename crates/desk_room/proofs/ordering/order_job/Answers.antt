@@ -1,4 +1,4 @@
-use Rattle.std.proofs.Common.{rules, ◌≡◌, sym, ap, ◌∙◌}
+use Rattle.std.proofs.Common.{ap, ◌∙◌}
 use Rattle.mate_desk.specs.Content.{Content, Waiting}
 use Rattle.mate_desk.specs.Calls.{after_return}
 use Rattle.desk_room.proofs.GoingOut.{undone}

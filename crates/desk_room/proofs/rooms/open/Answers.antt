@@ -1,4 +1,4 @@
-use Rattle.std.proofs.Common.{rules, arith, ◌≡◌, sym, ap, ◌∙◌, length, map, replicate}
+use Rattle.std.proofs.Common.{sym, ap, ◌∙◌, length, map, replicate}
 use Rattle.mate_desk.specs.Content.{Content}
 use Rattle.desk_room.specs.Dealing.{stops}
 use Rattle.desk_room.specs.Lines.{letters_taken, deliveries_put}

@@ -1,4 +1,4 @@
-use Rattle.std.proofs.Common.{◌≡◌, ◌+◌, ◌≤◌, vec_len, vec_capacity, [], map, replicate}
+use Rattle.std.proofs.Common.{◌≡◌, ◌≤◌, vec_len, vec_capacity, [], map, replicate}
 use Rattle.desk_room.specs.Orders.{orders, passes}
 use Rattle.desk_room.specs.Benches.{heard, ear_ring}
 use Rattle.desk_room.specs.Opening.{AreIdle}

@@ -1,4 +1,4 @@
-use Rattle.std.proofs.Common.{List, ℕ, ◌⊎◌, ◌≡◌, subst, arith}
+use Rattle.std.proofs.Common.{List, [], ℕ, ◌⊎◌, ◌≡◌, ◌≢◌, subst, arith}
 use Rattle.chess_notation.specs.Records.{RecordValue, Reads}
 use Rattle.chess_notation.specs.EpdFaults.{IsFaultOf}
 use Rattle.chess_notation.specs.declared.faults.EpdFault.TheVariants.{NoMemory}
@@ -17,7 +17,7 @@ returns-clause-makes c jobs n room h m =
 
 pub returns-in-Err-clause-makes : goal.returns-in-Err-clause-makes
 returns-in-Err-clause-makes c jobs n room h m =
-    let refused = subst (λ line. IsFaultOf line c.in-Err.fault ⊎ ((c.in-Err.fault ≡ NoMemory) × ((asked : RecordValue) × Reads line c.args.default asked))) c.deref.ensures.value c.in-Err.ensures.refused in
+    let refused = subst (λ line. IsFaultOf line c.in-Err.fault ⊎ ((c.in-Err.fault ≡ NoMemory) × ((asked : RecordValue) × Reads line c.args.default asked × (asked.rest ≢ [])))) c.deref.ensures.value c.in-Err.ensures.refused in
     faulty c.args.default c.args.desk.now jobs c.args.s c.args.line.now c.in-Err.fault refused n room h m
 
 pub returns-clause-finished : goal.returns-clause-finished

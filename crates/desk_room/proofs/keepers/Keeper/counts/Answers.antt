@@ -1,4 +1,4 @@
-use Rattle.std.proofs.Common.{rules, arith, map}
+use Rattle.std.proofs.Common.{arith, map}
 use Rattle.desk_room.specs.Lines.{letters_taken, deliveries_put}
 use Rattle.desk_room.proofs.Places.{map_length}
 use Rattle.desk_room.proofs.Tickets.{few_records}

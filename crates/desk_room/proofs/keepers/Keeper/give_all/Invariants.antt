@@ -1,4 +1,4 @@
-use Rattle.std.proofs.Common.{ℕ, ◌≡◌, ◌≤◌, ◌<◌, ◌+◌, ◌*◌, length}
+use Rattle.std.proofs.Common.{ℕ, ◌≡◌, ◌≤◌, ◌<◌, ◌*◌, length}
 use Rattle.desk_room.specs.Keepers.{lists, known, IsServed, SameRoom}
 use Rattle.desk_room.specs.Passes.{Giving}
 use Rattle.desk_room.specs.Steps.{GainBefore}

@@ -1,4 +1,4 @@
-use Rattle.std.proofs.Common.{rules, arith, ◌≡◌, sym, ap, refl, ◌∙◌, inl, inr, ⊎_elim, length, length-set, [], map}
+use Rattle.std.proofs.Common.{arith, refl, ◌∙◌, inl, inr, ⊎_elim, length-set}
 use Rattle.desk_room.specs.Orders.{orders}
 use Rattle.desk_room.specs.Lines.{letters_known, deliveries_put, places_free, ring_of}
 use Rattle.desk_room.specs.Keepers.{OthersServed}

@@ -1,4 +1,4 @@
-use Rattle.std.proofs.Common.{rules, arith, ◌≡◌, sym, ap, ◌∙◌, length, length-set, []}
+use Rattle.std.proofs.Common.{arith, sym, ap, ◌∙◌, length, length-set, []}
 use Rattle.desk_room.specs.Orders.{orders}
 use Rattle.desk_room.specs.Benches.{back_known, ear_ring}
 use Rattle.desk_room.proofs.Places.{at_same}

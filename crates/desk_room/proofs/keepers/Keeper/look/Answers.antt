@@ -1,4 +1,4 @@
-use Rattle.std.proofs.Common.{rules, arith, ◌≡◌, sym, ap, refl, ◌∙◌, subst, inl, inr, ⊎_elim, length, length-set, []}
+use Rattle.std.proofs.Common.{arith, sym, ap, refl, ◌∙◌, subst, inl, inr, ⊎_elim, length, length-set, []}
 use Rattle.desk_room.specs.Orders.{orders}
 use Rattle.desk_room.specs.Lines.{letters_known, ring_of}
 use Rattle.desk_room.specs.Kept.{AreOwed}

@@ -1,4 +1,4 @@
-use Rattle.std.proofs.Common.{rules, arith, ◌≡◌, sym, ap, ◌∙◌, length, map, true≢false}
+use Rattle.std.proofs.Common.{arith, sym, ◌∙◌, map, true≢false}
 use Rattle.desk_room.specs.Orders.{orders}
 use Rattle.desk_room.specs.Benches.{heard}
 use Rattle.desk_room.specs.Lines.{letters_taken, deliveries_put}

@@ -1,4 +1,4 @@
-use Rattle.std.proofs.Common.{rules, arith}
+use Rattle.std.proofs.Common.{arith}
 use Rattle.desk_room.proofs.Served.{pending_is}
 use Rattle.desk_room.proofs.Tickets.{few_pending}
 use Rattle.desk_room.proofs.keepers.Keeper.pending.Goals as goal

@@ -1,4 +1,4 @@
-use Rattle.std.proofs.Common.{rules, refl}
+use Rattle.std.proofs.Common.{refl}
 use Rattle.desk_room.proofs.Staying.{stays_lines}
 use Rattle.desk_room.proofs.keepers.Keeper.send_home.Goals as goal
 

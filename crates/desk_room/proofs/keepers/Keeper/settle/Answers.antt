@@ -1,4 +1,4 @@
-use Rattle.std.proofs.Common.{rules, arith, ◌≡◌, sym, ap, refl, ◌∙◌, subst, length, length-set, set, slice_get, get_or, List, [], ◌++◌, map}
+use Rattle.std.proofs.Common.{rules, arith, sym, ap, refl, ◌∙◌, subst, length, length-set, set, slice_get, get_or, List, [], ◌++◌, map}
 use Rattle.std.proofs.Math.Logic.{∥∥₁_elim}
 use Rattle.std.specs.Coded.{Coded-set, coded_bool}
 use Rattle.desk_room.specs.Orders.{orders}

@@ -1,4 +1,4 @@
-use Rattle.std.proofs.Common.{rules, arith, ◌∙◌}
+use Rattle.std.proofs.Common.{arith, ◌∙◌}
 use Rattle.desk_room.specs.Keepers.{lists}
 use Rattle.desk_room.proofs.Fewness.{gain_more}
 use Rattle.desk_room.proofs.Runs.{taking_then}

@@ -1,4 +1,4 @@
-use Rattle.std.proofs.Common.{ℕ, ◌≡◌, ◌≤◌, ◌<◌, ◌+◌, ◌*◌, length}
+use Rattle.std.proofs.Common.{ℕ, ◌≡◌, ◌≤◌, ◌<◌, ◌*◌, length}
 use Rattle.desk_room.specs.Keepers.{lists, IsRead, Ahead, SameRoom}
 use Rattle.desk_room.specs.Passes.{Taking}
 use Rattle.desk_room.specs.Steps.{GainBefore}

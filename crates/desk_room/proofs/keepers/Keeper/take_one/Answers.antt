@@ -1,4 +1,4 @@
-use Rattle.std.proofs.Common.{rules, arith, ◌≡◌, sym, ap, refl, ◌∙◌, subst, inl, inr, ⊎_elim, length, length-set, [], map}
+use Rattle.std.proofs.Common.{arith, ap, refl, ◌∙◌, inl, inr, ⊎_elim, length, length-set, []}
 use Rattle.desk_room.specs.Letters.{records}
 use Rattle.desk_room.specs.Orders.{orders}
 use Rattle.desk_room.specs.Lines.{letters_taken, letters_known, ring_of}

@@ -1,7 +1,7 @@
-use Rattle.std.proofs.Common.{rules, arith, ◌≡◌, ◌<◌, inl, inr, ⊎_elim, sym, ap, refl, ◌∙◌, subst, length, map, get_or, []}
+use Rattle.std.proofs.Common.{arith, ◌≡◌, ◌<◌, inl, inr, ⊎_elim, sym, ap, ◌∙◌, subst, length, map, get_or, []}
 use Rattle.desk_room.specs.Lines.{letters_known}
 use Rattle.desk_room.specs.Orders.{orders}
-use Rattle.desk_room.specs.Turns.{Turned, waiting, GainFew}
+use Rattle.desk_room.specs.Turns.{waiting, GainFew}
 use Rattle.desk_room.specs.Keepers.{lists, known}
 use Rattle.desk_room.proofs.Ahead.{ahead_then, ahead_lines, ahead_equal}
 use Rattle.desk_room.proofs.Gains.{gains, turned_closed}
