@@ -11,32 +11,40 @@ use Rattle.desk_room.specs.Lines.{letters_taken, letters_known}
 use Rattle.desk_room.specs.Keepers.{known, IsRead, Ahead, OthersRead}
 use Rattle.desk_room.specs.declared.letters.Letter.{Letter}
 use Rattle.desk_room.specs.declared.letters.Letter.TheVariants.{Record, Withdrawal, Farewell}
-use Rattle.desk_room.specs.declared.lines.Line.{Line}
 use Rattle.desk_room.specs.declared.keepers.Keeper.{Keeper}
 use Rattle.desk_room.proofs.Places.{nil_append, is_or_not, below_or, at_other, at_same, at_old, change_length}
 
+-- what was taken off the rings, with what is known to lie in them, at the i-th
+abbrev pub Longer : {A : Type 0} → (taken known taken_then known_then : List (List A)) → ℕ → Type 0
+Longer taken known taken_then known_then i = IsPrefix (get_or taken i [] ++ get_or known i []) (get_or taken_then i [] ++ get_or known_then i [])
+
+pub prefix_same : {A : Type 0} (xs : List A) → IsPrefix xs xs
+prefix_same xs = ([], nil_append xs)
+
+pub prefix_then : {A : Type 0} (xs ys zs : List A) → IsPrefix xs ys → IsPrefix ys zs → IsPrefix xs zs
+prefix_then xs ys zs p q = (p.0 ++ q.0, sym (append_assoc xs p.0 q.0) ∙ (ap (λ z. z ++ q.0) p.1 ∙ q.1))
+
 -- of one ring
-pub ahead_at : (ls : List Line) (n : ℕ) (l m : Line) → n < length ls → l ≡ get_or ls n l → IsPrefix (letters_taken l ++ letters_known l) (letters_taken m ++ letters_known m)
-    → (i : ℕ) → IsPrefix (get_or (map letters_taken ls) i [] ++ get_or (map letters_known ls) i []) (get_or (map letters_taken (set ls n m)) i [] ++ get_or (map letters_known (set ls n m)) i [])
-ahead_at ls n l m h e p i = pick (is_or_not i n)
+pub ahead_at : {A B : Type 0} (f g : B → List A) (ls : List B) (n : ℕ) (l m : B) → n < length ls → l ≡ get_or ls n l → IsPrefix (f l ++ g l) (f m ++ g m) → (i : ℕ) → Longer (map f ls) (map g ls) (map f (set ls n m)) (map g (set ls n m)) i
+ahead_at f g ls n l m h e p i = pick (is_or_not i n)
   where
-    pick : ((i ≡ n) ⊎ (i ≢ n)) → IsPrefix (get_or (map letters_taken ls) i [] ++ get_or (map letters_known ls) i []) (get_or (map letters_taken (set ls n m)) i [] ++ get_or (map letters_known (set ls n m)) i [])
-    pick (inl q) = rw (q, at_old letters_taken ls n l [] h e, at_old letters_known ls n l [] h e, at_same letters_taken ls n m [] h, at_same letters_known ls n m [] h) p
-    pick (inr q) = rw (at_other letters_taken ls n i m [] q, at_other letters_known ls n i m [] q) ([], nil_append _)
+    pick : ((i ≡ n) ⊎ (i ≢ n)) → Longer (map f ls) (map g ls) (map f (set ls n m)) (map g (set ls n m)) i
+    pick (inl q) = rw (q, at_old f ls n l [] h e, at_old g ls n l [] h e, at_same f ls n m [] h, at_same g ls n m [] h) p
+    pick (inr q) = rw (at_other f ls n i m [] q, at_other g ls n i m [] q) (prefix_same _)
 
-pub ahead_taken : (l m : Line) (x : Letter) → letters_known l ≡ x ∷ letters_known m → letters_taken m ≡ letters_taken l ++ x ∷ [] → IsPrefix (letters_taken l ++ letters_known l) (letters_taken m ++ letters_known m)
-ahead_taken l m x k t = ([], nil_append _ ∙ (ap (λ r. letters_taken l ++ r) k ∙ (sym (append_assoc (letters_taken l) (x ∷ []) (letters_known m)) ∙ ap (λ r. r ++ letters_known m) (sym t))))
+pub ahead_taken : {A : Type 0} (taken known taken_then known_then : List A) (x : A) → known ≡ x ∷ known_then → taken_then ≡ taken ++ x ∷ [] → IsPrefix (taken ++ known) (taken_then ++ known_then)
+ahead_taken taken known taken_then known_then x k t = ([], nil_append _ ∙ (ap (λ r. taken ++ r) k ∙ (sym (append_assoc taken (x ∷ []) known_then) ∙ ap (λ r. r ++ known_then) (sym t))))
 
-pub ahead_looked : (l m : Line) → IsPrefix (letters_known l) (letters_known m) → letters_taken m ≡ letters_taken l → IsPrefix (letters_taken l ++ letters_known l) (letters_taken m ++ letters_known m)
-ahead_looked l m p t = (p.0, append_assoc (letters_taken l) (letters_known l) p.0 ∙ (ap (λ r. letters_taken l ++ r) p.1 ∙ ap (λ r. r ++ letters_known m) (sym t)))
+pub ahead_looked : {A : Type 0} (taken known taken_then known_then : List A) → IsPrefix known known_then → taken_then ≡ taken → IsPrefix (taken ++ known) (taken_then ++ known_then)
+ahead_looked taken known taken_then known_then p t = (p.0, append_assoc taken known p.0 ∙ (ap (λ r. taken ++ r) p.1 ∙ ap (λ r. r ++ known_then) (sym t)))
 
 pub ahead_same : (k : Keeper) → Ahead k k
 unfolding Ahead
-ahead_same k = λ i. ([], nil_append _)
+ahead_same k = λ i. prefix_same _
 
 pub ahead_then : (k l m : Keeper) → Ahead k l → Ahead l m → Ahead k m
 unfolding Ahead
-ahead_then k l m f g = λ i. let h = f i in let j = g i in (h.0 ++ j.0, sym (append_assoc _ h.0 j.0) ∙ (ap (λ z. z ++ j.0) h.1 ∙ j.1))
+ahead_then k l m f g = λ i. prefix_then _ _ _ (f i) (g i)
 
 -- where nothing was done at the record rings
 pub ahead_equal : (k m : Keeper) → map letters_taken m.lines.items ≡ map letters_taken k.lines.items → known m ≡ known k → Ahead k m

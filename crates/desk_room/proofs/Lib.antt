@@ -17,6 +17,7 @@ pub mod RingEnds
 pub mod Deals
 pub mod Telling
 pub mod Ahead
+pub mod Listening
 pub mod Staying
 pub mod Stepping
 pub mod Served

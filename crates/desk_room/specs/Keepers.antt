@@ -7,7 +7,7 @@ use Rattle.desk_room.specs.Events.{RoomLists, accepts}
 use Rattle.desk_room.specs.Lines.{letters_taken, letters_known, deliveries_put, places_free, AreEnds}
 use Rattle.desk_room.specs.Windows.{number_of}
 use Rattle.desk_room.specs.Benches.{heard, back_known}
-use Rattle.desk_room.specs.Orders.{orders}
+use Rattle.desk_room.specs.Orders.{orders, places}
 use Rattle.desk_room.specs.declared.letters.Letter.{Letter}
 use Rattle.desk_room.specs.declared.letters.Back.{Back}
 use Rattle.desk_room.specs.declared.windows.Window.{Window}
@@ -27,6 +27,10 @@ benches_of k = length k.ears.items
 
 abbrev pub ring_of : Keeper → ℕ
 ring_of k = k.ring
+
+-- how many places its deque of orders has
+abbrev pub order_places : Keeper → ℕ
+order_places k = places k.dealer
 
 -- It has begun to send the benches home.
 abbrev pub is_home : Keeper → Bool
@@ -59,6 +63,10 @@ IsServed n k = (get_or (free k) n 0 ≡ 0) ⊎ (ready k.desk n ≡ None)
 -- What was taken of each window and is known to lie in its ring only grows.
 unfoldable pub Ahead : Keeper → Keeper → Type 0
 Ahead k m = (n : ℕ) → IsPrefix (get_or (lists k).taken n [] ++ get_or (known k) n []) (get_or (lists m).taken n [] ++ get_or (known m) n [])
+
+-- The same of each bench: what was heard of it and is known to lie in its back ring.
+unfoldable pub BacksAhead : Keeper → Keeper → Type 0
+BacksAhead k m = (b : ℕ) → IsPrefix (get_or (lists k).heard b [] ++ get_or (backs_known k) b []) (get_or (lists m).heard b [] ++ get_or (backs_known m) b [])
 
 -- what is so of the other windows stays so
 unfoldable pub OthersRead : ℕ → Keeper → Keeper → Type 0

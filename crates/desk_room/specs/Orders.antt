@@ -1,6 +1,6 @@
 -- What a contract sees of the two ends of the deque of orders: the keeper's, a dealer, and a bench's, a seat (own to this project).
 use Rattle.std.specs.Prelude.{◌≡◌, ℕ, List, [], ◌∷◌}
-use Rattle.crossbeam_deque.specs.Handles.{view, taken, worker_view, worker_deque, stealer_deque}
+use Rattle.crossbeam_deque.specs.Handles.{view, taken, worker_view, worker_deque, worker_capacity, stealer_deque}
 use Rattle.desk_room.specs.declared.orders.Order.{Order}
 use Rattle.desk_room.specs.declared.orders.Order.TheVariants.{Solve, Stop}
 use Rattle.desk_room.specs.declared.dealers.Dealer.{Dealer}
@@ -15,6 +15,10 @@ orders dealer = (worker_view dealer.deque).orders
 -- how many passes were handed out, each with its seat
 abbrev pub passes : Dealer → ℕ
 passes dealer = (worker_view dealer.deque).passes
+
+-- how many places the deque has
+abbrev pub places : Dealer → ℕ
+places dealer = worker_capacity dealer.deque
 
 -- the orders that were taken at a seat, oldest first
 abbrev pub seat_got : Seat → List Order

@@ -31,7 +31,7 @@ impl Dealer {
     ghost use Rattle.std.specs.Prelude.{◌≡◌, ℕ, ◌+◌, ◌^◌, ◌<◌, [], ◌∷◌, ◌++◌, length, replicate, IfOk, OnOk, IfErr, OnErr};
     ghost use Rattle.std.specs.Bool.{OnTrue, OnFalse};
     ghost use Rattle.desk_room.specs.Dealing.{stops};
-    ghost use Rattle.desk_room.specs.Orders.{orders, passes, seat_got, IsSeatOf, SameDeque};
+    ghost use Rattle.desk_room.specs.Orders.{orders, passes, places, seat_got, IsSeatOf, SameDeque};
     ghost use Rattle.desk_room.specs.declared.orders.Order.TheVariants.{Solve, Stop};
 
     /// A deque of one slot, with no order and no seat. It grows as it must.
@@ -76,6 +76,8 @@ impl Dealer {
         ensures refused { IfErr result (λ back. back ≡ job) }
         ensures orders { OnErr result (orders self.new ≡ orders self.old) }
         ensures not_the_first { OnErr result (0 < length (orders self.old)) }
+        ensures full { OnErr result (places self.old ≤ length (orders self.old)) }
+        ensures places { places self.old ≤ places self.new }
         ensures no_stop { stops (orders self.new) ≡ 0 }
         ensures passes { passes self.new ≡ passes self.old }
         ensures deque { SameDeque self.old self.new }

@@ -49,6 +49,7 @@ impl Keeper {
         ensures known { known self.new ≡ known self.old }
         ensures size { length self.new.lines.items ≡ length self.old.lines.items }
         ensures room { SameRoom self.old self.new }
+        ensures ears { self.new.ears ≡ self.old.ears }
         ensures ring { self.new.ring ≡ self.old.ring }
         ensures home { self.new.is_home ≡ self.old.is_home }
     {
@@ -82,6 +83,7 @@ impl Keeper {
         ensures known { known self.new ≡ known self.old }
         ensures size { length self.new.lines.items ≡ length self.old.lines.items }
         ensures room { SameRoom self.old self.new }
+        ensures ears { self.new.ears ≡ self.old.ears }
         ensures ring { self.new.ring ≡ self.old.ring }
         ensures home { self.new.is_home ≡ self.old.is_home }
     {
@@ -103,6 +105,7 @@ impl Keeper {
         ensures known { known self.new ≡ known self.old }
         ensures size { length self.new.lines.items ≡ length self.old.lines.items }
         ensures room { SameRoom self.old self.new }
+        ensures ears { self.new.ears ≡ self.old.ears }
         ensures ring { self.new.ring ≡ self.old.ring }
         ensures home { self.new.is_home ≡ self.old.is_home }
     {

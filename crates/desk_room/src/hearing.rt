@@ -44,8 +44,8 @@ fn hear_back(ear: &mut Ear, desk: &mut Desk) -> Heard
 }
 
 impl Keeper {
-    ghost use Rattle.std.specs.Prelude.{◌≡◌, ◌<◌, ◌≤◌, ◌+◌, ◌*◌, [], length, get_or};
-    ghost use Rattle.desk_room.specs.Keepers.{lists, ring_of, backs_known, windows_of, benches_of};
+    ghost use Rattle.std.specs.Prelude.{◌≡◌, ◌<◌, ◌≤◌, ◌+◌, ◌*◌, ℕ, [], length, get_or};
+    ghost use Rattle.desk_room.specs.Keepers.{lists, ring_of, backs_known, windows_of, benches_of, BacksAhead};
     ghost use Rattle.desk_room.specs.Passes.{Hearing};
     ghost use Rattle.desk_room.specs.Steps.{Untouched};
     ghost use Rattle.desk_room.specs.Turns.{GainFew};
@@ -56,6 +56,9 @@ impl Keeper {
         ensures same { lists self.new ≡ lists self.old }
         ensures known { result ≡ length (get_or (backs_known self.new) b []) }
         ensures few { result ≤ ring_of self.new }
+        ensures ahead { BacksAhead self.old self.new }
+        ensures untouched { Untouched b (backs_known self.old) (backs_known self.new) }
+        ensures dealer { self.new.dealer ≡ self.old.dealer }
         ensures lines { self.new.lines ≡ self.old.lines }
         ensures size { length self.new.ears.items ≡ length self.old.ears.items }
         ensures ring { self.new.ring ≡ self.old.ring }
@@ -73,6 +76,9 @@ impl Keeper {
         ensures known { length (get_or (backs_known self.new) b []) + 1 ≡ length (get_or (backs_known self.old) b []) }
         ensures longer { length (get_or (lists self.new).heard b []) ≡ length (get_or (lists self.old).heard b []) + 1 }
         ensures others { Untouched b (lists self.old).heard (lists self.new).heard }
+        ensures ahead { BacksAhead self.old self.new }
+        ensures untouched { Untouched b (backs_known self.old) (backs_known self.new) }
+        ensures dealer { self.new.dealer ≡ self.old.dealer }
         ensures lines { self.new.lines ≡ self.old.lines }
         ensures size { length self.new.ears.items ≡ length self.old.ears.items }
         ensures ring { self.new.ring ≡ self.old.ring }
@@ -82,14 +88,18 @@ impl Keeper {
         hear_back(&mut ears[b], desk)
     }
 
-    #[tactic(auto, using(crate::proofs::Runs::hearing_none, crate::proofs::Runs::hearing_then, crate::proofs::Fewness::untouched_same, crate::proofs::Fewness::untouched_then))]
+    #[tactic(auto, using(crate::proofs::Runs::hearing_none, crate::proofs::Runs::hearing_then, crate::proofs::Fewness::untouched_same, crate::proofs::Fewness::untouched_then, crate::proofs::Listening::backs_same, crate::proofs::Listening::backs_then))]
     // Hears what lies in a bench's ring.
     fn hear_from(&mut self, b: usize) -> Heard
         requires { b < length self.old.ears.items }
         ensures heard { Hearing (lists self.old) (lists self.new) result.solved result.returned result.strangers }
         ensures few { result.solved + (result.returned + result.strangers) ≤ ring_of self.old }
+        ensures listened { get_or (backs_known self.new) b [] ≡ [] }
         ensures longer { length (get_or (lists self.new).heard b []) ≤ length (get_or (lists self.old).heard b []) + ring_of self.old }
         ensures others { Untouched b (lists self.old).heard (lists self.new).heard }
+        ensures ahead { BacksAhead self.old self.new }
+        ensures untouched { Untouched b (backs_known self.old) (backs_known self.new) }
+        ensures dealer { self.new.dealer ≡ self.old.dealer }
         ensures lines { self.new.lines ≡ self.old.lines }
         ensures size { length self.new.ears.items ≡ length self.old.ears.items }
         ensures ring { self.new.ring ≡ self.old.ring }
@@ -110,11 +120,14 @@ impl Keeper {
         all
     }
 
-    #[tactic(auto, using(crate::proofs::Runs::hearing_none, crate::proofs::Runs::hearing_then, crate::proofs::Fewness::gain_none, crate::proofs::Fewness::gain_more, crate::proofs::Fewness::gain_all))]
+    #[tactic(auto, using(crate::proofs::Runs::hearing_none, crate::proofs::Runs::hearing_then, crate::proofs::Fewness::gain_none, crate::proofs::Fewness::gain_all, crate::proofs::Listening::backs_same, crate::proofs::Listening::none_listened, crate::proofs::Listening::all_listened))]
     /// Hears what lies in the back rings, bench by bench.
     pub(crate) fn hear_all(&mut self) -> Heard
         ensures heard { Hearing (lists self.old) (lists self.new) result.solved result.returned result.strangers }
         ensures few { GainFew (ring_of self.old) (lists self.old).heard (lists self.new).heard }
+        ensures listened { (b : ℕ) → get_or (backs_known self.new) b [] ≡ [] }
+        ensures ahead { BacksAhead self.old self.new }
+        ensures dealer { self.new.dealer ≡ self.old.dealer }
         ensures lines { self.new.lines ≡ self.old.lines }
         ensures ring { self.new.ring ≡ self.old.ring }
         ensures home { self.new.is_home ≡ self.old.is_home }

@@ -1,9 +1,10 @@
 //! The third pass of a turn: orders.
 
-ghost use Rattle.std.specs.Prelude.{◌≡◌};
+ghost use Rattle.std.specs.Prelude.{◌≡◌, ◌≤◌, length};
 ghost use Rattle.desk_room.specs.Dealing.{stops};
-ghost use Rattle.desk_room.specs.Orders.{orders, passes};
+ghost use Rattle.desk_room.specs.Orders.{orders, passes, places};
 ghost use Rattle.desk_room.specs.Steps.{OrderedOne};
+ghost use Rattle.desk_room.specs.declared.ordering.Tried.TheVariants.{Refused};
 
 use crate::dealers::Dealer;
 use crate::keepers::Keeper;
@@ -25,6 +26,8 @@ pub(crate) enum Tried {
 fn order_job(desk: &mut Desk, dealer: &mut Dealer) -> Tried
     requires { stops (orders dealer.old) ≡ 0 }
     ensures tried { OrderedOne (orders dealer.old) (orders dealer.new) desk.old desk.new result }
+    ensures full { result ≡ Refused → places dealer.old ≤ length (orders dealer.old) }
+    ensures places { places dealer.old ≤ places dealer.new }
     ensures passes { passes dealer.new ≡ passes dealer.old }
 {
     let Some(job) = desk.take() else {
@@ -40,17 +43,21 @@ fn order_job(desk: &mut Desk, dealer: &mut Dealer) -> Tried
 }
 
 impl Keeper {
-    ghost use Rattle.std.specs.Prelude.{◌≡◌, ◌<◌, ◌+◌, ◌⊎◌, true, false, length};
-    ghost use Rattle.desk_room.specs.Orders.{orders};
+    ghost use Rattle.std.specs.Prelude.{◌≡◌, ◌<◌, ◌≤◌, ◌+◌, ◌⊎◌, true, false, length};
+    ghost use Rattle.desk_room.specs.Orders.{orders, places};
     ghost use Rattle.desk_room.specs.Keepers.{lists};
     ghost use Rattle.desk_room.specs.Turns.{waiting};
     ghost use Rattle.desk_room.specs.Steps.{Trying};
     ghost use Rattle.desk_room.specs.Passes.{Ordering};
+    ghost use Rattle.desk_room.specs.declared.ordering.Tried.TheVariants.{Refused};
 
     // Tries to order one job.
     fn order_one(&mut self) -> Tried
         requires { self.old.is_home ≡ false }
         ensures tried { Trying (lists self.old) (lists self.new) result }
+        ensures full { result ≡ Refused → places self.old.dealer ≤ length (orders self.old.dealer) }
+        ensures places { places self.old.dealer ≤ places self.new.dealer }
+        ensures ears { self.new.ears ≡ self.old.ears }
         ensures lines { self.new.lines ≡ self.old.lines }
         ensures ring { self.new.ring ≡ self.old.ring }
         ensures home { self.new.is_home ≡ self.old.is_home }
@@ -63,8 +70,10 @@ impl Keeper {
     /// Orders each job that waits, by rising ticket, until the deque can't grow. Once the benches are sent home it orders nothing.
     pub(crate) fn order_all(&mut self) -> usize
         ensures ordered { Ordering (lists self.old) (lists self.new) result }
-        ensures waits { (waiting self.new.desk ≡ 0) ⊎ (0 < length (orders self.new.dealer)) }
+        ensures waits { (waiting self.new.desk ≡ 0) ⊎ ((self.new.is_home ≡ true) ⊎ (places self.old.dealer ≤ length (orders self.new.dealer))) }
+        ensures not_the_first { (waiting self.new.desk ≡ 0) ⊎ (0 < length (orders self.new.dealer)) }
         ensures none { self.old.is_home ≡ true → lists self.new ≡ lists self.old }
+        ensures ears { self.new.ears ≡ self.old.ears }
         ensures lines { self.new.lines ≡ self.old.lines }
         ensures ring { self.new.ring ≡ self.old.ring }
         ensures home { self.new.is_home ≡ self.old.is_home }

@@ -69,6 +69,8 @@ impl Keeper {
         ensures others { OthersRead n self.old self.new }
         ensures size { length self.new.lines.items ≡ length self.old.lines.items }
         ensures room { SameRoom self.old self.new }
+        ensures ears { self.new.ears ≡ self.old.ears }
+        ensures dealer { self.new.dealer ≡ self.old.dealer }
         ensures ring { self.new.ring ≡ self.old.ring }
         ensures home { self.new.is_home ≡ self.old.is_home }
     {
@@ -98,6 +100,8 @@ impl Keeper {
         ensures others { OthersRead n self.old self.new }
         ensures size { length self.new.lines.items ≡ length self.old.lines.items }
         ensures room { SameRoom self.old self.new }
+        ensures ears { self.new.ears ≡ self.old.ears }
+        ensures dealer { self.new.dealer ≡ self.old.dealer }
         ensures ring { self.new.ring ≡ self.old.ring }
         ensures home { self.new.is_home ≡ self.old.is_home }
     {
@@ -119,6 +123,8 @@ impl Keeper {
         ensures others { OthersRead n self.old self.new }
         ensures size { length self.new.lines.items ≡ length self.old.lines.items }
         ensures room { SameRoom self.old self.new }
+        ensures ears { self.new.ears ≡ self.old.ears }
+        ensures dealer { self.new.dealer ≡ self.old.dealer }
         ensures ring { self.new.ring ≡ self.old.ring }
         ensures home { self.new.is_home ≡ self.old.is_home }
     {
@@ -149,6 +155,8 @@ impl Keeper {
         ensures ahead { Ahead self.old self.new }
         ensures size { length self.new.lines.items ≡ length self.old.lines.items }
         ensures room { SameRoom self.old self.new }
+        ensures ears { self.new.ears ≡ self.old.ears }
+        ensures dealer { self.new.dealer ≡ self.old.dealer }
         ensures ring { self.new.ring ≡ self.old.ring }
         ensures home { self.new.is_home ≡ self.old.is_home }
     {

@@ -24,8 +24,8 @@ pub struct Turn {
 }
 
 impl Keeper {
-    ghost use Rattle.std.specs.Prelude.{◌≡◌, ◌<◌, ◌+◌, ◌⊎◌, ℕ, [], length, drop, get_or, true};
-    ghost use Rattle.desk_room.specs.Keepers.{lists, known, windows_of, ring_of, is_home, IsServed, Ahead, Stays};
+    ghost use Rattle.std.specs.Prelude.{◌≡◌, ◌<◌, ◌≤◌, ◌+◌, ◌⊎◌, ℕ, [], length, drop, get_or, true};
+    ghost use Rattle.desk_room.specs.Keepers.{lists, known, backs_known, windows_of, ring_of, order_places, is_home, IsServed, Ahead, BacksAhead, Stays};
     ghost use Rattle.desk_room.specs.Turns.{Turned, AreGains, AreFew, IsFilled, gained, pending_at, waiting, outs, still_out, times_ordered, AreFinishedBy};
 
     /// One turn: hears what the benches gave back, takes the windows' letters, orders the jobs that wait, and gives the windows what
@@ -41,7 +41,10 @@ impl Keeper {
         ensures read { (n : ℕ) → n < windows_of self.new → (get_or (known self.new) n [] ≡ []) ⊎ IsFilled n (lists self.old) (lists self.new) }
         ensures none_after_close { (lists self.old).content.closed ≡ true → (lists self.new).taken ≡ (lists self.old).taken }
         ensures closed { (lists self.new).content.closed ≡ (lists self.old).content.closed }
-        ensures waits { (waiting (lists self.new).content ≡ 0) ⊎ (0 < length (lists self.new).orders) }
+        ensures listened { (b : ℕ) → get_or (backs_known self.new) b [] ≡ [] }
+        ensures backs_ahead { BacksAhead self.old self.new }
+        ensures waits { (waiting (lists self.new).content ≡ 0) ⊎ (is_home self.new ≡ true) ⊎ (order_places self.old ≤ length (lists self.new).orders) }
+        ensures not_the_first { (waiting (lists self.new).content ≡ 0) ⊎ (0 < length (lists self.new).orders) }
         ensures none_once_home { is_home self.old ≡ true → (lists self.new).orders ≡ (lists self.old).orders }
         ensures home { is_home self.new ≡ is_home self.old }
         ensures stays { Stays self.old self.new }

@@ -1,5 +1,5 @@
-use Rattle.std.proofs.Common.{◌≡◌, ◌≤◌, ◌+◌, ◌*◌, length}
-use Rattle.desk_room.specs.Keepers.{lists}
+use Rattle.std.proofs.Common.{◌≡◌, ◌<◌, ◌≤◌, ◌+◌, ◌*◌, ℕ, [], length, get_or}
+use Rattle.desk_room.specs.Keepers.{lists, backs_known, BacksAhead}
 use Rattle.desk_room.specs.Passes.{Hearing}
 use Rattle.desk_room.specs.Steps.{GainBefore}
 use Rattle.desk_room.proofs.keepers.Keeper.hear_all.Given as goal
@@ -9,6 +9,9 @@ invariant-loop-b l = record {
   heard : Hearing (lists l.fn.self) (lists l.self) l.all.solved l.all.returned l.all.strangers;
   few : l.all.solved + (l.all.returned + l.all.strangers) ≤ 64 * l.b;
   gained : GainBefore l.b l.fn.self.ring (lists l.fn.self).heard (lists l.self).heard;
+  listened : (i : ℕ) → i < l.b → get_or (backs_known l.self) i [] ≡ [];
+  ahead : BacksAhead l.fn.self l.self;
+  dealer : l.self.dealer ≡ l.fn.self.dealer;
   lines : l.self.lines ≡ l.fn.self.lines;
   size : length l.self.ears.items ≡ length l.fn.self.ears.items;
   ring : l.self.ring ≡ l.fn.self.ring;

@@ -1,5 +1,5 @@
 use Rattle.std.proofs.Common.{◌≡◌, ◌≤◌, ◌+◌, length, get_or, []}
-use Rattle.desk_room.specs.Keepers.{lists, backs_known}
+use Rattle.desk_room.specs.Keepers.{lists, backs_known, BacksAhead}
 use Rattle.desk_room.specs.Passes.{Hearing}
 use Rattle.desk_room.specs.Steps.{Untouched}
 use Rattle.desk_room.proofs.keepers.Keeper.hear_from.Given as goal
@@ -11,6 +11,9 @@ invariant-loop l = record {
   longer : length (get_or (lists l.self).heard l.b []) ≤ length (get_or (lists l.fn.self).heard l.b []) + l.counter;
   others : Untouched l.b (lists l.fn.self).heard (lists l.self).heard;
   known : length (get_or (backs_known l.self) l.b []) + l.counter ≡ l.lying;
+  ahead : BacksAhead l.fn.self l.self;
+  untouched : Untouched l.b (backs_known l.fn.self) (backs_known l.self);
+  dealer : l.self.dealer ≡ l.fn.self.dealer;
   lines : l.self.lines ≡ l.fn.self.lines;
   size : length l.self.ears.items ≡ length l.fn.self.ears.items;
   ring : l.self.ring ≡ l.fn.self.ring;

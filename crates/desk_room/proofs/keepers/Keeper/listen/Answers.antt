@@ -1,8 +1,11 @@
 use Rattle.std.proofs.Common.{arith, sym, ap, ◌∙◌, length, length-set, []}
 use Rattle.desk_room.specs.Orders.{orders}
-use Rattle.desk_room.specs.Benches.{back_known, ear_ring}
+use Rattle.desk_room.specs.Benches.{heard, back_known, ear_ring}
+use Rattle.desk_room.specs.Keepers.{BacksAhead}
 use Rattle.desk_room.proofs.Places.{at_same}
 use Rattle.desk_room.proofs.Stepping.{ears_same, rings_set, ring_at}
+use Rattle.desk_room.proofs.Ahead.{ahead_at, ahead_looked}
+use Rattle.desk_room.proofs.Fewness.{untouched_set}
 use Rattle.desk_room.proofs.keepers.Keeper.listen.Goals as goal
 
 pub invariant_of-self-clause-few_benches : goal.invariant_of-self-clause-few_benches
@@ -27,3 +30,10 @@ invariant_of-self-clause-seats c = let k = c.args.self.now in k.seats ∙ sym (l
 
 pub invariant_of-self-clause-a_bench : goal.invariant_of-self-clause-a_bench
 invariant_of-self-clause-a_bench c = let k = c.args.self.now in omega (arith, k.a_bench, length-set k.ears.items c.args.b c.listen.new.self)
+
+pub returns-clause-ahead : goal.returns-clause-ahead
+unfolding BacksAhead
+returns-clause-ahead c = ahead_at heard back_known c.args.self.now.ears.items c.args.b c.index_mut.result.now c.listen.new.self c.requires c.index_mut.ensures.value (ahead_looked _ _ _ _ c.listen.ensures.more c.listen.ensures.heard)
+
+pub returns-clause-untouched : goal.returns-clause-untouched
+returns-clause-untouched c = untouched_set back_known c.args.self.now.ears.items c.args.b c.listen.new.self

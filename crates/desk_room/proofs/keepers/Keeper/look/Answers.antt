@@ -1,6 +1,6 @@
 use Rattle.std.proofs.Common.{arith, sym, ap, refl, ◌∙◌, subst, inl, inr, ⊎_elim, length, length-set, []}
 use Rattle.desk_room.specs.Orders.{orders}
-use Rattle.desk_room.specs.Lines.{letters_known, ring_of}
+use Rattle.desk_room.specs.Lines.{letters_taken, letters_known, ring_of}
 use Rattle.desk_room.specs.Kept.{AreOwed}
 use Rattle.desk_room.specs.Keepers.{Ahead, OthersRead}
 use Rattle.desk_room.proofs.Places.{at_other, at_same}
@@ -41,7 +41,7 @@ returns-clause-few c =
 
 pub returns-clause-ahead : goal.returns-clause-ahead
 unfolding Ahead
-returns-clause-ahead c = ahead_at c.args.self.now.lines.items c.args.n c.index_mut.result.now c.look.new.self c.requires c.index_mut.ensures.value (ahead_looked c.index_mut.result.now c.look.new.self c.look.ensures.known c.look.ensures.taken)
+returns-clause-ahead c = ahead_at letters_taken letters_known c.args.self.now.lines.items c.args.n c.index_mut.result.now c.look.new.self c.requires c.index_mut.ensures.value (ahead_looked _ _ _ _ c.look.ensures.known c.look.ensures.taken)
 
 pub returns-clause-others : goal.returns-clause-others
 unfolding OthersRead

@@ -1,4 +1,5 @@
-use Rattle.std.proofs.Common.{◌≡◌, ◌+◌, false}
+use Rattle.std.proofs.Common.{◌≡◌, ◌≤◌, ◌+◌, false}
+use Rattle.desk_room.specs.Orders.{places}
 use Rattle.desk_room.specs.Turns.{waiting}
 use Rattle.desk_room.specs.Keepers.{lists}
 use Rattle.desk_room.specs.Passes.{Ordering}
@@ -8,6 +9,8 @@ abbrev pub invariant-loop-ordered : goal.invariant-loop-ordered
 invariant-loop-ordered l = record {
   ordered : Ordering (lists l.fn.self) (lists l.self) l.ordered;
   fewer : waiting l.self.desk + l.ordered ≡ l.waiting;
+  places : places l.fn.self.dealer ≤ places l.self.dealer;
+  ears : l.self.ears ≡ l.fn.self.ears;
   lines : l.self.lines ≡ l.fn.self.lines;
   ring : l.self.ring ≡ l.fn.self.ring;
   before : l.fn.self.is_home ≡ false;

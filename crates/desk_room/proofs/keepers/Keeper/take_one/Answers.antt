@@ -57,7 +57,7 @@ pub returns-clause-ahead : goal.returns-clause-ahead
 unfolding Ahead
 returns-clause-ahead c =
     let t = c.take_letter.ensures.took in
-    ahead_at c.args.self.now.lines.items c.args.n c.index_mut.result.now c.take_letter.new.line c.requires.window c.index_mut.ensures.value (ahead_taken c.index_mut.result.now c.take_letter.new.line t.letter t.known t.taken)
+    ahead_at letters_taken letters_known c.args.self.now.lines.items c.args.n c.index_mut.result.now c.take_letter.new.line c.requires.window c.index_mut.ensures.value (ahead_taken _ _ _ _ t.letter t.known t.taken)
 
 pub returns-clause-others : goal.returns-clause-others
 unfolding OthersRead

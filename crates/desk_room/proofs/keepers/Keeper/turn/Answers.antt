@@ -1,6 +1,6 @@
-use Rattle.std.proofs.Common.{arith, ◌≡◌, ◌<◌, inl, inr, ⊎_elim, sym, ap, ◌∙◌, subst, length, map, get_or, []}
+use Rattle.std.proofs.Common.{arith, true, ◌≡◌, ◌<◌, ◌≤◌, inl, inr, ⊎_elim, sym, ap, ◌∙◌, subst, length, map, get_or, []}
 use Rattle.desk_room.specs.Lines.{letters_known}
-use Rattle.desk_room.specs.Orders.{orders}
+use Rattle.desk_room.specs.Orders.{orders, places}
 use Rattle.desk_room.specs.Turns.{waiting, GainFew}
 use Rattle.desk_room.specs.Keepers.{lists, known}
 use Rattle.desk_room.proofs.Ahead.{ahead_then, ahead_lines, ahead_equal}
@@ -10,7 +10,8 @@ use Rattle.desk_room.proofs.Finishing.{turned_finished}
 use Rattle.desk_room.proofs.Outs.{turned_out}
 use Rattle.desk_room.proofs.Closing.{turned_none, turned_orders, turned_benches, turned_few}
 use Rattle.desk_room.proofs.Places.{map_length}
-use Rattle.desk_room.specs.Benches.{heard}
+use Rattle.desk_room.specs.Benches.{heard, back_known}
+use Rattle.desk_room.proofs.Listening.{backs_then, backs_ears}
 use Rattle.desk_room.proofs.Staying.{room_then, room_lines}
 use Rattle.desk_room.proofs.keepers.Keeper.turn.Goals as goal
 
@@ -47,8 +48,26 @@ returns-clause-none_once_home c = λ h. turned_orders _ _ _ (returns-clause-pass
 pub returns-clause-waits : goal.returns-clause-waits
 returns-clause-waits c =
     let g = c.give_all-delivered.ensures.gave in
+    let same : c.take_all-took.new.self.dealer ≡ c.args.self.now.dealer = c.take_all-took.ensures.dealer ∙ c.hear_all-heard.ensures.dealer in
     ⊎_elim (λ (w : waiting c.order_all-ordered.new.self.desk ≡ 0). inl (giving_waiting _ _ _ g ∙ w))
-    (λ (o : 0 < length (orders c.order_all-ordered.new.self.dealer)). inr (omega (arith, o, ap length (giving_orders _ _ _ g)))) c.order_all-ordered.ensures.waits
+    (⊎_elim (λ (h : c.order_all-ordered.new.self.is_home ≡ true). inr (inl (c.give_all-delivered.ensures.home ∙ h)))
+    (λ (o : places c.take_all-took.new.self.dealer ≤ length (orders c.order_all-ordered.new.self.dealer)). inr (inr (omega (arith, o, ap places same, ap length (giving_orders _ _ _ g)))))) c.order_all-ordered.ensures.waits
+
+pub returns-clause-not_the_first : goal.returns-clause-not_the_first
+returns-clause-not_the_first c =
+    let g = c.give_all-delivered.ensures.gave in
+    ⊎_elim (λ (w : waiting c.order_all-ordered.new.self.desk ≡ 0). inl (giving_waiting _ _ _ g ∙ w))
+    (λ (o : 0 < length (orders c.order_all-ordered.new.self.dealer)). inr (omega (arith, o, ap length (giving_orders _ _ _ g)))) c.order_all-ordered.ensures.not_the_first
+
+pub returns-clause-listened : goal.returns-clause-listened
+returns-clause-listened c =
+    let same : c.give_all-delivered.new.self.ears ≡ c.hear_all-heard.new.self.ears = c.give_all-delivered.ensures.ears ∙ (c.order_all-ordered.ensures.ears ∙ c.take_all-took.ensures.ears) in
+    λ b. ap (λ v. get_or (map back_known v.items) b []) same ∙ c.hear_all-heard.ensures.listened b
+
+pub returns-clause-backs_ahead : goal.returns-clause-backs_ahead
+returns-clause-backs_ahead c =
+    let same : c.give_all-delivered.new.self.ears ≡ c.hear_all-heard.new.self.ears = c.give_all-delivered.ensures.ears ∙ (c.order_all-ordered.ensures.ears ∙ c.take_all-took.ensures.ears) in
+    backs_then _ _ _ c.hear_all-heard.ensures.ahead (backs_ears c.hear_all-heard.new.self c.give_all-delivered.new.self same)
 
 pub returns-clause-ahead : goal.returns-clause-ahead
 returns-clause-ahead c =

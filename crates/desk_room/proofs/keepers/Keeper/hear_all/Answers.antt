@@ -1,0 +1,23 @@
+use Rattle.std.proofs.Common.{arith, ◌∙◌}
+use Rattle.desk_room.specs.Keepers.{lists}
+use Rattle.desk_room.proofs.Fewness.{gain_more}
+use Rattle.desk_room.proofs.Runs.{hearing_then}
+use Rattle.desk_room.proofs.Listening.{backs_then, listened_more}
+use Rattle.desk_room.proofs.keepers.Keeper.hear_all.Goals as goal
+
+pub loop-b-preserved : goal.loop-b-preserved
+loop-b-preserved c =
+    let i = c.loop-b.invariant in
+    let e = c.hear_from-one.ensures in
+    record {
+      heard = hearing_then _ _ _ _ _ _ _ _ _ i.heard e.heard;
+      few = omega (arith, i.few, e.few, c.loop-b.self.small);
+      gained = gain_more c.loop-b.b c.args.self.now.ring (lists c.args.self.now).heard (lists c.loop-b.self).heard (lists c.hear_from-one.new.self).heard i.gained e.others (omega (arith, e.longer, i.ring));
+      listened = listened_more c.loop-b.b c.loop-b.self c.hear_from-one.new.self i.listened e.untouched e.listened;
+      ahead = backs_then _ _ _ i.ahead e.ahead;
+      dealer = e.dealer ∙ i.dealer;
+      lines = e.lines ∙ i.lines;
+      size = e.size ∙ i.size;
+      ring = e.ring ∙ i.ring;
+      home = e.home ∙ i.home;
+    }
