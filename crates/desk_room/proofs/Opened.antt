@@ -1,5 +1,5 @@
 -- A window of a room that was opened is of that room, and stays so.
-use Rattle.std.proofs.Common.{◌≡◌, ℕ, zero, suc, ◌+◌, List, [], ◌∷◌, ◌++◌, length, slice_get, Option, Some, refl, sym, ap, ◌∙◌, subst, arith}
+use Rattle.std.proofs.Common.{◌≡◌, ℕ, ◌+◌, List, [], ◌∷◌, ◌++◌, length, slice_get, Some, refl, ap, ◌∙◌, subst, arith}
 use Rattle.desk_room.specs.Windows.{number_of, SameWindow}
 use Rattle.desk_room.specs.Lines.{AreEnds}
 use Rattle.desk_room.specs.Keepers.{IsOf, SameRoom}
