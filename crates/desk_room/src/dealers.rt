@@ -28,7 +28,7 @@ pub(crate) struct Dealer {
 }
 
 impl Dealer {
-    ghost use Rattle.std.specs.Prelude.{◌≡◌, ℕ, ◌+◌, ◌^◌, ◌<◌, [], ◌∷◌, ◌++◌, length, replicate, IfOk, OnOk, IfErr, OnErr};
+    ghost use Rattle.std.specs.Prelude.{◌≡◌, ℕ, ◌+◌, ◌^◌, ◌<◌, ◌≤◌, ◌⊎◌, [], ◌∷◌, ◌++◌, length, replicate, IfOk, OnOk, IfErr, OnErr};
     ghost use Rattle.std.specs.Bool.{OnTrue, OnFalse};
     ghost use Rattle.desk_room.specs.Dealing.{stops};
     ghost use Rattle.desk_room.specs.Orders.{orders, passes, places, seat_got, IsSeatOf, SameDeque};
@@ -96,6 +96,8 @@ impl Dealer {
         ensures put { OnTrue result (orders self.new ≡ orders self.old ++ Stop ∷ []) }
         ensures orders { OnFalse result (orders self.new ≡ orders self.old) }
         ensures not_the_first { OnFalse result (0 < length (orders self.old)) }
+        ensures full { OnFalse result (places self.old ≤ length (orders self.old)) }
+        ensures places { places self.old ≤ places self.new }
         ensures passes { passes self.new ≡ passes self.old }
         ensures deque { SameDeque self.old self.new }
     {
@@ -114,6 +116,7 @@ impl Dealer {
         ensures stops { (n : ℕ) × (orders self.new ≡ orders self.old ++ replicate n Stop) }
         ensures owed { result + stops (orders self.new) ≡ passes self.new }
         ensures some { 0 < passes self.old → 0 < length (orders self.new) }
+        ensures full { (result ≡ 0) ⊎ (places self.old ≤ length (orders self.new)) }
         ensures passes { passes self.new ≡ passes self.old }
         ensures deque { SameDeque self.old self.new }
     {

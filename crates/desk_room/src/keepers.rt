@@ -53,11 +53,11 @@ fn count_gone(lines: &[Line]) -> usize
 }
 
 impl Keeper {
-    ghost use Rattle.std.specs.Prelude.{◌≡◌, ℕ, ◌+◌, ◌++◌, true, replicate};
+    ghost use Rattle.std.specs.Prelude.{◌≡◌, ◌≤◌, ◌⊎◌, ℕ, ◌+◌, ◌++◌, length, true, replicate};
     ghost use Rattle.mate_desk.specs.Calls.{after_close, is_drained as is_drained_content};
     ghost use Rattle.desk_room.specs.Dealing.{stops};
     ghost use Rattle.desk_room.specs.Kept.{AreOwed, AreMarked};
-    ghost use Rattle.desk_room.specs.Keepers.{lists, known, benches_of, is_home, windows_gone, Stays, SameRoom};
+    ghost use Rattle.desk_room.specs.Keepers.{lists, known, backs_known, benches_of, order_places, is_home, windows_gone, Stays, SameRoom};
     ghost use Rattle.desk_room.specs.declared.orders.Order.TheVariants.{Stop};
 
     /// What was taken of each window is what was delivered to it and then what it has pending, and withdrawals are marked so. It
@@ -85,6 +85,7 @@ impl Keeper {
         ensures heard { (lists self.new).heard ≡ (lists self.old).heard }
         ensures orders { (lists self.new).orders ≡ (lists self.old).orders }
         ensures known { known self.new ≡ known self.old }
+        ensures backs_known { backs_known self.new ≡ backs_known self.old }
         ensures home { is_home self.new ≡ is_home self.old }
         ensures stays { Stays self.old self.new }
     {
@@ -103,11 +104,13 @@ impl Keeper {
     pub fn send_home(&mut self) -> usize
         ensures stops { (n : ℕ) × ((lists self.new).orders ≡ (lists self.old).orders ++ replicate n Stop) }
         ensures owed { result + stops (lists self.new).orders ≡ benches_of self.new }
+        ensures full { (result ≡ 0) ⊎ (order_places self.old ≤ length (lists self.new).orders) }
         ensures content { (lists self.new).content ≡ (lists self.old).content }
         ensures taken { (lists self.new).taken ≡ (lists self.old).taken }
         ensures put { (lists self.new).put ≡ (lists self.old).put }
         ensures heard { (lists self.new).heard ≡ (lists self.old).heard }
         ensures known { known self.new ≡ known self.old }
+        ensures backs_known { backs_known self.new ≡ backs_known self.old }
         ensures home { is_home self.new ≡ true }
         ensures stays { Stays self.old self.new }
     {

@@ -13,7 +13,7 @@ impl Keeper {
     ghost use Rattle.desk_room.specs.Withdrawals.{marks, are_notices_marked};
     ghost use Rattle.desk_room.specs.Turns.{pending_at};
     ghost use Rattle.desk_room.specs.Windows.{letters_sent, collected, deliveries_known, is_gone, number_of, SameWindow};
-    ghost use Rattle.desk_room.specs.Keepers.{lists, known, is_home, IsOf, Stays};
+    ghost use Rattle.desk_room.specs.Keepers.{lists, known, backs_known, is_home, IsOf, Ahead, Stays};
 
     /// How many records lie in the record ring of a window of this room, and how many deliveries in its answer ring. It moves
     /// nothing; each end learns what lies there.
@@ -30,6 +30,8 @@ impl Keeper {
         ensures drained { is_drained_content (lists self.new).content ≡ true → records (letters_sent window.new) ≡ map asked (collected window.new ++ deliveries_known window.new) ++ records (get_or (known self.new) (number_of window.new) []) }
         ensures notices { are_notices_marked (collected window.new ++ deliveries_known window.new) (marks (get_or (lists self.new).taken (number_of window.new) [])) ≡ true }
         ensures lists { lists self.new ≡ lists self.old }
+        ensures ahead { Ahead self.old self.new }
+        ensures backs_known { backs_known self.new ≡ backs_known self.old }
         ensures sent { letters_sent window.new ≡ letters_sent window.old }
         ensures collected { collected window.new ≡ collected window.old }
         ensures gone { is_gone window.new ≡ is_gone window.old }

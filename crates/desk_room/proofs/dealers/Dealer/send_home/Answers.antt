@@ -19,5 +19,6 @@ loop-self-preserved c =
     record {
       so_far = (n + 1, put ∙ (ap (λ l. l ++ Stop ∷ []) before.1 ∙ (append_assoc (orders c.args.self.now) (replicate n Stop) (Stop ∷ []) ∙ ap (λ l. orders c.args.self.now ++ l) (replicate_more n Stop))));
       passes = c.stop.ensures.passes ∙ c.loop-self.invariant.passes;
+      places = omega (arith, c.stop.ensures.places, c.loop-self.invariant.places);
       deque = c.stop.ensures.deque ∙ c.loop-self.invariant.deque;
     }

@@ -7,8 +7,10 @@ use Rattle.desk_room.specs.Lines.{AreEnds, letters_taken, letters_known, deliver
 use Rattle.desk_room.specs.Windows.{letters_sent, collected, deliveries_known, number_of}
 use Rattle.desk_room.specs.Withdrawals.{marks, are_notices_marked}
 use Rattle.desk_room.specs.Kept.{AreOwed}
+use Rattle.desk_room.specs.Keepers.{Ahead}
 use Rattle.desk_room.specs.declared.lines.Line.{Line}
 use Rattle.desk_room.proofs.Places.{map_length}
+use Rattle.desk_room.proofs.Ahead.{ahead_at, ahead_looked}
 use Rattle.desk_room.proofs.Stepping.{of_same, rings_set}
 use Rattle.desk_room.proofs.Marking.{marked_same}
 use Rattle.desk_room.proofs.Meeting.{at_number, settled_at, drained_at, marked_notices}
@@ -47,6 +49,12 @@ pub returns-clause-lists : goal.returns-clause-lists
 returns-clause-lists c =
     let k = c.args.self.now in
     of_same k.lines.items c.args.window.now.number c.index_mut.result.now c.settle.new.self k.ears.items (orders k.dealer) k.desk (got_inside c.args.window.now.number k.lines.items c.requires.0 c.requires.1) c.index_mut.ensures.value c.settle.ensures.taken c.settle.ensures.put
+
+pub returns-clause-ahead : goal.returns-clause-ahead
+unfolding Ahead
+returns-clause-ahead c =
+    let k = c.args.self.now in
+    ahead_at letters_taken letters_known k.lines.items c.args.window.now.number c.index_mut.result.now c.settle.new.self (got_inside c.args.window.now.number k.lines.items c.requires.0 c.requires.1) c.index_mut.ensures.value (ahead_looked _ _ _ _ c.settle.ensures.ahead c.settle.ensures.taken)
 
 pub returns-clause-letters : goal.returns-clause-letters
 returns-clause-letters c =
