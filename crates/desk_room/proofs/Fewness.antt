@@ -1,8 +1,8 @@
 -- How much each ring gains in a pass.
-use Rattle.std.proofs.Common.{◌≡◌, ◌≢◌, ◌<◌, ◌≤◌, ◌⊎◌, inl, inr, ⊎_elim, ℕ, zero, suc, ◌+◌, List, [], ◌∷◌, ◌++◌, length, map, set, get_or, refl, ap, ◌∙◌, arith, length-append}
+use Rattle.std.proofs.Common.{◌≡◌, ◌≢◌, ◌<◌, ◌≤◌, ◌⊎◌, inl, inr, ⊎_elim, ℕ, ◌+◌, List, [], ◌∷◌, ◌++◌, length, map, set, get_or, refl, ap, ◌∙◌, arith, length-append}
 use Rattle.desk_room.specs.Steps.{Untouched, GainBefore}
 use Rattle.desk_room.specs.Turns.{GainFew}
-use Rattle.desk_room.proofs.Places.{is_or_not, at_other, at_same, at_old}
+use Rattle.desk_room.proofs.Places.{is_or_not, below_or, below_or_past, at_other, at_same, at_old}
 
 pub untouched_same : {A : Type 0} (n : ℕ) (xs ys : List (List A)) → ys ≡ xs → Untouched n xs ys
 unfolding Untouched
@@ -35,17 +35,12 @@ gain_more n ring xs ys zs g u few = λ i. pick i (is_or_not i n)
     pick i (inr e) = ((λ h. omega (arith, ap length (u i e), (g i).0 (below i n h e))), (λ h. u i e ∙ (g i).1 (omega (arith, h))))
       where
         below : (i n : ℕ) → i < n + 1 → i ≢ n → i < n
-        below i n h e = ⊎_elim (λ (q : i < n). q) (λ (q : i ≡ n). absurd (e q)) (Rattle.desk_room.proofs.Places.below_or i n h)
+        below i n h e = ⊎_elim (λ (q : i < n). q) (λ (q : i ≡ n). absurd (e q)) (below_or i n h)
 
 pub gain_all : {A : Type 0} (n ring : ℕ) (xs ys : List (List A)) → GainBefore n ring xs ys → GainFew ring xs ys
 unfolding GainBefore GainFew
-gain_all n ring xs ys g = λ i. pick i (less i n)
+gain_all n ring xs ys g = λ i. pick i (below_or_past i n)
   where
-    less : (i n : ℕ) → (i < n) ⊎ (n ≤ i)
-    less i zero = inr (omega arith)
-    less zero (suc n) = inl (omega arith)
-    less (suc i) (suc n) = ⊎_elim (λ q. inl (omega (arith, q))) (λ q. inr (omega (arith, q))) (less i n)
-
     pick : (i : ℕ) → ((i < n) ⊎ (n ≤ i)) → length (get_or ys i []) ≤ length (get_or xs i []) + ring
     pick i (inl h) = (g i).0 h
     pick i (inr h) = omega (arith, ap length ((g i).1 h))

@@ -1,11 +1,11 @@
 -- The back rings: what was heard and is known only grows, and where all that was known was heard nothing is known.
-use Rattle.std.proofs.Common.{◌≡◌, ◌<◌, ◌≤◌, ◌⊎◌, inl, inr, ⊎_elim, ℕ, zero, suc, ◌+◌, List, [], ◌∷◌, length, map, get_or, refl, sym, ◌∙◌, subst, arith}
+use Rattle.std.proofs.Common.{◌≡◌, ◌<◌, ◌≤◌, ⊎_elim, ℕ, zero, suc, ◌+◌, List, [], ◌∷◌, length, map, get_or, refl, sym, ◌∙◌, subst, arith}
 use Rattle.desk_room.specs.Benches.{heard, back_known}
 use Rattle.desk_room.specs.Keepers.{backs_known, BacksAhead}
 use Rattle.desk_room.specs.Steps.{Untouched}
 use Rattle.desk_room.specs.declared.ears.Ear.{Ear}
 use Rattle.desk_room.specs.declared.keepers.Keeper.{Keeper}
-use Rattle.desk_room.proofs.Places.{below_or}
+use Rattle.desk_room.proofs.Places.{below_or, below_or_past}
 use Rattle.desk_room.proofs.Ahead.{Longer, prefix_same, prefix_then}
 
 pub backs_same : (k : Keeper) → BacksAhead k k
@@ -36,9 +36,4 @@ past_the_last (e ∷ es) (suc b) h = past_the_last es b (omega arith)
 
 -- every ring was
 pub all_listened : (n : ℕ) (k : Keeper) → n ≡ length k.ears.items → ((i : ℕ) → i < n → get_or (backs_known k) i [] ≡ []) → (i : ℕ) → get_or (backs_known k) i [] ≡ []
-all_listened n k e all i = ⊎_elim (λ (q : i < n). all i q) (λ (q : n ≤ i). past_the_last k.ears.items i (omega (arith, q, e))) (less i n)
-  where
-    less : (i n : ℕ) → (i < n) ⊎ (n ≤ i)
-    less i zero = inr (omega arith)
-    less zero (suc n) = inl (omega arith)
-    less (suc i) (suc n) = ⊎_elim (λ q. inl (omega (arith, q))) (λ q. inr (omega (arith, q))) (less i n)
+all_listened n k e all i = ⊎_elim (λ (q : i < n). all i q) (λ (q : n ≤ i). past_the_last k.ears.items i (omega (arith, q, e))) (below_or_past i n)

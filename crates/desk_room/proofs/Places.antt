@@ -74,6 +74,11 @@ is_or_not zero (suc n) = inr (λ q. absurd (omega arith))
 is_or_not (suc i) zero = inr (λ q. absurd (omega arith))
 is_or_not (suc i) (suc n) = ⊎_elim (λ q. inl (ap suc q)) (λ q. inr (λ r. q (omega arith))) (is_or_not i n)
 
+pub below_or_past : (i n : ℕ) → (i < n) ⊎ (n ≤ i)
+below_or_past i zero = inr (omega arith)
+below_or_past zero (suc n) = inl (omega arith)
+below_or_past (suc i) (suc n) = ⊎_elim (λ q. inl (omega (arith, q))) (λ q. inr (omega (arith, q))) (below_or_past i n)
+
 pub below_or : (i n : ℕ) → i < n + 1 → (i < n) ⊎ (i ≡ n)
 below_or zero zero h = inr refl
 below_or zero (suc n) h = inl (omega arith)
