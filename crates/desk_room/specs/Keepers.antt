@@ -12,7 +12,15 @@ use Rattle.desk_room.specs.declared.letters.Letter.{Letter}
 use Rattle.desk_room.specs.declared.letters.Back.{Back}
 use Rattle.desk_room.specs.declared.windows.Window.{Window}
 use Rattle.desk_room.specs.declared.lines.Line.{Line}
+use Rattle.desk_room.specs.declared.ears.Ear.{Ear}
 use Rattle.desk_room.specs.declared.keepers.Keeper.{Keeper}
+
+-- its ends of each window's two rings, and of each bench's back ring
+abbrev pub lines_of : Keeper → List Line
+lines_of k = k.lines.items
+
+abbrev pub ears_of : Keeper → List Ear
+ears_of k = k.ears.items
 
 -- its lists, and what its desk holds
 abbrev pub lists : Keeper → RoomLists

@@ -5,7 +5,7 @@ ghost use Rattle.mate_desk.specs.Calls.{empty};
 ghost use Rattle.desk_room.specs.Benches.{heard, ear_ring};
 ghost use Rattle.desk_room.specs.Lines.{letters_taken, deliveries_put, ring_of as line_ring};
 ghost use Rattle.desk_room.specs.Orders.{orders, passes};
-ghost use Rattle.desk_room.specs.Keepers.{lists, ring_of, is_home};
+ghost use Rattle.desk_room.specs.Keepers.{lists, lines_of, ears_of, ring_of, is_home};
 ghost use Rattle.desk_room.specs.Opening.{AreOpened, AreIdle, room_fault_name};
 ghost use Rattle.desk_room.specs.declared.rooms.RoomFault.TheVariants as fault;
 
@@ -72,8 +72,8 @@ pub fn open_room(
 ) -> Result<Room, RoomFault>
     ensures windows { IfOk result (λ room. length room.windows.items ≡ windows) }
     ensures benches { IfOk result (λ room. length room.benches.items ≡ benches) }
-    ensures opened { IfOk result (λ room. AreOpened ring default 0 room.windows.items room.keeper.lines.items) }
-    ensures idle { IfOk result (λ room. AreIdle ring room.benches.items room.keeper.ears.items) }
+    ensures opened { IfOk result (λ room. AreOpened ring default 0 room.windows.items (lines_of room.keeper)) }
+    ensures idle { IfOk result (λ room. AreIdle ring room.benches.items (ears_of room.keeper)) }
     ensures lists { IfOk result (λ room. lists room.keeper ≡ record { taken = replicate windows []; put = replicate windows []; heard = replicate benches []; orders = []; content = empty windows ring 0 }) }
     ensures ring { IfOk result (λ room. ring_of room.keeper ≡ ring) }
     ensures here { IfOk result (λ room. is_home room.keeper ≡ false) }
@@ -109,8 +109,8 @@ fn open(
     requires ring { (1 ≤ ring) × (ring ≤ 64) }
     ensures windows { IfOk result (λ room. length room.windows.items ≡ windows) }
     ensures benches { IfOk result (λ room. length room.benches.items ≡ benches) }
-    ensures opened { IfOk result (λ room. AreOpened ring default 0 room.windows.items room.keeper.lines.items) }
-    ensures idle { IfOk result (λ room. AreIdle ring room.benches.items room.keeper.ears.items) }
+    ensures opened { IfOk result (λ room. AreOpened ring default 0 room.windows.items (lines_of room.keeper)) }
+    ensures idle { IfOk result (λ room. AreIdle ring room.benches.items (ears_of room.keeper)) }
     ensures lists { IfOk result (λ room. lists room.keeper ≡ record { taken = replicate windows []; put = replicate windows []; heard = replicate benches []; orders = []; content = empty windows ring 0 }) }
     ensures ring { IfOk result (λ room. ring_of room.keeper ≡ ring) }
     ensures here { IfOk result (λ room. is_home room.keeper ≡ false) }
