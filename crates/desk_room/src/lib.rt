@@ -43,6 +43,10 @@ pub use window_faults::{ByeFault, WindowFault, WithdrawFault};
 pub use windows::Window;
 
 #[cfg(test)]
+mod crews;
+#[cfg(test)]
+mod manners;
+#[cfg(test)]
 mod order_tests;
 #[cfg(test)]
 mod room_tests;
@@ -50,5 +54,11 @@ mod room_tests;
 mod scenes;
 #[cfg(test)]
 mod shared_tests;
+#[cfg(test)]
+mod solvers;
+#[cfg(test)]
+mod submitters;
+#[cfg(test)]
+mod thread_tests;
 #[cfg(test)]
 mod window_tests;

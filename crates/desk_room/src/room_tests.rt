@@ -1,7 +1,7 @@
 //! Rooms turned by hand, on one thread, told with the replies.
 
 use crate::rooms::{RoomFault, open_room};
-use crate::scenes::{A, ANSWER_A, ANSWER_B, B, Call, check_room};
+use crate::scenes::{A, ANSWER_A, ANSWER_B, B, Call, check_room, check_two_windows};
 use chess_notation::Bound;
 use std::alloc::Global;
 use std::test::Fail;
@@ -116,6 +116,34 @@ fn a_job_that_is_not_out_is_a_stranger(rt: HostRuntime) -> Result<(), Fail> {
         (Call::MakeUp(0, 9), "ok"),
     ];
     check_room(&rt, rt.alloc(), 1, 1, &calls)
+}
+
+#[test]
+fn a_farewell_that_is_left_counts_for_nothing(rt: HostRuntime) -> Result<(), Fail> {
+    let calls = [
+        (0, Call::Submit(A), "ok"),
+        (1, Call::Submit(B), "ok"),
+        (0, Call::Turn, "turned accepted 2 ordered 2"),
+        (0, Call::Submit(B), "ok"),
+        (1, Call::Bye, "ok"),
+        (0, Call::Close, "closed"),
+        (0, Call::Turn, "turned"),
+        (0, Call::SendHome, "owed 0"),
+        (0, Call::Take(0), "job 0"),
+        (0, Call::Take(0), "job 1"),
+        (0, Call::Take(0), "stop"),
+        (0, Call::Solve(0, 0), "ok"),
+        (0, Call::Return(0, 1), "ok"),
+        (0, Call::Turn, "turned solved 1 returned 1 delivered 1"),
+        (0, Call::Settle, "left 1 uncollected 1"),
+        (1, Call::Settle, "left 0 uncollected 0"),
+        (0, Call::Byes, "byes 0"),
+        (0, Call::Drained, "drained false"),
+        (1, Call::Collect, "none"),
+        (0, Call::Collect, ANSWER_A),
+        (0, Call::Settle, "left 1 uncollected 0"),
+    ];
+    check_two_windows(&rt, rt.alloc(), 1, 2, &calls)
 }
 
 fn fault_of(

@@ -5,16 +5,15 @@ ghost use Rattle.desk_room.specs.Windows.{SameWindow};
 ghost use Rattle.desk_room.specs.Keepers.{IsOf, SameRoom};
 
 use crate::benches::Bench;
+use crate::crews::Crew;
 use crate::keepers::Keeper;
-use crate::letters::Back;
 use crate::rooms::{Room, open_room};
-use crate::seats::Taken;
 use crate::turns::Turn;
 use crate::windows::Window;
 use chess_moves::Rays;
-use chess_notation::{Bound, Record, read_record};
+use chess_notation::{Bound, Record};
 use mate_desk::Delivery;
-use mate_search::{Job, Memo, Ticket};
+use mate_search::Ticket;
 use std::alloc::Global;
 use std::fmt::Display;
 use std::process::Abort;
@@ -51,26 +50,8 @@ pub(crate) enum Call {
     Leave,
 }
 
-/// The benches, and the jobs that they took and have yet to give back.
-#[derive(Drop)]
-pub(crate) struct Crew {
-    benches: Vec<Bench>,
-    jobs: Vec<Job>,
-    memo: Memo,
-    rays: Rays,
-}
-
 fn default() -> Result<Bound, Fail> {
     Ok(Bound::new(3).ok_or("bound")?)
-}
-
-fn crew_of(alloc: Global, benches: Vec<Bench>) -> Result<Crew, Fail> {
-    Ok(Crew {
-        benches,
-        jobs: Vec::new(alloc),
-        memo: Memo::new(alloc, 16)?,
-        rays: Rays::new(),
-    })
 }
 
 fn told<E: Display + Drop>(alloc: Global, answered: Result<(), E>) -> Result<String, Fail> {
@@ -143,73 +124,14 @@ fn reply_of_keeper(alloc: Global, keeper: &mut Keeper, call: Call) -> Result<Str
     }
 }
 
-/// The job of this ticket, which is taken out of those in hand.
-fn held(jobs: &mut Vec<Job>, ticket: u64) -> Result<Job, Fail> {
-    for i in 0..jobs.len() {
-        if jobs[i].ticket().0 == ticket {
-            return Ok(jobs.remove(i));
-        }
-    }
-    Err("no such job in hand".into())
-}
-
-fn take(alloc: Global, crew: &mut Crew, i: usize) -> Result<String, Fail> {
-    let Some(bench) = crew.benches.get_mut(i) else {
-        return Err("no such bench".into());
-    };
-    match bench.take() {
-        Taken::Job(job) => {
-            let ticket = job.ticket().0;
-            crew.jobs.push(job)?;
-            Ok(format!(in alloc; "job {ticket}")?)
-        }
-        Taken::Stop => Ok(format!(in alloc; "stop")?),
-        Taken::Nothing => Ok(format!(in alloc; "nothing")?),
-    }
-}
-
-fn refused(alloc: Global, back: &Back) -> Result<String, Fail> {
-    match back {
-        Back::Solved(done) => Ok(format!(in alloc; "refused solved {}", done.ticket().0)?),
-        Back::Returned(job) => Ok(format!(in alloc; "refused returned {}", job.ticket().0)?),
-    }
-}
-
-fn give(alloc: Global, crew: &mut Crew, i: usize, back: Back) -> Result<String, Fail> {
-    let Some(bench) = crew.benches.get_mut(i) else {
-        return Err("no such bench".into());
-    };
-    match bench.back(back) {
-        Ok(()) => Ok(format!(in alloc; "ok")?),
-        Err(back) => refused(alloc, &back),
-    }
-}
-
-fn made_up(alloc: Global, rays: &Rays, ticket: u64) -> Result<Job, Fail> {
-    let record = read_record(alloc, rays, A.as_bytes(), default()?)?;
-    Ok(Job::new(Ticket(ticket), record.problem()))
-}
-
 /// A call of a bench.
 fn reply_of_bench(alloc: Global, crew: &mut Crew, call: Call) -> Result<String, Fail> {
     match call {
-        Call::Take(i) => take(alloc, crew, i),
-        Call::Solve(i, ticket) => {
-            let done = held(&mut crew.jobs, ticket)?.solve(&crew.rays, &mut crew.memo);
-            give(alloc, crew, i, Back::Solved(done))
-        }
-        Call::Return(i, ticket) => {
-            let job = held(&mut crew.jobs, ticket)?;
-            give(alloc, crew, i, Back::Returned(job))
-        }
-        Call::MakeUp(i, ticket) => {
-            let job = made_up(alloc, &crew.rays, ticket)?;
-            give(alloc, crew, i, Back::Returned(job))
-        }
-        _ => {
-            let left = crew.benches.pop().is_some();
-            Ok(format!(in alloc; "left {left}")?)
-        }
+        Call::Take(i) => crew.take(alloc, i),
+        Call::Solve(i, ticket) => crew.solve(alloc, i, ticket),
+        Call::Return(i, ticket) => crew.hand_back(alloc, i, ticket),
+        Call::MakeUp(i, ticket) => crew.make_up(alloc, i, ticket, A),
+        _ => crew.leave(alloc),
     }
 }
 
@@ -243,7 +165,11 @@ fn reply(
 }
 
 /// The ends of a room of one window.
-fn ends_of_one(alloc: Global, benches: usize, ring: usize) -> Result<(Keeper, Window, Crew), Fail>
+fn ends_of_one(
+    alloc: Global,
+    benches: usize,
+    ring: usize,
+) -> Result<(Keeper, Window, Vec<Bench>), Fail>
     ensures { IfOk result (λ ends. IsOf ends.1 ends.0) }
 {
     let Room {
@@ -254,28 +180,7 @@ fn ends_of_one(alloc: Global, benches: usize, ring: usize) -> Result<(Keeper, Wi
     let Some(window) = windows.pop() else {
         return Err("no window".into());
     };
-    Ok((keeper, window, crew_of(alloc, benches)?))
-}
-
-/// Refuses where calls of a window, of the keeper and of the benches are replied to otherwise.
-#[tactic(auto, using(crate::proofs::Staying::room_same, crate::proofs::Staying::room_then))]
-pub(crate) fn check_calls(
-    rt: &impl Abort,
-    alloc: Global,
-    keeper: &mut Keeper,
-    window: &mut Window,
-    crew: &mut Crew,
-    calls: &[(Call, &str)],
-) -> Result<(), Fail>
-    requires { IsOf window.old keeper.old }
-    ensures of { IsOf window.new keeper.new }
-    ensures room { SameRoom keeper.old keeper.new }
-{
-    for (number, (call, wanted)) in calls.iter().enumerate() {
-        let found = reply(alloc, keeper, window, crew, *call)?;
-        assert_eq!(rt; found.as_str(), *wanted, "call {number}");
-    }
-    Ok(())
+    Ok((keeper, window, benches))
 }
 
 /// Refuses where a room of one window, so many benches and rings of so many places replies otherwise.
@@ -286,6 +191,81 @@ pub(crate) fn check_room(
     ring: usize,
     calls: &[(Call, &str)],
 ) -> Result<(), Fail> {
-    let (mut keeper, mut window, mut crew) = ends_of_one(alloc, benches, ring)?;
-    check_calls(rt, alloc, &mut keeper, &mut window, &mut crew, calls)
+    let (mut keeper, mut window, benches) = ends_of_one(alloc, benches, ring)?;
+    let mut crew = Crew::new(alloc, benches)?;
+    for (number, (call, wanted)) in calls.iter().enumerate() {
+        let found = reply(alloc, &mut keeper, &mut window, &mut crew, *call)?;
+        assert_eq!(rt; found.as_str(), *wanted, "call {number}");
+    }
+    Ok(())
+}
+
+/// The ends of a room of two windows.
+pub(crate) fn ends_of_two(
+    alloc: Global,
+    benches: usize,
+    ring: usize,
+) -> Result<(Keeper, Window, Window, Vec<Bench>), Fail>
+    ensures first { IfOk result (λ ends. IsOf ends.1 ends.0) }
+    ensures second { IfOk result (λ ends. IsOf ends.2 ends.0) }
+{
+    let Room {
+        keeper,
+        mut windows,
+        benches,
+    } = open_room(alloc, 2, benches, ring, default()?)?;
+    let Some(second) = windows.pop() else {
+        return Err("no window".into());
+    };
+    let Some(first) = windows.pop() else {
+        return Err("one window".into());
+    };
+    Ok((keeper, first, second, benches))
+}
+
+/// A call of the window of this number, of the keeper or of a bench, where there are two windows.
+fn reply_of_two(
+    alloc: Global,
+    keeper: &mut Keeper,
+    first: &mut Window,
+    second: &mut Window,
+    crew: &mut Crew,
+    number: usize,
+    call: Call,
+) -> Result<String, Fail>
+    requires first { IsOf first.old keeper.old }
+    requires second { IsOf second.old keeper.old }
+    ensures first { IsOf first.new keeper.new }
+    ensures second { IsOf second.new keeper.new }
+{
+    match number {
+        0 => reply(alloc, keeper, first, crew, call),
+        _ => reply(alloc, keeper, second, crew, call),
+    }
+}
+
+/// Refuses where a room of two windows, so many benches and rings of so many places replies otherwise. With each call goes the number
+/// of a window.
+pub(crate) fn check_two_windows(
+    rt: &impl Abort,
+    alloc: Global,
+    benches: usize,
+    ring: usize,
+    calls: &[(usize, Call, &str)],
+) -> Result<(), Fail> {
+    let (mut keeper, mut first, mut second, benches) = ends_of_two(alloc, benches, ring)?;
+    let mut crew = Crew::new(alloc, benches)?;
+    for (number, (at, call, wanted)) in calls.iter().enumerate() {
+        let found = reply_of_two(
+            alloc,
+            &mut keeper,
+            &mut first,
+            &mut second,
+            &mut crew,
+            *at,
+            *call,
+        )?;
+        assert_eq!(rt; found.as_str(), *wanted, "call {number}");
+    }
+    Ok(())
 }
