@@ -26,8 +26,9 @@ pub(crate) struct Submitter {
     // The records that it has sent, and the one whose withdrawal is still to be sent.
     sent: usize,
     to_withdraw: Option<u64>,
-    // The deliveries that came as they should.
-    pub(crate) right: usize,
+    collected: usize,
+    // The number of the first delivery that did not come as it should.
+    pub(crate) wrong: Option<usize>,
 }
 
 /// The window comes back with the ends that it had.
@@ -70,7 +71,8 @@ impl Submitter {
             pace,
             sent: 0,
             to_withdraw: None,
-            right: 0,
+            collected: 0,
+            wrong: None,
         }
     }
 
@@ -96,21 +98,21 @@ impl Submitter {
         }
     }
 
-    /// Collects what there is, and says whether more is to come: not behind a delivery that is for no record, or for another one.
+    /// Collects what there is, and says whether more is to come.
     fn collect(&mut self, alloc: Global, rays: &Rays) -> bool
         ensures { SameWindow self.old.window self.new.window }
     {
-        if RECORDS <= self.right {
+        if RECORDS <= self.collected {
             return false;
         }
-        let Some(delivery) = self.window.collect() else {
-            return true;
-        };
-        let is_right = is_for(alloc, rays, delivery, self.right, self.manner);
-        if is_right {
-            self.right += 1;
+        if let Some(delivery) = self.window.collect() {
+            let is_right = is_for(alloc, rays, delivery, self.collected, self.manner);
+            if !is_right && self.wrong.is_none() {
+                self.wrong = Some(self.collected);
+            }
+            self.collected += 1;
         }
-        is_right
+        true
     }
 
     /// Sends the records and collects what is given for them, then says bye.

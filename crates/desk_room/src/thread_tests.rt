@@ -113,8 +113,8 @@ fn check_across<R: Abort + Threads + Wait + RandomSource + Copy + Send + 'static
     let mut first = first.join(&rt);
     let mut second = second.join(&rt);
     assert_eq!(rt;
-        (first.right, second.right),
-        (RECORDS, RECORDS),
+        (first.wrong, second.wrong),
+        (None, None),
         "rings of {ring}"
     );
     assert!(rt; keeper.is_drained(), "rings of {ring}");
