@@ -27,3 +27,7 @@ pub mod Closing
 pub mod Openings
 pub mod Fewness
 pub mod Opened
+pub mod Dealt
+pub mod Collecting
+pub mod Handed
+pub mod Joined

@@ -14,3 +14,6 @@ pub mod Orders
 pub mod Keepers
 pub mod Steps
 pub mod Opening
+pub mod Serving
+pub mod Clerks
+pub mod Threads

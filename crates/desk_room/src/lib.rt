@@ -11,33 +11,44 @@
 #![tactic(auto)]
 
 mod back_rings;
+mod bells;
 mod benches;
+mod clerks;
+mod threads;
 mod dealers;
 mod dealing;
 mod ears;
+mod gates;
 mod giving;
 mod hearing;
 mod keepers;
+mod keeping;
 mod letters;
 mod lines;
 mod ordering;
 mod orders;
 mod pairs;
+mod reports;
 mod rooms;
 mod seats;
+mod serving;
 mod settling;
 mod taking;
 mod turns;
+mod waits;
 mod window_faults;
 mod windows;
+mod working;
 
 pub use benches::Bench;
+pub use gates::{Gate, OpenGate};
 pub use keepers::Keeper;
 pub use letters::{Back, Letter};
 pub use orders::Order;
 pub use pairs::Settled;
 pub use rooms::{Room, RoomFault, open_room};
 pub use seats::Taken;
+pub use serving::serve;
 pub use turns::Turn;
 pub use window_faults::{ByeFault, WindowFault, WithdrawFault};
 pub use windows::Window;
@@ -52,6 +63,8 @@ mod order_tests;
 mod room_tests;
 #[cfg(test)]
 mod scenes;
+#[cfg(test)]
+mod serving_tests;
 #[cfg(test)]
 mod shared_tests;
 #[cfg(test)]

@@ -1,6 +1,6 @@
 //! Rooms.
 
-ghost use Rattle.std.specs.Prelude.{◌≡◌, ◌↔◌, ◌⊎◌, ◌<◌, ◌≤◌, [], codes, length, replicate, map, IfOk, Err, false};
+ghost use Rattle.std.specs.Prelude.{◌≡◌, ◌≢◌, ◌↔◌, ◌⊎◌, ◌<◌, ◌≤◌, [], codes, length, replicate, map, IfOk, Err, false};
 ghost use Rattle.mate_desk.specs.Calls.{empty};
 ghost use Rattle.desk_room.specs.Benches.{heard, ear_ring};
 ghost use Rattle.desk_room.specs.Lines.{letters_taken, deliveries_put, ring_of as line_ring};
@@ -45,6 +45,9 @@ pub enum RoomFault {
     /// Memory was refused.
     #[error("NoMemory")]
     NoMemory,
+    /// The system would start no more threads. Only `serve` starts any.
+    #[error("NoThread")]
+    NoThread,
 }
 
 impl RoomFault {
@@ -57,6 +60,7 @@ impl RoomFault {
             RoomFault::BadBenches => "BadBenches",
             RoomFault::BadRing => "BadRing",
             RoomFault::NoMemory => "NoMemory",
+            RoomFault::NoThread => "NoThread",
         }
     }
 }
@@ -80,6 +84,7 @@ pub fn open_room(
     ensures bad_windows { (result ≡ Err fault.BadWindows) ↔ ((windows ≡ 0) ⊎ (16 < windows)) }
     ensures bad_benches { (result ≡ Err fault.BadBenches) ↔ (((1 ≤ windows) × (windows ≤ 16)) × ((benches ≡ 0) ⊎ (16 < benches))) }
     ensures bad_ring { (result ≡ Err fault.BadRing) ↔ (((1 ≤ windows) × (windows ≤ 16)) × ((1 ≤ benches) × (benches ≤ 16)) × ((ring ≡ 0) ⊎ (64 < ring))) }
+    ensures no_thread { result ≢ Err fault.NoThread }
 {
     if windows == 0 || 16 < windows {
         return Err(RoomFault::BadWindows);

@@ -132,6 +132,17 @@ impl Window {
         Ok(())
     }
 
+    /// Whether a place of the record ring is known to be free.
+    pub(crate) fn has_place(&mut self) -> bool
+        ensures window { SameWindow self.old self.new }
+        ensures sent { letters_sent self.new ≡ letters_sent self.old }
+        ensures collected { collected self.new ≡ collected self.old }
+        ensures stays { is_gone self.new ≡ is_gone self.old }
+        ensures place { result ≡ true → 0 < places_known self.new }
+    {
+        !self.letters.is_full()
+    }
+
     /// Collects the next delivery, where one is known to lie in the answer ring.
     pub fn collect(&mut self) -> Option<Delivery>
         ensures window { SameWindow self.old self.new }

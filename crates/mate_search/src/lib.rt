@@ -35,9 +35,10 @@ pub use laws::{
 };
 pub use memo::{Memo, MemoFault};
 pub use problems::{is_same_problem, same_problem_reads};
-pub use replies::{Output, answer_input, is_blank, solve_input, without_cr};
+pub use replies::{Output, answer_input, fault_text, is_blank, solve_input, without_cr};
 pub use solving::solve;
 pub use stops::Stop;
+pub use taking::first_line;
 pub use tickets::Ticket;
 pub use writing::{put, stop_of_output};
 

@@ -50,7 +50,7 @@ pub fn is_blank(line: &[u8]) -> bool
 }
 
 /// The reply to a line that says no record: its number and its fault, behind a `#`.
-fn fault_text(alloc: Global, number: usize, fault: EpdFault) -> Result<Vec<u8>, AllocError>
+pub fn fault_text(alloc: Global, number: usize, fault: EpdFault) -> Result<Vec<u8>, AllocError>
     ensures { IfOk result (λ text. text.items ≡ fault_line number fault) }
 {
     let mut text = Vec::new(alloc);

@@ -3,7 +3,7 @@
 ghost use Rattle.std.specs.Prelude.{◌≡◌, ◌++◌, ◌<◌, ◌≤◌, ◌+◌, ℕ, List, [], ◌∷◌, IfNone, IfOk, IfErr, IfSome, drop, false, length, true};
 ghost use Rattle.std.specs.Io.KnownBytes.{Consumes, IsAtEnd, prepend_known};
 ghost use Rattle.chess_notation.specs.Words.{is_blank as is_blank_text};
-ghost use Rattle.mate_search.specs.Replies.{without_cr};
+ghost use Rattle.mate_search.specs.Replies.{lines_of, without_cr};
 ghost use Rattle.mate_search.specs.Takings.{IsKept, IsOneLine, TakesLine, last_or, left_of, spaces_before};
 
 use crate::inputs::{Input, InputFault};
@@ -69,7 +69,7 @@ impl Kept {
 }
 
 /// The first line of a text, and what follows the newline behind it; none where there is no newline.
-fn first_line(text: &[u8]) -> Option<(&[u8], &[u8])>
+fn cut_line(text: &[u8]) -> Option<(&[u8], &[u8])>
     ensures none { IfNone result (IsOneLine text.now) }
     ensures line { IfSome result (λ cut. IsOneLine cut.0.now) }
     ensures cut { IfSome result (λ cut. text.now ≡ cut.0.now ++ 10 ∷ cut.1.now) }
@@ -82,6 +82,14 @@ fn first_line(text: &[u8]) -> Option<(&[u8], &[u8])>
         }
     }
     None
+}
+
+/// The first line of a text that isn't the last, and what follows it; none where the text is one line.
+pub fn first_line(text: &[u8]) -> Option<(&[u8], &[u8])>
+    ensures none { IfNone result (lines_of text.now ≡ text.now ∷ []) }
+    ensures cut { IfSome result (λ cut. lines_of text.now ≡ cut.0.now ∷ lines_of cut.1.now) }
+{
+    cut_line(text)
 }
 
 /// An input, of which lines are taken.
@@ -141,7 +149,7 @@ impl<I: Input + Drop> Lines<I> {
     {
         let read = self.piece.as_slice();
         let (_, left) = read.split_at(self.taken.min(read.len()));
-        let Some((line, more)) = first_line(left) else {
+        let Some((line, more)) = cut_line(left) else {
             kept.keep(left)?;
             self.taken = read.len();
             return Ok(false);

@@ -1,9 +1,8 @@
-use Rattle.std.proofs.Common.{arith}
-use Rattle.mate_search.proofs.InputLines.{one_line_more, one_line_whole}
+use Rattle.mate_search.proofs.InputLines.{cut_first, cut_last}
 use Rattle.mate_search.proofs.taking.first_line.Goals as goal
 
-pub loop-index-preserved : goal.loop-index-preserved
-loop-index-preserved c = one_line_more c.args.text.now c.loop-index.index c.loop-index-test.true c.loop-index.invariant c.if-byte-eq10.false
-
 pub returns-clause-none : goal.returns-clause-none
-returns-clause-none c = one_line_whole c.args.text.now c.loop-index.index (omega arith) c.loop-index.invariant
+returns-clause-none c = cut_last c.cut_line.result c.args.text.now c.cut_line.ensures.none
+
+pub returns-clause-cut : goal.returns-clause-cut
+returns-clause-cut c = cut_first c.cut_line.result c.args.text.now (λ cut. cut.0.now) (λ cut. cut.1.now) c.cut_line.ensures.line c.cut_line.ensures.cut

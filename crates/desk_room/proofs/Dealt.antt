@@ -1,0 +1,108 @@
+-- What a clerk has dealt with, one step more.
+use Rattle.std.proofs.Common.{◌≡◌, ℕ, ◌+◌, ◌≤◌, List, [], ◌∷◌, ◌++◌, length, map, refl, ap, sym, ◌∙◌, subst, arith, append_assoc, append-nil, length-append}
+use Rattle.chess_notation.specs.Records.{RecordValue}
+use Rattle.mate_search.specs.Replies.{answer_line, without_cr, IsLineReply, IsReplyFrom}
+use Rattle.mate_search.proofs.InputReplies.{replies_next}
+use Rattle.desk_room.specs.Clerks.{woven, Deals}
+
+woven_snoc : (rs : List RecordValue) (ts : List (List ℕ)) (r : RecordValue) → length ts ≡ length rs → woven (rs ++ r ∷ []) (ts ++ [] ∷ []) ≡ woven rs ts ++ answer_line r
+woven_snoc [] [] r is = append-nil (answer_line r ++ []) ∙ append-nil (answer_line r)
+woven_snoc [] (t ∷ ts) r is = absurd (omega (arith, is))
+woven_snoc (q ∷ qs) [] r is = absurd (omega (arith, is))
+woven_snoc (q ∷ qs) (t ∷ ts) r is =
+    ap (λ l. (answer_line q ++ t) ++ l) (woven_snoc qs ts r (omega (arith, is))) ∙ sym (append_assoc (answer_line q ++ t) (woven qs ts) (answer_line r))
+
+woven_behind : (rs : List RecordValue) (ts : List (List ℕ)) (t more : List ℕ) → length rs ≡ length ts + 1 → woven rs (ts ++ (t ++ more) ∷ []) ≡ woven rs (ts ++ t ∷ []) ++ more
+woven_behind [] ts t more is = absurd (omega (arith, is))
+woven_behind (r ∷ []) [] t more is =
+    append-nil (answer_line r ++ (t ++ more)) ∙ sym (append_assoc (answer_line r) t more) ∙ ap (λ l. l ++ more) (sym (append-nil (answer_line r ++ t)))
+woven_behind (r ∷ q ∷ rs) [] t more is = absurd (omega (arith, is))
+woven_behind (r ∷ rs) (s ∷ ts) t more is =
+    ap (λ l. (answer_line r ++ s) ++ l) (woven_behind rs ts t more (omega (arith, is))) ∙ sym (append_assoc (answer_line r ++ s) (woven rs (ts ++ t ∷ [])) more)
+
+woven_none : (rs : List RecordValue) → woven rs [] ≡ []
+woven_none [] = refl
+woven_none (r ∷ rs) = refl
+
+-- What follows a first part ends as the whole does.
+pub record EndsSo (sent got rest : List RecordValue) (r : RecordValue) : Type 0 where
+  pub before : List RecordValue
+  pub is : rest ≡ before ++ r ∷ []
+  pub follows : sent ≡ got ++ before
+
+ends_so : (sent got rest : List RecordValue) (r : RecordValue) → length got ≤ length sent → sent ++ r ∷ [] ≡ got ++ rest → EndsSo sent got rest r
+ends_so sent [] rest r few is = record { before = sent; is = sym is; follows = refl }
+ends_so [] (g ∷ gs) rest r few is = absurd (omega (arith, few))
+ends_so (s ∷ ss) (g ∷ gs) rest r few is =
+    let more = ends_so ss gs rest r (omega (arith, few)) (cc (is)) in
+    let first : s ≡ g = cc (is) in
+    record { before = more.before; is = more.is; follows = ap (λ x. x ∷ ss) first ∙ ap (λ l. g ∷ l) more.follows }
+
+pub deal_answer : (default refused : ℕ) (lines : List (List ℕ)) (sent got : List RecordValue) (a : RecordValue) (text b : List ℕ) (bs : List (List ℕ))
+    → Deals default lines sent got text (b ∷ bs) refused → Deals default lines sent (got ++ a ∷ []) (text ++ (answer_line a ++ b)) bs refused
+deal_answer default refused lines sent got a text b bs old = record {
+  awaited = omega (arith, old.awaited, length-append got (a ∷ []));
+  replied = λ rest is.
+      subst (λ t. IsReplyFrom default 1 lines t refused) (sym (append_assoc text (answer_line a ++ b) (woven rest bs)))
+          (old.replied (a ∷ rest) (is ∙ append_assoc got (a ∷ []) rest));
+}
+
+pub deal_record : (default refused : ℕ) (lines : List (List ℕ)) (line : List ℕ) (sent got : List RecordValue) (r : RecordValue) (text : List ℕ) (behind : List (List ℕ))
+    → IsLineReply default (length lines + 1) (without_cr line) (answer_line r) 0
+    → Deals default lines sent got text behind refused → Deals default (lines ++ line ∷ []) (sent ++ r ∷ []) got text (behind ++ [] ∷ []) refused
+deal_record default refused lines line sent got r text behind reply old = record {
+  awaited = omega (arith, old.awaited, length-append behind ([] ∷ []), length-append sent (r ∷ []));
+  replied = λ rest is.
+      let ends = ends_so sent got rest r (omega (arith, old.awaited)) is in
+      let few : length behind ≡ length ends.before = omega (arith, old.awaited, ap length ends.follows, length-append got ends.before) in
+      let next : IsReplyFrom default 1 (lines ++ line ∷ []) ((text ++ woven ends.before behind) ++ answer_line r) (refused + 0) =
+          replies_next default (length lines + 1) lines line (text ++ woven ends.before behind) (answer_line r) refused 0 refl (old.replied ends.before ends.follows) reply in
+      let is_text : (text ++ woven ends.before behind) ++ answer_line r ≡ text ++ woven rest (behind ++ [] ∷ []) =
+          append_assoc text (woven ends.before behind) (answer_line r) ∙ ap (λ l. text ++ l) (sym (woven_snoc ends.before behind r few) ∙ ap (λ l. woven l (behind ++ [] ∷ [])) (sym ends.is)) in
+      subst (λ t. IsReplyFrom default 1 (lines ++ line ∷ []) t refused) is_text (subst (λ n. IsReplyFrom default 1 (lines ++ line ∷ []) ((text ++ woven ends.before behind) ++ answer_line r) n) (omega arith) next);
+}
+
+pub deal_refusal : (default refused : ℕ) (lines : List (List ℕ)) (line here : List ℕ) (sent got : List RecordValue) (text : List ℕ)
+    → IsLineReply default (length lines + 1) (without_cr line) here 1
+    → Deals default lines sent got text [] refused → Deals default (lines ++ line ∷ []) sent got (text ++ here) [] (refused + 1)
+deal_refusal default refused lines line here sent got text reply old = record {
+  awaited = old.awaited;
+  replied = λ rest is.
+      let before : IsReplyFrom default 1 lines text refused =
+          subst (λ t. IsReplyFrom default 1 lines t refused) (ap (λ l. text ++ l) (woven_none rest) ∙ append-nil text) (old.replied rest is) in
+      subst (λ t. IsReplyFrom default 1 (lines ++ line ∷ []) t (refused + 1)) (sym (ap (λ l. (text ++ here) ++ l) (woven_none rest) ∙ append-nil (text ++ here)))
+          (replies_next default (length lines + 1) lines line text here refused 1 refl before reply);
+}
+
+pub deal_refusal_behind : (default refused : ℕ) (lines : List (List ℕ)) (line here : List ℕ) (sent got : List RecordValue) (text b : List ℕ) (bs : List (List ℕ))
+    → IsLineReply default (length lines + 1) (without_cr line) here 1
+    → Deals default lines sent got text (bs ++ b ∷ []) refused → Deals default (lines ++ line ∷ []) sent got text (bs ++ (b ++ here) ∷ []) (refused + 1)
+deal_refusal_behind default refused lines line here sent got text b bs reply old = record {
+  awaited = omega (arith, old.awaited, length-append bs (b ∷ []), length-append bs ((b ++ here) ∷ []));
+  replied = λ rest is.
+      let few : length rest ≡ length bs + 1 = omega (arith, old.awaited, length-append bs (b ∷ []), ap length is, length-append got rest) in
+      subst (λ t. IsReplyFrom default 1 (lines ++ line ∷ []) t (refused + 1))
+          (append_assoc text (woven rest (bs ++ b ∷ [])) here ∙ ap (λ l. text ++ l) (sym (woven_behind rest bs b here few)))
+          (replies_next default (length lines + 1) lines line (text ++ woven rest (bs ++ b ∷ [])) here refused 1 refl (old.replied rest is) reply);
+}
+
+pub deal_blank : (default refused : ℕ) (lines : List (List ℕ)) (line : List ℕ) (sent got : List RecordValue) (text : List ℕ) (behind : List (List ℕ))
+    → IsLineReply default (length lines + 1) (without_cr line) [] 0
+    → Deals default lines sent got text behind refused → Deals default (lines ++ line ∷ []) sent got text behind refused
+deal_blank default refused lines line sent got text behind reply old = record {
+  awaited = old.awaited;
+  replied = λ rest is.
+      let next : IsReplyFrom default 1 (lines ++ line ∷ []) ((text ++ woven rest behind) ++ []) (refused + 0) =
+          replies_next default (length lines + 1) lines line (text ++ woven rest behind) [] refused 0 refl (old.replied rest is) reply in
+      subst (λ t. IsReplyFrom default 1 (lines ++ line ∷ []) t refused) (append-nil (text ++ woven rest behind))
+          (subst (λ n. IsReplyFrom default 1 (lines ++ line ∷ []) ((text ++ woven rest behind) ++ []) n) (omega arith) next);
+}
+
+pub deals_none : (default : ℕ) → Deals default [] [] [] [] [] 0
+deals_none default = record { awaited = refl; replied = λ rest is. (woven_none rest, refl) }
+
+-- Nothing is awaited any more.
+pub dealt_whole : (default refused : ℕ) (lines : List (List ℕ)) (sent got : List RecordValue) (text : List ℕ)
+    → Deals default lines sent got text [] refused → sent ≡ got → IsReplyFrom default 1 lines text refused
+dealt_whole default refused lines sent got text old is =
+    subst (λ t. IsReplyFrom default 1 lines t refused) (append-nil text) (old.replied [] (is ∙ sym (append-nil got)))

@@ -1,0 +1,123 @@
+-- A line that a clerk hands in: what its reply is, and what the clerk has dealt with then.
+use Rattle.std.proofs.Common.{◌≡◌, ◌≢◌, ◌⊎◌, inl, inr, ℕ, ◌+◌, List, [], ◌∷◌, ◌++◌, Vec, Global, Result, Ok, Err, OnOk, false, map, length, refl, ap, ◌∙◌, sym, subst, arith, append_assoc, length-append, Some}
+use Rattle.std.proofs.lemmas.List.{length-map, map-append}
+use Rattle.chess_notation.specs.Records.{RecordValue}
+use Rattle.chess_notation.specs.Words.{is_blank}
+use Rattle.chess_notation.specs.EpdFaults.{IsFaultOf}
+use Rattle.chess_notation.specs.declared.faults.EpdFault.{EpdFault}
+use Rattle.chess_notation.specs.declared.faults.EpdFault.TheVariants.{NoMemory}
+use Rattle.mate_search.specs.Replies.{answer_line, fault_line, without_cr, lines_of, IsLineReply, IsReply, answered as is_answered, refused as is_refused}
+use Rattle.desk_room.specs.Letters.{records}
+use Rattle.desk_room.specs.Deliveries.{asked}
+use Rattle.desk_room.specs.Windows.{letters_sent, collected, default_of, SameWindow}
+use Rattle.desk_room.specs.WindowFaults.{SaysOnly, SaysRecord}
+use Rattle.desk_room.specs.Clerks.{Deals, HasDealt, IsAt, Reports}
+use Rattle.desk_room.specs.declared.letters.Letter.TheVariants.{Record}
+use Rattle.desk_room.specs.declared.clerks.Clerk.{Clerk}
+use Rattle.desk_room.specs.declared.windows.Window.{Window}
+use Rattle.desk_room.proofs.LetterCounts.{records_append}
+use Rattle.desk_room.proofs.Collecting.{moved, window_then}
+use Rattle.desk_room.proofs.Dealt.{deal_record, deal_refusal, deal_refusal_behind, dealt_whole}
+
+pub on_ok : {A E P Q : Type 0} (r : Result A E) → OnOk r P → (P → Q) → OnOk r Q
+on_ok (Ok x) known more = more known
+on_ok (Err e) known more = tt
+
+answered_line : (default number : ℕ) (whole line : List ℕ) (r : RecordValue) → without_cr whole ≡ line → is_blank line ≡ false → SaysOnly line default r
+    → IsLineReply default number (without_cr whole) (answer_line r) 0
+answered_line default number whole line r is blank says = subst (λ l. IsLineReply default number l (answer_line r) 0) (sym is) (is_answered r blank says.0)
+
+pub refused_line : (default number : ℕ) (whole line here : List ℕ) (fault : EpdFault) → without_cr whole ≡ line → is_blank line ≡ false
+    → IsFaultOf line fault ⊎ ((fault ≡ NoMemory) × SaysRecord line default) → fault ≢ NoMemory → here ≡ fault_line number fault → IsLineReply default number (without_cr whole) here 1
+refused_line default number whole line here fault is blank (inl faulty) other text =
+    subst (λ l. IsLineReply default number l here 1) (sym is) (subst (λ t. IsLineReply default number line t 1) (sym text) (is_refused fault blank faulty))
+refused_line default number whole line here fault is blank (inr memory) other text = absurd (other memory.0)
+
+-- What a clerk's lists would be with another window, text and texts behind.
+abbrev pub HasLists : List (List ℕ) → Window → List ℕ → List (Vec ℕ Global) → ℕ → Type 0
+HasLists lines w text behind refused = Deals (default_of w) lines (records (letters_sent w)) (map asked (collected w)) text (map (λ t. t.items) behind) refused
+
+-- Nothing went by the window.
+pub dealt_same : (c : Clerk) (w : Window) (lines : List (List ℕ)) → SameWindow c.window w → collected w ≡ collected c.window → letters_sent w ≡ letters_sent c.window
+    → HasDealt lines c → HasLists lines w c.text.items c.behind.items c.refused
+dealt_same c w lines window got sent old =
+    let items : List (Vec ℕ Global) → List (List ℕ) = map (λ t. t.items) in
+    moved (default_of c.window) (default_of w) lines (records (letters_sent c.window)) (records (letters_sent w)) (map asked (collected c.window)) (map asked (collected w))
+        c.text.items c.text.items (items c.behind.items) (items c.behind.items) c.refused c.refused window.3 (ap records sent) (ap (map asked) got) refl refl refl old
+
+-- A record is sent, and nothing stands behind it yet.
+pub dealt_record : (c : Clerk) (w : Window) (behind : List (Vec ℕ Global)) (lines : List (List ℕ)) (whole line : List ℕ) (number : ℕ) (r : RecordValue) (none : Vec ℕ Global)
+    → SameWindow c.window w → collected w ≡ collected c.window → letters_sent w ≡ letters_sent c.window ++ Record r ∷ []
+    → behind ≡ c.behind.items ++ none ∷ [] → none.items ≡ []
+    → without_cr whole ≡ line → is_blank line ≡ false → SaysOnly line (default_of c.window) r
+    → HasDealt lines c → HasLists (lines ++ whole ∷ []) w c.text.items behind c.refused
+dealt_record c w behind lines whole line number r none window got sent more empty is blank says old =
+    let items : List (Vec ℕ Global) → List (List ℕ) = map (λ t. t.items) in
+    let more' : items behind ≡ items c.behind.items ++ [] ∷ [] =
+        ap items more ∙ (map-append (λ t. t.items) c.behind.items (none ∷ []) ∙ ap (λ l. items c.behind.items ++ l ∷ []) empty) in
+    moved (default_of c.window) (default_of w) (lines ++ whole ∷ []) (records (letters_sent c.window) ++ r ∷ []) (records (letters_sent w))
+        (map asked (collected c.window)) (map asked (collected w)) c.text.items c.text.items (items c.behind.items ++ [] ∷ []) (items behind) c.refused c.refused
+        window.3 (ap records sent ∙ records_append (letters_sent c.window) (Record r ∷ [])) (ap (map asked) got) refl more' refl
+        (deal_record (default_of c.window) c.refused lines whole (records (letters_sent c.window)) (map asked (collected c.window)) r c.text.items (items c.behind.items)
+            (answered_line (default_of c.window) (length lines + 1) whole line r is blank says) old)
+
+-- A refusal is written where nothing is awaited.
+pub dealt_refusal : (c : Clerk) (text : List ℕ) (behind : List (Vec ℕ Global)) (lines : List (List ℕ)) (line here : List ℕ)
+    → c.behind.items ≡ [] → behind ≡ [] → text ≡ c.text.items ++ here
+    → IsLineReply (default_of c.window) (length lines + 1) (without_cr line) here 1 → HasDealt lines c → HasLists (lines ++ line ∷ []) c.window text behind (c.refused + 1)
+dealt_refusal c text behind lines line here none still more reply old =
+    let items : List (Vec ℕ Global) → List (List ℕ) = map (λ t. t.items) in
+    moved (default_of c.window) (default_of c.window) (lines ++ line ∷ []) (records (letters_sent c.window)) (records (letters_sent c.window))
+        (map asked (collected c.window)) (map asked (collected c.window)) (c.text.items ++ here) text [] (items behind) (c.refused + 1) (c.refused + 1)
+        refl refl refl more (ap items still) refl
+        (deal_refusal (default_of c.window) c.refused lines line here (records (letters_sent c.window)) (map asked (collected c.window)) c.text.items reply
+            (subst (λ l. Deals (default_of c.window) lines (records (letters_sent c.window)) (map asked (collected c.window)) c.text.items l c.refused) (ap items none) old))
+
+-- A refusal is written behind the last answer that is awaited.
+pub dealt_refusal_behind : (c : Clerk) (texts front : List (Vec ℕ Global)) (behind after : Vec ℕ Global) (lines : List (List ℕ)) (line here : List ℕ)
+    → c.behind.items ≡ front ++ behind ∷ [] → texts ≡ front ++ after ∷ [] → after.items ≡ behind.items ++ here
+    → IsLineReply (default_of c.window) (length lines + 1) (without_cr line) here 1 → HasDealt lines c → HasLists (lines ++ line ∷ []) c.window c.text.items texts (c.refused + 1)
+dealt_refusal_behind c texts front behind after lines line here old_is new_is more reply old =
+    let items : List (Vec ℕ Global) → List (List ℕ) = map (λ t. t.items) in
+    let was : items c.behind.items ≡ items front ++ behind.items ∷ [] = ap items old_is ∙ map-append (λ t. t.items) front (behind ∷ []) in
+    let is : items texts ≡ items front ++ (behind.items ++ here) ∷ [] =
+        ap items new_is ∙ (map-append (λ t. t.items) front (after ∷ []) ∙ ap (λ l. items front ++ l ∷ []) more) in
+    moved (default_of c.window) (default_of c.window) (lines ++ line ∷ []) (records (letters_sent c.window)) (records (letters_sent c.window))
+        (map asked (collected c.window)) (map asked (collected c.window)) c.text.items c.text.items (items front ++ (behind.items ++ here) ∷ []) (items texts) (c.refused + 1) (c.refused + 1)
+        refl refl refl refl is refl
+        (deal_refusal_behind (default_of c.window) c.refused lines line here (records (letters_sent c.window)) (map asked (collected c.window)) c.text.items behind.items (items front) reply
+            (subst (λ l. Deals (default_of c.window) lines (records (letters_sent c.window)) (map asked (collected c.window)) c.text.items l c.refused) was old))
+
+-- One line more of the input, or the last.
+pub at_next : (input rest line more : List ℕ) (number : ℕ) (c d : Clerk) → lines_of rest ≡ line ∷ lines_of more
+    → ((lines : List (List ℕ)) → length lines + 1 ≡ number → HasDealt lines c → HasDealt (lines ++ line ∷ []) d) → IsAt input rest number c → IsAt input more (number + 1) d
+at_next input rest line more number c d cut deals is = record {
+  lines = is.lines ++ line ∷ [];
+  next = omega (arith, is.next, length-append is.lines (line ∷ []));
+  split = is.split ∙ (ap (λ l. is.lines ++ l) cut ∙ sym (append_assoc is.lines (line ∷ []) (lines_of more)));
+  dealt = deals is.lines is.next is.dealt;
+}
+
+pub at_last : (input rest : List ℕ) (number : ℕ) (c d : Clerk) → lines_of rest ≡ rest ∷ []
+    → ((lines : List (List ℕ)) → length lines + 1 ≡ number → HasDealt lines c → HasDealt (lines ++ rest ∷ []) d) → IsAt input rest number c → HasDealt (lines_of input) d
+at_last input rest number c d one deals is =
+    subst (λ l. HasDealt l d) (ap (λ l. is.lines ++ l) (sym one) ∙ sym is.split) (deals is.lines is.next is.dealt)
+
+pub at_first : (input : List ℕ) (c : Clerk) → HasDealt [] c → IsAt input input 1 c
+at_first input c dealt = record { lines = []; next = refl; split = refl; dealt = dealt }
+
+-- All lines are dealt with, nothing is awaited, and the window said farewell.
+pub reported : (w : Window) (c : Clerk) (v : Window) (input : List ℕ) → SameWindow w c.window → SameWindow c.window v → records (letters_sent v) ≡ records (letters_sent c.window)
+    → collected v ≡ collected c.window → c.behind.items ≡ [] → HasDealt (lines_of input) c → Reports w input (record { window = v; reply = Some (record { text = c.text; refused = c.refused }) })
+unfolding IsReply
+reported w c v input before after sent got none dealt =
+    let items : List (Vec ℕ Global) → List (List ℕ) = map (λ t. t.items) in
+    let whole : Deals (default_of c.window) (lines_of input) (records (letters_sent v)) (map asked (collected v)) c.text.items [] c.refused =
+        moved (default_of c.window) (default_of c.window) (lines_of input) (records (letters_sent c.window)) (records (letters_sent v)) (map asked (collected c.window)) (map asked (collected v))
+            c.text.items c.text.items (items c.behind.items) [] c.refused c.refused refl sent (ap (map asked) got) refl (sym (ap items none)) refl dealt in record {
+      window = window_then w c.window v before after;
+      reply = record {
+        as_many = omega (arith, whole.awaited, length-map (collected v) asked);
+        reply = λ is. subst (λ d. IsReply d input c.text.items c.refused) (sym after.3) (dealt_whole (default_of c.window) c.refused (lines_of input) (records (letters_sent v)) (map asked (collected v)) c.text.items whole is);
+      };
+    }

@@ -1,0 +1,232 @@
+//! A clerk hands one input in at a window, and writes down the reply.
+
+ghost use Rattle.std.specs.Prelude.{◌≡◌, ◌++◌, false, IfOk};
+ghost use Rattle.mate_search.specs.Replies.{answer_line};
+ghost use Rattle.desk_room.specs.Windows.{is_gone};
+
+use crate::bells::{Bell, Why};
+use crate::waits::Waits;
+use crate::window_faults::WindowFault;
+use crate::windows::Window;
+use chess_moves::Rays;
+use chess_notation::EpdFault;
+use mate_desk::Delivery;
+use mate_search::{Answer, Output, fault_text, first_line, is_blank, without_cr};
+use std::alloc::Global;
+use std::collections::VecDeque;
+use std::sync::Wait;
+
+/// Deals with one input, line by line.
+#[derive(Drop)]
+pub(crate) struct Clerk {
+    pub(crate) window: Window,
+    // The first part of the reply.
+    pub(crate) text: Vec<u8>,
+    // For each record that was sent and is not answered yet, in order, the replies to the lines behind it up to the next record.
+    pub(crate) behind: VecDeque<Vec<u8>>,
+    // How many lines are refused.
+    pub(crate) refused: usize,
+    ghost here: { is_gone window ≡ false },
+}
+
+/// Writes an answer, and what stands behind it.
+fn write_answer(
+    alloc: Global,
+    rays: &Rays,
+    answer: &Answer,
+    behind: &[u8],
+    text: &mut Vec<u8>,
+) -> Result<(), Why>
+    ensures { IfOk result (λ _. text.new.items ≡ text.old.items ++ (answer_line answer.now ++ behind.now)) }
+{
+    let answered = answer.text(alloc, rays)?;
+    text.extend_from_slice(answered.as_bytes())?;
+    text.extend_from_slice(b"\n")?;
+    text.extend_from_slice(behind)?;
+    Ok(())
+}
+
+impl Clerk {
+    ghost use Rattle.std.specs.Prelude.{◌≡◌, ◌<◌, ◌≤◌, ◌+◌, ◌-◌, ◌^◌, ℕ, List, [], ◌∷◌, ◌++◌, OnOk, length, true, false};
+    ghost use Rattle.chess_notation.specs.Words.{is_blank as is_blank_text};
+    ghost use Rattle.mate_search.specs.Replies.{without_cr as text_without_cr, lines_of, IsLineReply};
+    ghost use Rattle.desk_room.specs.Windows.{letters_sent, collected, places_known, default_of, SameWindow};
+    ghost use Rattle.desk_room.specs.Clerks.{Collects, HasDealt};
+
+    /// A clerk at a window by which nothing went yet.
+    pub(crate) fn new(alloc: Global, window: Window) -> Clerk
+        requires sent { letters_sent window ≡ [] }
+        requires collected { collected window ≡ [] }
+        ensures window { result.window ≡ window }
+        ensures none { result.refused ≡ 0 }
+        ensures dealt { HasDealt [] result }
+    {
+        Clerk {
+            window,
+            text: Vec::new(alloc),
+            behind: VecDeque::new(alloc),
+            refused: 0,
+        }
+    }
+
+    /// Takes the next answer, where one is awaited and has come. It answers whether it did.
+    fn collect(&mut self, alloc: Global, rays: &Rays) -> Result<bool, Why>
+        ensures window { SameWindow self.old.window self.new.window }
+        ensures collects { OnOk result (Collects self.old self.new) }
+    {
+        if self.behind.is_empty() {
+            return Ok(false);
+        }
+        let answer = match self.window.collect() {
+            None => return Ok(false),
+            Some(Delivery::Answer(answer)) => answer,
+            // No clerk withdraws, so that none comes.
+            Some(Delivery::Notice(_, _)) => return Err(Why::NoThread),
+        };
+        let Some(behind) = self.behind.pop_front() else {
+            return Ok(false);
+        };
+        write_answer(alloc, rays, &answer, behind.as_slice(), &mut self.text)?;
+        Ok(true)
+    }
+
+    /// Whether the record ring has a place.
+    fn has_place(&mut self) -> bool
+        ensures place { result ≡ true → 0 < places_known self.new.window }
+        ensures collects { Collects self.old self.new }
+    {
+        self.window.has_place()
+    }
+
+    #[tactic(auto, using(crate::proofs::Collecting::collects_same, crate::proofs::Collecting::window_then))]
+    /// Takes answers as they come, until the record ring has a place.
+    fn make_room<R: Wait>(&mut self, rt: &R, alloc: Global, rays: &Rays, bell: &Bell) -> Result<(), Why>
+        ensures window { SameWindow self.old.window self.new.window }
+        ensures place { OnOk result (0 < places_known self.new.window) }
+        ensures collects { OnOk result (Collects self.old self.new) }
+    {
+        let mut waits = Waits::new();
+        for _ in rt.forever() {
+            if let Some(why) = bell.rung() {
+                return Err(why);
+            }
+            if self.collect(alloc, rays)? {
+                waits.found();
+            } else if self.has_place() {
+                return Ok(());
+            } else {
+                waits.wait(rt, bell);
+            }
+        }
+        unreachable!()
+    }
+
+    #[tactic(auto, using(crate::proofs::Collecting::collects_same, crate::proofs::Collecting::window_then))]
+    /// Takes answers as they come, until none is awaited.
+    pub(crate) fn collect_all<R: Wait>(&mut self, rt: &R, alloc: Global, rays: &Rays, bell: &Bell) -> Result<(), Why>
+        ensures window { SameWindow self.old.window self.new.window }
+        ensures none { OnOk result (self.new.behind.items ≡ []) }
+        ensures collects { OnOk result (Collects self.old self.new) }
+    {
+        let mut waits = Waits::new();
+        for _ in rt.forever() {
+            if self.behind.is_empty() {
+                return Ok(());
+            }
+            if let Some(why) = bell.rung() {
+                return Err(why);
+            }
+            if self.collect(alloc, rays)? {
+                waits.found();
+            } else {
+                waits.wait(rt, bell);
+            }
+        }
+        unreachable!()
+    }
+
+    /// Writes that a line is refused, behind the answers that are awaited.
+    fn refuse(&mut self, refusal: &[u8]) -> Result<(), Why>
+        requires { self.old.refused < 2 ^ 64 - 1 }
+        ensures window { self.new.window ≡ self.old.window }
+        ensures refused { self.new.refused ≤ self.old.refused + 1 }
+        ensures dealt { OnOk result ((lines : List (List ℕ)) (line : List ℕ) → IsLineReply (default_of self.old.window) (length lines + 1) (text_without_cr line) refusal.now 1 → HasDealt lines self.old → HasDealt (lines ++ line ∷ []) self.new) }
+    {
+        self.refused += 1;
+        let Some(mut behind) = self.behind.pop_back() else {
+            self.text.extend_from_slice(refusal)?;
+            return Ok(());
+        };
+        behind.extend_from_slice(refusal)?;
+        if self.behind.push_back(behind).is_err() {
+            return Err(Why::NoMemory);
+        }
+        Ok(())
+    }
+
+    /// Sends the record that a line says, or writes why the line says none.
+    fn send(&mut self, alloc: Global, rays: &Rays, number: usize, line: &[u8]) -> Result<(), Why>
+        requires place { 0 < places_known self.old.window }
+        requires few { self.old.refused < number }
+        ensures window { SameWindow self.old.window self.new.window }
+        ensures few { self.new.refused ≤ self.old.refused + 1 }
+        ensures dealt { OnOk result ((lines : List (List ℕ)) (whole : List ℕ) → length lines + 1 ≡ number → text_without_cr whole ≡ line.now → is_blank_text line.now ≡ false → HasDealt lines self.old → HasDealt (lines ++ whole ∷ []) self.new) }
+    {
+        match self.window.submit(alloc, rays, line) {
+            Ok(()) => {
+                if self.behind.push_back(Vec::new(alloc)).is_err() {
+                    return Err(Why::NoMemory);
+                }
+                Ok(())
+            }
+            Err(WindowFault::BadRecord(fault)) => {
+                if fault == EpdFault::NoMemory {
+                    return Err(Why::NoMemory);
+                }
+                let refusal = fault_text(alloc, number, fault)?;
+                self.refuse(refusal.as_slice())
+            }
+            // No input has so many records.
+            Err(WindowFault::Exhausted) => Err(Why::NoMemory),
+            Err(WindowFault::Gone) => unreachable!(),
+            Err(WindowFault::Busy) => unreachable!(),
+        }
+    }
+
+    #[tactic(auto, using(crate::proofs::Collecting::window_then))]
+    /// Deals with a line, by its number in the input.
+    fn hand_in<R: Wait>(&mut self, rt: &R, alloc: Global, rays: &Rays, bell: &Bell, number: usize, line: &[u8]) -> Result<(), Why>
+        requires few { self.old.refused < number }
+        ensures window { SameWindow self.old.window self.new.window }
+        ensures few { OnOk result (self.new.refused ≤ self.old.refused + 1) }
+        ensures dealt { OnOk result ((lines : List (List ℕ)) → length lines + 1 ≡ number → HasDealt lines self.old → HasDealt (lines ++ line.now ∷ []) self.new) }
+    {
+        let line = without_cr(line);
+        if is_blank(line) {
+            return Ok(());
+        }
+        self.make_room(rt, alloc, rays, bell)?;
+        self.send(alloc, rays, number, line)
+    }
+
+    #[tactic(auto, using(crate::proofs::RingEnds::same_window, crate::proofs::Collecting::window_then))]
+    /// Deals with all lines of an input.
+    pub(crate) fn hand_in_all<R: Wait>(&mut self, rt: &R, alloc: Global, rays: &Rays, bell: &Bell, input: &[u8]) -> Result<(), Why>
+        requires none { self.old.refused ≡ 0 }
+        requires dealt { HasDealt [] self.old }
+        ensures window { SameWindow self.old.window self.new.window }
+        ensures dealt { OnOk result (HasDealt (lines_of input.now) self.new) }
+    {
+        let mut rest = input;
+        for number in 1..usize::MAX {
+            match first_line(rest) {
+                Some((line, more)) => {
+                    self.hand_in(rt, alloc, rays, bell, number, line)?;
+                    rest = more;
+                }
+                None => return self.hand_in(rt, alloc, rays, bell, number, rest),
+            }
+        }
+        Err(Why::NoMemory)
+    }
+}

@@ -1,0 +1,208 @@
+//! Inputs served by threads.
+
+ghost use Rattle.std.specs.Prelude.{◌≡◌, ◌≢◌, ◌↔◌, ◌⊎◌, ◌<◌, ◌≤◌, length, map, vec_len, IfOk, IfSome, Err};
+ghost use Rattle.std.specs.Thread.{IsSync};
+ghost use Rattle.desk_room.specs.Serving.{AreReplies};
+ghost use Rattle.desk_room.specs.Threads.{AllFresh, AllOf, AllReport, AllSettled, IsSettled};
+ghost use Rattle.desk_room.specs.Keepers.{IsOf, SameRoom};
+ghost use Rattle.desk_room.specs.declared.rooms.RoomFault.TheVariants as fault;
+
+use crate::bells::{Bell, Why};
+use crate::benches::Bench;
+use crate::threads::{attend_all, work_all};
+use crate::gates::Gate;
+use crate::keepers::Keeper;
+use crate::keeping::keep;
+use crate::reports::Report;
+use crate::rooms::{Room, RoomFault, open_room};
+use crate::windows::Window;
+use chess_moves::Rays;
+use chess_notation::Bound;
+use mate_search::Output;
+use std::alloc::{AllocError, Global};
+use std::snapshot::Snapshot;
+use std::sync::Wait;
+use std::thread;
+use std::thread::{Promise, Threads};
+
+/// How many places each ring has.
+const RING: usize = 8;
+
+/// What the keeper's thread brings back: the keeper of the same room.
+#[derive(Drop)]
+struct KeeperOf(Snapshot<Keeper>);
+
+impl Promise<Keeper> for KeeperOf {
+    ghost kept_by = { λ p k. SameRoom p.0.value k };
+}
+
+/// What the thread of the benches brings back: nothing that matters.
+#[derive(Drop)]
+struct Worked;
+
+impl Promise<()> for Worked {
+    ghost kept_by = { λ p r. Unit {0} };
+}
+
+/// Runs the benches beside the windows.
+fn run_ends<R: Threads + Wait + Sync, G: Gate>(
+    rt: &R,
+    alloc: Global,
+    rays: &Rays,
+    windows: Vec<Window>,
+    inputs: &[Vec<u8>],
+    benches: Vec<Bench>,
+    gate: &G,
+    bell: &Bell,
+) -> Result<Vec<Report>, AllocError>
+    requires as_many { vec_len windows ≡ length inputs.now }
+    requires fresh { AllFresh windows.items }
+    ensures { IfOk result (λ all. AllReport windows.items (map (λ v. v.items) inputs.now) all.items) }
+{
+    thread::scope(
+        thread::scope_env(),
+        rt,
+        move |scope| -> Result<Vec<Report>, AllocError>
+            requires { IsSync R.row × IsSync G.row × (vec_len windows ≡ length inputs.now) × AllFresh windows.items }
+            ensures { IfOk result (λ all. AllReport windows.items (map (λ v. v.items) inputs.entry.now) all.items) }
+        {
+            let working = move ||
+                requires { IsSync R.row × IsSync G.row }
+            { work_all(rt, alloc, rays, benches, gate, bell) };
+            match scope.spawn_with(Worked, working) {
+                Ok(child) => {
+                    let reports = attend_all(rt, alloc, rays, windows, inputs, bell);
+                    child.join(rt);
+                    reports
+                }
+                Err(refused) => {
+                    bell.ring(Why::NoThread);
+                    (refused.value)();
+                    attend_all(rt, alloc, rays, windows, inputs, bell)
+                }
+            }
+        },
+    )
+}
+
+/// Runs the keeper beside the other ends, until all have joined.
+fn run<R: Threads + Wait + Sync, G: Gate>(
+    rt: &R,
+    alloc: Global,
+    rays: &Rays,
+    room: Room,
+    inputs: &[Vec<u8>],
+    gate: &G,
+    bell: &Bell,
+) -> (Keeper, Result<Vec<Report>, AllocError>)
+    requires as_many { vec_len room.windows ≡ length inputs.now }
+    requires fresh { AllFresh room.windows.items }
+    ensures keeper { SameRoom room.keeper result.0 }
+    ensures reports { IfOk result.1 (λ all. AllReport room.windows.items (map (λ v. v.items) inputs.now) all.items) }
+{
+    let Room {
+        keeper,
+        windows,
+        benches,
+    } = room;
+    let most = windows.len();
+    thread::scope(
+        thread::scope_env(),
+        rt,
+        move |scope| -> (Keeper, Result<Vec<Report>, AllocError>)
+            requires { IsSync R.row × IsSync G.row × (vec_len windows ≡ length inputs.now) × AllFresh windows.items }
+            ensures { SameRoom keeper result.0 × IfOk result.1 (λ all. AllReport windows.items (map (λ v. v.items) inputs.entry.now) all.items) }
+        {
+            let promise = KeeperOf(Snapshot::of(&keeper));
+            let keeping = move || -> Keeper
+                ensures { SameRoom keeper result }
+            { keep(rt, keeper, most, bell) };
+            match scope.spawn_with(promise, keeping) {
+                Ok(child) => {
+                    let reports = run_ends(rt, alloc, rays, windows, inputs, benches, gate, bell);
+                    if reports.is_err() {
+                        bell.ring(Why::NoMemory);
+                    }
+                    (child.join(rt), reports)
+                }
+                Err(refused) => {
+                    bell.ring(Why::NoThread);
+                    let reports = run_ends(rt, alloc, rays, windows, inputs, benches, gate, bell);
+                    ((refused.value)(), reports)
+                }
+            }
+        },
+    )
+}
+
+/// The reply to an input, once its window and the keeper have met.
+fn settle_one(keeper: &mut Keeper, report: Report) -> Option<Output>
+    requires { IsOf report.window keeper.old }
+    ensures room { SameRoom keeper.old keeper.new }
+    ensures settled { IfSome result (λ output. IsSettled report output) }
+{
+    let Report { mut window, reply } = report;
+    keeper.settle(&mut window);
+    reply
+}
+
+/// The replies to all inputs; none where one of them is not whole.
+#[tactic(auto, using(crate::proofs::Staying::room_same, crate::proofs::Staying::room_then))]
+#[cycle(settling)]
+fn settle_all(
+    alloc: Global,
+    keeper: &mut Keeper,
+    mut reports: Vec<Report>,
+) -> Result<Option<Vec<Output>>, AllocError>
+    requires { AllOf keeper.old reports.items }
+    ensures room { SameRoom keeper.old keeper.new }
+    ensures settled { IfOk result (λ all. IfSome all (λ outputs. AllSettled reports.items outputs.items)) }
+{
+    let Some(report) = reports.pop() else {
+        return Ok(Some(Vec::new(alloc)));
+    };
+    let Some(one) = settle_one(keeper, report) else {
+        return Ok(None);
+    };
+    let Some(mut all) = settle_all(alloc, keeper, reports)? else {
+        return Ok(None);
+    };
+    match all.push(one) {
+        Ok(()) => Ok(Some(all)),
+        Err(_) => Err(AllocError),
+    }
+}
+
+/// The reply to each input, as `solve_input` gives it: by a thread for each of 1 to 16 inputs, a thread for each of 1 to 16 benches,
+/// and a keeper. A line that asks for no bound is read with the default one.
+///
+/// It returns once each record is solved, so never where the gate always hands back.
+pub fn serve<R: Threads + Wait + Sync, G: Gate>(
+    rt: &R,
+    alloc: Global,
+    rays: &Rays,
+    inputs: &[Vec<u8>],
+    default: Bound,
+    benches: usize,
+    gate: &G,
+) -> Result<Vec<Output>, RoomFault>
+    ensures replies { IfOk result (λ outputs. AreReplies default (map (λ input. input.items) inputs.now) outputs.items) }
+    ensures bad_windows { (result ≡ Err fault.BadWindows) ↔ ((length inputs.now ≡ 0) ⊎ (16 < length inputs.now)) }
+    ensures bad_benches { (result ≡ Err fault.BadBenches) ↔ (((1 ≤ length inputs.now) × (length inputs.now ≤ 16)) × ((benches ≡ 0) ⊎ (16 < benches))) }
+    ensures good_ring { result ≢ Err fault.BadRing }
+{
+    let room = open_room(alloc, inputs.len(), benches, RING, default)?;
+    let bell = Bell::new();
+    let (mut keeper, reports) = run(rt, alloc, rays, room, inputs, gate, &bell);
+    let Ok(reports) = reports else {
+        return Err(RoomFault::NoMemory);
+    };
+    match settle_all(alloc, &mut keeper, reports) {
+        Ok(Some(outputs)) => Ok(outputs),
+        Ok(None) => match bell.rung() {
+            Some(Why::NoThread) => Err(RoomFault::NoThread),
+            _ => Err(RoomFault::NoMemory),
+        },
+        Err(_) => Err(RoomFault::NoMemory),
+    }
+}
