@@ -1,5 +1,5 @@
 -- A clerk that takes answers and nothing else, and what that leaves of what it dealt with.
-use Rattle.std.proofs.Common.{◌≡◌, ℕ, List, [], ◌∷◌, ◌++◌, Vec, Global, map, refl, ap, ◌∙◌, sym, subst}
+use Rattle.std.proofs.Common.{◌≡◌, ℕ, List, [], ◌∷◌, ◌++◌, Vec, Global, map, refl, ap, ◌∙◌, subst}
 use Rattle.std.proofs.lemmas.List.{map-append}
 use Rattle.chess_notation.specs.Records.{RecordValue}
 use Rattle.mate_search.specs.Replies.{answer_line}
@@ -7,7 +7,7 @@ use Rattle.mate_desk.specs.declared.deliveries.Delivery.TheVariants.{Answer}
 use Rattle.desk_room.specs.Letters.{records}
 use Rattle.desk_room.specs.Deliveries.{asked}
 use Rattle.desk_room.specs.Windows.{letters_sent, collected, default_of, SameWindow}
-use Rattle.desk_room.specs.Clerks.{Collects, Deals, HasDealt}
+use Rattle.desk_room.specs.Clerks.{Collects, Deals}
 use Rattle.desk_room.specs.declared.clerks.Clerk.{Clerk}
 use Rattle.desk_room.specs.declared.windows.Window.{Window}
 use Rattle.desk_room.proofs.Dealt.{deal_answer}
@@ -46,11 +46,11 @@ collects_one c d r behind window sent got is text refused = record {
   dealt = λ lines old.
       let items : List (Vec ℕ Global) → List (List ℕ) = map (λ t. t.items) in
       let before : Deals (default_of c.window) lines (records (letters_sent c.window)) (map asked (collected c.window)) c.text.items (behind.items ∷ items d.behind.items) c.refused =
-          subst (λ l. Deals (default_of c.window) lines (records (letters_sent c.window)) (map asked (collected c.window)) c.text.items l c.refused) (ap items is) old in
+      subst (λ l. Deals (default_of c.window) lines (records (letters_sent c.window)) (map asked (collected c.window)) c.text.items l c.refused) (ap items is) old in
       moved (default_of c.window) (default_of d.window) lines (records (letters_sent c.window)) (records (letters_sent d.window)) (map asked (collected c.window) ++ r ∷ [])
-          (map asked (collected d.window)) (c.text.items ++ (answer_line r ++ behind.items)) d.text.items (items d.behind.items) (items d.behind.items) c.refused d.refused
-          window.3 (ap records sent) (ap (map asked) got ∙ map-append asked (collected c.window) (Answer r ∷ [])) text refl refused
-          (deal_answer (default_of c.window) c.refused lines (records (letters_sent c.window)) (map asked (collected c.window)) r c.text.items behind.items (items d.behind.items) before);
+      (map asked (collected d.window)) (c.text.items ++ (answer_line r ++ behind.items)) d.text.items (items d.behind.items) (items d.behind.items) c.refused d.refused
+      window.3 (ap records sent) (ap (map asked) got ∙ map-append asked (collected c.window) (Answer r ∷ [])) text refl refused
+      (deal_answer (default_of c.window) c.refused lines (records (letters_sent c.window)) (map asked (collected c.window)) r c.text.items behind.items (items d.behind.items) before);
 }
 
 -- Nothing went by the window.
@@ -62,6 +62,6 @@ collects_none c d window sent got text behind refused = record {
   dealt = λ lines old.
       let items : List (Vec ℕ Global) → List (List ℕ) = map (λ t. t.items) in
       moved (default_of c.window) (default_of d.window) lines (records (letters_sent c.window)) (records (letters_sent d.window)) (map asked (collected c.window)) (map asked (collected d.window))
-          c.text.items d.text.items (items c.behind.items) (items d.behind.items) c.refused d.refused
-          window.3 (ap records sent) (ap (map asked) got) (ap (λ t. t.items) text) (ap (λ b. items b.items) behind) refused old;
+      c.text.items d.text.items (items c.behind.items) (items d.behind.items) c.refused d.refused
+      window.3 (ap records sent) (ap (map asked) got) (ap (λ t. t.items) text) (ap (λ b. items b.items) behind) refused old;
 }

@@ -1,5 +1,5 @@
 -- What a clerk has dealt with, one step more.
-use Rattle.std.proofs.Common.{◌≡◌, ℕ, ◌+◌, ◌≤◌, List, [], ◌∷◌, ◌++◌, length, map, refl, ap, sym, ◌∙◌, subst, arith, append_assoc, append-nil, length-append}
+use Rattle.std.proofs.Common.{◌≡◌, ℕ, ◌+◌, ◌≤◌, List, [], ◌∷◌, ◌++◌, length, refl, ap, sym, ◌∙◌, subst, arith, append_assoc, append-nil, length-append}
 use Rattle.chess_notation.specs.Records.{RecordValue}
 use Rattle.mate_search.specs.Replies.{answer_line, without_cr, IsLineReply, IsReplyFrom}
 use Rattle.mate_search.proofs.InputReplies.{replies_next}
@@ -44,7 +44,7 @@ deal_answer default refused lines sent got a text b bs old = record {
   awaited = omega (arith, old.awaited, length-append got (a ∷ []));
   replied = λ rest is.
       subst (λ t. IsReplyFrom default 1 lines t refused) (sym (append_assoc text (answer_line a ++ b) (woven rest bs)))
-          (old.replied (a ∷ rest) (is ∙ append_assoc got (a ∷ []) rest));
+      (old.replied (a ∷ rest) (is ∙ append_assoc got (a ∷ []) rest));
 }
 
 pub deal_record : (default refused : ℕ) (lines : List (List ℕ)) (line : List ℕ) (sent got : List RecordValue) (r : RecordValue) (text : List ℕ) (behind : List (List ℕ))
@@ -56,9 +56,9 @@ deal_record default refused lines line sent got r text behind reply old = record
       let ends = ends_so sent got rest r (omega (arith, old.awaited)) is in
       let few : length behind ≡ length ends.before = omega (arith, old.awaited, ap length ends.follows, length-append got ends.before) in
       let next : IsReplyFrom default 1 (lines ++ line ∷ []) ((text ++ woven ends.before behind) ++ answer_line r) (refused + 0) =
-          replies_next default (length lines + 1) lines line (text ++ woven ends.before behind) (answer_line r) refused 0 refl (old.replied ends.before ends.follows) reply in
+      replies_next default (length lines + 1) lines line (text ++ woven ends.before behind) (answer_line r) refused 0 refl (old.replied ends.before ends.follows) reply in
       let is_text : (text ++ woven ends.before behind) ++ answer_line r ≡ text ++ woven rest (behind ++ [] ∷ []) =
-          append_assoc text (woven ends.before behind) (answer_line r) ∙ ap (λ l. text ++ l) (sym (woven_snoc ends.before behind r few) ∙ ap (λ l. woven l (behind ++ [] ∷ [])) (sym ends.is)) in
+      append_assoc text (woven ends.before behind) (answer_line r) ∙ ap (λ l. text ++ l) (sym (woven_snoc ends.before behind r few) ∙ ap (λ l. woven l (behind ++ [] ∷ [])) (sym ends.is)) in
       subst (λ t. IsReplyFrom default 1 (lines ++ line ∷ []) t refused) is_text (subst (λ n. IsReplyFrom default 1 (lines ++ line ∷ []) ((text ++ woven ends.before behind) ++ answer_line r) n) (omega arith) next);
 }
 
@@ -69,9 +69,9 @@ deal_refusal default refused lines line here sent got text reply old = record {
   awaited = old.awaited;
   replied = λ rest is.
       let before : IsReplyFrom default 1 lines text refused =
-          subst (λ t. IsReplyFrom default 1 lines t refused) (ap (λ l. text ++ l) (woven_none rest) ∙ append-nil text) (old.replied rest is) in
+      subst (λ t. IsReplyFrom default 1 lines t refused) (ap (λ l. text ++ l) (woven_none rest) ∙ append-nil text) (old.replied rest is) in
       subst (λ t. IsReplyFrom default 1 (lines ++ line ∷ []) t (refused + 1)) (sym (ap (λ l. (text ++ here) ++ l) (woven_none rest) ∙ append-nil (text ++ here)))
-          (replies_next default (length lines + 1) lines line text here refused 1 refl before reply);
+      (replies_next default (length lines + 1) lines line text here refused 1 refl before reply);
 }
 
 pub deal_refusal_behind : (default refused : ℕ) (lines : List (List ℕ)) (line here : List ℕ) (sent got : List RecordValue) (text b : List ℕ) (bs : List (List ℕ))
@@ -82,8 +82,8 @@ deal_refusal_behind default refused lines line here sent got text b bs reply old
   replied = λ rest is.
       let few : length rest ≡ length bs + 1 = omega (arith, old.awaited, length-append bs (b ∷ []), ap length is, length-append got rest) in
       subst (λ t. IsReplyFrom default 1 (lines ++ line ∷ []) t (refused + 1))
-          (append_assoc text (woven rest (bs ++ b ∷ [])) here ∙ ap (λ l. text ++ l) (sym (woven_behind rest bs b here few)))
-          (replies_next default (length lines + 1) lines line (text ++ woven rest (bs ++ b ∷ [])) here refused 1 refl (old.replied rest is) reply);
+      (append_assoc text (woven rest (bs ++ b ∷ [])) here ∙ ap (λ l. text ++ l) (sym (woven_behind rest bs b here few)))
+      (replies_next default (length lines + 1) lines line (text ++ woven rest (bs ++ b ∷ [])) here refused 1 refl (old.replied rest is) reply);
 }
 
 pub deal_blank : (default refused : ℕ) (lines : List (List ℕ)) (line : List ℕ) (sent got : List RecordValue) (text : List ℕ) (behind : List (List ℕ))
@@ -93,9 +93,9 @@ deal_blank default refused lines line sent got text behind reply old = record {
   awaited = old.awaited;
   replied = λ rest is.
       let next : IsReplyFrom default 1 (lines ++ line ∷ []) ((text ++ woven rest behind) ++ []) (refused + 0) =
-          replies_next default (length lines + 1) lines line (text ++ woven rest behind) [] refused 0 refl (old.replied rest is) reply in
+      replies_next default (length lines + 1) lines line (text ++ woven rest behind) [] refused 0 refl (old.replied rest is) reply in
       subst (λ t. IsReplyFrom default 1 (lines ++ line ∷ []) t refused) (append-nil (text ++ woven rest behind))
-          (subst (λ n. IsReplyFrom default 1 (lines ++ line ∷ []) ((text ++ woven rest behind) ++ []) n) (omega arith) next);
+      (subst (λ n. IsReplyFrom default 1 (lines ++ line ∷ []) ((text ++ woven rest behind) ++ []) n) (omega arith) next);
 }
 
 pub deals_none : (default : ℕ) → Deals default [] [] [] [] [] 0

@@ -43,7 +43,7 @@ pub dealt_same : (c : Clerk) (w : Window) (lines : List (List ℕ)) → SameWind
 dealt_same c w lines window got sent old =
     let items : List (Vec ℕ Global) → List (List ℕ) = map (λ t. t.items) in
     moved (default_of c.window) (default_of w) lines (records (letters_sent c.window)) (records (letters_sent w)) (map asked (collected c.window)) (map asked (collected w))
-        c.text.items c.text.items (items c.behind.items) (items c.behind.items) c.refused c.refused window.3 (ap records sent) (ap (map asked) got) refl refl refl old
+    c.text.items c.text.items (items c.behind.items) (items c.behind.items) c.refused c.refused window.3 (ap records sent) (ap (map asked) got) refl refl refl old
 
 -- A record is sent, and nothing stands behind it yet.
 pub dealt_record : (c : Clerk) (w : Window) (behind : List (Vec ℕ Global)) (lines : List (List ℕ)) (whole line : List ℕ) (number : ℕ) (r : RecordValue) (none : Vec ℕ Global)
@@ -54,12 +54,12 @@ pub dealt_record : (c : Clerk) (w : Window) (behind : List (Vec ℕ Global)) (li
 dealt_record c w behind lines whole line number r none window got sent more empty is blank says old =
     let items : List (Vec ℕ Global) → List (List ℕ) = map (λ t. t.items) in
     let more' : items behind ≡ items c.behind.items ++ [] ∷ [] =
-        ap items more ∙ (map-append (λ t. t.items) c.behind.items (none ∷ []) ∙ ap (λ l. items c.behind.items ++ l ∷ []) empty) in
+    ap items more ∙ (map-append (λ t. t.items) c.behind.items (none ∷ []) ∙ ap (λ l. items c.behind.items ++ l ∷ []) empty) in
     moved (default_of c.window) (default_of w) (lines ++ whole ∷ []) (records (letters_sent c.window) ++ r ∷ []) (records (letters_sent w))
-        (map asked (collected c.window)) (map asked (collected w)) c.text.items c.text.items (items c.behind.items ++ [] ∷ []) (items behind) c.refused c.refused
-        window.3 (ap records sent ∙ records_append (letters_sent c.window) (Record r ∷ [])) (ap (map asked) got) refl more' refl
-        (deal_record (default_of c.window) c.refused lines whole (records (letters_sent c.window)) (map asked (collected c.window)) r c.text.items (items c.behind.items)
-            (answered_line (default_of c.window) (length lines + 1) whole line r is blank says) old)
+    (map asked (collected c.window)) (map asked (collected w)) c.text.items c.text.items (items c.behind.items ++ [] ∷ []) (items behind) c.refused c.refused
+    window.3 (ap records sent ∙ records_append (letters_sent c.window) (Record r ∷ [])) (ap (map asked) got) refl more' refl
+    (deal_record (default_of c.window) c.refused lines whole (records (letters_sent c.window)) (map asked (collected c.window)) r c.text.items (items c.behind.items)
+    (answered_line (default_of c.window) (length lines + 1) whole line r is blank says) old)
 
 -- A refusal is written where nothing is awaited.
 pub dealt_refusal : (c : Clerk) (text : List ℕ) (behind : List (Vec ℕ Global)) (lines : List (List ℕ)) (line here : List ℕ)
@@ -68,10 +68,10 @@ pub dealt_refusal : (c : Clerk) (text : List ℕ) (behind : List (Vec ℕ Global
 dealt_refusal c text behind lines line here none still more reply old =
     let items : List (Vec ℕ Global) → List (List ℕ) = map (λ t. t.items) in
     moved (default_of c.window) (default_of c.window) (lines ++ line ∷ []) (records (letters_sent c.window)) (records (letters_sent c.window))
-        (map asked (collected c.window)) (map asked (collected c.window)) (c.text.items ++ here) text [] (items behind) (c.refused + 1) (c.refused + 1)
-        refl refl refl more (ap items still) refl
-        (deal_refusal (default_of c.window) c.refused lines line here (records (letters_sent c.window)) (map asked (collected c.window)) c.text.items reply
-            (subst (λ l. Deals (default_of c.window) lines (records (letters_sent c.window)) (map asked (collected c.window)) c.text.items l c.refused) (ap items none) old))
+    (map asked (collected c.window)) (map asked (collected c.window)) (c.text.items ++ here) text [] (items behind) (c.refused + 1) (c.refused + 1)
+    refl refl refl more (ap items still) refl
+    (deal_refusal (default_of c.window) c.refused lines line here (records (letters_sent c.window)) (map asked (collected c.window)) c.text.items reply
+    (subst (λ l. Deals (default_of c.window) lines (records (letters_sent c.window)) (map asked (collected c.window)) c.text.items l c.refused) (ap items none) old))
 
 -- A refusal is written behind the last answer that is awaited.
 pub dealt_refusal_behind : (c : Clerk) (texts front : List (Vec ℕ Global)) (behind after : Vec ℕ Global) (lines : List (List ℕ)) (line here : List ℕ)
@@ -81,12 +81,12 @@ dealt_refusal_behind c texts front behind after lines line here old_is new_is mo
     let items : List (Vec ℕ Global) → List (List ℕ) = map (λ t. t.items) in
     let was : items c.behind.items ≡ items front ++ behind.items ∷ [] = ap items old_is ∙ map-append (λ t. t.items) front (behind ∷ []) in
     let is : items texts ≡ items front ++ (behind.items ++ here) ∷ [] =
-        ap items new_is ∙ (map-append (λ t. t.items) front (after ∷ []) ∙ ap (λ l. items front ++ l ∷ []) more) in
+    ap items new_is ∙ (map-append (λ t. t.items) front (after ∷ []) ∙ ap (λ l. items front ++ l ∷ []) more) in
     moved (default_of c.window) (default_of c.window) (lines ++ line ∷ []) (records (letters_sent c.window)) (records (letters_sent c.window))
-        (map asked (collected c.window)) (map asked (collected c.window)) c.text.items c.text.items (items front ++ (behind.items ++ here) ∷ []) (items texts) (c.refused + 1) (c.refused + 1)
-        refl refl refl refl is refl
-        (deal_refusal_behind (default_of c.window) c.refused lines line here (records (letters_sent c.window)) (map asked (collected c.window)) c.text.items behind.items (items front) reply
-            (subst (λ l. Deals (default_of c.window) lines (records (letters_sent c.window)) (map asked (collected c.window)) c.text.items l c.refused) was old))
+    (map asked (collected c.window)) (map asked (collected c.window)) c.text.items c.text.items (items front ++ (behind.items ++ here) ∷ []) (items texts) (c.refused + 1) (c.refused + 1)
+    refl refl refl refl is refl
+    (deal_refusal_behind (default_of c.window) c.refused lines line here (records (letters_sent c.window)) (map asked (collected c.window)) c.text.items behind.items (items front) reply
+    (subst (λ l. Deals (default_of c.window) lines (records (letters_sent c.window)) (map asked (collected c.window)) c.text.items l c.refused) was old))
 
 -- One line more of the input, or the last.
 pub at_next : (input rest line more : List ℕ) (number : ℕ) (c d : Clerk) → lines_of rest ≡ line ∷ lines_of more
@@ -113,8 +113,8 @@ unfolding IsReply
 reported w c v input before after sent got none dealt =
     let items : List (Vec ℕ Global) → List (List ℕ) = map (λ t. t.items) in
     let whole : Deals (default_of c.window) (lines_of input) (records (letters_sent v)) (map asked (collected v)) c.text.items [] c.refused =
-        moved (default_of c.window) (default_of c.window) (lines_of input) (records (letters_sent c.window)) (records (letters_sent v)) (map asked (collected c.window)) (map asked (collected v))
-            c.text.items c.text.items (items c.behind.items) [] c.refused c.refused refl sent (ap (map asked) got) refl (sym (ap items none)) refl dealt in record {
+    moved (default_of c.window) (default_of c.window) (lines_of input) (records (letters_sent c.window)) (records (letters_sent v)) (map asked (collected c.window)) (map asked (collected v))
+    c.text.items c.text.items (items c.behind.items) [] c.refused c.refused refl sent (ap (map asked) got) refl (sym (ap items none)) refl dealt in record {
       window = window_then w c.window v before after;
       reply = record {
         as_many = omega (arith, whole.awaited, length-map (collected v) asked);

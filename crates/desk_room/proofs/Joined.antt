@@ -1,8 +1,6 @@
 -- What the threads of the windows bring back: one report more, and what becomes of the reports when the room has changed as it may.
-use Rattle.std.proofs.Common.{◌≡◌, ℕ, zero, suc, ◌+◌, List, [], ◌∷◌, ◌++◌, length, map, Result, Ok, IfOk, ap, refl, sym, ◌∙◌, subst, arith, append_assoc, append-nil, length-append}
-use Rattle.std.proofs.lemmas.List.{map-append}
-use Rattle.desk_room.specs.Windows.{letters_sent, collected, number_of, default_of, SameWindow}
-use Rattle.desk_room.specs.Opening.{IsFresh, AreOpened}
+use Rattle.std.proofs.Common.{◌≡◌, ℕ, ◌+◌, List, [], ◌∷◌, ◌++◌, length, Result, Ok, IfOk, ap, refl, sym, ◌∙◌, subst, arith, append_assoc, append-nil, length-append}
+use Rattle.desk_room.specs.Opening.{AreOpened}
 use Rattle.desk_room.specs.Keepers.{IsOf, SameRoom}
 use Rattle.desk_room.specs.Clerks.{Reports}
 use Rattle.desk_room.specs.Threads.{AllFresh, AllOf, AllReport, AllSettled, IsFreshWindow, IsSettled}

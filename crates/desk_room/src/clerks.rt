@@ -100,7 +100,13 @@ impl Clerk {
 
     #[tactic(auto, using(crate::proofs::Collecting::collects_same, crate::proofs::Collecting::window_then))]
     /// Takes answers as they come, until the record ring has a place.
-    fn make_room<R: Wait>(&mut self, rt: &R, alloc: Global, rays: &Rays, bell: &Bell) -> Result<(), Why>
+    fn make_room<R: Wait>(
+        &mut self,
+        rt: &R,
+        alloc: Global,
+        rays: &Rays,
+        bell: &Bell,
+    ) -> Result<(), Why>
         ensures window { SameWindow self.old.window self.new.window }
         ensures place { OnOk result (0 < places_known self.new.window) }
         ensures collects { OnOk result (Collects self.old self.new) }
@@ -123,7 +129,13 @@ impl Clerk {
 
     #[tactic(auto, using(crate::proofs::Collecting::collects_same, crate::proofs::Collecting::window_then))]
     /// Takes answers as they come, until none is awaited.
-    pub(crate) fn collect_all<R: Wait>(&mut self, rt: &R, alloc: Global, rays: &Rays, bell: &Bell) -> Result<(), Why>
+    pub(crate) fn collect_all<R: Wait>(
+        &mut self,
+        rt: &R,
+        alloc: Global,
+        rays: &Rays,
+        bell: &Bell,
+    ) -> Result<(), Why>
         ensures window { SameWindow self.old.window self.new.window }
         ensures none { OnOk result (self.new.behind.items ≡ []) }
         ensures collects { OnOk result (Collects self.old self.new) }
@@ -195,7 +207,15 @@ impl Clerk {
 
     #[tactic(auto, using(crate::proofs::Collecting::window_then))]
     /// Deals with a line, by its number in the input.
-    fn hand_in<R: Wait>(&mut self, rt: &R, alloc: Global, rays: &Rays, bell: &Bell, number: usize, line: &[u8]) -> Result<(), Why>
+    fn hand_in<R: Wait>(
+        &mut self,
+        rt: &R,
+        alloc: Global,
+        rays: &Rays,
+        bell: &Bell,
+        number: usize,
+        line: &[u8],
+    ) -> Result<(), Why>
         requires few { self.old.refused < number }
         ensures window { SameWindow self.old.window self.new.window }
         ensures few { OnOk result (self.new.refused ≤ self.old.refused + 1) }
@@ -211,7 +231,14 @@ impl Clerk {
 
     #[tactic(auto, using(crate::proofs::RingEnds::same_window, crate::proofs::Collecting::window_then))]
     /// Deals with all lines of an input.
-    pub(crate) fn hand_in_all<R: Wait>(&mut self, rt: &R, alloc: Global, rays: &Rays, bell: &Bell, input: &[u8]) -> Result<(), Why>
+    pub(crate) fn hand_in_all<R: Wait>(
+        &mut self,
+        rt: &R,
+        alloc: Global,
+        rays: &Rays,
+        bell: &Bell,
+        input: &[u8],
+    ) -> Result<(), Why>
         requires none { self.old.refused ≡ 0 }
         requires dealt { HasDealt [] self.old }
         ensures window { SameWindow self.old.window self.new.window }

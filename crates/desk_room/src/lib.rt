@@ -1,20 +1,21 @@
-//! The desk across threads: submitters at windows, solvers at benches, and one keeper of the desk between them. No call waits, and
-//! none takes a lock.
+//! The desk across threads: submitters at windows, solvers at benches, and one keeper of the desk between them. No call of theirs
+//! waits, and none takes a lock; `serve` runs them all, each on a thread of its own, and waits for them.
 //!
 //! What a desk holds and what its calls answer is `mate_desk`'s business, solving is `mate_search`'s, and how a ring and a stealing
-//! deque work is that of `rtrb` and `crossbeam_deque`. No thread is started here: whoever opens a room puts its ends on threads.
+//! deque work is that of `rtrb` and `crossbeam_deque`.
 //!
 //! To read: `letters` (what goes over the rings); `windows`, with `window_faults`, and `lines`, the keeper's ends of a window's two
 //! rings, which `pairs` opens and lets meet. Then `orders`; `dealing`, the rule of the deque; `dealers`, its end at the keeper, and
 //! `seats`, its ends at the `benches`; `ears`, the keeper's ends of the `back_rings`. Then `keepers`, and a turn, pass by pass:
-//! `hearing`, `taking`, `ordering`, `giving`, and `turns` as a whole. Last `rooms`, which opens all of it, and `settling`.
+//! `hearing`, `taking`, `ordering`, `giving`, and `turns` as a whole; `rooms`, which opens all of it, and `settling`. Last what
+//! `serve` is made of: `gates`; `bells` and `waits`, how its threads end and wait; `clerks`, one at each window, with their `reports`;
+//! benches `working` and the keeper `keeping`; `threads`, and `serving` as a whole.
 #![tactic(auto)]
 
 mod back_rings;
 mod bells;
 mod benches;
 mod clerks;
-mod threads;
 mod dealers;
 mod dealing;
 mod ears;
@@ -34,6 +35,7 @@ mod seats;
 mod serving;
 mod settling;
 mod taking;
+mod threads;
 mod turns;
 mod waits;
 mod window_faults;

@@ -43,7 +43,14 @@ fn say_bye<R: Wait>(rt: &R, window: &mut Window, bell: &Bell)
 
 #[tactic(auto, using(crate::proofs::Collecting::window_then))]
 /// Has a clerk deal with all of an input.
-fn deal<R: Wait>(rt: &R, alloc: Global, rays: &Rays, clerk: &mut Clerk, input: &[u8], bell: &Bell) -> Result<(), Why>
+fn deal<R: Wait>(
+    rt: &R,
+    alloc: Global,
+    rays: &Rays,
+    clerk: &mut Clerk,
+    input: &[u8],
+    bell: &Bell,
+) -> Result<(), Why>
     requires none { clerk.old.refused ≡ 0 }
     requires dealt { HasDealt [] clerk.old }
     ensures window { SameWindow clerk.old.window clerk.new.window }

@@ -9,12 +9,12 @@ ghost use Rattle.desk_room.specs.declared.rooms.RoomFault.TheVariants as fault;
 
 use crate::bells::{Bell, Why};
 use crate::benches::Bench;
-use crate::threads::{attend_all, work_all};
 use crate::gates::Gate;
 use crate::keepers::Keeper;
 use crate::keeping::keep;
 use crate::reports::Report;
 use crate::rooms::{Room, RoomFault, open_room};
+use crate::threads::{attend_all, work_all};
 use crate::windows::Window;
 use chess_moves::Rays;
 use chess_notation::Bound;

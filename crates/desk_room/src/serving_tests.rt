@@ -61,7 +61,15 @@ fn benches_work_side_by_side(rt: HostRuntime) -> Result<(), Fail> {
     let mut inputs = Vec::new(alloc);
     inputs.push(input_of(alloc, &[A, B])?)?;
     let default = Bound::new(3).ok_or("bound")?;
-    let outputs = serve(&rt, alloc, &Rays::new(), inputs.as_slice(), default, 2, &gate)?;
+    let outputs = serve(
+        &rt,
+        alloc,
+        &Rays::new(),
+        inputs.as_slice(),
+        default,
+        2,
+        &gate,
+    )?;
     assert_eq!(rt; outputs.len(), 1);
     assert!(rt; is_text(alloc, &outputs[0], &[ANSWER_A, ANSWER_B])?);
     assert!(rt; !gate.gave_up.load(Ordering::SeqCst));

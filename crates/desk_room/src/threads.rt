@@ -74,7 +74,10 @@ pub(crate) fn attend_all<R: Threads + Wait + Sync>(
                 Err(refused) => {
                     bell.ring(Why::NoThread);
                     let theirs = (refused.value)();
-                    (attend(rt, alloc, rays, window, input.as_slice(), bell), theirs)
+                    (
+                        attend(rt, alloc, rays, window, input.as_slice(), bell),
+                        theirs,
+                    )
                 }
             }
         },

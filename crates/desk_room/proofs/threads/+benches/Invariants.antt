@@ -1,4 +1,4 @@
-use Rattle.std.proofs.Common.{ℕ, ◌+◌, ◌*◌, vec_len}
+use Rattle.std.proofs.Common.{◌+◌, ◌*◌, vec_len}
 use Rattle.desk_room.proofs.threads.+benches.Given as goal
 
 abbrev pub decreases-work_all : goal.decreases-work_all

@@ -7,4 +7,4 @@ pub returns-in-Ok : goal.returns-in-Ok
 returns-in-Ok g t c =
     let s = c.scoped-mine.ensures in
     reports_more _ c.pop.new.self.items _ (map (λ v. v.items) c.in-Some-split_last.rest.now) _ c.in_ok-all.all.items c.in-Some.window c.in-Some-split_last.input.now.items c.scoped-mine.result.0
-        (search rules) (ap (map (λ v. v.items)) c.in-Some-split_last.ensures.cases.0 ∙ map-append _ _ _) (search rules) (of_ok _ _ _ s.1.1 c.in_ok-all.was) s.1.0
+    (search rules) (ap (map (λ v. v.items)) c.in-Some-split_last.ensures.cases.0 ∙ map-append _ _ _) (search rules) (of_ok _ _ _ s.1.1 c.in_ok-all.was) s.1.0

@@ -1,4 +1,4 @@
-use Rattle.std.proofs.Common.{ℕ, ◌+◌, ◌*◌, vec_len}
+use Rattle.std.proofs.Common.{◌+◌, ◌*◌, vec_len}
 use Rattle.desk_room.proofs.threads.+windows.Given as goal
 
 abbrev pub decreases-attend_all : goal.decreases-attend_all

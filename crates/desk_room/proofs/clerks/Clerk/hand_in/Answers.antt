@@ -1,4 +1,4 @@
-use Rattle.std.proofs.Common.{◌≡◌, true, false, map, length, ◌+◌, rules, sym}
+use Rattle.std.proofs.Common.{◌≡◌, true, false, map, rules, sym}
 use Rattle.chess_notation.specs.Words.{is_blank}
 use Rattle.mate_search.specs.Replies.{without_cr, skipped}
 use Rattle.desk_room.specs.Letters.{records}
@@ -13,7 +13,7 @@ returns-then-is_blank-clause-dealt g c lines at old =
     let clerk = c.args.self.now in
     let blank : is_blank (without_cr c.args.line.now) ≡ true = search rules in
     deal_blank (default_of clerk.window) clerk.refused lines c.args.line.now (records (letters_sent clerk.window)) (map asked (collected clerk.window)) clerk.text.items (map (λ t. t.items) clerk.behind.items)
-        (skipped blank) old
+    (skipped blank) old
 
 pub returns-clause-dealt : goal.returns-clause-dealt
 returns-clause-dealt g c =

@@ -1,4 +1,4 @@
-use Rattle.std.proofs.Common.{◌≡◌, [], rules}
+use Rattle.std.proofs.Common.{rules}
 use Rattle.desk_room.proofs.Handed.{dealt_refusal, dealt_refusal_behind}
 use Rattle.desk_room.proofs.clerks.Clerk.refuse.Goals as goal
 
@@ -9,4 +9,4 @@ returns-in_default-clause-dealt c lines line reply old =
 pub returns-clause-dealt : goal.returns-clause-dealt
 returns-clause-dealt c lines line reply old =
     dealt_refusal_behind c.args.self.now c.push_back.new.self.items c.pop_back.new.self.items c.in-Some.behind c.extend_from_slice-2.new.self lines line c.args.refusal.now c.in-Some.ensures.items (search rules)
-        c.in_ok-extend_from_slice-2.ensures.items reply old
+    c.in_ok-extend_from_slice-2.ensures.items reply old
