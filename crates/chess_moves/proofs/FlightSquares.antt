@@ -21,8 +21,8 @@ use Rattle.chess_moves.specs.Flights.{IsFlight, leaves_flight}
 use Rattle.chess_moves.specs.Hits.{is_taken, hits_as, hits_from, is_hit}
 use Rattle.chess_moves.specs.Leaps.{leaps}
 use Rattle.chess_moves.specs.Listing.{move_of, legal_moves}
-use Rattle.chess_moves.specs.Scenes.{gets_through}
-use Rattle.chess_moves.specs.Sights.{is_special}
+use Rattle.chess_moves.specs.CheckInfo.{gets_through}
+use Rattle.chess_moves.specs.CheckSquares.{is_special}
 use Rattle.chess_moves.specs.Verdicts.{has_legal_move, is_mate}
 use Rattle.chess_moves.proofs.AnyLemmas.{any_none, any_at}
 use Rattle.chess_moves.proofs.Bridge.{attacks_same, attacked_same}

@@ -6,7 +6,7 @@ use Rattle.std.proofs.lemmas.Bool.{eqb-true, eq-eqb, false_from_ne_true, and_par
 use Rattle.square_sets.specs.Members.{has}
 use Rattle.chess_board.specs.Squares.{any_below}
 use Rattle.chess_moves.specs.Directions.{stands_between}
-use Rattle.chess_moves.specs.Scenes.{gets_through}
+use Rattle.chess_moves.specs.CheckInfo.{gets_through}
 use Rattle.chess_moves.proofs.SetBits.{has_and}
 use Rattle.chess_moves.proofs.AnyLemmas.{any_same, any_or, any_none, any_at}
 

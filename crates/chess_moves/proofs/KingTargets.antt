@@ -19,10 +19,10 @@ use Rattle.chess_board.specs.Attacks.{attacks_as, is_clear, is_attacked, is_in_c
 use Rattle.chess_board.specs.Soundness.{IsSound, has_men_of_right}
 use Rattle.chess_board.specs.Candidates.{crossed, king_goal, castles_to, castles, piece_goes, goes, suits}
 use Rattle.chess_board.specs.After.{cleared, moved, rook, wing_of, castled, men_after}
-use Rattle.chess_moves.specs.declared.scenes.Scene.{Scene}
+use Rattle.chess_moves.specs.declared.check_info.CheckInfo.{CheckInfo}
 use Rattle.chess_moves.specs.Hits.{is_hit}
 use Rattle.chess_moves.specs.Listing.{move_of}
-use Rattle.chess_moves.specs.Scenes.{IsSceneOf}
+use Rattle.chess_moves.specs.CheckInfo.{IsCheckInfoOf}
 use Rattle.chess_moves.proofs.OwnColours.{same_colour, own_rook_not_other}
 use Rattle.chess_moves.proofs.MovedKings.{in_check_there, king_of_scene, king_goes, king_stays}
 use Rattle.chess_moves.proofs.SetBits.{has_or}
@@ -101,10 +101,10 @@ goal_apart Black KingSide = (λ e. omega arith, λ e. omega arith)
 goal_apart Black QueenSide = (λ e. omega arith, λ e. omega arith)
 
 -- Once it stepped, the king is in check where the square is attacked to which it went.
-pub in_check_stepped : (scene : Scene) (p : Setup) (b : ℕ) → IsSceneOf scene p → b < 64 → eqb (file_gap scene.king b) 2 ≡ false
-    → is_in_check (men_after p (king p.side) (move_of scene.king b None)) p.side ≡ is_hit (moved p.men scene.king b (king p.side)) b (other_side p.side)
-in_check_stepped scene p b h on near =
-    rw near (in_check_there (moved p.men scene.king b (king p.side)) p.side b (king_goes p.men p.side scene.king b h.sound.squares on (king_of_scene scene p h)))
+pub in_check_stepped : (info : CheckInfo) (p : Setup) (b : ℕ) → IsCheckInfoOf info p → b < 64 → eqb (file_gap info.king b) 2 ≡ false
+    → is_in_check (men_after p (king p.side) (move_of info.king b None)) p.side ≡ is_hit (moved p.men info.king b (king p.side)) b (other_side p.side)
+in_check_stepped info p b h on near =
+    rw near (in_check_there (moved p.men info.king b (king p.side)) p.side b (king_goes p.men p.side info.king b h.sound.squares on (king_of_scene info p h)))
 
 -- Where its rook stands before it castles, no man of the other side does.
 pub castling_rook : (p : Setup) (a b : ℕ) → IsSound p → goes p p.side King a b ≡ true → eqb (file_gap a b) 2 ≡ true
@@ -114,29 +114,29 @@ castling_rook p a b sound h far =
     rw (w.1.home, w.1.goal, wing_is p.side w.0) (own_rook_not_other p.side (man_at p.men (rook_home p.side w.0)) (rook_at_home p p.side w.0 sound w.1.right))
 
 -- The same once it castled.
-pub in_check_castled : (scene : Scene) (p : Setup) (b : ℕ) → IsSceneOf scene p → b < 64 → goes p p.side King scene.king b ≡ true → eqb (file_gap scene.king b) 2 ≡ true
-    → is_in_check (men_after p (king p.side) (move_of scene.king b None)) p.side
-    ≡ is_hit (moved (moved p.men scene.king b (king p.side)) (rook_home p.side (wing_of scene.king b)) (crossed scene.king b) (rook p.side)) b (other_side p.side)
-in_check_castled scene p b h on goes_there far =
-    let w = some_wing p p.side scene.king b goes_there far in
+pub in_check_castled : (info : CheckInfo) (p : Setup) (b : ℕ) → IsCheckInfoOf info p → b < 64 → goes p p.side King info.king b ≡ true → eqb (file_gap info.king b) 2 ≡ true
+    → is_in_check (men_after p (king p.side) (move_of info.king b None)) p.side
+    ≡ is_hit (moved (moved p.men info.king b (king p.side)) (rook_home p.side (wing_of info.king b)) (crossed info.king b) (rook p.side)) b (other_side p.side)
+in_check_castled info p b h on goes_there far =
+    let w = some_wing p p.side info.king b goes_there far in
     let apart = goal_apart p.side w.0 in
-    let went = king_goes p.men p.side scene.king b h.sound.squares on (king_of_scene scene p h) in
-    let men : List (Option Man) = moved p.men scene.king b (king p.side) in
-    let long : length men ≡ 64 = length-set (cleared p.men scene.king) b (Some (king p.side)) ∙ length-set p.men scene.king None ∙ h.sound.squares in
-    let home : b ≢ rook_home p.side (wing_of scene.king b) = rw (w.1.home, w.1.goal, wing_is p.side w.0) apart.0 in
-    let over : b ≢ crossed scene.king b = rw (w.1.home, w.1.goal) apart.1 in
-    rw far (in_check_there (castled men p.side scene.king b) p.side b
-    (king_stays men p.side b (rook_home p.side (wing_of scene.king b)) (crossed scene.king b) (rook p.side) long went home over (and-false (is_colour p.side p.side))))
+    let went = king_goes p.men p.side info.king b h.sound.squares on (king_of_scene info p h) in
+    let men : List (Option Man) = moved p.men info.king b (king p.side) in
+    let long : length men ≡ 64 = length-set (cleared p.men info.king) b (Some (king p.side)) ∙ length-set p.men info.king None ∙ h.sound.squares in
+    let home : b ≢ rook_home p.side (wing_of info.king b) = rw (w.1.home, w.1.goal, wing_is p.side w.0) apart.0 in
+    let over : b ≢ crossed info.king b = rw (w.1.home, w.1.goal) apart.1 in
+    rw far (in_check_there (castled men p.side info.king b) p.side b
+    (king_stays men p.side b (rook_home p.side (wing_of info.king b)) (crossed info.king b) (rook p.side) long went home over (and-false (is_colour p.side p.side))))
 
 -- The king is not attacked once it went from a to b.
 abbrev pub safe_at : Setup → ℕ → ℕ → Bool
 safe_at p a b = not (is_in_check (men_after p (king p.side) (move_of a b None)) p.side)
 
--- The origin of a king is the scene's.
-pub king_origin : (scene : Scene) (p : Setup) (man : Man) (o : ℕ) → IsSceneOf scene p → o < 64 → man_at p.men o ≡ Some man → man.colour ≡ p.side → man.kind ≡ King → o ≡ scene.king
-king_origin scene p man o h on there own is_king =
+-- The origin of a king is that of the check information.
+pub king_origin : (info : CheckInfo) (p : Setup) (man : Man) (o : ℕ) → IsCheckInfoOf info p → o < 64 → man_at p.men o ≡ Some man → man.colour ≡ p.side → man.kind ≡ King → o ≡ info.king
+king_origin info p man o h on there own is_king =
     let colour = same_colour p.side p.side refl in
-    (king_of_scene scene p h).alone o on (rw (there, is_king, own, colour) refl)
+    (king_of_scene info p h).alone o on (rw (there, is_king, own, colour) refl)
 
 -- Its steps and its castlings together are where the king goes.
 pub king_goals : (p : Setup) (man : Man) (o k steps castlings t : ℕ) → man.colour ≡ p.side → man.kind ≡ King → o ≡ k

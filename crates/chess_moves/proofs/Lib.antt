@@ -43,7 +43,7 @@ pub mod Members
 pub mod Promotions
 pub mod Walks
 pub mod Tallies
-pub mod CheckAnswers
+pub mod CheckMasks
 pub mod Unpinned
 pub mod Sums
 pub mod PawnShifts

@@ -11,13 +11,13 @@ use Rattle.chess_board.specs.Attacks.{is_in_check}
 use Rattle.chess_board.specs.Men.{is_of, man_of}
 use Rattle.chess_board.specs.Positions.{Setup, man_at}
 use Rattle.chess_board.specs.Sets.{IsSetOf}
-use Rattle.chess_moves.specs.declared.scenes.Scene.{Scene}
-use Rattle.chess_moves.specs.Scenes.{IsSceneOf}
+use Rattle.chess_moves.specs.declared.check_info.CheckInfo.{CheckInfo}
+use Rattle.chess_moves.specs.CheckInfo.{IsCheckInfoOf}
 use Rattle.chess_board.specs.After.{after_setup}
 use Rattle.chess_board.specs.Moves.{Move}
-use Rattle.chess_moves.specs.Checks.{gives_check}
+use Rattle.chess_moves.specs.GivesCheck.{gives_check}
 use Rattle.chess_moves.specs.Verdicts.{has_legal_move, is_mate}
-use Rattle.chess_moves.specs.Walking.{members, moves_of_men, HaveOwnMen}
+use Rattle.chess_moves.specs.MoveGeneration.{members, moves_of_men, HaveOwnMen}
 use Rattle.chess_moves.proofs.SetBits.{has_none, has_less}
 use Rattle.chess_moves.proofs.Tallies.{many_from, many_below, many_below_suc, many_none, many_parts}
 use Rattle.chess_moves.proofs.Walks.{legal_of_men}
@@ -30,10 +30,10 @@ own_king Black = refl
 abbrev pub IsKing : ℕ → ℕ → Type 0
 IsKing set king = (s : ℕ) → s < 64 → has set s ≡ (eqb s king || has 0 s)
 
-pub king_is_own : (scene : Scene) (p : Setup) (set : ℕ) → IsSceneOf scene p → IsKing set scene.king → HaveOwnMen set p
-king_is_own scene p set h is s l on =
-    let here : eqb s scene.king ≡ true = only (eqb s scene.king) (has 0 s) (sym (is s l) ∙ on) (has_none 0 s refl) in
-    ap (λ q. is_of p.side (man_at p.men q)) (eqb-true s scene.king here) ∙ ap (is_of p.side) h.king ∙ own_king p.side
+pub king_is_own : (info : CheckInfo) (p : Setup) (set : ℕ) → IsCheckInfoOf info p → IsKing set info.king → HaveOwnMen set p
+king_is_own info p set h is s l on =
+    let here : eqb s info.king ≡ true = only (eqb s info.king) (has 0 s) (sym (is s l) ∙ on) (has_none 0 s refl) in
+    ap (λ q. is_of p.side (man_at p.men q)) (eqb-true s info.king here) ∙ ap (is_of p.side) h.king ∙ own_king p.side
   where
     only : (a b : Bool) → (a || b) ≡ true → b ≡ false → a ≡ true
     only true b e n = refl
@@ -64,17 +64,17 @@ one_below p set k (suc n) is l = (elim (eqb n k) as (λ b. eqb n k ≡ b → man
 ]) refl
 
 -- The king's moves and those of the other men are all.
-pub moves_apart : (scene : Scene) (p : Setup) (set : ℕ) → IsSceneOf scene p → set < 2 ^ 64 → IsKing set scene.king
-    → has_legal_move p ≡ (nat_lt 0 (many_from p scene.king) || nat_lt 0 (length (moves_of_men p (members (bit_and scene.own (bit_not w64 set))))))
+pub moves_apart : (info : CheckInfo) (p : Setup) (set : ℕ) → IsCheckInfoOf info p → set < 2 ^ 64 → IsKing set info.king
+    → has_legal_move p ≡ (nat_lt 0 (many_from p info.king) || nat_lt 0 (length (moves_of_men p (members (bit_and info.own (bit_not w64 set))))))
 unfolding members
-moves_apart scene p set h fits is =
-    ap (λ (n : ℕ). nat_lt 0 n) (ap length (legal_of_men p scene.own h.own)
-    ∙ many_parts p scene.own set fits (λ s l on. h.own s l ∙ king_is_own scene p set h is s l on)
-    ∙ ap (λ n. n + length (moves_of_men p (members (bit_and scene.own (bit_not w64 set))))) (one_below p set scene.king 64 alone h.on_board))
-    ∙ some_of (many_from p scene.king) (length (moves_of_men p (members (bit_and scene.own (bit_not w64 set)))))
+moves_apart info p set h fits is =
+    ap (λ (n : ℕ). nat_lt 0 n) (ap length (legal_of_men p info.own h.own)
+    ∙ many_parts p info.own set fits (λ s l on. h.own s l ∙ king_is_own info p set h is s l on)
+    ∙ ap (λ n. n + length (moves_of_men p (members (bit_and info.own (bit_not w64 set))))) (one_below p set info.king 64 alone h.on_board))
+    ∙ some_of (many_from p info.king) (length (moves_of_men p (members (bit_and info.own (bit_not w64 set)))))
   where
-    alone : (s : ℕ) → s < 64 → has set s ≡ eqb s scene.king
-    alone s l = is s l ∙ without (eqb s scene.king) (has 0 s) (has_none 0 s refl)
+    alone : (s : ℕ) → s < 64 → has set s ≡ eqb s info.king
+    alone s l = is s l ∙ without (eqb s info.king) (has 0 s) (has_none 0 s refl)
       where
         without : (a b : Bool) → b ≡ false → (a || b) ≡ a
         without true b e = refl
@@ -87,12 +87,12 @@ moves_apart scene p set h fits is =
     ]) refl
 
 -- Where the king has a move, there is one.
-pub king_moves : (scene : Scene) (p : Setup) → IsSceneOf scene p → nat_lt 0 (many_from p scene.king) ≡ true → has_legal_move p ≡ true
+pub king_moves : (info : CheckInfo) (p : Setup) → IsCheckInfoOf info p → nat_lt 0 (many_from p info.king) ≡ true → has_legal_move p ≡ true
 unfolding members
-king_moves scene p h some =
-    let own : has scene.own scene.king ≡ true = h.own scene.king h.on_board ∙ ap (is_of p.side) h.king ∙ own_king p.side in
-    let few = ltb-true 0 (many_from p scene.king) some in
-    lt-ltb 0 _ (omega (arith, ap length (legal_of_men p scene.own h.own), from_below scene.own scene.king 64 h.on_board own))
+king_moves info p h some =
+    let own : has info.own info.king ≡ true = h.own info.king h.on_board ∙ ap (is_of p.side) h.king ∙ own_king p.side in
+    let few = ltb-true 0 (many_from p info.king) some in
+    lt-ltb 0 _ (omega (arith, ap length (legal_of_men p info.own h.own), from_below info.own info.king 64 h.on_board own))
   where
     from_below : (set k n : ℕ) → k < n → has set k ≡ true → many_from p k ≤ many_below p set n
     from_below set k zero l on = absurd (omega arith)

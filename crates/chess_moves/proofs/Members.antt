@@ -9,7 +9,7 @@ use Rattle.std.proofs.lemmas.Nat.Bits.{bit_at-trailing_zeros, bit_at_clear_same,
 use Rattle.std.proofs.lemmas.Bool.{eqb-true, eqb-false}
 use Rattle.std.proofs.lemmas.List.Concat.{flat_map-append}
 use Rattle.square_sets.specs.Members.{has}
-use Rattle.chess_moves.specs.Walking.{members_below, members}
+use Rattle.chess_moves.specs.MoveGeneration.{members_below, members}
 use Rattle.chess_moves.proofs.SetBits.{clear}
 
 below_none : (set n : ℕ) → ((i : ℕ) → i < n → bit_at set i ≡ 0) → members_below set n ≡ []

@@ -9,9 +9,9 @@ use Rattle.chess_board.specs.KindTests.{is_king_of}
 use Rattle.chess_board.specs.Positions.{Setup, man_at}
 use Rattle.chess_board.specs.Attacks.{is_in_check}
 use Rattle.chess_board.specs.After.{moved, cleared}
-use Rattle.chess_moves.specs.declared.scenes.Scene.{Scene}
+use Rattle.chess_moves.specs.declared.check_info.CheckInfo.{CheckInfo}
 use Rattle.chess_moves.specs.Hits.{is_hit}
-use Rattle.chess_moves.specs.Scenes.{IsSceneOf}
+use Rattle.chess_moves.specs.CheckInfo.{IsCheckInfoOf}
 use Rattle.chess_moves.proofs.OneKing.{only_king, in_check_at}
 
 -- The colour's king stands on the square, and on no other.
@@ -23,11 +23,11 @@ pub record IsKingAt (men : List (Option Man)) (c : Colour) (k : ℕ) : Type 0 wh
 pub in_check_there : (men : List (Option Man)) (c : Colour) (k : ℕ) → IsKingAt men c k → is_in_check men c ≡ is_hit men k (other_side c)
 in_check_there men c k h = in_check_at men c k h.on_board h.here h.alone
 
-pub king_of_scene : (scene : Scene) (p : Setup) → IsSceneOf scene p → IsKingAt p.men p.side scene.king
-king_of_scene scene p h = record {
+pub king_of_scene : (info : CheckInfo) (p : Setup) → IsCheckInfoOf info p → IsKingAt p.men p.side info.king
+king_of_scene info p h = record {
   on_board = h.on_board;
   here = h.king;
-  alone = λ s on is. only_king p h.sound p.side scene.king s h.on_board on h.king is;
+  alone = λ s on is. only_king p h.sound p.side info.king s h.on_board on h.king is;
 }
 
 -- What holds of the man that moved, of an empty square, and of what stood elsewhere, holds of each square after the move.

@@ -11,11 +11,11 @@ use Rattle.chess_board.specs.Candidates.{goes}
 use Rattle.chess_board.specs.Legality.{is_legal}
 use Rattle.chess_board.specs.Moves.{Move}
 use Rattle.chess_board.specs.Positions.{Setup, man_at}
-use Rattle.chess_moves.specs.Checks.{gives_check}
+use Rattle.chess_moves.specs.GivesCheck.{gives_check}
 use Rattle.chess_moves.specs.Listing.{moves_between, moves_to}
 use Rattle.chess_moves.specs.Targets.{ways, AreTargets}
 use Rattle.chess_moves.specs.Verdicts.{is_mate}
-use Rattle.chess_moves.specs.Walking.{members_below, members}
+use Rattle.chess_moves.specs.MoveGeneration.{members_below, members}
 use Rattle.chess_moves.proofs.Listed.{between_in, to_in}
 use Rattle.chess_moves.proofs.Mates.{no_mate}
 use Rattle.chess_moves.proofs.Members.{flat_map-below_suc}

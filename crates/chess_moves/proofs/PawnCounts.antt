@@ -14,14 +14,14 @@ use Rattle.chess_board.specs.Positions.{Setup, man_at, is_empty}
 use Rattle.chess_board.specs.Candidates.{crossed, promotes, steps_once, steps_twice, takes}
 use Rattle.chess_board.specs.After.{moved, becomes}
 use Rattle.chess_board.specs.Legality.{is_legal}
-use Rattle.chess_moves.specs.declared.scenes.Scene.{Scene}
+use Rattle.chess_moves.specs.declared.check_info.CheckInfo.{CheckInfo}
 use Rattle.chess_moves.specs.Hits.{is_hit}
 use Rattle.chess_moves.specs.Leaps.{is_step, is_double, is_pawn_capture}
 use Rattle.chess_moves.specs.Listing.{move_of, promotions, moves_between, moves_to}
-use Rattle.chess_moves.specs.Scenes.{IsSceneOf}
+use Rattle.chess_moves.specs.CheckInfo.{IsCheckInfoOf}
 use Rattle.chess_moves.specs.Shifts.{is_shifted, back, left_file, right_file, third_rank, AreFree}
 use Rattle.chess_moves.specs.Targets.{ways}
-use Rattle.chess_moves.specs.Walking.{members_below, members, moves_of_men, HaveMenOf}
+use Rattle.chess_moves.specs.MoveGeneration.{members_below, members, moves_of_men, HaveMenOf}
 use Rattle.chess_moves.proofs.SetBits.{has_and}
 use Rattle.chess_moves.proofs.Members.{flat_map-below_suc}
 use Rattle.chess_moves.proofs.OwnColours.{other_colour, own_not_other}
@@ -147,36 +147,36 @@ from_beside true sh there here far off e a h g = rw (h refl, g refl) (same sh th
     same false true z = refl
     same false false z = refl
 
-module _ (scene : Scene) (p : Setup) (pawns once twice left right : ℕ) (h : IsSceneOf scene p) (men : HaveMenOf Pawn pawns p) (free : AreFree pawns scene p)
-    (once_is : (t : ℕ) → t < 64 → has once t ≡ ((is_shifted scene.side 8 t && has pawns (back scene.side 8 t)) && is_empty p.men t))
-    (twice_is : (t : ℕ) → t < 64 → has twice t ≡ ((is_shifted scene.side 8 t && (has once (back scene.side 8 t) && eqb (rank_of (back scene.side 8 t)) (third_rank scene.side))) && is_empty p.men t))
-    (left_is : (t : ℕ) → t < 64 → has left t ≡ ((is_shifted scene.side 7 t && (has pawns (back scene.side 7 t) && not (eqb (file_of (back scene.side 7 t)) (left_file scene.side)))) && is_of (other_side scene.side) (man_at p.men t)))
-    (right_is : (t : ℕ) → t < 64 → has right t ≡ ((is_shifted scene.side 9 t && (has pawns (back scene.side 9 t) && not (eqb (file_of (back scene.side 9 t)) (right_file scene.side)))) && is_of (other_side scene.side) (man_at p.men t))) where
+module _ (info : CheckInfo) (p : Setup) (pawns once twice left right : ℕ) (h : IsCheckInfoOf info p) (men : HaveMenOf Pawn pawns p) (free : AreFree pawns info p)
+    (once_is : (t : ℕ) → t < 64 → has once t ≡ ((is_shifted info.side 8 t && has pawns (back info.side 8 t)) && is_empty p.men t))
+    (twice_is : (t : ℕ) → t < 64 → has twice t ≡ ((is_shifted info.side 8 t && (has once (back info.side 8 t) && eqb (rank_of (back info.side 8 t)) (third_rank info.side))) && is_empty p.men t))
+    (left_is : (t : ℕ) → t < 64 → has left t ≡ ((is_shifted info.side 7 t && (has pawns (back info.side 7 t) && not (eqb (file_of (back info.side 7 t)) (left_file info.side)))) && is_of (other_side info.side) (man_at p.men t)))
+    (right_is : (t : ℕ) → t < 64 → has right t ≡ ((is_shifted info.side 9 t && (has pawns (back info.side 9 t) && not (eqb (file_of (back info.side 9 t)) (right_file info.side)))) && is_of (other_side info.side) (man_at p.men t))) where
   -- A free pawn's moves are to the squares to which it goes plainly and answers the checks that there are.
   between : (o t : ℕ) → o < 64 → t < 64 → has pawns o ≡ true
-      → filter (is_legal p) (moves_between o t) ≡ cond (plain_ways p.men scene.side o t && has scene.answers t) (ways (record { colour = scene.side; kind = Pawn }) o t) []
+      → filter (is_legal p) (moves_between o t) ≡ cond (plain_ways p.men info.side o t && has info.check_mask t) (ways (record { colour = info.side; kind = Pawn }) o t) []
   between o t o_on on there =
-      let man : Man = record { colour = scene.side; kind = Pawn } in
+      let man : Man = record { colour = info.side; kind = Pawn } in
       let stands : man_at p.men o ≡ Some man = men o o_on there ∙ ap (λ (c : Colour). man_of c Pawn) (sym h.side) in
       let f = free o o_on there in
-      let plain : Bool = plain_ways p.men scene.side o t in
-      ways_kept p man o t (plain && has scene.answers t) stands h.side (λ r suited.
+      let plain : Bool = plain_ways p.men info.side o t in
+      ways_kept p man o t (plain && has info.check_mask t) stands h.side (λ r suited.
       let own = other_colour (becomes man r).colour p.side (becomes_colour man r ∙ h.side) in
-      let safe : has scene.answers t ≡ not (is_hit (moved p.men o t (becomes man r)) scene.king (other_side p.side)) =
-      h.answers t on ∙ safe_unpinned p.men (becomes man r) scene.occupied scene.enemy scene.king o t (other_side p.side) h.sound.squares h.occupied h.enemy o_on on (own_not_other p man o stands h.side) own (sym (h.nearest o o_on) ∙ f.0) in
+      let safe : has info.check_mask t ≡ not (is_hit (moved p.men o t (becomes man r)) info.king (other_side p.side)) =
+      h.check_mask t on ∙ safe_unpinned p.men (becomes man r) info.occupied info.enemy info.king o t (other_side p.side) h.sound.squares h.occupied h.enemy o_on on (own_not_other p man o stands h.side) own (sym (h.pin_squares o o_on) ∙ f.0) in
       let passing = f.1 t on in
-      pawn_goes_safely scene p man o t r (has scene.answers t) h stands h.side refl suited safe ∙ rw passing (or-false (plain && has scene.answers t)))
+      pawn_goes_safely info p man o t r (has info.check_mask t) h stands h.side refl suited safe ∙ rw passing (or-false (plain && has info.check_mask t)))
 
   -- It goes there in one of four ways, each from one square.
   by_way : (o t k : ℕ) → o < 64 → t < 64
-      → cond (has pawns o && (plain_ways p.men scene.side o t && has scene.answers t)) k 0
-      ≡ cond (eqb o (back scene.side 8 t) && has (bit_and once scene.answers) t) k 0
-      + cond (eqb o (back scene.side 8 (back scene.side 8 t)) && has (bit_and twice scene.answers) t) k 0
-      + cond (eqb o (back scene.side 7 t) && has (bit_and left scene.answers) t) k 0
-      + cond (eqb o (back scene.side 9 t) && has (bit_and right scene.answers) t) k 0
+      → cond (has pawns o && (plain_ways p.men info.side o t && has info.check_mask t)) k 0
+      ≡ cond (eqb o (back info.side 8 t) && has (bit_and once info.check_mask) t) k 0
+      + cond (eqb o (back info.side 8 (back info.side 8 t)) && has (bit_and twice info.check_mask) t) k 0
+      + cond (eqb o (back info.side 7 t) && has (bit_and left info.check_mask) t) k 0
+      + cond (eqb o (back info.side 9 t) && has (bit_and right info.check_mask) t) k 0
   by_way o t k o_on on =
-      let c : Colour = scene.side in
-      let a : Bool = has scene.answers t in
+      let c : Colour = info.side in
+      let a : Bool = has info.check_mask t in
       let there : Bool = has pawns o in
       let enemy : Bool = is_of (other_side c) (man_at p.men t) in
       let r1 : Bool = steps_once p.men c o t in
@@ -196,23 +196,23 @@ module _ (scene : Scene) (p : Setup) (pawns once twice left right : ℕ) (h : Is
       let left_off : r3 ≡ true → r4 ≡ false = λ x. first_false (goes_right c o t) enemy (ways'.2 ((and_parts (goes_left c o t) enemy x).0)) in
       let takes_is : taking ≡ (r3 || r4) = ap (λ (x : Bool). x && enemy) (capture_back_to c o t o_on on) ∙ spread (goes_left c o t) (goes_right c o t) enemy in
       let taken = ap (λ (x : Bool). cond (there && (x && a)) k 0) takes_is ∙ either_way there r3 r4 a k left_off in
-      let f1 : (eqb o s && has (bit_and once scene.answers) t) ≡ (there && (r1 && a)) =
-      ap (λ (x : Bool). eqb o s && x) (has_and once scene.answers t ∙ ap (λ (x : Bool). x && a) (once_is t on))
+      let f1 : (eqb o s && has (bit_and once info.check_mask) t) ≡ (there && (r1 && a)) =
+      ap (λ (x : Bool). eqb o s && x) (has_and once info.check_mask t ∙ ap (λ (x : Bool). x && a) (once_is t on))
       ∙ from_behind (eqb o s) (is_shifted c 8 t) there (has pawns s) (is_empty p.men t) a (moved_here s)
       ∙ ap (λ (x : Bool). there && ((x && is_empty p.men t) && a)) (sym (step_back c o t o_on on)) in
       let through : (is_shifted c 8 t && (has once s && eqb (rank_of s) (third_rank c))) ≡ (is_shifted c 8 t && (((is_shifted c 8 s && has pawns q2) && is_empty p.men s) && eqb (rank_of s) (third_rank c))) =
       and_when (is_shifted c 8 t) _ _ (λ e. ap (λ (x : Bool). x && eqb (rank_of s) (third_rank c)) (once_is s (back_on c 8 t on e))) in
-      let f2 : (eqb o q2 && has (bit_and twice scene.answers) t) ≡ (there && (r2 && a)) =
-      ap (λ (x : Bool). eqb o q2 && x) (has_and twice scene.answers t ∙ ap (λ (x : Bool). x && a) (twice_is t on ∙ ap (λ (x : Bool). x && is_empty p.men t) through))
+      let f2 : (eqb o q2 && has (bit_and twice info.check_mask) t) ≡ (there && (r2 && a)) =
+      ap (λ (x : Bool). eqb o q2 && x) (has_and twice info.check_mask t ∙ ap (λ (x : Bool). x && a) (twice_is t on ∙ ap (λ (x : Bool). x && is_empty p.men t) through))
       ∙ from_far_behind (eqb o q2) (is_shifted c 8 t) (is_shifted c 8 s) there (has pawns q2) (is_empty p.men s) (eqb (rank_of s) (third_rank c)) (is_empty p.men (crossed o t)) (is_empty p.men t) a (moved_here q2)
       (λ e. ap (λ (u : ℕ). is_empty p.men u) (crossed_back c o t o_on on (double_back c o t o_on on ∙ e)))
       ∙ ap (λ (x : Bool). there && (((x && is_empty p.men (crossed o t)) && is_empty p.men t) && a)) (sym (double_back c o t o_on on)) in
-      let f3 : (eqb o q3 && has (bit_and left scene.answers) t) ≡ (there && (r3 && a)) =
-      ap (λ (x : Bool). eqb o q3 && x) (has_and left scene.answers t ∙ ap (λ (x : Bool). x && a) (left_is t on))
+      let f3 : (eqb o q3 && has (bit_and left info.check_mask) t) ≡ (there && (r3 && a)) =
+      ap (λ (x : Bool). eqb o q3 && x) (has_and left info.check_mask t ∙ ap (λ (x : Bool). x && a) (left_is t on))
       ∙ from_beside (eqb o q3) (is_shifted c 7 t) there (has pawns q3) (eqb (file_of q3) (left_file c)) (eqb (file_of o) (left_file c)) enemy a (moved_here q3)
       (λ e. ap (λ (u : ℕ). eqb (file_of u) (left_file c)) (sym (eqb-true o q3 e))) in
-      let f4 : (eqb o q4 && has (bit_and right scene.answers) t) ≡ (there && (r4 && a)) =
-      ap (λ (x : Bool). eqb o q4 && x) (has_and right scene.answers t ∙ ap (λ (x : Bool). x && a) (right_is t on))
+      let f4 : (eqb o q4 && has (bit_and right info.check_mask) t) ≡ (there && (r4 && a)) =
+      ap (λ (x : Bool). eqb o q4 && x) (has_and right info.check_mask t ∙ ap (λ (x : Bool). x && a) (right_is t on))
       ∙ from_beside (eqb o q4) (is_shifted c 9 t) there (has pawns q4) (eqb (file_of q4) (right_file c)) (eqb (file_of o) (right_file c)) enemy a (moved_here q4)
       (λ e. ap (λ (u : ℕ). eqb (file_of u) (right_file c)) (sym (eqb-true o q4 e))) in
       let count : Bool → ℕ = λ x. cond x k 0 in
@@ -237,15 +237,15 @@ module _ (scene : Scene) (p : Setup) (pawns once twice left right : ℕ) (h : Is
 
   -- from all squares
   to_target : (t k : ℕ) → t < 64
-      → sum_to 64 (λ o. cond (has pawns o && (plain_ways p.men scene.side o t && has scene.answers t)) k 0)
-      ≡ cond (has (bit_and once scene.answers) t) k 0 + cond (has (bit_and twice scene.answers) t) k 0 + cond (has (bit_and left scene.answers) t) k 0 + cond (has (bit_and right scene.answers) t) k 0
+      → sum_to 64 (λ o. cond (has pawns o && (plain_ways p.men info.side o t && has info.check_mask t)) k 0)
+      ≡ cond (has (bit_and once info.check_mask) t) k 0 + cond (has (bit_and twice info.check_mask) t) k 0 + cond (has (bit_and left info.check_mask) t) k 0 + cond (has (bit_and right info.check_mask) t) k 0
   to_target t k on =
-      let c : Colour = scene.side in
-      let a : Bool = has scene.answers t in
+      let c : Colour = info.side in
+      let a : Bool = has info.check_mask t in
       let s : ℕ = back c 8 t in
       let q2 : ℕ = back c 8 s in
-      let from_one = λ (q set : ℕ) (bound : has (bit_and set scene.answers) t ≡ true → q < 64). sum_at 64 q k (has (bit_and set scene.answers) t) bound in
-      let inner = λ (set : ℕ) (e : has (bit_and set scene.answers) t ≡ true). (and_parts (has set t) a (sym (has_and set scene.answers t) ∙ e)).0 in
+      let from_one = λ (q set : ℕ) (bound : has (bit_and set info.check_mask) t ≡ true → q < 64). sum_at 64 q k (has (bit_and set info.check_mask) t) bound in
+      let inner = λ (set : ℕ) (e : has (bit_and set info.check_mask) t ≡ true). (and_parts (has set t) a (sym (has_and set info.check_mask t) ∙ e)).0 in
       let e1 = from_one s once (λ e. back_on c 8 t on (first_of _ _ (first_of _ _ (sym (once_is t on) ∙ inner once e)))) in
       let e2 = from_one q2 twice (λ e.
       let x = and_parts _ _ (first_of _ _ (sym (twice_is t on) ∙ inner twice e)) in
@@ -254,7 +254,7 @@ module _ (scene : Scene) (p : Setup) (pawns once twice left right : ℕ) (h : Is
       let e3 = from_one (back c 7 t) left (λ e. back_on c 7 t on (first_of _ _ (first_of _ _ (sym (left_is t on) ∙ inner left e)))) in
       let e4 = from_one (back c 9 t) right (λ e. back_on c 9 t on (first_of _ _ (first_of _ _ (sym (right_is t on) ∙ inner right e)))) in
       sum_same 64 _ _ (λ o o_on. by_way o t k o_on on)
-      ∙ sum_four 64 (λ o. cond (eqb o s && has (bit_and once scene.answers) t) k 0) (λ o. cond (eqb o q2 && has (bit_and twice scene.answers) t) k 0) (λ o. cond (eqb o (back c 7 t) && has (bit_and left scene.answers) t) k 0) (λ o. cond (eqb o (back c 9 t) && has (bit_and right scene.answers) t) k 0)
+      ∙ sum_four 64 (λ o. cond (eqb o s && has (bit_and once info.check_mask) t) k 0) (λ o. cond (eqb o q2 && has (bit_and twice info.check_mask) t) k 0) (λ o. cond (eqb o (back c 7 t) && has (bit_and left info.check_mask) t) k 0) (λ o. cond (eqb o (back c 9 t) && has (bit_and right info.check_mask) t) k 0)
       ∙ omega (arith, e1, e2, e3, e4)
     where
       first_of : (x y : Bool) → (x && y) ≡ true → x ≡ true
@@ -262,10 +262,10 @@ module _ (scene : Scene) (p : Setup) (pawns once twice left right : ℕ) (h : Is
 
   -- of one pawn
   of_pawn : (o : ℕ) → o < 64
-      → cond (has pawns o) (many_from p o) 0 ≡ sum_to 64 (λ t. cond (has pawns o && (plain_ways p.men scene.side o t && has scene.answers t)) (weight (record { colour = scene.side; kind = Pawn }) t) 0)
+      → cond (has pawns o) (many_from p o) 0 ≡ sum_to 64 (λ t. cond (has pawns o && (plain_ways p.men info.side o t && has info.check_mask t)) (weight (record { colour = info.side; kind = Pawn }) t) 0)
   of_pawn o o_on =
-      let man : Man = record { colour = scene.side; kind = Pawn } in
-      let there' : ℕ → Bool = λ t. plain_ways p.men scene.side o t && has scene.answers t in
+      let man : Man = record { colour = info.side; kind = Pawn } in
+      let there' : ℕ → Bool = λ t. plain_ways p.men info.side o t && has info.check_mask t in
       (elim (has pawns o) as (λ b. has pawns o ≡ b → cond b (many_from p o) 0 ≡ sum_to 64 (λ t. cond (b && there' t) (weight man t) 0)) [
         | true ↦ λ e. from_sum p o 64 ∙ sum_same 64 _ _ (λ t on. ap length (between o t o_on on e) ∙ ways_weight man o t (there' t))
         | false ↦ λ e. sym (sum_none 64 (λ t. cond (false && there' t) (weight man t) 0) (λ t on. refl))
@@ -273,18 +273,18 @@ module _ (scene : Scene) (p : Setup) (pawns once twice left right : ℕ) (h : Is
 
   -- Their moves are those to the four sets of targets.
   pub free_pawns : length (moves_of_men p (members pawns))
-      ≡ length (flat_map (ways (record { colour = scene.side; kind = Pawn }) 0) (members (bit_and once scene.answers)))
-      + length (flat_map (ways (record { colour = scene.side; kind = Pawn }) 0) (members (bit_and twice scene.answers)))
-      + length (flat_map (ways (record { colour = scene.side; kind = Pawn }) 0) (members (bit_and left scene.answers)))
-      + length (flat_map (ways (record { colour = scene.side; kind = Pawn }) 0) (members (bit_and right scene.answers)))
+      ≡ length (flat_map (ways (record { colour = info.side; kind = Pawn }) 0) (members (bit_and once info.check_mask)))
+      + length (flat_map (ways (record { colour = info.side; kind = Pawn }) 0) (members (bit_and twice info.check_mask)))
+      + length (flat_map (ways (record { colour = info.side; kind = Pawn }) 0) (members (bit_and left info.check_mask)))
+      + length (flat_map (ways (record { colour = info.side; kind = Pawn }) 0) (members (bit_and right info.check_mask)))
   unfolding members
   free_pawns =
-      let man : Man = record { colour = scene.side; kind = Pawn } in
-      let each_to = λ (set : ℕ) (t : ℕ). cond (has (bit_and set scene.answers) t) (weight man t) 0 in
-      let in_set = λ (set : ℕ). ways_sum man 0 (bit_and set scene.answers) 64 in
+      let man : Man = record { colour = info.side; kind = Pawn } in
+      let each_to = λ (set : ℕ) (t : ℕ). cond (has (bit_and set info.check_mask) t) (weight man t) 0 in
+      let in_set = λ (set : ℕ). ways_sum man 0 (bit_and set info.check_mask) 64 in
       let sums = men_sum p pawns 64
       ∙ sum_same 64 _ _ (λ o o_on. of_pawn o o_on)
-      ∙ sum_swap 64 64 (λ o t. cond (has pawns o && (plain_ways p.men scene.side o t && has scene.answers t)) (weight man t) 0)
+      ∙ sum_swap 64 64 (λ o t. cond (has pawns o && (plain_ways p.men info.side o t && has info.check_mask t)) (weight man t) 0)
       ∙ sum_same 64 _ _ (λ t on. to_target t (weight man t) on)
       ∙ sum_four 64 (each_to once) (each_to twice) (each_to left) (each_to right) in
       omega (arith, sums, in_set once, in_set twice, in_set left, in_set right)

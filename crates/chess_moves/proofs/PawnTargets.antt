@@ -14,10 +14,10 @@ use Rattle.chess_board.specs.Positions.{Setup, man_at, is_empty}
 use Rattle.chess_board.specs.Attacks.{is_forward, attacks_as, is_in_check}
 use Rattle.chess_board.specs.Candidates.{crossed, second_rank, is_square, steps_once, steps_twice, takes, takes_in_passing, goes, suits}
 use Rattle.chess_board.specs.After.{moved, cleared, becomes, passed_pawn, men_after}
-use Rattle.chess_moves.specs.declared.scenes.Scene.{Scene}
+use Rattle.chess_moves.specs.declared.check_info.CheckInfo.{CheckInfo}
 use Rattle.chess_moves.specs.Hits.{is_hit}
 use Rattle.chess_moves.specs.Listing.{move_of}
-use Rattle.chess_moves.specs.Scenes.{IsSceneOf}
+use Rattle.chess_moves.specs.CheckInfo.{IsCheckInfoOf}
 use Rattle.chess_moves.proofs.OwnColours.{other_colour, other_not_own}
 use Rattle.chess_moves.proofs.MovedKings.{in_check_there, king_kept}
 use Rattle.chess_moves.proofs.KeptWays.{goes_safely, and_when}
@@ -48,11 +48,11 @@ men_after_plain : (p : Setup) (man : Man) (o t : ℕ) (r : Option Kind) → is_p
 men_after_plain p man o t r pawn no_king elsewhere = rw (pawn, no_king, elsewhere) refl
 
 -- A pawn goes safely where it goes in a plain way, or en passant, and its king is not attacked then.
-pub pawn_goes_safely : (scene : Scene) (p : Setup) (man : Man) (o t : ℕ) (r : Option Kind) (safe : Bool) → IsSceneOf scene p → man_at p.men o ≡ Some man → man.colour ≡ p.side
-    → man.kind ≡ Pawn → suits man t r ≡ true → safe ≡ not (is_hit (moved p.men o t (becomes man r)) scene.king (other_side p.side))
+pub pawn_goes_safely : (info : CheckInfo) (p : Setup) (man : Man) (o t : ℕ) (r : Option Kind) (safe : Bool) → IsCheckInfoOf info p → man_at p.men o ≡ Some man → man.colour ≡ p.side
+    → man.kind ≡ Pawn → suits man t r ≡ true → safe ≡ not (is_hit (moved p.men o t (becomes man r)) info.king (other_side p.side))
     → goes_safely p man o t r ≡ (plain_ways p.men man.colour o t && safe
     || (takes_in_passing p man.colour o t && not (is_in_check (cleared (moved p.men o t man) (passed_pawn o t)) p.side)))
-pawn_goes_safely scene p man o t r safe h there own pawn suited safe_is =
+pawn_goes_safely info p man o t r safe h there own pawn suited safe_is =
     let c = man.colour in
     let plain = plain_ways p.men c o t in
     let attack = attacks_as p.men c Pawn o t in
@@ -69,34 +69,34 @@ pawn_goes_safely scene p man o t r safe h there own pawn suited safe_is =
           let men_are = men_after_plain p man o t r is_pawn no_king e in
           rw (goes_is, men_are, e, and-false attack, or-false plain, or-false (plain && safe)) (and_when plain (not (is_in_check (moved p.men o t (becomes man r)) p.side)) safe (λ gone.
           let free = rw own at (plain_is_free p.men c o t gone) in
-          ap not (in_check_beside scene p man (becomes man r) o t h there no_king free (becomes_no_king man t r no_king suited)) ∙ sym safe_is))
+          ap not (in_check_beside info p man (becomes man r) o t h there no_king free (becomes_no_king man t r no_king suited)) ∙ sym safe_is))
     ]) refl
 
 -- En passant the king keeps its square: an enemy pawn stands where one is taken away.
-in_check_in_passing : (scene : Scene) (p : Setup) (man : Man) (o t : ℕ) → IsSceneOf scene p → man_at p.men o ≡ Some man → man.colour ≡ p.side → man.kind ≡ Pawn
+in_check_in_passing : (info : CheckInfo) (p : Setup) (man : Man) (o t : ℕ) → IsCheckInfoOf info p → man_at p.men o ≡ Some man → man.colour ≡ p.side → man.kind ≡ Pawn
     → takes_in_passing p man.colour o t ≡ true
-    → is_in_check (cleared (moved p.men o t man) (passed_pawn o t)) p.side ≡ is_hit (cleared (moved p.men o t man) (passed_pawn o t)) scene.king (other_side p.side)
-in_check_in_passing scene p man o t h there own pawn goes =
+    → is_in_check (cleared (moved p.men o t man) (passed_pawn o t)) p.side ≡ is_hit (cleared (moved p.men o t man) (passed_pawn o t)) info.king (other_side p.side)
+in_check_in_passing info p man o t h there own pawn goes =
     let q = and_parts (attacks_as p.men man.colour Pawn o t) (is_square p.target t) goes in
     let over = passed_over p t h.sound q.1 in
     let no_king : is_king_kind man.kind ≡ false = rw pawn refl in
     let free : is_of p.side (man_at p.men t) ≡ false = (let empty = over.empty in rw empty refl) in
     let at : passed_pawn o t ≡ beyond p.side t = passed_is_beyond p.men p.side o t (rw own at q.0) in
     let long : length (moved p.men o t man) ≡ 64 = length-set (cleared p.men o) t (Some man) ∙ length-set p.men o None ∙ h.sound.squares in
-    let apart : scene.king ≢ passed_pawn o t = λ e.
+    let apart : info.king ≢ passed_pawn o t = λ e.
     let taken = rw (← at, ← e, h.king, other_colour p.side p.side refl) at over.pawn in cc in
-    in_check_there (cleared (moved p.men o t man) (passed_pawn o t)) p.side scene.king
-    (king_kept (moved p.men o t man) p.side scene.king (passed_pawn o t) long (king_beside scene p man man o t h there no_king free no_king) apart)
+    in_check_there (cleared (moved p.men o t man) (passed_pawn o t)) p.side info.king
+    (king_kept (moved p.men o t man) p.side info.king (passed_pawn o t) long (king_beside info p man man o t h there no_king free no_king) apart)
 
 -- Of the set of captures en passant, which is one square at most, the safe ones are all or none.
-pub passing_goes_safely : (scene : Scene) (p : Setup) (man : Man) (o set target : ℕ) (safe : Bool) → IsSceneOf scene p → man_at p.men o ≡ Some man → man.colour ≡ p.side
+pub passing_goes_safely : (info : CheckInfo) (p : Setup) (man : Man) (o set target : ℕ) (safe : Bool) → IsCheckInfoOf info p → man_at p.men o ≡ Some man → man.colour ≡ p.side
     → man.kind ≡ Pawn → ((t : ℕ) → t < 64 → has set t ≡ takes_in_passing p man.colour o t) → target < 64 → has set target ≡ true
-    → safe ≡ not (is_hit (cleared (moved p.men o target man) (passed_pawn o target)) scene.king (other_side p.side)) → (t : ℕ) → t < 64
+    → safe ≡ not (is_hit (cleared (moved p.men o target man) (passed_pawn o target)) info.king (other_side p.side)) → (t : ℕ) → t < 64
     → (has set t && safe) ≡ (takes_in_passing p man.colour o t && not (is_in_check (cleared (moved p.men o t man) (passed_pawn o t)) p.side))
-passing_goes_safely scene p man o set target safe h there own pawn set_is target_on first safe_is t on =
+passing_goes_safely info p man o set target safe h there own pawn set_is target_on first safe_is t on =
     rw (set_is t on) (and_when (takes_in_passing p man.colour o t) safe (not (is_in_check (cleared (moved p.men o t man) (passed_pawn o t)) p.side)) (λ gone.
     let same : target ≡ t = only_target p man.colour o target t (sym (set_is target target_on) ∙ first) gone in
-    rw same at safe_is ∙ ap not (sym (in_check_in_passing scene p man o t h there own pawn gone))))
+    rw same at safe_is ∙ ap not (sym (in_check_in_passing info p man o t h there own pawn gone))))
   where
     square_same : (target : Option ℕ) (a b : ℕ) → is_square target a ≡ true → is_square target b ≡ true → a ≡ b
     square_same None a b h g = cc

@@ -18,12 +18,12 @@ use Rattle.chess_board.specs.Legality.{is_legal}
 use Rattle.chess_board.specs.Soundness.{IsSound}
 use Rattle.chess_moves.specs.declared.directions.Direction.{Direction}
 use Rattle.chess_moves.specs.declared.directions.Direction.TheVariants.{North, NorthEast, East, SouthEast, South, SouthWest, West, NorthWest}
-use Rattle.chess_moves.specs.declared.sights.Sights.{Sights}
+use Rattle.chess_moves.specs.declared.check_squares.CheckSquares.{CheckSquares}
 use Rattle.chess_moves.specs.Directions.{toward, reaches, is_blocked, stands_between, reaches_as_bishop, reaches_as_rook}
 use Rattle.chess_moves.specs.Leaps.{leaps}
 use Rattle.chess_moves.specs.Hits.{is_taken, hits_as, place_hits, hits_from, is_hit}
-use Rattle.chess_moves.specs.Checks.{gives_check}
-use Rattle.chess_moves.specs.Sights.{IsSightsOf, squares_of, is_special}
+use Rattle.chess_moves.specs.GivesCheck.{gives_check}
+use Rattle.chess_moves.specs.CheckSquares.{AreCheckSquaresOf, squares_of, is_special}
 use Rattle.chess_moves.proofs.AnyLemmas.{any_none, any_at}
 use Rattle.chess_moves.proofs.Bridge.{attacked_same}
 use Rattle.chess_moves.proofs.Compass.{between_some}
@@ -243,11 +243,11 @@ lifted_check p k man m sound k_on there o_on t_on here legal clear plain =
     ∙ check_after p k m.origin m.target man (λ s. is_taken gone s) sound k_on o_on t_on there here own
     (hit_placed gone m.target man len t_on p.side k own clear)
 
--- So the sights tell whether it gives check.
-pub plain_check : (p : Setup) (sights : Sights) (man : Man) (m : Move) → IsSightsOf sights p → m.origin < 64 → m.target < 64
-    → man_at p.men m.origin ≡ Some man → is_legal p m ≡ true → has sights.queen m.origin ≡ false → is_special p man m ≡ false
-    → has (squares_of sights man.kind) m.target ≡ gives_check p m
-plain_check p sights man m seen o_on t_on there legal hidden plain =
+-- So the check squares tell whether it gives check.
+pub plain_check : (p : Setup) (check_squares : CheckSquares) (man : Man) (m : Move) → AreCheckSquaresOf check_squares p → m.origin < 64 → m.target < 64
+    → man_at p.men m.origin ≡ Some man → is_legal p m ≡ true → has check_squares.queen m.origin ≡ false → is_special p man m ≡ false
+    → has (squares_of check_squares man.kind) m.target ≡ gives_check p m
+plain_check p check_squares man m seen o_on t_on there legal hidden plain =
     let by = played p m legal in
     let same : by.0 ≡ man = let is = by.1.there in cc in
     let own : is_colour p.side man.colour ≡ true = colour_back man.colour p.side (ap (λ x. is_colour x.colour p.side) (sym same) ∙ by.1.own) in

@@ -10,7 +10,7 @@ use Rattle.chess_board.specs.Squares.{rank_of, all_below}
 use Rattle.chess_board.specs.Candidates.{promotes}
 use Rattle.chess_moves.specs.Listing.{move_of, promotions}
 use Rattle.chess_moves.specs.Targets.{ways}
-use Rattle.chess_moves.specs.Walking.{members_below, members}
+use Rattle.chess_moves.specs.MoveGeneration.{members_below, members}
 use Rattle.chess_moves.proofs.SetBits.{has_and}
 use Rattle.chess_moves.proofs.Members.{flat_map-below_suc, length-below_more, length-members}
 

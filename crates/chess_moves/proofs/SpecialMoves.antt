@@ -15,9 +15,9 @@ use Rattle.chess_board.specs.Positions.{Setup, man_at}
 use Rattle.chess_board.specs.Candidates.{suits, promotes, is_promotion, is_square, goes, piece_goes, castles}
 use Rattle.chess_board.specs.After.{is_in_passing, is_castling}
 use Rattle.chess_board.specs.Legality.{is_legal}
-use Rattle.chess_moves.specs.declared.scenes.Scene.{Scene}
-use Rattle.chess_moves.specs.Scenes.{IsSceneOf}
-use Rattle.chess_moves.specs.Sights.{is_special}
+use Rattle.chess_moves.specs.declared.check_info.CheckInfo.{CheckInfo}
+use Rattle.chess_moves.specs.CheckInfo.{IsCheckInfoOf}
+use Rattle.chess_moves.specs.CheckSquares.{is_special}
 use Rattle.chess_moves.proofs.KingTargets.{king_origin}
 use Rattle.chess_moves.proofs.Played.{played, IsPlayed}
 
@@ -58,12 +58,12 @@ no_step p c o t two =
     none true y z = refl
     none false y z = refl
 
-pub plain_king : (scene : Scene) (p : Setup) (man : Man) (m : Move) → IsSceneOf scene p → is_legal p m ≡ true → man_at p.men m.origin ≡ Some man → m.origin < 64
-    → man.kind ≡ King → castles p p.side scene.king m.target ≡ false → is_special p man m ≡ false
-plain_king scene p man m h legal there on king none =
+pub plain_king : (info : CheckInfo) (p : Setup) (man : Man) (m : Move) → IsCheckInfoOf info p → is_legal p m ≡ true → man_at p.men m.origin ≡ Some man → m.origin < 64
+    → man.kind ≡ King → castles p p.side info.king m.target ≡ false → is_special p man m ≡ false
+plain_king info p man m h legal there on king none =
     let by = as_played p m man there legal in
     let own : man.colour ≡ p.side = same_side man.colour p.side by.own in
-    let at : m.origin ≡ scene.king = king_origin scene p man m.origin h on there own king in
+    let at : m.origin ≡ info.king = king_origin info p man m.origin h on there own king in
     let no_pawn : is_pawn_kind man.kind ≡ false = ap is_pawn_kind king in
     let gone : (piece_goes p man.colour King m.origin m.target || castles p man.colour m.origin m.target) ≡ true = ap (λ kind. goes p man.colour kind m.origin m.target) (sym king) ∙ by.goes in
     let uncastled : castles p man.colour m.origin m.target ≡ false = rw (own, at) none in

@@ -15,7 +15,7 @@ use Rattle.chess_board.specs.Sets.{IsSetOf}
 use Rattle.chess_board.specs.Soundness.{IsSound}
 use Rattle.chess_board.specs.Legality.{is_legal}
 use Rattle.chess_moves.specs.Listing.{moves_to, legal_moves}
-use Rattle.chess_moves.specs.Walking.{members_below, members, moves_of_men, HaveMenOf}
+use Rattle.chess_moves.specs.MoveGeneration.{members_below, members, moves_of_men, HaveMenOf}
 use Rattle.chess_moves.proofs.SetBits.{clear, has_and, has_or, has_clear, has_less}
 use Rattle.chess_moves.proofs.Members.{flat_map-below_suc}
 use Rattle.chess_moves.proofs.Walks.{legal_of_men}

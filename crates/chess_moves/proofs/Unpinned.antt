@@ -13,7 +13,7 @@ use Rattle.chess_moves.specs.declared.forces.Force.{Force}
 use Rattle.chess_moves.specs.Directions.{sights_as_bishop, sights_as_rook}
 use Rattle.chess_moves.specs.Forces.{StandFor, is_one, is_diagonal_kind, is_straight_kind}
 use Rattle.chess_moves.specs.Hits.{is_taken, hits_from, is_hit}
-use Rattle.chess_moves.specs.Scenes.{gets_through}
+use Rattle.chess_moves.specs.CheckInfo.{gets_through}
 use Rattle.chess_moves.proofs.AnyLemmas.{any_same}
 use Rattle.chess_moves.proofs.AttackSets.{slant_sights_same, straight_sights_same}
 use Rattle.chess_moves.proofs.Placed.{attacks_placed}

@@ -17,7 +17,7 @@ use Rattle.chess_board.specs.Candidates.{promotes}
 use Rattle.chess_board.specs.Legality.{is_legal}
 use Rattle.chess_moves.specs.Listing.{move_of, moves_between, moves_to, moves_below, legal_moves}
 use Rattle.chess_moves.specs.Targets.{ways, AreTargets}
-use Rattle.chess_moves.specs.Walking.{members_below, members, next_promotion, moves_from, moves_of_men, HaveOwnMen}
+use Rattle.chess_moves.specs.MoveGeneration.{members_below, members, next_promotion, moves_from, moves_of_men, HaveOwnMen}
 use Rattle.chess_moves.proofs.SetBits.{clear, has_clear}
 use Rattle.chess_moves.proofs.Members.{no_members, first_member, flat_map-below_suc}
 use Rattle.chess_moves.proofs.Few.{none_from}

@@ -3,13 +3,13 @@ pub mod Leaps
 pub mod Rays
 pub mod Hits
 pub mod Forces
-pub mod Scenes
+pub mod CheckInfo
 pub mod Listing
 pub mod Targets
-pub mod Walking
+pub mod MoveGeneration
 pub mod Verdicts
-pub mod Checks
-pub mod Sights
+pub mod GivesCheck
+pub mod CheckSquares
 pub mod Flights
 pub mod Plays
 pub mod Laws

@@ -5,7 +5,7 @@ use Rattle.chess_board.specs.declared.men.Colour.{Colour}
 use Rattle.chess_board.specs.declared.men.Colour.TheVariants.{White, Black}
 use Rattle.chess_board.specs.Candidates.{takes_in_passing}
 use Rattle.chess_board.specs.Positions.{Setup}
-use Rattle.chess_moves.specs.declared.scenes.Scene.{Scene}
+use Rattle.chess_moves.specs.declared.check_info.CheckInfo.{CheckInfo}
 
 -- There is a square so many numbers behind t.
 abbrev pub is_shifted : Colour → ℕ → ℕ → Bool
@@ -31,6 +31,6 @@ abbrev pub third_rank : Colour → ℕ
 third_rank White = 2
 third_rank Black = 5
 
--- No pawn of the set stands in its king's sight, and none captures en passant.
-abbrev pub AreFree : ℕ → Scene → Setup → Type 0
-AreFree pawns scene p = (o : ℕ) → o < 64 → has pawns o ≡ true → (has scene.nearest o ≡ false) × ((t : ℕ) → t < 64 → takes_in_passing p scene.side o t ≡ false)
+-- No pawn of the set can be pinned, and none captures en passant.
+abbrev pub AreFree : ℕ → CheckInfo → Setup → Type 0
+AreFree pawns info p = (o : ℕ) → o < 64 → has pawns o ≡ true → (has info.pin_squares o ≡ false) × ((t : ℕ) → t < 64 → takes_in_passing p info.side o t ≡ false)

@@ -50,7 +50,7 @@ fn seen_by_bishops(rays: &Rays, from: u64, occupied: u64) -> u64
     while rest != 0 {
         let a = rest.trailing_zeros();
         rest &= !(1 << a);
-        set |= rays.bishop_reach(a as u8, occupied);
+        set |= rays.bishop_attacks(a as u8, occupied);
     }
     set
 }
@@ -64,7 +64,7 @@ fn seen_by_rooks(rays: &Rays, from: u64, occupied: u64) -> u64
     while rest != 0 {
         let a = rest.trailing_zeros();
         rest &= !(1 << a);
-        set |= rays.rook_reach(a as u8, occupied);
+        set |= rays.rook_attacks(a as u8, occupied);
     }
     set
 }

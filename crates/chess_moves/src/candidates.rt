@@ -9,12 +9,12 @@ ghost use Rattle.chess_board.specs.Attacks.{is_attacked};
 ghost use Rattle.chess_board.specs.Candidates.{steps_once, steps_twice, takes, takes_in_passing, piece_goes, king_goal as king_goal_of, castles_to, castles};
 ghost use Rattle.chess_moves.specs.Directions.{stands_between};
 ghost use Rattle.chess_moves.specs.Hits.{hits_as};
-ghost use Rattle.chess_moves.specs.Scenes.{IsSceneOf};
+ghost use Rattle.chess_moves.specs.CheckInfo.{IsCheckInfoOf};
 
+use crate::attackers::is_hit_over;
+use crate::check_info::CheckInfo;
 use crate::directions::Leap;
-use crate::forces::is_hit_over;
 use crate::rays::Rays;
-use crate::scenes::Scene;
 use chess_board::{Colour, Kind, Man, Position, Wing};
 
 /// What a man attacks, among the squares that are taken.
@@ -25,9 +25,9 @@ pub(crate) fn attacks_of(rays: &Rays, occupied: u64, man: Man, origin: u8) -> u6
     match man.kind {
         Kind::Pawn => rays.leap(origin, Leap::capture_of(man.colour)),
         Kind::Knight => rays.leap(origin, Leap::KnightLeap),
-        Kind::Bishop => rays.bishop_reach(origin, occupied),
-        Kind::Rook => rays.rook_reach(origin, occupied),
-        Kind::Queen => rays.bishop_reach(origin, occupied) | rays.rook_reach(origin, occupied),
+        Kind::Bishop => rays.bishop_attacks(origin, occupied),
+        Kind::Rook => rays.rook_attacks(origin, occupied),
+        Kind::Queen => rays.bishop_attacks(origin, occupied) | rays.rook_attacks(origin, occupied),
         Kind::King => rays.leap(origin, Leap::KingStep),
     }
 }
@@ -36,40 +36,40 @@ pub(crate) fn attacks_of(rays: &Rays, occupied: u64, man: Man, origin: u8) -> u6
 pub(crate) fn piece_targets(
     rays: &Rays,
     position: &Position,
-    scene: &Scene,
+    info: &CheckInfo,
     man: Man,
     origin: u8,
 ) -> u64
     requires on_board { origin < 64 }
-    requires scene { IsSceneOf scene.now position.now }
+    requires info { IsCheckInfoOf info.now position.now }
     requires own { man.colour ≡ position.now.side }
     ensures { (t : ℕ) → t < 64 → has result t ≡ piece_goes position.now man.colour man.kind origin t }
 {
-    attacks_of(rays, scene.occupied, man, origin) & !scene.own
+    attacks_of(rays, info.occupied, man, origin) & !info.own
 }
 
 /// Where a pawn goes, a capture en passant aside: one step, two steps, and the enemies that it attacks.
 pub(crate) fn pawn_targets(
     rays: &Rays,
     position: &Position,
-    scene: &Scene,
+    info: &CheckInfo,
     man: Man,
     origin: u8,
 ) -> u64
     requires on_board { origin < 64 }
-    requires scene { IsSceneOf scene.now position.now }
+    requires info { IsCheckInfoOf info.now position.now }
     requires own { man.colour ≡ position.now.side }
     requires pawn { man.kind ≡ kind.Pawn }
     ensures { (t : ℕ) → t < 64 → has result t
         ≡ (steps_once position.now.men man.colour origin t || steps_twice position.now.men man.colour origin t
         || takes position.now.men man.colour kind.Pawn origin t) }
 {
-    let captures = rays.leap(origin, Leap::capture_of(man.colour)) & scene.occupied & !scene.own;
-    let step = rays.leap(origin, Leap::step_of(man.colour)) & !scene.occupied;
+    let captures = rays.leap(origin, Leap::capture_of(man.colour)) & info.occupied & !info.own;
+    let step = rays.leap(origin, Leap::step_of(man.colour)) & !info.occupied;
     if step == 0 {
         return captures;
     }
-    let double = rays.leap(origin, Leap::double_of(man.colour)) & !scene.occupied;
+    let double = rays.leap(origin, Leap::double_of(man.colour)) & !info.occupied;
     step | double | captures
 }
 
@@ -133,59 +133,50 @@ fn king_goal(colour: Colour, wing: Wing) -> u8
 }
 
 /// Whether a man of the other side attacks a square.
-fn is_attacked_in(rays: &Rays, scene: &Scene, square: u8) -> bool
+fn is_attacked_in(rays: &Rays, info: &CheckInfo, square: u8) -> bool
     requires { square < 64 }
-    ensures { (p : Setup) → IsSceneOf scene.now p → result ≡ is_attacked p.men square (other_side p.side) }
+    ensures { (p : Setup) → IsCheckInfoOf info.now p → result ≡ is_attacked p.men square (other_side p.side) }
 {
-    is_hit_over(
-        rays,
-        scene.occupied,
-        &scene.enemy,
-        scene.side.other(),
-        square,
-    )
+    is_hit_over(rays, info.occupied, &info.enemy, info.side.other(), square)
 }
 
 /// Whether the king of the side to move is attacked: only then does its own square answer no check.
-pub(crate) fn is_checked(scene: &Scene) -> bool
-    requires { scene.now.king < 64 }
-    ensures { (p : Setup) → IsSceneOf scene.now p → result ≡ is_attacked p.men scene.now.king (other_side p.side) }
+pub(crate) fn is_checked(info: &CheckInfo) -> bool
+    requires { info.now.king < 64 }
+    ensures { (p : Setup) → IsCheckInfoOf info.now p → result ≡ is_attacked p.men info.now.king (other_side p.side) }
 {
-    !square_sets::contains(scene.answers, scene.king)
+    !square_sets::contains(info.check_mask, info.king)
 }
 
 /// Where the king goes when it castles on a wing: one square, or none.
-fn castling_target(rays: &Rays, position: &Position, scene: &Scene, wing: Wing) -> u64
-    requires scene { IsSceneOf scene.now position.now }
-    ensures { (t : ℕ) → t < 64 → has result t ≡ castles_to position.now position.now.side wing scene.now.king t }
+fn castling_target(rays: &Rays, position: &Position, info: &CheckInfo, wing: Wing) -> u64
+    requires info { IsCheckInfoOf info.now position.now }
+    ensures { (t : ℕ) → t < 64 → has result t ≡ castles_to position.now position.now.side wing info.now.king t }
 {
-    let home = king_home(scene.side);
-    if scene.king != home || !position.has_right(scene.side, wing) {
+    let home = king_home(info.side);
+    if info.king != home || !position.has_right(info.side, wing) {
         return 0;
     }
-    let between = castling_way(scene.side, wing);
-    if between & scene.occupied != 0 {
+    let between = castling_way(info.side, wing);
+    if between & info.occupied != 0 {
         return 0;
     }
-    let goal = king_goal(scene.side, wing);
+    let goal = king_goal(info.side, wing);
     let crossed = (home + goal) / 2;
-    if is_checked(scene)
-        || is_attacked_in(rays, scene, crossed)
-        || is_attacked_in(rays, scene, goal)
-    {
+    if is_checked(info) || is_attacked_in(rays, info, crossed) || is_attacked_in(rays, info, goal) {
         return 0;
     }
     square_sets::with(0, goal)
 }
 
 /// Where the king goes when it castles: two squares at most.
-pub(crate) fn castling_targets(rays: &Rays, position: &Position, scene: &Scene) -> u64
-    requires scene { IsSceneOf scene.now position.now }
-    ensures { (t : ℕ) → t < 64 → has result t ≡ castles position.now position.now.side scene.now.king t }
+pub(crate) fn castling_targets(rays: &Rays, position: &Position, info: &CheckInfo) -> u64
+    requires info { IsCheckInfoOf info.now position.now }
+    ensures { (t : ℕ) → t < 64 → has result t ≡ castles position.now position.now.side info.now.king t }
 {
-    if scene.king != king_home(scene.side) {
+    if info.king != king_home(info.side) {
         return 0;
     }
-    castling_target(rays, position, scene, Wing::KingSide)
-        | castling_target(rays, position, scene, Wing::QueenSide)
+    castling_target(rays, position, info, Wing::KingSide)
+        | castling_target(rays, position, info, Wing::QueenSide)
 }

@@ -8,16 +8,16 @@ ghost use Rattle.chess_board.specs.Moves.{Move as MoveValue};
 ghost use Rattle.chess_board.specs.Positions.{man_at};
 ghost use Rattle.chess_moves.specs.Flights.{AreFlightsOf, leaves_flight};
 ghost use Rattle.chess_moves.specs.Hits.{hits_as};
-ghost use Rattle.chess_moves.specs.Scenes.{IsSceneOf};
+ghost use Rattle.chess_moves.specs.CheckInfo.{IsCheckInfoOf};
 ghost use Rattle.chess_moves.specs.Verdicts.{is_mate};
 
 use crate::attacked_sets::attacked_squares;
+use crate::attackers::is_hit_over;
+use crate::check_info::CheckInfo;
+use crate::check_squares::special_squares;
 use crate::directions::Leap;
-use crate::forces::{force_of, is_hit_over};
-use crate::guards::without;
+use crate::forces::{force_of, without};
 use crate::rays::Rays;
-use crate::scenes::Scene;
-use crate::sights::special_squares;
 use chess_board::{Colour, Kind, Man, Position, sound_after};
 
 /// The king of the side that is not to move, and its flights: the squares beside it that hold none of its own men and that nobody
@@ -32,10 +32,10 @@ pub(crate) struct Flights {
 pub(crate) fn flights_once(
     rays: &Rays,
     position: &Position,
-    scene: &Scene,
+    info: &CheckInfo,
     found: &mut Option<Flights>,
 ) -> Flights
-    requires scene { IsSceneOf scene.now position.now }
+    requires info { IsCheckInfoOf info.now position.now }
     requires found { IfSome found.old (λ f. AreFlightsOf f position.now) }
     ensures flights { AreFlightsOf result position.now }
     ensures found { IfSome found.new (λ f. AreFlightsOf f position.now) }
@@ -43,7 +43,7 @@ pub(crate) fn flights_once(
     match *found {
         Some(flights) => flights,
         None => {
-            let flights = flights_of(rays, position, scene);
+            let flights = flights_of(rays, position, info);
             *found = Some(flights);
             flights
         }
@@ -51,15 +51,15 @@ pub(crate) fn flights_once(
 }
 
 /// The flights of a position.
-fn flights_of(rays: &Rays, position: &Position, scene: &Scene) -> Flights
-    requires scene { IsSceneOf scene.now position.now }
+fn flights_of(rays: &Rays, position: &Position, info: &CheckInfo) -> Flights
+    requires info { IsCheckInfoOf info.now position.now }
     ensures { AreFlightsOf result position.now }
 {
-    let side = scene.side;
+    let side = info.side;
     let king = position.king(side.other()).index() as u8;
-    let lifted = square_sets::without(scene.occupied, king);
+    let lifted = square_sets::without(info.occupied, king);
     let attacked = attacked_squares(rays, lifted, &force_of(position, side), side);
-    let enemies = scene.occupied & !scene.own;
+    let enemies = info.occupied & !info.own;
     Flights {
         king,
         squares: rays.leap(king, Leap::KingStep) & !enemies & !attacked,
@@ -70,14 +70,14 @@ fn flights_of(rays: &Rays, position: &Position, scene: &Scene) -> Flights
 pub(crate) fn squares_that_cover(
     rays: &Rays,
     position: &Position,
-    scene: &Scene,
+    info: &CheckInfo,
     flights: Flights,
     man: Man,
     origin: u8,
     hopes: u64,
 ) -> u64
     requires on_board { origin < 64 }
-    requires scene { IsSceneOf scene.now position.now }
+    requires info { IsCheckInfoOf info.now position.now }
     requires flights { AreFlightsOf flights position.now }
     requires there { man_at position.now.men origin ≡ Some man }
     ensures { (m : MoveValue) → is_legal position.now m ≡ true → m.origin ≡ origin → m.target < 64 → has hopes m.target ≡ true
@@ -85,13 +85,13 @@ pub(crate) fn squares_that_cover(
 {
     // That a legal move leaves a sound position is this law.
     sound_after();
-    let special = special_squares(rays, position, scene, man);
+    let special = special_squares(rays, position, info, man);
     let mut covering = hopes;
     let mut rest = flights.squares;
     while rest != 0 && covering != 0 {
         let flight = rest.trailing_zeros() as u8;
         rest &= !(1 << flight);
-        covering &= special | squares_covering(rays, position, scene, flights, man, origin, flight);
+        covering &= special | squares_covering(rays, position, info, flights, man, origin, flight);
     }
     covering
 }
@@ -100,22 +100,22 @@ pub(crate) fn squares_that_cover(
 fn squares_covering(
     rays: &Rays,
     position: &Position,
-    scene: &Scene,
+    info: &CheckInfo,
     flights: Flights,
     man: Man,
     origin: u8,
     flight: u8,
 ) -> u64
     requires on_board { (origin < 64) × (flight < 64) }
-    requires scene { IsSceneOf scene.now position.now }
+    requires info { IsCheckInfoOf info.now position.now }
     requires flights { AreFlightsOf flights position.now }
     requires flight { has flights.squares flight ≡ true }
     ensures { (t : ℕ) → t < 64 → has result t ≡ false → leaves_flight position.now flights.king origin man.kind t flight ≡ true }
 {
-    let side = scene.side;
+    let side = info.side;
     let lines = lines_to(rays, Kind::Queen, side, flight);
     if square_sets::contains(lines, origin) {
-        let lifted = square_sets::without(scene.occupied, flights.king);
+        let lifted = square_sets::without(info.occupied, flights.king);
         let gone = square_sets::without(lifted, origin);
         let others = without(&force_of(position, side), origin);
         if is_hit_over(rays, gone, &others, side, flight) {

@@ -1,17 +1,12 @@
-//! One side's men as sets of squares, and what they attack.
+//! One side's men as sets of squares.
 
-ghost use Rattle.std.specs.Prelude.{◌≡◌, ℕ, ◌<◌, ◌&&◌, List, Option, is_some};
-ghost use Rattle.square_sets.specs.Members.{has};
+ghost use Rattle.std.specs.Prelude.{◌≡◌, ℕ, ◌<◌, false, List, Option, length, slice_set};
 ghost use Rattle.chess_board.specs.declared.men.Man.{Man as ManValue};
 ghost use Rattle.chess_board.specs.declared.men.Colour.{Colour as ColourValue};
 ghost use Rattle.chess_board.specs.Men.{is_of};
 ghost use Rattle.chess_board.specs.Sets.{IsSetOf};
-ghost use Rattle.chess_moves.specs.Directions.{reaches, reaches_as_bishop, reaches_as_rook, sights, sights_as_bishop, sights_as_rook};
-ghost use Rattle.chess_moves.specs.Hits.{hits_from, is_hit};
 ghost use Rattle.chess_moves.specs.Forces.{StandFor};
 
-use crate::directions::{Direction, Leap};
-use crate::rays::Rays;
 use chess_board::{Colour, Kind, Position};
 
 /// One side's men, as sets of squares: a queen stands in `diagonal` and in `straight`.
@@ -45,119 +40,17 @@ pub(crate) fn all_of(force: &Force) -> u64
     force.pawns | force.knights | force.diagonal | force.straight | force.king
 }
 
-/// What a square sees along a ray with one of these sliders on it, however far; nothing along another.
-fn sight_along(rays: &Rays, occupied: u64, sliders: u64, square: u8, direction: Direction) -> u64
+/// One side's sets without what stands on a square.
+pub(crate) fn without(force: &Force, square: u8) -> Force
     requires { square < 64 }
-    ensures { (t : ℕ) → t < 64 → has result t ≡ sights (has occupied) (has sliders) direction square t }
+    ensures { (men : List (Option ManValue)) (by : ColourValue) (place : Option ManValue) → length men ≡ 64 → StandFor force.now by men
+        → is_of by place ≡ false → StandFor result by (slice_set men square place) }
 {
-    if sliders & rays.ray(square, direction) == 0 {
-        return 0;
+    Force {
+        pawns: square_sets::without(force.pawns, square),
+        knights: square_sets::without(force.knights, square),
+        diagonal: square_sets::without(force.diagonal, square),
+        straight: square_sets::without(force.straight, square),
+        king: square_sets::without(force.king, square),
     }
-    rays.reach(square, direction, occupied)
-}
-
-/// What a square sees on its diagonals with one of these sliders on them.
-pub(crate) fn diagonal_sight(rays: &Rays, occupied: u64, sliders: u64, square: u8) -> u64
-    requires { square < 64 }
-    ensures { (t : ℕ) → t < 64 → has result t ≡ sights_as_bishop (has occupied) (has sliders) square t }
-{
-    sight_along(rays, occupied, sliders, square, Direction::NorthEast)
-        | sight_along(rays, occupied, sliders, square, Direction::SouthEast)
-        | sight_along(rays, occupied, sliders, square, Direction::SouthWest)
-        | sight_along(rays, occupied, sliders, square, Direction::NorthWest)
-}
-
-/// What a square sees on its rank and its file towards one of these sliders.
-pub(crate) fn straight_sight(rays: &Rays, occupied: u64, sliders: u64, square: u8) -> u64
-    requires { square < 64 }
-    ensures { (t : ℕ) → t < 64 → has result t ≡ sights_as_rook (has occupied) (has sliders) square t }
-{
-    sight_along(rays, occupied, sliders, square, Direction::North)
-        | sight_along(rays, occupied, sliders, square, Direction::East)
-        | sight_along(rays, occupied, sliders, square, Direction::South)
-        | sight_along(rays, occupied, sliders, square, Direction::West)
-}
-
-/// The sliders that see a square along one of its rays. A ray with none of them on it is not scanned.
-fn attackers_along(
-    rays: &Rays,
-    occupied: u64,
-    sliders: u64,
-    square: u8,
-    direction: Direction,
-) -> u64
-    requires { square < 64 }
-    ensures { (t : ℕ) → t < 64 → has result t ≡ (has sliders t && reaches (has occupied) direction square t) }
-{
-    if sliders & rays.ray(square, direction) == 0 {
-        return 0;
-    }
-    sliders & rays.reach(square, direction, occupied)
-}
-
-/// The sliders that see a square as bishops do.
-fn diagonal_attackers(rays: &Rays, occupied: u64, sliders: u64, square: u8) -> u64
-    requires { square < 64 }
-    ensures { (t : ℕ) → t < 64 → has result t ≡ (has sliders t && reaches_as_bishop (has occupied) square t) }
-{
-    attackers_along(rays, occupied, sliders, square, Direction::NorthEast)
-        | attackers_along(rays, occupied, sliders, square, Direction::SouthEast)
-        | attackers_along(rays, occupied, sliders, square, Direction::SouthWest)
-        | attackers_along(rays, occupied, sliders, square, Direction::NorthWest)
-}
-
-/// The sliders that see a square as rooks do.
-fn straight_attackers(rays: &Rays, occupied: u64, sliders: u64, square: u8) -> u64
-    requires { square < 64 }
-    ensures { (t : ℕ) → t < 64 → has result t ≡ (has sliders t && reaches_as_rook (has occupied) square t) }
-{
-    attackers_along(rays, occupied, sliders, square, Direction::North)
-        | attackers_along(rays, occupied, sliders, square, Direction::East)
-        | attackers_along(rays, occupied, sliders, square, Direction::South)
-        | attackers_along(rays, occupied, sliders, square, Direction::West)
-}
-
-/// The squares from which men of a colour attack a square, on whatever board these sets stand for.
-pub(crate) fn attackers(rays: &Rays, occupied: u64, force: &Force, by: Colour, square: u8) -> u64
-    requires { square < 64 }
-    ensures { (men : List (Option ManValue)) → IsSetOf occupied is_some men → StandFor force.now by men
-        → (s : ℕ) → s < 64 → has result s ≡ hits_from men by s square }
-{
-    force.pawns & rays.leap(square, Leap::capture_back(by))
-        | force.knights & rays.leap(square, Leap::KnightLeap)
-        | diagonal_attackers(rays, occupied, force.diagonal, square)
-        | straight_attackers(rays, occupied, force.straight, square)
-        | force.king & rays.leap(square, Leap::KingStep)
-}
-
-/// The squares from which men of a colour attack a square, where it is known what the square sees on its diagonals, and on its rank
-/// and its file, towards their sliders.
-pub(crate) fn attackers_seen(
-    rays: &Rays,
-    force: &Force,
-    by: Colour,
-    square: u8,
-    diagonal: u64,
-    straight: u64,
-) -> u64
-    requires { square < 64 }
-    ensures { (men : List (Option ManValue)) (occupied : ℕ) → IsSetOf occupied is_some men → StandFor force.now by men
-        → ((t : ℕ) → t < 64 → has diagonal t ≡ sights_as_bishop (has occupied) (has force.now.diagonal) square t)
-        → ((t : ℕ) → t < 64 → has straight t ≡ sights_as_rook (has occupied) (has force.now.straight) square t)
-        → (s : ℕ) → s < 64 → has result s ≡ hits_from men by s square }
-{
-    force.pawns & rays.leap(square, Leap::capture_back(by))
-        | force.knights & rays.leap(square, Leap::KnightLeap)
-        | force.diagonal & diagonal
-        | force.straight & straight
-        | force.king & rays.leap(square, Leap::KingStep)
-}
-
-/// Whether a man of the colour attacks a square, on whatever board these sets stand for.
-pub(crate) fn is_hit_over(rays: &Rays, occupied: u64, force: &Force, by: Colour, square: u8) -> bool
-    requires { square < 64 }
-    ensures { (men : List (Option ManValue)) → IsSetOf occupied is_some men → StandFor force.now by men
-        → result ≡ is_hit men square by }
-{
-    attackers(rays, occupied, force, by, square) != 0
 }

@@ -2,18 +2,18 @@
 
 ghost use Rattle.std.specs.Prelude.{◌≡◌, length, nat_lt};
 ghost use Rattle.chess_board.specs.Attacks.{is_in_check};
-ghost use Rattle.chess_moves.specs.Scenes.{IsSceneOf};
+ghost use Rattle.chess_moves.specs.CheckInfo.{IsCheckInfoOf};
 ghost use Rattle.chess_moves.specs.Verdicts.{verdict_of, is_mate};
-ghost use Rattle.chess_moves.specs.Walking.{members, moves_of_men, HaveOwnMen};
+ghost use Rattle.chess_moves.specs.MoveGeneration.{members, moves_of_men, HaveOwnMen};
 
-use crate::attacking::attacked;
+use crate::attackers::attacked;
 use crate::candidates::is_checked;
+use crate::check_info::{CheckInfo, check_info_of};
+use crate::move_generation::legal_moves;
 use crate::movers::{count_ways, own_man};
 use crate::rays::Rays;
-use crate::scenes::{Scene, scene_of};
 use crate::targets::{has_flight, targets_from};
 use crate::verdicts::Verdict;
-use crate::walking::legal_moves;
 use chess_board::Position;
 
 /// The verdict of a position. It looks no further than the first legal move.
@@ -43,20 +43,20 @@ pub(crate) fn in_check(rays: &Rays, position: &Position) -> bool
 pub(crate) fn is_mated(rays: &Rays, position: &Position) -> bool
     ensures { result ≡ is_mate position.now }
 {
-    let scene = scene_of(rays, position);
-    if !is_checked(&scene) {
+    let info = check_info_of(rays, position);
+    if !is_checked(&info) {
         return false;
     }
-    if has_flight(rays, position, &scene) {
+    if has_flight(rays, position, &info) {
         return false;
     }
-    let king = square_sets::with(0, scene.king);
-    !can_move(rays, position, &scene, scene.own & !king)
+    let king = square_sets::with(0, info.king);
+    !can_move(rays, position, &info, info.own & !king)
 }
 
 /// Whether one of these men of the side to move has a legal move.
-fn can_move(rays: &Rays, position: &Position, scene: &Scene, men: u64) -> bool
-    requires scene { IsSceneOf scene.now position.now }
+fn can_move(rays: &Rays, position: &Position, info: &CheckInfo, men: u64) -> bool
+    requires info { IsCheckInfoOf info.now position.now }
     requires men { HaveOwnMen men position.now }
     ensures { result ≡ nat_lt 0 (length (moves_of_men position.now (members men))) }
 {
@@ -65,7 +65,7 @@ fn can_move(rays: &Rays, position: &Position, scene: &Scene, men: u64) -> bool
         let origin = origins.trailing_zeros() as u8;
         origins &= !(1 << origin);
         let man = own_man(position, origin);
-        if count_ways(man, targets_from(rays, position, scene, man, origin)) != 0 {
+        if count_ways(man, targets_from(rays, position, info, man, origin)) != 0 {
             return true;
         }
     }

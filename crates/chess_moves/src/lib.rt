@@ -4,45 +4,41 @@
 //! exact: each legal move once, in the order of moves. Each call takes the `Rays`, which are made once for the program. No move is
 //! found by making it: sets of squares tell where each man may go.
 //!
-//! To read: `specs/Listing.antt`; `directions`, `rays` and `forces` (what is seen and attacked), `scenes`, `candidates` and `guards`
-//! (where a man goes, and where it leaves its king safe), `targets`; then `walking`, `listing`, `pawns`, `counting`, `judging` and
-//! `plays`; `sights` and `checking`; `attacked_sets`, `flights` and `mating`. `laws` says what the lists hold in words that do not
-//! speak of how they are made. No call takes memory.
+//! To read: `specs/Listing.antt`; `directions`, `rays`, `forces` and `attackers` (what is seen and attacked), `check_info`,
+//! `candidates` and `pins` (where a man goes, and where it leaves its king safe), `targets`; then `move_generation`, `judging` and
+//! `perft_count`; `check_squares` and `gives_check`; `attacked_sets`, `flights` and `gives_mate`. `laws` says what the lists hold in words
+//! that do not speak of how they are made. No call takes memory.
 #![tactic(auto)]
 
 mod attacked_sets;
-mod attacking;
+mod attackers;
 mod candidates;
-mod checking;
-mod counting;
+mod check_info;
+mod check_squares;
 mod directions;
 mod flights;
 mod forces;
-mod guards;
+mod gives_check;
+mod gives_mate;
 mod judging;
 mod laws;
-mod listing;
-mod mating;
+mod move_generation;
 mod movers;
-mod pawns;
-mod plays;
+mod perft_count;
+mod pins;
 mod rays;
-mod scenes;
-mod sights;
 mod targets;
 mod verdicts;
-mod walking;
 
-pub use attacking::attacked;
-pub use checking::checks;
+pub use attackers::attacked;
+pub use gives_check::checks;
+pub use gives_mate::has_mating_move;
 pub use judging::verdict;
 pub use laws::{legal_listed, legal_rise, plays_listed, plays_once};
-pub use listing::{MoveList, is_legal, legal};
-pub use mating::has_mating_move;
-pub use plays::perft;
+pub use move_generation::{LegalMoves, MoveList, is_legal, legal, legal_moves};
+pub use perft_count::perft;
 pub use rays::{Rays, rays_in_order};
 pub use verdicts::Verdict;
-pub use walking::{LegalMoves, legal_moves};
 
 #[cfg(test)]
 mod random_games;

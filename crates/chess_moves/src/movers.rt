@@ -7,7 +7,7 @@ ghost use Rattle.chess_board.specs.Men.{is_of};
 ghost use Rattle.chess_board.specs.Positions.{man_at};
 ghost use Rattle.chess_board.specs.Candidates.{promotes};
 ghost use Rattle.chess_moves.specs.Targets.{ways};
-ghost use Rattle.chess_moves.specs.Walking.{members};
+ghost use Rattle.chess_moves.specs.MoveGeneration.{members};
 
 use chess_board::{Colour, Kind, Man, Position, Square};
 

@@ -171,7 +171,7 @@ impl Rays {
     }
 
     /// What a man on the square sees in a direction, the first square that is taken included.
-    pub(crate) fn reach(&self, square: u8, direction: Direction, occupied: u64) -> u64
+    pub(crate) fn ray_attacks(&self, square: u8, direction: Direction, occupied: u64) -> u64
         requires { square < 64 }
         ensures { (t : ℕ) → t < 64 → has result t ≡ reaches (has occupied) direction square t }
     {
@@ -186,25 +186,25 @@ impl Rays {
     }
 
     /// What a bishop on the square sees.
-    pub(crate) fn bishop_reach(&self, square: u8, occupied: u64) -> u64
+    pub(crate) fn bishop_attacks(&self, square: u8, occupied: u64) -> u64
         requires { square < 64 }
         ensures { (t : ℕ) → t < 64 → has result t ≡ reaches_as_bishop (has occupied) square t }
     {
-        self.reach(square, Direction::NorthEast, occupied)
-            | self.reach(square, Direction::SouthEast, occupied)
-            | self.reach(square, Direction::SouthWest, occupied)
-            | self.reach(square, Direction::NorthWest, occupied)
+        self.ray_attacks(square, Direction::NorthEast, occupied)
+            | self.ray_attacks(square, Direction::SouthEast, occupied)
+            | self.ray_attacks(square, Direction::SouthWest, occupied)
+            | self.ray_attacks(square, Direction::NorthWest, occupied)
     }
 
     /// What a rook on the square sees.
-    pub(crate) fn rook_reach(&self, square: u8, occupied: u64) -> u64
+    pub(crate) fn rook_attacks(&self, square: u8, occupied: u64) -> u64
         requires { square < 64 }
         ensures { (t : ℕ) → t < 64 → has result t ≡ reaches_as_rook (has occupied) square t }
     {
-        self.reach(square, Direction::North, occupied)
-            | self.reach(square, Direction::East, occupied)
-            | self.reach(square, Direction::South, occupied)
-            | self.reach(square, Direction::West, occupied)
+        self.ray_attacks(square, Direction::North, occupied)
+            | self.ray_attacks(square, Direction::East, occupied)
+            | self.ray_attacks(square, Direction::South, occupied)
+            | self.ray_attacks(square, Direction::West, occupied)
     }
 
     /// The squares on the diagonals of a square.

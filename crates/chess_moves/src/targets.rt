@@ -11,13 +11,13 @@ ghost use Rattle.chess_board.specs.Candidates.{goes, takes_in_passing};
 ghost use Rattle.chess_board.specs.After.{cleared, moved, passed_pawn, wing_of, men_after};
 ghost use Rattle.chess_board.specs.Legality.{is_legal};
 ghost use Rattle.chess_moves.specs.Listing.{move_of, moves_to};
-ghost use Rattle.chess_moves.specs.Scenes.{IsSceneOf};
+ghost use Rattle.chess_moves.specs.CheckInfo.{IsCheckInfoOf};
 ghost use Rattle.chess_moves.specs.Targets.{AreTargets, IsTarget};
 
 use crate::candidates::{castling_targets, passing_targets, pawn_targets, piece_targets};
-use crate::guards::{allowed_from, is_safe_after, is_safe_castled, is_safe_in_passing};
+use crate::check_info::CheckInfo;
+use crate::pins::{is_safe_after, is_safe_castled, is_safe_in_passing, legal_mask};
 use crate::rays::Rays;
-use crate::scenes::Scene;
 use chess_board::{Colour, Kind, Man, Position};
 use square_sets::with;
 
@@ -25,21 +25,21 @@ use square_sets::with;
 pub(crate) fn targets_from(
     rays: &Rays,
     position: &Position,
-    scene: &Scene,
+    info: &CheckInfo,
     man: Man,
     origin: u8,
 ) -> u64
     requires on_board { origin < 64 }
-    requires scene { IsSceneOf scene.now position.now }
+    requires info { IsCheckInfoOf info.now position.now }
     requires there { man_at position.now.men origin ≡ Some man }
     requires own { man.colour ≡ position.now.side }
     ensures { AreTargets result position.now man origin }
 {
     match man.kind {
-        Kind::Pawn => targets_of_pawn(rays, position, scene, man, origin),
-        Kind::King => targets_of_king(rays, position, scene, man, origin),
+        Kind::Pawn => targets_of_pawn(rays, position, info, man, origin),
+        Kind::King => targets_of_king(rays, position, info, man, origin),
         Kind::Knight | Kind::Bishop | Kind::Rook | Kind::Queen => {
-            targets_of_piece(rays, position, scene, man, origin)
+            targets_of_piece(rays, position, info, man, origin)
         }
     }
 }
@@ -48,77 +48,77 @@ pub(crate) fn targets_from(
 pub(crate) fn is_target(
     rays: &Rays,
     position: &Position,
-    scene: &Scene,
+    info: &CheckInfo,
     man: Man,
     origin: u8,
     target: u8,
 ) -> bool
     requires on_board { (origin < 64) × (target < 64) }
-    requires scene { IsSceneOf scene.now position.now }
+    requires info { IsCheckInfoOf info.now position.now }
     requires there { man_at position.now.men origin ≡ Some man }
     requires own { man.colour ≡ position.now.side }
     ensures { IsTarget result position.now man origin target }
 {
     match man.kind {
         Kind::King => {
-            let goals = piece_targets(rays, position, scene, man, origin)
-                | castling_targets(rays, position, scene);
-            square_sets::contains(goals, target) && is_king_safe(rays, scene, target)
+            let goals = piece_targets(rays, position, info, man, origin)
+                | castling_targets(rays, position, info);
+            square_sets::contains(goals, target) && is_king_safe(rays, info, target)
         }
-        _ => square_sets::contains(targets_from(rays, position, scene, man, origin), target),
+        _ => square_sets::contains(targets_from(rays, position, info, man, origin), target),
     }
 }
 
 /// The same for a knight, a bishop, a rook or a queen.
-fn targets_of_piece(rays: &Rays, position: &Position, scene: &Scene, man: Man, origin: u8) -> u64
+fn targets_of_piece(rays: &Rays, position: &Position, info: &CheckInfo, man: Man, origin: u8) -> u64
     requires on_board { origin < 64 }
-    requires scene { IsSceneOf scene.now position.now }
+    requires info { IsCheckInfoOf info.now position.now }
     requires there { man_at position.now.men origin ≡ Some man }
     requires own { man.colour ≡ position.now.side }
     requires no_pawn { is_pawn_kind man.kind ≡ false }
     requires no_king { is_king_kind man.kind ≡ false }
     ensures { AreTargets result position.now man origin }
 {
-    let allowed = allowed_from(
+    let allowed = legal_mask(
         rays,
-        scene.occupied,
-        &scene.enemy,
-        scene.side.other(),
-        scene.king,
-        scene.nearest,
-        scene.answers,
+        info.occupied,
+        &info.enemy,
+        info.side.other(),
+        info.king,
+        info.pin_squares,
+        info.check_mask,
         origin,
     );
-    piece_targets(rays, position, scene, man, origin) & allowed
+    piece_targets(rays, position, info, man, origin) & allowed
 }
 
 /// The same for a pawn.
-fn targets_of_pawn(rays: &Rays, position: &Position, scene: &Scene, man: Man, origin: u8) -> u64
+fn targets_of_pawn(rays: &Rays, position: &Position, info: &CheckInfo, man: Man, origin: u8) -> u64
     requires on_board { origin < 64 }
-    requires scene { IsSceneOf scene.now position.now }
+    requires info { IsCheckInfoOf info.now position.now }
     requires there { man_at position.now.men origin ≡ Some man }
     requires own { man.colour ≡ position.now.side }
     requires pawn { man.kind ≡ kind.Pawn }
     ensures { AreTargets result position.now man origin }
 {
-    let allowed = allowed_from(
+    let allowed = legal_mask(
         rays,
-        scene.occupied,
-        &scene.enemy,
-        scene.side.other(),
-        scene.king,
-        scene.nearest,
-        scene.answers,
+        info.occupied,
+        &info.enemy,
+        info.side.other(),
+        info.king,
+        info.pin_squares,
+        info.check_mask,
         origin,
     );
-    pawn_targets(rays, position, scene, man, origin) & allowed
-        | safe_in_passing(rays, position, scene, man, origin)
+    pawn_targets(rays, position, info, man, origin) & allowed
+        | safe_in_passing(rays, position, info, man, origin)
 }
 
 /// Where the pawn captures en passant so that its king is safe afterwards: one square at most.
-fn safe_in_passing(rays: &Rays, position: &Position, scene: &Scene, man: Man, origin: u8) -> u64
+fn safe_in_passing(rays: &Rays, position: &Position, info: &CheckInfo, man: Man, origin: u8) -> u64
     requires on_board { origin < 64 }
-    requires scene { IsSceneOf scene.now position.now }
+    requires info { IsCheckInfoOf info.now position.now }
     requires there { man_at position.now.men origin ≡ Some man }
     requires own { man.colour ≡ position.now.side }
     requires pawn { man.kind ≡ kind.Pawn }
@@ -133,10 +133,10 @@ fn safe_in_passing(rays: &Rays, position: &Position, scene: &Scene, man: Man, or
     let passed = 8 * (origin / 8) + target % 8;
     if is_safe_in_passing(
         rays,
-        scene.occupied,
-        &scene.enemy,
-        scene.side.other(),
-        scene.king,
+        info.occupied,
+        &info.enemy,
+        info.side.other(),
+        info.king,
         origin,
         target,
         passed,
@@ -148,21 +148,21 @@ fn safe_in_passing(rays: &Rays, position: &Position, scene: &Scene, man: Man, or
 }
 
 /// The same for the king. Each square is asked about by itself, since the king may step along the line of an attack.
-fn targets_of_king(rays: &Rays, position: &Position, scene: &Scene, man: Man, origin: u8) -> u64
+fn targets_of_king(rays: &Rays, position: &Position, info: &CheckInfo, man: Man, origin: u8) -> u64
     requires on_board { origin < 64 }
-    requires scene { IsSceneOf scene.now position.now }
+    requires info { IsCheckInfoOf info.now position.now }
     requires there { man_at position.now.men origin ≡ Some man }
     requires own { man.colour ≡ position.now.side }
     requires king { man.kind ≡ kind.King }
     ensures { AreTargets result position.now man origin }
 {
-    let goals = piece_targets(rays, position, scene, man, origin)
-        | castling_targets(rays, position, scene);
+    let goals = piece_targets(rays, position, info, man, origin)
+        | castling_targets(rays, position, info);
     let mut safe = 0;
     let mut rest = goals;
     while rest != 0 {
         let target = rest.trailing_zeros() as u8;
-        if is_king_safe(rays, scene, target) {
+        if is_king_safe(rays, info, target) {
             safe = with(safe, target);
         }
         rest &= !(1 << target);
@@ -171,20 +171,20 @@ fn targets_of_king(rays: &Rays, position: &Position, scene: &Scene, man: Man, or
 }
 
 /// Whether the king has a legal move. It looks no further than the first.
-pub(crate) fn has_flight(rays: &Rays, position: &Position, scene: &Scene) -> bool
-    requires scene { IsSceneOf scene.now position.now }
-    ensures { result ≡ nat_lt 0 (length (filter (is_legal position.now) (moves_to scene.now.king 64))) }
+pub(crate) fn has_flight(rays: &Rays, position: &Position, info: &CheckInfo) -> bool
+    requires info { IsCheckInfoOf info.now position.now }
+    ensures { result ≡ nat_lt 0 (length (filter (is_legal position.now) (moves_to info.now.king 64))) }
 {
     let king = Man {
-        colour: scene.side,
+        colour: info.side,
         kind: Kind::King,
     };
-    let goals = piece_targets(rays, position, scene, king, scene.king)
-        | castling_targets(rays, position, scene);
+    let goals = piece_targets(rays, position, info, king, info.king)
+        | castling_targets(rays, position, info);
     let mut rest = goals;
     while rest != 0 {
         let flight = rest.trailing_zeros() as u8;
-        if is_king_safe(rays, scene, flight) {
+        if is_king_safe(rays, info, flight) {
             return true;
         }
         rest &= !(1 << flight);
@@ -193,17 +193,17 @@ pub(crate) fn has_flight(rays: &Rays, position: &Position, scene: &Scene) -> boo
 }
 
 /// Whether the king is safe where it goes, by a step or by castling.
-fn is_king_safe(rays: &Rays, scene: &Scene, target: u8) -> bool
-    requires { (scene.now.king < 64) × (target < 64) }
-    ensures { (p : Setup) → IsSceneOf scene.now p → goes p p.side kind.King scene.now.king target ≡ true
-        → result ≡ not (is_in_check (men_after p (record { colour = p.side; kind = kind.King }) (move_of scene.now.king target None)) p.side) }
+fn is_king_safe(rays: &Rays, info: &CheckInfo, target: u8) -> bool
+    requires { (info.now.king < 64) × (target < 64) }
+    ensures { (p : Setup) → IsCheckInfoOf info.now p → goes p p.side kind.King info.now.king target ≡ true
+        → result ≡ not (is_in_check (men_after p (record { colour = p.side; kind = kind.King }) (move_of info.now.king target None)) p.side) }
 {
-    let by = scene.side.other();
-    let enemy = &scene.enemy;
-    let occupied = scene.occupied;
-    let origin = scene.king;
+    let by = info.side.other();
+    let enemy = &info.enemy;
+    let occupied = info.occupied;
+    let origin = info.king;
     if (origin % 8).abs_diff(target % 8) == 2 {
-        let home = rook_home(scene.side, origin, target);
+        let home = rook_home(info.side, origin, target);
         let crossed = (origin + target) / 2;
         is_safe_castled(rays, occupied, enemy, by, origin, target, home, crossed)
     } else {

@@ -7,9 +7,9 @@ use Rattle.chess_moves.proofs.Bridge.{attacked_same}
 use Rattle.chess_moves.proofs.candidates.is_attacked_in.Goals as goal
 
 pub returns : goal.returns
-returns c = λ p scene.
-    let by : c.other.result ≡ other_side p.side = c.other.ensures ∙ ap other_side scene.side in
-    let stand : StandFor c.args.scene.now.enemy c.other.result p.men = rw by scene.enemy in
-    c.is_hit_over.ensures p.men scene.occupied stand
+returns c = λ p info.
+    let by : c.other.result ≡ other_side p.side = c.other.ensures ∙ ap other_side info.side in
+    let stand : StandFor c.args.info.now.enemy c.other.result p.men = rw by info.enemy in
+    c.is_hit_over.ensures p.men info.occupied stand
     ∙ sym (attacked_same p.men c.args.square c.other.result c.requires)
     ∙ ap (λ (colour : Colour). is_attacked p.men c.args.square colour) by

@@ -2,7 +2,7 @@ use Rattle.std.proofs.Common.{◌≡◌, refl, sym, ap, ◌∙◌, arith, length
 use Rattle.std.specs.Int.{trailing_zeros}
 use Rattle.std.proofs.lemmas.Bool.{lt-ltb}
 use Rattle.std.proofs.lemmas.Nat.Bits.{bit_at-trailing_zeros}
-use Rattle.chess_moves.specs.Walking.{moves_of_men}
+use Rattle.chess_moves.specs.MoveGeneration.{moves_of_men}
 use Rattle.chess_moves.proofs.SetBits.{clear_smaller}
 use Rattle.chess_moves.proofs.Members.{no_members}
 use Rattle.chess_moves.proofs.Walks.{many_first, own_first, own_others}

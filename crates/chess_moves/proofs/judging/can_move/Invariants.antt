@@ -1,5 +1,5 @@
 use Rattle.std.proofs.Common.{◌≡◌, length}
-use Rattle.chess_moves.specs.Walking.{members, moves_of_men, HaveOwnMen}
+use Rattle.chess_moves.specs.MoveGeneration.{members, moves_of_men, HaveOwnMen}
 use Rattle.chess_moves.proofs.judging.can_move.Given as goal
 
 -- none of the men so far has a move

@@ -8,27 +8,27 @@ use Rattle.chess_moves.proofs.judging.is_mated.Goals as goal
 pub returns-then-not-is_checked : goal.returns-then-not-is_checked
 returns-then-not-is_checked c =
     let p = c.args.position.now in
-    let h = c.scene_of-scene.ensures in
-    let none : is_in_check p.men p.side ≡ false = in_check_is p c.scene_of-scene.result.king h.sound h.on_board h.king ∙ sym (c.is_checked.ensures p h) ∙ c.if-not-is_checked.true in
+    let h = c.check_info_of-info.ensures in
+    let none : is_in_check p.men p.side ≡ false = in_check_is p c.check_info_of-info.result.king h.sound h.on_board h.king ∙ sym (c.is_checked.ensures p h) ∙ c.if-not-is_checked.true in
     sym (mate_by p false (has_legal_move p) none refl)
 
 pub returns-then-has_flight : goal.returns-then-has_flight
 returns-then-has_flight c =
     let p = c.args.position.now in
-    sym (mate_by p (is_in_check p.men p.side) true refl (king_moves c.scene_of-scene.result p c.scene_of-scene.ensures (sym c.has_flight.ensures ∙ c.if-has_flight.true)) ∙ none (is_in_check p.men p.side))
+    sym (mate_by p (is_in_check p.men p.side) true refl (king_moves c.check_info_of-info.result p c.check_info_of-info.ensures (sym c.has_flight.ensures ∙ c.if-has_flight.true)) ∙ none (is_in_check p.men p.side))
   where
     none : (b : Bool) → (b && false) ≡ false
     none true = refl
     none false = refl
 
 pub can_move-requires-clause-men : goal.can_move-requires-clause-men
-can_move-requires-clause-men c = others_are_own c.args.position.now c.scene_of-scene.result.own c.with-king.result (omega arith) c.scene_of-scene.ensures.own
+can_move-requires-clause-men c = others_are_own c.args.position.now c.check_info_of-info.result.own c.with-king.result (omega arith) c.check_info_of-info.ensures.own
 
 pub returns : goal.returns
 returns c =
     let p = c.args.position.now in
-    let h = c.scene_of-scene.ensures in
-    let check : is_in_check p.men p.side ≡ true = in_check_is p c.scene_of-scene.result.king h.sound h.on_board h.king ∙ sym (c.is_checked.ensures p h) ∙ c.if-not-is_checked.false in
-    let apart = moves_apart c.scene_of-scene.result p c.with-king.result h (omega arith) c.with-king.ensures in
+    let h = c.check_info_of-info.ensures in
+    let check : is_in_check p.men p.side ≡ true = in_check_is p c.check_info_of-info.result.king h.sound h.on_board h.king ∙ sym (c.is_checked.ensures p h) ∙ c.if-not-is_checked.false in
+    let apart = moves_apart c.check_info_of-info.result p c.with-king.result h (omega arith) c.with-king.ensures in
     let others : has_legal_move p ≡ c.can_move.result = (rw (sym c.has_flight.ensures ∙ c.if-has_flight.false) at apart) ∙ sym c.can_move.ensures in
     sym (mate_by p true c.can_move.result check others)

@@ -25,9 +25,9 @@ loop-rest-init c = sifted_none _ _
 pub returns-then-is_king_safe : goal.returns-then-is_king_safe
 returns-then-is_king_safe c =
     let p = c.args.position.now in
-    let k : ℕ = c.args.scene.now.king in
-    let h = c.requires.scene in
-    let man : Man = record { colour = c.args.scene.now.side; kind = King } in
+    let k : ℕ = c.args.info.now.king in
+    let h = c.requires.info in
+    let man : Man = record { colour = c.args.info.now.side; kind = King } in
     let there : man_at p.men k ≡ Some man = h.king ∙ ap (λ side. man_of side King) (sym h.side) in
     let steps = c.piece_targets.result in
     let castlings = c.castling_targets.result in
@@ -48,9 +48,9 @@ loop-rest-smaller c =
 pub loop-rest-preserved : goal.loop-rest-preserved
 loop-rest-preserved c =
     let p = c.args.position.now in
-    let k : ℕ = c.args.scene.now.king in
-    let h = c.requires.scene in
-    let man : Man = record { colour = c.args.scene.now.side; kind = King } in
+    let k : ℕ = c.args.info.now.king in
+    let h = c.requires.info in
+    let man : Man = record { colour = c.args.info.now.side; kind = King } in
     let steps = c.piece_targets.result in
     let castlings = c.castling_targets.result in
     let rest : ℕ = c.loop-rest.rest in
@@ -64,9 +64,9 @@ loop-rest-preserved c =
 pub returns : goal.returns
 returns c =
     let p = c.args.position.now in
-    let k : ℕ = c.args.scene.now.king in
-    let h = c.requires.scene in
-    let man : Man = record { colour = c.args.scene.now.side; kind = King } in
+    let k : ℕ = c.args.info.now.king in
+    let h = c.requires.info in
+    let man : Man = record { colour = c.args.info.now.side; kind = King } in
     let there : man_at p.men k ≡ Some man = h.king ∙ ap (λ side. man_of side King) (sym h.side) in
     let steps = c.piece_targets.result in
     let castlings = c.castling_targets.result in

@@ -4,7 +4,7 @@ use Rattle.chess_moves.proofs.targets.has_flight.Given as goal
 
 -- no goal so far is safe
 abbrev pub invariant-loop-rest : goal.invariant-loop-rest
-invariant-loop-rest l = IsSifted l.goals l.rest 0 (safe_at l.position l.scene.king)
+invariant-loop-rest l = IsSifted l.goals l.rest 0 (safe_at l.position l.info.king)
 
 abbrev pub decreases-loop-rest : goal.decreases-loop-rest
 decreases-loop-rest l = l.rest

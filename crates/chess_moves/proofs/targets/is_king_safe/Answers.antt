@@ -9,7 +9,7 @@ use Rattle.chess_moves.proofs.targets.is_king_safe.Goals as goal
 
 pub returns-then-abs_diff-eq2 : goal.returns-then-abs_diff-eq2
 returns-then-abs_diff-eq2 c = λ p h goes.
-    let s = c.args.scene.now in
+    let s = c.args.info.now in
     let t = c.args.target in
     let by : c.other-by.result ≡ other_side p.side = c.other-by.ensures ∙ ap other_side h.side in
     let home : c.rook_home-home.result ≡ rook_home p.side (wing_of s.king t) = c.rook_home-home.ensures.home ∙ ap (λ x. rook_home x (wing_of s.king t)) h.side in
@@ -21,7 +21,7 @@ returns-then-abs_diff-eq2 c = λ p h goes.
 
 pub returns-else-abs_diff-eq2 : goal.returns-else-abs_diff-eq2
 returns-else-abs_diff-eq2 c = λ p h goes.
-    let s = c.args.scene.now in
+    let s = c.args.info.now in
     let t = c.args.target in
     let by : c.other-by.result ≡ other_side p.side = c.other-by.ensures ∙ ap other_side h.side in
     let near : eqb (file_gap s.king t) 2 ≡ false = ne_eqb (file_gap s.king t) 2 (λ e. omega arith) in

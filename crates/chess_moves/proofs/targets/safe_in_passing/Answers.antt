@@ -19,13 +19,13 @@ returns-then-is_safe_in_passing c = λ t on.
     let man = c.args.man in
     let o = c.args.origin in
     let r = c.requires in
-    let h = c.requires.scene in
+    let h = c.requires.info in
     let passing = c.passing_targets-passing.result in
     let by : c.other.result ≡ other_side p.side = c.other.ensures ∙ ap other_side h.side in
     let first = first_square passing (omega arith) (omega arith) in
     let told = rw (by, c.if-is_safe_in_passing.true) at c.is_safe_in_passing.ensures in
     let safe = told p.men man h.sound.squares h.occupied h.enemy (own_not_other p man o r.there r.own) (other_colour man.colour p.side r.own) in
-    sym (and-true (has passing t)) ∙ passing_goes_safely c.args.scene.now p man o passing (trailing_zeros w64 passing) true h r.there r.own r.pawn c.passing_targets-passing.ensures first.0 first.1 safe t on
+    sym (and-true (has passing t)) ∙ passing_goes_safely c.args.info.now p man o passing (trailing_zeros w64 passing) true h r.there r.own r.pawn c.passing_targets-passing.ensures first.0 first.1 safe t on
 
 pub returns-else-is_safe_in_passing : goal.returns-else-is_safe_in_passing
 returns-else-is_safe_in_passing c = λ t on.
@@ -33,10 +33,10 @@ returns-else-is_safe_in_passing c = λ t on.
     let man = c.args.man in
     let o = c.args.origin in
     let r = c.requires in
-    let h = c.requires.scene in
+    let h = c.requires.info in
     let passing = c.passing_targets-passing.result in
     let by : c.other.result ≡ other_side p.side = c.other.ensures ∙ ap other_side h.side in
     let first = first_square passing (omega arith) (omega arith) in
     let told = rw (by, c.if-is_safe_in_passing.false) at c.is_safe_in_passing.ensures in
     let safe = told p.men man h.sound.squares h.occupied h.enemy (own_not_other p man o r.there r.own) (other_colour man.colour p.side r.own) in
-    has_none 0 t refl ∙ sym (and-false (has passing t)) ∙ passing_goes_safely c.args.scene.now p man o passing (trailing_zeros w64 passing) false h r.there r.own r.pawn c.passing_targets-passing.ensures first.0 first.1 safe t on
+    has_none 0 t refl ∙ sym (and-false (has passing t)) ∙ passing_goes_safely c.args.info.now p man o passing (trailing_zeros w64 passing) false h r.there r.own r.pawn c.passing_targets-passing.ensures first.0 first.1 safe t on

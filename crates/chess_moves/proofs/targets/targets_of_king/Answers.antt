@@ -18,16 +18,16 @@ loop-rest-smaller c =
 pub loop-rest-preserved : goal.loop-rest-preserved
 loop-rest-preserved c =
     let p = c.args.position.now in
-    let k : ℕ = c.args.scene.now.king in
+    let k : ℕ = c.args.info.now.king in
     let r = c.requires in
     let steps = c.piece_targets.result in
     let castlings = c.castling_targets.result in
     let rest : ℕ = c.loop-rest.rest in
     let t : ℕ = trailing_zeros w64 rest in
     let first = first_square rest (omega arith) (omega arith) in
-    let at = king_origin c.args.scene.now p c.args.man c.args.origin r.scene r.on_board r.there r.own r.king in
+    let at = king_origin c.args.info.now p c.args.man c.args.origin r.info r.on_board r.there r.own r.king in
     let goals = king_goals p c.args.man c.args.origin k steps castlings t r.own r.king at (c.piece_targets.ensures t first.0) (c.castling_targets.ensures t first.0) in
-    let safe = c.is_king_safe.ensures p r.scene (sym goals ∙ c.loop-rest.invariant.within t first.0 first.1) in
+    let safe = c.is_king_safe.ensures p r.info (sym goals ∙ c.loop-rest.invariant.within t first.0 first.1) in
     let left_is = λ (s : ℕ) (on : s < 64). has_clear rest t s first.0 on in
     elim c.if-is_king_safe.branch [
       | then-is_king_safe w ↦ rw w.safe-is (sifted_in (bit_or steps castlings) rest (clear rest t) c.loop-rest.safe t (safe_at p k) c.loop-rest.invariant first.0 first.1 left_is
@@ -39,13 +39,13 @@ loop-rest-preserved c =
 pub returns : goal.returns
 returns c =
     let p = c.args.position.now in
-    let k : ℕ = c.args.scene.now.king in
+    let k : ℕ = c.args.info.now.king in
     let r = c.requires in
     let man = c.args.man in
     let o : ℕ = c.args.origin in
     let steps = c.piece_targets.result in
     let castlings = c.castling_targets.result in
-    let at = king_origin c.args.scene.now p man o r.scene r.on_board r.there r.own r.king in
+    let at = king_origin c.args.info.now p man o r.info r.on_board r.there r.own r.king in
     targets_where_safe p man o c.loop-rest.safe r.there r.own (λ t x on suited.
     let goals = king_goals p man o k steps castlings t r.own r.king at (c.piece_targets.ensures t on) (c.castling_targets.ensures t on) in
     king_goes_safely p man o k t x r.own r.king at suited

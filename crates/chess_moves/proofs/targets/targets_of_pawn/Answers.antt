@@ -15,13 +15,13 @@ returns c =
     let man = c.args.man in
     let o = c.args.origin in
     let r = c.requires in
-    let h = c.requires.scene in
+    let h = c.requires.info in
     let plain = c.pawn_targets.result in
-    let free = c.allowed_from-allowed.result in
+    let free = c.legal_mask-allowed.result in
     let by : c.other.result ≡ other_side p.side = c.other.ensures ∙ ap other_side h.side in
-    let allowed = rw by at c.allowed_from-allowed.ensures in
+    let allowed = rw by at c.legal_mask-allowed.ensures in
     targets_where_safe p man o _ r.there r.own (λ t x on suited.
     let own = other_colour (becomes man x).colour p.side (becomes_colour man x ∙ r.own) in
-    let safe = allowed p.men (becomes man x) h.sound.squares h.occupied h.enemy (own_not_other p man o r.there r.own) own h.answers t on in
+    let safe = allowed p.men (becomes man x) h.sound.squares h.occupied h.enemy (own_not_other p man o r.there r.own) own h.check_mask t on in
     rw (has_or (bit_and plain free) c.safe_in_passing.result t, has_and plain free t, c.pawn_targets.ensures t on, c.safe_in_passing.ensures t on)
-    (pawn_goes_safely c.args.scene.now p man o t x (has free t) h r.there r.own r.pawn suited safe))
+    (pawn_goes_safely c.args.info.now p man o t x (has free t) h r.there r.own r.pawn suited safe))

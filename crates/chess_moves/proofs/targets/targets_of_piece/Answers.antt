@@ -15,12 +15,12 @@ returns c =
     let man = c.args.man in
     let o = c.args.origin in
     let r = c.requires in
-    let h = c.requires.scene in
-    let free = c.allowed_from-allowed.result in
+    let h = c.requires.info in
+    let free = c.legal_mask-allowed.result in
     let by : c.other.result ≡ other_side p.side = c.other.ensures ∙ ap other_side h.side in
-    let allowed = rw by at c.allowed_from-allowed.ensures in
+    let allowed = rw by at c.legal_mask-allowed.ensures in
     targets_where_safe p man o _ r.there r.own (λ t x on suited.
     let own = other_colour (becomes man x).colour p.side (becomes_colour man x ∙ r.own) in
-    let safe = allowed p.men (becomes man x) h.sound.squares h.occupied h.enemy (own_not_other p man o r.there r.own) own h.answers t on in
+    let safe = allowed p.men (becomes man x) h.sound.squares h.occupied h.enemy (own_not_other p man o r.there r.own) own h.check_mask t on in
     rw (has_and c.piece_targets.result free t, c.piece_targets.ensures t on)
-    (piece_goes_safely c.args.scene.now p man o t x (has free t) h r.there r.own r.no_pawn r.no_king suited safe))
+    (piece_goes_safely c.args.info.now p man o t x (has free t) h r.there r.own r.no_pawn r.no_king suited safe))

@@ -1,8 +1,0 @@
-use Rattle.chess_moves.proofs.PawnShifts.{has-h_file, has-a_file}
-use Rattle.chess_moves.proofs.pawns.right_file.Goals as goal
-
-pub returns-in-White : goal.returns-in-White
-returns-in-White c = λ s l. rw c.in-White.is (has-h_file s l)
-
-pub returns-in-Black : goal.returns-in-Black
-returns-in-Black c = λ s l. rw c.in-Black.is (has-a_file s l)

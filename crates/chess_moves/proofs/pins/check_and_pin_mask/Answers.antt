@@ -1,0 +1,22 @@
+use Rattle.std.proofs.Common.{◌≡◌, ℕ, List, Option, None, Some, is_some, length, set, not, ◌&&◌, ◌∙◌, refl, ap, sym, length-set}
+use Rattle.square_sets.specs.Members.{has}
+use Rattle.chess_board.specs.declared.men.Man.{Man}
+use Rattle.chess_moves.specs.Hits.{hits_from, is_hit}
+use Rattle.chess_moves.specs.CheckInfo.{gets_through}
+use Rattle.chess_moves.proofs.AnyLemmas.{any_same}
+use Rattle.chess_moves.proofs.Moved.{stands_without, stand_still}
+use Rattle.chess_moves.proofs.Placed.{attacks_placed}
+use Rattle.chess_moves.proofs.pins.check_and_pin_mask.Goals as goal
+
+pub returns : goal.returns
+unfolding is_hit
+returns c = λ men man len stands sets from_own own t on.
+    let gone : List (Option Man) = set men c.args.origin None in
+    let k : ℕ = c.args.king in
+    let len1 : length gone ≡ 64 = simp length-set len in
+    let cleared = stands_without is_some men c.args.occupied c.without-lifted.result c.args.origin None len c.requires.1 c.without-lifted.ensures refl stands in
+    let still = stand_still c.args.force.now c.args.by men c.args.origin None len c.requires.1 from_own refl sets in
+    c.capture_or_block.ensures t on
+    ∙ ap not (any_same (λ a. has c.attackers-through.result a && gets_through a k t) (λ a. hits_from (set gone t (Some man)) c.args.by a k) 64
+    (λ a l. ap (λ x. x && gets_through a k t) (c.attackers-through.ensures gone cleared still a l)
+    ∙ sym (attacks_placed gone t man c.args.by a k len1 on own)))

@@ -1,0 +1,51 @@
+//! The check information of a position: what its checks, its pins and all its moves ask about, found once for it.
+
+ghost use Rattle.std.specs.Prelude.{◌≡◌};
+ghost use Rattle.chess_moves.specs.CheckInfo.{IsCheckInfoOf};
+
+use crate::attackers::{diagonal_sight, straight_sight};
+use crate::forces::{Force, all_of, force_of};
+use crate::pins::check_mask;
+use crate::rays::Rays;
+use chess_board::{Colour, Position};
+
+/// The sets of a position that each of its moves asks about, the check mask among them.
+#[derive(Clone, Copy, Debug)]
+pub(crate) struct CheckInfo {
+    /// The side to move.
+    pub side: Colour,
+    /// Where a man stands, of either side.
+    pub occupied: u64,
+    /// Where a man of the side to move stands.
+    pub own: u64,
+    /// The men of the other side.
+    pub enemy: Force,
+    /// The square of the king of the side to move.
+    pub king: u8,
+    /// What the king sees on its lines with a slider of the other side: only men on these squares can be pinned.
+    pub pin_squares: u64,
+    /// The squares on which a man other than the king answers the checks that there are: all where there is none.
+    pub check_mask: u64,
+}
+
+/// The check information of a position.
+pub(crate) fn check_info_of(rays: &Rays, position: &Position) -> CheckInfo
+    ensures { IsCheckInfoOf result position.now }
+{
+    let side = position.side();
+    let by = side.other();
+    let enemy = force_of(position, by);
+    let occupied = position.occupied();
+    let king = position.king(side).index() as u8;
+    let diagonal = diagonal_sight(rays, occupied, enemy.diagonal, king);
+    let straight = straight_sight(rays, occupied, enemy.straight, king);
+    CheckInfo {
+        side,
+        occupied,
+        own: all_of(&force_of(position, side)),
+        enemy,
+        king,
+        pin_squares: diagonal | straight,
+        check_mask: check_mask(rays, &enemy, by, king, diagonal, straight),
+    }
+}

@@ -1,0 +1,166 @@
+//! Check squares: from where a man of each kind attacks the king of the side that is not to move. They tell whether a move gives
+//! check, mostly without making it.
+
+ghost use Rattle.std.specs.Prelude.{◌≡◌, ℕ, ◌<◌, true, false, not, ◌||◌, Some};
+ghost use Rattle.square_sets.specs.Members.{has};
+ghost use Rattle.chess_board.specs.Legality.{is_legal};
+ghost use Rattle.chess_board.specs.Moves.{Move as MoveValue};
+ghost use Rattle.chess_board.specs.Candidates.{is_square};
+ghost use Rattle.chess_board.specs.Positions.{man_at};
+ghost use Rattle.chess_moves.specs.GivesCheck.{gives_check};
+ghost use Rattle.chess_moves.specs.CheckInfo.{IsCheckInfoOf};
+ghost use Rattle.chess_moves.specs.CheckSquares.{AreCheckSquaresOf, squares_of as squares_for, is_special as is_special_move};
+
+use crate::attackers::is_hit_over;
+use crate::candidates::{attacks_of, castling_targets};
+use crate::check_info::CheckInfo;
+use crate::directions::Leap;
+use crate::forces::{force_of, without};
+use crate::movers::promotion_squares;
+use crate::rays::Rays;
+use chess_board::{Kind, Man, Move, Position};
+
+/// For each kind, the squares from which a man of the side to move attacks the king of the other side.
+#[derive(Clone, Copy, Debug)]
+pub(crate) struct CheckSquares {
+    pub pawn: u64,
+    pub knight: u64,
+    pub bishop: u64,
+    pub rook: u64,
+    pub queen: u64,
+    pub king: u64,
+}
+
+/// The check squares of a position.
+pub(crate) fn check_squares_of(rays: &Rays, position: &Position) -> CheckSquares
+    ensures { AreCheckSquaresOf result position.now }
+{
+    let side = position.side();
+    let enemy = side.other();
+    let king = position.king(enemy).index() as u8;
+    let occupied = position.occupied();
+    let bishop = rays.bishop_attacks(king, occupied);
+    let rook = rays.rook_attacks(king, occupied);
+    CheckSquares {
+        pawn: rays.leap(king, Leap::capture_back(side)),
+        knight: rays.leap(king, Leap::KnightLeap),
+        bishop,
+        rook,
+        queen: bishop | rook,
+        king: rays.leap(king, Leap::KingStep),
+    }
+}
+
+/// The squares from which a man of a kind attacks the king, as the board stands.
+fn squares_of(check_squares: &CheckSquares, kind: Kind) -> u64
+    ensures { result ≡ squares_for check_squares.now kind }
+{
+    match kind {
+        Kind::Pawn => check_squares.pawn,
+        Kind::Knight => check_squares.knight,
+        Kind::Bishop => check_squares.bishop,
+        Kind::Rook => check_squares.rook,
+        Kind::Queen => check_squares.queen,
+        Kind::King => check_squares.king,
+    }
+}
+
+/// Whether a man of a kind attacks the king from a square, as the board stands.
+pub(crate) fn attacks_king(check_squares: &CheckSquares, kind: Kind, square: u8) -> bool
+    requires { square < 64 }
+    ensures { result ≡ has (squares_for check_squares.now kind) square }
+{
+    square_sets::contains(squares_of(check_squares, kind), square)
+}
+
+/// Whether a move does more than take its man from one square to another: it promotes, captures en passant, or castles.
+fn is_special(position: &Position, man: Man, m: Move) -> bool
+    ensures { result ≡ is_special_move position.now man m }
+{
+    let is_target = match position.ep_target() {
+        Some(target) => target == m.target,
+        None => false,
+    };
+    m.promotion.is_some()
+        || man.kind == Kind::Pawn && is_target
+        || man.kind == Kind::King && m.origin.file().abs_diff(m.target.file()) == 2
+}
+
+/// Whether the check squares tell if a move gives check. They do not where the man leaves a square from which a queen would attack
+/// the king, since it may open a line, nor where the move is special.
+pub(crate) fn is_told(position: &Position, check_squares: &CheckSquares, man: Man, m: Move) -> bool
+    ensures { result ≡ not (has check_squares.now.queen m.origin || is_special_move position.now man m) }
+{
+    !square_sets::contains(check_squares.queen, m.origin.index() as u8)
+        && !is_special(position, man, m)
+}
+
+/// The squares to which a man's legal move may give check. They are all squares where it opens a line to the king, and those of
+/// its special moves stand among them.
+pub(crate) fn check_targets(
+    rays: &Rays,
+    position: &Position,
+    info: &CheckInfo,
+    check_squares: &CheckSquares,
+    man: Man,
+    origin: u8,
+) -> u64
+    requires on_board { origin < 64 }
+    requires info { IsCheckInfoOf info.now position.now }
+    requires check_squares { AreCheckSquaresOf check_squares.now position.now }
+    requires there { man_at position.now.men origin ≡ Some man }
+    ensures { (m : MoveValue) → is_legal position.now m ≡ true → m.origin ≡ origin → m.target < 64 → has result m.target ≡ false
+        → gives_check position.now m ≡ false }
+{
+    let special = special_squares(rays, position, info, man);
+    if square_sets::contains(check_squares.queen, origin) {
+        squares_behind(rays, position, man, origin) | special
+    } else {
+        squares_of(check_squares, man.kind) | special
+    }
+}
+
+/// The squares to which a man's special moves go.
+pub(crate) fn special_squares(rays: &Rays, position: &Position, info: &CheckInfo, man: Man) -> u64
+    requires info { IsCheckInfoOf info.now position.now }
+    ensures { (m : MoveValue) → is_legal position.now m ≡ true → man_at position.now.men m.origin ≡ Some man → m.origin < 64
+        → m.target < 64 → has result m.target ≡ false → is_special_move position.now man m ≡ false }
+{
+    match man.kind {
+        Kind::Pawn => promotion_squares(man) | passed_square(position),
+        Kind::King => castling_targets(rays, position, info),
+        Kind::Knight | Kind::Bishop | Kind::Rook | Kind::Queen => 0,
+    }
+}
+
+/// The square that the last move's double step passed over, or none.
+fn passed_square(position: &Position) -> u64
+    ensures { (t : ℕ) → t < 64 → has result t ≡ is_square position.now.target t }
+{
+    match position.ep_target() {
+        Some(target) => square_sets::with(0, target.index() as u8),
+        None => 0,
+    }
+}
+
+/// The squares from which a man attacks the king once it left its own: all where a line is open then.
+fn squares_behind(rays: &Rays, position: &Position, man: Man, origin: u8) -> u64
+    requires on_board { origin < 64 }
+    requires there { man_at position.now.men origin ≡ Some man }
+    ensures { (m : MoveValue) → is_legal position.now m ≡ true → m.origin ≡ origin → m.target < 64
+        → is_special_move position.now man m ≡ false → has result m.target ≡ false → gives_check position.now m ≡ false }
+{
+    let side = position.side();
+    let enemy = side.other();
+    let square = position.king(enemy).index() as u8;
+    let lifted = square_sets::without(position.occupied(), origin);
+    let others = without(&force_of(position, side), origin);
+    if is_hit_over(rays, lifted, &others, side, square) {
+        return u64::MAX;
+    }
+    let seen_back = Man {
+        colour: enemy,
+        kind: man.kind,
+    };
+    attacks_of(rays, lifted, seen_back, square)
+}
