@@ -16,7 +16,7 @@ ghost use Rattle.chess_moves.specs.Targets.{AreTargets, IsTarget};
 
 use crate::candidates::{castling_targets, passing_targets, pawn_targets, piece_targets};
 use crate::check_info::CheckInfo;
-use crate::pins::{is_safe_after, is_safe_castled, is_safe_in_passing, legal_mask};
+use crate::pins::{is_safe_castled, is_safe_in_passing, is_safe_step, legal_mask};
 use crate::rays::Rays;
 use chess_board::{Colour, Kind, Man, Position};
 use square_sets::with;
@@ -79,16 +79,7 @@ fn targets_of_piece(rays: &Rays, position: &Position, info: &CheckInfo, man: Man
     requires no_king { is_king_kind man.kind ≡ false }
     ensures { AreTargets result position.now man origin }
 {
-    let allowed = legal_mask(
-        rays,
-        info.occupied,
-        &info.enemy,
-        info.side.other(),
-        info.king,
-        info.pin_squares,
-        info.check_mask,
-        origin,
-    );
+    let allowed = legal_mask(rays, info, origin);
     piece_targets(rays, position, info, man, origin) & allowed
 }
 
@@ -101,16 +92,7 @@ fn targets_of_pawn(rays: &Rays, position: &Position, info: &CheckInfo, man: Man,
     requires pawn { man.kind ≡ kind.Pawn }
     ensures { AreTargets result position.now man origin }
 {
-    let allowed = legal_mask(
-        rays,
-        info.occupied,
-        &info.enemy,
-        info.side.other(),
-        info.king,
-        info.pin_squares,
-        info.check_mask,
-        origin,
-    );
+    let allowed = legal_mask(rays, info, origin);
     pawn_targets(rays, position, info, man, origin) & allowed
         | safe_in_passing(rays, position, info, man, origin)
 }
@@ -131,16 +113,7 @@ fn safe_in_passing(rays: &Rays, position: &Position, info: &CheckInfo, man: Man,
     }
     let target = passing.trailing_zeros() as u8;
     let passed = 8 * (origin / 8) + target % 8;
-    if is_safe_in_passing(
-        rays,
-        info.occupied,
-        &info.enemy,
-        info.side.other(),
-        info.king,
-        origin,
-        target,
-        passed,
-    ) {
+    if is_safe_in_passing(rays, info, origin, target, passed) {
         passing
     } else {
         0
@@ -198,16 +171,13 @@ fn is_king_safe(rays: &Rays, info: &CheckInfo, target: u8) -> bool
     ensures { (p : Setup) → IsCheckInfoOf info.now p → goes p p.side kind.King info.now.king target ≡ true
         → result ≡ not (is_in_check (men_after p (record { colour = p.side; kind = kind.King }) (move_of info.now.king target None)) p.side) }
 {
-    let by = info.side.other();
-    let enemy = &info.enemy;
-    let occupied = info.occupied;
     let origin = info.king;
     if (origin % 8).abs_diff(target % 8) == 2 {
         let home = rook_home(info.side, origin, target);
         let crossed = (origin + target) / 2;
-        is_safe_castled(rays, occupied, enemy, by, origin, target, home, crossed)
+        is_safe_castled(rays, info, target, home, crossed)
     } else {
-        is_safe_after(rays, occupied, enemy, by, target, origin, target)
+        is_safe_step(rays, info, target)
     }
 }
 

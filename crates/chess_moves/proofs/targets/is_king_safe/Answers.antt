@@ -1,9 +1,9 @@
 use Rattle.std.proofs.Common.{◌≡◌, eqb, true, false, not, arith, refl, sym, ap, ◌∙◌}
 use Rattle.std.proofs.lemmas.Bool.{eq-eqb, ne_eqb}
 use Rattle.chess_board.specs.Squares.{file_gap}
-use Rattle.chess_board.specs.Men.{other_side, rook_home}
+use Rattle.chess_board.specs.Men.{rook_home}
 use Rattle.chess_board.specs.After.{rook, wing_of}
-use Rattle.chess_moves.proofs.OwnColours.{other_colour, own_not_other}
+use Rattle.chess_moves.proofs.OwnColours.{other_colour}
 use Rattle.chess_moves.proofs.KingTargets.{king, castling_rook, in_check_castled, in_check_stepped}
 use Rattle.chess_moves.proofs.targets.is_king_safe.Goals as goal
 
@@ -11,20 +11,17 @@ pub returns-then-abs_diff-eq2 : goal.returns-then-abs_diff-eq2
 returns-then-abs_diff-eq2 c = λ p h goes.
     let s = c.args.info.now in
     let t = c.args.target in
-    let by : c.other-by.result ≡ other_side p.side = c.other-by.ensures ∙ ap other_side h.side in
     let home : c.rook_home-home.result ≡ rook_home p.side (wing_of s.king t) = c.rook_home-home.ensures.home ∙ ap (λ x. rook_home x (wing_of s.king t)) h.side in
     let far : eqb (file_gap s.king t) 2 ≡ true = eq-eqb (file_gap s.king t) 2 (omega arith) in
-    let safe = rw (by, home) at c.is_safe_castled.ensures in
+    let safe = rw home at c.is_safe_castled.ensures in
     let own = other_colour p.side p.side refl in
-    safe p.men (king p.side) (rook p.side) h.sound.squares h.occupied h.enemy (own_not_other p (king p.side) s.king h.king refl) own (castling_rook p s.king t h.sound goes far) own
+    safe p (king p.side) (rook p.side) h own (castling_rook p s.king t h.sound goes far) own
     ∙ ap not (sym (in_check_castled s p t h c.requires.1 goes far))
 
 pub returns-else-abs_diff-eq2 : goal.returns-else-abs_diff-eq2
 returns-else-abs_diff-eq2 c = λ p h goes.
     let s = c.args.info.now in
     let t = c.args.target in
-    let by : c.other-by.result ≡ other_side p.side = c.other-by.ensures ∙ ap other_side h.side in
     let near : eqb (file_gap s.king t) 2 ≡ false = ne_eqb (file_gap s.king t) 2 (λ e. omega arith) in
-    let safe = rw by at c.is_safe_after.ensures in
-    safe p.men (king p.side) h.sound.squares h.occupied h.enemy (own_not_other p (king p.side) s.king h.king refl) (other_colour p.side p.side refl)
+    c.is_safe_step.ensures p (king p.side) h (other_colour p.side p.side refl)
     ∙ ap not (sym (in_check_stepped s p t h c.requires.1 near))

@@ -2,7 +2,6 @@ use Rattle.std.proofs.Common.{◌≡◌, true, false, w64, arith, refl, sym, ap,
 use Rattle.std.specs.Int.{trailing_zeros}
 use Rattle.std.proofs.Math.Bool.{and-true, and-false}
 use Rattle.square_sets.specs.Members.{has}
-use Rattle.chess_board.specs.Men.{other_side}
 use Rattle.chess_moves.proofs.SetBits.{has_none, first_square}
 use Rattle.chess_moves.proofs.OwnColours.{other_colour, own_not_other}
 use Rattle.chess_moves.proofs.PawnTargets.{passing_goes_safely}
@@ -21,10 +20,9 @@ returns-then-is_safe_in_passing c = λ t on.
     let r = c.requires in
     let h = c.requires.info in
     let passing = c.passing_targets-passing.result in
-    let by : c.other.result ≡ other_side p.side = c.other.ensures ∙ ap other_side h.side in
     let first = first_square passing (omega arith) (omega arith) in
-    let told = rw (by, c.if-is_safe_in_passing.true) at c.is_safe_in_passing.ensures in
-    let safe = told p.men man h.sound.squares h.occupied h.enemy (own_not_other p man o r.there r.own) (other_colour man.colour p.side r.own) in
+    let told = rw c.if-is_safe_in_passing.true at c.is_safe_in_passing.ensures in
+    let safe = told p man h (own_not_other p man o r.there r.own) (other_colour man.colour p.side r.own) in
     sym (and-true (has passing t)) ∙ passing_goes_safely c.args.info.now p man o passing (trailing_zeros w64 passing) true h r.there r.own r.pawn c.passing_targets-passing.ensures first.0 first.1 safe t on
 
 pub returns-else-is_safe_in_passing : goal.returns-else-is_safe_in_passing
@@ -35,8 +33,7 @@ returns-else-is_safe_in_passing c = λ t on.
     let r = c.requires in
     let h = c.requires.info in
     let passing = c.passing_targets-passing.result in
-    let by : c.other.result ≡ other_side p.side = c.other.ensures ∙ ap other_side h.side in
     let first = first_square passing (omega arith) (omega arith) in
-    let told = rw (by, c.if-is_safe_in_passing.false) at c.is_safe_in_passing.ensures in
-    let safe = told p.men man h.sound.squares h.occupied h.enemy (own_not_other p man o r.there r.own) (other_colour man.colour p.side r.own) in
+    let told = rw c.if-is_safe_in_passing.false at c.is_safe_in_passing.ensures in
+    let safe = told p man h (own_not_other p man o r.there r.own) (other_colour man.colour p.side r.own) in
     has_none 0 t refl ∙ sym (and-false (has passing t)) ∙ passing_goes_safely c.args.info.now p man o passing (trailing_zeros w64 passing) false h r.there r.own r.pawn c.passing_targets-passing.ensures first.0 first.1 safe t on

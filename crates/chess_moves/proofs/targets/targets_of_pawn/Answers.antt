@@ -1,6 +1,5 @@
 use Rattle.std.proofs.Common.{◌≡◌, bit_and, ap, ◌∙◌}
 use Rattle.square_sets.specs.Members.{has}
-use Rattle.chess_board.specs.Men.{other_side}
 use Rattle.chess_board.specs.After.{becomes}
 use Rattle.chess_moves.proofs.SetBits.{has_and, has_or}
 use Rattle.chess_moves.proofs.OwnColours.{other_colour, own_not_other}
@@ -18,10 +17,8 @@ returns c =
     let h = c.requires.info in
     let plain = c.pawn_targets.result in
     let free = c.legal_mask-allowed.result in
-    let by : c.other.result ≡ other_side p.side = c.other.ensures ∙ ap other_side h.side in
-    let allowed = rw by at c.legal_mask-allowed.ensures in
     targets_where_safe p man o _ r.there r.own (λ t x on suited.
     let own = other_colour (becomes man x).colour p.side (becomes_colour man x ∙ r.own) in
-    let safe = allowed p.men (becomes man x) h.sound.squares h.occupied h.enemy (own_not_other p man o r.there r.own) own h.check_mask t on in
+    let safe = c.legal_mask-allowed.ensures p (becomes man x) h (own_not_other p man o r.there r.own) own t on in
     rw (has_or (bit_and plain free) c.safe_in_passing.result t, has_and plain free t, c.pawn_targets.ensures t on, c.safe_in_passing.ensures t on)
     (pawn_goes_safely c.args.info.now p man o t x (has free t) h r.there r.own r.pawn suited safe))

@@ -1,6 +1,5 @@
 use Rattle.std.proofs.Common.{◌≡◌, ap, ◌∙◌}
 use Rattle.square_sets.specs.Members.{has}
-use Rattle.chess_board.specs.Men.{other_side}
 use Rattle.chess_board.specs.After.{becomes}
 use Rattle.chess_moves.proofs.SetBits.{has_and}
 use Rattle.chess_moves.proofs.OwnColours.{other_colour, own_not_other}
@@ -17,10 +16,8 @@ returns c =
     let r = c.requires in
     let h = c.requires.info in
     let free = c.legal_mask-allowed.result in
-    let by : c.other.result ≡ other_side p.side = c.other.ensures ∙ ap other_side h.side in
-    let allowed = rw by at c.legal_mask-allowed.ensures in
     targets_where_safe p man o _ r.there r.own (λ t x on suited.
     let own = other_colour (becomes man x).colour p.side (becomes_colour man x ∙ r.own) in
-    let safe = allowed p.men (becomes man x) h.sound.squares h.occupied h.enemy (own_not_other p man o r.there r.own) own h.check_mask t on in
+    let safe = c.legal_mask-allowed.ensures p (becomes man x) h (own_not_other p man o r.there r.own) own t on in
     rw (has_and c.piece_targets.result free t, c.piece_targets.ensures t on)
     (piece_goes_safely c.args.info.now p man o t x (has free t) h r.there r.own r.no_pawn r.no_king suited safe))
