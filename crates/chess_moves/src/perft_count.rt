@@ -17,7 +17,7 @@ use crate::check_info::{CheckInfo, check_info_of};
 use crate::move_generation::legal_moves;
 use crate::movers::count_ways;
 use crate::rays::Rays;
-use crate::targets::targets_from;
+use crate::targets::targets_at_once;
 use chess_board::{Colour, Kind, Man, Position, after};
 
 /// How many lines of `depth` legal moves there are, played one after the other: the count by which programs compare their
@@ -98,7 +98,7 @@ fn count_from(rays: &Rays, position: &Position, info: &CheckInfo, kind: Kind, me
     while origins != 0 {
         let origin = origins.trailing_zeros() as u8;
         origins &= !(1 << origin);
-        total += count_ways(man, targets_from(rays, position, info, man, origin));
+        total += count_ways(man, targets_at_once(rays, position, info, man, origin));
     }
     total
 }

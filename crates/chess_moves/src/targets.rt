@@ -44,6 +44,31 @@ pub(crate) fn targets_from(
     }
 }
 
+/// The same, told at once for a knight, a bishop, a rook or a queen that cannot be pinned.
+pub(crate) fn targets_at_once(
+    rays: &Rays,
+    position: &Position,
+    info: &CheckInfo,
+    man: Man,
+    origin: u8,
+) -> u64
+    requires on_board { origin < 64 }
+    requires info { IsCheckInfoOf info.now position.now }
+    requires there { man_at position.now.men origin ≡ Some man }
+    requires own { man.colour ≡ position.now.side }
+    ensures { AreTargets result position.now man origin }
+{
+    match man.kind {
+        Kind::Pawn | Kind::King => targets_from(rays, position, info, man, origin),
+        Kind::Knight | Kind::Bishop | Kind::Rook | Kind::Queen => {
+            if square_sets::contains(info.pin_squares, origin) {
+                return targets_from(rays, position, info, man, origin);
+            }
+            piece_targets(rays, position, info, man, origin) & info.check_mask
+        }
+    }
+}
+
 /// Whether a square is such a target. Of a king no other square is asked about.
 pub(crate) fn is_target(
     rays: &Rays,

@@ -11,8 +11,8 @@ use Rattle.chess_moves.proofs.perft_count.count_from.Goals as goal
 pub loop-origins-init : goal.loop-origins-init
 loop-origins-init c = record { counted = omega arith; men = c.requires.men }
 
-pub targets_from-requires-clause-there : goal.targets_from-requires-clause-there
-targets_from-requires-clause-there c = first_of_kind c.args.position.now c.args.kind c.loop-origins.origins c.args.info.now.side c.requires.info.side (omega arith) (omega arith) c.loop-origins.invariant.men
+pub targets_at_once-requires-clause-there : goal.targets_at_once-requires-clause-there
+targets_at_once-requires-clause-there c = first_of_kind c.args.position.now c.args.kind c.loop-origins.origins c.args.info.now.side c.requires.info.side (omega arith) (omega arith) c.loop-origins.invariant.men
 
 pub overflow_add-total : goal.overflow_add-total
 overflow_add-total c = omega (arith, few_of_kind c.args.position.now c.args.kind c.args.men c.args.info.now.own c.requires.info.sound c.requires.info.own c.requires.men, c.count_ways-total.ensures.few, c.loop-origins.invariant.counted)
@@ -22,7 +22,7 @@ loop-origins-smaller c = clear_smaller c.loop-origins.origins (omega arith) (ome
 
 pub loop-origins-preserved : goal.loop-origins-preserved
 loop-origins-preserved c =
-    let first = many_first c.args.position.now (record { colour = c.args.info.now.side; kind = c.args.kind }) c.loop-origins.origins c.targets_from.result (omega arith) (omega arith) c.targets_from.ensures in
+    let first = many_first c.args.position.now (record { colour = c.args.info.now.side; kind = c.args.kind }) c.loop-origins.origins c.targets_at_once.result (omega arith) (omega arith) c.targets_at_once.ensures in
     let on_board = bit_at-trailing_zeros w64 c.loop-origins.origins (omega arith) (omega arith) in
     record {
       counted = omega (arith, first, c.count_ways-total.ensures.count (trailing_zeros w64 c.loop-origins.origins), c.loop-origins.invariant.counted);
