@@ -1,4 +1,4 @@
-use Rattle.std.proofs.Common.{◌≡◌, true, false, w64, arith, refl, sym, ap, ◌∙◌}
+use Rattle.std.proofs.Common.{true, false, w64, arith, refl, sym, ap, ◌∙◌}
 use Rattle.std.specs.Int.{trailing_zeros}
 use Rattle.std.proofs.Math.Bool.{and-true, and-false}
 use Rattle.square_sets.specs.Members.{has}

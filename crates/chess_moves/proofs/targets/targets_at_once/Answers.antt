@@ -1,4 +1,4 @@
-use Rattle.std.proofs.Common.{◌≡◌, sym, ◌∙◌}
+use Rattle.std.proofs.Common.{sym, ◌∙◌}
 use Rattle.square_sets.specs.Members.{has}
 use Rattle.chess_board.specs.Men.{other_side}
 use Rattle.chess_board.specs.After.{becomes}

@@ -1,4 +1,4 @@
-use Rattle.std.proofs.Common.{◌≡◌, bit_and, ap, ◌∙◌}
+use Rattle.std.proofs.Common.{bit_and, ◌∙◌}
 use Rattle.square_sets.specs.Members.{has}
 use Rattle.chess_board.specs.After.{becomes}
 use Rattle.chess_moves.proofs.SetBits.{has_and, has_or}

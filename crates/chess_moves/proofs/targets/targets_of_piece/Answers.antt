@@ -1,4 +1,4 @@
-use Rattle.std.proofs.Common.{◌≡◌, ap, ◌∙◌}
+use Rattle.std.proofs.Common.{◌∙◌}
 use Rattle.square_sets.specs.Members.{has}
 use Rattle.chess_board.specs.After.{becomes}
 use Rattle.chess_moves.proofs.SetBits.{has_and}
