@@ -10,7 +10,7 @@ use Rattle.mate_search.specs.declared.inputs.InputFault.{InputFault}
 use Rattle.mate_search.specs.declared.inputs.InputFault.TheVariants as fault
 use Rattle.mate_search.specs.declared.stops.Stop.{Stop}
 use Rattle.mate_search.specs.declared.stops.Stop.TheVariants as stop
-use Rattle.matedesk.specs.Asked.{Asked, look, moves, perft, solve, replay}
+use Rattle.matedesk.specs.Asked.{Asked, look, moves, perft, solve, serve, replay}
 use Rattle.matedesk.specs.Command.{Ends, Gains, Shows, Stops, StopsBy, StopsOverFen, status_of}
 use Rattle.matedesk.proofs.Solving.{some_input, stops_at_once}
 
@@ -51,6 +51,7 @@ stops_unread holds refuses (Some (look fen)) old new kept = kept
 stops_unread holds refuses (Some (moves fen)) old new kept = kept
 stops_unread holds refuses (Some (perft fen depth)) old new kept = kept
 stops_unread holds refuses (Some (solve bound names)) old new kept = stops_at_once holds refuses bound names old new kept
+stops_unread holds refuses (Some (serve workers bound names)) old new kept = kept
 stops_unread holds refuses (Some (replay name)) old new kept = kept
 
 no_reader : (holds : Text → Option (List ℕ)) (refuses : Text → Type 0) (a : Asked) (old new : Option (List ℕ)) → Stops holds refuses a stop.NoReader old new → Stops holds refuses a stop.Unwritable old new
@@ -58,6 +59,7 @@ no_reader holds refuses (look fen) old new stops = stops
 no_reader holds refuses (moves fen) old new stops = stops
 no_reader holds refuses (perft fen depth) old new stops = stops
 no_reader holds refuses (solve bound names) old new stops = stops
+no_reader holds refuses (serve workers bound names) old new stops = stops
 no_reader holds refuses (replay name) old new stops = stops
 
 ends_here : (holds : Text → Option (List ℕ)) (refuses : Text → Type 0) (a : Asked) (r : Result Bool Stop) (old new : Option (List ℕ)) → IfOk r (λ refused. Gains (Shows holds a refused) old new)
@@ -121,7 +123,7 @@ pub ends_unasked : (holds : Text → Option (List ℕ)) (refuses : Text → Type
 ends_unasked holds refuses asks status old new not_refused within unasked kept = record {
   answered = λ is. rw (unasked (λ other. absurd (omega (arith, is, other)))) tt;
   refused = λ is. absurd (not_refused is);
-  misused = λ is. (unasked (λ other. absurd (omega (arith, is, other))), kept (inl is));
+  misused = λ is. (rw (unasked (λ other. absurd (omega (arith, is, other)))) tt, kept (inl is));
   no_memory = λ is. stops_unread holds refuses asks old new (kept (inr is));
   no_access = λ is. rw (unasked (λ other. absurd (omega (arith, is, other)))) tt;
   bounded = within;

@@ -8,6 +8,7 @@ mod Numbers
 mod OneScript
 mod Parsed
 mod ScriptLaws
+mod Serving
 mod Solving
 mod StepLaws
 mod Worked

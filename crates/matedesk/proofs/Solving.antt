@@ -19,7 +19,7 @@ pub refused_more : (a b : Bool) (m n : ℕ) → a ≡ nat_lt 0 m → b ≡ nat_l
 refused_more a b zero n first second = let same : n ≡ 0 + n = omega arith in rw (first, second) (ap (nat_lt 0) same)
 refused_more a b (suc m) n first second = rw (first, second, lt-ltb 0 (suc m) (omega arith), lt-ltb 0 (suc m + n) (omega arith)) refl
 
-holds_more : (holds : Text → Option (List ℕ)) (names : List Text) (inputs : List (List ℕ)) (name : Text) (input : List ℕ)
+pub holds_more : (holds : Text → Option (List ℕ)) (names : List Text) (inputs : List (List ℕ)) (name : Text) (input : List ℕ)
     → Holds holds names inputs → MayBe (holds name) input → Holds holds (names ++ name ∷ []) (inputs ++ input ∷ [])
 holds_more holds [] [] name input held last = (last, tt)
 holds_more holds [] (x ∷ xs) name input held last = absurd held
@@ -63,7 +63,7 @@ solves_next holds bound names i d a b gained input here few within so_far held r
 
 -- ---- where it stops
 
-holds_length : (holds : Text → Option (List ℕ)) (names : List Text) (inputs : List (List ℕ)) → Holds holds names inputs → length inputs ≡ length names
+pub holds_length : (holds : Text → Option (List ℕ)) (names : List Text) (inputs : List (List ℕ)) → Holds holds names inputs → length inputs ≡ length names
 holds_length holds [] [] held = refl
 holds_length holds [] (x ∷ xs) held = absurd held
 holds_length holds (n ∷ ns) [] held = absurd held
@@ -88,7 +88,7 @@ solves_first holds bound front name back a Ends_at gained input part so_far held
       stops = subst Ends_at (sym left) ends;
     }
 
-part_behind : (old mid new : Option (List ℕ)) (gained text : List ℕ) → Appends old mid gained → AppendsPart mid new text → AppendsPart old new (gained ++ text)
+pub part_behind : (old mid new : Option (List ℕ)) (gained text : List ℕ) → Appends old mid gained → AppendsPart mid new text → AppendsPart old new (gained ++ text)
 part_behind old mid new gained text before (part, rest, is, on) =
     (gained ++ part, rest, ap (λ t. gained ++ t) is ∙ sym (append_assoc gained part rest), Appends-trans old mid new gained part before on)
 
@@ -107,7 +107,7 @@ stops_at holds refuses bound front name back a stop.Unwritable old mid new gaine
 stops_at holds refuses bound front name back a stop.NoReader old mid new gained input part so_far before held reply appends may =
     record { whole = gained ++ part; shows = solves_first holds bound front name back a (λ _. ⊤) gained input part so_far held reply tt; appends = part_behind old mid new gained part before appends }
 
-names_split : (names : List (Bor Text)) (i : ℕ) (d : Bor Text) → i < length names
+pub names_split : (names : List (Bor Text)) (i : ℕ) (d : Bor Text) → i < length names
     → map (λ s. s.now) names ≡ map (λ s. s.now) (take i names) ++ (slice_index_or names i d).now ∷ map (λ s. s.now) (drop (suc i) names)
 names_split names i d within =
     let split : names ≡ take i names ++ slice_index_or names i d ∷ drop (suc i) names = sym (take-append-drop i names) ∙ ap (λ l. take i names ++ l) (drop-cons names i d within) in

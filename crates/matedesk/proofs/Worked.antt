@@ -21,7 +21,7 @@ use Rattle.matedesk.specs.Solved.{IsReplies, Solves}
 use Rattle.matedesk.specs.Sources.{Holds}
 use Rattle.mate_search.specs.Replies.{IsLineReply, IsReply, answered, fault_line, refused, skipped}
 use Rattle.chess_board.specs.Positions.{Setup}
-use Rattle.matedesk.specs.Asked.{asked, asked_by, asked_exactly, look, solve}
+use Rattle.matedesk.specs.Asked.{asked, asked_by, asked_exactly, look, serve, solve}
 use Rattle.matedesk.specs.Command.{Ends}
 use Rattle.matedesk.specs.Hyphens.{escaped}
 use Rattle.matedesk.specs.Look.{look_text}
@@ -34,6 +34,10 @@ asked_look = refl
 pub asked_solve : asked (codes "matedesk" ∷ codes "solve" ∷ codes "one" ∷ codes "two" ∷ []) ≡ Some (solve 3 (codes "one" ∷ codes "two" ∷ []))
 unfolding clap_on_literals asked_by asked_exactly escaped
 asked_solve = refl
+
+pub asked_serve : asked (codes "matedesk" ∷ codes "serve" ∷ codes "--workers" ∷ codes "2" ∷ codes "one" ∷ codes "two" ∷ []) ≡ Some (serve 2 3 (codes "one" ∷ codes "two" ∷ []))
+unfolding clap_on_literals asked_by asked_exactly escaped
+asked_serve = refl
 
 kings : Setup
 kings = record {
@@ -161,3 +165,12 @@ solve_written clear holds refuses words status old out one two is ends empty don
     let asks = ap asked is ∙ asked_solve in
     let gains = (subst (λ a. Ends holds refuses a status (Some old) (Some out)) asks ends).refused done in
     gains.appends ∙ ap (λ t. t ++ gains.gained) empty ∙ solve_shown clear holds one two true gains.gained gains.shows
+
+pub serve_written : RecordsClear → (holds : Text → Option (List ℕ)) (refuses : Text → Type 0) (words : List Text) (status : ℕ) (old out : List ℕ)
+    → holds (codes "one") ≡ Some (codes "8/8\n") → holds (codes "two") ≡ Some (codes " \n8/8")
+    → words ≡ codes "matedesk" ∷ codes "serve" ∷ codes "--workers" ∷ codes "2" ∷ codes "one" ∷ codes "two" ∷ [] → Ends holds refuses (asked words) status (Some old) (Some out) → old ≡ [] → status ≡ 1
+    → out ≡ codes "# line 1: Fen FieldCount\n# line 2: Fen FieldCount\n"
+serve_written clear holds refuses words status old out one two is ends empty done =
+    let asks = ap asked is ∙ asked_serve in
+    let gains = (subst (λ a. Ends holds refuses a status (Some old) (Some out)) asks ends).refused done in
+    gains.appends ∙ ap (λ t. t ++ gains.gained) empty ∙ solve_shown clear holds one two true gains.gained gains.shows.solves

@@ -1,5 +1,5 @@
 -- What the words of a command line ask for.
-use Rattle.std.specs.Prelude.{ℕ, Bool, List, [], ◌∷◌, Option, None, true, false, codes, option_map, option_and_then, if◌then◌else◌}
+use Rattle.std.specs.Prelude.{ℕ, Bool, List, [], ◌∷◌, Option, None, Some, true, false, codes, option_map, option_and_then, if◌then◌else◌}
 use Rattle.std.specs.List.{list_all, list_any}
 use Rattle.std.specs.Option.{option_map_or}
 use Rattle.std.specs.Str.{bytes_eq}
@@ -12,6 +12,7 @@ use Rattle.chess_notation.specs.Bounds.{bound_of}
 use Rattle.matedesk.specs.CommandLine.{desk_app}
 use Rattle.matedesk.specs.Depths.{depth_of}
 use Rattle.matedesk.specs.Hyphens.{escaped}
+use Rattle.matedesk.specs.Workers.{workers_of}
 
 -- a command with its arguments
 pub data Asked : Type 0 where
@@ -19,6 +20,7 @@ pub data Asked : Type 0 where
   moves : Text → Asked
   perft : Text → ℕ → Asked
   solve : ℕ → List Text → Asked
+  serve : ℕ → ℕ → List Text → Asked
   replay : Text → Asked
 
 -- the number that a word stands for, which `clap` has read; none above the depths that are counted
@@ -29,6 +31,14 @@ depth_in rows = depth_of (option_map_or byte_or_zero (one_of (codes "DEPTH") row
 abbrev pub bound_in : List Row → Option ℕ
 bound_in rows = bound_of (option_map_or byte_or_zero (one_of (codes "B") rows) 0)
 
+-- the number of `--workers` in the same way; none outside the numbers of workers
+abbrev pub workers_in : List Row → Option ℕ
+workers_in rows = workers_of (option_map_or byte_or_zero (one_of (codes "N") rows) 0)
+
+-- what the arguments of `serve` ask for
+abbrev pub serve_in : List Row → Option Asked
+serve_in rows = option_and_then (λ workers. option_and_then (λ bound. option_map (λ names. serve workers bound names) (all_of (codes "FILE") rows)) (bound_in rows)) (workers_in rows)
+
 -- what the arguments of a command ask for, by its name
 unfoldable pub asked_by : Text → List Row → Option Asked
 asked_by name rows =
@@ -36,8 +46,18 @@ asked_by name rows =
     else if bytes_eq name (codes "moves") then option_map moves (first_of (codes "FEN") rows)
     else if bytes_eq name (codes "perft") then option_and_then (λ depth. option_map (λ fen. perft fen depth) (first_of (codes "FEN") rows)) (depth_in rows)
     else if bytes_eq name (codes "solve") then option_and_then (λ bound. option_map (λ names. solve bound names) (all_of (codes "FILE") rows)) (bound_in rows)
+    else if bytes_eq name (codes "serve") then serve_in rows
     else if bytes_eq name (codes "replay") then option_map replay (first_of (codes "SCRIPT") rows)
     else None
+
+-- asks for `serve`, the one command that starts threads
+abbrev pub is_serve : Asked → Bool
+is_serve (serve workers bound names) = true
+is_serve _ = false
+
+abbrev pub asks_serve : Option Asked → Bool
+asks_serve None = false
+asks_serve (Some asks) = is_serve asks
 
 -- what the matches of a whole command line ask for
 abbrev pub asked_of : ArgMatches → Option Asked

@@ -22,12 +22,22 @@ bound_rule = record (new_rule (codes "B")) {
   defaults = codes "3" ∷ [];
 }
 
+-- an option that has to be given, and reads a number from 1 to 16
+abbrev pub workers_rule : Rule
+workers_rule = record (wanted (codes "N")) {
+  long = Some (codes "workers");
+  parser = Some (parser.Signed (pos 1) (pos 16));
+}
+
 -- one name or more
 abbrev pub files_rule : Rule
 files_rule = record (wanted (codes "FILE")) { range = Some (record { start_inclusive = 1; end_inclusive = usize_max }) }
 
 abbrev pub solve_app : App
 solve_app = with_rule (with_rule (new_app (codes "solve")) bound_rule) files_rule
+
+abbrev pub serve_app : App
+serve_app = with_rule (with_rule (with_rule (new_app (codes "serve")) workers_rule) bound_rule) files_rule
 
 abbrev pub look_app : App
 look_app = with_rule (new_app (codes "look")) (wanted (codes "FEN"))
@@ -55,9 +65,13 @@ bare_app = record (new_app (codes "matedesk")) {
 abbrev pub with_fen_apps : App → App
 with_fen_apps a = with_subcommand (with_subcommand (with_subcommand a look_app.top) moves_app.top) perft_app.top
 
+-- with the commands over files
+abbrev pub with_file_apps : App → App
+with_file_apps a = with_subcommand (with_subcommand (with_subcommand a solve_app.top) serve_app.top) replay_app.top
+
 -- the whole command line
 abbrev pub desk_app : App
-desk_app = with_fen_apps (with_subcommand (with_subcommand bare_app solve_app.top) replay_app.top)
+desk_app = with_fen_apps (with_file_apps bare_app)
 
 -- no argument of the command is global
 abbrev pub IsLocal : Command → Type 0

@@ -9,6 +9,8 @@ pub mod Replayed
 pub mod Request
 pub mod ScriptReading
 pub mod Scripts
+pub mod Served
 pub mod Shown
 pub mod Solved
 pub mod Sources
+pub mod Workers

@@ -1,9 +1,9 @@
 //! The program: words in, text and a status out.
 
-ghost use Rattle.std.specs.Prelude.{◌≡◌, ◌≢◌, ◌⊎◌, ◌≤◌, None, IfErr, IfOk, IsSome, map, option_map, true, false};
+ghost use Rattle.std.specs.Prelude.{◌≡◌, ◌≢◌, ◌⊎◌, ◌≤◌, None, IfErr, IfNone, IfOk, IfSome, IsNone, IsSome, map, option_map, true, false};
 ghost use Rattle.std.specs.String.{string_bytes};
 ghost use Rattle.clap.specs.Words.{kind_of};
-ghost use Rattle.matedesk.specs.Asked.{asked, asks_display, is_display, may_display};
+ghost use Rattle.matedesk.specs.Asked.{asked, asks_display, asks_serve, is_display, is_serve, may_display};
 ghost use Rattle.matedesk.specs.Command.{Ends, Gains, Shows, Stops};
 ghost use Rattle.matedesk.specs.Request.{plan_of};
 
@@ -13,6 +13,7 @@ use crate::moves::moves;
 use crate::perft::perft;
 use crate::replay::replay;
 use crate::request::{Request, parse, request_of};
+use crate::serve::serve;
 use crate::solve::solve;
 use crate::source::Source;
 use crate::status::{ANSWERED, MISUSED, no_memory, status_of};
@@ -21,8 +22,17 @@ use clap::error::ErrorKind;
 use mate_search::{Stop, stop_of_output};
 use std::alloc::Global;
 use std::io::Write;
+use std::sync::Wait;
+use std::thread::Threads;
 
-/// Answers a request; gives whether anything was refused.
+/// Whether a request is one for threads.
+fn is_serve(request: &Request) -> bool
+    ensures { result ≡ is_serve (plan_of request.now) }
+{
+    matches!(request, Request::Serve(..))
+}
+
+/// Answers a request other than `serve`; gives whether anything was refused.
 fn answer<S: Source, O: Write, E: Write>(
     alloc: Global,
     request: &Request,
@@ -30,6 +40,7 @@ fn answer<S: Source, O: Write, E: Write>(
     out: &mut O,
     err: &mut E,
 ) -> Result<bool, Stop>
+    requires plain { is_serve (plan_of request.now) ≡ false }
     ensures ok { IfOk result (λ refused. Gains (Shows (S.holds source.now) (plan_of request.now) refused) (O.contents out.old) (O.contents out.new)) }
     ensures err { IfErr result (λ stop. Stops (S.holds source.now) (S.refuses source.now) (plan_of request.now) stop (O.contents out.old) (O.contents out.new)) }
 {
@@ -38,26 +49,33 @@ fn answer<S: Source, O: Write, E: Write>(
         Request::Moves(fen) => moves(alloc, fen, out, err),
         Request::Perft(fen, depth) => perft(alloc, fen, *depth, out, err),
         Request::Solve(bound, names) => solve(alloc, *bound, names, source, out, err),
+        Request::Serve(..) => unreachable!(),
         Request::Replay(name) => replay(alloc, name, source, out, err),
     }
 }
 
-/// Answers what the words ask for. Matches that ask for nothing are a misuse like any other.
+/// Answers what the words ask for, unless that is `serve`. Matches that ask for nothing are a misuse like any other.
 fn run<S: Source, O: Write, E: Write>(
     alloc: Global,
     request: &Option<Request>,
     source: &S,
     out: &mut O,
     err: &mut E,
-) -> u8
-    ensures ends { Ends (S.holds source.now) (S.refuses source.now) (option_map plan_of request.now) result (O.contents out.old) (O.contents out.new) }
-    ensures asked { result ≢ 2 → IsSome (option_map plan_of request.now) }
+) -> Option<u8>
+    ensures ends { IfSome result (λ status. Ends (S.holds source.now) (S.refuses source.now) (option_map plan_of request.now) status (O.contents out.old) (O.contents out.new)) }
+    ensures asked { IfSome result (λ status. status ≢ 2 → IsSome (option_map plan_of request.now)) }
+    ensures serve { IfNone result (asks_serve (option_map plan_of request.now) ≡ true) }
+    ensures plain { asks_serve (option_map plan_of request.now) ≡ true → IsNone result }
+    ensures kept { IfNone result ((out.new ≡ out.old) × (err.new ≡ err.old)) }
 {
     let Some(request) = request else {
-        return MISUSED;
+        return Some(MISUSED);
     };
+    if is_serve(request) {
+        return None;
+    }
     let ended = answer(alloc, request, source, out, err);
-    status_of(ended, err)
+    Some(status_of(ended, err))
 }
 
 /// Prints the help or the version.
@@ -94,10 +112,65 @@ fn usage<O: Write, E: Write>(error: &Error, out: &mut O, err: &mut E) -> u8
     }
 }
 
-/// The program: answers what the words ask for, of which the first is the program's own name. It reads files from `source`.
+/// Answers what the words ask for, as `command` does, unless that is `serve`, which starts threads: then nothing is written, and the
+/// answer is none.
+pub fn plain_command<S: Source, O: Write, E: Write>(
+    alloc: Global,
+    words: &[String],
+    source: &S,
+    out: &mut O,
+    err: &mut E,
+) -> Option<u8>
+    ensures ends { IfSome result (λ status. Ends (S.holds source.now) (S.refuses source.now) (asked (map string_bytes words.now)) status (O.contents out.old) (O.contents out.new)) }
+    ensures display { IfSome result (λ status. (status ≡ 0) ⊎ (status ≡ 4) → asked (map string_bytes words.now) ≡ None → may_display (map string_bytes words.now) ≡ true) }
+    ensures no_misuse { IfSome result (λ status. status ≡ 2 → asks_display (map string_bytes words.now) ≡ false) }
+    ensures serve { IfNone result (asks_serve (asked (map string_bytes words.now)) ≡ true) }
+    ensures plain { asks_serve (asked (map string_bytes words.now)) ≡ true → IfSome result (λ status. status ≡ 3) }
+    ensures kept { IfNone result ((out.new ≡ out.old) × (err.new ≡ err.old)) }
+{
+    let Ok(texts) = escaped(alloc, words) else {
+        return Some(no_memory(err));
+    };
+    match parse(alloc, texts.as_slice()) {
+        Ok(matches) => run(alloc, &request_of(&matches), source, out, err),
+        Err(error) => Some(usage(&error, out, err)),
+    }
+}
+
+/// Answers words that ask for `serve`. That they were parsed before shows that they are no fault: what is refused now is memory.
+fn serve_command<R: Threads + Wait + Sync, S: Source, O: Write, E: Write>(
+    rt: &R,
+    alloc: Global,
+    words: &[String],
+    source: &S,
+    out: &mut O,
+    err: &mut E,
+) -> u8
+    requires serve { asks_serve (asked (map string_bytes words.now)) ≡ true }
+    ensures ends { Ends (S.holds source.now) (S.refuses source.now) (asked (map string_bytes words.now)) result (O.contents out.old) (O.contents out.new) }
+    ensures no_misuse { result ≡ 2 → asks_display (map string_bytes words.now) ≡ false }
+{
+    let Ok(texts) = escaped(alloc, words) else {
+        return no_memory(err);
+    };
+    let Ok(matches) = parse(alloc, texts.as_slice()) else {
+        return no_memory(err);
+    };
+    let request = request_of(&matches);
+    match &request {
+        Some(Request::Serve(workers, bound, names)) => {
+            serve(rt, alloc, *workers, *bound, names, source, out, err)
+        }
+        _ => unreachable!(),
+    }
+}
+
+/// The program: answers what the words ask for, of which the first is the program's own name. It reads files from `source`. Only
+/// `serve` starts threads, and waits for them.
 ///
 /// A fault of `err` is passed over and changes no status.
-pub fn command<S: Source, O: Write, E: Write>(
+pub fn command<R: Threads + Wait + Sync, S: Source, O: Write, E: Write>(
+    rt: &R,
     alloc: Global,
     words: &[String],
     source: &S,
@@ -108,11 +181,8 @@ pub fn command<S: Source, O: Write, E: Write>(
     ensures display { (result ≡ 0) ⊎ (result ≡ 4) → asked (map string_bytes words.now) ≡ None → may_display (map string_bytes words.now) ≡ true }
     ensures no_misuse { result ≡ 2 → asks_display (map string_bytes words.now) ≡ false }
 {
-    let Ok(texts) = escaped(alloc, words) else {
-        return no_memory(err);
-    };
-    match parse(alloc, texts.as_slice()) {
-        Ok(matches) => run(alloc, &request_of(&matches), source, out, err),
-        Err(error) => usage(&error, out, err),
+    match plain_command(alloc, words, source, out, err) {
+        Some(status) => status,
+        None => serve_command(rt, alloc, words, source, out, err),
     }
 }

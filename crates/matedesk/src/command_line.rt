@@ -2,12 +2,12 @@
 
 ghost use Rattle.std.specs.Prelude.{◌≡◌, IfOk, codes, false};
 ghost use Rattle.clap.specs.Words.{app_of, rule_of, with_rule, with_subcommand};
-ghost use Rattle.matedesk.specs.CommandLine.{IsLocal, bare_app, bound_rule, depth_rule, desk_app, files_rule, look_app, moves_app, perft_app, replay_app, solve_app, wanted, with_fen_apps};
+ghost use Rattle.matedesk.specs.CommandLine.{IsLocal, bare_app, bound_rule, depth_rule, desk_app, files_rule, look_app, moves_app, perft_app, replay_app, serve_app, solve_app, wanted, with_file_apps, with_fen_apps, workers_rule};
 
 use crate::help::{
     ABOUT, ABOUT_BOUND, ABOUT_DEPTH, ABOUT_FEN, ABOUT_FILE, ABOUT_LOOK, ABOUT_MOVES, ABOUT_PERFT,
-    ABOUT_REPLAY, ABOUT_SCRIPT, ABOUT_SOLVE, AFTER_HELP, AFTER_LOOK, AFTER_MOVES, AFTER_PERFT,
-    AFTER_REPLAY, AFTER_SOLVE, VERSION,
+    ABOUT_REPLAY, ABOUT_SCRIPT, ABOUT_SERVE, ABOUT_SOLVE, ABOUT_WORKERS, AFTER_HELP, AFTER_LOOK,
+    AFTER_MOVES, AFTER_PERFT, AFTER_REPLAY, AFTER_SERVE, AFTER_SOLVE, VERSION,
 };
 use clap::{Arg, Command, value_parser};
 use std::alloc::{AllocError, Global};
@@ -38,6 +38,16 @@ fn bound_arg<'a>(alloc: Global) -> Arg<'a>
         .value_parser(value_parser!(u8).range(1..16))
         .default_value("3")
         .help(ABOUT_BOUND)
+}
+
+/// The number of workers, 1 to 16.
+fn workers_arg<'a>(alloc: Global) -> Arg<'a>
+    ensures rule { rule_of result ≡ workers_rule }
+    ensures local { result.global ≡ false }
+{
+    wanted_arg(alloc, "N", ABOUT_WORKERS)
+        .long("workers")
+        .value_parser(value_parser!(u8).range(1..17))
 }
 
 /// The names of files, one or more.
@@ -71,6 +81,17 @@ fn solve_command<'a>(alloc: Global) -> Result<Command<'a>, AllocError>
     let command = Command::new(alloc, "solve")
         .about(ABOUT_SOLVE)
         .after_help(AFTER_SOLVE);
+    let command = with_arg(command, bound_arg(alloc))?;
+    with_arg(command, files_arg(alloc))
+}
+
+fn serve_command<'a>(alloc: Global) -> Result<Command<'a>, AllocError>
+    ensures { IfOk result (λ c. (app_of c ≡ serve_app) × IsLocal c) }
+{
+    let command = Command::new(alloc, "serve")
+        .about(ABOUT_SERVE)
+        .after_help(AFTER_SERVE);
+    let command = with_arg(command, workers_arg(alloc))?;
     let command = with_arg(command, bound_arg(alloc))?;
     with_arg(command, files_arg(alloc))
 }
@@ -133,11 +154,19 @@ fn with_fen_commands<'a>(alloc: Global, command: Command<'a>) -> Result<Command<
     with_command(command, perft_command(alloc)?)
 }
 
+/// Adds the commands over files.
+fn with_file_commands<'a>(alloc: Global, command: Command<'a>) -> Result<Command<'a>, AllocError>
+    ensures { IfOk result (λ c. app_of c ≡ with_file_apps (app_of command.entry)) }
+{
+    let command = with_command(command, solve_command(alloc)?)?;
+    let command = with_command(command, serve_command(alloc)?)?;
+    with_command(command, replay_command(alloc)?)
+}
+
 /// The whole command line.
 pub fn desk_command<'a>(alloc: Global) -> Result<Command<'a>, AllocError>
     ensures { IfOk result (λ c. app_of c ≡ desk_app) }
 {
-    let command = with_command(bare_command(alloc), solve_command(alloc)?)?;
-    let command = with_command(command, replay_command(alloc)?)?;
+    let command = with_file_commands(alloc, bare_command(alloc))?;
     with_fen_commands(alloc, command)
 }

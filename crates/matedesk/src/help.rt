@@ -9,7 +9,7 @@ pub const ABOUT: &str =
 
 /// What stands below the list of commands: what a record and a FEN are, an example of each command, and the statuses.
 pub const AFTER_HELP: &str =
-    "A FILE of `solve` has a problem on each line, as a record in Extended Position
+    "A FILE of `solve` or `serve` has a problem on each line, as a record in Extended Position
 Description: `matedesk solve --help` says what that is.
 
 FEN, the Forsyth-Edwards Notation of a position, is six fields with a space between
@@ -18,6 +18,7 @@ number), given as ONE argument in quotes.
 
 Examples:
   matedesk solve problems.epd
+  matedesk serve --workers 4 problems.epd
   matedesk replay small.script
   matedesk look \"rnbqkbnr/pppppppp/8/8/8/8/PPPPPPPP/RNBQKBNR w KQkq - 0 1\"
   matedesk moves \"8/8/8/K2pP2r/8/8/8/7k w - d6 0 1\"
@@ -26,8 +27,8 @@ Examples:
 Status:
   0  everything was answered
   1  something that was given is refused
-  2  the words ask for nothing
-  3  no memory
+  2  the words ask for nothing, or `serve` is given more than 16 files
+  3  no memory, or no thread
   4  a file can't be read, or the output can't be written
 
 `matedesk COMMAND --help` says more about a command.";
@@ -73,6 +74,38 @@ Status:
   3  no memory
   4  a FILE can't be read, or the output can't be written
 At 3 and 4 the first of the answers may have been written.";
+
+/// `serve` in one line.
+pub const ABOUT_SERVE: &str =
+    "Solves the problems of up to 16 files on threads, and answers them as `solve` does";
+
+/// What stands below the arguments of `serve`: how it differs from `solve`, an example, and the statuses.
+pub const AFTER_SERVE: &str =
+    "The answers are those of `solve`, in the same order: `matedesk solve --help` says what a
+record is and what an answer says. N workers solve the records of all files, so that many
+problems are answered sooner, also those of one file; one hard problem is not.
+
+All files are read to their ends before the first problem is looked at, and the answers are
+written when the last is found. To be answered line by line, use `solve`.
+
+Example:
+  $ cat problems.epd
+  7k/8/5K2/8/8/8/8/R7 w - - dm 2;
+  $ matedesk serve --workers 4 problems.epd
+  7k/8/5K2/8/8/8/8/R7 w - - bm Kf7 Kg6; dm 2; pv Kg6 Kg8 Ra8#;
+
+The FILE `-` is standard input; a file by that name is `./-`.
+
+Status:
+  0  every line was answered
+  1  a line was refused; all others were answered
+  2  the words ask for nothing, or for more than 16 files
+  3  no memory, or no thread
+  4  a FILE can't be read, or the output can't be written
+At 3, and where a FILE can't be read, nothing was written.";
+
+/// The option `--workers` in one line.
+pub const ABOUT_WORKERS: &str = "How many threads solve, 1 to 16";
 
 /// `replay` in one line.
 pub const ABOUT_REPLAY: &str =

@@ -3,7 +3,7 @@
 //! What a word means is settled here, and what an answer is in the crates below. Read `command` first, whose contract is
 //! the program's; then `request` (words to a request) over `command_line` (what `clap` is told) and `hyphens` (the words
 //! as it is given them); then each command in the file of its name, `solve` over `source` (where files
-//! come from) and `files` (those of the system).
+//! come from) and `files` (those of the system), `serve` over `reading` (files read whole). Threads are started by `serve` alone.
 #![tactic(auto)]
 
 mod command;
@@ -16,6 +16,7 @@ mod look;
 mod memo;
 mod moves;
 mod perft;
+mod reading;
 mod replay;
 mod request;
 mod script_desk;
@@ -23,10 +24,12 @@ mod script_lines;
 mod script_steps;
 mod script_words;
 mod scripts;
+mod serve;
 mod shown;
 mod solve;
 mod source;
 mod status;
+mod workers;
 mod writing;
 
 use command::command;
@@ -53,7 +56,7 @@ fn main(rt: HostRuntime) -> ExitCode {
                 rt: &rt,
                 stdin: rt.stdin(),
             };
-            command(alloc, words.as_slice(), &files, &mut out, &mut err)
+            command(&rt, alloc, words.as_slice(), &files, &mut out, &mut err)
         }
         Err(fault) if fault.kind() == io::ErrorKind::OutOfMemory => no_memory(&mut err),
         Err(_) => {
@@ -66,6 +69,10 @@ fn main(rt: HostRuntime) -> ExitCode {
 
 #[cfg(test)]
 mod script_tests;
+#[cfg(test)]
+mod serve_tests;
+#[cfg(test)]
+mod shelves;
 #[cfg(test)]
 mod tests;
 #[cfg(test)]

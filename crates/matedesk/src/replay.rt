@@ -1,42 +1,22 @@
 //! The command `replay`.
 
-ghost use Rattle.std.specs.Prelude.{◌≡◌, ◌⊎◌, ℕ, [], IfErr, IfOk, IfSome, IfNone, false, true, map};
-ghost use Rattle.mate_search.specs.Inputs.{MayBe};
+ghost use Rattle.std.specs.Prelude.{◌≡◌, ℕ, [], IfErr, IfOk, IfSome, IfNone, false, true, map};
 ghost use Rattle.matedesk.specs.Command.{Gains, StopsReplaying};
 ghost use Rattle.matedesk.specs.Replayed.{HasNoDesk, Replays, ReplaysFile, Runs, reply_lines as lines_of_replies};
 ghost use Rattle.matedesk.specs.Scripts.{IsFirstFault, IsScript, script_value};
 
 use crate::memo::new_memo;
+use crate::reading::read_file;
 use crate::scripts::{Script, ScriptFault, read_script};
 use crate::shown::{push_line, show};
-use crate::source::{Source, SourceFault};
-use crate::writing::{complain, complain_faulty, complain_unreadable};
+use crate::source::Source;
+use crate::writing::{complain, complain_faulty};
 use chess_moves::Rays;
 use chess_notation::NoMemory;
 use mate_desk::{Reply, RunFault, reply_text, run};
 use mate_search::Stop;
 use std::alloc::Global;
 use std::io::Write;
-
-/// All bytes of a file. One that can't be read is named on `err`.
-fn read_file<S: Source, E: Write>(
-    alloc: Global,
-    name: &str,
-    source: &S,
-    err: &mut E,
-) -> Result<Vec<u8>, Stop>
-    ensures bytes { IfOk result (λ bytes. MayBe (S.holds source.now name.now) bytes.items) }
-    ensures refused { IfErr result (λ stop. (stop ≡ Stop.NoMemory) ⊎ ((stop ≡ Stop.Unreadable) × S.refuses source.now name.now)) }
-{
-    match source.read(alloc, name) {
-        Ok(bytes) => Ok(bytes),
-        Err(SourceFault::NoMemory) => Err(Stop::NoMemory),
-        Err(SourceFault::Unreadable) => {
-            complain_unreadable(err, name);
-            Err(Stop::Unreadable)
-        }
-    }
-}
 
 /// The script that a text is; none where a line is at fault, whose number is said on `err`.
 fn script_in<E: Write>(alloc: Global, text: &[u8], err: &mut E) -> Result<Option<Script>, Stop>

@@ -4,11 +4,12 @@ ghost use Rattle.std.specs.Prelude.{◌≡◌, ◌≢◌, None, IfOk, IfErr, map
 ghost use Rattle.std.specs.Option.{option_map_or};
 ghost use Rattle.clap.specs.Walk.{byte_or_zero};
 ghost use Rattle.clap.specs.Words.{all_of, first_of, found_of, kind_of, one_of, rows_of};
-ghost use Rattle.matedesk.specs.Asked.{asked_by, asked_exactly, bound_in, depth_in, asked_of, asks_display_exactly, is_display, may_display_exactly};
+ghost use Rattle.matedesk.specs.Asked.{asked_by, asked_exactly, bound_in, depth_in, workers_in, serve_in, asked_of, asks_display_exactly, is_display, may_display_exactly};
 ghost use Rattle.matedesk.specs.Request.{plan_of};
 
 use crate::command_line::desk_command;
 use crate::depths::Depth;
+use crate::workers::Workers;
 use chess_notation::Bound;
 use clap::error::ErrorKind;
 use clap::{ArgMatches, Error};
@@ -25,6 +26,8 @@ pub enum Request<'m, 'a> {
     Perft(&'a str, Depth),
     /// Answer the records of files, in order; the bound is for records that say none.
     Solve(Bound, &'m [&'a str]),
+    /// The same by so many workers, with all files at once.
+    Serve(Workers, Bound, &'m [&'a str]),
     /// Run the script of a file at a desk.
     Replay(&'a str),
 }
@@ -57,11 +60,27 @@ fn depth_in(matches: &ArgMatches) -> Option<Depth>
     Depth::new(number_in(matches, "DEPTH"))
 }
 
-/// The bound of `solve`. `clap` has kept it to its range.
+/// The bound of `solve` and of `serve`. `clap` has kept it to its range.
 fn bound_in(matches: &ArgMatches) -> Option<Bound>
     ensures { result ≡ bound_in (rows_of (found_of matches.now)) }
 {
     Bound::new(number_in(matches, "B"))
+}
+
+/// The workers of `serve`. `clap` has kept them to their range.
+fn workers_in(matches: &ArgMatches) -> Option<Workers>
+    ensures { result ≡ workers_in (rows_of (found_of matches.now)) }
+{
+    Workers::new(number_in(matches, "N"))
+}
+
+/// What the arguments of `serve` ask for.
+fn serve_in<'m, 'a>(matches: &'m ArgMatches<'a>) -> Option<Request<'m, 'a>>
+    ensures { option_map plan_of result ≡ serve_in (rows_of (found_of matches.now)) }
+{
+    let workers = workers_in(matches)?;
+    let bound = bound_in(matches)?;
+    names_in(matches, "FILE").map(|names| Request::Serve(workers, bound, names))
 }
 
 /// What the arguments of a command ask for, by its name.
@@ -79,6 +98,8 @@ fn request_by<'m, 'a>(name: &str, matches: &'m ArgMatches<'a>) -> Option<Request
     } else if name == "solve" {
         let bound = bound_in(matches)?;
         names_in(matches, "FILE").map(|names| Request::Solve(bound, names))
+    } else if name == "serve" {
+        serve_in(matches)
     } else if name == "replay" {
         text_in(matches, "SCRIPT").map(Request::Replay)
     } else {

@@ -11,10 +11,12 @@ use std::io::Write;
 pub const ANSWERED: u8 = 0;
 /// Everything was answered, of which something was refused.
 pub const REFUSED: u8 = 1;
-/// The words ask for nothing.
+/// The words ask for nothing, or for too many files to be served.
 pub const MISUSED: u8 = 2;
 /// Memory was refused.
 pub const NO_MEMORY: u8 = 3;
+/// The system would start no more threads.
+pub const NO_THREAD: u8 = 3;
 /// A file can't be read.
 pub const UNREADABLE: u8 = 4;
 /// The output can't be written.

@@ -1,170 +1,15 @@
 //! What no contract says: the texts, the streams that they go to, and what a faulty writer leads to.
 
-ghost use Rattle.std.specs.Prelude.{None, ⊤};
-
 use crate::command::command;
-use crate::files::Reading;
 use crate::help::VERSION;
-use crate::source::{Source, SourceFault, whole};
-use std::alloc::Global;
+use crate::shelves::{ALWAYS, Failing, Shelf, run, run_with, shelf_of, words_of};
+use crate::source::Source;
 use std::io;
-use std::io::{Read, Write};
 use std::test::Fail;
 
 const START: &str = "rnbqkbnr/pppppppp/8/8/8/8/PPPPPPPP/RNBQKBNR w KQkq - 0 1";
 
 const MATED: &str = "rnb1kbnr/pppp1ppp/8/4p3/6Pq/5P2/PPPPP2P/RNBQKBNR w KQkq - 1 3";
-
-/// More calls than any command makes, and more bytes than any text here has.
-const ALWAYS: usize = 10_000;
-
-/// A writer that takes so many calls, and fails at the next. It may take no more than so many bytes at once.
-#[derive(Drop)]
-struct Failing {
-    calls_left: usize,
-    most: usize,
-    fault: io::ErrorKind,
-    text: Vec<u8>,
-}
-
-impl Write for Failing {
-    fn write(&mut self, buf: &[u8]) -> io::Result<usize> {
-        if self.calls_left == 0 {
-            return Err(io::Error::from(self.fault));
-        }
-        self.calls_left -= 1;
-        let count = self.most.min(buf.len());
-        self.text.extend_from_slice(&buf[..count])?;
-        Ok(count)
-    }
-
-    fn flush(&mut self) -> io::Result<()> {
-        Ok(())
-    }
-}
-
-/// A text that comes in pieces of so many bytes at most. Each read may be interrupted once, and reads may break off.
-#[derive(Drop)]
-struct Pieces<'a> {
-    text: &'a [u8],
-    piece: usize,
-    is_interrupted: bool,
-    /// Whether the next read is the one that is interrupted.
-    interrupts_next: bool,
-    /// How many reads there are before one breaks off.
-    reads_left: usize,
-}
-
-impl<'a> Read for Pieces<'a> {
-    fn read(&mut self, buf: &mut [u8]) -> io::Result<usize> {
-        self.interrupts_next = self.is_interrupted && !self.interrupts_next;
-        if self.interrupts_next {
-            return Err(io::Error::from(io::ErrorKind::Interrupted));
-        }
-        if self.reads_left == 0 {
-            return Err(io::Error::from(io::ErrorKind::IsADirectory));
-        }
-        self.reads_left -= 1;
-        let count = self.piece.min(self.text.len()).min(buf.len());
-        let (now, later) = self.text.split_at(count);
-        buf[..count].copy_from_slice(now);
-        self.text = later;
-        Ok(count)
-    }
-}
-
-/// Files by name and text, and no others, with how they come.
-#[derive(Drop)]
-struct Shelf<'a> {
-    files: &'a [(&'a str, &'a str)],
-    piece: usize,
-    is_interrupted: bool,
-    reads: usize,
-}
-
-/// Files that come as they are.
-fn shelf_of<'a>(files: &'a [(&'a str, &'a str)]) -> Shelf<'a> {
-    Shelf {
-        files,
-        piece: ALWAYS,
-        is_interrupted: false,
-        reads: ALWAYS,
-    }
-}
-
-impl<'a> Source for Shelf<'a> {
-    type File = Reading<Pieces<'a>>;
-
-    ghost holds = { λ _ _. None };
-
-    ghost refuses = { λ _ _. ⊤ };
-
-    fn open(&self, _alloc: Global, name: &str) -> Result<Self::File, SourceFault> {
-        for (known, text) in self.files {
-            if *known == name {
-                let reader = Pieces {
-                    text: text.as_bytes(),
-                    piece: self.piece,
-                    is_interrupted: self.is_interrupted,
-                    interrupts_next: false,
-                    reads_left: self.reads,
-                };
-                return Ok(Reading { reader });
-            }
-        }
-        Err(SourceFault::Unreadable)
-    }
-
-    fn read(&self, alloc: Global, name: &str) -> Result<Vec<u8>, SourceFault> {
-        whole(alloc, self.open(alloc, name)?)
-    }
-}
-
-/// How a command line ended: the status, and what each writer took before it failed.
-#[derive(Drop)]
-struct Ending {
-    status: u8,
-    out: Vec<u8>,
-    err: Vec<u8>,
-}
-
-/// Runs the words after the program's name where there is no file, with writers that take so many calls.
-fn run(alloc: Global, words: &[&str], outs: usize, errs: usize) -> Result<Ending, Fail> {
-    run_with(alloc, &shelf_of(&[]), words, outs, errs)
-}
-
-/// The same where there are such files.
-fn run_with(
-    alloc: Global,
-    shelf: &Shelf,
-    words: &[&str],
-    outs: usize,
-    errs: usize,
-) -> Result<Ending, Fail> {
-    let mut all = Vec::new(alloc);
-    all.push(String::from_str(alloc, "matedesk")?)?;
-    for word in words {
-        all.push(String::from_str(alloc, word)?)?;
-    }
-    let mut out = Failing {
-        calls_left: outs,
-        most: ALWAYS,
-        fault: io::ErrorKind::BrokenPipe,
-        text: Vec::new(alloc),
-    };
-    let mut err = Failing {
-        calls_left: errs,
-        most: ALWAYS,
-        fault: io::ErrorKind::BrokenPipe,
-        text: Vec::new(alloc),
-    };
-    let status = command(alloc, all.as_slice(), shelf, &mut out, &mut err);
-    Ok(Ending {
-        status,
-        out: out.text,
-        err: err.text,
-    })
-}
 
 /// Whether the text holds the words.
 fn holds(text: &[u8], words: &str) -> bool {
@@ -178,7 +23,7 @@ fn holds(text: &[u8], words: &str) -> bool {
 fn look_shows_the_fen_and_the_verdict(rt: HostRuntime) -> Result<(), Fail> {
     let alloc = rt.alloc();
     for (fen, verdict) in [(START, "no check"), (MATED, "check")] {
-        let ended = run(alloc, &["look", fen], ALWAYS, ALWAYS)?;
+        let ended = run(&rt, &["look", fen], ALWAYS, ALWAYS)?;
         let want = format!(in alloc; "{fen}\n{verdict}\n")?;
         assert_eq!(rt; ended.status, 0, "{fen}");
         assert_eq!(rt; ended.out.as_slice(), want.as_bytes(), "{fen}");
@@ -189,7 +34,6 @@ fn look_shows_the_fen_and_the_verdict(rt: HostRuntime) -> Result<(), Fail> {
 
 #[test]
 fn a_refused_fen_is_named_on_err(rt: HostRuntime) -> Result<(), Fail> {
-    let alloc = rt.alloc();
     let rows = [
         ["look", ""],
         ["look", "8/8"],
@@ -202,7 +46,7 @@ fn a_refused_fen_is_named_on_err(rt: HostRuntime) -> Result<(), Fail> {
     ];
     for words in rows {
         let fen = words[1];
-        let ended = run(alloc, words.as_slice(), ALWAYS, ALWAYS)?;
+        let ended = run(&rt, words.as_slice(), ALWAYS, ALWAYS)?;
         assert_eq!(rt; ended.status, 1, "{fen}");
         assert_eq!(rt; ended.out.as_slice(), b"".as_slice(), "{fen}");
         assert_eq!(rt;
@@ -238,7 +82,7 @@ fn each_fault_of_a_fen_is_named(rt: HostRuntime) -> Result<(), Fail> {
         let message = format!(in alloc; "matedesk: {fault}\n")?;
         for words in [["look", fen, ""], ["moves", fen, ""], ["perft", fen, "1"]] {
             let given = if words[2].is_empty() { 2 } else { 3 };
-            let ended = run(alloc, &words[..given], ALWAYS, ALWAYS)?;
+            let ended = run(&rt, &words[..given], ALWAYS, ALWAYS)?;
             assert_eq!(rt; ended.status, 1, "{fen}");
             assert_eq!(rt; ended.out.as_slice(), b"".as_slice(), "{fen}");
             assert_eq!(rt; ended.err.as_slice(), message.as_bytes(), "{fen}");
@@ -249,7 +93,6 @@ fn each_fault_of_a_fen_is_named(rt: HostRuntime) -> Result<(), Fail> {
 
 #[test]
 fn moves_and_perft_show_what_is_legal(rt: HostRuntime) -> Result<(), Fail> {
-    let alloc = rt.alloc();
     let passing = "8/8/8/K2pP2r/8/8/8/7k w - d6 0 1";
     let stalemate = "7k/5Q2/6K1/8/8/8/8/8 b - - 0 1";
     let castling = "4kr2/8/8/8/8/8/8/R3K2R w KQ - 0 1";
@@ -264,7 +107,7 @@ fn moves_and_perft_show_what_is_legal(rt: HostRuntime) -> Result<(), Fail> {
     ];
     for (words, text) in rows {
         let given = if words[2].is_empty() { 2 } else { 3 };
-        let ended = run(alloc, &words[..given], ALWAYS, ALWAYS)?;
+        let ended = run(&rt, &words[..given], ALWAYS, ALWAYS)?;
         assert_eq!(rt; ended.status, 0, "{text}");
         assert_eq!(rt; ended.out.as_slice(), text.as_bytes());
         assert_eq!(rt; ended.err.as_slice(), b"".as_slice(), "{text}");
@@ -296,6 +139,15 @@ fn misused_words_end_with_two(rt: HostRuntime) -> Result<(), Fail> {
         ("solve --bound 16 a", "16 is not in 1..=15"),
         ("solve --bound x a", "invalid value 'x'"),
         ("solve -abc", "unexpected argument '-a'"),
+        ("serve", "required arguments were not provided"),
+        ("serve a", "required arguments were not provided"),
+        ("serve --workers 1", "required arguments were not provided"),
+        ("serve --workers 0 a", "0 is not in 1..=16"),
+        ("serve --workers 17 a", "17 is not in 1..=16"),
+        ("serve --workers x a", "invalid value 'x'"),
+        ("serve --workers 1 --bound 0 a", "0 is not in 1..=15"),
+        ("serve --workers 1 --bound 16 a", "16 is not in 1..=15"),
+        ("serve --workers 1 -abc", "unexpected argument '-a'"),
     ];
     for (line, text) in rows {
         let mut words = Vec::new(alloc);
@@ -304,11 +156,11 @@ fn misused_words_end_with_two(rt: HostRuntime) -> Result<(), Fail> {
                 words.push(word)?;
             }
         }
-        let heard = run(alloc, words.as_slice(), ALWAYS, ALWAYS)?;
+        let heard = run(&rt, words.as_slice(), ALWAYS, ALWAYS)?;
         assert_eq!(rt; heard.status, 2, "{line}");
         assert_eq!(rt; heard.out.as_slice(), b"".as_slice(), "{line}");
         assert!(rt; holds(heard.err.as_slice(), text), "{line}");
-        let unheard = run(alloc, words.as_slice(), ALWAYS, 0)?;
+        let unheard = run(&rt, words.as_slice(), ALWAYS, 0)?;
         assert_eq!(rt; unheard.status, 2, "{line}");
     }
     Ok(())
@@ -321,7 +173,7 @@ fn no_name_is_misuse_too(rt: HostRuntime) -> Result<(), Fail> {
     let mut out = Vec::new(alloc);
     let mut err = Vec::new(alloc);
     let shelf = shelf_of(&[]);
-    let status = command(alloc, words.as_slice(), &shelf, &mut out, &mut err);
+    let status = command(&rt, alloc, words.as_slice(), &shelf, &mut out, &mut err);
     assert_eq!(rt; status, 2);
     assert_eq!(rt; out.as_slice(), b"".as_slice());
     Ok(())
@@ -344,6 +196,16 @@ fn help_and_version_go_to_out(rt: HostRuntime) -> Result<(), Fail> {
         ),
         ("solve --help", "[default: 3]"),
         ("solve -h", "Usage: matedesk solve [OPTIONS] <FILE>..."),
+        ("--help", "matedesk serve --workers 4 problems.epd"),
+        ("serve --help", "[default: 3]"),
+        (
+            "serve --help",
+            "7k/8/5K2/8/8/8/8/R7 w - - bm Kf7 Kg6; dm 2; pv Kg6 Kg8 Ra8#;",
+        ),
+        (
+            "serve -h",
+            "Usage: matedesk serve [OPTIONS] --workers <N> <FILE>...",
+        ),
         ("moves --help", "matedesk moves \"8/8"),
         ("perft --help", "How many moves a line has, 0 to 6"),
         ("--version", VERSION),
@@ -354,10 +216,10 @@ fn help_and_version_go_to_out(rt: HostRuntime) -> Result<(), Fail> {
         for word in line.split(' ') {
             words.push(word)?;
         }
-        let heard = run(alloc, words.as_slice(), ALWAYS, 0)?;
+        let heard = run(&rt, words.as_slice(), ALWAYS, 0)?;
         assert_eq!(rt; heard.status, 0, "{line}");
         assert!(rt; holds(heard.out.as_slice(), text), "{line}");
-        let unheard = run(alloc, words.as_slice(), 0, ALWAYS)?;
+        let unheard = run(&rt, words.as_slice(), 0, ALWAYS)?;
         assert_eq!(rt; unheard.status, 4, "{line}");
         assert_eq!(rt; unheard.err.as_slice(), b"".as_slice(), "{line}");
     }
@@ -368,7 +230,6 @@ fn help_and_version_go_to_out(rt: HostRuntime) -> Result<(), Fail> {
 fn a_faulty_out_ends_with_four_and_a_faulty_err_is_passed_over(
     rt: HostRuntime,
 ) -> Result<(), Fail> {
-    let alloc = rt.alloc();
     let rows = [
         ("look", START, 0, ALWAYS, 4),
         ("look", START, 1, ALWAYS, 0),
@@ -383,7 +244,7 @@ fn a_faulty_out_ends_with_four_and_a_faulty_err_is_passed_over(
         ("moves", "8/8", 0, 0, 1),
     ];
     for (name, fen, outs, errs, status) in rows {
-        let ended = run(alloc, &[name, fen], outs, errs)?;
+        let ended = run(&rt, &[name, fen], outs, errs)?;
         assert_eq!(rt; ended.status, status, "{fen} {outs} {errs}");
         if outs == 0 {
             assert_eq!(rt; ended.out.as_slice(), b"".as_slice(), "{fen} {outs} {errs}");
@@ -394,9 +255,8 @@ fn a_faulty_out_ends_with_four_and_a_faulty_err_is_passed_over(
 
 #[test]
 fn a_file_that_is_not_there_ends_with_four(rt: HostRuntime) -> Result<(), Fail> {
-    let alloc = rt.alloc();
     for (outs, errs) in [(ALWAYS, ALWAYS), (0, ALWAYS), (ALWAYS, 0)] {
-        let ended = run(alloc, &["solve", "no/file", "other"], outs, errs)?;
+        let ended = run(&rt, &["solve", "no/file", "other"], outs, errs)?;
         assert_eq!(rt; ended.status, 4, "{outs} {errs}");
         assert_eq!(rt; ended.out.as_slice(), b"".as_slice(), "{outs} {errs}");
         if errs == ALWAYS {
@@ -444,7 +304,7 @@ fn solve_answers_each_line_of_each_file(rt: HostRuntime) -> Result<(), Fail> {
         for word in line.split(' ') {
             words.push(word)?;
         }
-        let ended = run_with(alloc, &shelf, words.as_slice(), outs, ALWAYS)?;
+        let ended = run_with(&rt, &shelf, words.as_slice(), outs, ALWAYS)?;
         assert_eq!(rt; ended.status, status, "{line} {outs}");
         assert_eq!(rt; ended.out.as_slice(), text.as_bytes(), "{line} {outs}");
     }
@@ -471,7 +331,7 @@ fn lines_are_the_same_in_pieces(rt: HostRuntime) -> Result<(), Fail> {
                 is_interrupted,
                 reads: ALWAYS,
             };
-            let ended = run_with(alloc, &shelf, &["solve", "lines"], ALWAYS, ALWAYS)?;
+            let ended = run_with(&rt, &shelf, &["solve", "lines"], ALWAYS, ALWAYS)?;
             assert_eq!(rt; ended.status, 1, "{piece}");
             assert_eq!(rt; ended.out.as_slice(), ANSWERS.as_bytes(), "{piece}");
             assert_eq!(rt; ended.err.as_slice(), b"".as_slice(), "{piece}");
@@ -495,7 +355,7 @@ fn a_file_that_breaks_off_ends_with_four_behind_its_first_answers(
             is_interrupted: false,
             reads,
         };
-        let ended = run_with(alloc, &shelf, &["solve", "lines", "other"], ALWAYS, ALWAYS)?;
+        let ended = run_with(&rt, &shelf, &["solve", "lines", "other"], ALWAYS, ALWAYS)?;
         let mut first = String::new(alloc);
         for line in ANSWERS.split_inclusive('\n').take(lines) {
             first.push_str(line)?;
@@ -524,7 +384,7 @@ fn an_output_that_breaks_off_holds_a_first_part(rt: HostRuntime) -> Result<(), F
         ["solve", "--help"],
     ] {
         let whole = run_with(
-            alloc,
+            &rt,
             &shelf_of(files.as_slice()),
             words.as_slice(),
             ALWAYS,
@@ -532,10 +392,7 @@ fn an_output_that_breaks_off_holds_a_first_part(rt: HostRuntime) -> Result<(), F
         )?;
         for (fault, message) in rows {
             for calls in 0..5 {
-                let mut all = Vec::new(alloc);
-                all.push(String::from_str(alloc, "matedesk")?)?;
-                all.push(String::from_str(alloc, words[0])?)?;
-                all.push(String::from_str(alloc, words[1])?)?;
+                let all = words_of(alloc, words.as_slice())?;
                 let mut out = Failing {
                     calls_left: calls,
                     most: 1,
@@ -544,7 +401,7 @@ fn an_output_that_breaks_off_holds_a_first_part(rt: HostRuntime) -> Result<(), F
                 };
                 let mut err = Vec::new(alloc);
                 let shelf = shelf_of(files.as_slice());
-                let status = command(alloc, all.as_slice(), &shelf, &mut out, &mut err);
+                let status = command(&rt, alloc, all.as_slice(), &shelf, &mut out, &mut err);
                 assert_eq!(rt; status, 4, "{calls}");
                 assert_eq!(rt; out.text.len(), calls, "{calls}");
                 assert!(rt;

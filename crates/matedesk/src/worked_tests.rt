@@ -8,7 +8,9 @@ use crate::source::{Source, SourceFault, whole};
 use chess_board::spells_one;
 use chess_notation::records_clear;
 use std::alloc::{AllocError, Global};
+use std::sync::Wait;
 use std::test::Fail;
+use std::thread::Threads;
 
 /// Two files, `one` and `two`, and under every other name what `two` holds. None is refused, and none breaks off.
 struct TwoFiles;
@@ -59,8 +61,22 @@ fn solve_words(alloc: Global) -> Result<[String; 4], AllocError>
     ])
 }
 
+/// The words of `serve` for the same files and two workers.
+fn serve_words(alloc: Global) -> Result<[String; 6], AllocError>
+    ensures { IfOk result (λ words. map string_bytes words ≡ codes "matedesk" ∷ codes "serve" ∷ codes "--workers" ∷ codes "2" ∷ codes "one" ∷ codes "two" ∷ []) }
+{
+    Ok([
+        String::from_str(alloc, "matedesk")?,
+        String::from_str(alloc, "serve")?,
+        String::from_str(alloc, "--workers")?,
+        String::from_str(alloc, "2")?,
+        String::from_str(alloc, "one")?,
+        String::from_str(alloc, "two")?,
+    ])
+}
+
 /// What `look` writes, where it answers.
-fn look_written(alloc: Global) -> Option<Vec<u8>>
+fn look_written<R: Threads + Wait + Sync>(rt: &R, alloc: Global) -> Option<Vec<u8>>
     ensures { IfSome result (λ out. out.items ≡ codes "k7/8/8/8/8/8/8/7K w - - 0 1\nno check\n") }
 {
     spells_one();
@@ -69,12 +85,12 @@ fn look_written(alloc: Global) -> Option<Vec<u8>>
     };
     let mut out = Vec::new(alloc);
     let mut err = Vec::new(alloc);
-    let status = command(alloc, words.as_slice(), &TwoFiles, &mut out, &mut err);
+    let status = command(rt, alloc, words.as_slice(), &TwoFiles, &mut out, &mut err);
     if status == 0 { Some(out) } else { None }
 }
 
 /// What `solve` writes, where it answers.
-fn solve_written(alloc: Global) -> Option<Vec<u8>>
+fn solve_written<R: Threads + Wait + Sync>(rt: &R, alloc: Global) -> Option<Vec<u8>>
     ensures { IfSome result (λ out. out.items ≡ codes "# line 1: Fen FieldCount\n# line 2: Fen FieldCount\n") }
 {
     records_clear();
@@ -83,18 +99,37 @@ fn solve_written(alloc: Global) -> Option<Vec<u8>>
     };
     let mut out = Vec::new(alloc);
     let mut err = Vec::new(alloc);
-    let status = command(alloc, words.as_slice(), &TwoFiles, &mut out, &mut err);
+    let status = command(rt, alloc, words.as_slice(), &TwoFiles, &mut out, &mut err);
+    if status == 1 { Some(out) } else { None }
+}
+
+/// What `serve` writes, where it answers.
+fn serve_written<R: Threads + Wait + Sync>(rt: &R, alloc: Global) -> Option<Vec<u8>>
+    ensures { IfSome result (λ out. out.items ≡ codes "# line 1: Fen FieldCount\n# line 2: Fen FieldCount\n") }
+{
+    records_clear();
+    let Ok(words) = serve_words(alloc) else {
+        return None;
+    };
+    let mut out = Vec::new(alloc);
+    let mut err = Vec::new(alloc);
+    let status = command(rt, alloc, words.as_slice(), &TwoFiles, &mut out, &mut err);
     if status == 1 { Some(out) } else { None }
 }
 
 #[test]
 fn what_is_written_is_what_the_contract_names(rt: HostRuntime) -> Result<(), Fail> {
-    let out = look_written(rt.alloc()).ok_or("look")?;
+    let out = look_written(&rt, rt.alloc()).ok_or("look")?;
     assert_eq!(rt;
         out.as_slice(),
         b"k7/8/8/8/8/8/8/7K w - - 0 1\nno check\n".as_slice()
     );
-    let out = solve_written(rt.alloc()).ok_or("solve")?;
+    let out = solve_written(&rt, rt.alloc()).ok_or("solve")?;
+    assert_eq!(rt;
+        out.as_slice(),
+        b"# line 1: Fen FieldCount\n# line 2: Fen FieldCount\n".as_slice()
+    );
+    let out = serve_written(&rt, rt.alloc()).ok_or("serve")?;
     assert_eq!(rt;
         out.as_slice(),
         b"# line 1: Fen FieldCount\n# line 2: Fen FieldCount\n".as_slice()

@@ -6,7 +6,7 @@ use Rattle.clap.specs.Words.{Text}
 use Rattle.matedesk.specs.Asked.{asked, asked_exactly}
 use Rattle.matedesk.specs.Hyphens.{escaped}
 use Rattle.matedesk.proofs.Endings.{ends_unasked}
-use Rattle.matedesk.proofs.command.command.Goals as goal
+use Rattle.matedesk.proofs.command.plain_command.Goals as goal
 
 pub returns-in_default-clause-ends : goal.returns-in_default-clause-ends
 returns-in_default-clause-ends g c =
