@@ -51,6 +51,14 @@ pub(crate) fn attend_all<R: Threads + Wait + Sync>(
     let Some((input, rest)) = inputs.split_last() else {
         unreachable!()
     };
+    if windows.is_empty() {
+        let only = attend(rt, alloc, rays, window, input.as_slice(), bell);
+        let mut one = Vec::new(alloc);
+        return match one.push(only) {
+            Ok(()) => Ok(one),
+            Err(_) => Err(AllocError),
+        };
+    }
     let (mine, theirs) = thread::scope(
         thread::scope_env(),
         rt,
@@ -111,6 +119,10 @@ pub(crate) fn work_all<R: Threads + Wait + Sync, G: Gate>(
         return;
     };
     let number = benches.len();
+    if number == 0 {
+        work(rt, alloc, rays, bench, number, gate, bell);
+        return;
+    }
     thread::scope(
         thread::scope_env(),
         rt,
