@@ -98,9 +98,6 @@ deal_blank default refused lines line sent got text behind reply old = record {
       (subst (λ n. IsReplyFrom default 1 (lines ++ line ∷ []) ((text ++ woven rest behind) ++ []) n) (omega arith) next);
 }
 
-pub deals_none : (default : ℕ) → Deals default [] [] [] [] [] 0
-deals_none default = record { awaited = refl; replied = λ rest is. (woven_none rest, refl) }
-
 -- Nothing is awaited any more.
 pub dealt_whole : (default refused : ℕ) (lines : List (List ℕ)) (sent got : List RecordValue) (text : List ℕ)
     → Deals default lines sent got text [] refused → sent ≡ got → IsReplyFrom default 1 lines text refused

@@ -1,5 +1,5 @@
 -- A line that a clerk hands in: what its reply is, and what the clerk has dealt with then.
-use Rattle.std.proofs.Common.{◌≡◌, ◌≢◌, ◌⊎◌, inl, inr, ℕ, ◌+◌, List, [], ◌∷◌, ◌++◌, Vec, Global, Result, Ok, Err, OnOk, false, map, length, refl, ap, ◌∙◌, sym, subst, arith, append_assoc, length-append, Some}
+use Rattle.std.proofs.Common.{◌≡◌, ◌≢◌, ◌⊎◌, inl, inr, ℕ, ◌+◌, List, [], ◌∷◌, ◌++◌, Vec, Global, Result, Ok, Err, OnOk, false, map, length, refl, ap, ◌∙◌, sym, subst, arith, Some}
 use Rattle.std.proofs.lemmas.List.{length-map, map-append}
 use Rattle.chess_notation.specs.Records.{RecordValue}
 use Rattle.chess_notation.specs.Words.{is_blank}
@@ -11,7 +11,7 @@ use Rattle.desk_room.specs.Letters.{records}
 use Rattle.desk_room.specs.Deliveries.{asked}
 use Rattle.desk_room.specs.Windows.{letters_sent, collected, default_of, SameWindow}
 use Rattle.desk_room.specs.WindowFaults.{SaysOnly, SaysRecord}
-use Rattle.desk_room.specs.Clerks.{Deals, HasDealt, IsAt, Reports}
+use Rattle.desk_room.specs.Clerks.{Deals, HasDealt, Reports}
 use Rattle.desk_room.specs.declared.letters.Letter.TheVariants.{Record}
 use Rattle.desk_room.specs.declared.clerks.Clerk.{Clerk}
 use Rattle.desk_room.specs.declared.windows.Window.{Window}
@@ -87,24 +87,6 @@ dealt_refusal_behind c texts front behind after lines line here old_is new_is mo
     refl refl refl refl is refl
     (deal_refusal_behind (default_of c.window) c.refused lines line here (records (letters_sent c.window)) (map asked (collected c.window)) c.text.items behind.items (items front) reply
     (subst (λ l. Deals (default_of c.window) lines (records (letters_sent c.window)) (map asked (collected c.window)) c.text.items l c.refused) was old))
-
--- One line more of the input, or the last.
-pub at_next : (input rest line more : List ℕ) (number : ℕ) (c d : Clerk) → lines_of rest ≡ line ∷ lines_of more
-    → ((lines : List (List ℕ)) → length lines + 1 ≡ number → HasDealt lines c → HasDealt (lines ++ line ∷ []) d) → IsAt input rest number c → IsAt input more (number + 1) d
-at_next input rest line more number c d cut deals is = record {
-  lines = is.lines ++ line ∷ [];
-  next = omega (arith, is.next, length-append is.lines (line ∷ []));
-  split = is.split ∙ (ap (λ l. is.lines ++ l) cut ∙ sym (append_assoc is.lines (line ∷ []) (lines_of more)));
-  dealt = deals is.lines is.next is.dealt;
-}
-
-pub at_last : (input rest : List ℕ) (number : ℕ) (c d : Clerk) → lines_of rest ≡ rest ∷ []
-    → ((lines : List (List ℕ)) → length lines + 1 ≡ number → HasDealt lines c → HasDealt (lines ++ rest ∷ []) d) → IsAt input rest number c → HasDealt (lines_of input) d
-at_last input rest number c d one deals is =
-    subst (λ l. HasDealt l d) (ap (λ l. is.lines ++ l) (sym one) ∙ sym is.split) (deals is.lines is.next is.dealt)
-
-pub at_first : (input : List ℕ) (c : Clerk) → HasDealt [] c → IsAt input input 1 c
-at_first input c dealt = record { lines = []; next = refl; split = refl; dealt = dealt }
 
 -- All lines are dealt with, nothing is awaited, and the window said farewell.
 pub reported : (w : Window) (c : Clerk) (v : Window) (input : List ℕ) → SameWindow w c.window → SameWindow c.window v → records (letters_sent v) ≡ records (letters_sent c.window)

@@ -1,11 +1,10 @@
 -- What the threads of the windows bring back: one report more, and what becomes of the reports when the room has changed as it may.
-use Rattle.std.proofs.Common.{◌≡◌, ℕ, ◌+◌, List, [], ◌∷◌, ◌++◌, length, Result, Ok, IfOk, ap, refl, sym, ◌∙◌, subst, arith, append_assoc, append-nil, length-append}
+use Rattle.std.proofs.Common.{◌≡◌, ℕ, ◌+◌, List, [], ◌∷◌, ◌++◌, Result, Ok, IfOk, refl, sym, ◌∙◌, subst, append_assoc}
 use Rattle.desk_room.specs.Opening.{AreOpened}
 use Rattle.desk_room.specs.Keepers.{IsOf, SameRoom}
 use Rattle.desk_room.specs.Clerks.{Reports}
 use Rattle.desk_room.specs.Threads.{AllFresh, AllOf, AllReport, AllSettled, IsFreshWindow, IsSettled}
 use Rattle.desk_room.specs.Serving.{AreReplies}
-use Rattle.chess_notation.specs.Records.{RecordValue}
 use Rattle.mate_search.specs.Replies.{IsReply}
 use Rattle.mate_search.specs.declared.replies.Output.{Output}
 use Rattle.desk_room.specs.declared.windows.Window.{Window}
@@ -93,12 +92,3 @@ settled_snoc (q ∷ qs) (p ∷ ps) r o all one = (all.0, settled_snoc qs ps r o 
 pub settled_more : (reports rs : List Report) (outputs os : List Output) (r : Report) (o : Output) → reports ≡ rs ++ r ∷ [] → outputs ≡ os ++ o ∷ []
     → AllSettled rs os → IsSettled r o → AllSettled reports outputs
 settled_more reports rs outputs os r o p q all one = rw (p, q) (settled_snoc rs os r o all one)
-
-nothing_more : {A : Type 0} (xs ys zs : List A) → zs ≡ xs ++ ys → length xs ≡ length zs → zs ≡ xs
-nothing_more xs [] zs is many = is ∙ append-nil xs
-nothing_more xs (y ∷ ys) zs is many = absurd (omega (arith, many, ap length is, length-append xs (y ∷ ys)))
-
--- What the meeting of the keeper and a window says, where as much was collected as was sent.
-pub all_answered : (sent got known rest left : List RecordValue) → sent ≡ ((got ++ known) ++ rest) ++ left → length got ≡ length sent → sent ≡ got
-all_answered sent got known rest left is many =
-    nothing_more got (known ++ (rest ++ left)) sent (is ∙ (append_assoc (got ++ known) rest left ∙ append_assoc got known (rest ++ left))) many

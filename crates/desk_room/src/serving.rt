@@ -14,7 +14,7 @@ use crate::keepers::Keeper;
 use crate::keeping::keep;
 use crate::reports::Report;
 use crate::rooms::{Room, RoomFault, open_room};
-use crate::threads::{attend_all, work_all};
+use crate::threads::{Worked, attend_all, work_all};
 use crate::windows::Window;
 use chess_moves::Rays;
 use chess_notation::Bound;
@@ -34,14 +34,6 @@ struct KeeperOf(Snapshot<Keeper>);
 
 impl Promise<Keeper> for KeeperOf {
     ghost kept_by = { λ p k. SameRoom p.0.value k };
-}
-
-/// What the thread of the benches brings back: nothing that matters.
-#[derive(Drop)]
-struct Worked;
-
-impl Promise<()> for Worked {
-    ghost kept_by = { λ p r. Unit {0} };
 }
 
 /// Runs the benches beside the windows.

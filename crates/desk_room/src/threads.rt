@@ -99,7 +99,7 @@ pub(crate) fn attend_all<R: Threads + Wait + Sync>(
 
 /// What a thread of benches brings back: nothing that matters.
 #[derive(Drop)]
-struct Worked;
+pub(crate) struct Worked;
 
 impl Promise<()> for Worked {
     ghost kept_by = { λ p r. Unit {0} };
