@@ -18,7 +18,7 @@ use Rattle.chess_notation.proofs.MergedOperations.{Each}
 use Rattle.chess_notation.proofs.SpellableOperations.{IsSpellable, spelled_operations, printed_operations, spellable_operations}
 use Rattle.chess_notation.proofs.OwnOperations.{keys_spellable, line_spellable}
 use Rattle.chess_notation.proofs.KeptOperations.{AreCopied, are_copied}
-use Rattle.chess_notation.proofs.AvoidedAnswers.{avoid_of_answer}
+use Rattle.chess_notation.proofs.AvoidMoveAnswers.{avoid_of_answer}
 use Rattle.chess_notation.proofs.AnswerContents.{IsAnswered, none_answered, mate_answered}
 
 -- What stands behind the words of a printable text is printable.

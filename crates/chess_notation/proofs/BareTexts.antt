@@ -14,7 +14,7 @@ use Rattle.chess_board.specs.Placement.{kind_letter}
 use Rattle.chess_board.specs.Moves.{Move}
 use Rattle.chess_board.specs.After.{is_castling, wing_of}
 use Rattle.chess_moves.specs.Laws.{LegalListed}
-use Rattle.chess_notation.specs.San.{is_capture, pawn_text, wing_text, man_text, bare_text}
+use Rattle.chess_notation.specs.SanText.{is_capture, pawn_text, wing_text, man_text, bare_text}
 use Rattle.chess_notation.specs.SanLaws.{BareTextsApart}
 use Rattle.chess_notation.proofs.LegalMen.{IsPlayed, played, man_same}
 use Rattle.chess_notation.proofs.TextBytes.{kind_said, kind_said-letter}

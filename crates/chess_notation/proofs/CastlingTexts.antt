@@ -17,7 +17,7 @@ use Rattle.chess_board.specs.KindTests.{is_king_kind}
 use Rattle.chess_board.specs.Attacks.{is_clear, attacks_as, is_attacked}
 use Rattle.chess_board.specs.Candidates.{crossed, piece_goes, king_goal, castles_to, castles, goes}
 use Rattle.chess_board.specs.After.{is_castling, wing_of}
-use Rattle.chess_notation.specs.San.{wing_text}
+use Rattle.chess_notation.specs.SanText.{wing_text}
 
 king_near : (men : List (Option Man)) (colour : Colour) (a b : ℕ) → attacks_as men colour King a b ≡ true → eqb (file_gap a b) 2 ≡ false
 king_near men colour a b h = grind (arith, nat_tests)

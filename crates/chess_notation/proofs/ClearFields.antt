@@ -7,8 +7,8 @@ use Rattle.chess_board.specs.Soundness.{IsSound}
 use Rattle.chess_board.specs.Faults.{IsFirst, IsUnsoundBy, field_faults}
 use Rattle.chess_board.specs.Fens.{Fields, SpellsSetup, IsAmiss}
 use Rattle.chess_board.specs.Laws.{SpellsOne}
-use Rattle.chess_notation.specs.declared.faults.EpdFault.TheVariants.{Fen}
-use Rattle.chess_notation.specs.Lines.{fourth_word, line_fields}
+use Rattle.chess_notation.specs.declared.epd_faults.EpdFault.TheVariants.{Fen}
+use Rattle.chess_notation.specs.RecordFields.{fourth_word, line_fields}
 use Rattle.chess_notation.specs.EpdFaults.{IsAmissBy}
 
 sound_right : (p : Setup) → IsSound p → (fault : FenFault) → IsUnsoundBy p fault → ⊥

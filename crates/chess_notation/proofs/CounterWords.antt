@@ -7,7 +7,7 @@ use Rattle.chess_board.specs.Fields.{IsDigit, IsCounter}
 use Rattle.chess_notation.specs.Words.{after_spaces, front_word, word_at, behind}
 use Rattle.chess_notation.specs.Segments.{segments_of}
 use Rattle.chess_notation.specs.Operations.{is_digit, is_letter, is_opcode_byte, is_opcode, Operation, SpellsOperations}
-use Rattle.chess_notation.specs.Lines.{is_number, is_counter, behind_counters}
+use Rattle.chess_notation.specs.RecordFields.{is_number, is_counter, behind_counters}
 use Rattle.chess_notation.specs.Records.{HaveNoSpace, SpellsRest}
 use Rattle.chess_notation.proofs.WordSplits.{words_split, spaces_over, word_again}
 use Rattle.chess_notation.proofs.OperationTexts.{AreSegments, spelled_segments}

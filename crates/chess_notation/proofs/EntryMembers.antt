@@ -3,7 +3,7 @@ use Rattle.std.proofs.Common.{◌≡◌, ◌⊎◌, ℕ, List, [], ◌∷◌, Bo
 use Rattle.std.specs.Prelude.{Contains}
 use Rattle.chess_notation.specs.Operations.{Entry}
 use Rattle.chess_notation.specs.Opcodes.{comes_before, is_own, IsBelow, RisesByOpcode, with_entry}
-use Rattle.chess_notation.specs.RecordReading.{inserted}
+use Rattle.chess_notation.specs.inside.RecordReading.{inserted}
 use Rattle.chess_notation.proofs.Members.{in_front, in_back, in_none, in_cases, in_same}
 use Rattle.chess_notation.proofs.TextOrder.{comes_before_trans, comes_before_self}
 use Rattle.chess_notation.proofs.EntryOrder.{kept_entries}

@@ -6,9 +6,9 @@ use mathlib.Core.Bool.{not}
 use Rattle.chess_notation.specs.Words.{word_at}
 use Rattle.chess_notation.specs.Operations.{Entry}
 use Rattle.chess_notation.specs.Opcodes.{same_text, comes_before, is_own, IsBelow, RisesByOpcode, AreKept, with_entry}
-use Rattle.chess_notation.specs.Lines.{entry_in}
+use Rattle.chess_notation.specs.RecordFields.{entry_in}
 use Rattle.chess_notation.specs.EpdFaults.{differs_from, are_distinct}
-use Rattle.chess_notation.specs.RecordReading.{kept, inserted, rest_of}
+use Rattle.chess_notation.specs.inside.RecordReading.{kept, inserted, rest_of}
 use Rattle.chess_notation.proofs.TextOrder.{comes_before_trans, comes_before_or_after}
 
 -- No entry has the opcode.

@@ -5,13 +5,13 @@ use Rattle.std.proofs.lemmas.Bool.{and_parts}
 use Rattle.std.proofs.lemmas.Bool.Decides.{nat_tests}
 use mathlib.Core.Bool.{not}
 use Rattle.chess_board.specs.Fields.{digits_value}
-use Rattle.chess_notation.specs.declared.faults.EpdFault.TheVariants.{TooLong, NotPrintable, Fen, BadOpcode, BadString, MissingSemicolon, DoubleOpcode, BadBound, BoundTooLarge, BadAvoid, NoMemory}
-use Rattle.chess_notation.specs.RecordReading.{IsClearTo}
+use Rattle.chess_notation.specs.declared.epd_faults.EpdFault.TheVariants.{TooLong, NotPrintable, Fen, BadOpcode, BadString, MissingSemicolon, DoubleOpcode, BadBound, BoundTooLarge, BadAvoid, NoMemory}
+use Rattle.chess_notation.specs.inside.RecordReading.{IsClearTo}
 use Rattle.chess_notation.specs.Words.{word_at, behind, is_blank}
 use Rattle.chess_notation.specs.Segments.{Segments}
-use Rattle.chess_notation.specs.Strings.{strings_fit}
+use Rattle.chess_notation.specs.Quoting.{strings_fit}
 use Rattle.chess_notation.specs.Operations.{is_printable}
-use Rattle.chess_notation.specs.Lines.{is_number, is_counter, behind_fields, behind_counters, operations_in, cut_of}
+use Rattle.chess_notation.specs.RecordFields.{is_number, is_counter, behind_fields, behind_counters, operations_in, cut_of}
 use Rattle.chess_notation.specs.EpdFaults.{each_segment, has_opcode, are_distinct, is_bound_segment, has_number, has_number_if_bound, is_small_if_bound}
 use Rattle.chess_notation.proofs.WordSplits.{all_behind}
 use Rattle.chess_notation.proofs.WordLists.{behind_within}

@@ -13,10 +13,11 @@ use Rattle.chess_board.specs.Moves.{Move}
 use Rattle.chess_board.specs.After.{is_castling, wing_of}
 use Rattle.chess_moves.specs.Listing.{legal_moves}
 use Rattle.chess_moves.specs.Laws.{LegalListed}
-use Rattle.chess_notation.specs.San.{is_capture, pawn_origin_text, becomes_text, pawn_text, hint_text, piece_text, wing_text, man_text, bare_text}
+use Rattle.chess_notation.specs.SanText.{is_capture, pawn_origin_text, becomes_text, pawn_text, piece_text, wing_text, man_text, bare_text}
+use Rattle.chess_notation.specs.Disambiguation.{disambiguation_text}
 use Rattle.chess_notation.specs.Words.{word_at, behind, is_blank, words_in}
 use Rattle.chess_notation.specs.Records.{IsApart}
-use Rattle.chess_notation.specs.Avoided.{is_check_mark, without_mark, names, is_name}
+use Rattle.chess_notation.specs.AvoidMoves.{is_suffix, without_suffix, names, is_name}
 use Rattle.chess_notation.proofs.LegalMen.{played}
 use Rattle.chess_notation.proofs.Members.{any_member}
 use Rattle.chess_notation.proofs.TextOrder.{same_text_is}
@@ -38,7 +39,7 @@ long_last : (a b c : List ℕ) → 2 ≤ length c → 2 ≤ suc (length (a ++ b 
 long_last a b c h = omega (arith, h, length-append (a ++ b) c)
 
 long_piece : (p : Setup) (man : Man) (m : Move) → 2 ≤ length (piece_text p man m)
-long_piece p man m = long_last (hint_text p man m) (if is_capture p man m then codes "x" else []) (square_text m.target) (omega arith)
+long_piece p man m = long_last (disambiguation_text p man m) (if is_capture p man m then codes "x" else []) (square_text m.target) (omega arith)
 
 long_man : (p : Setup) (man : Man) (m : Move) → 2 ≤ length (man_text p (Some man) m)
 long_man p man m = by_kind (is_pawn_kind man.kind) (is_castling man m) where
@@ -55,9 +56,9 @@ long_bare listed p m legal =
     omega (arith, text, long_man p by.0 m)
 
 -- So has a word that names one.
-mark_short : (word : List ℕ) → length (without_mark word) ≤ length word
-unfolding without_mark
-mark_short word = by_mark (is_check_mark (slice_index word (length word - 1))) where
+mark_short : (word : List ℕ) → length (without_suffix word) ≤ length word
+unfolding without_suffix
+mark_short word = by_mark (is_suffix (slice_index word (length word - 1))) where
   by_mark : (marked : Bool) → length (if marked then take (length word - 1) word else word) ≤ length word
   by_mark true = omega (arith, length-take (length word - 1) word)
   by_mark false = omega arith
@@ -66,7 +67,7 @@ long_name : LegalListed → (p : Setup) (word : List ℕ) → is_name p word ≡
 unfolding is_name
 long_name listed p word h =
     let found = any_member (names p word) (legal_moves p) h in
-    let text = ap length (same_text_is (without_mark word) (bare_text p found.0) found.2) in
+    let text = ap length (same_text_is (without_suffix word) (bare_text p found.0) found.2) in
     omega (arith, text, long_bare listed p found.0 found.1, mark_short word)
 
 -- Each word takes three bytes with its space; the first may stand without one.

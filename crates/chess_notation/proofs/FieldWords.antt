@@ -2,7 +2,7 @@
 use Rattle.std.proofs.Common.{◌≡◌, ◌≢◌, ℕ, ◌==◌, List, [], ◌∷◌, Bool, true, false, refl, ap, sym, ◌∙◌, if◌then◌else◌}
 use Rattle.chess_board.specs.Fens.{Fields}
 use Rattle.chess_notation.specs.Words.{after_spaces, front_word, after_word, word_at, behind}
-use Rattle.chess_notation.specs.Lines.{fourth_word, line_fields, behind_fields}
+use Rattle.chess_notation.specs.RecordFields.{fourth_word, line_fields, behind_fields}
 use Rattle.chess_notation.specs.Records.{IsWord, SpellsWords, field_words}
 use Rattle.chess_notation.proofs.WordSplits.{words_split, word_no_space, word_again}
 

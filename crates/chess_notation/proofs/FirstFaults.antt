@@ -7,8 +7,8 @@ use Rattle.chess_board.specs.declared.faults.FenFault.{FenFault}
 use Rattle.chess_board.specs.declared.faults.FenFault.TheVariants.{FieldCount, BadPlacement, BadSide, BadCastling, BadTarget, BadCounter, BadKings, PawnOnEndRank, TooManyMen, RightWithoutMen, TargetWithoutPawn, OpponentInCheck}
 use Rattle.chess_board.specs.Faults.{IsFirst, field_faults}
 use Rattle.chess_board.specs.Fens.{Fields, IsAmiss}
-use Rattle.chess_notation.specs.declared.faults.EpdFault.TheVariants.{Fen}
-use Rattle.chess_notation.specs.Lines.{fourth_word, line_fields}
+use Rattle.chess_notation.specs.declared.epd_faults.EpdFault.TheVariants.{Fen}
+use Rattle.chess_notation.specs.RecordFields.{fourth_word, line_fields}
 use Rattle.chess_notation.specs.EpdFaults.{IsAmissBy}
 
 abbrev is_count : FenFault → Bool

@@ -3,7 +3,7 @@ use Rattle.std.proofs.Common.{sym, ap, ◌∙◌}
 use Rattle.chess_moves.specs.Laws.{LegalListed}
 use Rattle.chess_notation.specs.SanLaws.{TextsApart, TextsShort}
 use Rattle.chess_notation.proofs.TextBytes.{unmarked}
-use Rattle.chess_notation.proofs.TextMarks.{unmarked-san_text}
+use Rattle.chess_notation.proofs.TextSuffixes.{unmarked-san_text}
 use Rattle.chess_notation.proofs.TextLengths.{length-san_text}
 use Rattle.chess_notation.proofs.BareTexts.{bare_texts_apart}
 

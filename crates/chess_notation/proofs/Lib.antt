@@ -1,6 +1,6 @@
 pub mod AnswerContents
 pub mod AnswerReading
-pub mod AvoidedAnswers
+pub mod AvoidMoveAnswers
 pub mod BareTexts
 pub mod CappedValues
 pub mod CastlingTexts
@@ -47,7 +47,7 @@ pub mod ShownRest
 pub mod SpellableOperations
 pub mod TextBytes
 pub mod TextLengths
-pub mod TextMarks
+pub mod TextSuffixes
 pub mod TextOrder
 pub mod TextPlaces
 pub mod WordSplits

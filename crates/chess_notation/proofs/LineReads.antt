@@ -7,14 +7,14 @@ use Rattle.chess_board.specs.Fens.{SpellsSetup}
 use Rattle.chess_board.specs.Laws.{SpellsOne}
 use Rattle.chess_moves.specs.Laws.{LegalListed}
 use Rattle.chess_board.specs.declared.faults.FenFault.TheVariants.{FieldCount}
-use Rattle.chess_notation.specs.declared.faults.EpdFault.{EpdFault}
-use Rattle.chess_notation.specs.declared.faults.EpdFault.TheVariants.{TooLong, NotPrintable, Fen, BadOpcode, BadString, MissingSemicolon, DoubleOpcode, BadBound, BoundTooLarge, BadAvoid, NoMemory}
+use Rattle.chess_notation.specs.declared.epd_faults.EpdFault.{EpdFault}
+use Rattle.chess_notation.specs.declared.epd_faults.EpdFault.TheVariants.{TooLong, NotPrintable, Fen, BadOpcode, BadString, MissingSemicolon, DoubleOpcode, BadBound, BoundTooLarge, BadAvoid, NoMemory}
 use Rattle.chess_notation.specs.Words.{is_blank}
 use Rattle.chess_notation.specs.Segments.{Segments, segments_of}
-use Rattle.chess_notation.specs.Strings.{strings_fit}
-use Rattle.chess_notation.specs.Lines.{fourth_word, line_fields, behind_fields, behind_counters, operations_in, cut_of}
+use Rattle.chess_notation.specs.Quoting.{strings_fit}
+use Rattle.chess_notation.specs.RecordFields.{fourth_word, line_fields, behind_fields, behind_counters, operations_in, cut_of}
 use Rattle.chess_notation.specs.EpdFaults.{each_segment, has_opcode, has_names_if_avoid, IsAmissBy, HasNoFault}
-use Rattle.chess_notation.specs.RecordReading.{IsClearTo, bound_said, avoid_in, rest_of}
+use Rattle.chess_notation.specs.inside.RecordReading.{IsClearTo, bound_said, avoid_in, rest_of}
 use Rattle.chess_notation.specs.Records.{RecordValue, Reads}
 use Rattle.chess_notation.specs.RecordLaws.{RecordsClear, SaysOne}
 use Rattle.chess_notation.proofs.FaultFree.{no_fault_passes}

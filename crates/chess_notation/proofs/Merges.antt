@@ -3,7 +3,7 @@ use Rattle.std.proofs.Common.{◌≡◌, ℕ, List, [], ◌∷◌, ◌++◌, Boo
 use Rattle.std.proofs.lemmas.List.{drop_all}
 use Rattle.chess_notation.specs.Operations.{Entry}
 use Rattle.chess_notation.specs.Opcodes.{comes_before, with_entry, IsBelow}
-use Rattle.chess_notation.specs.Merging.{with_entries}
+use Rattle.chess_notation.specs.inside.Merging.{with_entries}
 use Rattle.chess_notation.specs.Answers.{entry_text, entries_text}
 use Rattle.chess_notation.proofs.Drops.{drop-at}
 use Rattle.chess_notation.proofs.TextOrder.{comes_before_trans}

@@ -8,13 +8,13 @@ use Rattle.chess_board.specs.Positions.{Setup}
 use Rattle.chess_board.specs.Moves.{Move, move_place}
 use Rattle.chess_moves.specs.Listing.{legal_moves}
 use Rattle.chess_moves.specs.Laws.{IsAbove, IsRising, LegalRise}
-use Rattle.chess_notation.specs.declared.avoided.Named.{Named}
-use Rattle.chess_notation.specs.San.{bare_text}
+use Rattle.chess_notation.specs.declared.avoid_moves.Named.{Named}
+use Rattle.chess_notation.specs.SanText.{bare_text}
 use Rattle.chess_notation.specs.Words.{words_in, is_blank}
 use Rattle.chess_notation.specs.EpdFaults.{are_names}
 use Rattle.chess_notation.specs.Opcodes.{same_text}
-use Rattle.chess_notation.specs.Avoided.{without_mark, names, is_name, named}
-use Rattle.chess_notation.specs.RecordReading.{avoid_text_in, avoid_in}
+use Rattle.chess_notation.specs.AvoidMoves.{without_suffix, names, is_name, named}
+use Rattle.chess_notation.specs.inside.RecordReading.{avoid_text_in, avoid_in}
 
 abbrev pub move_of : Named → Move
 move_of n = n.m
@@ -44,7 +44,7 @@ other_texts : (p : Setup) (n : Named) (ns : List Named) → AreTexts p (n ∷ ns
 other_texts p n ns h = cc
 
 any_named : (p : Setup) (word : List ℕ) (ns : List Named) → AreTexts p ns
-    → list_any (λ n. same_text (without_mark word) (text_of n)) ns ≡ list_any (names p word) (map move_of ns)
+    → list_any (λ n. same_text (without_suffix word) (text_of n)) ns ≡ list_any (names p word) (map move_of ns)
 any_named p word [] h = refl
 any_named p word (n ∷ ns) h =
     let text : text_of n ≡ bare_text p n.m = first_text p n ns h in
@@ -55,29 +55,29 @@ legal_texts p ns moves texts = texts ∙ sym (ap (map (bare_text p)) moves)
 
 -- Each word names a move of the list where each names a legal move.
 pub all_named : (p : Setup) (ns : List Named) (words : List (List ℕ)) → map move_of ns ≡ legal_moves p → map text_of ns ≡ map (bare_text p) (legal_moves p)
-    → list_all (λ word. list_any (λ n. same_text (without_mark word) (text_of n)) ns) words ≡ list_all (is_name p) words
+    → list_all (λ word. list_any (λ n. same_text (without_suffix word) (text_of n)) ns) words ≡ list_all (is_name p) words
 unfolding is_name
 all_named p ns [] moves texts = refl
 all_named p ns (word ∷ words) moves texts =
-    let here : list_any (λ n. same_text (without_mark word) (text_of n)) ns ≡ list_any (names p word) (legal_moves p) =
+    let here : list_any (λ n. same_text (without_suffix word) (text_of n)) ns ≡ list_any (names p word) (legal_moves p) =
     any_named p word ns (legal_texts p ns moves texts) ∙ ap (list_any (names p word)) moves in
     rw (here, all_named p ns words moves texts) refl
 
 pub are_named : (p : Setup) (ns : List Named) (text : List ℕ) → map move_of ns ≡ legal_moves p → map text_of ns ≡ map (bare_text p) (legal_moves p) → (list : List Named) → list ≡ ns
-    → (not (is_blank text) && list_all (λ word. list_any (λ n. same_text (without_mark word) (text_of n)) list) (words_in text)) ≡ are_names p text
+    → (not (is_blank text) && list_all (λ word. list_any (λ n. same_text (without_suffix word) (text_of n)) list) (words_in text)) ≡ are_names p text
 are_named p ns text moves texts list same =
-    ap (λ (xs : List Named). not (is_blank text) && list_all (λ word. list_any (λ n. same_text (without_mark word) (text_of n)) xs) (words_in text)) same
+    ap (λ (xs : List Named). not (is_blank text) && list_all (λ word. list_any (λ n. same_text (without_suffix word) (text_of n)) xs) (words_in text)) same
     ∙ ap (λ b. not (is_blank text) && b) (all_named p ns (words_in text) moves texts)
 
 -- those that a word names, by their texts and by their moves
 abbrev by_text : List (List ℕ) → List Named → List Named
-by_text words ns = filter (λ n. list_any (λ word. same_text (without_mark word) (text_of n)) words) ns
+by_text words ns = filter (λ n. list_any (λ word. same_text (without_suffix word) (text_of n)) words) ns
 
 abbrev by_move : Setup → List (List ℕ) → List Move → List Move
 by_move p words ms = filter (λ m. list_any (λ word. names p word m) words) ms
 
 kept_named-at : (p : Setup) (words : List (List ℕ)) (n : Named) (ns : List Named) (b : Bool)
-    → list_any (λ word. same_text (without_mark word) (text_of n)) words ≡ b → map move_of (by_text words ns) ≡ by_move p words (map move_of ns)
+    → list_any (λ word. same_text (without_suffix word) (text_of n)) words ≡ b → map move_of (by_text words ns) ≡ by_move p words (map move_of ns)
     → map move_of (by_text words (n ∷ ns)) ≡ cond b (n.m ∷ by_move p words (map move_of ns)) (by_move p words (map move_of ns))
 kept_named-at p words n ns true e rest = rw e (ap (λ ms. n.m ∷ ms) rest)
 kept_named-at p words n ns false e rest = rw e rest
@@ -86,12 +86,12 @@ kept_named : (p : Setup) (words : List (List ℕ)) (ns : List Named) → AreText
     → map move_of (by_text words ns) ≡ by_move p words (map move_of ns)
 kept_named p words [] h = refl
 kept_named p words (n ∷ ns) h =
-    let test : list_any (λ word. same_text (without_mark word) (text_of n)) words ≡ list_any (λ word. names p word n.m) words =
-    ap (λ t. list_any (λ word. same_text (without_mark word) t) words) (first_text p n ns h) in
+    let test : list_any (λ word. same_text (without_suffix word) (text_of n)) words ≡ list_any (λ word. names p word n.m) words =
+    ap (λ t. list_any (λ word. same_text (without_suffix word) t) words) (first_text p n ns h) in
     kept_named-at p words n ns (list_any (λ word. names p word n.m) words) test (kept_named p words ns (other_texts p n ns h))
 
 pub moves_of_words : (p : Setup) (ns : List Named) (words : List (List ℕ)) → map move_of ns ≡ legal_moves p → map text_of ns ≡ map (bare_text p) (legal_moves p)
-    → map move_of (filter (λ n. list_any (λ word. same_text (without_mark word) (text_of n)) words) ns) ≡ named p words
+    → map move_of (filter (λ n. list_any (λ word. same_text (without_suffix word) (text_of n)) words) ns) ≡ named p words
 unfolding named
 moves_of_words p ns words moves texts = kept_named p words ns (legal_texts p ns moves texts) ∙ ap (filter (λ m. list_any (λ word. names p word m) words)) moves
 

@@ -7,16 +7,16 @@ use Rattle.chess_board.specs.Positions.{Setup}
 use Rattle.chess_board.specs.Moves.{Move, move_place}
 use Rattle.chess_moves.specs.Listing.{legal_moves}
 use Rattle.chess_moves.specs.Laws.{IsAbove, IsRising, LegalRise}
-use Rattle.chess_notation.specs.San.{bare_text}
+use Rattle.chess_notation.specs.SanText.{bare_text}
 use Rattle.chess_notation.specs.SanLaws.{BareTextsApart, NamesOne, NamedRead}
-use Rattle.chess_notation.specs.Avoided.{without_mark, names, named}
+use Rattle.chess_notation.specs.AvoidMoves.{without_suffix, names, named}
 use Rattle.chess_notation.proofs.Members.{in_front, in_back, in_cases, any_member}
 use Rattle.chess_notation.proofs.NamedMoves.{rising_kept}
 use Rattle.chess_notation.proofs.TextOrder.{same_text_is}
 
 pub names_one : BareTextsApart → NamesOne
 names_one apart p word m n legal_m legal_n by_m by_n =
-    apart p m n legal_m legal_n (sym (same_text_is (without_mark word) (bare_text p m) by_m) ∙ same_text_is (without_mark word) (bare_text p n) by_n)
+    apart p m n legal_m legal_n (sym (same_text_is (without_suffix word) (bare_text p m) by_m) ∙ same_text_is (without_suffix word) (bare_text p n) by_n)
 
 -- Of moves that rise, a word names one at most.
 abbrev AreLegal : Setup → List Move → Type 0

@@ -3,11 +3,11 @@ use Rattle.std.proofs.Common.{◌≡◌, ◌≢◌, ℕ, suc, ◌+◌, ◌-◌, 
 use Rattle.std.proofs.lemmas.Bool.Decides.{nat_tests}
 use Rattle.std.proofs.lemmas.Bool.{eqb-true}
 use mathlib.Core.Bool.{not}
-use Rattle.chess_notation.specs.declared.strings.Mode.{Mode}
-use Rattle.chess_notation.specs.declared.strings.Mode.TheVariants.{Gap, Plain, Quoted, Closed}
+use Rattle.chess_notation.specs.declared.quoting.Mode.{Mode}
+use Rattle.chess_notation.specs.declared.quoting.Mode.TheVariants.{Gap, Plain, Quoted, Closed}
 use Rattle.chess_notation.specs.Segments.{inside_after, ends_segment}
-use Rattle.chess_notation.specs.Strings.{is_outside, on_mode, fits_from}
-use Rattle.chess_notation.specs.Operations.{Operand, AreWordBytes, HaveNoMark, SpellsOperands}
+use Rattle.chess_notation.specs.Quoting.{is_outside, on_mode, fits_from}
+use Rattle.chess_notation.specs.Operations.{Operand, AreWordBytes, HaveNoQuote, SpellsOperands}
 use Rattle.chess_notation.specs.Operations.Operand.{Word, Text}
 
 -- no semicolon outside a string
@@ -22,7 +22,7 @@ is_inside mode = not (is_outside mode)
 abbrev pub Left : Mode → List ℕ → Type 0
 Left Gap bs = (operands : List Operand) × SpellsOperands (32 ∷ bs) operands
 Left Plain bs = (word : List ℕ) × (rest : List ℕ) × (operands : List Operand) × (bs ≡ word ++ rest) × AreWordBytes word × SpellsOperands rest operands
-Left (Quoted n) bs = (text : List ℕ) × (rest : List ℕ) × (operands : List Operand) × (bs ≡ text ++ 34 ∷ rest) × (length text ≤ 255 - n) × HaveNoMark text × SpellsOperands rest operands
+Left (Quoted n) bs = (text : List ℕ) × (rest : List ℕ) × (operands : List Operand) × (bs ≡ text ++ 34 ∷ rest) × (length text ≤ 255 - n) × HaveNoQuote text × SpellsOperands rest operands
 Left Closed bs = (operands : List Operand) × SpellsOperands bs operands
 
 more_space : (bs : List ℕ) (operands : List Operand) → SpellsOperands (32 ∷ bs) operands → SpellsOperands (32 ∷ 32 ∷ bs) operands

@@ -2,10 +2,10 @@
 use Rattle.std.proofs.Common.{◌≡◌, ℕ, zero, suc, ◌+◌, ◌<◌, ◌≤◌, ◌==◌, nat_le, List, [], ◌∷◌, ◌++◌, true, false, length, refl, ap, sym, ◌∙◌, arith, replicate}
 use Rattle.std.proofs.lemmas.Bool.Decides.{nat_tests}
 use Rattle.std.proofs.lemmas.List.{append-nil}
-use Rattle.chess_notation.specs.declared.strings.Mode.{Mode}
-use Rattle.chess_notation.specs.declared.strings.Mode.TheVariants.{Gap, Plain, Quoted, Closed}
-use Rattle.chess_notation.specs.Strings.{fits_from, squeezed_from}
-use Rattle.chess_notation.specs.Operations.{Operand, operand_text, AreWordBytes, HaveNoMark, IsOperand, SpellsOperands, operands_text}
+use Rattle.chess_notation.specs.declared.quoting.Mode.{Mode}
+use Rattle.chess_notation.specs.declared.quoting.Mode.TheVariants.{Gap, Plain, Quoted, Closed}
+use Rattle.chess_notation.specs.Quoting.{fits_from, squeezed_from}
+use Rattle.chess_notation.specs.Operations.{Operand, operand_text, AreWordBytes, HaveNoQuote, IsOperand, SpellsOperands, operands_text}
 use Rattle.chess_notation.specs.Operations.Operand.{Word, Text}
 use Rattle.chess_notation.proofs.WordSplits.{not_byte}
 
@@ -29,7 +29,7 @@ any_count : (n : ℕ) (bs : List ℕ) → squeezed_from (Quoted n) bs ≡ squeez
 any_count n [] = refl
 any_count n (b ∷ bs) = refl
 
-on_string : (n : ℕ) (text : List ℕ) → n + length text ≤ 255 → HaveNoMark text → ReadsOn (Quoted n) (text ++ 34 ∷ []) Closed (text ++ 34 ∷ [])
+on_string : (n : ℕ) (text : List ℕ) → n + length text ≤ 255 → HaveNoQuote text → ReadsOn (Quoted n) (text ++ 34 ∷ []) Closed (text ++ 34 ∷ [])
 on_string n [] short bytes = record { fits = λ rest. refl; squeezed = λ rest. refl }
 on_string n (b ∷ bs) short bytes =
     let no_mark : (b == 34) ≡ false = not_byte b 34 bytes.0 in

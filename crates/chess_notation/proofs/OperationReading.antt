@@ -2,10 +2,10 @@
 use Rattle.std.proofs.Common.{◌≡◌, ℕ, zero, suc, ◌==◌, List, [], ◌∷◌, ◌++◌, true, false, refl, ap, sym, ◌∙◌, replicate, subst}
 use Rattle.std.specs.List.{list_all}
 use Rattle.std.proofs.lemmas.Bool.{and_parts}
-use Rattle.chess_notation.specs.declared.strings.Mode.TheVariants.{Plain, Closed}
+use Rattle.chess_notation.specs.declared.quoting.Mode.TheVariants.{Plain, Closed}
 use Rattle.chess_notation.specs.Words.{word_at, behind, is_blank}
 use Rattle.chess_notation.specs.Segments.{segments_of}
-use Rattle.chess_notation.specs.Strings.{fits_from, strings_fit}
+use Rattle.chess_notation.specs.Quoting.{fits_from, strings_fit}
 use Rattle.chess_notation.specs.Operations.{is_opcode, AreWordBytes, Operation, SpellsOperation, SpellsOperations}
 use Rattle.chess_notation.specs.EpdFaults.{has_opcode}
 use Rattle.chess_notation.specs.Records.{IsApart}

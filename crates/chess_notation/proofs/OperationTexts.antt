@@ -4,8 +4,8 @@ use Rattle.std.specs.List.{list_all}
 use Rattle.std.proofs.lemmas.List.{append-nil}
 use Rattle.chess_notation.specs.Words.{is_blank}
 use Rattle.chess_notation.specs.Segments.{Segments, with_segment, segments_of}
-use Rattle.chess_notation.specs.Strings.{strings_fit}
-use Rattle.chess_notation.specs.Operations.{is_opcode, Operand, operand_text, IsOperand, AreWordBytes, HaveNoMark, SpellsOperands, Operation, SpellsOperation, SpellsOperations}
+use Rattle.chess_notation.specs.Quoting.{strings_fit}
+use Rattle.chess_notation.specs.Operations.{is_opcode, Operand, operand_text, IsOperand, AreWordBytes, HaveNoQuote, SpellsOperands, Operation, SpellsOperation, SpellsOperations}
 use Rattle.chess_notation.specs.Operations.Operand.{Word, Text}
 use Rattle.chess_notation.specs.EpdFaults.{has_opcode}
 use Rattle.chess_notation.proofs.WordSplits.{word_again, spaces_blank}
@@ -24,7 +24,7 @@ passes_word : (word : List ℕ) → AreWordBytes word → Passes false word fals
 passes_word [] bytes = passes_none false
 passes_word (b ∷ bs) bytes = passes_cons false b false bs false (passes_other false b bytes.1 (λ o. bytes.2)) (passes_word bs bytes.3)
 
-passes_string : (text : List ℕ) → HaveNoMark text → Passes true (text ++ 34 ∷ []) false
+passes_string : (text : List ℕ) → HaveNoQuote text → Passes true (text ++ 34 ∷ []) false
 passes_string [] bytes = passes_mark true
 passes_string (b ∷ bs) bytes = passes_cons true b true (bs ++ 34 ∷ []) false (passes_other true b bytes.0 (λ o. (cc))) (passes_string bs bytes.1)
 

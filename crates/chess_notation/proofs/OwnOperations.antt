@@ -6,8 +6,8 @@ use Rattle.chess_board.specs.Positions.{Setup}
 use Rattle.chess_board.specs.Moves.{Move}
 use Rattle.chess_board.specs.After.{after_setup}
 use Rattle.chess_moves.specs.Laws.{LegalListed, IsLine}
-use Rattle.chess_notation.specs.San.{san_text}
-use Rattle.chess_notation.specs.Operations.{is_printable, AreWordBytes, HaveNoMark, Operation, entry_of}
+use Rattle.chess_notation.specs.SanText.{san_text}
+use Rattle.chess_notation.specs.Operations.{is_printable, AreWordBytes, HaveNoQuote, Operation, entry_of}
 use Rattle.chess_notation.specs.Operations.Operand.{Text}
 use Rattle.chess_notation.specs.Opcodes.{comes_before}
 use Rattle.chess_notation.specs.Records.{dm_of}
@@ -70,15 +70,15 @@ none_text bound = codes "no mate in " ++ decimal bound
 abbrev pub none_operation : ℕ → Operation
 none_operation bound = record { opcode = codes "c0"; operands = Text (none_text bound) ∷ [] }
 
-HaveNoMark-word : (bs : List ℕ) → AreWordBytes bs → HaveNoMark bs
-HaveNoMark-word [] are = tt
-HaveNoMark-word (b ∷ bs) are = (are.1, HaveNoMark-word bs are.3)
+HaveNoQuote-word : (bs : List ℕ) → AreWordBytes bs → HaveNoQuote bs
+HaveNoQuote-word [] are = tt
+HaveNoQuote-word (b ∷ bs) are = (are.1, HaveNoQuote-word bs are.3)
 
-HaveNoMark-both : (xs ys : List ℕ) → list_all (λ b. not (b == 34)) xs ≡ true → HaveNoMark ys → HaveNoMark (xs ++ ys)
-HaveNoMark-both [] ys h k = k
-HaveNoMark-both (x ∷ xs) ys h k =
+HaveNoQuote-both : (xs ys : List ℕ) → list_all (λ b. not (b == 34)) xs ≡ true → HaveNoQuote ys → HaveNoQuote (xs ++ ys)
+HaveNoQuote-both [] ys h k = k
+HaveNoQuote-both (x ∷ xs) ys h k =
     let both = and_parts (not (x == 34)) (list_all (λ b. not (b == 34)) xs) h in
-    ((λ e. let mark : not (x == 34) ≡ false = ap (λ b. not (b == 34)) e in cc), HaveNoMark-both xs ys both.1 k)
+    ((λ e. let mark : not (x == 34) ≡ false = ap (λ b. not (b == 34)) e in cc), HaveNoQuote-both xs ys both.1 k)
 
 pub none_spellable : (bound : ℕ) → IsSpellable (none_operation bound)
 none_spellable bound =
@@ -88,6 +88,6 @@ none_spellable bound =
     let marked : list_all is_printable (none_text bound ++ 34 ∷ []) ≡ true = list_all-both is_printable (none_text bound) (34 ∷ []) text refl in
     record {
       opcode = refl;
-      operands = ((omega (arith, long, decimal_few bound), HaveNoMark-both (codes "no mate in ") (decimal bound) refl (HaveNoMark-word (decimal bound) (plain_word_bytes (decimal bound) plain))), tt);
+      operands = ((omega (arith, long, decimal_few bound), HaveNoQuote-both (codes "no mate in ") (decimal bound) refl (HaveNoQuote-word (decimal bound) (plain_word_bytes (decimal bound) plain))), tt);
       printable = list_all-both is_printable (none_text bound ++ 34 ∷ []) [] marked refl;
     }

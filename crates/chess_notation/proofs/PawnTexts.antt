@@ -3,7 +3,8 @@ use Rattle.std.proofs.Common.{◌≡◌, ℕ, ◌+◌, ◌<◌, ◌≤◌, Bool,
 use Rattle.chess_board.specs.declared.men.Kind.{Kind}
 use Rattle.chess_board.specs.Squares.{file_of, rank_of}
 use Rattle.chess_board.specs.Fields.{square_text}
-use Rattle.chess_notation.specs.San.{file_letter, becomes_text}
+use Rattle.chess_notation.specs.SanText.{becomes_text}
+use Rattle.chess_notation.specs.Disambiguation.{file_letter}
 use Rattle.chess_notation.proofs.TextBytes.{kind_said, kind_said-letter, unmarked, file_unmarked, rank_unmarked, kind_unmarked, rank_no_capture}
 
 abbrev pub pawn_form : Bool → ℕ → ℕ → Option Kind → List ℕ

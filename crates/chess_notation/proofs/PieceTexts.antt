@@ -5,7 +5,8 @@ use Rattle.chess_board.specs.Fields.{square_text}
 use Rattle.chess_board.specs.declared.men.Man.{Man}
 use Rattle.chess_board.specs.Positions.{Setup}
 use Rattle.chess_board.specs.Moves.{Move}
-use Rattle.chess_notation.specs.San.{origin_text, some_rival, is_capture}
+use Rattle.chess_notation.specs.SanText.{is_capture}
+use Rattle.chess_notation.specs.Disambiguation.{origin_text, some_rival}
 use Rattle.chess_notation.proofs.TextBytes.{unmarked, file_unmarked, rank_unmarked, file_no_capture, rank_no_capture, file_high, rank_low}
 
 abbrev tail_form : Bool → Bool → Bool → Bool → ℕ → ℕ → List ℕ

@@ -7,14 +7,14 @@ use Rattle.chess_board.specs.Soundness.{IsSound}
 use Rattle.chess_board.specs.Fens.{SpellsSetup}
 use Rattle.chess_board.specs.Moves.{Move}
 use Rattle.chess_moves.specs.Laws.{LegalListed}
-use Rattle.chess_notation.specs.declared.faults.EpdFault.TheVariants.{BoundTooLarge, BadAvoid}
+use Rattle.chess_notation.specs.declared.epd_faults.EpdFault.TheVariants.{BoundTooLarge, BadAvoid}
 use Rattle.chess_notation.specs.Segments.{segments_of}
 use Rattle.chess_notation.specs.Operations.{Entry}
-use Rattle.chess_notation.specs.Lines.{line_fields, operations_in, cut_of}
+use Rattle.chess_notation.specs.RecordFields.{line_fields, operations_in, cut_of}
 use Rattle.chess_notation.specs.EpdFaults.{are_distinct, is_small_if_bound, are_names, has_names_if_avoid, fault_number, IsAmissBy, IsFaultOf}
-use Rattle.chess_notation.specs.RecordReading.{IsClearTo, bound_said, avoid_text_in, avoid_in, rest_of}
+use Rattle.chess_notation.specs.inside.RecordReading.{IsClearTo, bound_said, avoid_text_in, avoid_in, rest_of}
 use Rattle.chess_notation.specs.Words.{words_in}
-use Rattle.chess_notation.specs.Avoided.{named}
+use Rattle.chess_notation.specs.AvoidMoves.{named}
 use Rattle.chess_notation.specs.Records.{RecordValue, Reads}
 use Rattle.chess_notation.proofs.LineReads.{no_fault_reads}
 use Rattle.chess_notation.proofs.ShownAvoided.{names_by_first}

@@ -11,7 +11,7 @@ use Rattle.chess_board.specs.Positions.{Setup, man_at}
 use Rattle.chess_board.specs.Placement.{kind_letter}
 use Rattle.chess_board.specs.Moves.{Move}
 use Rattle.chess_moves.specs.Listing.{legal_moves}
-use Rattle.chess_notation.specs.San.{is_such, is_rival, some_rival}
+use Rattle.chess_notation.specs.Disambiguation.{is_such, is_rival, some_rival}
 use Rattle.chess_notation.proofs.LegalMen.{IsPlayed}
 use Rattle.chess_notation.proofs.TextBytes.{same_square}
 use Rattle.chess_notation.proofs.PieceTexts.{has_rival, has_on_file, has_on_rank, told_file, told_rank, told_same}

@@ -10,7 +10,7 @@ use Rattle.chess_board.specs.Positions.{Setup, is_empty}
 use Rattle.chess_board.specs.Moves.{Move}
 use Rattle.chess_board.specs.Candidates.{suits, pawn_goes}
 use Rattle.chess_board.specs.After.{is_in_passing, is_castling, wing_of}
-use Rattle.chess_notation.specs.San.{is_capture, pawn_text, wing_text}
+use Rattle.chess_notation.specs.SanText.{is_capture, pawn_text, wing_text}
 use Rattle.chess_notation.proofs.LegalMen.{IsPlayed, move_same}
 use Rattle.chess_notation.proofs.TextBytes.{same_square}
 use Rattle.chess_notation.proofs.PawnTexts.{read_pawn, read_pawn-form}

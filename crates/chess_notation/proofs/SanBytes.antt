@@ -19,7 +19,8 @@ use Rattle.chess_board.specs.Candidates.{man_may, is_candidate}
 use Rattle.chess_board.specs.Legality.{is_safe, is_legal}
 use Rattle.chess_moves.specs.Verdicts.{is_mate}
 use Rattle.chess_moves.specs.Laws.{IsLegalOnBoard}
-use Rattle.chess_notation.specs.San.{some_rival, file_letter, rank_digit, origin_text, hint_text, is_capture, pawn_origin_text, becomes_text, pawn_text, piece_text, wing_text, man_text, bare_text, check_text, san_text}
+use Rattle.chess_notation.specs.SanText.{is_capture, pawn_origin_text, becomes_text, pawn_text, piece_text, wing_text, man_text, bare_text, suffix_text, san_text}
+use Rattle.chess_notation.specs.Disambiguation.{some_rival, file_letter, rank_digit, origin_text, disambiguation_text}
 use Rattle.chess_notation.proofs.PlainBytes.{is_plain, is_plain_low, is_plain_high, list_all-both}
 
 -- at least one byte, and none that is a space, a quotation mark or a semicolon
@@ -60,8 +61,8 @@ origin_plain false on_rank s on = file_plain s
 origin_plain true false s on = rank_plain s on
 origin_plain true true s on = (square_plain s on).1
 
-hint_plain : (p : Setup) (man : Man) (m : Move) → m.origin < 64 → list_all is_plain (hint_text p man m) ≡ true
-hint_plain p man m on =
+disambiguation_plain : (p : Setup) (man : Man) (m : Move) → m.origin < 64 → list_all is_plain (disambiguation_text p man m) ≡ true
+disambiguation_plain p man m on =
     let on_file = some_rival p man m (λ n. file_of n.origin == file_of m.origin) in
     let on_rank = some_rival p man m (λ n. rank_of n.origin == rank_of m.origin) in
     either_plain (some_rival p man m (λ n. true)) (origin_text on_file on_rank m.origin) [] (origin_plain on_file on_rank m.origin on) refl
@@ -80,9 +81,9 @@ pawn_plain p man m on =
 piece_plain : (p : Setup) (man : Man) (m : Move) → m.origin < 64 → m.target < 64 → IsPlainWord (piece_text p man m)
 piece_plain p man m from on =
     let mark = if is_capture p man m then codes "x" else [] in
-    let marked = list_all-both is_plain (hint_text p man m) mark (hint_plain p man m from) (either_plain (is_capture p man m) (codes "x") [] refl refl) in
-    let rest = list_all-both is_plain (hint_text p man m ++ mark) (square_text m.target) marked (square_plain m.target on).1 in
-    IsPlainWord-left (kind_letter man.kind ∷ []) (hint_text p man m ++ mark ++ square_text m.target) ((λ e. cc), rw (letter_plain man.kind) refl) rest
+    let marked = list_all-both is_plain (disambiguation_text p man m) mark (disambiguation_plain p man m from) (either_plain (is_capture p man m) (codes "x") [] refl refl) in
+    let rest = list_all-both is_plain (disambiguation_text p man m ++ mark) (square_text m.target) marked (square_plain m.target on).1 in
+    IsPlainWord-left (kind_letter man.kind ∷ []) (disambiguation_text p man m ++ mark ++ square_text m.target) ((λ e. cc), rw (letter_plain man.kind) refl) rest
 
 castling_plain : (wing : Wing) → IsPlainWord (wing_text wing)
 castling_plain KingSide = ((λ e. cc), refl)
@@ -98,8 +99,8 @@ man_plain p (Some man) m from on may =
     let piece = either_word (is_castling man m) (wing_text (wing_of m.origin m.target)) (piece_text p man m) (castling_plain (wing_of m.origin m.target)) (piece_plain p man m from on) in
     either_word (is_pawn_kind man.kind) (pawn_text p man m) (if is_castling man m then wing_text (wing_of m.origin m.target) else piece_text p man m) (pawn_plain p man m on) piece
 
-check_plain : (p : Setup) → list_all is_plain (check_text p) ≡ true
-unfolding check_text
+check_plain : (p : Setup) → list_all is_plain (suffix_text p) ≡ true
+unfolding suffix_text
 check_plain p =
     either_plain (is_mate p) (codes "#") (if is_in_check p.men p.side then codes "+" else []) refl (either_plain (is_in_check p.men p.side) (codes "+") [] refl refl)
 
@@ -108,7 +109,7 @@ pub san_plain : (p : Setup) (m : Move) → IsLegalOnBoard p m → IsPlainWord (s
 unfolding san_text bare_text is_legal is_candidate
 san_plain p m h =
     let may : man_may p (man_at p.men m.origin) m ≡ true = (and_parts (is_candidate p m) (is_safe p m) h.2).0 in
-    IsPlainWord-left (man_text p (man_at p.men m.origin) m) (check_text (after_setup p m)) (man_plain p (man_at p.men m.origin) m h.0 h.1 may) (check_plain (after_setup p m))
+    IsPlainWord-left (man_text p (man_at p.men m.origin) m) (suffix_text (after_setup p m)) (man_plain p (man_at p.men m.origin) m h.0 h.1 may) (check_plain (after_setup p m))
 
 -- So it is without the mark of a check.
 pub bare_plain : (p : Setup) (m : Move) → IsLegalOnBoard p m → IsPlainWord (bare_text p m)

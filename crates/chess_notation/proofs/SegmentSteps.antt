@@ -6,8 +6,8 @@ use Rattle.chess_notation.specs.Words.{word_at, behind}
 use Rattle.chess_notation.specs.Segments.{with_segment, segments_of}
 use Rattle.chess_notation.specs.Operations.{Entry}
 use Rattle.chess_notation.specs.Opcodes.{is_own, comes_before, with_entry}
-use Rattle.chess_notation.specs.Lines.{entry_in}
-use Rattle.chess_notation.specs.RecordReading.{inserted, kept}
+use Rattle.chess_notation.specs.RecordFields.{entry_in}
+use Rattle.chess_notation.specs.inside.RecordReading.{inserted, kept}
 use Rattle.chess_notation.proofs.WordSplits.{words_split, both_parts}
 
 -- What holds of all bytes of a text holds of those of its first word, and of those of its first segment and behind it.

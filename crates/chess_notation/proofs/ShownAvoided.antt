@@ -12,11 +12,11 @@ use Rattle.chess_notation.specs.Words.{front_word, word_at, behind, is_blank, wo
 use Rattle.chess_notation.specs.Operations.{Operand, SpellsOperands, Operation}
 use Rattle.chess_notation.specs.Operations.Operand.{Word, Text}
 use Rattle.chess_notation.specs.Opcodes.{same_text}
-use Rattle.chess_notation.specs.San.{bare_text}
-use Rattle.chess_notation.specs.Avoided.{is_check_mark, without_mark, names, is_name, named}
+use Rattle.chess_notation.specs.SanText.{bare_text}
+use Rattle.chess_notation.specs.AvoidMoves.{is_suffix, without_suffix, names, is_name, named}
 use Rattle.chess_notation.specs.EpdFaults.{differs_from, are_distinct, is_avoid_segment, are_names, has_names_if_avoid}
 use Rattle.chess_notation.specs.Records.{AreOnce, am_of, AreToAvoid}
-use Rattle.chess_notation.specs.RecordReading.{avoid_text_in, avoid_in}
+use Rattle.chess_notation.specs.inside.RecordReading.{avoid_text_in, avoid_in}
 use Rattle.chess_notation.proofs.Members.{any_member, in_front, in_back, in_none, in_cases, in_same}
 use Rattle.chess_notation.proofs.TextOrder.{same_text_is}
 use Rattle.chess_notation.proofs.PlainBytes.{is_plain}
@@ -35,12 +35,12 @@ plain_head true b (c ∷ cs) h =
     (and_parts (is_plain b) (list_all is_plain (take (length cs) (c ∷ cs))) (sym (ap (list_all is_plain) front) ∙ h.1)).0
 
 name_head : LegalListed → (p : Setup) (b : ℕ) (bs : List ℕ) → is_name p (b ∷ bs) ≡ true → is_plain b ≡ true
-unfolding is_name without_mark
+unfolding is_name without_suffix
 name_head listed p b bs h =
     let found = any_member (names p (b ∷ bs)) (legal_moves p) h in
     let plain = bare_plain p found.0 ((listed p found.0).0 found.1) in
-    let word : IsPlainWord (without_mark (b ∷ bs)) = subst IsPlainWord (sym (same_text_is (without_mark (b ∷ bs)) (bare_text p found.0) found.2)) plain in
-    plain_head (is_check_mark (slice_index (b ∷ bs) (length (b ∷ bs) - 1))) b bs word
+    let word : IsPlainWord (without_suffix (b ∷ bs)) = subst IsPlainWord (sym (same_text_is (without_suffix (b ∷ bs)) (bare_text p found.0) found.2)) plain in
+    plain_head (is_suffix (slice_index (b ∷ bs) (length (b ∷ bs) - 1))) b bs word
 
 quoted_no_name : LegalListed → (p : Setup) (bs : List ℕ) → is_name p (34 ∷ bs) ≡ false
 quoted_no_name listed p bs = (elim (is_name p (34 ∷ bs)) as (λ test. is_name p (34 ∷ bs) ≡ test → test ≡ false) [

@@ -8,10 +8,10 @@ use Rattle.chess_board.specs.Fields.{digits_value}
 use Rattle.chess_notation.specs.Words.{front_word, word_at, behind, is_empty_text, is_blank}
 use Rattle.chess_notation.specs.Operations.{is_digit, Operand, operand_text, IsOperand, spaces, SpellsOperands, Operation}
 use Rattle.chess_notation.specs.Operations.Operand.{Word, Text}
-use Rattle.chess_notation.specs.Lines.{is_number}
+use Rattle.chess_notation.specs.RecordFields.{is_number}
 use Rattle.chess_notation.specs.EpdFaults.{is_bound_segment, has_number, has_number_if_bound, is_small_if_bound}
 use Rattle.chess_notation.specs.Records.{AreOnce, dm_of, IsBoundOf}
-use Rattle.chess_notation.specs.RecordReading.{bound_said}
+use Rattle.chess_notation.specs.inside.RecordReading.{bound_said}
 use Rattle.chess_notation.proofs.Members.{in_front, in_back, in_none, in_cases, in_same}
 use Rattle.chess_notation.proofs.WordSplits.{not_byte, spaces_over, spaces_blank, word_again}
 use Rattle.chess_notation.proofs.FaultFree.{IsBoundNumber, bound_number}

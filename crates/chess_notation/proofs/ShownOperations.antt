@@ -2,12 +2,12 @@
 use Rattle.std.proofs.Common.{◌≡◌, ◌≢◌, ℕ, zero, suc, ◌==◌, nat_le, List, [], ◌∷◌, ◌++◌, true, false, length, refl, ap, sym, ◌∙◌, replicate, map, ◌&&◌}
 use Rattle.std.specs.List.{list_all}
 use Rattle.std.proofs.lemmas.Bool.{and_parts}
-use Rattle.chess_notation.specs.declared.strings.Mode.TheVariants.{Plain}
+use Rattle.chess_notation.specs.declared.quoting.Mode.TheVariants.{Plain}
 use Rattle.chess_notation.specs.Words.{word_at, behind}
-use Rattle.chess_notation.specs.Strings.{fits_from, squeezed_from}
+use Rattle.chess_notation.specs.Quoting.{fits_from, squeezed_from}
 use Rattle.chess_notation.specs.Operations.{is_letter, is_opcode_byte, is_opcode, AreWordBytes, Operand, SpellsOperands, operands_text, Operation, entry_of}
 use Rattle.chess_notation.specs.Opcodes.{same_text}
-use Rattle.chess_notation.specs.Lines.{entry_in}
+use Rattle.chess_notation.specs.RecordFields.{entry_in}
 use Rattle.chess_notation.specs.Records.{HaveNoSpace, IsApart}
 use Rattle.chess_notation.proofs.TextOrder.{same_text_is}
 use Rattle.chess_notation.proofs.OperandTexts.{on_spaces, on_word, spelled_done}

@@ -5,9 +5,9 @@ use Rattle.std.specs.List.{list_all}
 use Rattle.chess_notation.specs.Words.{word_at}
 use Rattle.chess_notation.specs.Operations.{Entry, Operation, entry_of}
 use Rattle.chess_notation.specs.Opcodes.{same_text, is_own}
-use Rattle.chess_notation.specs.Lines.{entry_in}
+use Rattle.chess_notation.specs.RecordFields.{entry_in}
 use Rattle.chess_notation.specs.EpdFaults.{differs_from, are_distinct}
-use Rattle.chess_notation.specs.RecordReading.{inserted, rest_of}
+use Rattle.chess_notation.specs.inside.RecordReading.{inserted, rest_of}
 use Rattle.chess_notation.specs.Records.{AreOnce, IsKeptOf, IsRestOf}
 use Rattle.chess_notation.proofs.Members.{in_front, in_back, in_none, in_cases, in_map, in_map_from}
 use Rattle.chess_notation.proofs.TextOrder.{same_text_self, same_text_other}

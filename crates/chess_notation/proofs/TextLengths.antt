@@ -9,7 +9,7 @@ use Rattle.chess_board.specs.Moves.{Move}
 use Rattle.chess_board.specs.After.{is_castling, wing_of, after_setup}
 use Rattle.chess_board.specs.Attacks.{is_in_check}
 use Rattle.chess_moves.specs.Verdicts.{is_mate}
-use Rattle.chess_notation.specs.San.{is_capture, pawn_text, piece_text, wing_text, man_text, bare_text, check_text, san_text}
+use Rattle.chess_notation.specs.SanText.{is_capture, pawn_text, piece_text, wing_text, man_text, bare_text, suffix_text, san_text}
 use Rattle.chess_notation.proofs.PawnTexts.{length-pawn_form}
 use Rattle.chess_notation.proofs.PieceTexts.{length-tail_text}
 
@@ -35,9 +35,9 @@ pub length-bare_text : (p : Setup) (m : Move) → length (bare_text p m) ≤ 6
 unfolding bare_text
 length-bare_text p m = length-man_text p (man_at p.men m.origin) m
 
-pub length-check_text : (p : Setup) → length (check_text p) ≤ 1
-unfolding check_text
-length-check_text p = by_mark (is_mate p) (is_in_check p.men p.side) where
+pub length-suffix_text : (p : Setup) → length (suffix_text p) ≤ 1
+unfolding suffix_text
+length-suffix_text p = by_mark (is_mate p) (is_in_check p.men p.side) where
   by_mark : (mate check : Bool) → length (if mate then codes "#" else (if check then codes "+" else [])) ≤ 1
   by_mark true check = omega arith
   by_mark false true = omega arith
@@ -45,4 +45,4 @@ length-check_text p = by_mark (is_mate p) (is_in_check p.men p.side) where
 
 pub length-san_text : (p : Setup) (m : Move) → length (san_text p m) ≤ 7
 unfolding san_text
-length-san_text p m = omega (arith, length-append (bare_text p m) (check_text (after_setup p m)), length-bare_text p m, length-check_text (after_setup p m))
+length-san_text p m = omega (arith, length-append (bare_text p m) (suffix_text (after_setup p m)), length-bare_text p m, length-suffix_text (after_setup p m))

@@ -10,7 +10,7 @@ use Rattle.chess_moves.specs.Listing.{legal_moves}
 use Rattle.chess_moves.specs.Laws.{IsLine}
 use Rattle.chess_notation.specs.declared.problems.Outcome.{Outcome}
 use Rattle.chess_notation.specs.declared.problems.Outcome.TheVariants.{Mate, NoMate}
-use Rattle.chess_notation.specs.San.{san_text}
+use Rattle.chess_notation.specs.SanText.{san_text}
 use Rattle.chess_notation.specs.Operations.{Entry}
 use Rattle.chess_notation.specs.Opcodes.{comes_before, with_entry}
 use Rattle.chess_notation.specs.Records.{RecordValue}

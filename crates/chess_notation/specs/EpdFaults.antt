@@ -6,15 +6,15 @@ use Rattle.chess_board.specs.Fields.{digits_value}
 use Rattle.chess_board.specs.Faults.{IsFirst, field_faults, fault_name}
 use Rattle.chess_board.specs.Positions.{Setup}
 use Rattle.chess_board.specs.Fens.{SpellsSetup, IsAmiss}
-use Rattle.chess_notation.specs.declared.faults.EpdFault.{EpdFault}
-use Rattle.chess_notation.specs.declared.faults.EpdFault.TheVariants.{TooLong, NotPrintable, Fen, BadOpcode, BadString, MissingSemicolon, DoubleOpcode, BadBound, BoundTooLarge, BadAvoid, NoMemory}
+use Rattle.chess_notation.specs.declared.epd_faults.EpdFault.{EpdFault}
+use Rattle.chess_notation.specs.declared.epd_faults.EpdFault.TheVariants.{TooLong, NotPrintable, Fen, BadOpcode, BadString, MissingSemicolon, DoubleOpcode, BadBound, BoundTooLarge, BadAvoid, NoMemory}
 use Rattle.chess_notation.specs.Words.{word_at, behind, is_blank, words_in}
 use Rattle.chess_notation.specs.Segments.{Segments}
-use Rattle.chess_notation.specs.Strings.{strings_fit}
+use Rattle.chess_notation.specs.Quoting.{strings_fit}
 use Rattle.chess_notation.specs.Operations.{is_printable, is_opcode}
 use Rattle.chess_notation.specs.Opcodes.{same_text}
-use Rattle.chess_notation.specs.Avoided.{is_name}
-use Rattle.chess_notation.specs.Lines.{is_number, fourth_word, line_fields, cut_of}
+use Rattle.chess_notation.specs.AvoidMoves.{is_name}
+use Rattle.chess_notation.specs.RecordFields.{is_number, fourth_word, line_fields, cut_of}
 
 -- A fault prints as its name; that of the fields as the word `Fen`, a space and the name of the FEN's fault.
 abbrev pub epd_fault_name : EpdFault → List ℕ

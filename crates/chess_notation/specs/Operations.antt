@@ -40,13 +40,13 @@ abbrev pub AreWordBytes : List ℕ → Type 0
 AreWordBytes [] = Unit {0}
 AreWordBytes (b ∷ bs) = (b ≢ char " ") × (b ≢ char "\"") × (b ≢ char ";") × AreWordBytes bs
 
-abbrev pub HaveNoMark : List ℕ → Type 0
-HaveNoMark [] = Unit {0}
-HaveNoMark (b ∷ bs) = (b ≢ char "\"") × HaveNoMark bs
+abbrev pub HaveNoQuote : List ℕ → Type 0
+HaveNoQuote [] = Unit {0}
+HaveNoQuote (b ∷ bs) = (b ≢ char "\"") × HaveNoQuote bs
 
 abbrev pub IsOperand : Operand → Type 0
 IsOperand (Word word) = (word ≢ []) × AreWordBytes word
-IsOperand (Text text) = (length text ≤ 255) × HaveNoMark text
+IsOperand (Text text) = (length text ≤ 255) × HaveNoQuote text
 
 -- one or more spaces
 abbrev pub spaces : ℕ → List ℕ

@@ -12,7 +12,7 @@ use Rattle.chess_board.specs.Moves.{Move}
 use Rattle.chess_notation.specs.Operations.{Operation, Entry, entry_of, SpellsOperations, is_digit, is_printable}
 use Rattle.chess_notation.specs.Operations.Operand.{Word}
 use Rattle.chess_notation.specs.Opcodes.{is_own, RisesByOpcode}
-use Rattle.chess_notation.specs.Avoided.{is_name, named}
+use Rattle.chess_notation.specs.AvoidMoves.{is_name, named}
 use Rattle.chess_notation.specs.Problems.{ProblemValue}
 
 -- what a record says: a position, the bound within which mate is asked for, the first moves to avoid, and the other operations

@@ -4,14 +4,14 @@ use Rattle.chess_board.specs.Positions.{Setup}
 use Rattle.chess_board.specs.Moves.{Move}
 use Rattle.chess_moves.specs.Listing.{legal_moves}
 use Rattle.chess_moves.specs.Laws.{IsRising}
-use Rattle.chess_notation.specs.San.{bare_text, san_text}
-use Rattle.chess_notation.specs.Avoided.{names, named}
+use Rattle.chess_notation.specs.SanText.{bare_text, san_text}
+use Rattle.chess_notation.specs.AvoidMoves.{names, named}
 
 -- Two legal moves of one position that have one text are one move.
 abbrev pub TextsApart : Type 0
 TextsApart = (p : Setup) (m n : Move) → Contains (legal_moves p) m → Contains (legal_moves p) n → san_text p m ≡ san_text p n → m ≡ n
 
--- So they are where their texts are the same without the mark of a check.
+-- So they are where their texts are the same without the suffix.
 abbrev pub BareTextsApart : Type 0
 BareTextsApart = (p : Setup) (m n : Move) → Contains (legal_moves p) m → Contains (legal_moves p) n → bare_text p m ≡ bare_text p n → m ≡ n
 

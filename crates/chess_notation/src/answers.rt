@@ -1,20 +1,19 @@
 //! The text that answers a record.
 
-ghost use Rattle.std.specs.Prelude.{◌≡◌, ◌++◌, ◌∷◌, [], List, map, IfOk, OnOk, string_bytes};
+ghost use Rattle.std.specs.Prelude.{◌≡◌, ◌≤◌, ◌++◌, ◌∷◌, [], List, length, map, IfOk, OnOk, string_bytes};
+ghost use Rattle.std.specs.List.{insert};
 ghost use Rattle.chess_moves.specs.Laws.{IsLine};
 ghost use Rattle.chess_notation.specs.Operations.{Entry};
 ghost use Rattle.chess_notation.specs.Opcodes.{IsBelow};
-ghost use Rattle.chess_notation.specs.San.{san_text};
-ghost use Rattle.chess_notation.specs.Merging.{with_entries};
-ghost use Rattle.chess_notation.specs.Answers.{entry_text, entries_text, in_order, operand_words, line_texts, keys_entry, length_entry, line_entry, none_entry, AreLegal, IsPlayable, answer_text as answer_text_of};
+ghost use Rattle.chess_notation.specs.SanText.{san_text};
+ghost use Rattle.chess_notation.specs.inside.Merging.{with_entries};
+ghost use Rattle.chess_notation.specs.Answers.{entry_text, entries_text, with_text, in_order, operand_words, line_texts, keys_entry, length_entry, line_entry, none_entry, AreLegal, IsPlayable, answer_text as answer_text_of};
 
-use crate::bounds::Bound;
-use crate::move_texts::san;
 use crate::no_memory::NoMemory;
 use crate::opcodes::comes_before;
-use crate::ordered::put;
-use crate::problems::Outcome;
+use crate::problems::{Bound, Outcome};
 use crate::records::{Operation, Record};
+use crate::san_text::san;
 use arrayvec::ArrayString;
 use chess_board::{Move, Position, after};
 use chess_moves::{Rays, legal_listed};
@@ -80,6 +79,28 @@ fn push_words(text: &mut String, words: &[ArrayString<8>]) -> Result<(), AllocEr
     Ok(())
 }
 
+/// Where a text belongs among others.
+fn text_place(text: &[u8], texts: &[ArrayString<8>]) -> usize
+    ensures within { result ≤ length texts.now }
+    ensures place { with_text text.now (map (λ t. t.bytes) texts.now) ≡ insert (map (λ t. t.bytes) texts.now) result text.now }
+{
+    for (index, other) in texts.iter().enumerate() {
+        if comes_before(text, other.as_str().as_bytes()) {
+            return index;
+        }
+    }
+    texts.len()
+}
+
+/// Puts a text at its place.
+fn put_text(texts: &mut Vec<ArrayString<8>>, text: ArrayString<8>) -> Result<(), AllocError>
+    ensures { OnOk result (map (λ t. t.bytes) texts.new.items ≡ with_text text.bytes (map (λ t. t.bytes) texts.old.items)) }
+{
+    let place = text_place(text.as_str().as_bytes(), texts.as_slice());
+    texts.insert(place, text)?;
+    Ok(())
+}
+
 /// The texts of moves of one position, in order.
 fn key_texts(
     alloc: Global,
@@ -94,7 +115,7 @@ fn key_texts(
     legal_listed();
     let mut texts = Vec::new(alloc);
     for index in (0..keys.len()).rev() {
-        put(&mut texts, san(rays, position, keys[index]))?;
+        put_text(&mut texts, san(rays, position, keys[index]))?;
     }
     Ok(texts)
 }

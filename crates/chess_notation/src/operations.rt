@@ -4,17 +4,17 @@ ghost use Rattle.std.specs.Prelude.{◌≡◌, ◌≢◌, ℕ, ◌<◌, ◌≤�
 ghost use Rattle.std.specs.List.{list_all, insert};
 ghost use Rattle.chess_notation.specs.Words.{word_at as word_of_text};
 ghost use Rattle.chess_notation.specs.Segments.{segments_of};
-ghost use Rattle.chess_notation.specs.Strings.{squeezed_from};
+ghost use Rattle.chess_notation.specs.Quoting.{squeezed_from};
 ghost use Rattle.chess_notation.specs.Operations.{Entry, is_opcode, is_printable};
 ghost use Rattle.chess_notation.specs.Opcodes.{is_own as is_own_opcode, with_entry};
-ghost use Rattle.chess_notation.specs.Lines.{entry_in};
+ghost use Rattle.chess_notation.specs.RecordFields.{entry_in};
 ghost use Rattle.chess_notation.specs.EpdFaults.{has_opcode};
-ghost use Rattle.chess_notation.specs.RecordReading.{rest_of};
+ghost use Rattle.chess_notation.specs.inside.RecordReading.{rest_of};
 
 use crate::opcodes::{comes_before, is_own};
+use crate::quoting::Mode;
 use crate::records::Operation;
 use crate::segments::first_segment;
-use crate::strings::Mode;
 use crate::words::word_at;
 use arrayvec::ArrayString;
 use std::alloc::{AllocError, Global};
@@ -136,7 +136,7 @@ fn add_segment(
 }
 
 /// The operations that a record keeps.
-#[tactic(auto, unfolding(crate::specs::RecordReading::rest_of))]
+#[tactic(auto, unfolding(crate::specs::inside::RecordReading::rest_of))]
 pub(crate) fn operations_of(alloc: Global, text: &[u8]) -> Result<Vec<Operation>, AllocError>
     requires opcodes { list_all has_opcode (segments_of text.now).ended ≡ true }
     requires printable { list_all is_printable text.now ≡ true }

@@ -3,8 +3,7 @@
 ghost use Rattle.std.specs.Prelude.{◌≡◌};
 ghost use Rattle.chess_notation.specs.Records.{problem_of};
 
-use crate::bounds::Bound;
-use crate::problems::{AvoidList, Problem};
+use crate::problems::{AvoidList, Bound, Problem};
 use arrayvec::ArrayString;
 use chess_board::Position;
 use std::marker::Model;

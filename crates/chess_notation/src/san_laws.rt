@@ -11,7 +11,7 @@ pub fn texts_apart()
     legal_listed();
 }
 
-/// Nor do they where the mark of a check is left out.
+/// Nor do they where the suffix is left out.
 pub fn bare_texts_apart()
     ensures { BareTextsApart }
 {
@@ -23,7 +23,7 @@ pub fn texts_short()
     ensures { TextsShort }
 {}
 
-/// A word names one legal move at most, whether the mark of a check stands at its end or not.
+/// A word names one legal move at most, whether its suffix stands at its end or not.
 pub fn names_one()
     ensures { NamesOne }
 {

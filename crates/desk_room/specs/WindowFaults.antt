@@ -3,7 +3,7 @@
 use Rattle.std.specs.Prelude.{◌≡◌, ◌⊎◌, ℕ, List, codes}
 use Rattle.chess_notation.specs.Records.{RecordValue, Reads}
 use Rattle.chess_notation.specs.EpdFaults.{IsFaultOf, epd_fault_name}
-use Rattle.chess_notation.specs.declared.faults.EpdFault.TheVariants.{NoMemory}
+use Rattle.chess_notation.specs.declared.epd_faults.EpdFault.TheVariants.{NoMemory}
 use Rattle.desk_room.specs.declared.window_faults.WindowFault.{WindowFault}
 use Rattle.desk_room.specs.declared.window_faults.WindowFault.TheVariants as submit
 use Rattle.desk_room.specs.declared.window_faults.WithdrawFault.{WithdrawFault}

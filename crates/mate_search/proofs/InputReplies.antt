@@ -4,8 +4,8 @@ use Rattle.std.proofs.lemmas.List.{append-nil}
 use Rattle.std.proofs.KnownBytes.{Appends-kept, Appends-trans, Consumes-trans}
 use Rattle.std.proofs.Math.Seq.{take-append_seam, take-length}
 use Rattle.std.specs.Io.KnownBytes.{Appends, Consumes, IsAtEnd, Keeps}
-use Rattle.chess_notation.specs.declared.faults.EpdFault.{EpdFault}
-use Rattle.chess_notation.specs.declared.faults.EpdFault.TheVariants.{NoMemory}
+use Rattle.chess_notation.specs.declared.epd_faults.EpdFault.{EpdFault}
+use Rattle.chess_notation.specs.declared.epd_faults.EpdFault.TheVariants.{NoMemory}
 use Rattle.chess_notation.specs.Words.{is_blank}
 use Rattle.chess_notation.specs.Records.{RecordValue, Reads}
 use Rattle.chess_notation.specs.EpdFaults.{IsFaultOf}

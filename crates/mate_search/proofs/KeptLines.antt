@@ -2,8 +2,8 @@
 use Rattle.std.proofs.Common.{◌≡◌, ◌++◌, ◌-◌, ◌==◌, ◌&&◌, ◌||◌, ◌<◌, ◌≤◌, ℕ, zero, suc, Bool, true, false, List, [], ◌∷◌, Result, Ok, Err, IfOk, refl, sym, ap, ◌∙◌, subst, arith, length, take, get_or, cond, min, ne_eqb, ◌≢◌}
 use Rattle.std.proofs.Math.Bool.{and-true, or_comm}
 use Rattle.std.proofs.lemmas.List.{length-take, take_all, take_min}
-use Rattle.chess_notation.specs.declared.faults.EpdFault.{EpdFault}
-use Rattle.chess_notation.specs.declared.faults.EpdFault.TheVariants as fault
+use Rattle.chess_notation.specs.declared.epd_faults.EpdFault.{EpdFault}
+use Rattle.chess_notation.specs.declared.epd_faults.EpdFault.TheVariants as fault
 use Rattle.chess_notation.specs.EpdFaults.{IsAmissBy, fault_number}
 use Rattle.chess_notation.specs.Words.{after_spaces, is_blank, is_empty_text}
 use Rattle.mate_search.specs.Replies.{IsLineReply, skipped, refused, fault_line, without_cr}

@@ -2,7 +2,7 @@
 use Rattle.std.specs.Prelude.{◌≡◌, ℕ, ◌+◌, ◌-◌, length, take, slice_index, ◌==◌, List, [], ◌∷◌, ◌++◌, codes, decimal, true, false, if◌then◌else◌}
 use Rattle.std.specs.List.{slice_split}
 use Rattle.chess_board.specs.Characters.{char}
-use Rattle.chess_notation.specs.declared.faults.EpdFault.{EpdFault}
+use Rattle.chess_notation.specs.declared.epd_faults.EpdFault.{EpdFault}
 use Rattle.chess_notation.specs.Words.{is_blank}
 use Rattle.chess_notation.specs.Records.{RecordValue, problem_of, Reads}
 use Rattle.chess_notation.specs.EpdFaults.{IsFaultOf, epd_fault_name}

@@ -5,7 +5,7 @@ use Rattle.std.proofs.lemmas.Option.{cond_some, option_and_then_some, none-some}
 use Rattle.std.proofs.lemmas.Slice.Eq.{bytes_eq-Decides}
 use Rattle.std.specs.Option.{option_and_then}
 use Rattle.std.specs.Str.{bytes_eq}
-use Rattle.chess_notation.specs.Bounds.{bound_of, max_bound}
+use Rattle.chess_notation.specs.Problems.{bound_of, max_bound}
 use Rattle.matedesk.specs.Scripts.{SpellsDesk}
 use Rattle.matedesk.specs.ScriptReading.{DeskValue, cut_at, number_of, number_cut, desk_of, desk_numbers}
 use Rattle.matedesk.proofs.NumberLaws.{map_some, number_spelled, number_read, cut_spelled, number_cut_spelled, number_cut_read}

@@ -10,11 +10,11 @@ use Rattle.chess_board.specs.Squares.{any_below}
 use Rattle.chess_board.specs.declared.faults.FenFault.TheVariants as fen
 use Rattle.chess_board.specs.Laws.{SpellsOne}
 use Rattle.chess_notation.specs.EpdFaults.{HasNoFault, IsAmissBy, IsFaultOf}
-use Rattle.chess_notation.specs.Lines.{fourth_word}
+use Rattle.chess_notation.specs.RecordFields.{fourth_word}
 use Rattle.chess_notation.specs.RecordLaws.{RecordsClear}
 use Rattle.chess_notation.specs.Words.{behind, is_blank, word_at}
-use Rattle.chess_notation.specs.declared.faults.EpdFault.{EpdFault}
-use Rattle.chess_notation.specs.declared.faults.EpdFault.TheVariants as fault
+use Rattle.chess_notation.specs.declared.epd_faults.EpdFault.{EpdFault}
+use Rattle.chess_notation.specs.declared.epd_faults.EpdFault.TheVariants as fault
 use Rattle.clap.specs.Words.{Text}
 use Rattle.mate_search.specs.Inputs.{MayBe}
 use Rattle.matedesk.specs.Solved.{IsReplies, Solves}

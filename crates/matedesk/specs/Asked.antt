@@ -8,7 +8,7 @@ use Rattle.clap.specs.Walk.{byte_or_zero}
 use Rattle.clap.specs.declared.error.kind.ErrorKind.{ErrorKind}
 use Rattle.clap.specs.declared.error.kind.ErrorKind.TheVariants.{DisplayHelp, DisplayVersion}
 use Rattle.clap.specs.declared.parser.matches.ArgMatches.{ArgMatches}
-use Rattle.chess_notation.specs.Bounds.{bound_of}
+use Rattle.chess_notation.specs.Problems.{bound_of}
 use Rattle.matedesk.specs.CommandLine.{desk_app}
 use Rattle.matedesk.specs.Depths.{depth_of}
 use Rattle.matedesk.specs.Hyphens.{escaped}

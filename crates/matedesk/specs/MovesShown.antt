@@ -7,7 +7,7 @@ use Rattle.chess_moves.specs.Plays.{plays}
 use Rattle.chess_moves.specs.Verdicts.{verdict_of}
 use Rattle.chess_moves.specs.declared.verdicts.Verdict.{Verdict}
 use Rattle.chess_moves.specs.declared.verdicts.Verdict.TheVariants.{Play, Mate, Stalemate}
-use Rattle.chess_notation.specs.San.{san_text}
+use Rattle.chess_notation.specs.SanText.{san_text}
 use Rattle.matedesk.specs.Shown.{line}
 
 -- each legal move on a line, in SAN and in move order

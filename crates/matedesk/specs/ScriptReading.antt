@@ -3,7 +3,7 @@ use Rattle.std.specs.Prelude.{◌==◌, ◌&&◌, ℕ, Bool, List, [], ◌∷◌
 use Rattle.std.specs.List.{list_all}
 use Rattle.std.specs.Str.{bytes_eq}
 use Rattle.chess_board.specs.Fields.{digits_value}
-use Rattle.chess_notation.specs.Bounds.{bound_of}
+use Rattle.chess_notation.specs.Problems.{bound_of}
 use Rattle.chess_notation.specs.Operations.{is_digit}
 use Rattle.matedesk.specs.declared.script_lines.Line.{Line as LineRead}
 use Rattle.matedesk.specs.Scripts.{Line, StepValue, Submit, Take, Finish, HandBack, Collect, Withdraw, Drained, Close}

@@ -2,7 +2,7 @@
 use Rattle.std.specs.Prelude.{◌≡◌, ◌<◌, ◌≤◌, ◌+◌, ◌++◌, ℕ, List, [], ◌∷◌, codes, length, map, true, ⊤, if◌then◌else◌}
 use Rattle.std.specs.List.{list_all}
 use Rattle.chess_board.specs.Fields.{digits_value}
-use Rattle.chess_notation.specs.Bounds.{max_bound}
+use Rattle.chess_notation.specs.Problems.{max_bound}
 use Rattle.chess_notation.specs.Operations.{is_digit}
 use Rattle.chess_notation.specs.Words.{is_blank}
 use Rattle.mate_desk.specs.declared.events.Step.{Step}

@@ -1,7 +1,7 @@
 //! A line of a script: the desk that it opens.
 
 ghost use Rattle.std.specs.Prelude.{◌≡◌};
-ghost use Rattle.chess_notation.specs.Bounds.{bound_of as bound_of_number};
+ghost use Rattle.chess_notation.specs.Problems.{bound_of as bound_of_number};
 ghost use Rattle.matedesk.specs.ScriptReading.{desk_numbers, desk_of};
 
 use crate::script_words::{cut_at, is_word, number_cut, number_of};

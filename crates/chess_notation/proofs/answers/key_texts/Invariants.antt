@@ -1,5 +1,5 @@
 use Rattle.std.proofs.Common.{◌≡◌, drop, map}
-use Rattle.chess_notation.specs.San.{san_text}
+use Rattle.chess_notation.specs.SanText.{san_text}
 use Rattle.chess_notation.specs.Answers.{in_order}
 use Rattle.chess_notation.proofs.answers.key_texts.Given as goal
 

@@ -1,6 +1,6 @@
 use Rattle.std.proofs.Common.{◌∙◌, ◌++◌, List, refl, sym, ap, [], ◌∷◌, string_bytes}
 use Rattle.chess_notation.specs.Operations.{Entry}
-use Rattle.chess_notation.specs.Merging.{with_entries}
+use Rattle.chess_notation.specs.inside.Merging.{with_entries}
 use Rattle.chess_notation.specs.Records.{RecordValue}
 use Rattle.chess_notation.specs.Answers.{keys_entry, length_entry, line_entry, entries_text}
 use Rattle.chess_notation.proofs.Merges.{own_printed}

@@ -1,7 +1,7 @@
 use Rattle.std.proofs.Common.{◌≡◌, ◌++◌, ◌∷◌, List, drop, string_bytes}
 use Rattle.chess_notation.specs.Operations.{Entry}
 use Rattle.chess_notation.specs.Opcodes.{IsBelow}
-use Rattle.chess_notation.specs.Merging.{with_entries}
+use Rattle.chess_notation.specs.inside.Merging.{with_entries}
 use Rattle.chess_notation.specs.Answers.{entries_text}
 use Rattle.chess_notation.proofs.answers.push_until.Given as goal
 

@@ -2,7 +2,7 @@ use Rattle.std.proofs.Common.{◌≢◌, List, [], Result, Ok, Err, OnErr, subst
 use Rattle.chess_notation.specs.Operations.{is_printable}
 use Rattle.chess_notation.specs.EpdFaults.{has_opcode}
 use Rattle.chess_notation.proofs.SegmentSteps.{kept_more, some_kept, all_behind_segment, all_in_segment}
-use Rattle.chess_notation.specs.RecordReading.{rest_of}
+use Rattle.chess_notation.specs.inside.RecordReading.{rest_of}
 use Rattle.chess_notation.proofs.operations.operations_of.Goals as goal
 
 pub loop-segment-preserved : goal.loop-segment-preserved

@@ -3,7 +3,7 @@ use Rattle.std.specs.List.{list_all}
 use Rattle.chess_notation.specs.Segments.{segments_of}
 use Rattle.chess_notation.specs.Operations.{is_printable}
 use Rattle.chess_notation.specs.EpdFaults.{has_opcode}
-use Rattle.chess_notation.specs.RecordReading.{inserted, kept}
+use Rattle.chess_notation.specs.inside.RecordReading.{inserted, kept}
 use Rattle.chess_notation.proofs.operations.operations_of.Given as goal
 
 abbrev pub invariant-loop-segment : goal.invariant-loop-segment

@@ -1,7 +1,7 @@
 use Rattle.std.proofs.Common.{List, [], ℕ, ◌⊎◌, ◌≡◌, ◌≢◌, subst, arith}
 use Rattle.chess_notation.specs.Records.{RecordValue, Reads}
 use Rattle.chess_notation.specs.EpdFaults.{IsFaultOf}
-use Rattle.chess_notation.specs.declared.faults.EpdFault.TheVariants.{NoMemory}
+use Rattle.chess_notation.specs.declared.epd_faults.EpdFault.TheVariants.{NoMemory}
 use Rattle.mate_desk.proofs.Submissions.{accepts, refuses, faulty}
 use Rattle.mate_desk.proofs.Finishing.{submitted}
 use Rattle.mate_desk.proofs.stepping.submit.Goals.{in-Ok-submit, in-Err-submit}

@@ -1,6 +1,6 @@
 use Rattle.std.proofs.Common.{◌≡◌, take}
 use Rattle.std.specs.Prelude.{flat_map}
-use Rattle.chess_notation.specs.San.{san_text}
+use Rattle.chess_notation.specs.SanText.{san_text}
 use Rattle.matedesk.specs.Shown.{line}
 use Rattle.matedesk.proofs.moves.list_text.Given as goal
 

@@ -1,5 +1,5 @@
 use Rattle.std.proofs.Common.{◌≡◌, ◌≢◌, ◌+◌, ◌∙◌, ap, sym, length, rules, subst, ℕ}
-use Rattle.chess_notation.specs.declared.faults.EpdFault.TheVariants.{NoMemory}
+use Rattle.chess_notation.specs.declared.epd_faults.EpdFault.TheVariants.{NoMemory}
 use Rattle.mate_search.specs.Replies.{fault_line, IsLineReply, without_cr}
 use Rattle.desk_room.specs.Windows.{default_of}
 use Rattle.desk_room.specs.WindowFaults.{RefusesLine}

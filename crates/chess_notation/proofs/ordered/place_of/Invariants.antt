@@ -1,6 +1,0 @@
-use Rattle.std.proofs.Common.{map}
-use Rattle.chess_notation.proofs.TextPlaces.{GoesBehind}
-use Rattle.chess_notation.proofs.ordered.place_of.Given as goal
-
-abbrev pub invariant-loop-index : goal.invariant-loop-index
-invariant-loop-index l = GoesBehind (map (λ t. t.bytes) l.texts) l.text l.index

@@ -1,0 +1,11 @@
+use Rattle.std.proofs.Common.{◌≡◌, length}
+use Rattle.std.specs.List.{list_all}
+use Rattle.chess_notation.specs.Segments.{segments_of}
+use Rattle.chess_notation.specs.EpdFaults.{has_number_if_bound}
+use Rattle.chess_notation.proofs.problem_operations.have_numbers.Given as goal
+
+abbrev pub invariant-loop-segment : goal.invariant-loop-segment
+invariant-loop-segment l = list_all has_number_if_bound (segments_of l.rest).ended ≡ list_all has_number_if_bound (segments_of l.text).ended
+
+abbrev pub decreases-loop-segment : goal.decreases-loop-segment
+decreases-loop-segment l = length l.rest

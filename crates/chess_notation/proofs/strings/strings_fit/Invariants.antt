@@ -1,6 +1,0 @@
-use Rattle.std.proofs.Common.{◌≡◌, drop}
-use Rattle.chess_notation.specs.Strings.{fits_from, strings_fit}
-use Rattle.chess_notation.proofs.strings.strings_fit.Given as goal
-
-abbrev pub invariant-loop-byte : goal.invariant-loop-byte
-invariant-loop-byte l = fits_from l.mode (drop l.byte-index l.segment) ≡ strings_fit l.segment

@@ -1,0 +1,96 @@
+//! The fields of a record: the first four of a FEN, and behind them the text of the operations.
+
+ghost use Rattle.std.specs.Prelude.{◌≡◌};
+ghost use Rattle.std.specs.List.{list_all};
+ghost use Rattle.chess_board.specs.Fens.{Fields};
+ghost use Rattle.chess_notation.specs.Operations.{is_digit as is_digit_byte, is_printable as is_printable_byte};
+ghost use Rattle.chess_notation.specs.RecordFields.{is_number as is_number_text, is_counter as is_counter_text, line_fields, behind_fields, behind_counters as text_behind_counters, operations_in as text_of_operations};
+
+use crate::opcodes::is_digit;
+use crate::words::word_at;
+
+/// The four fields of a line, and what follows them.
+#[derive(Clone, Copy)]
+pub(crate) struct Parts<'a> {
+    pub(crate) placement: &'a [u8],
+    pub(crate) side: &'a [u8],
+    pub(crate) castling: &'a [u8],
+    pub(crate) target: &'a [u8],
+    rest: &'a [u8],
+}
+
+fn are_digits(text: &[u8]) -> bool
+    ensures { result ≡ list_all is_digit_byte text.now }
+{
+    for byte in text {
+        if !is_digit(*byte) {
+            return false;
+        }
+    }
+    true
+}
+
+/// Whether a word is digits, one at least.
+pub(crate) fn is_number(word: &[u8]) -> bool
+    ensures { result ≡ is_number_text word.now }
+{
+    !word.is_empty() && are_digits(word)
+}
+
+/// Whether a word is one to four digits.
+fn is_counter(word: &[u8]) -> bool
+    ensures { result ≡ is_counter_text word.now }
+{
+    is_number(word) && word.len() <= 4
+}
+
+/// Whether each byte is ASCII and no control.
+pub(crate) fn are_printable(text: &[u8]) -> bool
+    ensures { result ≡ list_all is_printable_byte text.now }
+{
+    for byte in text {
+        if !(b' '..=b'~').contains(byte) {
+            return false;
+        }
+    }
+    true
+}
+
+/// The first four words of a line, of which any may be empty, and what follows them.
+#[tactic(auto, unfolding(crate::specs::RecordFields::fourth_word, crate::specs::RecordFields::line_fields, crate::specs::RecordFields::behind_fields))]
+pub(crate) fn parts_of(line: &[u8]) -> Parts<'_>
+    ensures fields { line_fields line.now
+        ≡ record { placement = result.placement.now; side = result.side.now; castling = result.castling.now; target = result.target.now } }
+    ensures rest { result.rest.now ≡ behind_fields line.now }
+{
+    let (placement, rest) = word_at(line);
+    let (side, rest) = word_at(rest);
+    let (castling, rest) = word_at(rest);
+    let (target, rest) = word_at(rest);
+    Parts {
+        placement,
+        side,
+        castling,
+        target,
+        rest,
+    }
+}
+
+/// What follows two counters, where they are there.
+#[tactic(auto, unfolding(crate::specs::RecordFields::behind_counters))]
+fn behind_counters(text: &[u8]) -> &[u8]
+    ensures { result.now ≡ text_behind_counters text.now }
+{
+    let (halfmove, more) = word_at(text);
+    let (fullmove, rest) = word_at(more);
+    let has_counters = is_counter(halfmove) && is_counter(fullmove);
+    if has_counters { rest } else { text }
+}
+
+/// The text of the operations.
+#[tactic(auto, unfolding(crate::specs::RecordFields::operations_in))]
+pub(crate) fn operations_in(line: &[u8]) -> &[u8]
+    ensures { result.now ≡ text_of_operations line.now }
+{
+    behind_counters(parts_of(line).rest)
+}
