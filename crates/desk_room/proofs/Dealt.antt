@@ -1,7 +1,7 @@
 -- What a clerk has dealt with, one step more.
 use Rattle.std.proofs.Common.{◌≡◌, ℕ, ◌+◌, ◌≤◌, List, [], ◌∷◌, ◌++◌, length, refl, ap, sym, ◌∙◌, subst, arith, append_assoc, append-nil, length-append}
 use Rattle.chess_notation.specs.Records.{RecordValue}
-use Rattle.mate_search.specs.Replies.{answer_line, without_cr, IsLineReply, IsReplyFrom}
+use Rattle.mate_search.specs.InputReplies.{answer_line, without_cr, IsLineReply, IsReplyFrom}
 use Rattle.mate_search.proofs.InputReplies.{replies_next}
 use Rattle.desk_room.specs.Clerks.{woven, Deals}
 

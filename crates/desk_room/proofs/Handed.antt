@@ -6,7 +6,7 @@ use Rattle.chess_notation.specs.Words.{is_blank}
 use Rattle.chess_notation.specs.EpdFaults.{IsFaultOf}
 use Rattle.chess_notation.specs.declared.epd_faults.EpdFault.{EpdFault}
 use Rattle.chess_notation.specs.declared.epd_faults.EpdFault.TheVariants.{NoMemory}
-use Rattle.mate_search.specs.Replies.{answer_line, fault_line, without_cr, lines_of, IsLineReply, IsReply, answered as is_answered, refused as is_refused}
+use Rattle.mate_search.specs.InputReplies.{answer_line, fault_line, without_cr, lines_of, IsLineReply, IsReply, answered as is_answered, refused as is_refused}
 use Rattle.desk_room.specs.Letters.{records}
 use Rattle.desk_room.specs.Deliveries.{asked}
 use Rattle.desk_room.specs.Windows.{letters_sent, collected, default_of, SameWindow}

@@ -1,8 +1,8 @@
 -- What a clerk has done, and what its report says. Own to the code: the contract of `serve` rests on none of it.
 use Rattle.std.specs.Prelude.{◌≡◌, ℕ, ◌+◌, List, [], ◌∷◌, ◌++◌, length, map, IfSome}
 use Rattle.chess_notation.specs.Records.{RecordValue}
-use Rattle.mate_search.specs.Replies.{answer_line, lines_of, IsReply, IsReplyFrom}
-use Rattle.mate_search.specs.declared.replies.Output.{Output}
+use Rattle.mate_search.specs.InputReplies.{answer_line, lines_of, IsReply, IsReplyFrom}
+use Rattle.mate_search.specs.declared.input_replies.Output.{Output}
 use Rattle.desk_room.specs.Letters.{records}
 use Rattle.desk_room.specs.Deliveries.{asked}
 use Rattle.desk_room.specs.Windows.{letters_sent, collected, default_of, SameWindow}

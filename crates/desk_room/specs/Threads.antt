@@ -1,7 +1,7 @@
 -- What the threads of the windows begin with and bring back. Own to the code: the contract of `serve` rests on none of it.
 use Rattle.std.specs.Prelude.{◌≡◌, ℕ, List, [], ◌∷◌, IfSome}
-use Rattle.mate_search.specs.Replies.{IsReply}
-use Rattle.mate_search.specs.declared.replies.Output.{Output}
+use Rattle.mate_search.specs.InputReplies.{IsReply}
+use Rattle.mate_search.specs.declared.input_replies.Output.{Output}
 use Rattle.desk_room.specs.Windows.{letters_sent, collected, default_of}
 use Rattle.desk_room.specs.Keepers.{IsOf}
 use Rattle.desk_room.specs.Clerks.{IsReplyIf, Reports}

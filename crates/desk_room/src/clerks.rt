@@ -1,7 +1,7 @@
 //! A clerk hands one input in at a window, and writes down the reply.
 
 ghost use Rattle.std.specs.Prelude.{◌≡◌, ◌++◌, false, IfOk};
-ghost use Rattle.mate_search.specs.Replies.{answer_line};
+ghost use Rattle.mate_search.specs.InputReplies.{answer_line};
 ghost use Rattle.desk_room.specs.Windows.{is_gone};
 
 use crate::bells::{Bell, Why};
@@ -49,7 +49,7 @@ fn write_answer(
 impl Clerk {
     ghost use Rattle.std.specs.Prelude.{◌≡◌, ◌<◌, ◌≤◌, ◌+◌, ◌-◌, ◌^◌, ℕ, List, [], ◌∷◌, ◌++◌, OnOk, length, true, false};
     ghost use Rattle.chess_notation.specs.Words.{is_blank as is_blank_text};
-    ghost use Rattle.mate_search.specs.Replies.{without_cr as text_without_cr, lines_of, IsLineReply};
+    ghost use Rattle.mate_search.specs.InputReplies.{without_cr as text_without_cr, lines_of, IsLineReply};
     ghost use Rattle.desk_room.specs.Windows.{letters_sent, collected, places_known, default_of, SameWindow};
     ghost use Rattle.desk_room.specs.Clerks.{Collects, HasDealt};
 

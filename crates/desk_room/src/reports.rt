@@ -1,7 +1,7 @@
 //! What becomes of a window that an input was handed in at.
 
 ghost use Rattle.std.specs.Prelude.{◌≡◌, [], OnOk};
-ghost use Rattle.mate_search.specs.Replies.{lines_of};
+ghost use Rattle.mate_search.specs.InputReplies.{lines_of};
 ghost use Rattle.desk_room.specs.Letters.{records};
 ghost use Rattle.desk_room.specs.Windows.{letters_sent, collected, SameWindow};
 ghost use Rattle.desk_room.specs.Clerks.{HasDealt, Reports};

@@ -3,7 +3,7 @@ use Rattle.std.specs.Prelude.{ℕ, List, ◌++◌, codes, decimal, true, false}
 use Rattle.chess_notation.specs.Records.{problem_of}
 use Rattle.chess_notation.specs.Answers.{answer_text}
 use Rattle.chess_notation.specs.EpdFaults.{epd_fault_name}
-use Rattle.mate_search.specs.Truth.{truth}
+use Rattle.mate_search.specs.inside.Truth.{truth}
 use Rattle.mate_desk.specs.Refusals.{submit_refusal_name, withdraw_refusal_name}
 use Rattle.mate_desk.specs.declared.events.Reply.{Reply}
 use Rattle.mate_desk.specs.declared.events.Reply.TheVariants.{Ticket, Refused, BadRecord, Job, Nothing, Done, NoJob, Back, Answer, Notice, Empty, NoSuchSubmitter, Withdrawn, NotWithdrawn, Drained, Closed}

@@ -11,7 +11,7 @@ use Rattle.chess_board.specs.Legality.{is_legal}
 use Rattle.chess_moves.specs.Listing.{legal_moves}
 use Rattle.chess_moves.specs.Laws.{LegalRise}
 use Rattle.chess_notation.specs.Problems.{ProblemValue}
-use Rattle.mate_search.specs.Truth.{is_same_move, first_moves, truth_among, truth}
+use Rattle.mate_search.specs.inside.Truth.{is_same_move, first_moves, truth_among, truth}
 use Rattle.mate_search.specs.Laws.{AreFirstMoves}
 use Rattle.mate_search.proofs.Searches.{any_contains, contains_any, filter_keeps}
 use Rattle.mate_search.proofs.Wins.{legal_each}

@@ -6,8 +6,8 @@ use Rattle.std.proofs.lemmas.List.Splits.{slice_split_none, slice_split_at}
 use Rattle.std.proofs.KnownBytes.{Consumes-trans}
 use Rattle.std.proofs.Math.Seq.{drop-append_seam}
 use Rattle.std.specs.Io.KnownBytes.{Consumes, IsAtEnd, prepend_known}
-use Rattle.mate_search.specs.Replies.{lines_of}
-use Rattle.mate_search.specs.Takings.{IsOneLine}
+use Rattle.mate_search.specs.InputReplies.{lines_of}
+use Rattle.mate_search.specs.inside.InputLines.{IsOneLine}
 
 pub one_line_nil : IsOneLine []
 one_line_nil = All-nil (λ b. (b == 10) ≡ false)

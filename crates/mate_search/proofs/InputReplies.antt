@@ -12,9 +12,9 @@ use Rattle.chess_notation.specs.EpdFaults.{IsFaultOf}
 use Rattle.mate_search.specs.declared.stops.Stop.{Stop}
 use Rattle.mate_search.specs.declared.stops.Stop.TheVariants as stop
 use Rattle.mate_search.specs.Inputs.{MayBe}
-use Rattle.mate_search.specs.Replies.{lines_of, without_cr, fault_line, refused, IsLineReply, IsReply, IsReplyFrom, IsReplyToFirst}
+use Rattle.mate_search.specs.InputReplies.{lines_of, without_cr, fault_line, refused, IsLineReply, IsReply, IsReplyFrom, IsReplyToFirst}
 use Rattle.mate_search.specs.Stops.{AppendsBy, AppendsPart, is_of_output}
-use Rattle.mate_search.specs.Takings.{IsOneLine, TakesLine}
+use Rattle.mate_search.specs.inside.InputLines.{IsOneLine, TakesLine}
 use Rattle.mate_search.proofs.InputLines.{lines_first, lines_one}
 
 replies_more : (default number : ℕ) (lines : List (List ℕ)) (line text here : List ℕ) (before count : ℕ) → IsReplyFrom default number lines text before

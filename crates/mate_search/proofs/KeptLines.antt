@@ -6,9 +6,9 @@ use Rattle.chess_notation.specs.declared.epd_faults.EpdFault.{EpdFault}
 use Rattle.chess_notation.specs.declared.epd_faults.EpdFault.TheVariants as fault
 use Rattle.chess_notation.specs.EpdFaults.{IsAmissBy, fault_number}
 use Rattle.chess_notation.specs.Words.{after_spaces, is_blank, is_empty_text}
-use Rattle.mate_search.specs.Replies.{IsLineReply, skipped, refused, fault_line, without_cr}
-use Rattle.mate_search.specs.Takings.{IsKept, last_or, spaces_before, most_kept}
-use Rattle.mate_search.specs.declared.taking.Kept.{Kept}
+use Rattle.mate_search.specs.InputReplies.{IsLineReply, skipped, refused, fault_line, without_cr}
+use Rattle.mate_search.specs.inside.InputLines.{IsKept, last_or, spaces_before, most_kept}
+use Rattle.mate_search.specs.declared.input_lines.Kept.{Kept}
 
 and_assoc : (a b c : Bool) → (a && (b && c)) ≡ ((a && b) && c)
 and_assoc true b c = refl

@@ -6,12 +6,12 @@ use Rattle.lru.proofs.CallerLemmas.{Contains-lookup, Contains-promoted, Contains
 use Rattle.chess_board.specs.Positions.{Setup}
 use Rattle.chess_board.specs.Soundness.{IsSound}
 use Rattle.chess_board.specs.Laws.{are_equal, EqualReads}
-use Rattle.mate_search.specs.declared.entries.Entry.{Entry}
+use Rattle.mate_search.specs.declared.memo_entries.Entry.{Entry}
 use Rattle.mate_search.specs.Wins.{win}
-use Rattle.mate_search.specs.Kept.{IsTrueOf, AreTrue, IsKept}
+use Rattle.mate_search.specs.inside.MemoEntries.{IsTrueOf, AreTrue, IsTrueMemo}
 use Rattle.mate_search.proofs.Room.{put_within, length-promoted}
 use Rattle.chess_moves.specs.Listing.{legal_moves}
-use Rattle.mate_search.specs.Truth.{dist}
+use Rattle.mate_search.specs.inside.Truth.{dist}
 use Rattle.mate_search.proofs.Wins.{win_more}
 use Rattle.mate_search.proofs.Least.{none_dist}
 use Rattle.mate_search.proofs.Playing.{all_among}
@@ -52,14 +52,14 @@ put_true equal c p v all h e m = elim (Contains-put_entries are_equal c p v e m)
 
 -- A put that is refused changes nothing, and one that is not leaves old entries and the new one, and the room.
 pub kept_after : {A E : Type 0} → EqualReads → (r : Result A E) (old new : LruCache Setup Entry) (p : Setup) (v : Entry)
-    → OnOk r (new ≡ lru_cache (put_entries are_equal old p v) old.cap) → OnErr r (new ≡ old) → IsKept old.entries old.cap → IsTrueOf p v → IsKept new.entries new.cap
-kept_after equal (Ok a) old new p v ok err h is = subst (λ (c : LruCache Setup Entry). IsKept c.entries c.cap) (sym ok)
+    → OnOk r (new ≡ lru_cache (put_entries are_equal old p v) old.cap) → OnErr r (new ≡ old) → IsTrueMemo old.entries old.cap → IsTrueOf p v → IsTrueMemo new.entries new.cap
+kept_after equal (Ok a) old new p v ok err h is = subst (λ (c : LruCache Setup Entry). IsTrueMemo c.entries c.cap) (sym ok)
     (record { each_true = put_true equal old p v h.each_true is; within = put_within are_equal old p v h.within h.some_room; some_room = h.some_room })
-kept_after equal (Err a) old new p v ok err h is = subst (λ (c : LruCache Setup Entry). IsKept c.entries c.cap) (sym err) h
+kept_after equal (Err a) old new p v ok err h is = subst (λ (c : LruCache Setup Entry). IsTrueMemo c.entries c.cap) (sym err) h
 
 -- A look-up moves an entry to the front.
-pub kept_promoted : (old new : LruCache Setup Entry) (p : Setup) → new ≡ lru_cache (promoted (are_equal p) old.entries) old.cap → IsKept old.entries old.cap → IsKept new.entries new.cap
-kept_promoted old new p is h = subst (λ (c : LruCache Setup Entry). IsKept c.entries c.cap) (sym is) (record {
+pub kept_promoted : (old new : LruCache Setup Entry) (p : Setup) → new ≡ lru_cache (promoted (are_equal p) old.entries) old.cap → IsTrueMemo old.entries old.cap → IsTrueMemo new.entries new.cap
+kept_promoted old new p is h = subst (λ (c : LruCache Setup Entry). IsTrueMemo c.entries c.cap) (sym is) (record {
   each_true = λ e m. h.each_true e (Contains-promoted (are_equal p) old.entries e m);
   within = omega (arith, length-promoted (are_equal p) old.entries, h.within);
   some_room = h.some_room;

@@ -4,7 +4,7 @@ use Rattle.std.proofs.lemmas.Bool.{cases_eq}
 use Rattle.chess_board.specs.Positions.{Setup}
 use Rattle.chess_board.specs.Moves.{Move}
 use Rattle.mate_search.specs.Wins.{win_among}
-use Rattle.mate_search.specs.Truth.{dist}
+use Rattle.mate_search.specs.inside.Truth.{dist}
 
 module _ (first : List Move) (p : Setup) where
   dist_more : (k : ℕ) → dist first p k ≡ None → win_among first (k + 1) p ≡ true → dist first p (k + 1) ≡ Some (k + 1)

@@ -10,6 +10,6 @@ pub mod InputReplies
 pub mod Room
 pub mod KeptLines
 pub mod Known
-pub mod BestPlay
+pub mod PrincipalVariations
 pub mod FirstMoves
 pub mod SameProblems

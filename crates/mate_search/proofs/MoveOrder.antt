@@ -9,9 +9,9 @@ use Rattle.chess_board.specs.After.{after_setup}
 use Rattle.chess_moves.specs.Listing.{legal_moves}
 use Rattle.chess_moves.specs.Laws.{IsAbove, IsRising, LegalRise}
 use Rattle.mate_search.specs.Wins.{win, leaves_lost}
-use Rattle.mate_search.specs.Lines.{least_key, longest_reply}
-use Rattle.mate_search.specs.Play.{IsFirstKey, IsLongestReply}
-use Rattle.mate_search.specs.PartLaws.{KeysRise}
+use Rattle.mate_search.specs.inside.Variation.{least_key, longest_defence}
+use Rattle.mate_search.specs.PrincipalVariation.{IsFirstKey, IsLongestDefence}
+use Rattle.mate_search.specs.inside.PartLaws.{KeysRise}
 use Rattle.mate_search.proofs.Searches.{found_has}
 use Rattle.mate_search.proofs.Known.{win_within_more, no_win_within_fewer}
 
@@ -70,8 +70,8 @@ first_key first p n m rise e =
     )
 
 -- The first reply that no mate within j meets is the longest defence of a defender that is lost with j + 1.
-pub longest_defence : LegalRise → (q : Setup) (j : ℕ) (r : Move) → ((s : Move) → Contains (legal_moves q) s → win (suc j) (after_setup q s) ≡ true) → longest_reply q j ≡ Some r → IsLongestReply q r
-longest_defence rise q j r each e =
+pub lasts_longest : LegalRise → (q : Setup) (j : ℕ) (r : Move) → ((s : Move) → Contains (legal_moves q) s → win (suc j) (after_setup q s) ≡ true) → longest_defence q j ≡ Some r → IsLongestDefence q r
+lasts_longest rise q j r each e =
     let test : Move → Bool = λ x. not (win j (after_setup q x)) in
     let among = found_has (Contains (legal_moves q)) test (legal_moves q) r (All-contains_itself (legal_moves q)) e in
     let lasts : win j (after_setup q r) ≡ false = not_true (win j (after_setup q r)) (find_passes test (legal_moves q) r e) in (

@@ -8,29 +8,29 @@ use Rattle.chess_board.specs.After.{after_setup}
 use Rattle.chess_moves.specs.Listing.{legal_moves}
 use Rattle.chess_moves.specs.Laws.{IsLine, LegalListed}
 use Rattle.mate_search.specs.Wins.{leaves_lost}
-use Rattle.mate_search.specs.Lines.{line, least_key, longest_reply, replies}
+use Rattle.mate_search.specs.inside.Variation.{variation, least_key, longest_defence, defence}
 use Rattle.chess_notation.specs.Answers.{AreLegal, IsPlayable}
 use Rattle.chess_notation.specs.declared.problems.Outcome.{Outcome}
 use Rattle.chess_notation.specs.Problems.{ProblemValue}
-use Rattle.mate_search.specs.Truth.{dist, first_moves, truth, truth_among}
+use Rattle.mate_search.specs.inside.Truth.{dist, first_moves, truth, truth_among}
 use Rattle.mate_search.proofs.Searches.{found_has}
 use Rattle.mate_search.proofs.FirstMoves.{first_moves_legal}
 
 module _ (law : LegalListed) where
-  replies_playable : (n : ℕ) (rest : Setup → List Move) (q : Setup) → ((s : Setup) → IsLine s (rest s)) → IsLine q (replies n rest q)
-  replies_playable zero rest q h = tt
-  replies_playable (suc j) rest q h = (elim (longest_reply q j) as (λ o. longest_reply q j ≡ o → IsLine q (replies (suc j) rest q)) [
+  defence_playable : (n : ℕ) (rest : Setup → List Move) (q : Setup) → ((s : Setup) → IsLine s (rest s)) → IsLine q (defence n rest q)
+  defence_playable zero rest q h = tt
+  defence_playable (suc j) rest q h = (elim (longest_defence q j) as (λ o. longest_defence q j ≡ o → IsLine q (defence (suc j) rest q)) [
     | None ↦ λ is. rw is tt
     | Some r ↦ λ is. rw is ((law q r).0 (found_has (Contains (legal_moves q)) _ (legal_moves q) r (All-contains_itself (legal_moves q)) is), h (after_setup q r))
   ]) refl
 
-  line_playable : (first : List Move) (n : ℕ) (p : Setup) → All (Contains (legal_moves p)) first → IsLine p (line first p n)
-  unfolding line
-  line_playable first zero p h = tt
-  line_playable first (suc n) p h = (elim (least_key first p (suc n)) as (λ o. least_key first p (suc n) ≡ o → IsLine p (line first p (suc n))) [
+  variation_playable : (first : List Move) (n : ℕ) (p : Setup) → All (Contains (legal_moves p)) first → IsLine p (variation first p n)
+  unfolding variation
+  variation_playable first zero p h = tt
+  variation_playable first (suc n) p h = (elim (least_key first p (suc n)) as (λ o. least_key first p (suc n) ≡ o → IsLine p (variation first p (suc n))) [
     | None ↦ λ is. rw is tt
     | Some m ↦ λ is.
-        let rest = replies_playable n (λ s. line (legal_moves s) s n) (after_setup p m) (λ s. line_playable (legal_moves s) n s (All-contains_itself (legal_moves s))) in
+        let rest = defence_playable n (λ s. variation (legal_moves s) s n) (after_setup p m) (λ s. variation_playable (legal_moves s) n s (All-contains_itself (legal_moves s))) in
         rw is ((law p m).0 (found_has (Contains (legal_moves p)) _ first m h is), rest)
   ]) refl
 
@@ -43,7 +43,7 @@ among_playable : LegalListed → (first : List Move) (p : Setup) (b : ℕ) → A
 unfolding truth_among IsPlayable
 among_playable law first p b legal = (elim (dist first p b) as (λ o. dist first p b ≡ o → IsPlayable p (truth_among first p b)) [
   | None ↦ λ is. rw is tt
-  | Some n ↦ λ is. rw is (each_legal p _ (All-filter (leaves_lost (n - 1) p) (Contains (legal_moves p)) first legal), line_playable law first n p legal)
+  | Some n ↦ λ is. rw is (each_legal p _ (All-filter (leaves_lost (n - 1) p) (Contains (legal_moves p)) first legal), variation_playable law first n p legal)
 ]) refl
 
 -- What there is to say of a problem can be played.

@@ -12,9 +12,9 @@ use Rattle.chess_moves.specs.Verdicts.{has_legal_move, is_mate}
 use Rattle.mate_search.specs.Wins.{win, leaves_lost}
 use Rattle.chess_notation.specs.declared.problems.Outcome.{Outcome}
 use Rattle.chess_notation.specs.declared.problems.Outcome.TheVariants.{Mate, NoMate}
-use Rattle.mate_search.specs.Truth.{dist, truth_among}
+use Rattle.mate_search.specs.inside.Truth.{dist, truth_among}
 use Rattle.mate_search.specs.Laws.{WinReads, LostReads}
-use Rattle.mate_search.specs.PartLaws.{KeysRead, DistReads, NoDistReads}
+use Rattle.mate_search.specs.inside.PartLaws.{KeysRead, DistReads, NoDistReads}
 use Rattle.mate_search.proofs.Searches.{any_contains, contains_any, all_contains, contains_all, filter_keeps}
 use Rattle.mate_search.proofs.Wins.{win_none}
 use Rattle.mate_search.proofs.Least.{dist_none, none_dist, dist_least, least_dist}

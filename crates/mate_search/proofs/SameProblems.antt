@@ -5,7 +5,7 @@ use Rattle.chess_board.specs.Positions.{Setup}
 use Rattle.chess_board.specs.Laws.{are_equal, EqualReads}
 use Rattle.chess_notation.specs.Problems.{ProblemValue}
 use Rattle.chess_board.specs.Moves.{Move}
-use Rattle.mate_search.specs.Truth.{is_same_move}
+use Rattle.mate_search.specs.inside.Truth.{is_same_move}
 use Rattle.mate_search.specs.Jobs.{are_same_moves, is_same_problem, SameProblemReads}
 use Rattle.mate_search.proofs.FirstMoves.{same_move_is, same_move_self}
 

@@ -4,7 +4,7 @@ use Rattle.chess_board.specs.Soundness.{IsSound}
 use Rattle.chess_board.specs.Laws.{are_equal}
 use Rattle.chess_board.specs.Moves.{Move}
 use Rattle.chess_notation.specs.Problems.{ProblemValue}
-use Rattle.mate_search.specs.Truth.{is_same_move}
+use Rattle.mate_search.specs.inside.Truth.{is_same_move}
 
 -- a problem, under its ticket
 pub record Task : Type 0 where

@@ -9,9 +9,9 @@ use Rattle.chess_moves.specs.Laws.{IsRising}
 use Rattle.chess_notation.specs.declared.problems.Outcome.{Outcome}
 use Rattle.chess_notation.specs.declared.problems.Outcome.TheVariants.{Mate, NoMate}
 use Rattle.mate_search.specs.Wins.{win, lost}
-use Rattle.mate_search.specs.Play.{IsKey, IsBestPlay}
+use Rattle.mate_search.specs.PrincipalVariation.{IsKey, IsPrincipalVariation}
 use Rattle.chess_notation.specs.Problems.{ProblemValue}
-use Rattle.mate_search.specs.Truth.{truth}
+use Rattle.mate_search.specs.inside.Truth.{truth}
 
 -- There is no mate within 0. One within n + 1 moves is a legal move that leaves the defender lost with n more.
 abbrev pub WinReads : Type 0
@@ -39,7 +39,7 @@ HaveNoKeyBelow first p n = (k : ℕ) → 1 ≤ k → k < n → (m : Move) → ¬
 -- A mate is told with the least number of moves within which there is one that begins with one of these, at most the bound, with
 -- its keys and its line of play. That there is none is told where there is none within the bound.
 abbrev pub IsTold : List Move → Setup → ℕ → Outcome → Type 0
-IsTold first p b (Mate n found pv) = (1 ≤ n) × (n ≤ b) × HaveNoKeyBelow first p n × AreKeys first p n found.items × IsBestPlay first p n pv.items
+IsTold first p b (Mate n found pv) = (1 ≤ n) × (n ≤ b) × HaveNoKeyBelow first p n × AreKeys first p n found.items × IsPrincipalVariation first p n pv.items
 IsTold first p b NoMate = HaveNoKeyBelow first p (b + 1)
 
 -- The attacker may begin with the legal moves that are not to be avoided, in the order of moves.

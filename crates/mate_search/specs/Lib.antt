@@ -1,13 +1,9 @@
 pub mod Wins
-pub mod Lines
-pub mod Truth
-pub mod Play
-pub mod Kept
+pub mod PrincipalVariation
 pub mod Memos
 pub mod Laws
-pub mod PartLaws
-pub mod Replies
+pub mod InputReplies
 pub mod Inputs
 pub mod Stops
-pub mod Takings
 pub mod Jobs
+pub mod inside

@@ -2,7 +2,7 @@
 
 ghost use Rattle.std.specs.Prelude.{◌≡◌, ◌≤◌, IfOk, string_bytes};
 ghost use Rattle.chess_notation.specs.Answers.{answer_text as answer_text_of};
-ghost use Rattle.mate_search.specs.Truth.{truth};
+ghost use Rattle.mate_search.specs.inside.Truth.{truth};
 ghost use Rattle.chess_notation.specs.Records.{problem_of};
 
 use crate::memo::Memo;
@@ -77,7 +77,7 @@ pub struct Done {
 impl Model for Done {
     ghost use Rattle.std.specs.Prelude.{◌≡◌};
     ghost use Rattle.mate_search.specs.Jobs.{Task};
-    ghost use Rattle.mate_search.specs.Truth.{truth};
+    ghost use Rattle.mate_search.specs.inside.Truth.{truth};
 
     ghost Value = { Task };
 
@@ -131,7 +131,7 @@ pub struct Answer {
 impl Model for Answer {
     ghost use Rattle.std.specs.Prelude.{◌≡◌};
     ghost use Rattle.chess_notation.specs.Records.{RecordValue, problem_of};
-    ghost use Rattle.mate_search.specs.Truth.{truth};
+    ghost use Rattle.mate_search.specs.inside.Truth.{truth};
 
     ghost Value = { RecordValue };
 

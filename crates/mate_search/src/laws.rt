@@ -1,7 +1,7 @@
 //! Laws about the definitions. A function here does nothing, beyond citing a law of the rules: its contract is the law.
 
 ghost use Rattle.mate_search.specs.Laws.{WinReads, LostReads, WinGrows, TruthReads, LineMates};
-ghost use Rattle.mate_search.specs.PartLaws.{AmongAll, KeysRead, KeysRise, LineReads, DistReads, NoDistReads};
+ghost use Rattle.mate_search.specs.inside.PartLaws.{AmongAll, KeysRead, KeysRise, LineReads, DistReads, NoDistReads};
 
 use chess_moves::legal_rise;
 

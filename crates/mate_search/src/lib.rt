@@ -11,19 +11,19 @@
 //! alone, and never fails for want of it.
 #![tactic(auto)]
 
-mod entries;
+mod memo_entries;
 mod inputs;
 mod jobs;
 mod laws;
-mod lines;
+mod principal_variation;
 mod memo;
 mod problems;
-mod refutations;
-mod replies;
+mod killers;
+mod input_replies;
 mod searching;
 mod solving;
 mod stops;
-mod taking;
+mod input_lines;
 mod tickets;
 mod writing;
 
@@ -35,10 +35,10 @@ pub use laws::{
 };
 pub use memo::{Memo, MemoFault};
 pub use problems::{is_same_problem, same_problem_reads};
-pub use replies::{Output, answer_input, fault_text, is_blank, solve_input, without_cr};
+pub use input_replies::{Output, answer_input, fault_text, is_blank, solve_input, without_cr};
 pub use solving::solve;
 pub use stops::Stop;
-pub use taking::first_line;
+pub use input_lines::first_line;
 pub use tickets::Ticket;
 pub use writing::{put, stop_of_output};
 

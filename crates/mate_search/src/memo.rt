@@ -2,11 +2,11 @@
 
 ghost use Rattle.std.specs.Prelude.{◌≡◌, ◌↔◌, ◌⊎◌, ◌<◌, ◌≤◌, Err, IfOk, codes};
 ghost use Rattle.mate_search.specs.declared.memo.MemoFault.TheVariants.{BadSize, NoMemory};
-ghost use Rattle.mate_search.specs.Kept.{IsTrueOf};
+ghost use Rattle.mate_search.specs.inside.MemoEntries.{IsTrueOf};
 ghost use Rattle.mate_search.specs.Memos.{memo_fault_name};
 
-use crate::entries::Entry;
-use crate::refutations::Refutations;
+use crate::memo_entries::Entry;
+use crate::killers::Killers;
 use chess_board::{Move, Position, equal_reads};
 use lru::LruCache;
 use std::alloc::Global;
@@ -20,19 +20,19 @@ use thiserror::Error;
 #[derive(Drop)]
 pub struct Memo {
     cache: LruCache<Position, Entry>,
-    refutations: Refutations,
+    killers: Killers,
 }
 
 impl Model for Memo {
     ghost use Rattle.std.specs.Prelude.{length};
-    ghost use Rattle.mate_search.specs.Kept.{IsKept};
+    ghost use Rattle.mate_search.specs.inside.MemoEntries.{IsTrueMemo};
     ghost use Rattle.mate_search.specs.Memos.{MemoValue};
 
     ghost Value = { MemoValue };
 
     ghost view = { λ memo. record { kept = length memo.cache.entries; room = memo.cache.cap } };
 
-    ghost invariant = { λ memo. IsKept memo.cache.entries memo.cache.cap };
+    ghost invariant = { λ memo. IsTrueMemo memo.cache.entries memo.cache.cap };
 }
 
 /// Why there is no memo.
@@ -76,7 +76,7 @@ impl Memo {
         match LruCache::new(alloc, size) {
             Ok(cache) => Ok(Memo {
                 cache,
-                refutations: Refutations::none(),
+                killers: Killers::none(),
             }),
             Err(_) => Err(MemoFault::NoMemory),
         }
@@ -115,14 +115,14 @@ impl Memo {
     }
 
     /// The two replies that refuted last with `k` moves left to the attacker.
-    pub(crate) fn refutations(&self, k: u8) -> (Option<Move>, Option<Move>) {
-        self.refutations.two(k)
+    pub(crate) fn killers(&self, k: u8) -> (Option<Move>, Option<Move>) {
+        self.killers.two(k)
     }
 
     /// Keeps a reply that refuted with `k` moves left to the attacker.
     pub(crate) fn keep_refutation(&mut self, k: u8, reply: Move)
         ensures { self.new ≡ self.old }
     {
-        self.refutations.keep(k, reply);
+        self.killers.keep(k, reply);
     }
 }

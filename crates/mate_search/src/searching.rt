@@ -132,7 +132,7 @@ pub(crate) fn loses(rays: &Rays, position: &Position, k: u8, memo: &mut Memo) ->
     if k > 1 && is_known_refuted(rays, position, k, memo) {
         return false;
     }
-    let (last, earlier) = memo.refutations(k);
+    let (last, earlier) = memo.killers(k);
     if refutes(rays, position, last, k, memo) {
         return false;
     }

@@ -2,17 +2,17 @@
 
 ghost use Rattle.std.specs.Prelude.{◌≡◌, ◌<◌, ◌≤◌, true, All, length, None};
 ghost use Rattle.chess_board.specs.Legality.{is_legal};
-ghost use Rattle.mate_search.specs.Lines.{keys, line};
+ghost use Rattle.mate_search.specs.inside.Variation.{keys, variation};
 ghost use Rattle.chess_board.specs.Positions.{Setup};
-ghost use Rattle.mate_search.specs.Truth.{dist, is_same_move as are_same_move, first_moves as moves_to_begin, truth, truth_among};
+ghost use Rattle.mate_search.specs.inside.Truth.{dist, is_same_move as are_same_move, first_moves as moves_to_begin, truth, truth_among};
 ghost use Rattle.chess_moves.specs.Listing.{legal_moves};
 ghost use Rattle.std.specs.List.{list_any};
-ghost use Rattle.mate_search.specs.Kept.{IsTrueOf};
+ghost use Rattle.mate_search.specs.inside.MemoEntries.{IsTrueOf};
 ghost use Rattle.chess_notation.specs.Answers.{IsPlayable};
 ghost use Rattle.chess_notation.specs.declared.problems.Outcome.TheVariants.{Mate};
 
-use crate::entries::Entry;
-use crate::lines::{add_line, keys_among};
+use crate::memo_entries::Entry;
+use crate::principal_variation::{push_variation, keys_among};
 use crate::memo::Memo;
 use crate::searching::wins_among;
 use arrayvec::ArrayVec;
@@ -60,7 +60,7 @@ fn solve_all(rays: &Rays, position: &Position, bound: Bound, memo: &mut Memo) ->
 }
 
 /// Where moves are to be avoided: what is found of the position so is not what a memo keeps, so it is not asked about it.
-#[tactic(auto, unfolding(crate::specs::Truth::dist, crate::specs::Truth::truth))]
+#[tactic(auto, unfolding(crate::specs::inside::Truth::dist, crate::specs::inside::Truth::truth))]
 fn solve_rest(rays: &Rays, problem: &Problem, memo: &mut Memo) -> Outcome
     ensures truth { result ≡ truth problem.now }
     ensures room { memo.new.room ≡ memo.old.room }
@@ -100,7 +100,7 @@ fn is_among(m: Move, moves: &[Move]) -> bool
 }
 
 /// The legal moves that are not to be avoided.
-#[tactic(auto, unfolding(crate::specs::Truth::first_moves), using(crate::proofs::Searches::kept_more, crate::proofs::Searches::left_out))]
+#[tactic(auto, unfolding(crate::specs::inside::Truth::first_moves), using(crate::proofs::Searches::kept_more, crate::proofs::Searches::left_out))]
 fn first_moves(rays: &Rays, problem: &Problem) -> MoveList
     ensures { result.items ≡ moves_to_begin problem.now }
 {
@@ -125,7 +125,7 @@ fn learned(known: Entry, outcome: &Outcome, bound: Bound) -> Entry
 
 /// The same where the attacker's first move is one of these, with none of which it mates within `none` moves: tries one move more,
 /// two, and so on up to the bound.
-#[tactic(auto, unfolding(crate::specs::Truth::truth_among), using(crate::proofs::Least::dist_found, crate::proofs::Least::dist_none_more, crate::proofs::Least::dist_fewer, crate::proofs::Wins::win_among_step))]
+#[tactic(auto, unfolding(crate::specs::inside::Truth::truth_among), using(crate::proofs::Least::dist_found, crate::proofs::Least::dist_none_more, crate::proofs::Least::dist_fewer, crate::proofs::Wins::win_among_step))]
 fn solve_among(
     rays: &Rays,
     position: &Position,
@@ -154,14 +154,14 @@ fn mate_among(rays: &Rays, position: &Position, first: &[Move], n: u8, memo: &mu
     requires bounded { n ≤ 15 }
     requires few { length first.now ≤ 1024 }
     requires legal { All (λ m. is_legal position.now m ≡ true) first.now }
-    ensures mate { result ≡ Mate n (record { items = keys first.now position.now n }) (record { items = line first.now position.now n }) }
+    ensures mate { result ≡ Mate n (record { items = keys first.now position.now n }) (record { items = variation first.now position.now n }) }
     ensures room { memo.new.room ≡ memo.old.room }
 {
     let Some(dm) = Bound::new(n) else {
         unreachable!();
     };
     let mut pv = ArrayVec::new();
-    add_line(rays, position, first, n, memo, &mut pv);
+    push_variation(rays, position, first, n, memo, &mut pv);
     Outcome::Mate {
         dm,
         keys: keys_among(rays, position, first, n, memo),

@@ -4,7 +4,7 @@ use Rattle.std.proofs.KnownBytes.{Appends-nil}
 use Rattle.std.specs.Io.KnownBytes.{Appends, Keeps}
 use Rattle.clap.specs.Words.{Text}
 use Rattle.mate_search.specs.Inputs.{MayBe}
-use Rattle.mate_search.specs.Replies.{IsReplyToFirst}
+use Rattle.mate_search.specs.InputReplies.{IsReplyToFirst}
 use Rattle.mate_search.specs.Stops.{AppendsBy, AppendsPart, is_of_output, stop_of}
 use Rattle.mate_search.specs.declared.inputs.InputFault.{InputFault}
 use Rattle.mate_search.specs.declared.inputs.InputFault.TheVariants as fault

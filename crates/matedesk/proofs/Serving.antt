@@ -14,7 +14,7 @@ use Rattle.desk_room.specs.declared.rooms.RoomFault.{RoomFault}
 use Rattle.desk_room.specs.declared.rooms.RoomFault.TheVariants as fault
 use Rattle.mate_search.specs.Inputs.{MayBe}
 use Rattle.mate_search.specs.Stops.{AppendsPart, is_of_output}
-use Rattle.mate_search.specs.declared.replies.Output.{Output}
+use Rattle.mate_search.specs.declared.input_replies.Output.{Output}
 use Rattle.mate_search.specs.declared.stops.Stop.{Stop}
 use Rattle.mate_search.specs.declared.stops.Stop.TheVariants as stop
 use Rattle.matedesk.specs.Asked.{serve}

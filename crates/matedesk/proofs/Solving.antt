@@ -7,7 +7,7 @@ use Rattle.std.proofs.Math.Seq.{drop-append_seam, drop-cons, take-append_seam}
 use Rattle.std.specs.Io.KnownBytes.{Appends, Keeps}
 use Rattle.clap.specs.Words.{Text}
 use Rattle.mate_search.specs.Inputs.{MayBe}
-use Rattle.mate_search.specs.Replies.{IsReply, IsReplyToFirst}
+use Rattle.mate_search.specs.InputReplies.{IsReply, IsReplyToFirst}
 use Rattle.mate_search.specs.Stops.{AppendsBy, AppendsPart}
 use Rattle.mate_search.specs.declared.stops.Stop.{Stop}
 use Rattle.mate_search.specs.declared.stops.Stop.TheVariants as stop

@@ -19,7 +19,7 @@ use Rattle.clap.specs.Words.{Text}
 use Rattle.mate_search.specs.Inputs.{MayBe}
 use Rattle.matedesk.specs.Solved.{IsReplies, Solves}
 use Rattle.matedesk.specs.Sources.{Holds}
-use Rattle.mate_search.specs.Replies.{IsLineReply, IsReply, answered, fault_line, refused, skipped}
+use Rattle.mate_search.specs.InputReplies.{IsLineReply, IsReply, answered, fault_line, refused, skipped}
 use Rattle.chess_board.specs.Positions.{Setup}
 use Rattle.matedesk.specs.Asked.{asked, asked_by, asked_exactly, look, serve, solve}
 use Rattle.matedesk.specs.Command.{Ends}

@@ -2,7 +2,7 @@
 use Rattle.std.specs.Prelude.{◌≡◌, ◌+◌, ◌++◌, ℕ, Bool, List, [], ◌∷◌, Option, nat_lt, length, take, drop}
 use Rattle.clap.specs.Words.{Text}
 use Rattle.mate_search.specs.Inputs.{MayBe}
-use Rattle.mate_search.specs.Replies.{IsReply, IsReplyToFirst}
+use Rattle.mate_search.specs.InputReplies.{IsReply, IsReplyToFirst}
 use Rattle.matedesk.specs.Sources.{Holds}
 
 -- what inputs are answered, one after the other, and how many of their lines are refused

@@ -3,7 +3,7 @@
 ghost use Rattle.std.specs.Prelude.{◌≡◌, ℕ, List, IfErr, IfOk, map, nat_lt};
 ghost use Rattle.std.specs.Io.KnownBytes.{Appends};
 ghost use Rattle.mate_search.specs.Inputs.{MayBe};
-ghost use Rattle.mate_search.specs.Replies.{IsReply, IsReplyToFirst};
+ghost use Rattle.mate_search.specs.InputReplies.{IsReply, IsReplyToFirst};
 ghost use Rattle.mate_search.specs.Stops.{AppendsBy};
 ghost use Rattle.matedesk.specs.Asked.{solve as solve_asked};
 ghost use Rattle.matedesk.specs.Command.{Gains, Stops};

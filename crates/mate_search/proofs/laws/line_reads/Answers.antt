@@ -1,4 +1,4 @@
-use Rattle.mate_search.proofs.BestPlay.{line_reads}
+use Rattle.mate_search.proofs.PrincipalVariations.{line_reads}
 use Rattle.mate_search.proofs.laws.line_reads.Goals as goal
 
 pub returns : goal.returns

@@ -1,4 +1,4 @@
-use Rattle.mate_search.proofs.BestPlay.{truth_reads}
+use Rattle.mate_search.proofs.PrincipalVariations.{truth_reads}
 use Rattle.mate_search.proofs.laws.truth_reads.Goals as goal
 
 pub returns : goal.returns

@@ -1,5 +1,5 @@
 use Rattle.std.proofs.Common.{◌≡◌, None}
-use Rattle.mate_search.specs.Truth.{dist}
+use Rattle.mate_search.specs.inside.Truth.{dist}
 use Rattle.mate_search.proofs.solving.solve_among.Given as goal
 
 -- no mate so far

@@ -1,6 +1,6 @@
 use Rattle.std.proofs.Common.{rules, subst}
 use Rattle.mate_search.specs.Stops.{AppendsPart}
-use Rattle.mate_search.specs.declared.replies.Output.{Output}
+use Rattle.mate_search.specs.declared.input_replies.Output.{Output}
 use Rattle.matedesk.proofs.Serving.{breaks_off, part_there}
 use Rattle.matedesk.proofs.serve.put_outputs.Goals as goal
 

@@ -1,5 +1,5 @@
 use Rattle.std.proofs.Common.{◌≡◌, ◌++◌, ◌∷◌, [], ap, ◌∙◌, refl, subst, List, ℕ}
-use Rattle.mate_search.specs.Replies.{answer_line}
+use Rattle.mate_search.specs.InputReplies.{answer_line}
 use Rattle.desk_room.specs.Windows.{collected}
 use Rattle.desk_room.proofs.Collecting.{collects_one}
 use Rattle.desk_room.proofs.clerks.Clerk.collect.Goals as goal

@@ -1,6 +1,6 @@
 use Rattle.std.proofs.Common.{◌≡◌, true, false, map, rules, sym}
 use Rattle.chess_notation.specs.Words.{is_blank}
-use Rattle.mate_search.specs.Replies.{without_cr, skipped}
+use Rattle.mate_search.specs.InputReplies.{without_cr, skipped}
 use Rattle.desk_room.specs.Letters.{records}
 use Rattle.desk_room.specs.Deliveries.{asked}
 use Rattle.desk_room.specs.Windows.{letters_sent, collected, default_of}

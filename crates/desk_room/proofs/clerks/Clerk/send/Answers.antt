@@ -1,6 +1,6 @@
 use Rattle.std.proofs.Common.{◌≡◌, ◌≢◌, ◌+◌, ◌∙◌, ap, sym, length, rules, subst, ℕ}
 use Rattle.chess_notation.specs.declared.epd_faults.EpdFault.TheVariants.{NoMemory}
-use Rattle.mate_search.specs.Replies.{fault_line, IsLineReply, without_cr}
+use Rattle.mate_search.specs.InputReplies.{fault_line, IsLineReply, without_cr}
 use Rattle.desk_room.specs.Windows.{default_of}
 use Rattle.desk_room.specs.WindowFaults.{RefusesLine}
 use Rattle.desk_room.proofs.Handed.{on_ok, dealt_record, dealt_same, refused_line}

@@ -1,6 +1,6 @@
 use Rattle.std.proofs.Common.{◌∙◌, ap, sym, subst}
 use Rattle.chess_notation.specs.Records.{problem_of}
-use Rattle.mate_search.specs.Truth.{truth}
+use Rattle.mate_search.specs.inside.Truth.{truth}
 use Rattle.mate_desk.specs.Headline.{IsTrueOf, AnswersTruly}
 use Rattle.mate_desk.proofs.events.Reply.outcome.Goals as goal
 

@@ -1,8 +1,8 @@
 use Rattle.std.proofs.Common.{sym, ap, subst}
 use Rattle.lru.specs.LruCache.{LruCache}
 use Rattle.chess_board.specs.Positions.{Setup}
-use Rattle.mate_search.specs.declared.entries.Entry.{Entry}
-use Rattle.mate_search.specs.Kept.{IsKept}
+use Rattle.mate_search.specs.declared.memo_entries.Entry.{Entry}
+use Rattle.mate_search.specs.inside.MemoEntries.{IsTrueMemo}
 use Rattle.mate_search.proofs.Known.{found_true, kept_promoted}
 use Rattle.mate_search.proofs.memo.Memo.entry.Goals.{in-Some, in-None}
 use Rattle.mate_search.proofs.memo.Memo.entry.Goals as goal
@@ -11,8 +11,8 @@ pub invariant_of-self : goal.invariant_of-self
 invariant_of-self c =
     let all = kept_promoted c.self.inside.cache c.get.follows.lender-at-none c.args.position.now c.get.follows.holds-at-none c.self.invariant in
     elim c.match-get.branch [
-      | in-Some w ↦ subst (λ (d : LruCache Setup Entry). IsKept d.entries d.cap) (sym (ap (λ i. i.cache) w.self-inside-is)) all
-      | in-None w ↦ subst (λ (d : LruCache Setup Entry). IsKept d.entries d.cap) (sym (ap (λ i. i.cache) w.self-inside-is)) all
+      | in-Some w ↦ subst (λ (d : LruCache Setup Entry). IsTrueMemo d.entries d.cap) (sym (ap (λ i. i.cache) w.self-inside-is)) all
+      | in-None w ↦ subst (λ (d : LruCache Setup Entry). IsTrueMemo d.entries d.cap) (sym (ap (λ i. i.cache) w.self-inside-is)) all
     ]
 
 pub returns-clause-known : goal.returns-clause-known

@@ -1,5 +1,5 @@
 use Rattle.std.proofs.Common.{◌≡◌, ◌+◌, ◌<◌, ◌^◌, length}
-use Rattle.mate_search.specs.Replies.{lines_of}
+use Rattle.mate_search.specs.InputReplies.{lines_of}
 use Rattle.matedesk.specs.Scripts.{said_from}
 use Rattle.matedesk.proofs.script_lines.Lines.next.Given as goal
 

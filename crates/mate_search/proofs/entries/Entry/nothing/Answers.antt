@@ -1,6 +1,0 @@
-use Rattle.std.proofs.Common.{refl}
-use Rattle.mate_search.proofs.Wins.{win_none}
-use Rattle.mate_search.proofs.entries.Entry.nothing.Goals as goal
-
-pub returns : goal.returns
-returns c = λ p sound. record { sound = sound; none = win_none 0 p refl; won = λ n e. cc }

@@ -1,0 +1,5 @@
+pub mod Variation
+pub mod Truth
+pub mod PartLaws
+pub mod MemoEntries
+pub mod InputLines

@@ -1,0 +1,78 @@
+//! What is known of a position whose side to move is the attacker.
+
+ghost use Rattle.std.specs.Prelude.{◌≡◌, IfSome, true, false};
+ghost use Rattle.chess_board.specs.Positions.{Setup};
+ghost use Rattle.chess_board.specs.Soundness.{IsSound};
+ghost use Rattle.mate_search.specs.Wins.{win};
+ghost use Rattle.mate_search.specs.inside.MemoEntries.{IsTrueOf};
+
+/// What is known of a position: the greatest number of moves within which there is no mate, and the least within which there is
+/// one, where such a number was found.
+#[derive(Clone, Copy, Debug, PartialEq, Eq)]
+pub(crate) struct Entry {
+    pub none_within: u8,
+    pub win_within: Option<u8>,
+}
+
+impl Entry {
+    /// What is known of a position that was never met: there is no mate within 0.
+    pub(crate) fn nothing() -> Entry
+        ensures { (p : Setup) → IsSound p → IsTrueOf p result }
+    {
+        Entry {
+            none_within: 0,
+            win_within: None,
+        }
+    }
+
+    /// Whether the attacker mates within `n` moves, where that is known.
+    pub(crate) fn answer(self, n: u8) -> Option<bool>
+        ensures { (p : Setup) → IsTrueOf p self → IfSome result (λ found. found ≡ win n p) }
+    {
+        if n <= self.none_within {
+            return Some(false);
+        }
+        match self.win_within {
+            Some(k) if k <= n => Some(true),
+            _ => None,
+        }
+    }
+
+    /// The same with one more fact: whether the attacker mates within `n` moves.
+    pub(crate) fn with(self, n: u8, found: bool) -> Entry
+        ensures { (p : Setup) → IsTrueOf p self → found ≡ win n p → IsTrueOf p result }
+    {
+        if !found {
+            return Entry {
+                none_within: self.none_within.max(n),
+                win_within: self.win_within,
+            };
+        }
+        match self.win_within {
+            Some(k) if k <= n => self,
+            _ => Entry {
+                none_within: self.none_within,
+                win_within: Some(n),
+            },
+        }
+    }
+}
+
+#[cfg(test)]
+mod tests {
+    use super::*;
+    use std::process::Abort;
+
+    #[test]
+    fn serves_what_it_keeps(rt: HostRuntime) {
+        let none = Entry::nothing().with(3, false);
+        assert_eq!(rt; none.answer(2), Some(false));
+        assert_eq!(rt; none.answer(3), Some(false));
+        assert_eq!(rt; none.answer(4), None);
+        let both = none.with(7, true).with(5, true).with(6, true);
+        assert_eq!(rt; both.answer(3), Some(false));
+        assert_eq!(rt; both.answer(4), None);
+        assert_eq!(rt; both.answer(5), Some(true));
+        assert_eq!(rt; both.answer(15), Some(true));
+    }
+}
