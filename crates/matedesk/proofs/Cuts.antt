@@ -2,7 +2,7 @@
 use Rattle.std.proofs.Common.{◌≡◌, ℕ, ◌+◌, ◌<◌, ◌≤◌, ◌^◌, ◌==◌, ◌++◌, List, [], ◌∷◌, true, Option, Some, cond, length, take, drop, get_or, sym, ap, ◌∙◌, option_map, arith}
 use Rattle.std.proofs.Math.Nat.{pow-le-pow_right}
 use Rattle.std.proofs.lemmas.List.{drop_more, append-nil}
-use Rattle.matedesk.specs.ScriptReading.{cut_at, with_byte}
+use Rattle.matedesk.specs.inside.ScriptReading.{cut_at, with_byte}
 
 -- what is cut off, with these bytes before it
 abbrev pub behind_front : List ℕ → Option (List ℕ × List ℕ) → Option (List ℕ × List ℕ)

@@ -7,7 +7,7 @@ use Rattle.std.specs.Option.{option_and_then}
 use Rattle.std.specs.Str.{bytes_eq}
 use Rattle.chess_notation.specs.Problems.{bound_of, max_bound}
 use Rattle.matedesk.specs.Scripts.{SpellsDesk}
-use Rattle.matedesk.specs.ScriptReading.{DeskValue, cut_at, number_of, number_cut, desk_of, desk_numbers}
+use Rattle.matedesk.specs.inside.ScriptReading.{DeskValue, cut_at, number_of, number_cut, desk_of, desk_numbers}
 use Rattle.matedesk.proofs.NumberLaws.{map_some, number_spelled, number_read, cut_spelled, number_cut_spelled, number_cut_read}
 
 abbrev IsSpelled : List ℕ → DeskValue → Type 0

@@ -2,7 +2,7 @@
 use Rattle.std.proofs.Common.{◌≡◌, ◌<◌, ◌==◌, ◌++◌, ℕ, Bool, List, [], ◌∷◌, Option, None, Some, true, false, cond, length, refl, sym, ap, subst, arith, option_map, length-append}
 use Rattle.std.specs.List.{onto_first}
 use Rattle.mate_search.specs.InputReplies.{lines_of}
-use Rattle.matedesk.specs.ScriptReading.{cut_at, with_byte}
+use Rattle.matedesk.specs.inside.ScriptReading.{cut_at, with_byte}
 use Rattle.matedesk.proofs.NumberLaws.{cut_spelled}
 
 -- what a cut at the first newline leaves of the lines

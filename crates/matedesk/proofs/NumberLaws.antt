@@ -7,7 +7,7 @@ use Rattle.std.specs.List.{list_all}
 use Rattle.chess_board.specs.Fields.{digits_value}
 use Rattle.chess_notation.specs.Operations.{is_digit}
 use Rattle.matedesk.specs.Scripts.{SpellsNumber}
-use Rattle.matedesk.specs.ScriptReading.{cut_at, is_number, number_of, number_cut, with_byte, with_rest}
+use Rattle.matedesk.specs.inside.ScriptReading.{cut_at, is_number, number_of, number_cut, with_byte, with_rest}
 
 pub map_some : {A B P : Type 0} (f : A → B) (o : Option A) (y : B) → option_map f o ≡ Some y → ((x : A) → o ≡ Some x → f x ≡ y → P) → P
 map_some f None y is go = absurd (none-some y is)

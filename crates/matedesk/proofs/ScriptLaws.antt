@@ -4,7 +4,7 @@ use Rattle.std.proofs.lemmas.Bool.{false≢true}
 use Rattle.std.proofs.lemmas.List.{append-nil}
 use Rattle.std.proofs.lemmas.Option.{none-some}
 use Rattle.matedesk.specs.Scripts.{StepValue, Line, SpellsStep, SpellEach, IsDesk, IsStep, IsFirstNoStep, ReachStep, AreRefused, IsRefused, said, no_step}
-use Rattle.matedesk.specs.ScriptReading.{DeskValue, desk_of, step_of}
+use Rattle.matedesk.specs.inside.ScriptReading.{DeskValue, desk_of, step_of}
 use Rattle.matedesk.specs.declared.scripts.ScriptFault.{ScriptFault}
 use Rattle.matedesk.specs.declared.scripts.ScriptFault.TheVariants as fault
 use Rattle.matedesk.proofs.DeskLaws.{desk_spelled, desk_read}

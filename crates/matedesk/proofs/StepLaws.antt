@@ -5,7 +5,7 @@ use Rattle.std.proofs.lemmas.Slice.Eq.{bytes_eq-Decides}
 use Rattle.std.specs.Option.{option_and_then}
 use Rattle.std.specs.Str.{bytes_eq}
 use Rattle.matedesk.specs.Scripts.{StepValue, Submit, Take, Finish, HandBack, Collect, Withdraw, Drained, Close, SpellsStep}
-use Rattle.matedesk.specs.ScriptReading.{cut_at, number_of, number_cut, submit_of, withdraw_of, plain_step, step_by, step_in, step_of}
+use Rattle.matedesk.specs.inside.ScriptReading.{cut_at, number_of, number_cut, submit_of, withdraw_of, plain_step, step_by, step_in, step_of}
 use Rattle.matedesk.proofs.NumberLaws.{map_some, number_spelled, number_read, cut_spelled, number_cut_spelled, number_cut_read}
 
 is_word : (word name : List ℕ) → bytes_eq word name ≡ true → word ≡ name

@@ -24,8 +24,7 @@ use Rattle.chess_board.specs.Positions.{Setup}
 use Rattle.matedesk.specs.Asked.{asked, asked_by, asked_exactly, look, serve, solve}
 use Rattle.matedesk.specs.Command.{Ends}
 use Rattle.matedesk.specs.Hyphens.{escaped}
-use Rattle.matedesk.specs.Look.{look_text}
-use Rattle.matedesk.specs.Shown.{ShowsFen}
+use Rattle.matedesk.specs.FenCommands.{look_text, ShowsFen}
 
 pub asked_look : asked (codes "matedesk" ∷ codes "look" ∷ codes "k7/8/8/8/8/8/8/7K w - - 0 1" ∷ []) ≡ Some (look (codes "k7/8/8/8/8/8/8/7K w - - 0 1"))
 unfolding clap_on_literals asked_by asked_exactly escaped

@@ -10,9 +10,9 @@ use Rattle.clap.specs.declared.error.kind.ErrorKind.TheVariants.{DisplayHelp, Di
 use Rattle.clap.specs.declared.parser.matches.ArgMatches.{ArgMatches}
 use Rattle.chess_notation.specs.Problems.{bound_of}
 use Rattle.matedesk.specs.CommandLine.{desk_app}
-use Rattle.matedesk.specs.Depths.{depth_of}
+use Rattle.matedesk.specs.Limits.{depth_of}
 use Rattle.matedesk.specs.Hyphens.{escaped}
-use Rattle.matedesk.specs.Workers.{workers_of}
+use Rattle.matedesk.specs.Limits.{workers_of}
 
 -- a command with its arguments
 pub data Asked : Type 0 where

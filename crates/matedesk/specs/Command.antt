@@ -6,11 +6,9 @@ use Rattle.mate_search.specs.Stops.{AppendsPart}
 use Rattle.mate_search.specs.declared.stops.Stop.{Stop}
 use Rattle.mate_search.specs.declared.stops.Stop.TheVariants.{NoMemory, Unreadable, Unwritable, NoReader}
 use Rattle.matedesk.specs.Asked.{Asked, look, moves, perft, solve, serve, replay}
-use Rattle.matedesk.specs.Look.{look_text}
-use Rattle.matedesk.specs.MovesShown.{moves_text, perft_text}
+use Rattle.matedesk.specs.FenCommands.{look_text, moves_text, perft_text, ShowsFen}
 use Rattle.matedesk.specs.Replayed.{ReplaysFile}
 use Rattle.matedesk.specs.Served.{HaveNoWindows, Serves, SomeRefused}
-use Rattle.matedesk.specs.Shown.{ShowsFen}
 use Rattle.matedesk.specs.Solved.{Solves, SolvesFirst}
 
 -- what a command shows where names hold such inputs, and whether anything that it was given is refused

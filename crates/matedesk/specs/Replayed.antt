@@ -8,7 +8,7 @@ use Rattle.mate_desk.specs.declared.events.Reply.{Reply}
 use Rattle.mate_desk.specs.declared.events.Step.{Step}
 use Rattle.mate_search.specs.Inputs.{MayBe}
 use Rattle.matedesk.specs.Scripts.{IsFirstFault, IsScript, ScriptValue, step_value}
-use Rattle.matedesk.specs.Shown.{line}
+use Rattle.matedesk.specs.Writing.{line}
 
 -- replies, each on a line of its own
 unfoldable pub reply_lines : List Reply → List ℕ

@@ -7,15 +7,13 @@ ghost use Rattle.matedesk.specs.Asked.{asked, asks_display, asks_serve, is_displ
 ghost use Rattle.matedesk.specs.Command.{Ends, Gains, Shows, Stops};
 ghost use Rattle.matedesk.specs.Request.{plan_of};
 
+use crate::fen_commands::{FenCommand, show_fen};
 use crate::hyphens::escaped;
-use crate::look::look;
-use crate::moves::moves;
-use crate::perft::perft;
 use crate::replay::replay;
 use crate::request::{Request, parse, request_of};
 use crate::serve::serve;
 use crate::solve::solve;
-use crate::source::Source;
+use crate::sources::Source;
 use crate::status::{ANSWERED, MISUSED, no_memory, status_of};
 use clap::Error;
 use clap::error::ErrorKind;
@@ -45,9 +43,9 @@ fn answer<S: Source, O: Write, E: Write>(
     ensures err { IfErr result (λ stop. Stops (S.holds source.now) (S.refuses source.now) (plan_of request.now) stop (O.contents out.old) (O.contents out.new)) }
 {
     match request {
-        Request::Look(fen) => look(alloc, fen, out, err),
-        Request::Moves(fen) => moves(alloc, fen, out, err),
-        Request::Perft(fen, depth) => perft(alloc, fen, *depth, out, err),
+        Request::Look(fen) => show_fen(alloc, FenCommand::Look, fen, out, err),
+        Request::Moves(fen) => show_fen(alloc, FenCommand::Moves, fen, out, err),
+        Request::Perft(fen, depth) => show_fen(alloc, FenCommand::Perft(*depth), fen, out, err),
         Request::Solve(bound, names) => solve(alloc, *bound, names, source, out, err),
         Request::Serve(..) => unreachable!(),
         Request::Replay(name) => replay(alloc, name, source, out, err),

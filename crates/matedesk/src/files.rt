@@ -2,7 +2,7 @@
 
 ghost use Rattle.std.specs.Prelude.{None, ⊤};
 
-use crate::source::{Source, SourceFault, whole};
+use crate::sources::{Source, SourceFault, whole};
 use mate_search::Input;
 use std::alloc::Global;
 use std::io::{Read, Stdin};

@@ -1,22 +1,18 @@
 //! The program `matedesk`: it reads the words of a command line, and answers them.
 //!
 //! What a word means is settled here, and what an answer is in the crates below. Read `command` first, whose contract is
-//! the program's; then `request` (words to a request) over `command_line` (what `clap` is told) and `hyphens` (the words
-//! as it is given them); then each command in the file of its name, `solve` over `source` (where files
-//! come from) and `files` (those of the system), `serve` over `reading` (files read whole). Threads are started by `serve` alone.
+//! the program's; then `request` (words to a request) over `command_line` (what `clap` is told), `limits` and `hyphens` (the words
+//! as it is given them); then `fen_commands` (`look`, `moves` and `perft`), and each other command in the file of its name, over
+//! `sources` (where files come from) and `files` (those of the system); `replay` over `scripts`. Threads are started by `serve` alone.
 #![tactic(auto)]
 
 mod command;
 mod command_line;
-mod depths;
+mod fen_commands;
 mod files;
 mod help;
 mod hyphens;
-mod look;
-mod memo;
-mod moves;
-mod perft;
-mod reading;
+mod limits;
 mod replay;
 mod request;
 mod script_desk;
@@ -25,11 +21,9 @@ mod script_steps;
 mod script_words;
 mod scripts;
 mod serve;
-mod shown;
 mod solve;
-mod source;
+mod sources;
 mod status;
-mod workers;
 mod writing;
 
 use command::command;

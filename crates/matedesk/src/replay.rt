@@ -5,12 +5,10 @@ ghost use Rattle.matedesk.specs.Command.{Gains, StopsReplaying};
 ghost use Rattle.matedesk.specs.Replayed.{HasNoDesk, Replays, ReplaysFile, Runs, reply_lines as lines_of_replies};
 ghost use Rattle.matedesk.specs.Scripts.{IsFirstFault, IsScript, script_value};
 
-use crate::memo::new_memo;
-use crate::reading::read_file;
 use crate::scripts::{Script, ScriptFault, read_script};
-use crate::shown::{push_line, show};
-use crate::source::Source;
-use crate::writing::{complain, complain_faulty};
+use crate::solve::new_memo;
+use crate::sources::{Source, read_file};
+use crate::writing::{complain, complain_faulty, push_line, show};
 use chess_moves::Rays;
 use chess_notation::NoMemory;
 use mate_desk::{Reply, RunFault, reply_text, run};

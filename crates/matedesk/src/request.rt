@@ -8,8 +8,7 @@ ghost use Rattle.matedesk.specs.Asked.{asked_by, asked_exactly, bound_in, depth_
 ghost use Rattle.matedesk.specs.Request.{plan_of};
 
 use crate::command_line::desk_command;
-use crate::depths::Depth;
-use crate::workers::Workers;
+use crate::limits::{Depth, Workers};
 use chess_notation::Bound;
 use clap::error::ErrorKind;
 use clap::{ArgMatches, Error};

@@ -2,7 +2,7 @@
 
 ghost use Rattle.std.specs.Prelude.{◌≡◌};
 ghost use Rattle.chess_notation.specs.Problems.{bound_of as bound_of_number};
-ghost use Rattle.matedesk.specs.ScriptReading.{desk_numbers, desk_of};
+ghost use Rattle.matedesk.specs.inside.ScriptReading.{desk_numbers, desk_of};
 
 use crate::script_words::{cut_at, is_word, number_cut, number_of};
 use chess_notation::Bound;
@@ -18,7 +18,7 @@ pub struct Opening {
 }
 
 impl Model for Opening {
-    ghost use Rattle.matedesk.specs.ScriptReading.{DeskValue};
+    ghost use Rattle.matedesk.specs.inside.ScriptReading.{DeskValue};
 
     ghost Value = { DeskValue };
 
@@ -47,7 +47,7 @@ fn read_numbers(text: &[u8]) -> Option<Opening>
 }
 
 /// The desk that a line opens.
-#[tactic(auto, unfolding(crate::specs::ScriptReading::desk_of))]
+#[tactic(auto, unfolding(crate::specs::inside::ScriptReading::desk_of))]
 pub fn read_desk(line: &[u8]) -> Option<Opening>
     ensures { result ≡ desk_of line.now }
 {

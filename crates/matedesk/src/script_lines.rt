@@ -3,7 +3,7 @@
 ghost use Rattle.std.specs.Prelude.{◌≡◌, ◌<◌, ℕ, [], ◌∷◌, IfNone, IfSome, length};
 ghost use Rattle.mate_search.specs.InputReplies.{lines_of};
 ghost use Rattle.matedesk.specs.Scripts.{said, said_from};
-ghost use Rattle.matedesk.specs.ScriptReading.{line_value};
+ghost use Rattle.matedesk.specs.inside.ScriptReading.{line_value};
 
 use crate::script_words::cut_at;
 use mate_search::{is_blank, without_cr};

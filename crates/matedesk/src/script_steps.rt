@@ -2,14 +2,14 @@
 
 ghost use Rattle.std.specs.Prelude.{◌≡◌, ◌≢◌, Err, None, IfOk, IfErr, OnErr, IsSome, option_map};
 ghost use Rattle.matedesk.specs.Scripts.{step_value};
-ghost use Rattle.matedesk.specs.ScriptReading.{plain_step as plain_step_of, step_by, step_of, submit_of, withdraw_of};
+ghost use Rattle.matedesk.specs.inside.ScriptReading.{plain_step as plain_step_of, step_by, step_of, submit_of, withdraw_of};
 
 use crate::script_words::{cut_at, is_word, number_cut, number_of};
 use mate_desk::Step;
 use std::alloc::{AllocError, Global};
 
 /// A step of one word.
-#[tactic(auto, unfolding(crate::specs::ScriptReading::plain_step))]
+#[tactic(auto, unfolding(crate::specs::inside::ScriptReading::plain_step))]
 fn plain_step(word: &[u8]) -> Option<Step>
     ensures { option_map step_value result ≡ plain_step_of word.now }
 {
@@ -45,7 +45,7 @@ fn withdraw_step(text: &[u8]) -> Option<Step>
 }
 
 /// A step by its first word, and by what stands behind the space that follows it.
-#[tactic(auto, unfolding(crate::specs::ScriptReading::step_by))]
+#[tactic(auto, unfolding(crate::specs::inside::ScriptReading::step_by))]
 fn step_with(alloc: Global, word: &[u8], text: &[u8]) -> Result<Option<Step>, AllocError>
     ensures ok { IfOk result (λ step. option_map step_value step ≡ step_by word.now text.now) }
     ensures err { OnErr result (IsSome (step_by word.now text.now)) }
@@ -66,7 +66,7 @@ fn step_with(alloc: Global, word: &[u8], text: &[u8]) -> Result<Option<Step>, Al
 }
 
 /// The step that a line says. Memory is wanted for a record alone, once all else of its line is read.
-#[tactic(auto, unfolding(crate::specs::ScriptReading::step_of))]
+#[tactic(auto, unfolding(crate::specs::inside::ScriptReading::step_of))]
 pub fn read_step(alloc: Global, line: &[u8]) -> Result<Option<Step>, AllocError>
     ensures ok { IfOk result (λ step. option_map step_value step ≡ step_of line.now) }
     ensures err { OnErr result (IsSome (step_of line.now)) }

@@ -5,7 +5,7 @@ ghost use Rattle.std.specs.List.{list_all};
 ghost use Rattle.std.specs.Str.{bytes_eq};
 ghost use Rattle.chess_board.specs.Fields.{digits_value};
 ghost use Rattle.chess_notation.specs.Operations.{is_digit as is_digit_byte};
-ghost use Rattle.matedesk.specs.ScriptReading.{cut_at as cut_of_text, is_number as is_number_text, number_cut as number_cut_of, number_of as number_of_text};
+ghost use Rattle.matedesk.specs.inside.ScriptReading.{cut_at as cut_of_text, is_number as is_number_text, number_cut as number_cut_of, number_of as number_of_text};
 
 /// Whether a text is this word.
 pub fn is_word(text: &[u8], word: &str) -> bool
@@ -60,7 +60,7 @@ fn value_of(digits: &[u8]) -> u32
 }
 
 /// The number that one to nine digits spell; zeros may stand in front.
-#[tactic(auto, unfolding(crate::specs::ScriptReading::number_of))]
+#[tactic(auto, unfolding(crate::specs::inside::ScriptReading::number_of))]
 pub fn number_of(text: &[u8]) -> Option<u32>
     ensures { result ≡ number_of_text text.now }
 {

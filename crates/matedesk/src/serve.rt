@@ -8,10 +8,9 @@ ghost use Rattle.matedesk.specs.Asked.{serve as serve_asked};
 ghost use Rattle.matedesk.specs.Command.{Ends};
 ghost use Rattle.matedesk.specs.Served.{unserved_status};
 
-use crate::reading::read_files;
-use crate::source::Source;
+use crate::limits::Workers;
+use crate::sources::{Source, read_files};
 use crate::status::{MISUSED, NO_THREAD, no_memory, status_of};
-use crate::workers::Workers;
 use crate::writing::complain;
 use chess_moves::Rays;
 use chess_notation::Bound;

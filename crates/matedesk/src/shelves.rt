@@ -4,7 +4,7 @@ ghost use Rattle.std.specs.Prelude.{None, ⊤};
 
 use crate::command::command;
 use crate::files::Reading;
-use crate::source::{Source, SourceFault, whole};
+use crate::sources::{Source, SourceFault, whole};
 use std::alloc::Global;
 use std::io;
 use std::io::{Read, Write};

@@ -9,14 +9,27 @@ ghost use Rattle.matedesk.specs.Asked.{solve as solve_asked};
 ghost use Rattle.matedesk.specs.Command.{Gains, Stops};
 ghost use Rattle.matedesk.specs.Solved.{Solves};
 
-use crate::memo::new_memo;
-use crate::source::Source;
+use crate::sources::Source;
 use crate::writing::complain_unreadable;
 use chess_moves::Rays;
 use chess_notation::Bound;
-use mate_search::{Memo, Stop, answer_input};
+use mate_search::{Memo, MemoFault, Stop, answer_input};
 use std::alloc::Global;
 use std::io::Write;
+
+/// How many positions the memo of a run keeps.
+const MEMO_ENTRIES: usize = 16_384;
+
+/// The memo of a run. Its size is one that a memo may have.
+pub fn new_memo(alloc: Global) -> Result<Memo, Stop>
+    ensures { IfErr result (λ stop. stop ≡ Stop.NoMemory) }
+{
+    match Memo::new(alloc, MEMO_ENTRIES) {
+        Ok(memo) => Ok(memo),
+        Err(MemoFault::NoMemory) => Err(Stop::NoMemory),
+        Err(MemoFault::BadSize) => unreachable!(),
+    }
+}
 
 /// Answers each line of a file, before it reads on for the next; gives how many lines are refused.
 fn solve_file<S: Source, O: Write>(

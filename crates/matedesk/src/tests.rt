@@ -3,7 +3,7 @@
 use crate::command::command;
 use crate::help::VERSION;
 use crate::shelves::{ALWAYS, Failing, Shelf, run, run_with, shelf_of, words_of};
-use crate::source::Source;
+use crate::sources::Source;
 use std::io;
 use std::test::Fail;
 

@@ -4,7 +4,7 @@ ghost use Rattle.std.specs.Prelude.{◌≡◌, IfOk, IfSome, List, ℕ, ◌∷�
 ghost use Rattle.std.specs.String.{string_bytes};
 
 use crate::command::command;
-use crate::source::{Source, SourceFault, whole};
+use crate::sources::{Source, SourceFault, whole};
 use chess_board::spells_one;
 use chess_notation::records_clear;
 use std::alloc::{AllocError, Global};

@@ -1,5 +1,5 @@
 use Rattle.std.proofs.Common.{◌≡◌, take, drop}
-use Rattle.matedesk.specs.ScriptReading.{cut_at}
+use Rattle.matedesk.specs.inside.ScriptReading.{cut_at}
 use Rattle.matedesk.proofs.Cuts.{behind_front}
 use Rattle.matedesk.proofs.script_words.cut_at.Given as goal
 

@@ -1,6 +1,6 @@
 use Rattle.std.proofs.Common.{◌≢◌, ◌∙◌, Some, sym, ap, subst}
 use Rattle.matedesk.specs.Scripts.{IsRefused, IsScript, ScriptValue, all_blank, no_desk as opens_no_desk}
-use Rattle.matedesk.specs.ScriptReading.{line_value}
+use Rattle.matedesk.specs.inside.ScriptReading.{line_value}
 use Rattle.matedesk.specs.declared.scripts.ScriptFault.TheVariants as fault
 use Rattle.matedesk.proofs.DeskLaws.{desk_spelled}
 use Rattle.matedesk.proofs.OneScript.{script_one, refused_no_script}

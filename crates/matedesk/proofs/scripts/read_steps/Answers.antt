@@ -1,7 +1,7 @@
 use Rattle.std.proofs.Common.{◌≡◌, ◌∙◌, [], ◌∷◌, IsSome, refl, sym, ap, subst, map, option_map}
 use Rattle.std.proofs.lemmas.List.{map-append}
 use Rattle.matedesk.specs.Scripts.{AreRefused, step_value}
-use Rattle.matedesk.specs.ScriptReading.{line_value, step_of}
+use Rattle.matedesk.specs.inside.ScriptReading.{line_value, step_of}
 use Rattle.matedesk.proofs.ScriptLaws.{AreReadTo, refused_by, read_more, read_to_fault, read_to_step}
 use Rattle.matedesk.proofs.scripts.read_steps.Goals as goal
 

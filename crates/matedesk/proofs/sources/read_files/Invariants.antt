@@ -1,6 +1,6 @@
 use Rattle.std.proofs.Common.{map, take}
 use Rattle.matedesk.specs.Sources.{Holds}
-use Rattle.matedesk.proofs.reading.read_files.Given as goal
+use Rattle.matedesk.proofs.sources.read_files.Given as goal
 
 -- the files of the names so far were read
 abbrev pub invariant-loop-name : goal.invariant-loop-name

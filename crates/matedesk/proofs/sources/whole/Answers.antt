@@ -4,7 +4,7 @@ use Rattle.std.proofs.Math.Seq.{take-append_seam}
 use Rattle.std.proofs.lemmas.Result.{err_from_is_err_and}
 use Rattle.std.specs.Io.KnownBytes.{Consumes, IsAtEnd}
 use Rattle.mate_search.specs.Inputs.{MayBe}
-use Rattle.matedesk.proofs.source.whole.Goals as goal
+use Rattle.matedesk.proofs.sources.whole.Goals as goal
 
 seam : (n : ℕ) (xs ys : List ℕ) → length xs ≡ n → take n (xs ++ ys) ≡ xs
 seam n xs ys is = ap (λ m. take m (xs ++ ys)) (sym is) ∙ take-append_seam xs ys

@@ -1,15 +1,14 @@
 use Rattle.std.proofs.Common.{false}
-use Rattle.matedesk.specs.MovesShown.{moves_text}
-use Rattle.matedesk.specs.Shown.{ShowsFen}
+use Rattle.matedesk.specs.FenCommands.{ShowsFen, shown_text}
 use Rattle.matedesk.proofs.Endings.{shows_fen, stops_fen}
-use Rattle.matedesk.proofs.moves.moves.Goals as goal
+use Rattle.matedesk.proofs.fen_commands.show_fen.Goals as goal
 
 pub returns-clause-ok : goal.returns-clause-ok
 returns-clause-ok g c =
-    shows_fen (ShowsFen moves_text c.args.fen.now) c.in_ok-text.text.items c.as_slice.result.now c.show.result _ _ c.as_slice.ensures.value
+    shows_fen (ShowsFen (shown_text c.args.command) c.args.fen.now) c.in_ok-text.text.items c.as_slice.result.now c.show.result _ _ c.as_slice.ensures.value
     (c.in-Some.fen, c.in-Some.ensures.read.0, c.in-Some.ensures.read.1, c.in_ok-text.ensures) c.show.ensures.ok
 
 pub returns-clause-err : goal.returns-clause-err
 returns-clause-err g c =
-    stops_fen (ShowsFen moves_text c.args.fen.now false) c.in_ok-text.text.items c.as_slice.result.now c.show.result _ _ c.as_slice.ensures.value
+    stops_fen (ShowsFen (shown_text c.args.command) c.args.fen.now false) c.in_ok-text.text.items c.as_slice.result.now c.show.result _ _ c.as_slice.ensures.value
     (c.in-Some.fen, c.in-Some.ensures.read.0, c.in-Some.ensures.read.1, c.in_ok-text.ensures) c.show.ensures.err c.show.ensures.part

@@ -1,6 +1,6 @@
 use Rattle.std.proofs.Common.{◌<◌, length}
 use Rattle.std.specs.Io.KnownBytes.{Consumes}
-use Rattle.matedesk.proofs.source.whole.Given as goal
+use Rattle.matedesk.proofs.sources.whole.Given as goal
 
 -- what was read is what is kept
 abbrev pub invariant-loop : goal.invariant-loop
