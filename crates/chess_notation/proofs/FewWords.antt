@@ -7,7 +7,7 @@ use Rattle.chess_board.specs.declared.men.Man.{Man}
 use Rattle.chess_board.specs.declared.men.Wing.{Wing}
 use Rattle.chess_board.specs.declared.men.Wing.TheVariants.{KingSide, QueenSide}
 use Rattle.chess_board.specs.KindTests.{is_pawn_kind}
-use Rattle.chess_board.specs.Positions.{Setup, man_at}
+use Rattle.chess_board.specs.Positions.{Setup}
 use Rattle.chess_board.specs.Fields.{square_text}
 use Rattle.chess_board.specs.Moves.{Move}
 use Rattle.chess_board.specs.After.{is_castling, wing_of}

@@ -11,7 +11,7 @@ use Rattle.chess_notation.specs.declared.epd_faults.EpdFault.TheVariants.{BoundT
 use Rattle.chess_notation.specs.Segments.{segments_of}
 use Rattle.chess_notation.specs.Operations.{Entry}
 use Rattle.chess_notation.specs.RecordFields.{line_fields, operations_in, cut_of}
-use Rattle.chess_notation.specs.EpdFaults.{are_distinct, is_small_if_bound, are_names, has_names_if_avoid, fault_number, IsAmissBy, IsFaultOf}
+use Rattle.chess_notation.specs.EpdFaults.{are_distinct, is_small_if_bound, are_names, has_names_if_avoid, IsFaultOf}
 use Rattle.chess_notation.specs.inside.RecordReading.{IsClearTo, bound_said, avoid_text_in, avoid_in, rest_of}
 use Rattle.chess_notation.specs.Words.{words_in}
 use Rattle.chess_notation.specs.AvoidMoves.{named}

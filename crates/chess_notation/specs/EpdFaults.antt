@@ -14,6 +14,7 @@ use Rattle.chess_notation.specs.Quoting.{strings_fit}
 use Rattle.chess_notation.specs.Operations.{is_printable, is_opcode}
 use Rattle.chess_notation.specs.Opcodes.{same_text}
 use Rattle.chess_notation.specs.AvoidMoves.{is_name}
+use Rattle.chess_notation.specs.Problems.{max_bound}
 use Rattle.chess_notation.specs.RecordFields.{is_number, fourth_word, line_fields, cut_of}
 
 -- A fault prints as its name; that of the fields as the word `Fen`, a space and the name of the FEN's fault.
@@ -71,7 +72,7 @@ abbrev pub has_number_if_bound : List ℕ → Bool
 has_number_if_bound segment = not (is_bound_segment segment) || has_number segment
 
 abbrev pub is_small_if_bound : List ℕ → Bool
-is_small_if_bound segment = not (is_bound_segment segment) || nat_le (digits_value (word_at (behind segment))) 15
+is_small_if_bound segment = not (is_bound_segment segment) || nat_le (digits_value (word_at (behind segment))) max_bound
 
 abbrev pub is_avoid_segment : List ℕ → Bool
 is_avoid_segment segment = same_text (codes "am") (word_at segment)

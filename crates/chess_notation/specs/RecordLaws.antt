@@ -2,6 +2,7 @@
 use Rattle.std.specs.Prelude.{◌≡◌, ℕ, ◌≤◌, List, length}
 use Rattle.chess_notation.specs.declared.problems.Outcome.{Outcome}
 use Rattle.chess_notation.specs.declared.problems.Outcome.TheVariants.{Mate, NoMate}
+use Rattle.chess_notation.specs.Problems.{max_bound}
 use Rattle.chess_notation.specs.Records.{RecordValue, Reads}
 use Rattle.chess_notation.specs.EpdFaults.{HasNoFault}
 use Rattle.chess_notation.specs.Answers.{answer_text, IsPlayable}
@@ -20,9 +21,9 @@ abbrev pub answered : RecordValue → Outcome → ℕ → RecordValue
 answered r (Mate dm keys pv) default = record { position = r.position; bound = dm; avoid = r.avoid; rest = r.rest }
 answered r NoMate default = record { position = r.position; bound = default; avoid = r.avoid; rest = r.rest }
 
--- The mate is one in 1 to 15 moves.
+-- The mate is one within the greatest bound.
 abbrev pub HasLength : Outcome → Type 0
-HasLength (Mate dm keys pv) = (1 ≤ dm) × (dm ≤ 15)
+HasLength (Mate dm keys pv) = (1 ≤ dm) × (dm ≤ max_bound)
 HasLength NoMate = Unit {0}
 
 -- An answer that is no longer than a record may be, made for a record that was read, says that record again.

@@ -13,7 +13,7 @@ use Rattle.chess_notation.specs.Operations.{Operation, Entry, entry_of, SpellsOp
 use Rattle.chess_notation.specs.Operations.Operand.{Word}
 use Rattle.chess_notation.specs.Opcodes.{is_own, RisesByOpcode}
 use Rattle.chess_notation.specs.AvoidMoves.{is_name, named}
-use Rattle.chess_notation.specs.Problems.{ProblemValue}
+use Rattle.chess_notation.specs.Problems.{ProblemValue, max_bound}
 
 -- what a record says: a position, the bound within which mate is asked for, the first moves to avoid, and the other operations
 pub record RecordValue : Type 0 where
@@ -64,7 +64,7 @@ dm_of word = record { opcode = codes "dm"; operands = Word word ∷ [] }
 -- The bound is that of `dm`, whose one operand is a plain one of decimal digits.
 abbrev pub IsAskedBound : List Operation → ℕ → Type 0
 IsAskedBound operations bound = (word : List ℕ) × Contains operations (dm_of word) × (list_all is_digit word ≡ true)
-    × (bound ≡ digits_value word) × (1 ≤ bound) × (bound ≤ 15)
+    × (bound ≡ digits_value word) × (1 ≤ bound) × (bound ≤ max_bound)
 
 -- Where there is no `dm`, it is the default one.
 abbrev pub IsBoundOf : List Operation → ℕ → ℕ → Type 0

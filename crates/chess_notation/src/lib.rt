@@ -30,12 +30,14 @@ mod words;
 pub use answers::answer_text;
 pub use epd_faults::EpdFault;
 pub use no_memory::NoMemory;
-pub use problems::{AvoidList, Bound, Outcome, Problem};
+pub use problems::{AvoidList, Bound, Outcome, Problem, Variation};
+pub use record_fields::are_digits;
 pub use record_laws::{answer_reads, records_clear, says_one};
 pub use record_reading::read_record;
 pub use records::{Operation, Record};
 pub use san_laws::{bare_texts_apart, named_read, names_one, texts_apart, texts_short};
 pub use san_text::san;
+pub use words::is_blank;
 
 #[cfg(test)]
 mod answer_tests;

@@ -1,12 +1,15 @@
 //! Problems, their bounds, and their outcomes.
 
 ghost use Rattle.std.specs.Prelude.{◌≡◌, ◌≤◌, ℕ};
-ghost use Rattle.chess_notation.specs.Problems.{bound_of};
+ghost use Rattle.chess_notation.specs.Problems.{bound_of, max_bound};
 
 use arrayvec::ArrayVec;
 use chess_board::{Move, Position};
 use chess_moves::MoveList;
 use std::marker::Model;
+
+/// The greatest bound.
+const MAX_BOUND: u8 = 15;
 
 /// Within how many moves of the attacker mate is asked for: 1 to 15.
 #[derive(Clone, Copy, Debug, PartialEq, Eq, PartialOrd, Ord)]
@@ -16,12 +19,13 @@ pub struct Bound {
 
 impl Model for Bound {
     ghost use Rattle.std.specs.Prelude.{◌≤◌, ℕ};
+    ghost use Rattle.chess_notation.specs.Problems.{max_bound};
 
     ghost Value = { ℕ };
 
     ghost view = { λ b. b.moves };
 
-    ghost invariant = { λ b. (1 ≤ b.moves) × (b.moves ≤ 15) };
+    ghost invariant = { λ b. (1 ≤ b.moves) × (b.moves ≤ max_bound) };
 
     ghost inverse = { λ n. record { moves = n } };
 }
@@ -31,7 +35,7 @@ impl Bound {
     pub fn new(moves: u8) -> Option<Bound>
         ensures { result ≡ bound_of moves }
     {
-        if 1 <= moves && moves <= 15 {
+        if 1 <= moves && moves <= MAX_BOUND {
             Some(Bound { moves })
         } else {
             None
@@ -42,7 +46,7 @@ impl Bound {
     pub fn get(self) -> u8
         ensures moves { result ≡ self }
         ensures some { 1 ≤ result }
-        ensures few { result ≤ 15 }
+        ensures few { result ≤ max_bound }
     {
         self.moves
     }
@@ -50,6 +54,9 @@ impl Bound {
 
 /// Moves to avoid, with room for all that a line can name: each has two bytes at least there, and a space between it and the next.
 pub type AvoidList = ArrayVec<Move, 341>;
+
+/// A principal variation, with room for the longest: 15 moves of the attacker and the 14 replies between them.
+pub type Variation = ArrayVec<Move, 29>;
 
 /// A direct-mate problem: whether the side to move mates within so many of its moves, the first of them none of those to avoid,
 /// which rise in the order of moves. It is of fixed size, and can't be cloned: `Record::problem` makes it anew.
@@ -79,7 +86,7 @@ pub enum Outcome {
     Mate {
         dm: Bound,
         keys: MoveList,
-        pv: ArrayVec<Move, 29>,
+        pv: Variation,
     },
     /// There is no mate within the bound.
     NoMate,

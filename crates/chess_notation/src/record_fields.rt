@@ -19,7 +19,8 @@ pub(crate) struct Parts<'a> {
     rest: &'a [u8],
 }
 
-fn are_digits(text: &[u8]) -> bool
+/// Whether each byte of a text is a decimal digit.
+pub fn are_digits(text: &[u8]) -> bool
     ensures { result ≡ list_all is_digit_byte text.now }
 {
     for byte in text {

@@ -36,8 +36,8 @@ pub(crate) fn word_at(text: &[u8]) -> (&[u8], &[u8])
     front_word(after_spaces(text))
 }
 
-/// Whether it holds nothing but spaces.
-pub(crate) fn is_blank(text: &[u8]) -> bool
+/// Whether a text holds nothing but spaces.
+pub fn is_blank(text: &[u8]) -> bool
     ensures { result ≡ is_all_blank text.now }
 {
     after_spaces(text).is_empty()

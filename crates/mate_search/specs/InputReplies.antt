@@ -1,4 +1,4 @@
--- What an input of records is answered, line by line (own to this project).
+-- The replies to an input of records, line by line (own to this project).
 use Rattle.std.specs.Prelude.{◌≡◌, ℕ, ◌+◌, ◌-◌, length, take, slice_index, ◌==◌, List, [], ◌∷◌, ◌++◌, codes, decimal, true, false, if◌then◌else◌}
 use Rattle.std.specs.List.{slice_split}
 use Rattle.chess_board.specs.Characters.{char}

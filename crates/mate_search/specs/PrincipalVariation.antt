@@ -1,4 +1,4 @@
--- Keys and the line of play, as a chess player reads them.
+-- Keys and the principal variation, as a chess player reads them.
 use Rattle.std.specs.Prelude.{◌≡◌, ℕ, ◌+◌, ◌-◌, ◌≤◌, true, false, List, [], ◌∷◌, Contains}
 use Rattle.chess_board.specs.Positions.{Setup}
 use Rattle.chess_board.specs.Moves.{Move, move_place}
@@ -25,8 +25,8 @@ IsLongestDefence q r = Contains (legal_moves q) r
     × ((s : Move) → Contains (legal_moves q) s → ¬ LastsLonger q s r)
     × ((s : Move) → Contains (legal_moves q) s → ¬ LastsLonger q r s → move_place r ≤ move_place s)
 
--- The line of play to a mate in so many moves, the attacker's first one of these: a mate in one is its first key. A longer mate
--- goes on after its first key with the longest defence, and then with the line of the position after both, to a mate in one move
+-- The principal variation of a mate in so many moves, the attacker's first one of these: a mate in one is its first key. A longer mate
+-- goes on after its first key with the longest defence, and then with that of the position after both, to a mate in one move
 -- less, with every legal move to choose from.
 pub data IsPrincipalVariation : List Move → Setup → ℕ → List Move → Type 0 where
   mates : (first : List Move) (p : Setup) (m : Move) → IsFirstKey first p 1 m → IsPrincipalVariation first p 1 (m ∷ [])

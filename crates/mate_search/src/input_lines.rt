@@ -1,4 +1,4 @@
-//! Lines, taken from an input as it comes.
+//! The lines of an input, taken from it as it comes.
 
 ghost use Rattle.std.specs.Prelude.{◌≡◌, ◌++◌, ◌<◌, ◌≤◌, ◌+◌, ℕ, List, [], ◌∷◌, IfNone, IfOk, IfErr, IfSome, drop, false, length, true};
 ghost use Rattle.std.specs.Io.KnownBytes.{Consumes, IsAtEnd, prepend_known};

@@ -1,8 +1,7 @@
-//! What an input of records is answered.
+//! The replies to an input of records.
 
 ghost use Rattle.std.specs.Prelude.{◌≡◌, ◌≢◌, ◌≤◌, ℕ, Bool, List, [], IfErr, IfOk, true, false};
 ghost use Rattle.std.specs.Io.KnownBytes.{Appends};
-ghost use Rattle.chess_notation.specs.Words.{is_blank as is_blank_text};
 ghost use Rattle.mate_search.specs.Inputs.{MayBe};
 ghost use Rattle.mate_search.specs.InputReplies.{answer_line as answer_line_of, fault_line, without_cr as text_without_cr, IsLineReply, IsReply, IsReplyToFirst};
 ghost use Rattle.mate_search.specs.Stops.{AppendsBy, AppendsPart, is_of_output};
@@ -15,7 +14,7 @@ use crate::stops::Stop;
 use crate::input_lines::{Kept, Lines, MOST_KEPT};
 use crate::writing::put;
 use chess_moves::Rays;
-use chess_notation::{Bound, EpdFault, NoMemory, Record, answer_text, read_record};
+use chess_notation::{Bound, EpdFault, NoMemory, Record, answer_text, is_blank, read_record};
 use std::alloc::{AllocError, Global};
 use std::io::Write;
 
@@ -35,18 +34,6 @@ pub fn without_cr(line: &[u8]) -> &[u8]
     } else {
         line
     }
-}
-
-/// Whether a line has nothing but spaces.
-pub fn is_blank(line: &[u8]) -> bool
-    ensures { result ≡ is_blank_text line.now }
-{
-    for byte in line {
-        if *byte != b' ' {
-            return false;
-        }
-    }
-    true
 }
 
 /// The reply to a line that says no record: its number and its fault, behind a `#`.

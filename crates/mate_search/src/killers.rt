@@ -1,4 +1,4 @@
-//! Replies that refuted a move of the attacker.
+//! Killers: replies that refuted a move of the attacker.
 
 use chess_board::Move;
 

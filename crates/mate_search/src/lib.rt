@@ -2,31 +2,33 @@
 //! and what an input of such problems is answered.
 //!
 //! The rules are `chess_moves`'s business, and problems and outcomes are `chess_notation`'s. What a mate within n moves is
-//! stands in `specs/Wins.antt`, keys and the line of play in `specs/Play.antt`, and what there is to say of a problem in
-//! `specs/Laws.antt`; an outcome is exactly that.
+//! stands in `specs/Wins.antt`, keys and the principal variation in `specs/PrincipalVariation.antt`, and what there is to say of a
+//! problem in `specs/Laws.antt`; an outcome is exactly that.
 //!
-//! To read: `entries`, `refutations`, `memo`, `searching`, `lines`, `solving`; `laws` says of the definitions what they are meant to say; then
-//! `specs/Replies.antt` and `replies`, over `inputs` (bytes as they come), `taking` (lines of them), `writing` and `stops`; at last
-//! `specs/Jobs.antt`, `tickets` and `jobs`, what a desk hands out and takes back, and `problems`. `solve` takes memory for its memo
-//! alone, and never fails for want of it.
+//! To read: `memo_entries`, `killers`, `memo`, `searching`, `principal_variation`, `solving`; `laws` says of the definitions what they
+//! are meant to say; then `specs/InputReplies.antt` and `input_replies`, over `inputs` (bytes as they come), `input_lines`, `writing`
+//! and `stops`; at last `specs/Jobs.antt`, `tickets` and `jobs`, what a desk hands out and takes back, and `problems`. `solve` takes
+//! memory for its memo alone, and never fails for want of it.
 #![tactic(auto)]
 
-mod memo_entries;
+mod input_lines;
+mod input_replies;
 mod inputs;
 mod jobs;
-mod laws;
-mod principal_variation;
-mod memo;
-mod problems;
 mod killers;
-mod input_replies;
+mod laws;
+mod memo;
+mod memo_entries;
+mod principal_variation;
+mod problems;
 mod searching;
 mod solving;
 mod stops;
-mod input_lines;
 mod tickets;
 mod writing;
 
+pub use input_lines::first_line;
+pub use input_replies::{Output, answer_input, fault_text, solve_input, without_cr};
 pub use inputs::{Input, InputFault};
 pub use jobs::{Answer, Done, Job};
 pub use laws::{
@@ -35,10 +37,8 @@ pub use laws::{
 };
 pub use memo::{Memo, MemoFault};
 pub use problems::{is_same_problem, same_problem_reads};
-pub use input_replies::{Output, answer_input, fault_text, is_blank, solve_input, without_cr};
 pub use solving::solve;
 pub use stops::Stop;
-pub use input_lines::first_line;
 pub use tickets::Ticket;
 pub use writing::{put, stop_of_output};
 

@@ -1,4 +1,4 @@
-//! What is known of a position whose side to move is the attacker.
+//! An entry of the memo: what is known of a position whose side to move is the attacker.
 
 ghost use Rattle.std.specs.Prelude.{◌≡◌, IfSome, true, false};
 ghost use Rattle.chess_board.specs.Positions.{Setup};

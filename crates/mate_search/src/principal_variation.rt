@@ -1,4 +1,4 @@
-//! The keys of a mate and its line of play.
+//! The keys of a mate and its principal variation, the line of play.
 
 ghost use Rattle.std.specs.Prelude.{◌≡◌, ◌+◌, ◌*◌, ◌<◌, ◌≤◌, ◌++◌, true, All, IfSome, Contains, length};
 ghost use Rattle.arrayvec.specs.ArrayVec.{array_vec_len};
@@ -7,9 +7,9 @@ ghost use Rattle.mate_search.specs.inside.Variation.{keys, least_key, longest_de
 
 use crate::memo::Memo;
 use crate::searching::{loses, wins};
-use arrayvec::ArrayVec;
 use chess_board::{Move, Position, after};
 use chess_moves::{MoveList, Rays, legal};
+use chess_notation::Variation;
 
 /// Of these legal moves the keys of a mate within `n` moves, in their order.
 #[tactic(auto, using(crate::proofs::Searches::kept_more, crate::proofs::Searches::left_out))]
@@ -58,7 +58,7 @@ fn least_key(
     None
 }
 
-/// The first reply after which the attacker does not mate within `j` moves.
+/// The longest defence: the first reply after which the attacker does not mate within `j` moves.
 #[tactic(auto, using(crate::proofs::Searches::find_here, crate::proofs::Searches::find_none_more, crate::proofs::Wins::legal_each))]
 fn longest_defence(rays: &Rays, position: &Position, j: u8, memo: &mut Memo) -> Option<Move>
     ensures reply { result ≡ longest_defence position.now j }
@@ -74,7 +74,7 @@ fn longest_defence(rays: &Rays, position: &Position, j: u8, memo: &mut Memo) -> 
     None
 }
 
-/// Appends the line to a mate within `n` moves, the first of which is one of these.
+/// Appends the principal variation to a mate within `n` moves, the first of which is one of these.
 #[tactic(auto, using(crate::proofs::Wins::legal_each))]
 pub(crate) fn push_variation(
     rays: &Rays,
@@ -82,7 +82,7 @@ pub(crate) fn push_variation(
     first: &[Move],
     n: u8,
     memo: &mut Memo,
-    out: &mut ArrayVec<Move, 29>,
+    out: &mut Variation,
 )
     requires some { 0 < n }
     requires room { array_vec_len out.old + 2 * n ≤ 30 }

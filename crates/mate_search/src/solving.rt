@@ -12,13 +12,12 @@ ghost use Rattle.chess_notation.specs.Answers.{IsPlayable};
 ghost use Rattle.chess_notation.specs.declared.problems.Outcome.TheVariants.{Mate};
 
 use crate::memo_entries::Entry;
-use crate::principal_variation::{push_variation, keys_among};
+use crate::principal_variation::{keys_among, push_variation};
 use crate::memo::Memo;
 use crate::searching::wins_among;
-use arrayvec::ArrayVec;
 use chess_board::{Move, Position};
 use chess_moves::{MoveList, Rays, legal, legal_listed};
-use chess_notation::{Bound, Outcome, Problem};
+use chess_notation::{Bound, Outcome, Problem, Variation};
 
 /// What there is to say of a problem: the least number of the attacker's moves within which it mates with none of the moves to avoid
 /// for its first, all keys in the order of moves, and one line of play; or that there is no mate within the bound. It never fails.
@@ -160,7 +159,7 @@ fn mate_among(rays: &Rays, position: &Position, first: &[Move], n: u8, memo: &mu
     let Some(dm) = Bound::new(n) else {
         unreachable!();
     };
-    let mut pv = ArrayVec::new();
+    let mut pv = Variation::new();
     push_variation(rays, position, first, n, memo, &mut pv);
     Outcome::Mate {
         dm,

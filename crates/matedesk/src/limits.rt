@@ -1,9 +1,15 @@
 //! The numbers that the command line bounds: the depth of `perft`, and the workers of `serve`.
 
 ghost use Rattle.std.specs.Prelude.{◌≡◌, ◌≤◌, ℕ};
-ghost use Rattle.matedesk.specs.Limits.{depth_of, workers_of};
+ghost use Rattle.matedesk.specs.Limits.{depth_of, max_depth, max_workers, workers_of};
 
 use std::marker::Model;
+
+/// The greatest depth.
+const MAX_DEPTH: u8 = 6;
+
+/// The most workers.
+const MAX_WORKERS: u8 = 16;
 
 /// A number of moves from 0 to 6.
 #[derive(Clone, Copy, Debug, PartialEq, Eq)]
@@ -16,7 +22,7 @@ impl Model for Depth {
 
     ghost view = { λ d. d.moves };
 
-    ghost invariant = { λ d. d.moves ≤ 6 };
+    ghost invariant = { λ d. d.moves ≤ max_depth };
 
     ghost inverse = { λ n. record { moves = n } };
 }
@@ -26,7 +32,7 @@ impl Depth {
     pub fn new(moves: u8) -> Option<Depth>
         ensures { result ≡ depth_of moves }
     {
-        if moves <= 6 {
+        if moves <= MAX_DEPTH {
             Some(Depth { moves })
         } else {
             None
@@ -36,7 +42,7 @@ impl Depth {
     /// The number of moves.
     pub fn get(self) -> u8
         ensures moves { result ≡ self }
-        ensures small { result ≤ 6 }
+        ensures small { result ≤ max_depth }
     {
         self.moves
     }
@@ -53,7 +59,7 @@ impl Model for Workers {
 
     ghost view = { λ w. w.count };
 
-    ghost invariant = { λ w. (1 ≤ w.count) × (w.count ≤ 16) };
+    ghost invariant = { λ w. (1 ≤ w.count) × (w.count ≤ max_workers) };
 
     ghost inverse = { λ n. record { count = n } };
 }
@@ -63,7 +69,7 @@ impl Workers {
     pub fn new(count: u8) -> Option<Workers>
         ensures { result ≡ workers_of count }
     {
-        if 1 <= count && count <= 16 {
+        if 1 <= count && count <= MAX_WORKERS {
             Some(Workers { count })
         } else {
             None
@@ -74,7 +80,7 @@ impl Workers {
     pub fn get(self) -> u8
         ensures count { result ≡ self }
         ensures some { 1 ≤ result }
-        ensures few { result ≤ 16 }
+        ensures few { result ≤ max_workers }
     {
         self.count
     }

@@ -6,7 +6,8 @@ ghost use Rattle.matedesk.specs.Scripts.{said, said_from};
 ghost use Rattle.matedesk.specs.inside.ScriptReading.{line_value};
 
 use crate::script_words::cut_at;
-use mate_search::{is_blank, without_cr};
+use chess_notation::is_blank;
+use mate_search::without_cr;
 use std::marker::Model;
 
 /// A line that isn't blank, without one CR at its end, and its number in the script, counted from 1.

@@ -5,7 +5,9 @@ ghost use Rattle.std.specs.List.{list_all};
 ghost use Rattle.std.specs.Str.{bytes_eq};
 ghost use Rattle.chess_board.specs.Fields.{digits_value};
 ghost use Rattle.chess_notation.specs.Operations.{is_digit as is_digit_byte};
-ghost use Rattle.matedesk.specs.inside.ScriptReading.{cut_at as cut_of_text, is_number as is_number_text, number_cut as number_cut_of, number_of as number_of_text};
+ghost use Rattle.matedesk.specs.inside.ScriptReading.{cut_at as cut_of_text, number_cut as number_cut_of, number_of as number_of_text};
+
+use chess_notation::are_digits;
 
 /// Whether a text is this word.
 pub fn is_word(text: &[u8], word: &str) -> bool
@@ -26,23 +28,6 @@ pub fn cut_at(separator: u8, text: &[u8]) -> Option<(&[u8], &[u8])>
         }
     }
     None
-}
-
-fn is_digit(byte: u8) -> bool
-    ensures { result ≡ is_digit_byte byte }
-{
-    b'0' <= byte && byte <= b'9'
-}
-
-fn are_digits(text: &[u8]) -> bool
-    ensures { result ≡ list_all is_digit_byte text.now }
-{
-    for byte in text {
-        if !is_digit(*byte) {
-            return false;
-        }
-    }
-    true
 }
 
 /// The number that up to nine digits spell.

@@ -1,4 +1,4 @@
--- How a line is taken from what comes. Own to the code: the contract of `answer_input` rests on none of it.
+-- Not for believing: how a line is taken from what comes. No contract of a public call rests on it.
 use Rattle.std.specs.Prelude.{◌≡◌, ◌==◌, ◌&&◌, ℕ, Bool, true, false, List, [], ◌∷◌, ◌++◌, Option, All, take, drop}
 use Rattle.std.specs.Io.KnownBytes.{Consumes, IsAtEnd, prepend_known}
 use Rattle.mate_search.specs.declared.input_lines.Kept.{Kept}

@@ -1,4 +1,4 @@
-use Rattle.std.proofs.Common.{◌≢◌, List, [], Result, Ok, Err, OnErr, subst, ◌∙◌}
+use Rattle.std.proofs.Common.{◌≢◌, [], Result, Ok, Err, OnErr, subst, ◌∙◌}
 use Rattle.chess_notation.specs.Operations.{is_printable}
 use Rattle.chess_notation.specs.EpdFaults.{has_opcode}
 use Rattle.chess_notation.proofs.SegmentSteps.{kept_more, some_kept, all_behind_segment, all_in_segment}

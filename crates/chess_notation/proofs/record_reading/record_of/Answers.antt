@@ -1,6 +1,4 @@
-use Rattle.std.proofs.Common.{◌≡◌, ◌≤◌, ℕ, List, true, Some, None, Option, Bor, IfSome, IfNone, length, ap, sym, ◌∙◌, subst, inl, inr, refl, arith}
-use Rattle.chess_board.specs.Moves.{Move}
-use Rattle.chess_moves.specs.Laws.{IsRising}
+use Rattle.std.proofs.Common.{◌≡◌, ◌≤◌, ℕ, List, Some, None, Option, Bor, IfSome, IfNone, length, ◌∙◌, subst, inl, inr, refl, arith}
 use Rattle.chess_notation.specs.Segments.{segments_of}
 use Rattle.chess_notation.specs.inside.RecordReading.{avoid_text_in, avoid_in}
 use Rattle.chess_notation.proofs.EntryOrder.{rest_rises, rest_kept}
