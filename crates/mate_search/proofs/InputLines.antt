@@ -83,3 +83,10 @@ pub cut_first : {X : Type 0} (o : Option X) (text : List ℕ) (line more : X →
     → IfSome o (λ x. lines_of text ≡ line x ∷ lines_of (more x))
 cut_first None text line more one cut = tt
 cut_first (Some x) text line more one cut = ap lines_of cut ∙ lines_first (line x) (more x) one
+
+pub cut_shorter : {X : Type 0} (o : Option X) (text : List ℕ) (line more : X → List ℕ) → IfSome o (λ x. text ≡ line x ++ 10 ∷ more x)
+    → IfSome o (λ x. length (more x) < length text)
+cut_shorter None text line more cut = tt
+cut_shorter (Some x) text line more cut =
+    let sum = length-append (line x) (10 ∷ more x) in
+    omega (arith, ap length cut, sum)

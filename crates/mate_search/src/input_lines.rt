@@ -88,6 +88,7 @@ fn cut_line(text: &[u8]) -> Option<(&[u8], &[u8])>
 pub fn first_line(text: &[u8]) -> Option<(&[u8], &[u8])>
     ensures none { IfNone result (lines_of text.now ≡ text.now ∷ []) }
     ensures cut { IfSome result (λ cut. lines_of text.now ≡ cut.0.now ∷ lines_of cut.1.now) }
+    ensures shorter { IfSome result (λ cut. length cut.1.now < length text.now) }
 {
     cut_line(text)
 }

@@ -2,7 +2,6 @@ mod Cuts
 mod DeskLaws
 mod Endings
 mod Escapes
-mod LineLaws
 mod NumberLaws
 mod Numbers
 mod OneScript

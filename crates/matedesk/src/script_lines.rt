@@ -5,9 +5,8 @@ ghost use Rattle.mate_search.specs.InputReplies.{lines_of};
 ghost use Rattle.matedesk.specs.Scripts.{said, said_from};
 ghost use Rattle.matedesk.specs.inside.ScriptReading.{line_value};
 
-use crate::script_words::cut_at;
 use chess_notation::is_blank;
-use mate_search::without_cr;
+use mate_search::{first_line, without_cr};
 use std::marker::Model;
 
 /// A line that isn't blank, without one CR at its end, and its number in the script, counted from 1.
@@ -37,12 +36,12 @@ impl<'a> Model for Lines<'a> {
     ghost invariant = { λ l. l.passed + length l.rest.now < 2 ^ 64 };
 }
 
-/// The first line of a text, and what follows its newline.
-fn first_line(text: &[u8]) -> (&[u8], &[u8])
+/// The first line of a text, and what follows its newline; all of it where there is none.
+fn line_and_rest(text: &[u8]) -> (&[u8], &[u8])
     ensures said { (k : ℕ) → said_from k (lines_of text.now) ≡ said_from k (result.0.now ∷ lines_of result.1.now) }
     ensures shorter { 0 < length text.now → length result.1.now < length text.now }
 {
-    match cut_at(b'\n', text) {
+    match first_line(text) {
         Some(cut) => cut,
         None => (text, &[]),
     }
@@ -66,7 +65,7 @@ impl<'a> Lines<'a> {
         ensures line { IfSome result (λ line. self.old ≡ line_value line ∷ self.new) }
     {
         while !self.rest.is_empty() {
-            let (line, rest) = first_line(self.rest);
+            let (line, rest) = line_and_rest(self.rest);
             self.rest = rest;
             self.passed += 1;
             let text = without_cr(line);
