@@ -1,4 +1,4 @@
--- The text of a move without the mark of a check tells it from the other legal moves: its first byte says whether a pawn, a
+-- The text of a move without its suffix tells it from the other legal moves: its first byte says whether a pawn, a
 -- castling king or a piece moves.
 use Rattle.std.proofs.Common.{◌≡◌, ◌⊎◌, ℕ, ◌<◌, ◌≤◌, Bool, true, false, eqb, List, ◌∷◌, get_or, drop, Option, Some, refl, sym, ap, subst, ◌∙◌, inl, inr, arith}
 use Rattle.std.proofs.lemmas.Bool.{and_parts}

@@ -1,4 +1,4 @@
--- The mark of a check takes nothing from what a text tells.
+-- The suffix takes nothing from what a text tells.
 use Rattle.std.proofs.Common.{sym, ap, ◌∙◌}
 use Rattle.chess_moves.specs.Laws.{LegalListed}
 use Rattle.chess_notation.specs.SanLaws.{TextsApart, TextsShort}

@@ -111,7 +111,7 @@ san_plain p m h =
     let may : man_may p (man_at p.men m.origin) m ≡ true = (and_parts (is_candidate p m) (is_safe p m) h.2).0 in
     IsPlainWord-left (man_text p (man_at p.men m.origin) m) (suffix_text (after_setup p m)) (man_plain p (man_at p.men m.origin) m h.0 h.1 may) (check_plain (after_setup p m))
 
--- So it is without the mark of a check.
+-- So it is without the suffix.
 pub bare_plain : (p : Setup) (m : Move) → IsLegalOnBoard p m → IsPlainWord (bare_text p m)
 unfolding bare_text is_legal is_candidate
 bare_plain p m h =

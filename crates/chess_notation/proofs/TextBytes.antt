@@ -22,7 +22,7 @@ kind_said-letter King = refl
 pub same_square : (a b : ℕ) → file_of a ≡ file_of b → rank_of a ≡ rank_of b → a ≡ b
 same_square a b files ranks = omega arith
 
--- a text without the marks of a check: their bytes, 43 and 35, are below all others
+-- a text without suffixes: their bytes, 43 and 35, are below all others
 abbrev pub unmarked : List ℕ → List ℕ
 unmarked text = filter (λ b. ltb 44 b) text
 

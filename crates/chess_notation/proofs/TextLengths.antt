@@ -1,4 +1,4 @@
--- A text has at most six bytes before the mark of a check, which has one.
+-- A text has at most six bytes before its suffix, which has one.
 use Rattle.std.proofs.Common.{◌≤◌, Bool, true, false, [], length, length-append, Option, Some, None, codes, if◌then◌else◌, arith}
 use Rattle.chess_board.specs.declared.men.Man.{Man}
 use Rattle.chess_board.specs.declared.men.Wing.{Wing}

@@ -1,4 +1,4 @@
--- A text tells what it is without the mark of a check.
+-- A text tells what it is without its suffix.
 use Rattle.std.proofs.Common.{◌≡◌, ◌∙◌, ℕ, Bool, true, false, List, [], ◌∷◌, ◌++◌, append-nil, ltb, Option, Some, None, codes, if◌then◌else◌, refl, ap}
 use Rattle.std.proofs.lemmas.List.Elements.{filter-append}
 use Rattle.chess_board.specs.declared.men.Man.{Man}

@@ -1,4 +1,4 @@
--- The line of play, step by step, and how long it is.
+-- The principal variation, step by step, and how long it is.
 use Rattle.std.proofs.Common.{◌≡◌, ℕ, zero, suc, ◌+◌, ◌-◌, ◌*◌, ◌<◌, Bool, true, false, List, [], ◌∷◌, length, find, Some, None, refl, sym, arith, sub-one, ◌∙◌}
 use Rattle.std.specs.List.{list_all}
 use Rattle.chess_board.specs.Positions.{Setup}

@@ -1,4 +1,4 @@
--- The line is the line of play as a chess player reads it, and what is told of a problem is its truth.
+-- The principal variation is that of a chess player, and what is told of a problem is its truth.
 use Rattle.std.proofs.Common.{◌≡◌, ℕ, zero, suc, ◌-◌, ◌≤◌, true, false, List, ◌∷◌, Some, None, refl, ap, sym, ◌∙◌, arith, add-one}
 use Rattle.chess_board.specs.Positions.{Setup}
 use Rattle.chess_board.specs.Moves.{Move}

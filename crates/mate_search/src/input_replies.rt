@@ -7,11 +7,11 @@ ghost use Rattle.mate_search.specs.InputReplies.{answer_line as answer_line_of, 
 ghost use Rattle.mate_search.specs.Stops.{AppendsBy, AppendsPart, is_of_output};
 ghost use Rattle.mate_search.specs.inside.InputLines.{IsKept, TakesLine, left_of};
 
+use crate::input_lines::{Kept, Lines, MOST_KEPT};
 use crate::inputs::Input;
 use crate::memo::Memo;
 use crate::solving::solve;
 use crate::stops::Stop;
-use crate::input_lines::{Kept, Lines, MOST_KEPT};
 use crate::writing::put;
 use chess_moves::Rays;
 use chess_notation::{Bound, EpdFault, NoMemory, Record, answer_text, is_blank, read_record};

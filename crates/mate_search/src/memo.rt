@@ -5,8 +5,8 @@ ghost use Rattle.mate_search.specs.declared.memo.MemoFault.TheVariants.{BadSize,
 ghost use Rattle.mate_search.specs.inside.MemoEntries.{IsTrueOf};
 ghost use Rattle.mate_search.specs.Memos.{memo_fault_name};
 
-use crate::memo_entries::Entry;
 use crate::killers::Killers;
+use crate::memo_entries::Entry;
 use chess_board::{Move, Position, equal_reads};
 use lru::LruCache;
 use std::alloc::Global;

@@ -11,9 +11,9 @@ ghost use Rattle.mate_search.specs.inside.MemoEntries.{IsTrueOf};
 ghost use Rattle.chess_notation.specs.Answers.{IsPlayable};
 ghost use Rattle.chess_notation.specs.declared.problems.Outcome.TheVariants.{Mate};
 
+use crate::memo::Memo;
 use crate::memo_entries::Entry;
 use crate::principal_variation::{keys_among, push_variation};
-use crate::memo::Memo;
 use crate::searching::wins_among;
 use chess_board::{Move, Position};
 use chess_moves::{MoveList, Rays, legal, legal_listed};

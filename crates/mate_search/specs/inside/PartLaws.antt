@@ -31,6 +31,6 @@ abbrev pub NoDistReads : Type 0
 NoDistReads = (first : List Move) (p : Setup) (b : ℕ) → (dist first p b ≡ None) ↔
     ((n : ℕ) → n ≤ b → win_among first n p ≡ false)
 
--- The line to a mate within the least number of moves is the line of play as a chess player reads it.
+-- The variation to a mate within the least number of moves is the principal variation as a chess player reads it.
 abbrev pub LineReads : Type 0
 LineReads = (first : List Move) (p : Setup) (b n : ℕ) → IsRising first → dist first p b ≡ Some n → IsPrincipalVariation first p n (variation first p n)
