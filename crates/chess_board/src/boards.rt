@@ -79,6 +79,7 @@ impl Board {
     pub(crate) fn places(&self) -> [Option<Man>; 64]
         ensures { result ≡ self.now }
     {
+        // A part of the board is read, so that the proof knows what its type keeps.
         let _ = &self.white;
         let mut places = [None; 64];
         for number in 0..64 {

@@ -141,7 +141,8 @@ pub fn read_fen(text: &[u8]) -> Result<Fen, FenFault>
     })
 }
 
-/// Reads the first four fields of a FEN, each without the spaces around it, by the same checks as `read_fen`.
+/// Reads the first four fields of a FEN (PGN Specification, sections 16.1.3.1 to 16.1.3.4), each without the spaces around it, by
+/// the checks that `read_fen` makes of them.
 ///
 /// What spells no sound position is refused by the first fault that applies; `FieldCount` and `BadCounter` never do.
 pub fn read_fields(
@@ -160,7 +161,7 @@ pub fn read_fields(
 }
 
 impl Position {
-    /// The first four fields of its FEN, with one space between each two.
+    /// The first four fields of its FEN, with one space between each two (PGN Specification, section 16.1).
     #[tactic(auto, unfolding(crate::specs::Fens::position_text))]
     pub fn text(&self) -> ArrayString<96>
         ensures text { result.bytes ≡ position_text self.now }
@@ -179,7 +180,8 @@ impl Position {
 }
 
 impl Fen {
-    /// The one canonical FEN: castling letters in the order `KQkq`, counters without leading zeros.
+    /// The one canonical FEN (PGN Specification, section 16.1): castling letters in the order `KQkq`, counters without leading
+    /// zeros.
     #[tactic(auto, unfolding(crate::specs::Fens::fen_text))]
     pub fn text(&self) -> ArrayString<128>
         ensures text { result.bytes ≡ fen_text self.now }

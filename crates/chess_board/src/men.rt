@@ -5,7 +5,7 @@ ghost use Rattle.chess_board.specs.Men.{other_side, has_right_of};
 ghost use Rattle.chess_board.specs.Men.{is_of as place_is_of, is_pawn as place_is_pawn};
 ghost use Rattle.chess_board.specs.KindTests.{is_king_of as place_is_king_of, is_rook_of as place_is_rook_of, is_pawn_of as place_is_pawn_of};
 
-/// A side.
+/// One of the two sides.
 #[derive(Clone, Copy, Debug, PartialEq, Eq, Hash)]
 pub enum Colour {
     White,
@@ -24,7 +24,7 @@ impl Colour {
     }
 }
 
-/// A kind of man.
+/// A kind of man (FIDE Laws of Chess, article 2).
 #[derive(Clone, Copy, Debug, PartialEq, Eq, PartialOrd, Ord, Hash)]
 pub enum Kind {
     Pawn,
@@ -42,14 +42,15 @@ pub struct Man {
     pub kind: Kind,
 }
 
-/// A side of the board to castle on.
+/// A side of the board to castle on: the king's or the queen's (FIDE Laws of Chess, article 3.8.2).
 #[derive(Clone, Copy, Debug, PartialEq, Eq, Hash)]
 pub enum Wing {
     KingSide,
     QueenSide,
 }
 
-/// The castling rights that are left.
+/// The castling rights that are left, one for each side and wing (FIDE Laws of Chess, article 3.8.2; PGN Specification, section
+/// 16.1.3.3). Whether castling is possible at once is another matter.
 #[derive(Clone, Copy, Debug, PartialEq, Eq, Hash)]
 pub struct Rights {
     pub white_king_side: bool,
@@ -59,7 +60,7 @@ pub struct Rights {
 }
 
 impl Rights {
-    /// Whether a side may still castle on a wing.
+    /// Whether a side has the right to castle on a wing.
     pub fn has(self, colour: Colour, wing: Wing) -> bool
         ensures { result ≡ has_right_of self colour wing }
     {

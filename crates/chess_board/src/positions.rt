@@ -87,7 +87,7 @@ impl Position {
         &self.board
     }
 
-    /// The man on a square.
+    /// The man on a square; none where it is empty.
     pub fn man(&self, square: Square) -> Option<Man>
         ensures { result ≡ man_at self.now.men square }
     {
@@ -124,14 +124,15 @@ impl Position {
         self.rights
     }
 
-    /// Whether a side may still castle on a wing.
+    /// Whether a side has the right to castle on a wing (FIDE Laws of Chess, article 3.8.2).
     pub fn has_right(&self, colour: Colour, wing: Wing) -> bool
         ensures { result ≡ has_right_of self.now.rights colour wing }
     {
         self.rights.has(colour, wing)
     }
 
-    /// The square that the last move's double step passed over.
+    /// The square that the last move's double step passed over; none where the position tells of no such step (PGN Specification,
+    /// section 16.1.3.4).
     pub fn ep_target(&self) -> Option<Square>
         ensures target { result ≡ self.now.target }
         ensures on_board { IfSome result (λ square. square < 64) }
@@ -147,14 +148,15 @@ impl Position {
         self.board.king(colour)
     }
 
-    /// Whether some man of the colour attacks the square, whoever stands there, and whether or not that man may move.
+    /// Whether some man of the colour attacks the square, whoever stands there, and whether or not that man may move (FIDE Laws of
+    /// Chess, articles 3.1.2 and 3.1.3).
     pub fn is_attacked(&self, square: Square, by: Colour) -> bool
         ensures { result ≡ is_attacked self.now.men square by }
     {
         is_attacked_by(&self.board, square, by)
     }
 
-    /// Whether the king of the side to move is attacked.
+    /// Whether the side to move is in check: its king is attacked (FIDE Laws of Chess, article 3.9.1).
     pub fn in_check(&self) -> bool
         ensures { result ≡ is_in_check self.now.men self.now.side }
     {

@@ -25,7 +25,8 @@ use crate::rays::Rays;
 use crate::targets::targets_from;
 use chess_board::{Kind, Man, Position, after};
 
-/// Whether some legal move mates: the last move of a search. Of the moves only those that give check, or may, are made.
+/// Whether some legal move mates (FIDE Laws of Chess, article 5.1.1): the last move of a search. Of the moves only those that give
+/// check, or may, are made.
 pub fn has_mating_move(rays: &Rays, position: &Position) -> bool
     ensures { result ≡ some_move_mates position.now }
 {

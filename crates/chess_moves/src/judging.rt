@@ -16,7 +16,8 @@ use crate::targets::{has_flight, targets_from};
 use crate::verdicts::Verdict;
 use chess_board::Position;
 
-/// The verdict of a position. It looks no further than the first legal move.
+/// The verdict of a position: mate, stalemate or play (FIDE Laws of Chess, articles 5.1.1 and 5.2.1). It looks no further than the
+/// first legal move.
 pub fn verdict(rays: &Rays, position: &Position) -> Verdict
     ensures { result ≡ verdict_of position.now }
 {

@@ -11,7 +11,7 @@ use std::marker::Model;
 /// The greatest bound.
 const MAX_BOUND: u8 = 15;
 
-/// Within how many moves of the attacker mate is asked for: 1 to 15.
+/// Within how many moves of the attacker mate is asked for, 1 to 15: what `dm` says (PGN Specification, section 16.2.5).
 #[derive(Clone, Copy, Debug, PartialEq, Eq, PartialOrd, Ord)]
 pub struct Bound {
     moves: u8,

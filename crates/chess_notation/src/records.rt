@@ -8,7 +8,8 @@ use arrayvec::ArrayString;
 use chess_board::Position;
 use std::marker::Model;
 
-/// An operation: its opcode, a letter and up to 14 letters, digits and underscores, and each operand after one space.
+/// An operation (PGN Specification, section 16.2.4): its opcode, a letter and up to 14 letters, digits and underscores, and each
+/// operand after one space.
 #[derive(Debug, Drop)]
 pub struct Operation {
     pub opcode: ArrayString<15>,
@@ -24,7 +25,7 @@ impl Model for Operation {
     ghost view = { λ o. record { opcode = o.opcode.bytes; operands = string_bytes o.operands } };
 }
 
-/// What a line says: the position, the bound within which mate is asked for, the first moves to avoid, and the operations that
+/// What a line of EPD says (PGN Specification, section 16.2): the position, the bound within which mate is asked for, the first moves to avoid, and the operations that
 /// an answer copies. The moves rise by origin, then target, then promotion, each once. The operations rise by opcode, without
 /// repeats and without those that an answer writes itself: `bm`, `c0`, `dm` and `pv`.
 #[derive(Debug, Drop)]

@@ -11,7 +11,7 @@ pub fn texts_apart()
     legal_listed();
 }
 
-/// Nor do they where the suffix is left out.
+/// Two legal moves of one position share no text where the suffix is left out of both, either.
 pub fn bare_texts_apart()
     ensures { BareTextsApart }
 {

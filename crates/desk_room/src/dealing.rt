@@ -19,7 +19,7 @@ pub struct View {
     pub got: LinkedList<Order>,
 }
 
-/// The rule.
+/// The rule of the deque of orders.
 pub struct Dealing;
 
 impl Protocol<Order, View> for Dealing {

@@ -66,6 +66,7 @@ impl Keeper {
         ensures owed { AreOwed (lists self.now) }
         ensures marked { ∥ AreMarked (lists self.now) ∥₁ }
     {
+        // A part of the keeper is read, so that the proof knows what its type keeps.
         let _home = self.is_home;
     }
 

@@ -244,6 +244,7 @@ impl Desk {
         ensures kept { AreKept self.now.next self.now.queues }
         ensures next { self.now.next < 2 ^ 64 }
     {
+        // A part of the desk is read, so that the proof knows what its type keeps.
         let _next = self.next;
     }
 }

@@ -40,6 +40,7 @@ pub(crate) fn make(
     ensures memo_room { memo.new.room ≡ memo.old.room }
     ensures memo_within { memo.new.kept ≤ memo.new.room }
 {
+    // That a memo keeps no more than it has room for is this call's clause.
     memo.len();
     match step {
         Step::Submit(s, line) => submit(alloc, rays, default, desk, *s, line),
@@ -109,6 +110,7 @@ fn finish(rays: &Rays, desk: &mut Desk, hand: &mut Vec<Job>, i: usize, memo: &mu
     ensures no_answer { answers result ≡ 0 }
     ensures finished { count_done desk.new ≤ count_done desk.old + 1 }
 {
+    // That a memo keeps no more than it has room for is this call's clause.
     memo.len();
     // That no more than one record is finished rests on this law.
     desk.kept();

@@ -136,6 +136,7 @@ fn answer_kept(
     ensures room { memo.new.room ≡ memo.old.room }
     ensures within { memo.new.kept ≤ memo.new.room }
 {
+    // That a memo keeps no more than it has room for is this call's clause.
     memo.len();
     if kept.bytes.len() < MOST_KEPT {
         return answer_line(alloc, rays, number, kept.bytes.as_slice(), default, memo);
@@ -175,6 +176,7 @@ fn answer_next<I: Input + Drop, O: Write>(
     ensures room { memo.new.room ≡ memo.old.room }
     ensures within { memo.new.kept ≤ memo.new.room }
 {
+    // That a memo keeps no more than it has room for is this call's clause.
     memo.len();
     let taken = lines.take_line(alloc)?;
     let output = answer_kept(alloc, rays, number, &taken.kept, default, memo)?;
@@ -205,6 +207,7 @@ pub fn answer_input<I: Input + Drop, O: Write>(
     ensures room { memo.new.room ≡ memo.old.room }
     ensures within { memo.new.kept ≤ memo.new.room }
 {
+    // That a memo keeps no more than it has room for is this call's clause.
     memo.len();
     let mut lines = Lines::new(alloc, input);
     let mut refused = 0;
@@ -231,6 +234,7 @@ pub fn solve_input(
     ensures room { memo.new.room ≡ memo.old.room }
     ensures within { memo.new.kept ≤ memo.new.room }
 {
+    // That a memo keeps no more than it has room for is this call's clause.
     memo.len();
     let mut text = Vec::new(alloc);
     match answer_input(alloc, rays, input, default, memo, &mut text) {

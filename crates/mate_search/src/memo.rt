@@ -97,6 +97,7 @@ impl Memo {
     {
         // That two positions which `==` calls equal are one is a law of sound positions.
         equal_reads();
+        // That this position is sound is a clause of this call.
         position.side();
         match self.cache.get(position) {
             Some(entry) => *entry,
@@ -110,7 +111,9 @@ impl Memo {
         ensures room { self.new.room ≡ self.old.room }
         ensures within { self.new.kept ≤ self.new.room }
     {
+        // That two positions which `==` calls equal are one is a law of sound positions.
         equal_reads();
+        // A put that is refused loses this entry and nothing else, and no outcome depends on it.
         let _ = self.cache.put(*position, entry);
     }
 

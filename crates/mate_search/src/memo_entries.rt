@@ -38,7 +38,7 @@ impl Entry {
         }
     }
 
-    /// The same with one more fact: whether the attacker mates within `n` moves.
+    /// What is known once one more fact is: whether the attacker mates within `n` moves.
     pub(crate) fn with(self, n: u8, found: bool) -> Entry
         ensures { (p : Setup) → IsTrueOf p self → found ≡ win n p → IsTrueOf p result }
     {

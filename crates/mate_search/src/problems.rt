@@ -38,7 +38,7 @@ fn agree(first: &Problem, second: &Problem) -> bool
         && are_same_moves(first.avoid.as_slice(), second.avoid.as_slice())
 }
 
-/// Whether two problems are one.
+/// Whether two problems are one: their positions, bounds and moves to avoid are equal.
 pub fn is_same_problem(first: &Problem, second: &Problem) -> bool
     ensures value { result ≡ is_same_value first.now second.now }
     ensures same { IsTrue result ↔ (first.now ≡ second.now) }

@@ -39,7 +39,8 @@ fn mates(rays: &Rays, position: &Position) -> bool
     has_mating_move(rays, position)
 }
 
-/// The same as `wins`, by the memo, or else by trying to mate within fewer moves first, since most mates of a search are short.
+/// Whether the attacker mates within `n` moves, more than one: by the memo, or else by trying to mate within fewer moves first,
+/// since most mates of a search are short.
 #[cycle(search)]
 fn wins_longer(rays: &Rays, position: &Position, n: u8, memo: &mut Memo) -> bool
     requires { 1 < n }
@@ -176,7 +177,7 @@ fn refutes(rays: &Rays, position: &Position, reply: Option<Move>, k: u8, memo: &
     true
 }
 
-/// The same as `loses` by all replies, each of which has to lose.
+/// Whether the defender loses, by all its replies, each of which has to lose.
 #[cycle(search)]
 fn loses_each(rays: &Rays, position: &Position, k: u8, memo: &mut Memo) -> bool
     ensures lost { result ≡ lost k position.now }

@@ -122,8 +122,8 @@ fn learned(known: Entry, outcome: &Outcome, bound: Bound) -> Entry
     }
 }
 
-/// The same where the attacker's first move is one of these, with none of which it mates within `none` moves: tries one move more,
-/// two, and so on up to the bound.
+/// What there is to say where the attacker's first move is one of these, with none of which it mates within `none` moves: tries
+/// one move more, two, and so on up to the bound.
 #[tactic(auto, unfolding(crate::specs::inside::Truth::truth_among), using(crate::proofs::Least::dist_found, crate::proofs::Least::dist_none_more, crate::proofs::Least::dist_fewer, crate::proofs::Wins::win_among_step))]
 fn solve_among(
     rays: &Rays,

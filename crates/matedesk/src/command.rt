@@ -86,7 +86,7 @@ fn display<O: Write, E: Write>(error: &Error, out: &mut O, err: &mut E) -> u8
     }
 }
 
-/// Says what is wrong with the words.
+/// Says what is wrong with the words. That it can't be written changes nothing.
 fn misuse<E: Write>(error: &Error, err: &mut E) -> u8
     ensures { result ≡ 2 }
 {

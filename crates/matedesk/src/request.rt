@@ -25,7 +25,7 @@ pub enum Request<'m, 'a> {
     Perft(&'a str, Depth),
     /// Answer the records of files, in order; the bound is for records that say none.
     Solve(Bound, &'m [&'a str]),
-    /// The same by so many workers, with all files at once.
+    /// Answer the records of files by so many workers, all files at once; the bound is for records that say none.
     Serve(Workers, Bound, &'m [&'a str]),
     /// Run the script of a file at a desk.
     Replay(&'a str),

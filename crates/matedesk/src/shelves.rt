@@ -145,7 +145,7 @@ pub fn run<R: Threads + Wait + Sync + AllocGlobal>(
     run_with(rt, &shelf_of(&[]), words, outs, errs)
 }
 
-/// The same where there are such files.
+/// Runs the words after the program's name where there are such files, with writers that take so many calls.
 pub fn run_with<R: Threads + Wait + Sync + AllocGlobal>(
     rt: &R,
     shelf: &Shelf,

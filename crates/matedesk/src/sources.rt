@@ -77,7 +77,7 @@ pub fn read_file<S: Source, E: Write>(
     }
 }
 
-/// The same of each file, in order, up to the first that can't be read.
+/// All bytes of each file, in order. The first that can't be read is named on `err`, and none behind it is opened.
 pub fn read_files<S: Source, E: Write>(
     alloc: Global,
     names: &[&str],

@@ -33,12 +33,12 @@ pub fn complain<E: Write>(err: &mut E, message: &str) {
     let _ = writeln!(err, "matedesk: {message}");
 }
 
-/// Says which file can't be read.
+/// Says which file can't be read. That it can't be written changes nothing.
 pub fn complain_unreadable<E: Write>(err: &mut E, name: &str) {
     let _ = writeln!(err, "matedesk: cannot read {name}");
 }
 
-/// Says which line of a script is at fault.
+/// Says which line of a script is at fault. That it can't be written changes nothing.
 pub fn complain_faulty<E: Write>(err: &mut E, number: usize) {
     let _ = writeln!(err, "matedesk: script line {number}");
 }

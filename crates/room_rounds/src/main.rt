@@ -169,6 +169,7 @@ fn answer<R: Env + AllocGlobal>(rt: &R, alloc: Global) -> Result<usize, &'static
     make_rounds(alloc, rounds_of(words.as_slice()).ok_or("words")?)
 }
 
+// A text that can't be written changes no status.
 fn main(rt: HostRuntime) -> ExitCode {
     match answer(&rt, rt.alloc()) {
         Ok(collected) => {

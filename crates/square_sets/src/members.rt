@@ -3,7 +3,7 @@
 ghost use Rattle.std.specs.Prelude.{◌≡◌, ℕ, ◌<◌, ◌==◌, ◌||◌, ◌&&◌, not};
 ghost use Rattle.square_sets.specs.Members.{has};
 
-/// Whether a square is in a set.
+/// Whether a square, 0 for a1 to 63 for h8, is in a set.
 pub fn contains(set: u64, square: u8) -> bool
     requires { square < 64 }
     ensures { result ≡ has set square }
