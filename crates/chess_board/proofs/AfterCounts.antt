@@ -9,12 +9,15 @@ use Rattle.chess_board.specs.declared.men.Wing.{Wing}
 use Rattle.chess_board.specs.declared.men.Wing.TheVariants.{KingSide, QueenSide}
 use Rattle.chess_board.specs.declared.men.Man.{Man}
 use Rattle.chess_board.specs.Moves.{Move}
-use Rattle.chess_board.specs.Positions.{Setup, man_at}
-use Rattle.chess_board.specs.Men.{other_side, is_colour, is_of, is_kind, man_of, king_home, rook_home}
+use Rattle.chess_board.specs.Positions.{Setup, man_at, moved}
+use Rattle.chess_board.specs.Men.{other_side, is_colour, is_of, is_kind, man_of}
 use Rattle.chess_board.specs.KindTests.{is_king_of, is_rook_of, is_pawn_of, is_pawn_kind}
 use Rattle.chess_board.specs.Soundness.{HasOneKingEach, HasAtMostSixteenEach}
-use Rattle.chess_board.specs.Candidates.{crossed, king_goal, is_promotion, promotes, suits}
-use Rattle.chess_board.specs.After.{moved, becomes, passed_pawn, rook, men_after}
+use Rattle.chess_board.specs.PseudoLegal.{is_promotion, promotes, suits}
+use Rattle.chess_board.specs.MakeMove.{becomes, men_after}
+use Rattle.chess_board.specs.Castling.{king_home, rook_home, king_goal, rook}
+use Rattle.chess_board.specs.Squares.{crossed}
+use Rattle.chess_board.specs.EnPassant.{captured_pawn}
 use Rattle.chess_board.proofs.Colours.{colour_same}
 use Rattle.chess_board.proofs.MenMoved.{length-moved, length-cleared, moved_other, count_by-cleared, count_by-went}
 use Rattle.chess_board.proofs.Movers.{a_man, Mover, IsPlain, IsPassing, IsCastling, Shape, own_apart, empty_apart}
@@ -126,11 +129,11 @@ went_to_empty f p colour kind m h empty none =
     let e = rw (empty, none) at (count_by-went f p.men m.origin m.target (a_man colour kind) (a_man colour kind) none (omega arith) (omega arith)
     (empty_apart p.men colour kind m.origin m.target h.there empty) h.there refl) in omega (arith, e)
 
-passing_loss : (p : Setup) (colour : Colour) (kind : Kind) (m : Move) → Mover p colour kind m → IsPassing p colour kind m → Loss p colour kind m
-passing_loss p colour kind m h s =
+en_passant_loss : (p : Setup) (colour : Colour) (kind : Kind) (m : Move) → Mover p colour kind m → IsPassing p colour kind m → Loss p colour kind m
+en_passant_loss p colour kind m h s =
     let long = h.sound.squares in let high = s.high in
     let men' = moved p.men m.origin m.target (a_man colour kind) in
-    let k = passed_pawn m.origin m.target in
+    let k = captured_pawn m.origin m.target in
     let long' : length men' ≡ length p.men = length-moved p.men m.origin m.target (a_man colour kind) in
     let still : man_at men' k ≡ man_at p.men k = moved_other p.men m.origin m.target (a_man colour kind) k s.not_origin s.not_target in
     record {
@@ -164,7 +167,7 @@ castling_loss wing p colour kind m h s =
 
 loss_of : (p : Setup) (colour : Colour) (kind : Kind) (m : Move) → Mover p colour kind m → Shape p colour kind m → Loss p colour kind m
 loss_of p colour kind m h (inl s) = plain_loss p colour kind m h s
-loss_of p colour kind m h (inr (inl s)) = passing_loss p colour kind m h s
+loss_of p colour kind m h (inr (inl s)) = en_passant_loss p colour kind m h s
 loss_of p colour kind m h (inr (inr (inl s))) = castling_loss KingSide p colour kind m h s
 loss_of p colour kind m h (inr (inr (inr s))) = castling_loss QueenSide p colour kind m h s
 

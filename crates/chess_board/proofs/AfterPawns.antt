@@ -9,13 +9,15 @@ use Rattle.chess_board.specs.declared.men.Wing.{Wing}
 use Rattle.chess_board.specs.declared.men.Wing.TheVariants.{KingSide, QueenSide}
 use Rattle.chess_board.specs.declared.men.Man.{Man}
 use Rattle.chess_board.specs.Moves.{Move}
-use Rattle.chess_board.specs.Squares.{rank_of}
-use Rattle.chess_board.specs.Positions.{Setup, man_at}
-use Rattle.chess_board.specs.Men.{man_of, rook_home}
+use Rattle.chess_board.specs.Squares.{rank_of, crossed}
+use Rattle.chess_board.specs.Positions.{Setup, man_at, moved, cleared}
+use Rattle.chess_board.specs.Men.{man_of}
 use Rattle.chess_board.specs.Attacks.{is_forward}
 use Rattle.chess_board.specs.Soundness.{is_no_end_pawn, has_no_end_pawn}
-use Rattle.chess_board.specs.Candidates.{crossed, goes, promotes, suits}
-use Rattle.chess_board.specs.After.{moved, cleared, becomes, passed_pawn, rook, men_after}
+use Rattle.chess_board.specs.PseudoLegal.{goes, promotes, suits}
+use Rattle.chess_board.specs.MakeMove.{becomes, men_after}
+use Rattle.chess_board.specs.Castling.{rook_home, rook}
+use Rattle.chess_board.specs.EnPassant.{captured_pawn}
 use Rattle.chess_board.proofs.Below.{all_yes, all_from}
 use Rattle.chess_board.proofs.MenMoved.{length-moved, each_moved, each_cleared}
 use Rattle.chess_board.proofs.Movers.{a_man, Mover, IsCastling, Shape, own_apart, empty_apart}
@@ -81,7 +83,7 @@ pawns_after p colour kind m h (inl s) =
     rw s.men (all_from (λ x. is_no_end_pawn (man_at (moved p.men m.origin m.target (becomes (a_man colour kind) m.promotion)) x) x) 64
     (each_moved_man p colour kind m h (own_apart p.men colour kind m.origin m.target h.there s.not_own)))
 pawns_after p colour kind m h (inr (inl s)) =
-    let men' = moved p.men m.origin m.target (a_man colour kind) in let k = passed_pawn m.origin m.target in
+    let men' = moved p.men m.origin m.target (a_man colour kind) in let k = captured_pawn m.origin m.target in
     let each = rw s.unpromoted at (each_moved_man p colour kind m h (empty_apart p.men colour kind m.origin m.target h.there s.empty)) in
     rw s.men (all_from (λ x. is_no_end_pawn (man_at (cleared men' k) x) x) 64 (each_cleared IsNoEndPawn men' k (length-moved _ _ _ _ ∙ h.sound.squares) each (λ x. refl)))
 pawns_after p colour kind m h (inr (inr (inl s))) = castling_pawns KingSide p colour kind m h s

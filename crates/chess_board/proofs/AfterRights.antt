@@ -8,13 +8,14 @@ use Rattle.chess_board.specs.declared.men.Wing.{Wing}
 use Rattle.chess_board.specs.declared.men.Wing.TheVariants.{KingSide, QueenSide}
 use Rattle.chess_board.specs.declared.men.Rights.{Rights}
 use Rattle.chess_board.specs.Moves.{Move}
-use Rattle.chess_board.specs.Squares.{rank_of}
-use Rattle.chess_board.specs.Positions.{Setup, man_at}
-use Rattle.chess_board.specs.Men.{has_right_of, king_home, rook_home}
+use Rattle.chess_board.specs.Squares.{rank_of, crossed}
+use Rattle.chess_board.specs.Positions.{Setup, man_at, moved}
+use Rattle.chess_board.specs.Men.{has_right_of}
 use Rattle.chess_board.specs.KindTests.{is_king_of, is_rook_of}
 use Rattle.chess_board.specs.Soundness.{IsSound, has_men_of_right, has_men_of_rights}
-use Rattle.chess_board.specs.Candidates.{crossed, king_goal}
-use Rattle.chess_board.specs.After.{moved, becomes, passed_pawn, rook, men_after, touches, right_after, rights_after}
+use Rattle.chess_board.specs.MakeMove.{becomes, men_after}
+use Rattle.chess_board.specs.Castling.{king_home, rook_home, king_goal, rook, touches, right_after, rights_after}
+use Rattle.chess_board.specs.EnPassant.{captured_pawn}
 use Rattle.chess_board.proofs.MenMoved.{moved_other, cleared_other}
 use Rattle.chess_board.proofs.Movers.{a_man, IsCastling, Shape}
 use Rattle.chess_board.proofs.MoveShapes.{right_men}
@@ -64,7 +65,7 @@ stays : (p : Setup) (colour : Colour) (kind : Kind) (m : Move) → Shape p colou
     (s : ℕ) → rank_of s ≡ home_rank c → s ≢ m.origin → s ≢ m.target → man_at (men_after p (a_man colour kind) m) s ≡ man_at p.men s
 stays p colour kind m (inl sh) c unmoved s rank from to = rw sh.men (moved_other p.men m.origin m.target (becomes (a_man colour kind) m.promotion) s from to)
 stays p colour kind m (inr (inl sh)) c unmoved s rank from to =
-    let men' = moved p.men m.origin m.target (a_man colour kind) in let k = passed_pawn m.origin m.target in
+    let men' = moved p.men m.origin m.target (a_man colour kind) in let k = captured_pawn m.origin m.target in
     let low = sh.low in let high = sh.high in
     let away : s ≢ k = λ e. (let f : rank_of s ≡ rank_of k = ap rank_of e in elim (home_edge c) [ inl z ↦ omega arith | inr z ↦ omega arith ]) in
     rw sh.men (cleared_other men' k s away ∙ moved_other p.men m.origin m.target (a_man colour kind) s from to)

@@ -9,8 +9,8 @@ use Rattle.chess_board.specs.Positions.{Setup, man_at}
 use Rattle.chess_board.specs.Men.{other_side, is_colour}
 use Rattle.chess_board.specs.Attacks.{is_in_check}
 use Rattle.chess_board.specs.Soundness.{IsSound}
-use Rattle.chess_board.specs.Candidates.{goes, suits, man_may, is_candidate}
-use Rattle.chess_board.specs.After.{men_after, after_man, after_setup}
+use Rattle.chess_board.specs.PseudoLegal.{goes, suits, man_may, is_pseudo_legal}
+use Rattle.chess_board.specs.MakeMove.{men_after, after_man, after_setup}
 use Rattle.chess_board.specs.Legality.{is_safe, is_legal}
 use Rattle.chess_board.specs.Laws.{LegalReads, SoundAfter}
 use Rattle.chess_board.proofs.Colours.{colour_same}
@@ -40,9 +40,9 @@ mover_sound p colour kind m h safe =
 -- What legality says once the man is known.
 legal_parts : (p : Setup) (m : Move) (man : Man) → man_at p.men m.origin ≡ Some man → is_legal p m ≡ true →
     (is_colour man.colour p.side ≡ true) × (suits man m.target m.promotion ≡ true) × (goes p man.colour man.kind m.origin m.target ≡ true) × (is_in_check (men_after p man m) p.side ≡ false)
-unfolding is_legal is_candidate is_safe after_setup
+unfolding is_legal is_pseudo_legal is_safe after_setup
 legal_parts p m man there legal =
-    let q = and_parts (is_candidate p m) (is_safe p m) legal in
+    let q = and_parts (is_pseudo_legal p m) (is_safe p m) legal in
     let may : man_may p (man_at p.men m.origin) m ≡ true = q.0 in
     let may' = rw there at may in
     let f = and_parts (is_colour man.colour p.side && suits man m.target m.promotion) (goes p man.colour man.kind m.origin m.target) may' in
@@ -58,9 +58,9 @@ sound_legal p m man sound there a_on b_on legal =
 
 -- From an empty square nothing moves legally.
 pub legal_man : (p : Setup) (m : Move) → is_legal p m ≡ true → man_at p.men m.origin ≡ None → ⊥
-unfolding is_legal is_candidate
+unfolding is_legal is_pseudo_legal
 legal_man p m legal none =
-    let q = and_parts (is_candidate p m) (is_safe p m) legal in
+    let q = and_parts (is_pseudo_legal p m) (is_safe p m) legal in
     let may : man_may p (man_at p.men m.origin) m ≡ true = q.0 in
     let may' = rw none at may in cc
 
@@ -77,6 +77,6 @@ pub legal_reads : LegalReads
 unfolding is_legal is_safe
 legal_reads p m =
     let check = is_in_check (after_setup p m).men p.side in (
-      (λ h. let q = and_parts (is_candidate p m) (not check) h in (q.0, not-true check q.1)),
-      (λ w. and_from (is_candidate p m) (not check) w.0 (let e = w.1 in rw e refl)),
+      (λ h. let q = and_parts (is_pseudo_legal p m) (not check) h in (q.0, not-true check q.1)),
+      (λ w. and_from (is_pseudo_legal p m) (not check) w.0 (let e = w.1 in rw e refl)),
     )

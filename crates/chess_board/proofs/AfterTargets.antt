@@ -7,13 +7,14 @@ use Rattle.chess_board.specs.declared.men.Colour.TheVariants.{White, Black}
 use Rattle.chess_board.specs.declared.men.Kind.{Kind}
 use Rattle.chess_board.specs.declared.men.Kind.TheVariants.{Pawn, Knight, Bishop, Rook, Queen, King}
 use Rattle.chess_board.specs.Moves.{Move}
-use Rattle.chess_board.specs.Squares.{rank_of, rank_gap}
-use Rattle.chess_board.specs.Positions.{Setup, man_at}
+use Rattle.chess_board.specs.Squares.{rank_of, rank_gap, crossed}
+use Rattle.chess_board.specs.Positions.{Setup, man_at, moved}
 use Rattle.chess_board.specs.Men.{other_side, man_of}
 use Rattle.chess_board.specs.Attacks.{is_forward}
 use Rattle.chess_board.specs.Soundness.{has_pawn_of_target}
-use Rattle.chess_board.specs.Candidates.{second_rank, crossed, steps_twice, pawn_goes, promotes}
-use Rattle.chess_board.specs.After.{moved, becomes, men_after, target_after}
+use Rattle.chess_board.specs.PseudoLegal.{second_rank, steps_twice, pawn_goes, promotes}
+use Rattle.chess_board.specs.MakeMove.{becomes, men_after}
+use Rattle.chess_board.specs.EnPassant.{target_after}
 use Rattle.chess_board.proofs.MenMoved.{moved_other, moved_origin, moved_target}
 use Rattle.chess_board.proofs.Movers.{a_man, Mover, Shape, stays_unpromoted}
 use Rattle.chess_board.proofs.PawnShapes.{pawn_steps, twice_parts}

@@ -3,8 +3,7 @@ use Rattle.std.proofs.Common.{◌≡◌, ◌≢◌, ℕ, ◌+◌, ◌<◌, Bool,
 use Rattle.std.proofs.lemmas.List.Sums.{sum_by-set}
 use Rattle.std.proofs.lemmas.Bool.{cases_eq}
 use Rattle.chess_board.specs.declared.men.Man.{Man}
-use Rattle.chess_board.specs.Positions.{man_at}
-use Rattle.chess_board.specs.After.{moved, cleared}
+use Rattle.chess_board.specs.Positions.{man_at, moved, cleared}
 
 pub length-cleared : (men : List (Option Man)) (k : ℕ) → length (cleared men k) ≡ length men
 length-cleared men k = length-set men k None

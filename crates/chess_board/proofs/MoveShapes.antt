@@ -10,14 +10,15 @@ use Rattle.chess_board.specs.declared.men.Wing.{Wing}
 use Rattle.chess_board.specs.declared.men.Wing.TheVariants.{KingSide, QueenSide}
 use Rattle.chess_board.specs.declared.men.Man.{Man}
 use Rattle.chess_board.specs.Moves.{Move}
-use Rattle.chess_board.specs.Squares.{file_gap}
-use Rattle.chess_board.specs.Positions.{Setup, man_at, is_empty}
-use Rattle.chess_board.specs.Men.{other_side, is_of, has_right_of, king_home, rook_home}
+use Rattle.chess_board.specs.Squares.{file_gap, crossed}
+use Rattle.chess_board.specs.Positions.{Setup, man_at, is_empty, moved}
+use Rattle.chess_board.specs.Men.{other_side, is_of, has_right_of}
 use Rattle.chess_board.specs.KindTests.{is_king_of, is_rook_of}
 use Rattle.chess_board.specs.Attacks.{is_clear, is_between, attacks_as, is_attacked}
 use Rattle.chess_board.specs.Soundness.{IsSound, has_men_of_right}
-use Rattle.chess_board.specs.Candidates.{crossed, piece_goes, king_goal, castles_to, castles}
-use Rattle.chess_board.specs.After.{moved, becomes, rook, men_after}
+use Rattle.chess_board.specs.PseudoLegal.{piece_goes}
+use Rattle.chess_board.specs.MakeMove.{becomes, men_after}
+use Rattle.chess_board.specs.Castling.{king_home, rook_home, king_goal, castles_to, castles, rook}
 use Rattle.chess_board.proofs.Below.{all_yes}
 use Rattle.chess_board.proofs.Conjunctions.{all_four}
 use Rattle.chess_board.proofs.Movers.{a_man, Mover, IsPlain, IsCastling, Shape, attacks_no_king, stays_unpromoted}

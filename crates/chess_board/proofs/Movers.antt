@@ -9,14 +9,16 @@ use Rattle.chess_board.specs.declared.men.Wing.{Wing}
 use Rattle.chess_board.specs.declared.men.Wing.TheVariants.{KingSide, QueenSide}
 use Rattle.chess_board.specs.declared.men.Man.{Man}
 use Rattle.chess_board.specs.Moves.{Move}
-use Rattle.chess_board.specs.Squares.{rank_of}
-use Rattle.chess_board.specs.Positions.{Setup, man_at}
-use Rattle.chess_board.specs.Men.{other_side, is_colour, is_of, man_of, king_home, rook_home}
+use Rattle.chess_board.specs.Squares.{rank_of, crossed}
+use Rattle.chess_board.specs.Positions.{Setup, man_at, moved, cleared}
+use Rattle.chess_board.specs.Men.{other_side, is_colour, is_of, man_of}
 use Rattle.chess_board.specs.KindTests.{is_king_of, is_rook_of, is_pawn_of}
 use Rattle.chess_board.specs.Attacks.{attacks_as, attacks_from, is_attacked, is_king_attacked, is_in_check}
 use Rattle.chess_board.specs.Soundness.{IsSound}
-use Rattle.chess_board.specs.Candidates.{crossed, king_goal, goes, promotes, suits}
-use Rattle.chess_board.specs.After.{moved, cleared, becomes, passed_pawn, rook, men_after}
+use Rattle.chess_board.specs.PseudoLegal.{goes, promotes, suits}
+use Rattle.chess_board.specs.MakeMove.{becomes, men_after}
+use Rattle.chess_board.specs.Castling.{king_home, rook_home, king_goal, rook}
+use Rattle.chess_board.specs.EnPassant.{captured_pawn}
 use Rattle.chess_board.proofs.Below.{any_at}
 use Rattle.chess_board.proofs.Colours.{is_colour_same}
 
@@ -42,15 +44,15 @@ pub record IsPlain (p : Setup) (colour : Colour) (kind : Kind) (m : Move) : Type
 
 -- A pawn captures en passant.
 pub record IsPassing (p : Setup) (colour : Colour) (kind : Kind) (m : Move) : Type 0 where
-  pub men : men_after p (a_man colour kind) m ≡ cleared (moved p.men m.origin m.target (a_man colour kind)) (passed_pawn m.origin m.target)
+  pub men : men_after p (a_man colour kind) m ≡ cleared (moved p.men m.origin m.target (a_man colour kind)) (captured_pawn m.origin m.target)
   pub pawn : kind ≡ Pawn
   pub unpromoted : m.promotion ≡ None
   pub empty : man_at p.men m.target ≡ None
-  pub passed : is_pawn_of (other_side colour) (man_at p.men (passed_pawn m.origin m.target)) ≡ true
-  pub not_origin : passed_pawn m.origin m.target ≢ m.origin
-  pub not_target : passed_pawn m.origin m.target ≢ m.target
-  pub low : 2 < rank_of (passed_pawn m.origin m.target)
-  pub high : rank_of (passed_pawn m.origin m.target) < 5
+  pub passed : is_pawn_of (other_side colour) (man_at p.men (captured_pawn m.origin m.target)) ≡ true
+  pub not_origin : captured_pawn m.origin m.target ≢ m.origin
+  pub not_target : captured_pawn m.origin m.target ≢ m.target
+  pub low : 2 < rank_of (captured_pawn m.origin m.target)
+  pub high : rank_of (captured_pawn m.origin m.target) < 5
 
 -- A king castles on a wing.
 pub record IsCastling (p : Setup) (colour : Colour) (kind : Kind) (m : Move) (wing : Wing) : Type 0 where

@@ -6,15 +6,16 @@ use Rattle.chess_board.specs.declared.men.Colour.TheVariants.{White, Black}
 use Rattle.chess_board.specs.declared.men.Kind.TheVariants.{Pawn}
 use Rattle.chess_board.specs.declared.men.Man.{Man}
 use Rattle.chess_board.specs.Moves.{Move}
-use Rattle.chess_board.specs.Squares.{file_of, rank_of, file_gap}
-use Rattle.chess_board.specs.Positions.{Setup, man_at, is_empty}
+use Rattle.chess_board.specs.Squares.{file_of, rank_of, file_gap, crossed}
+use Rattle.chess_board.specs.Positions.{Setup, man_at, is_empty, moved}
 use Rattle.chess_board.specs.Men.{other_side, is_of, man_of}
 use Rattle.chess_board.specs.KindTests.{is_pawn_of}
 use Rattle.chess_board.specs.Attacks.{is_forward, attacks_as}
 use Rattle.chess_board.specs.Fields.{target_rank}
 use Rattle.chess_board.specs.Soundness.{IsSound, has_pawn_of_target}
-use Rattle.chess_board.specs.Candidates.{second_rank, crossed, is_square, steps_once, steps_twice, takes, takes_in_passing, pawn_goes, promotes}
-use Rattle.chess_board.specs.After.{moved, becomes, passed_pawn, men_after}
+use Rattle.chess_board.specs.PseudoLegal.{second_rank, steps_once, steps_twice, takes, pawn_goes, promotes}
+use Rattle.chess_board.specs.MakeMove.{becomes, men_after}
+use Rattle.chess_board.specs.EnPassant.{is_square, takes_en_passant, captured_pawn}
 use Rattle.chess_board.proofs.Colours.{colour_same}
 use Rattle.chess_board.proofs.Conjunctions.{all_three, all_four, all_five}
 use Rattle.chess_board.proofs.Movers.{a_man, Mover, IsPlain, IsPassing, Shape, attacks_no_king, stays_unpromoted}
@@ -42,7 +43,7 @@ pawn_steps p colour a b h =
     let once = steps_once p.men colour a b in
     let twice = steps_twice p.men colour a b in
     let taking = takes p.men colour Pawn a b in
-    let passing = takes_in_passing p colour a b in
+    let passing = takes_en_passant p colour a b in
     elim (or_cases (once || twice || taking) passing h) [
       | inr h ↦ inl (attack_parts p.men colour a b ((and_parts (attacks_as p.men colour Pawn a b) (is_square p.target b) h).0)).1
       | inl h ↦ elim (or_cases (once || twice) taking h) [
@@ -113,26 +114,26 @@ takes_no_target p colour b taken held =
     let x = rw t.1 at taken in cc
 
 -- En passant: the passed pawn stands beside the capturing one and beyond the target.
-passed_is : (p : Setup) (colour : Colour) (a b : ℕ) → a < 64 → b < 64 → is_forward colour 1 a b ≡ true → rank_of b ≡ target_rank colour → passed_pawn a b ≡ beyond colour b
-passed_is p White a b a_on b_on forward rank = let r = eqb-true (rank_of b) (rank_of a + 1) forward in omega arith
-passed_is p Black a b a_on b_on forward rank = let r = eqb-true (rank_of a) (rank_of b + 1) forward in omega arith
+captured_is : (p : Setup) (colour : Colour) (a b : ℕ) → a < 64 → b < 64 → is_forward colour 1 a b ≡ true → rank_of b ≡ target_rank colour → captured_pawn a b ≡ beyond colour b
+captured_is p White a b a_on b_on forward rank = let r = eqb-true (rank_of b) (rank_of a + 1) forward in omega arith
+captured_is p Black a b a_on b_on forward rank = let r = eqb-true (rank_of a) (rank_of b + 1) forward in omega arith
 
-passed_rank : (colour : Colour) (a b : ℕ) → is_forward colour 1 a b ≡ true → rank_of b ≡ target_rank colour → (2 < rank_of a) × (rank_of a < 5) × (rank_of a ≢ rank_of b)
-passed_rank White a b forward rank = let r = eqb-true (rank_of b) (rank_of a + 1) forward in (omega arith, omega arith, λ e. omega arith)
-passed_rank Black a b forward rank = let r = eqb-true (rank_of a) (rank_of b + 1) forward in (omega arith, omega arith, λ e. omega arith)
+captured_rank : (colour : Colour) (a b : ℕ) → is_forward colour 1 a b ≡ true → rank_of b ≡ target_rank colour → (2 < rank_of a) × (rank_of a < 5) × (rank_of a ≢ rank_of b)
+captured_rank White a b forward rank = let r = eqb-true (rank_of b) (rank_of a + 1) forward in (omega arith, omega arith, λ e. omega arith)
+captured_rank Black a b forward rank = let r = eqb-true (rank_of a) (rank_of b + 1) forward in (omega arith, omega arith, λ e. omega arith)
 
 not_last : (colour : Colour) (b : ℕ) → rank_of b ≡ target_rank colour → promotes (a_man colour Pawn) b ≡ false
 not_last White b h = rw h refl
 not_last Black b h = rw h refl
 
-passing_shape : (p : Setup) (colour : Colour) (m : Move) → Mover p colour Pawn m → takes_in_passing p colour m.origin m.target ≡ true → IsPassing p colour Pawn m
-passing_shape p colour m h goes =
+en_passant_shape : (p : Setup) (colour : Colour) (m : Move) → Mover p colour Pawn m → takes_en_passant p colour m.origin m.target ≡ true → IsPassing p colour Pawn m
+en_passant_shape p colour m h goes =
     let q = and_parts (attacks_as p.men colour Pawn m.origin m.target) (is_square p.target m.target) goes in
     let g = attack_parts p.men colour m.origin m.target q.0 in
     let t = target_parts p.men colour m.target (target_holds p colour m.target h.sound h.side q.1) in
-    let k = passed_is p colour m.origin m.target h.a_on h.b_on g.1 t.0 in
-    let r = passed_rank colour m.origin m.target g.1 t.0 in
-    let same : rank_of (passed_pawn m.origin m.target) ≡ rank_of m.origin = omega arith in
+    let k = captured_is p colour m.origin m.target h.a_on h.b_on g.1 t.0 in
+    let r = captured_rank colour m.origin m.target g.1 t.0 in
+    let same : rank_of (captured_pawn m.origin m.target) ≡ rank_of m.origin = omega arith in
     record {
       men = rw q.1 refl;
       pawn = refl;
@@ -176,9 +177,9 @@ pawn_shape p colour m h =
     let once = steps_once p.men colour m.origin m.target in
     let twice = steps_twice p.men colour m.origin m.target in
     let taking = takes p.men colour Pawn m.origin m.target in
-    let passing = takes_in_passing p colour m.origin m.target in
+    let passing = takes_en_passant p colour m.origin m.target in
     elim (or_cases (once || twice || taking) passing h.goes) [
-      | inr g ↦ inr (inl (passing_shape p colour m h g))
+      | inr g ↦ inr (inl (en_passant_shape p colour m h g))
       | inl g ↦ elim (or_cases (once || twice) taking g) [
         | inr g ↦ inl (taking_shape p colour m h g)
         | inl g ↦ elim (or_cases once twice g) [

@@ -2,18 +2,18 @@
 -- `==` answers.
 use Rattle.std.specs.Prelude.{◌≡◌, ◌≢◌, ◌↔◌, ℕ, ◌<◌, ◌≤◌, Bool, true, false, List, [], All, Option, None}
 use Rattle.chess_board.specs.Characters.{char}
-use Rattle.chess_board.specs.declared.men.Colour.{Colour}
-use Rattle.chess_board.specs.declared.men.Kind.{Kind}
-use Rattle.chess_board.specs.declared.men.Man.{Man}
 use Rattle.chess_board.specs.Men.{man_of}
 use Rattle.chess_board.specs.Positions.{Setup, man_at}
 use Rattle.chess_board.specs.Attacks.{is_clear, is_between, attacks_as, is_attacked, is_in_check}
 use Rattle.chess_board.specs.Soundness.{IsSound}
 use Rattle.chess_board.specs.Fens.{Fields, SpellsSetup, fields_text}
 use Rattle.chess_board.specs.Moves.{Move}
-use Rattle.chess_board.specs.Candidates.{is_candidate}
-use Rattle.chess_board.specs.After.{after_setup}
+use Rattle.chess_board.specs.PseudoLegal.{is_pseudo_legal}
+use Rattle.chess_board.specs.MakeMove.{after_setup}
 use Rattle.chess_board.specs.Legality.{is_legal}
+use Rattle.chess_board.specs.declared.men.Colour.{Colour}
+use Rattle.chess_board.specs.declared.men.Kind.{Kind}
+use Rattle.chess_board.specs.declared.men.Man.{Man}
 use Rattle.chess_board.specs.contracts.positions.PositionPartialEq.TheImpl.{eq-value}
 
 -- A square is attacked where a man of the colour stands somewhere and attacks it (FIDE Laws of Chess, article 3.1).
@@ -29,7 +29,7 @@ ClearReads = (men : List (Option Man)) (a b : ℕ) → (is_clear men a b ≡ tru
 -- A move is legal where the rules allow it and the mover's king is not attacked afterwards (articles 3.9.2 and 3.10.1).
 abbrev pub LegalReads : Type 0
 LegalReads = (p : Setup) (m : Move) → (is_legal p m ≡ true) ↔
-    ((is_candidate p m ≡ true) × (is_in_check (after_setup p m).men p.side ≡ false))
+    ((is_pseudo_legal p m ≡ true) × (is_in_check (after_setup p m).men p.side ≡ false))
 
 -- A sound position stays sound after a legal move.
 abbrev pub SoundAfter : Type 0

@@ -4,12 +4,12 @@ use Rattle.std.specs.Prelude.{Bool, ◌&&◌, not}
 use Rattle.chess_board.specs.Moves.{Move}
 use Rattle.chess_board.specs.Positions.{Setup}
 use Rattle.chess_board.specs.Attacks.{is_in_check}
-use Rattle.chess_board.specs.Candidates.{is_candidate}
-use Rattle.chess_board.specs.After.{after_setup}
+use Rattle.chess_board.specs.PseudoLegal.{is_pseudo_legal}
+use Rattle.chess_board.specs.MakeMove.{after_setup}
 
 -- After the move the king of the side that moved is not attacked.
 unfoldable pub is_safe : Setup → Move → Bool
 is_safe p m = not (is_in_check (after_setup p m).men p.side)
 
 unfoldable pub is_legal : Setup → Move → Bool
-is_legal p m = is_candidate p m && is_safe p m
+is_legal p m = is_pseudo_legal p m && is_safe p m

@@ -7,7 +7,6 @@ pub mod Sets
 pub mod Boards
 pub mod Hashing
 pub mod Attacks
-pub mod Soundness
 pub mod Walks
 pub mod Placement
 pub mod RankReading
@@ -15,7 +14,10 @@ pub mod Fields
 pub mod Faults
 pub mod Fens
 pub mod Moves
-pub mod Candidates
-pub mod After
+pub mod Castling
+pub mod EnPassant
+pub mod Soundness
+pub mod PseudoLegal
+pub mod MakeMove
 pub mod Legality
 pub mod Laws

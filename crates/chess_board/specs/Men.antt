@@ -1,6 +1,5 @@
--- The men, their colours and kinds (FIDE Laws of Chess, article 2), and the squares from which a king and a rook
--- castle (article 3.8).
-use Rattle.std.specs.Prelude.{ℕ, Option, Some, None, Bool, true, false, ◌&&◌}
+-- The men, their colours and kinds (FIDE Laws of Chess, article 2), and the rights to castle that are left.
+use Rattle.std.specs.Prelude.{Option, Some, None, Bool, true, false, ◌&&◌}
 use Rattle.chess_board.specs.declared.men.Colour.{Colour}
 use Rattle.chess_board.specs.declared.men.Colour.TheVariants.{White, Black}
 use Rattle.chess_board.specs.declared.men.Kind.{Kind}
@@ -55,15 +54,3 @@ has_right_of rights White KingSide = rights.white_king_side
 has_right_of rights White QueenSide = rights.white_queen_side
 has_right_of rights Black KingSide = rights.black_king_side
 has_right_of rights Black QueenSide = rights.black_queen_side
-
--- where the king stands before it castles: e1 or e8
-abbrev pub king_home : Colour → ℕ
-king_home White = 4
-king_home Black = 60
-
--- where the rook stands before it castles: h1, a1, h8 or a8
-abbrev pub rook_home : Colour → Wing → ℕ
-rook_home White KingSide = 7
-rook_home White QueenSide = 0
-rook_home Black KingSide = 63
-rook_home Black QueenSide = 56

@@ -9,9 +9,10 @@ use Rattle.chess_board.specs.declared.men.Wing.TheVariants.{KingSide, QueenSide}
 use Rattle.chess_board.specs.declared.men.Man.{Man}
 use Rattle.chess_board.specs.declared.men.Rights.{Rights}
 use Rattle.chess_board.specs.Squares.{rank_of, each_square}
-use Rattle.chess_board.specs.Men.{other_side, is_of, is_man, is_pawn, has_right_of, king_home, rook_home}
+use Rattle.chess_board.specs.Men.{other_side, is_of, is_man, is_pawn, has_right_of}
 use Rattle.chess_board.specs.Positions.{Setup, man_at, is_empty}
 use Rattle.chess_board.specs.Attacks.{is_in_check}
+use Rattle.chess_board.specs.Castling.{king_home, rook_home}
 
 -- what holds of White and of Black
 abbrev pub BothSides : (Colour → Type 0) → Type 0

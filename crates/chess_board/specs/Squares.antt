@@ -36,3 +36,7 @@ some_square passes = any_below 64 passes
 -- whether each square passes a test
 abbrev pub each_square : (ℕ → Bool) → Bool
 each_square passes = all_below 64 passes
+
+-- the square in the middle of a double step, and the one that a castling king crosses
+abbrev pub crossed : ℕ → ℕ → ℕ
+crossed a b = (a + b) / 2

@@ -3,7 +3,7 @@
 ghost use Rattle.std.specs.Prelude.{◌≡◌, ℕ, ◌<◌, ◌==◌, if◌then◌else◌, Some, None, is_some, length, count_by, slice_set};
 ghost use Rattle.square_sets.specs.Members.{has};
 ghost use Rattle.chess_board.specs.declared.men.Kind.TheVariants as kind;
-ghost use Rattle.chess_board.specs.Positions.{man_at};
+ghost use Rattle.chess_board.specs.Positions.{man_at, moved};
 ghost use Rattle.chess_board.specs.Men.{man_of, is_of, is_man};
 ghost use Rattle.chess_board.specs.KindTests.{is_king_of};
 ghost use Rattle.chess_board.specs.Sets.{IsSetOf};
@@ -147,6 +147,13 @@ impl Board {
             queens: set_where(man.kind == Kind::Queen, self.queens, index),
             kings: set_where(man.kind == Kind::King, self.kings, index),
         }
+    }
+
+    /// The board once a man went from one square to another, where it takes the place of what stood there.
+    pub(crate) fn moved(&self, a: Square, b: Square, man: Man) -> Board
+        ensures { result ≡ moved self.now a b man }
+    {
+        self.without(a).with(b, man)
     }
 
     /// The squares on which some man stands.

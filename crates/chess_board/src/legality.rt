@@ -4,15 +4,15 @@ ghost use Rattle.std.specs.Prelude.{◌≡◌};
 ghost use Rattle.chess_board.specs.Legality.{is_safe as leaves_king_safe, is_legal as may_be_played};
 
 use crate::attacks::is_king_in_check;
-use crate::candidates::is_candidate;
-use crate::making::men_after;
+use crate::make_move::men_after;
 use crate::moves::Move;
 use crate::positions::Position;
+use crate::pseudo_legal::is_pseudo_legal;
 
 /// Whether the king of the side that moved is not attacked after the move.
 ///
 /// The men after the move stand on a plain board here, since they need not be sound before this is known.
-#[tactic(auto, unfolding(crate::specs::Legality::is_safe, crate::specs::After::after_setup))]
+#[tactic(auto, unfolding(crate::specs::Legality::is_safe, crate::specs::MakeMove::after_setup))]
 fn is_safe(position: &Position, m: Move) -> bool
     ensures { result ≡ leaves_king_safe position.now m }
 {
@@ -28,5 +28,5 @@ fn is_safe(position: &Position, m: Move) -> bool
 pub fn is_legal(position: &Position, m: Move) -> bool
     ensures { result ≡ may_be_played position.now m }
 {
-    is_candidate(position, m) && is_safe(position, m)
+    is_pseudo_legal(position, m) && is_safe(position, m)
 }

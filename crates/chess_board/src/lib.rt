@@ -5,35 +5,39 @@
 //! are none of this crate's business.
 //!
 //! To read: `squares`, `men`, `boards`, `attacks`, `soundness`, `positions`; then `placement`, `fields` and `fens`, the text of a
-//! position field by field; then `moves`, `candidates`, `making` and `legality`. No call takes memory.
+//! position field by field; then `moves`, `castling` and `en_passant`, `pseudo_legal`, `make_move` and `legality`. No call takes
+//! memory.
 #![tactic(auto)]
 
 mod attacks;
 mod boards;
-mod candidates;
+mod castling;
 mod cuts;
+mod en_passant;
 mod faults;
 mod fens;
 mod fields;
 mod laws;
 mod legality;
-mod making;
+mod make_move;
 mod men;
 mod moves;
 mod placement;
 mod positions;
-mod ranks;
+mod pseudo_legal;
 mod setups;
 mod soundness;
 mod squares;
 
+pub use castling::{is_castling, king_goal, king_home, rook_home, wing_of};
+pub use en_passant::{captured_pawn, is_en_passant};
 pub use faults::FenFault;
 pub use fens::{Fen, read_fen, read_fields, reads_back};
 pub use laws::{
     attacked_reads, clear_reads, equal_reads, legal_reads, printed_spells, sound_after, spells_one,
 };
 pub use legality::is_legal;
-pub use making::after;
+pub use make_move::after;
 pub use men::{Colour, Kind, Man, Rights, Wing};
 pub use moves::{Move, comes_before};
 pub use positions::{Position, is_same_position};

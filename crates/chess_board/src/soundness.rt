@@ -1,13 +1,13 @@
-//! The tests of a sound position, and where castling starts from.
+//! The tests of a sound position.
 
 ghost use Rattle.std.specs.Prelude.{◌≡◌, ℕ, ◌↔◌, IsTrue, ◌<◌, ◌≤◌, count_by, length, true, false};
 ghost use Rattle.std.specs.Option.{option_map_or};
-ghost use Rattle.chess_board.specs.Men.{king_home, rook_home};
 ghost use Rattle.chess_board.specs.Men.{is_of as place_is_of};
 ghost use Rattle.chess_board.specs.KindTests.{is_king_of as place_is_king_of};
 ghost use Rattle.chess_board.specs.Soundness.{is_no_end_pawn, has_no_end_pawn, has_men_of_right, has_men_of_rights, has_pawn_of_target, HasOneKingEach, HasAtMostSixteenEach};
 ghost use Rattle.chess_board.specs.Positions.{man_at};
 
+use crate::castling::{king_home, rook_home};
 use crate::men::{Colour, Man, Rights, Wing, is_king_of, is_of, is_pawn, is_pawn_of, is_rook_of};
 use crate::squares::Square;
 
@@ -58,28 +58,6 @@ pub(crate) fn has_no_end_pawn(men: &[Option<Man>; 64]) -> bool
         }
     }
     true
-}
-
-/// Where the king stands before it castles.
-pub(crate) fn king_home(colour: Colour) -> Square
-    ensures { result ≡ king_home colour }
-{
-    match colour {
-        Colour::White => Square::numbered(4),
-        Colour::Black => Square::numbered(60),
-    }
-}
-
-/// Where the rook stands before it castles.
-pub(crate) fn rook_home(colour: Colour, wing: Wing) -> Square
-    ensures { result ≡ rook_home colour wing }
-{
-    match (colour, wing) {
-        (Colour::White, Wing::KingSide) => Square::numbered(7),
-        (Colour::White, Wing::QueenSide) => Square::numbered(0),
-        (Colour::Black, Wing::KingSide) => Square::numbered(63),
-        (Colour::Black, Wing::QueenSide) => Square::numbered(56),
-    }
 }
 
 fn has_men_of_right(men: &[Option<Man>; 64], rights: Rights, colour: Colour, wing: Wing) -> bool

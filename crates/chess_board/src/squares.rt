@@ -1,7 +1,7 @@
 //! The squares of the board.
 
 ghost use Rattle.std.specs.Prelude.{◌≡◌, ℕ, ◌+◌, ◌*◌, ◌/◌, ◌%◌, ◌<◌, ◌↔◌, IsSome, IfSome};
-ghost use Rattle.chess_board.specs.Squares.{file_of, rank_of, file_gap, rank_gap};
+ghost use Rattle.chess_board.specs.Squares.{file_of, rank_of, file_gap, rank_gap, crossed};
 
 use std::marker::Model;
 
@@ -81,4 +81,11 @@ pub(crate) fn rank_gap_of(a: Square, b: Square) -> u8
     ensures { result ≡ rank_gap a b }
 {
     a.rank().abs_diff(b.rank())
+}
+
+/// The square in the middle of a double step, or the one that a castling king crosses.
+pub(crate) fn crossed(a: Square, b: Square) -> Square
+    ensures { result ≡ crossed a b }
+{
+    Square::numbered(((a.index() + b.index()) / 2) as u8)
 }

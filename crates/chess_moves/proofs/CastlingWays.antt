@@ -9,12 +9,12 @@ use Rattle.chess_board.specs.declared.men.Colour.TheVariants.{White, Black}
 use Rattle.chess_board.specs.declared.men.Wing.{Wing}
 use Rattle.chess_board.specs.declared.men.Wing.TheVariants.{KingSide, QueenSide}
 use Rattle.chess_board.specs.declared.men.Man.{Man}
-use Rattle.chess_board.specs.Men.{other_side, has_right_of, king_home, rook_home}
+use Rattle.chess_board.specs.Men.{other_side, has_right_of}
 use Rattle.chess_board.specs.Positions.{Setup}
 use Rattle.chess_board.specs.Sets.{IsSetOf}
 use Rattle.chess_board.specs.Attacks.{is_clear, is_attacked}
-use Rattle.chess_board.specs.Candidates.{crossed, king_goal, castles_to}
-use Rattle.chess_board.specs.Squares.{all_below}
+use Rattle.chess_board.specs.Squares.{crossed, all_below}
+use Rattle.chess_board.specs.Castling.{king_home, rook_home, king_goal, castles_to}
 use Rattle.chess_moves.specs.Directions.{toward, stands_between}
 use Rattle.chess_moves.specs.Hits.{is_taken}
 use Rattle.chess_moves.proofs.AnyLemmas.{any_same}

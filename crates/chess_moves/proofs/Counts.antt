@@ -5,7 +5,7 @@ use Rattle.std.proofs.Math.Nat.{pow-suc, mul-le-mul_left}
 use Rattle.std.proofs.lemmas.List.Sums.{sum_by-cons}
 use Rattle.chess_board.specs.Positions.{Setup}
 use Rattle.chess_board.specs.Moves.{Move}
-use Rattle.chess_board.specs.After.{after_setup}
+use Rattle.chess_board.specs.MakeMove.{after_setup}
 use Rattle.chess_moves.specs.Listing.{legal_moves}
 use Rattle.chess_moves.specs.Plays.{plays}
 

@@ -13,7 +13,7 @@ use Rattle.chess_board.specs.KindTests.{is_pawn_kind}
 use Rattle.chess_board.specs.Positions.{Setup, man_at}
 use Rattle.chess_board.specs.Soundness.{IsSound}
 use Rattle.chess_board.specs.Moves.{Move}
-use Rattle.chess_board.specs.Candidates.{last_rank, pawn_goes, goes, promotes}
+use Rattle.chess_board.specs.PseudoLegal.{last_rank, pawn_goes, goes, promotes}
 use Rattle.chess_board.specs.Legality.{is_legal}
 use Rattle.chess_moves.specs.Listing.{move_of, promotions, moves_between, moves_to, moves_below, legal_moves}
 use Rattle.chess_moves.proofs.Played.{not_own, not_suited, not_gone}

@@ -9,13 +9,14 @@ use Rattle.chess_board.specs.declared.men.Man.{Man}
 use Rattle.chess_board.specs.Squares.{file_gap}
 use Rattle.chess_board.specs.Men.{is_colour, is_of, other_side, man_of}
 use Rattle.chess_board.specs.KindTests.{is_king_of, is_king_kind}
-use Rattle.chess_board.specs.Positions.{Setup, man_at}
+use Rattle.chess_board.specs.Positions.{Setup, man_at, moved, cleared}
 use Rattle.chess_board.specs.Attacks.{attacks_as, is_attacked, is_in_check}
 use Rattle.chess_board.specs.Moves.{Move}
-use Rattle.chess_board.specs.Candidates.{goes, man_may, is_candidate, piece_goes, castles}
-use Rattle.chess_board.specs.After.{moved, cleared, men_after, after_man, after_setup}
+use Rattle.chess_board.specs.PseudoLegal.{goes, man_may, is_pseudo_legal, piece_goes}
+use Rattle.chess_board.specs.MakeMove.{men_after, after_man, after_setup}
 use Rattle.chess_board.specs.Legality.{is_legal, is_safe}
 use Rattle.chess_board.specs.Soundness.{IsSound}
+use Rattle.chess_board.specs.Castling.{castles}
 use Rattle.chess_moves.specs.declared.directions.Leap.TheVariants.{KingStep}
 use Rattle.chess_moves.specs.Flights.{IsFlight, leaves_flight}
 use Rattle.chess_moves.specs.Hits.{is_taken, hits_as, hits_from, is_hit}
@@ -67,7 +68,7 @@ own_colour Black = refl
 -- A king may step to a square beside it where no man of its own stands and where it is not attacked then.
 step_legal : (q : Setup) (k f : ℕ) → length q.men ≡ 64 → IsKingAt q.men q.side k → f < 64 → leaps KingStep k f ≡ true
     → is_of q.side (man_at q.men f) ≡ false → is_hit (moved q.men k f (king q.side)) f (other_side q.side) ≡ false → is_legal q (move_of k f None) ≡ true
-unfolding is_legal is_candidate is_safe after_setup
+unfolding is_legal is_pseudo_legal is_safe after_setup
 step_legal q k f long at f_on beside free safe =
     let m : Move = move_of k f None in
     let near : attacks_as q.men q.side King k f ≡ true = attacks_same q.men q.side King k f at.on_board f_on ∙ beside in

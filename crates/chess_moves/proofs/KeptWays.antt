@@ -7,8 +7,8 @@ use Rattle.chess_board.specs.declared.men.Man.{Man}
 use Rattle.chess_board.specs.Positions.{Setup, man_at}
 use Rattle.chess_board.specs.Moves.{Move}
 use Rattle.chess_board.specs.Attacks.{is_in_check}
-use Rattle.chess_board.specs.Candidates.{goes, is_promotion, promotes, suits, is_candidate}
-use Rattle.chess_board.specs.After.{men_after, after_setup}
+use Rattle.chess_board.specs.PseudoLegal.{goes, is_promotion, promotes, suits, is_pseudo_legal}
+use Rattle.chess_board.specs.MakeMove.{men_after, after_setup}
 use Rattle.chess_board.specs.Legality.{is_safe, is_legal}
 use Rattle.chess_moves.specs.Listing.{move_of, promotions, moves_between}
 use Rattle.chess_moves.specs.Targets.{ways, AreTargets}
@@ -27,7 +27,7 @@ and_when false b c h = refl
 -- A way that suits the man is legal where the man goes safely.
 legal_way : (p : Setup) (man : Man) (o t : ℕ) (r : Option Kind) → man_at p.men o ≡ Some man → man.colour ≡ p.side → suits man t r ≡ true
     → is_legal p (move_of o t r) ≡ goes_safely p man o t r
-unfolding is_legal is_candidate is_safe after_setup
+unfolding is_legal is_pseudo_legal is_safe after_setup
 legal_way p man o t r there own suited =
     let colour = same_colour man.colour p.side own in
     rw (there, colour, suited) refl

@@ -11,14 +11,15 @@ use Rattle.chess_board.specs.declared.men.Kind.TheVariants.{King}
 use Rattle.chess_board.specs.declared.men.Wing.{Wing}
 use Rattle.chess_board.specs.declared.men.Wing.TheVariants.{KingSide, QueenSide}
 use Rattle.chess_board.specs.declared.men.Man.{Man}
-use Rattle.chess_board.specs.Squares.{file_gap}
-use Rattle.chess_board.specs.Men.{other_side, is_colour, is_of, has_right_of, king_home, rook_home}
+use Rattle.chess_board.specs.Squares.{file_gap, crossed}
+use Rattle.chess_board.specs.Men.{other_side, is_colour, is_of, has_right_of}
 use Rattle.chess_board.specs.KindTests.{is_king_of, is_rook_of}
-use Rattle.chess_board.specs.Positions.{Setup, man_at}
+use Rattle.chess_board.specs.Positions.{Setup, man_at, cleared, moved}
 use Rattle.chess_board.specs.Attacks.{attacks_as, is_clear, is_attacked, is_in_check}
 use Rattle.chess_board.specs.Soundness.{IsSound, has_men_of_right}
-use Rattle.chess_board.specs.Candidates.{crossed, king_goal, castles_to, castles, piece_goes, goes, suits}
-use Rattle.chess_board.specs.After.{cleared, moved, rook, wing_of, castled, men_after}
+use Rattle.chess_board.specs.PseudoLegal.{piece_goes, goes, suits}
+use Rattle.chess_board.specs.MakeMove.{men_after}
+use Rattle.chess_board.specs.Castling.{king_home, rook_home, king_goal, castles_to, castles, rook, wing_of, castled}
 use Rattle.chess_moves.specs.declared.check_info.CheckInfo.{CheckInfo}
 use Rattle.chess_moves.specs.Hits.{is_hit}
 use Rattle.chess_moves.specs.Listing.{move_of}

@@ -35,7 +35,7 @@ pub mod MovedKings
 pub mod KeptWays
 pub mod OtherMen
 pub mod PieceTargets
-pub mod PassedPawns
+pub mod CapturedPawns
 pub mod PawnTargets
 pub mod KingTargets
 pub mod Sifting

@@ -10,7 +10,7 @@ use Rattle.chess_board.specs.declared.men.Kind.TheVariants.{Pawn, Knight, Bishop
 use Rattle.chess_board.specs.declared.men.Man.{Man}
 use Rattle.chess_board.specs.Moves.{Move}
 use Rattle.chess_board.specs.Positions.{Setup}
-use Rattle.chess_board.specs.Candidates.{suits, promotes, is_promotion}
+use Rattle.chess_board.specs.PseudoLegal.{suits, promotes, is_promotion}
 use Rattle.chess_board.specs.Legality.{is_legal}
 use Rattle.chess_moves.specs.Listing.{move_of, promotions, moves_between, moves_to, moves_below, legal_moves}
 use Rattle.chess_moves.specs.Laws.{LegalListed}

@@ -11,10 +11,10 @@ use Rattle.chess_board.specs.Attacks.{is_in_check}
 use Rattle.chess_board.specs.Men.{is_of, man_of}
 use Rattle.chess_board.specs.Positions.{Setup, man_at}
 use Rattle.chess_board.specs.Sets.{IsSetOf}
+use Rattle.chess_board.specs.MakeMove.{after_setup}
+use Rattle.chess_board.specs.Moves.{Move}
 use Rattle.chess_moves.specs.declared.check_info.CheckInfo.{CheckInfo}
 use Rattle.chess_moves.specs.CheckInfo.{IsCheckInfoOf}
-use Rattle.chess_board.specs.After.{after_setup}
-use Rattle.chess_board.specs.Moves.{Move}
 use Rattle.chess_moves.specs.GivesCheck.{gives_check}
 use Rattle.chess_moves.specs.Verdicts.{has_legal_move, is_mate}
 use Rattle.chess_moves.specs.MoveGeneration.{members, moves_of_men, HaveOwnMen}

@@ -6,9 +6,8 @@ use Rattle.chess_board.specs.declared.men.Kind.TheVariants.{King}
 use Rattle.chess_board.specs.declared.men.Man.{Man}
 use Rattle.chess_board.specs.Men.{other_side, man_of}
 use Rattle.chess_board.specs.KindTests.{is_king_of}
-use Rattle.chess_board.specs.Positions.{Setup, man_at}
+use Rattle.chess_board.specs.Positions.{Setup, man_at, moved, cleared}
 use Rattle.chess_board.specs.Attacks.{is_in_check}
-use Rattle.chess_board.specs.After.{moved, cleared}
 use Rattle.chess_moves.specs.declared.check_info.CheckInfo.{CheckInfo}
 use Rattle.chess_moves.specs.Hits.{is_hit}
 use Rattle.chess_moves.specs.CheckInfo.{IsCheckInfoOf}

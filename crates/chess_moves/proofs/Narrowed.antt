@@ -6,8 +6,8 @@ use Rattle.std.proofs.lemmas.List.Folds.{list_any-append, list_all-append}
 use Rattle.std.proofs.lemmas.List.Elements.{Contains-append_right}
 use Rattle.square_sets.specs.Members.{has}
 use Rattle.chess_board.specs.declared.men.Man.{Man}
-use Rattle.chess_board.specs.After.{after_setup}
-use Rattle.chess_board.specs.Candidates.{goes}
+use Rattle.chess_board.specs.MakeMove.{after_setup}
+use Rattle.chess_board.specs.PseudoLegal.{goes}
 use Rattle.chess_board.specs.Legality.{is_legal}
 use Rattle.chess_board.specs.Moves.{Move}
 use Rattle.chess_board.specs.Positions.{Setup, man_at}

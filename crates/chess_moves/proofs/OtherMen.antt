@@ -6,10 +6,10 @@ use Rattle.chess_board.specs.declared.men.Kind.TheVariants.{Pawn, Knight, Bishop
 use Rattle.chess_board.specs.declared.men.Man.{Man}
 use Rattle.chess_board.specs.Men.{other_side, is_of, man_of}
 use Rattle.chess_board.specs.KindTests.{is_king_kind, is_king_of}
-use Rattle.chess_board.specs.Positions.{Setup, man_at}
+use Rattle.chess_board.specs.Positions.{Setup, man_at, moved}
 use Rattle.chess_board.specs.Attacks.{is_in_check}
-use Rattle.chess_board.specs.Candidates.{promotes, suits}
-use Rattle.chess_board.specs.After.{moved, becomes}
+use Rattle.chess_board.specs.PseudoLegal.{promotes, suits}
+use Rattle.chess_board.specs.MakeMove.{becomes}
 use Rattle.chess_moves.specs.declared.check_info.CheckInfo.{CheckInfo}
 use Rattle.chess_moves.specs.Hits.{is_hit}
 use Rattle.chess_moves.specs.CheckInfo.{IsCheckInfoOf}

@@ -8,11 +8,11 @@ use Rattle.square_sets.specs.Members.{has}
 use Rattle.chess_board.specs.declared.men.Colour.{Colour}
 use Rattle.chess_board.specs.declared.men.Kind.TheVariants.{Pawn}
 use Rattle.chess_board.specs.declared.men.Man.{Man}
-use Rattle.chess_board.specs.Squares.{file_of, rank_of}
+use Rattle.chess_board.specs.Squares.{file_of, rank_of, crossed}
 use Rattle.chess_board.specs.Men.{other_side, is_of, man_of}
-use Rattle.chess_board.specs.Positions.{Setup, man_at, is_empty}
-use Rattle.chess_board.specs.Candidates.{crossed, promotes, steps_once, steps_twice, takes}
-use Rattle.chess_board.specs.After.{moved, becomes}
+use Rattle.chess_board.specs.Positions.{Setup, man_at, is_empty, moved}
+use Rattle.chess_board.specs.PseudoLegal.{promotes, steps_once, steps_twice, takes}
+use Rattle.chess_board.specs.MakeMove.{becomes}
 use Rattle.chess_board.specs.Legality.{is_legal}
 use Rattle.chess_moves.specs.declared.check_info.CheckInfo.{CheckInfo}
 use Rattle.chess_moves.specs.Hits.{is_hit}
@@ -26,7 +26,7 @@ use Rattle.chess_moves.proofs.SetBits.{has_and}
 use Rattle.chess_moves.proofs.Members.{flat_map-below_suc}
 use Rattle.chess_moves.proofs.OwnColours.{other_colour, own_not_other}
 use Rattle.chess_moves.proofs.OtherMen.{becomes_colour}
-use Rattle.chess_moves.proofs.PassedPawns.{plain_ways}
+use Rattle.chess_moves.proofs.CapturedPawns.{plain_ways}
 use Rattle.chess_moves.proofs.PawnTargets.{pawn_goes_safely}
 use Rattle.chess_moves.proofs.KeptWays.{ways_kept, and_when}
 use Rattle.chess_moves.proofs.Unpinned.{safe_unpinned}

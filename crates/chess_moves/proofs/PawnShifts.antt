@@ -7,8 +7,7 @@ use Rattle.std.proofs.lemmas.Bool.{leb-true, leb-false, ltb-true, ltb-false, eqb
 use Rattle.square_sets.specs.Members.{has}
 use Rattle.chess_board.specs.declared.men.Colour.{Colour}
 use Rattle.chess_board.specs.declared.men.Colour.TheVariants.{White, Black}
-use Rattle.chess_board.specs.Squares.{file_of, rank_of, all_below}
-use Rattle.chess_board.specs.Candidates.{crossed}
+use Rattle.chess_board.specs.Squares.{file_of, rank_of, all_below, crossed}
 use Rattle.chess_moves.specs.Leaps.{is_step, is_double, is_pawn_capture}
 use Rattle.chess_moves.specs.Shifts.{is_shifted, back, left_file, right_file, third_rank}
 use Rattle.chess_moves.proofs.Promotions.{same, same_equal, each}

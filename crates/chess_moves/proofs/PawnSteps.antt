@@ -5,11 +5,12 @@ use Rattle.chess_board.specs.declared.men.Colour.{Colour}
 use Rattle.chess_board.specs.declared.men.Colour.TheVariants.{White, Black}
 use Rattle.chess_board.specs.declared.men.Kind.TheVariants.{Pawn}
 use Rattle.chess_board.specs.declared.men.Man.{Man}
-use Rattle.chess_board.specs.Squares.{file_of, rank_of, file_gap}
+use Rattle.chess_board.specs.Squares.{file_of, rank_of, file_gap, crossed}
 use Rattle.chess_board.specs.Men.{other_side, is_of}
 use Rattle.chess_board.specs.Positions.{Setup, man_at, is_empty}
 use Rattle.chess_board.specs.Attacks.{is_forward, attacks_as}
-use Rattle.chess_board.specs.Candidates.{second_rank, last_rank, crossed, is_square, steps_once, steps_twice, takes, takes_in_passing, pawn_goes}
+use Rattle.chess_board.specs.PseudoLegal.{second_rank, last_rank, steps_once, steps_twice, takes, pawn_goes}
+use Rattle.chess_board.specs.EnPassant.{is_square, takes_en_passant}
 
 -- the rank before the last
 unfoldable pub rank_before : Colour → ℕ
@@ -53,7 +54,7 @@ pawn_before p c o t h =
     let once = steps_once p.men c o t in
     let twice = steps_twice p.men c o t in
     let taking = takes p.men c Pawn o t in
-    let passing = takes_in_passing p c o t in
+    let passing = takes_en_passant p c o t in
     elim (or_cases (once || twice || taking) passing h) [
       | inr h ↦ attack_before p.men c o t ((and_parts (attacks_as p.men c Pawn o t) (is_square p.target t) h).0)
       | inl h ↦ elim (or_cases (once || twice) taking h) [

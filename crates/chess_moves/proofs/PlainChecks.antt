@@ -10,12 +10,14 @@ use Rattle.chess_board.specs.declared.men.Man.{Man}
 use Rattle.chess_board.specs.Squares.{gap, any_below}
 use Rattle.chess_board.specs.Men.{is_colour, other_side, man_of}
 use Rattle.chess_board.specs.KindTests.{is_king_kind, is_king_of}
-use Rattle.chess_board.specs.Positions.{Setup, man_at}
+use Rattle.chess_board.specs.Positions.{Setup, man_at, moved}
 use Rattle.chess_board.specs.Attacks.{is_attacked, is_king_attacked, is_in_check}
 use Rattle.chess_board.specs.Moves.{Move}
-use Rattle.chess_board.specs.After.{moved, becomes, is_in_passing, is_castling, men_after, after_man, after_setup}
+use Rattle.chess_board.specs.MakeMove.{becomes, men_after, after_man, after_setup}
 use Rattle.chess_board.specs.Legality.{is_legal}
 use Rattle.chess_board.specs.Soundness.{IsSound}
+use Rattle.chess_board.specs.EnPassant.{is_en_passant}
+use Rattle.chess_board.specs.Castling.{is_castling}
 use Rattle.chess_moves.specs.declared.directions.Direction.{Direction}
 use Rattle.chess_moves.specs.declared.directions.Direction.TheVariants.{North, NorthEast, East, SouthEast, South, SouthWest, West, NorthWest}
 use Rattle.chess_moves.specs.declared.check_squares.CheckSquares.{CheckSquares}
@@ -222,8 +224,8 @@ not_promoted man (Some asked) h = absurd (cc)
 -- A move that is not special takes its man from one square to another.
 pub plainly : (p : Setup) (man : Man) (m : Move) → is_special p man m ≡ false → men_after p man m ≡ moved p.men m.origin m.target man
 plainly p man m plain =
-    let x = or_parts (is_some m.promotion || is_in_passing p man m) (is_castling man m) plain in
-    let y = or_parts (is_some m.promotion) (is_in_passing p man m) x.0 in
+    let x = or_parts (is_some m.promotion || is_en_passant p man m) (is_castling man m) plain in
+    let y = or_parts (is_some m.promotion) (is_en_passant p man m) x.0 in
     rw (y.1, x.1) (ap (moved p.men m.origin m.target) (not_promoted man m.promotion y.0))
 
 -- Where no line to the king is open once its man is lifted off the board, it gives check exactly if the man attacks the king then.

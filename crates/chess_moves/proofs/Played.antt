@@ -7,7 +7,7 @@ use Rattle.chess_board.specs.declared.men.Man.{Man}
 use Rattle.chess_board.specs.Men.{is_colour, is_of}
 use Rattle.chess_board.specs.Positions.{Setup, man_at}
 use Rattle.chess_board.specs.Moves.{Move}
-use Rattle.chess_board.specs.Candidates.{goes, suits, man_may, is_candidate}
+use Rattle.chess_board.specs.PseudoLegal.{goes, suits, man_may, is_pseudo_legal}
 use Rattle.chess_board.specs.Legality.{is_safe, is_legal}
 
 -- The man stands on the origin, is of the side to move, and goes so.
@@ -18,9 +18,9 @@ pub record IsPlayed (p : Setup) (m : Move) (man : Man) : Type 0 where
   pub goes : goes p man.colour man.kind m.origin m.target ≡ true
 
 pub played : (p : Setup) (m : Move) → is_legal p m ≡ true → (man : Man) × IsPlayed p m man
-unfolding is_legal is_candidate
+unfolding is_legal is_pseudo_legal
 played p m legal =
-    let both = and_parts (is_candidate p m) (is_safe p m) legal in
+    let both = and_parts (is_pseudo_legal p m) (is_safe p m) legal in
     let may : man_may p (man_at p.men m.origin) m ≡ true = both.0 in
     (elim (man_at p.men m.origin) as (λ o. man_at p.men m.origin ≡ o → (man : Man) × IsPlayed p m man) [
       | None ↦ λ is. let never = rw is at may in cc

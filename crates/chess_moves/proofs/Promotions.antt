@@ -7,7 +7,7 @@ use Rattle.std.proofs.lemmas.Nat.{and_le_l}
 use Rattle.square_sets.specs.Members.{has}
 use Rattle.chess_board.specs.declared.men.Man.{Man}
 use Rattle.chess_board.specs.Squares.{rank_of, all_below}
-use Rattle.chess_board.specs.Candidates.{promotes}
+use Rattle.chess_board.specs.PseudoLegal.{promotes}
 use Rattle.chess_moves.specs.Listing.{move_of, promotions}
 use Rattle.chess_moves.specs.Targets.{ways}
 use Rattle.chess_moves.specs.MoveGeneration.{members_below, members}

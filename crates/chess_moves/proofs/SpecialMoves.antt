@@ -12,9 +12,10 @@ use Rattle.chess_board.specs.KindTests.{is_pawn_kind, is_king_kind}
 use Rattle.chess_board.specs.Men.{is_colour}
 use Rattle.chess_board.specs.Moves.{Move}
 use Rattle.chess_board.specs.Positions.{Setup, man_at}
-use Rattle.chess_board.specs.Candidates.{suits, promotes, is_promotion, is_square, goes, piece_goes, castles}
-use Rattle.chess_board.specs.After.{is_in_passing, is_castling}
+use Rattle.chess_board.specs.PseudoLegal.{suits, promotes, is_promotion, goes, piece_goes}
 use Rattle.chess_board.specs.Legality.{is_legal}
+use Rattle.chess_board.specs.EnPassant.{is_square, is_en_passant}
+use Rattle.chess_board.specs.Castling.{castles, is_castling}
 use Rattle.chess_moves.specs.declared.check_info.CheckInfo.{CheckInfo}
 use Rattle.chess_moves.specs.CheckInfo.{IsCheckInfoOf}
 use Rattle.chess_moves.specs.CheckSquares.{is_special}
@@ -32,7 +33,7 @@ as_played p m man is legal =
     let same : by.0 ≡ man = let there = by.1.there in cc in
     rw same at by.1
 
-none_special : (p : Setup) (man : Man) (m : Move) → is_some m.promotion ≡ false → is_in_passing p man m ≡ false → is_castling man m ≡ false → is_special p man m ≡ false
+none_special : (p : Setup) (man : Man) (m : Move) → is_some m.promotion ≡ false → is_en_passant p man m ≡ false → is_castling man m ≡ false → is_special p man m ≡ false
 none_special p man m a b c = rw (a, b, c) refl
 
 pub plain_pawn : (p : Setup) (man : Man) (m : Move) → is_legal p m ≡ true → man_at p.men m.origin ≡ Some man → man.kind ≡ Pawn

@@ -6,9 +6,8 @@ use Rattle.chess_board.specs.declared.men.Colour.{Colour}
 use Rattle.chess_board.specs.declared.men.Man.{Man}
 use Rattle.chess_board.specs.Squares.{some_square}
 use Rattle.chess_board.specs.Men.{is_colour, is_of}
-use Rattle.chess_board.specs.Positions.{man_at}
+use Rattle.chess_board.specs.Positions.{man_at, moved}
 use Rattle.chess_board.specs.Sets.{IsSetOf}
-use Rattle.chess_board.specs.After.{moved}
 use Rattle.chess_moves.specs.declared.forces.Force.{Force}
 use Rattle.chess_moves.specs.Directions.{sights_as_bishop, sights_as_rook}
 use Rattle.chess_moves.specs.Forces.{StandFor, is_one, is_diagonal_kind, is_straight_kind}

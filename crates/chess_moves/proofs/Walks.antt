@@ -13,7 +13,7 @@ use Rattle.chess_board.specs.Men.{is_of}
 use Rattle.chess_board.specs.Positions.{Setup, man_at}
 use Rattle.chess_board.specs.Sets.{IsSetOf}
 use Rattle.chess_board.specs.Moves.{Move}
-use Rattle.chess_board.specs.Candidates.{promotes}
+use Rattle.chess_board.specs.PseudoLegal.{promotes}
 use Rattle.chess_board.specs.Legality.{is_legal}
 use Rattle.chess_moves.specs.Listing.{move_of, moves_between, moves_to, moves_below, legal_moves}
 use Rattle.chess_moves.specs.Targets.{ways, AreTargets}

@@ -7,8 +7,9 @@ use Rattle.chess_board.specs.declared.men.Man.{Man}
 use Rattle.chess_board.specs.Men.{other_side, man_of}
 use Rattle.chess_board.specs.Positions.{Setup, man_at}
 use Rattle.chess_board.specs.Moves.{Move}
-use Rattle.chess_board.specs.After.{is_in_passing, is_castling}
 use Rattle.chess_board.specs.Soundness.{IsSound}
+use Rattle.chess_board.specs.EnPassant.{is_en_passant}
+use Rattle.chess_board.specs.Castling.{is_castling}
 use Rattle.chess_moves.specs.declared.check_squares.CheckSquares.{CheckSquares}
 use Rattle.chess_moves.specs.Hits.{is_taken, hits_as}
 
@@ -32,4 +33,4 @@ pub record AreCheckSquaresOf (check_squares : CheckSquares) (p : Setup) : Type 0
 
 -- The move does more than take its man from one square to another.
 abbrev pub is_special : Setup → Man → Move → Bool
-is_special p man m = is_some m.promotion || is_in_passing p man m || is_castling man m
+is_special p man m = is_some m.promotion || is_en_passant p man m || is_castling man m

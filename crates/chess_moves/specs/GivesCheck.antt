@@ -3,7 +3,7 @@ use Rattle.std.specs.Prelude.{Bool, List, filter}
 use Rattle.chess_board.specs.Positions.{Setup}
 use Rattle.chess_board.specs.Attacks.{is_in_check}
 use Rattle.chess_board.specs.Moves.{Move}
-use Rattle.chess_board.specs.After.{after_setup}
+use Rattle.chess_board.specs.MakeMove.{after_setup}
 use Rattle.chess_moves.specs.Listing.{legal_moves}
 
 -- After the move the king of the side then to move is attacked.

@@ -5,7 +5,7 @@ use Rattle.chess_board.specs.declared.men.Colour.{Colour}
 use Rattle.chess_board.specs.declared.men.Colour.TheVariants.{White, Black}
 use Rattle.chess_board.specs.Squares.{file_of, rank_of, file_gap, rank_gap}
 use Rattle.chess_board.specs.Attacks.{is_forward}
-use Rattle.chess_board.specs.Candidates.{second_rank}
+use Rattle.chess_board.specs.PseudoLegal.{second_rank}
 use Rattle.chess_moves.specs.declared.directions.Leap.{Leap}
 use Rattle.chess_moves.specs.declared.directions.Leap.TheVariants.{KnightLeap, KingStep, WhiteCapture, BlackCapture, WhiteStep, BlackStep, WhiteDouble, BlackDouble}
 

@@ -8,7 +8,7 @@ use Rattle.chess_board.specs.declared.men.Man.{Man}
 use Rattle.chess_board.specs.Men.{is_of, man_of}
 use Rattle.chess_board.specs.Positions.{Setup, man_at}
 use Rattle.chess_board.specs.Moves.{Move}
-use Rattle.chess_board.specs.Candidates.{promotes}
+use Rattle.chess_board.specs.PseudoLegal.{promotes}
 use Rattle.chess_board.specs.Legality.{is_legal}
 use Rattle.chess_moves.specs.declared.move_generation.ManMoves.{ManMoves}
 use Rattle.chess_moves.specs.declared.move_generation.LegalMoves.TheInside.{Inside}

@@ -3,8 +3,8 @@ use Rattle.std.specs.Prelude.{◌≡◌, ℕ, ◌<◌, ◌+◌, ◌-◌, Bool, t
 use Rattle.square_sets.specs.Members.{has}
 use Rattle.chess_board.specs.declared.men.Colour.{Colour}
 use Rattle.chess_board.specs.declared.men.Colour.TheVariants.{White, Black}
-use Rattle.chess_board.specs.Candidates.{takes_in_passing}
 use Rattle.chess_board.specs.Positions.{Setup}
+use Rattle.chess_board.specs.EnPassant.{takes_en_passant}
 use Rattle.chess_moves.specs.declared.check_info.CheckInfo.{CheckInfo}
 
 -- There is a square so many numbers behind t.
@@ -33,4 +33,4 @@ third_rank Black = 5
 
 -- No pawn of the set can be pinned, and none captures en passant.
 abbrev pub AreFree : ℕ → CheckInfo → Setup → Type 0
-AreFree pawns info p = (o : ℕ) → o < 64 → has pawns o ≡ true → (has info.pin_squares o ≡ false) × ((t : ℕ) → t < 64 → takes_in_passing p info.side o t ≡ false)
+AreFree pawns info p = (o : ℕ) → o < 64 → has pawns o ≡ true → (has info.pin_squares o ≡ false) × ((t : ℕ) → t < 64 → takes_en_passant p info.side o t ≡ false)

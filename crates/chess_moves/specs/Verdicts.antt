@@ -2,9 +2,9 @@
 use Rattle.std.specs.Prelude.{Bool, length, ◌&&◌, not, nat_lt, if◌then◌else◌}
 use Rattle.chess_board.specs.Positions.{Setup}
 use Rattle.chess_board.specs.Attacks.{is_in_check}
+use Rattle.chess_board.specs.MakeMove.{after_setup}
 use Rattle.chess_moves.specs.declared.verdicts.Verdict.{Verdict}
 use Rattle.chess_moves.specs.declared.verdicts.Verdict.TheVariants.{Play, Mate, Stalemate}
-use Rattle.chess_board.specs.After.{after_setup}
 use Rattle.std.specs.List.{list_any}
 use Rattle.chess_moves.specs.Listing.{legal_moves}
 

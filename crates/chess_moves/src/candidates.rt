@@ -4,9 +4,11 @@ ghost use Rattle.std.specs.Prelude.{◌≡◌, ℕ, ◌<◌, false, ◌||◌};
 ghost use Rattle.square_sets.specs.Members.{has};
 ghost use Rattle.chess_board.specs.declared.men.Kind.TheVariants as kind;
 ghost use Rattle.chess_board.specs.Positions.{Setup};
-ghost use Rattle.chess_board.specs.Men.{other_side, king_home as king_home_of, rook_home as rook_home_of};
+ghost use Rattle.chess_board.specs.Men.{other_side};
 ghost use Rattle.chess_board.specs.Attacks.{is_attacked};
-ghost use Rattle.chess_board.specs.Candidates.{steps_once, steps_twice, takes, takes_in_passing, piece_goes, king_goal as king_goal_of, castles_to, castles};
+ghost use Rattle.chess_board.specs.PseudoLegal.{steps_once, steps_twice, takes, piece_goes};
+ghost use Rattle.chess_board.specs.Castling.{king_home as king_home_of, rook_home as rook_home_of, king_goal as king_goal_of, castles_to, castles};
+ghost use Rattle.chess_board.specs.EnPassant.{takes_en_passant};
 ghost use Rattle.chess_moves.specs.Directions.{stands_between};
 ghost use Rattle.chess_moves.specs.Hits.{hits_as};
 ghost use Rattle.chess_moves.specs.CheckInfo.{IsCheckInfoOf};
@@ -74,10 +76,10 @@ pub(crate) fn pawn_targets(
 }
 
 /// Where a pawn captures en passant: one square at most.
-pub(crate) fn passing_targets(rays: &Rays, position: &Position, man: Man, origin: u8) -> u64
+pub(crate) fn en_passant_targets(rays: &Rays, position: &Position, man: Man, origin: u8) -> u64
     requires on_board { origin < 64 }
     requires pawn { man.kind ≡ kind.Pawn }
-    ensures { (t : ℕ) → t < 64 → has result t ≡ takes_in_passing position.now man.colour origin t }
+    ensures { (t : ℕ) → t < 64 → has result t ≡ takes_en_passant position.now man.colour origin t }
 {
     match position.ep_target() {
         Some(target) => {
@@ -89,8 +91,8 @@ pub(crate) fn passing_targets(rays: &Rays, position: &Position, man: Man, origin
 }
 
 /// The squares from which the colour's pawns capture en passant: two at most.
-pub(crate) fn passing_origins(rays: &Rays, position: &Position, colour: Colour) -> u64
-    ensures { (o t : ℕ) → o < 64 → t < 64 → has result o ≡ false → takes_in_passing position.now colour o t ≡ false }
+pub(crate) fn en_passant_origins(rays: &Rays, position: &Position, colour: Colour) -> u64
+    ensures { (o t : ℕ) → o < 64 → t < 64 → has result o ≡ false → takes_en_passant position.now colour o t ≡ false }
 {
     match position.ep_target() {
         Some(target) => rays.leap(target.index() as u8, Leap::capture_back(colour)),

@@ -5,8 +5,8 @@ ghost use Rattle.std.specs.Prelude.{◌≡◌, ℕ, ◌<◌, true, false, not, �
 ghost use Rattle.square_sets.specs.Members.{has};
 ghost use Rattle.chess_board.specs.Legality.{is_legal};
 ghost use Rattle.chess_board.specs.Moves.{Move as MoveValue};
-ghost use Rattle.chess_board.specs.Candidates.{is_square};
 ghost use Rattle.chess_board.specs.Positions.{man_at};
+ghost use Rattle.chess_board.specs.EnPassant.{is_square};
 ghost use Rattle.chess_moves.specs.GivesCheck.{gives_check};
 ghost use Rattle.chess_moves.specs.CheckInfo.{IsCheckInfoOf};
 ghost use Rattle.chess_moves.specs.CheckSquares.{AreCheckSquaresOf, squares_of as squares_for, is_special as is_special_move};
@@ -127,14 +127,14 @@ pub(crate) fn special_squares(rays: &Rays, position: &Position, info: &CheckInfo
         → m.target < 64 → has result m.target ≡ false → is_special_move position.now man m ≡ false }
 {
     match man.kind {
-        Kind::Pawn => promotion_squares(man) | passed_square(position),
+        Kind::Pawn => promotion_squares(man) | en_passant_square(position),
         Kind::King => castling_targets(rays, position, info),
         Kind::Knight | Kind::Bishop | Kind::Rook | Kind::Queen => 0,
     }
 }
 
 /// The square that the last move's double step passed over, or none.
-fn passed_square(position: &Position) -> u64
+fn en_passant_square(position: &Position) -> u64
     ensures { (t : ℕ) → t < 64 → has result t ≡ is_square position.now.target t }
 {
     match position.ep_target() {

@@ -2,7 +2,7 @@
 
 ghost use Rattle.std.specs.Prelude.{◌≡◌, ℕ, ◌<◌, Bool, true, false, Some, IfSome};
 ghost use Rattle.square_sets.specs.Members.{has};
-ghost use Rattle.chess_board.specs.After.{after_setup};
+ghost use Rattle.chess_board.specs.MakeMove.{after_setup};
 ghost use Rattle.chess_board.specs.Legality.{is_legal};
 ghost use Rattle.chess_board.specs.Moves.{Move as MoveValue};
 ghost use Rattle.chess_board.specs.Positions.{man_at};

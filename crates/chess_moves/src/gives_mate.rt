@@ -3,8 +3,8 @@
 ghost use Rattle.std.specs.Prelude.{◌≡◌, ℕ, ◌<◌, true, Some, IfSome, filter};
 ghost use Rattle.std.specs.List.{list_any};
 ghost use Rattle.square_sets.specs.Members.{has};
-ghost use Rattle.chess_board.specs.After.{after_setup};
-ghost use Rattle.chess_board.specs.Candidates.{goes};
+ghost use Rattle.chess_board.specs.MakeMove.{after_setup};
+ghost use Rattle.chess_board.specs.PseudoLegal.{goes};
 ghost use Rattle.chess_board.specs.Legality.{is_legal};
 ghost use Rattle.chess_board.specs.Men.{is_of};
 ghost use Rattle.chess_board.specs.Positions.{man_at};
@@ -14,7 +14,7 @@ ghost use Rattle.chess_moves.specs.CheckInfo.{IsCheckInfoOf};
 ghost use Rattle.chess_moves.specs.CheckSquares.{AreCheckSquaresOf};
 ghost use Rattle.chess_moves.specs.Verdicts.{is_mate, has_mating_move as some_move_mates};
 
-use crate::candidates::{castling_targets, passing_targets, pawn_targets, piece_targets};
+use crate::candidates::{castling_targets, en_passant_targets, pawn_targets, piece_targets};
 use crate::check_info::{CheckInfo, check_info_of};
 use crate::check_squares::{CheckSquares, check_squares_of, check_targets};
 use crate::flights::{Flights, flights_once, squares_that_cover};
@@ -106,7 +106,7 @@ fn pseudo_legal_targets(
     match man.kind {
         Kind::Pawn => {
             pawn_targets(rays, position, info, man, origin)
-                | passing_targets(rays, position, man, origin)
+                | en_passant_targets(rays, position, man, origin)
         }
         Kind::King => {
             piece_targets(rays, position, info, man, origin)

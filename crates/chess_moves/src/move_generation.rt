@@ -3,7 +3,7 @@
 
 ghost use Rattle.std.specs.Prelude.{◌≡◌, ◌<◌, ◌≤◌, ◌∷◌, true, filter, length};
 ghost use Rattle.std.specs.Iterator.{YieldsFirst, item_count};
-ghost use Rattle.chess_board.specs.Candidates.{suits};
+ghost use Rattle.chess_board.specs.PseudoLegal.{suits};
 ghost use Rattle.chess_board.specs.Legality.{is_legal as is_legal_in};
 ghost use Rattle.chess_board.specs.Men.{is_of};
 ghost use Rattle.chess_board.specs.Positions.{man_at};

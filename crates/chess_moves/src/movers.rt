@@ -5,7 +5,7 @@ ghost use Rattle.std.specs.List.{flat_map};
 ghost use Rattle.square_sets.specs.Members.{has};
 ghost use Rattle.chess_board.specs.Men.{is_of};
 ghost use Rattle.chess_board.specs.Positions.{man_at};
-ghost use Rattle.chess_board.specs.Candidates.{promotes};
+ghost use Rattle.chess_board.specs.PseudoLegal.{promotes};
 ghost use Rattle.chess_moves.specs.Targets.{ways};
 ghost use Rattle.chess_moves.specs.MoveGeneration.{members};
 

@@ -12,7 +12,7 @@ ghost use Rattle.chess_moves.specs.MoveGeneration.{members, moves_of_men, HaveMe
 ghost use Rattle.chess_moves.specs.Plays.{plays};
 ghost use Rattle.chess_moves.specs.Shifts.{is_shifted, back, left_file as left_file_of, right_file as right_file_of, third_rank as third_rank_of, AreFree};
 
-use crate::candidates::passing_origins;
+use crate::candidates::en_passant_origins;
 use crate::check_info::{CheckInfo, check_info_of};
 use crate::move_generation::legal_moves;
 use crate::movers::count_ways;
@@ -78,7 +78,7 @@ fn count_pawns(rays: &Rays, position: &Position, info: &CheckInfo, pawns: u64) -
     ensures count { result ≡ length (moves_of_men position.now (members pawns)) }
     ensures few { result ≤ 1024 }
 {
-    let alone = pawns & (info.pin_squares | passing_origins(rays, position, info.side));
+    let alone = pawns & (info.pin_squares | en_passant_origins(rays, position, info.side));
     count_from(rays, position, info, Kind::Pawn, alone) + count_free_pawns(info, pawns & !alone)
 }
 

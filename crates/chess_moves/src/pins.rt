@@ -5,9 +5,8 @@ ghost use Rattle.square_sets.specs.Members.{has};
 ghost use Rattle.chess_board.specs.declared.men.Man.{Man as ManValue};
 ghost use Rattle.chess_board.specs.Squares.{some_square};
 ghost use Rattle.chess_board.specs.Men.{is_colour, is_of, other_side};
-ghost use Rattle.chess_board.specs.Positions.{Setup, man_at};
+ghost use Rattle.chess_board.specs.Positions.{Setup, man_at, moved, cleared};
 ghost use Rattle.chess_board.specs.Sets.{IsSetOf};
-ghost use Rattle.chess_board.specs.After.{moved, cleared};
 ghost use Rattle.chess_moves.specs.CheckInfo.{IsCheckInfoOf, gets_through};
 ghost use Rattle.chess_moves.specs.Directions.{sights_as_bishop, sights_as_rook};
 ghost use Rattle.chess_moves.specs.Forces.{StandFor};
@@ -50,7 +49,7 @@ pub(crate) fn is_safe_castled(
 }
 
 /// Whether the king is safe once a pawn captured another in passing, which stood on the square `passed`.
-pub(crate) fn is_safe_in_passing(
+pub(crate) fn is_safe_en_passant(
     rays: &Rays,
     info: &CheckInfo,
     origin: u8,

@@ -3,20 +3,21 @@
 ghost use Rattle.std.specs.Prelude.{◌≡◌, ℕ, ◌<◌, true, false, not, ◌&&◌, Some, None, filter, length, nat_lt};
 ghost use Rattle.square_sets.specs.Members.{has};
 ghost use Rattle.chess_board.specs.declared.men.Kind.TheVariants as kind;
-ghost use Rattle.chess_board.specs.Positions.{Setup, man_at};
-ghost use Rattle.chess_board.specs.Men.{rook_home as rook_home_of};
+ghost use Rattle.chess_board.specs.Positions.{Setup, man_at, cleared, moved};
 ghost use Rattle.chess_board.specs.KindTests.{is_king_kind, is_pawn_kind};
 ghost use Rattle.chess_board.specs.Attacks.{is_in_check};
-ghost use Rattle.chess_board.specs.Candidates.{goes, takes_in_passing};
-ghost use Rattle.chess_board.specs.After.{cleared, moved, passed_pawn, wing_of, men_after};
+ghost use Rattle.chess_board.specs.PseudoLegal.{goes};
+ghost use Rattle.chess_board.specs.MakeMove.{men_after};
 ghost use Rattle.chess_board.specs.Legality.{is_legal};
+ghost use Rattle.chess_board.specs.Castling.{rook_home as rook_home_of, wing_of};
+ghost use Rattle.chess_board.specs.EnPassant.{takes_en_passant, captured_pawn};
 ghost use Rattle.chess_moves.specs.Listing.{move_of, moves_to};
 ghost use Rattle.chess_moves.specs.CheckInfo.{IsCheckInfoOf};
 ghost use Rattle.chess_moves.specs.Targets.{AreTargets, IsTarget};
 
-use crate::candidates::{castling_targets, passing_targets, pawn_targets, piece_targets};
+use crate::candidates::{castling_targets, en_passant_targets, pawn_targets, piece_targets};
 use crate::check_info::CheckInfo;
-use crate::pins::{is_safe_castled, is_safe_in_passing, is_safe_step, legal_mask};
+use crate::pins::{is_safe_castled, is_safe_en_passant, is_safe_step, legal_mask};
 use crate::rays::Rays;
 use chess_board::{Colour, Kind, Man, Position};
 use square_sets::with;
@@ -119,26 +120,26 @@ fn targets_of_pawn(rays: &Rays, position: &Position, info: &CheckInfo, man: Man,
 {
     let allowed = legal_mask(rays, info, origin);
     pawn_targets(rays, position, info, man, origin) & allowed
-        | safe_in_passing(rays, position, info, man, origin)
+        | safe_en_passant(rays, position, info, man, origin)
 }
 
 /// Where the pawn captures en passant so that its king is safe afterwards: one square at most.
-fn safe_in_passing(rays: &Rays, position: &Position, info: &CheckInfo, man: Man, origin: u8) -> u64
+fn safe_en_passant(rays: &Rays, position: &Position, info: &CheckInfo, man: Man, origin: u8) -> u64
     requires on_board { origin < 64 }
     requires info { IsCheckInfoOf info.now position.now }
     requires there { man_at position.now.men origin ≡ Some man }
     requires own { man.colour ≡ position.now.side }
     requires pawn { man.kind ≡ kind.Pawn }
-    ensures { (t : ℕ) → t < 64 → has result t ≡ (takes_in_passing position.now man.colour origin t
-        && not (is_in_check (cleared (moved position.now.men origin t man) (passed_pawn origin t)) position.now.side)) }
+    ensures { (t : ℕ) → t < 64 → has result t ≡ (takes_en_passant position.now man.colour origin t
+        && not (is_in_check (cleared (moved position.now.men origin t man) (captured_pawn origin t)) position.now.side)) }
 {
-    let passing = passing_targets(rays, position, man, origin);
+    let passing = en_passant_targets(rays, position, man, origin);
     if passing == 0 {
         return 0;
     }
     let target = passing.trailing_zeros() as u8;
     let passed = 8 * (origin / 8) + target % 8;
-    if is_safe_in_passing(rays, info, origin, target, passed) {
+    if is_safe_en_passant(rays, info, origin, target, passed) {
         passing
     } else {
         0

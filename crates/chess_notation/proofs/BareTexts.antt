@@ -12,7 +12,7 @@ use Rattle.chess_board.specs.KindTests.{is_pawn_kind, is_king_kind}
 use Rattle.chess_board.specs.Positions.{Setup, man_at}
 use Rattle.chess_board.specs.Placement.{kind_letter}
 use Rattle.chess_board.specs.Moves.{Move}
-use Rattle.chess_board.specs.After.{is_castling, wing_of}
+use Rattle.chess_board.specs.Castling.{is_castling, wing_of}
 use Rattle.chess_moves.specs.Laws.{LegalListed}
 use Rattle.chess_notation.specs.SanText.{is_capture, pawn_text, wing_text, man_text, bare_text}
 use Rattle.chess_notation.specs.SanLaws.{BareTextsApart}

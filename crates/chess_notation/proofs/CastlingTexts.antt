@@ -10,13 +10,13 @@ use Rattle.chess_board.specs.declared.men.Wing.{Wing}
 use Rattle.chess_board.specs.declared.men.Wing.TheVariants.{KingSide, QueenSide}
 use Rattle.chess_board.specs.declared.men.Man.{Man}
 use Rattle.chess_board.specs.Moves.{Move}
-use Rattle.chess_board.specs.Squares.{file_gap}
+use Rattle.chess_board.specs.Squares.{file_gap, crossed}
 use Rattle.chess_board.specs.Positions.{Setup, man_at}
-use Rattle.chess_board.specs.Men.{other_side, is_of, has_right_of, king_home, rook_home}
+use Rattle.chess_board.specs.Men.{other_side, is_of, has_right_of}
 use Rattle.chess_board.specs.KindTests.{is_king_kind}
 use Rattle.chess_board.specs.Attacks.{is_clear, attacks_as, is_attacked}
-use Rattle.chess_board.specs.Candidates.{crossed, piece_goes, king_goal, castles_to, castles, goes}
-use Rattle.chess_board.specs.After.{is_castling, wing_of}
+use Rattle.chess_board.specs.PseudoLegal.{piece_goes, goes}
+use Rattle.chess_board.specs.Castling.{king_home, rook_home, king_goal, castles_to, castles, is_castling, wing_of}
 use Rattle.chess_notation.specs.SanText.{wing_text}
 
 king_near : (men : List (Option Man)) (colour : Colour) (a b : ℕ) → attacks_as men colour King a b ≡ true → eqb (file_gap a b) 2 ≡ false

@@ -10,7 +10,7 @@ use Rattle.chess_board.specs.KindTests.{is_pawn_kind}
 use Rattle.chess_board.specs.Positions.{Setup}
 use Rattle.chess_board.specs.Fields.{square_text}
 use Rattle.chess_board.specs.Moves.{Move}
-use Rattle.chess_board.specs.After.{is_castling, wing_of}
+use Rattle.chess_board.specs.Castling.{is_castling, wing_of}
 use Rattle.chess_moves.specs.Listing.{legal_moves}
 use Rattle.chess_moves.specs.Laws.{LegalListed}
 use Rattle.chess_notation.specs.SanText.{is_capture, pawn_origin_text, becomes_text, pawn_text, piece_text, wing_text, man_text, bare_text}

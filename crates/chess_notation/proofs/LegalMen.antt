@@ -7,7 +7,7 @@ use Rattle.chess_board.specs.declared.men.Man.{Man}
 use Rattle.chess_board.specs.Men.{is_colour}
 use Rattle.chess_board.specs.Positions.{Setup, man_at}
 use Rattle.chess_board.specs.Moves.{Move}
-use Rattle.chess_board.specs.Candidates.{goes, suits, man_may, is_candidate}
+use Rattle.chess_board.specs.PseudoLegal.{goes, suits, man_may, is_pseudo_legal}
 use Rattle.chess_board.specs.Legality.{is_safe, is_legal}
 use Rattle.chess_moves.specs.Listing.{legal_moves}
 use Rattle.chess_moves.specs.Laws.{LegalListed}
@@ -23,10 +23,10 @@ pub record IsPlayed (p : Setup) (m : Move) (man : Man) : Type 0 where
   pub goes : goes p man.colour man.kind m.origin m.target ≡ true
 
 pub played : LegalListed → (p : Setup) (m : Move) → Contains (legal_moves p) m → (man : Man) × IsPlayed p m man
-unfolding is_legal is_candidate
+unfolding is_legal is_pseudo_legal
 played law p m listed =
     let on = (law p m).0 listed in
-    let both = and_parts (is_candidate p m) (is_safe p m) on.2 in
+    let both = and_parts (is_pseudo_legal p m) (is_safe p m) on.2 in
     let may : man_may p (man_at p.men m.origin) m ≡ true = both.0 in
     (elim (man_at p.men m.origin) as (λ o. man_at p.men m.origin ≡ o → (man : Man) × IsPlayed p m man) [
       | None ↦ λ is. let never = rw is at may in cc

@@ -4,7 +4,7 @@ use Rattle.std.specs.List.{list_all}
 use Rattle.std.proofs.lemmas.Bool.{and_parts}
 use Rattle.chess_board.specs.Positions.{Setup}
 use Rattle.chess_board.specs.Moves.{Move}
-use Rattle.chess_board.specs.After.{after_setup}
+use Rattle.chess_board.specs.MakeMove.{after_setup}
 use Rattle.chess_moves.specs.Laws.{LegalListed, IsLine}
 use Rattle.chess_notation.specs.SanText.{san_text}
 use Rattle.chess_notation.specs.Operations.{is_printable, AreWordBytes, HaveNoQuote, Operation, entry_of}

@@ -6,11 +6,12 @@ use Rattle.chess_board.specs.declared.men.Colour.{Colour}
 use Rattle.chess_board.specs.declared.men.Colour.TheVariants.{White, Black}
 use Rattle.chess_board.specs.declared.men.Kind.TheVariants.{Pawn}
 use Rattle.chess_board.specs.declared.men.Man.{Man}
-use Rattle.chess_board.specs.Squares.{file_of, rank_of, file_gap}
+use Rattle.chess_board.specs.Squares.{file_of, rank_of, file_gap, crossed}
 use Rattle.chess_board.specs.Positions.{Setup, man_at, is_empty}
 use Rattle.chess_board.specs.Men.{other_side, is_of}
 use Rattle.chess_board.specs.Attacks.{is_forward, attacks_as}
-use Rattle.chess_board.specs.Candidates.{second_rank, crossed, is_square, steps_once, steps_twice, takes, takes_in_passing, pawn_goes}
+use Rattle.chess_board.specs.PseudoLegal.{second_rank, steps_once, steps_twice, takes, pawn_goes}
+use Rattle.chess_board.specs.EnPassant.{is_square, takes_en_passant}
 
 -- a double step, by what it asks
 record IsDouble (men : List (Option Man)) (colour : Colour) (a b : ℕ) : Type 0 where
@@ -46,7 +47,7 @@ pawn_steps p colour a b h =
     let once = steps_once p.men colour a b in
     let twice = steps_twice p.men colour a b in
     let taking = takes p.men colour Pawn a b in
-    let passing = takes_in_passing p colour a b in
+    let passing = takes_en_passant p colour a b in
     elim (or_cases (once || twice || taking) passing h) [
       | inr h ↦ inl (attack_forward p.men colour a b ((and_parts (attacks_as p.men colour Pawn a b) (is_square p.target b) h).0))
       | inl h ↦ elim (or_cases (once || twice) taking h) [
@@ -68,7 +69,7 @@ quiet_file p colour a b h empty unpassed =
     let once = steps_once p.men colour a b in
     let twice = steps_twice p.men colour a b in
     let taking = takes p.men colour Pawn a b in
-    let passing = takes_in_passing p colour a b in
+    let passing = takes_en_passant p colour a b in
     elim (or_cases (once || twice || taking) passing h) [
       | inr h ↦ let here = (and_parts (attacks_as p.men colour Pawn a b) (is_square p.target b) h).1 in cc
       | inl h ↦ elim (or_cases (once || twice) taking h) [

@@ -8,8 +8,9 @@ use Rattle.chess_board.specs.Squares.{file_of, rank_of}
 use Rattle.chess_board.specs.KindTests.{is_pawn_kind}
 use Rattle.chess_board.specs.Positions.{Setup, is_empty}
 use Rattle.chess_board.specs.Moves.{Move}
-use Rattle.chess_board.specs.Candidates.{suits, pawn_goes}
-use Rattle.chess_board.specs.After.{is_in_passing, is_castling, wing_of}
+use Rattle.chess_board.specs.PseudoLegal.{suits, pawn_goes}
+use Rattle.chess_board.specs.EnPassant.{is_en_passant}
+use Rattle.chess_board.specs.Castling.{is_castling, wing_of}
 use Rattle.chess_notation.specs.SanText.{is_capture, pawn_text, wing_text}
 use Rattle.chess_notation.proofs.LegalMen.{IsPlayed, move_same}
 use Rattle.chess_notation.proofs.TextBytes.{same_square}
@@ -27,7 +28,7 @@ unpromoted man b (Some made) piece suited = let never = rw piece at suited in cc
 -- Pawns.
 pawn_quiet : (p : Setup) (man : Man) (m : Move) → IsPlayed p m man → man.kind ≡ Pawn → is_capture p man m ≡ false → file_of m.origin ≡ file_of m.target
 pawn_quiet p man m by pawn quiet =
-    let parts = or_parts (not (is_empty p.men m.target)) (is_in_passing p man m) quiet in
+    let parts = or_parts (not (is_empty p.men m.target)) (is_en_passant p man m) quiet in
     quiet_file p man.colour m.origin m.target (rw pawn at by.goes) (not-false (is_empty p.men m.target) parts.0) (rw pawn at parts.1)
 
 -- The file that the pawn leaves is in the text, or is that of its target.

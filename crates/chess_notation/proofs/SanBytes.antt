@@ -14,9 +14,10 @@ use Rattle.chess_board.specs.Attacks.{is_in_check}
 use Rattle.chess_board.specs.Placement.{kind_letter}
 use Rattle.chess_board.specs.Fields.{square_text}
 use Rattle.chess_board.specs.Moves.{Move}
-use Rattle.chess_board.specs.After.{after_setup, is_castling, wing_of}
-use Rattle.chess_board.specs.Candidates.{man_may, is_candidate}
+use Rattle.chess_board.specs.MakeMove.{after_setup}
+use Rattle.chess_board.specs.PseudoLegal.{man_may, is_pseudo_legal}
 use Rattle.chess_board.specs.Legality.{is_safe, is_legal}
+use Rattle.chess_board.specs.Castling.{is_castling, wing_of}
 use Rattle.chess_moves.specs.Verdicts.{is_mate}
 use Rattle.chess_moves.specs.Laws.{IsLegalOnBoard}
 use Rattle.chess_notation.specs.SanText.{is_capture, pawn_origin_text, becomes_text, pawn_text, piece_text, wing_text, man_text, bare_text, suffix_text, san_text}
@@ -106,14 +107,14 @@ check_plain p =
 
 -- The text of a legal move is one word.
 pub san_plain : (p : Setup) (m : Move) → IsLegalOnBoard p m → IsPlainWord (san_text p m)
-unfolding san_text bare_text is_legal is_candidate
+unfolding san_text bare_text is_legal is_pseudo_legal
 san_plain p m h =
-    let may : man_may p (man_at p.men m.origin) m ≡ true = (and_parts (is_candidate p m) (is_safe p m) h.2).0 in
+    let may : man_may p (man_at p.men m.origin) m ≡ true = (and_parts (is_pseudo_legal p m) (is_safe p m) h.2).0 in
     IsPlainWord-left (man_text p (man_at p.men m.origin) m) (suffix_text (after_setup p m)) (man_plain p (man_at p.men m.origin) m h.0 h.1 may) (check_plain (after_setup p m))
 
 -- So it is without the suffix.
 pub bare_plain : (p : Setup) (m : Move) → IsLegalOnBoard p m → IsPlainWord (bare_text p m)
-unfolding bare_text is_legal is_candidate
+unfolding bare_text is_legal is_pseudo_legal
 bare_plain p m h =
-    let may : man_may p (man_at p.men m.origin) m ≡ true = (and_parts (is_candidate p m) (is_safe p m) h.2).0 in
+    let may : man_may p (man_at p.men m.origin) m ≡ true = (and_parts (is_pseudo_legal p m) (is_safe p m) h.2).0 in
     man_plain p (man_at p.men m.origin) m h.0 h.1 may

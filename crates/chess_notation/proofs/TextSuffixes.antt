@@ -8,8 +8,9 @@ use Rattle.chess_board.specs.KindTests.{is_pawn_kind}
 use Rattle.chess_board.specs.Positions.{Setup, man_at}
 use Rattle.chess_board.specs.Moves.{Move}
 use Rattle.chess_board.specs.Placement.{kind_letter}
-use Rattle.chess_board.specs.After.{is_castling, wing_of, after_setup}
+use Rattle.chess_board.specs.MakeMove.{after_setup}
 use Rattle.chess_board.specs.Attacks.{is_in_check}
+use Rattle.chess_board.specs.Castling.{is_castling, wing_of}
 use Rattle.chess_moves.specs.Verdicts.{is_mate}
 use Rattle.chess_notation.specs.SanText.{is_capture, pawn_text, piece_text, wing_text, man_text, bare_text, suffix_text, san_text}
 use Rattle.chess_notation.proofs.TextBytes.{unmarked, kind_unmarked}

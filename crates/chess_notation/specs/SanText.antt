@@ -1,24 +1,26 @@
 -- How a move is written: Standard Algebraic Notation (PGN Specification, section 8.2.3; FIDE Laws of Chess, appendix C).
 use Rattle.std.specs.Prelude.{ℕ, List, [], ◌∷◌, ◌++◌, codes, Option, Some, None, Bool, ◌||◌, not, if◌then◌else◌}
 use Rattle.chess_board.specs.Characters.{char}
-use Rattle.chess_board.specs.declared.men.Kind.{Kind}
-use Rattle.chess_board.specs.declared.men.Kind.TheVariants.{Pawn}
-use Rattle.chess_board.specs.declared.men.Man.{Man}
-use Rattle.chess_board.specs.declared.men.Wing.{Wing}
-use Rattle.chess_board.specs.declared.men.Wing.TheVariants.{KingSide, QueenSide}
 use Rattle.chess_board.specs.Men.{is_kind}
 use Rattle.chess_board.specs.Positions.{Setup, man_at, is_empty}
 use Rattle.chess_board.specs.Placement.{kind_letter}
 use Rattle.chess_board.specs.Fields.{square_text}
 use Rattle.chess_board.specs.Moves.{Move}
-use Rattle.chess_board.specs.After.{is_in_passing, is_castling, wing_of, after_setup}
+use Rattle.chess_board.specs.MakeMove.{after_setup}
 use Rattle.chess_board.specs.Attacks.{is_in_check}
+use Rattle.chess_board.specs.EnPassant.{is_en_passant}
+use Rattle.chess_board.specs.Castling.{is_castling, wing_of}
+use Rattle.chess_board.specs.declared.men.Kind.{Kind}
+use Rattle.chess_board.specs.declared.men.Kind.TheVariants.{Pawn}
+use Rattle.chess_board.specs.declared.men.Man.{Man}
+use Rattle.chess_board.specs.declared.men.Wing.{Wing}
+use Rattle.chess_board.specs.declared.men.Wing.TheVariants.{KingSide, QueenSide}
 use Rattle.chess_moves.specs.Verdicts.{is_mate}
 use Rattle.chess_notation.specs.Disambiguation.{file_letter, disambiguation_text}
 
 -- A man stands on the target, or a pawn captures in passing (section 8.2.3.3).
 abbrev pub is_capture : Setup → Man → Move → Bool
-is_capture p man m = not (is_empty p.men m.target) || is_in_passing p man m
+is_capture p man m = not (is_empty p.men m.target) || is_en_passant p man m
 
 -- A pawn has no letter. Its capture begins with the file that it leaves.
 abbrev pub pawn_origin_text : Setup → Man → Move → List ℕ

@@ -2,57 +2,20 @@
 
 ghost use Rattle.std.specs.Prelude.{◌≡◌, ◌+◌, ◌++◌, ◌<◌, ◌≤◌, true};
 ghost use Rattle.arrayvec.specs.ArrayString.{array_string_len};
-ghost use Rattle.chess_board.specs.After.{is_in_passing as is_in_passing_in, is_castling as is_castling_in, wing_of as wing_from};
-ghost use Rattle.chess_board.specs.Candidates.{is_square as is_square_in};
 ghost use Rattle.chess_board.specs.Legality.{is_legal};
 ghost use Rattle.chess_notation.specs.SanText.{is_capture as is_capture_in, pawn_text, piece_text, wing_text, bare_text, suffix_text, san_text};
 
 use crate::disambiguation::{push_disambiguation, rivals_among};
 use crate::san_parts::{push_file, push_letter, push_promotion, push_square};
 use arrayvec::ArrayString;
-use chess_board::{Kind, Man, Move, Position, Square, Wing, after};
+use chess_board::{Kind, Man, Move, Position, Wing, after, is_castling, is_en_passant, wing_of};
 use chess_moves::{Rays, Verdict, legal, verdict};
-
-/// Whether the target, if there is one, is this square.
-fn is_square(target: &Option<Square>, square: Square) -> bool
-    ensures { result ≡ is_square_in target.now square }
-{
-    match target {
-        Some(target) => *target == square,
-        None => false,
-    }
-}
-
-/// Whether a pawn goes to the en passant target.
-fn is_in_passing(position: &Position, man: Man, m: Move) -> bool
-    ensures { result ≡ is_in_passing_in position.now man m }
-{
-    man.kind == Kind::Pawn && is_square(&position.ep_target(), m.target)
-}
 
 /// Whether the move captures: a man on its target, or a pawn en passant.
 fn is_capture(position: &Position, man: Man, m: Move) -> bool
     ensures { result ≡ is_capture_in position.now man m }
 {
-    position.man(m.target).is_some() || is_in_passing(position, man, m)
-}
-
-/// Whether a king goes two files.
-fn is_castling(man: Man, m: Move) -> bool
-    ensures { result ≡ is_castling_in man m }
-{
-    man.kind == Kind::King && m.origin.file().abs_diff(m.target.file()) == 2
-}
-
-/// The wing towards which a king goes.
-fn wing_of(origin: Square, target: Square) -> Wing
-    ensures { result ≡ wing_from origin target }
-{
-    if origin.index() < target.index() {
-        Wing::KingSide
-    } else {
-        Wing::QueenSide
-    }
+    position.man(m.target).is_some() || is_en_passant(position, man, m)
 }
 
 /// Writes a pawn's move. Its capture begins with the file that it leaves.

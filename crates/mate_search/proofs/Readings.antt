@@ -6,7 +6,7 @@ use Rattle.std.proofs.lemmas.Bool.Decides.{nat_tests}
 use Rattle.std.proofs.lemmas.List.Elements.{filter_passes, All-filter, All-contains, All-contains_itself}
 use Rattle.chess_board.specs.Positions.{Setup}
 use Rattle.chess_board.specs.Moves.{Move}
-use Rattle.chess_board.specs.After.{after_setup}
+use Rattle.chess_board.specs.MakeMove.{after_setup}
 use Rattle.chess_moves.specs.Listing.{legal_moves}
 use Rattle.chess_moves.specs.Verdicts.{has_legal_move, is_mate}
 use Rattle.mate_search.specs.Wins.{win, leaves_lost}

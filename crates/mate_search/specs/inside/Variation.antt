@@ -3,7 +3,7 @@ use Rattle.std.specs.Prelude.{ℕ, zero, suc, ◌-◌, not, List, [], ◌∷◌,
 use Rattle.std.specs.Option.{option_map_or}
 use Rattle.chess_board.specs.Positions.{Setup}
 use Rattle.chess_board.specs.Moves.{Move}
-use Rattle.chess_board.specs.After.{after_setup}
+use Rattle.chess_board.specs.MakeMove.{after_setup}
 use Rattle.chess_moves.specs.Listing.{legal_moves}
 use Rattle.mate_search.specs.Wins.{win, leaves_lost}
 

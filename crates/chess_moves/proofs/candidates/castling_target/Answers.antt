@@ -2,9 +2,10 @@ use Rattle.std.proofs.Common.{◌≡◌, ℕ, ◌+◌, ◌/◌, true, false, eqb
 use Rattle.std.specs.Int.RustNames.{bit_and}
 use Rattle.std.proofs.lemmas.Bool.{false_from_ne_true, ne_eqb, eq-eqb, eqb-true, eqb-false}
 use Rattle.chess_board.specs.declared.men.Colour.{Colour}
-use Rattle.chess_board.specs.Men.{other_side, king_home, rook_home, has_right_of}
+use Rattle.chess_board.specs.Men.{other_side, has_right_of}
 use Rattle.chess_board.specs.Attacks.{is_clear, is_attacked}
-use Rattle.chess_board.specs.Candidates.{crossed, king_goal, castles_to}
+use Rattle.chess_board.specs.Castling.{king_home, rook_home, king_goal, castles_to}
+use Rattle.chess_board.specs.Squares.{crossed}
 use Rattle.chess_moves.proofs.SetParts.{has_none, only_one}
 use Rattle.chess_moves.proofs.CastlingWays.{castles_says, castles_from, clear_way}
 use Rattle.chess_moves.proofs.candidates.castling_target.Goals as goal

@@ -2,8 +2,7 @@ use Rattle.std.proofs.Common.{refl, sym, ap, ◌∙◌}
 use Rattle.std.proofs.lemmas.Bool.{false_from_ne_true}
 use Rattle.chess_board.specs.declared.men.Wing.{Wing}
 use Rattle.chess_board.specs.declared.men.Wing.TheVariants.{KingSide, QueenSide}
-use Rattle.chess_board.specs.Candidates.{castles_to}
-use Rattle.chess_board.specs.Men.{king_home}
+use Rattle.chess_board.specs.Castling.{castles_to, king_home}
 use Rattle.chess_moves.proofs.CastlingWays.{castles_says}
 use Rattle.chess_moves.proofs.SetParts.{joined, has_none}
 use Rattle.chess_moves.proofs.candidates.castling_targets.Goals as goal

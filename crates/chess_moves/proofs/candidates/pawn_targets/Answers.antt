@@ -6,7 +6,7 @@ use Rattle.std.proofs.lemmas.Nat.{and_le_l}
 use Rattle.square_sets.specs.Members.{has}
 use Rattle.chess_board.specs.Sets.{IsSetOf}
 use Rattle.chess_board.specs.Men.{is_of}
-use Rattle.chess_board.specs.Candidates.{steps_once}
+use Rattle.chess_board.specs.PseudoLegal.{steps_once}
 use Rattle.chess_moves.specs.declared.directions.Leap.{Leap}
 use Rattle.chess_moves.specs.Leaps.{leaps}
 use Rattle.chess_moves.proofs.AnyLemmas.{any_some}

@@ -8,9 +8,9 @@ use Rattle.chess_moves.proofs.check_squares.special_squares.Goals as goal
 pub returns-in-Pawn : goal.returns-in-Pawn
 returns-in-Pawn c = λ m legal there on t none.
     let last = c.promotion_squares.result in
-    let passed = c.passed_square.result in
+    let passed = c.en_passant_square.result in
     let both = or_parts (has last m.target) (has passed m.target) (sym (has_or last passed m.target) ∙ none) in
-    plain_pawn c.args.position.now c.args.man m legal there c.in-Pawn.is (sym (c.promotion_squares.ensures m.target t) ∙ both.0) (sym (c.passed_square.ensures m.target t) ∙ both.1)
+    plain_pawn c.args.position.now c.args.man m legal there c.in-Pawn.is (sym (c.promotion_squares.ensures m.target t) ∙ both.0) (sym (c.en_passant_square.ensures m.target t) ∙ both.1)
 
 pub returns-in-King : goal.returns-in-King
 returns-in-King c = λ m legal there on t none.

@@ -2,7 +2,7 @@ use Rattle.std.proofs.Common.{◌≡◌, refl, ℕ, ◌<◌, true, false, ◌&&�
 use Rattle.std.specs.Int.{trailing_zeros}
 use Rattle.std.proofs.lemmas.Bool.{or_parts, and_parts}
 use Rattle.square_sets.specs.Members.{has}
-use Rattle.chess_board.specs.After.{after_setup}
+use Rattle.chess_board.specs.MakeMove.{after_setup}
 use Rattle.chess_board.specs.Positions.{man_at}
 use Rattle.chess_moves.specs.Flights.{leaves_flight}
 use Rattle.chess_moves.specs.Verdicts.{is_mate}

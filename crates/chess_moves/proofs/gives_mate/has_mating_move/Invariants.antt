@@ -1,6 +1,6 @@
 use Rattle.std.proofs.Common.{◌≡◌}
 use Rattle.std.specs.List.{list_any}
-use Rattle.chess_board.specs.After.{after_setup}
+use Rattle.chess_board.specs.MakeMove.{after_setup}
 use Rattle.std.specs.Option.{IfSome}
 use Rattle.chess_moves.specs.Flights.{AreFlightsOf}
 use Rattle.chess_moves.specs.Listing.{legal_moves}

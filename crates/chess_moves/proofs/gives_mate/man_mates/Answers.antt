@@ -1,6 +1,6 @@
 use Rattle.std.proofs.Common.{sym, ap, ◌∙◌, arith, bit_and}
 use Rattle.std.specs.List.{list_any, list_all}
-use Rattle.chess_board.specs.After.{after_setup}
+use Rattle.chess_board.specs.MakeMove.{after_setup}
 use Rattle.chess_board.specs.Legality.{is_legal}
 use Rattle.chess_moves.specs.Verdicts.{is_mate}
 use Rattle.chess_moves.specs.MoveGeneration.{members}

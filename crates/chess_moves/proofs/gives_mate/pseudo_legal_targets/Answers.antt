@@ -1,6 +1,6 @@
 use Rattle.std.proofs.Common.{sym, ap, ◌∙◌}
 use Rattle.chess_board.specs.declared.men.Kind.TheVariants.{King}
-use Rattle.chess_board.specs.Candidates.{goes}
+use Rattle.chess_board.specs.PseudoLegal.{goes}
 use Rattle.chess_moves.proofs.KingTargets.{king_origin, king_goals}
 use Rattle.chess_moves.proofs.PieceTargets.{goes_as_piece}
 use Rattle.chess_moves.proofs.SetBits.{has_or}
@@ -12,7 +12,7 @@ returns-in-Pawn c = λ t l gone.
     let p = c.args.position.now in
     let man = c.args.man in
     let o = c.args.origin in
-    rw (has_or c.pawn_targets.result c.passing_targets.result t, c.pawn_targets.ensures t l, c.passing_targets.ensures t l)
+    rw (has_or c.pawn_targets.result c.en_passant_targets.result t, c.pawn_targets.ensures t l, c.en_passant_targets.ensures t l)
     (ap (λ kind. goes p man.colour kind o t) (sym c.in-Pawn.is) ∙ gone)
 
 pub returns-in-King : goal.returns-in-King

@@ -1,6 +1,6 @@
 use Rattle.std.proofs.Common.{◌≡◌, ◌≤◌, ◌+◌, ◌*◌, ◌-◌, ◌^◌, true, length}
 use Rattle.std.specs.List.{sum_by, list_all}
-use Rattle.chess_board.specs.After.{after_setup}
+use Rattle.chess_board.specs.MakeMove.{after_setup}
 use Rattle.chess_board.specs.Legality.{is_legal}
 use Rattle.chess_moves.specs.Plays.{plays}
 use Rattle.chess_moves.proofs.perft_count.+count_plays.Given as goal

@@ -12,20 +12,20 @@ use Rattle.chess_moves.proofs.perft_count.count_pawns.Goals as goal
 
 pub count_from-requires-clause-men : goal.count_from-requires-clause-men
 count_from-requires-clause-men c = λ s l on.
-    c.requires.men s l ((and_parts (has c.args.pawns s) (has (bit_or c.args.info.now.pin_squares c.passing_origins.result) s) (sym (has_and c.args.pawns (bit_or c.args.info.now.pin_squares c.passing_origins.result) s) ∙ on)).0)
+    c.requires.men s l ((and_parts (has c.args.pawns s) (has (bit_or c.args.info.now.pin_squares c.en_passant_origins.result) s) (sym (has_and c.args.pawns (bit_or c.args.info.now.pin_squares c.en_passant_origins.result) s) ∙ on)).0)
 
 pub returns-clause-count : goal.returns-clause-count
 returns-clause-count c =
     let p = c.args.position.now in
     let pawns : ℕ = c.args.pawns in
-    let held : ℕ = bit_or c.args.info.now.pin_squares c.passing_origins.result in
+    let held : ℕ = bit_or c.args.info.now.pin_squares c.en_passant_origins.result in
     let alone : ℕ = bit_and pawns held in
     let rest : ℕ = bit_and pawns (bit_not w64 alone) in
     let fits : alone < 2 ^ 64 = omega (arith, and_le_l pawns held) in
-    let men : HaveMenOf Pawn rest p = λ s l on. c.requires.men s l ((rest_of_set pawns c.args.info.now.pin_squares c.passing_origins.result s fits l on).0) in
+    let men : HaveMenOf Pawn rest p = λ s l on. c.requires.men s l ((rest_of_set pawns c.args.info.now.pin_squares c.en_passant_origins.result s fits l on).0) in
     let free : AreFree rest c.args.info.now p = λ o l on.
-    let q = rest_of_set pawns c.args.info.now.pin_squares c.passing_origins.result o fits l on in
-    (q.1, λ t k. c.passing_origins.ensures o t l k q.2) in
+    let q = rest_of_set pawns c.args.info.now.pin_squares c.en_passant_origins.result o fits l on in
+    (q.1, λ t k. c.en_passant_origins.ensures o t l k q.2) in
     omega (
       arith,
       c.count_from.ensures.count,

@@ -5,7 +5,7 @@ use Rattle.std.specs.Prelude.{nat_lt, List, Some}
 use Rattle.std.proofs.lemmas.Bool.{and_from}
 use Rattle.chess_board.specs.declared.men.Kind.TheVariants.{King}
 use Rattle.chess_board.specs.declared.men.Man.{Man}
-use Rattle.chess_board.specs.Candidates.{goes}
+use Rattle.chess_board.specs.PseudoLegal.{goes}
 use Rattle.chess_board.specs.Men.{man_of}
 use Rattle.chess_board.specs.Moves.{Move}
 use Rattle.chess_board.specs.Positions.{man_at}

@@ -1,8 +1,7 @@
 use Rattle.std.proofs.Common.{◌≡◌, eqb, true, false, not, arith, refl, sym, ap, ◌∙◌}
 use Rattle.std.proofs.lemmas.Bool.{eq-eqb, ne_eqb}
 use Rattle.chess_board.specs.Squares.{file_gap}
-use Rattle.chess_board.specs.Men.{rook_home}
-use Rattle.chess_board.specs.After.{rook, wing_of}
+use Rattle.chess_board.specs.Castling.{rook_home, rook, wing_of}
 use Rattle.chess_moves.proofs.OwnColours.{other_colour}
 use Rattle.chess_moves.proofs.KingTargets.{king, castling_rook, in_check_castled, in_check_stepped}
 use Rattle.chess_moves.proofs.targets.is_king_safe.Goals as goal

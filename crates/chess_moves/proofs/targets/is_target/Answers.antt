@@ -1,6 +1,6 @@
 use Rattle.std.proofs.Common.{◌≡◌, ℕ, true, false, ◌&&◌, sym, ap, ◌∙◌}
 use Rattle.chess_board.specs.declared.men.Kind.TheVariants.{King}
-use Rattle.chess_board.specs.Candidates.{goes}
+use Rattle.chess_board.specs.PseudoLegal.{goes}
 use Rattle.chess_moves.proofs.KeptWays.{ways_kept}
 use Rattle.chess_moves.proofs.KingTargets.{safe_at, king_origin, king_goals, king_goes_safely}
 use Rattle.chess_moves.proofs.targets.is_target.Goals as goal

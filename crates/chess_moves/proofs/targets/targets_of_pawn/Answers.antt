@@ -1,6 +1,6 @@
 use Rattle.std.proofs.Common.{bit_and, ◌∙◌}
 use Rattle.square_sets.specs.Members.{has}
-use Rattle.chess_board.specs.After.{becomes}
+use Rattle.chess_board.specs.MakeMove.{becomes}
 use Rattle.chess_moves.proofs.SetBits.{has_and, has_or}
 use Rattle.chess_moves.proofs.OwnColours.{other_colour, own_not_other}
 use Rattle.chess_moves.proofs.OtherMen.{becomes_colour}
@@ -20,5 +20,5 @@ returns c =
     targets_where_safe p man o _ r.there r.own (λ t x on suited.
     let own = other_colour (becomes man x).colour p.side (becomes_colour man x ∙ r.own) in
     let safe = c.legal_mask-allowed.ensures p (becomes man x) h (own_not_other p man o r.there r.own) own t on in
-    rw (has_or (bit_and plain free) c.safe_in_passing.result t, has_and plain free t, c.pawn_targets.ensures t on, c.safe_in_passing.ensures t on)
+    rw (has_or (bit_and plain free) c.safe_en_passant.result t, has_and plain free t, c.pawn_targets.ensures t on, c.safe_en_passant.ensures t on)
     (pawn_goes_safely c.args.info.now p man o t x (has free t) h r.there r.own r.pawn suited safe))

@@ -1,6 +1,6 @@
 use Rattle.std.proofs.Common.{◌∙◌}
 use Rattle.square_sets.specs.Members.{has}
-use Rattle.chess_board.specs.After.{becomes}
+use Rattle.chess_board.specs.MakeMove.{becomes}
 use Rattle.chess_moves.proofs.SetBits.{has_and}
 use Rattle.chess_moves.proofs.OwnColours.{other_colour, own_not_other}
 use Rattle.chess_moves.proofs.OtherMen.{becomes_colour}

@@ -1,5 +1,5 @@
 use Rattle.std.proofs.Common.{◌≡◌, take, not, find, None}
-use Rattle.chess_board.specs.After.{after_setup}
+use Rattle.chess_board.specs.MakeMove.{after_setup}
 use Rattle.mate_search.specs.Wins.{win}
 use Rattle.mate_search.proofs.principal_variation.longest_defence.Given as goal
 

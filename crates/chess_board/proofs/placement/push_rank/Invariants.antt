@@ -1,6 +1,6 @@
 use Rattle.std.proofs.Common.{◌≡◌, ◌≤◌, ◌+◌, ◌++◌, length, drop}
 use Rattle.chess_board.specs.Placement.{rank_text_after, rank_text}
-use Rattle.chess_board.proofs.ranks.push_rank.Given as goal
+use Rattle.chess_board.proofs.placement.push_rank.Given as goal
 
 abbrev pub invariant-loop-place : goal.invariant-loop-place
 invariant-loop-place l = record {

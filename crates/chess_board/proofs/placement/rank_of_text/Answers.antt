@@ -1,7 +1,7 @@
 use Rattle.std.proofs.Common.{refl, arith, sym, ◌≡◌, ◌≢◌, ◌∙◌, length}
 use Rattle.std.proofs.lemmas.Bool.Decides.{nat_tests}
 use Rattle.chess_board.proofs.RankSteps.{two_runs, long_run, no_man, one_too_many, whole, too_short}
-use Rattle.chess_board.proofs.ranks.rank_of_text.Goals as goal
+use Rattle.chess_board.proofs.placement.rank_of_text.Goals as goal
 
 pub returns-then-after_digit-clause-none : goal.returns-then-after_digit-clause-none
 returns-then-after_digit-clause-none c = two_runs _ _ _ _ _ c.loop-byte.invariant c.loop-byte-test.true refl (cc) c.if-after_digit.true

@@ -1,8 +1,8 @@
 use Rattle.std.proofs.Common.{◌≡◌, Some, sym, ◌∙◌, refl, ap}
 use Rattle.chess_board.specs.Positions.{man_at}
-use Rattle.chess_board.specs.After.{after_setup}
+use Rattle.chess_board.specs.MakeMove.{after_setup}
 use Rattle.chess_board.proofs.AfterSound.{sound_legal, legal_man}
-use Rattle.chess_board.proofs.making.after.Goals as goal
+use Rattle.chess_board.proofs.make_move.after.Goals as goal
 
 pub new-requires : goal.new-requires
 new-requires c =

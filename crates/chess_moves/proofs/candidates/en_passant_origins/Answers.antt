@@ -2,19 +2,19 @@ use Rattle.std.proofs.Common.{◌≡◌, ℕ, Option, Some, true, ap, ◌∙◌}
 use Rattle.std.proofs.lemmas.Bool.{and_parts, eqb-true, false_from_ne_true}
 use Rattle.square_sets.specs.Members.{has}
 use Rattle.chess_board.specs.Attacks.{attacks_as}
-use Rattle.chess_board.specs.Candidates.{is_square, takes_in_passing}
+use Rattle.chess_board.specs.EnPassant.{is_square, takes_en_passant}
 use Rattle.chess_board.specs.declared.men.Kind.TheVariants.{Pawn}
 use Rattle.chess_moves.specs.declared.directions.Leap.{Leap}
 use Rattle.chess_moves.specs.Leaps.{leaps, capture_back}
 use Rattle.chess_moves.proofs.Geometry.{capture_mirrored}
 use Rattle.chess_moves.proofs.PawnSets.{capture_leap}
-use Rattle.chess_moves.proofs.candidates.passing_origins.Goals as goal
+use Rattle.chess_moves.proofs.candidates.en_passant_origins.Goals as goal
 
 pub returns-in-Some : goal.returns-in-Some
 returns-in-Some c = λ o t o_on on unseen.
     let p = c.args.position.now in
     let by = c.args.colour in
-    false_from_ne_true (takes_in_passing p by o t) (λ goes.
+    false_from_ne_true (takes_en_passant p by o t) (λ goes.
     let both = and_parts (attacks_as p.men by Pawn o t) (is_square p.target t) goes in
     let target : is_square (Some c.in-Some.target) t ≡ is_square p.target t = ap (λ (target : Option ℕ). is_square target t) c.in-Some.ensures.target in
     let same : c.index.result ≡ t = c.index.ensures.number ∙ eqb-true c.in-Some.target t (target ∙ both.1) in

@@ -1,12 +1,12 @@
 use Rattle.std.proofs.Common.{◌≡◌, ℕ, eqb, Option, Some, ap, ◌∙◌}
-use Rattle.chess_board.specs.Candidates.{is_square}
 use Rattle.chess_board.specs.Attacks.{attacks_as}
+use Rattle.chess_board.specs.EnPassant.{is_square}
 use Rattle.chess_board.specs.declared.men.Kind.TheVariants.{Pawn}
 use Rattle.chess_moves.specs.declared.directions.Leap.{Leap}
 use Rattle.chess_moves.specs.Leaps.{leaps}
 use Rattle.chess_moves.proofs.SetParts.{part, only_one}
 use Rattle.chess_moves.proofs.PawnSets.{capture_leap}
-use Rattle.chess_moves.proofs.candidates.passing_targets.Goals as goal
+use Rattle.chess_moves.proofs.candidates.en_passant_targets.Goals as goal
 
 pub returns-in-Some : goal.returns-in-Some
 returns-in-Some c = λ t l.

@@ -1,17 +1,17 @@
--- What the rules allow each kind of man, whatever becomes of its king (FIDE Laws of Chess, articles 3.1 to 3.8).
-use Rattle.std.specs.Prelude.{ℕ, ◌+◌, ◌/◌, List, Option, Some, None, Bool, true, false, ◌&&◌, ◌||◌, not, ◌==◌}
+-- Pseudo-legal moves: what the rules allow each kind of man, whatever becomes of its king (FIDE Laws of Chess, articles 3.1 to 3.8).
+use Rattle.std.specs.Prelude.{ℕ, List, Option, Some, None, Bool, true, false, ◌&&◌, ◌||◌, not, ◌==◌}
 use Rattle.chess_board.specs.declared.men.Colour.{Colour}
 use Rattle.chess_board.specs.declared.men.Colour.TheVariants.{White, Black}
 use Rattle.chess_board.specs.declared.men.Kind.{Kind}
 use Rattle.chess_board.specs.declared.men.Kind.TheVariants.{Pawn, King}
-use Rattle.chess_board.specs.declared.men.Wing.{Wing}
-use Rattle.chess_board.specs.declared.men.Wing.TheVariants.{KingSide, QueenSide}
 use Rattle.chess_board.specs.declared.men.Man.{Man}
 use Rattle.chess_board.specs.Moves.{Move}
-use Rattle.chess_board.specs.Squares.{file_of, rank_of}
+use Rattle.chess_board.specs.Squares.{file_of, rank_of, crossed}
 use Rattle.chess_board.specs.Positions.{Setup, man_at, is_empty}
-use Rattle.chess_board.specs.Men.{other_side, is_colour, is_of, is_kind, has_right_of, king_home, rook_home}
-use Rattle.chess_board.specs.Attacks.{is_forward, is_clear, attacks_as, is_attacked}
+use Rattle.chess_board.specs.Men.{other_side, is_colour, is_of, is_kind}
+use Rattle.chess_board.specs.Attacks.{is_forward, attacks_as}
+use Rattle.chess_board.specs.Castling.{castles}
+use Rattle.chess_board.specs.EnPassant.{takes_en_passant}
 
 -- the rank on which a colour's pawns start, and the one on which they become other men
 abbrev pub second_rank : Colour → ℕ
@@ -21,15 +21,6 @@ second_rank Black = 6
 abbrev pub last_rank : Colour → ℕ
 last_rank White = 7
 last_rank Black = 0
-
--- the square in the middle of a double step, and the one that a castling king crosses
-abbrev pub crossed : ℕ → ℕ → ℕ
-crossed a b = (a + b) / 2
-
--- whether the target, if there is one, is this square
-abbrev pub is_square : Option ℕ → ℕ → Bool
-is_square None square = false
-is_square (Some target) square = target == square
 
 -- A pawn steps to the square in front of it, which is empty (article 3.7.1).
 abbrev pub steps_once : List (Option Man) → Colour → ℕ → ℕ → Bool
@@ -44,36 +35,13 @@ steps_twice men colour a b =
 abbrev pub takes : List (Option Man) → Colour → Kind → ℕ → ℕ → Bool
 takes men colour kind a b = attacks_as men colour kind a b && is_of (other_side colour) (man_at men b)
 
--- A pawn captures en passant where it attacks the square that a double step has just passed over (article 3.7).
-abbrev pub takes_in_passing : Setup → Colour → ℕ → ℕ → Bool
-takes_in_passing p colour a b = attacks_as p.men colour Pawn a b && is_square p.target b
-
 abbrev pub pawn_goes : Setup → Colour → ℕ → ℕ → Bool
 pawn_goes p colour a b =
-    steps_once p.men colour a b || steps_twice p.men colour a b || takes p.men colour Pawn a b || takes_in_passing p colour a b
+    steps_once p.men colour a b || steps_twice p.men colour a b || takes p.men colour Pawn a b || takes_en_passant p colour a b
 
 -- Any other man goes where it attacks, but not to a man of its own (articles 3.1 to 3.6 and 3.8.1).
 abbrev pub piece_goes : Setup → Colour → Kind → ℕ → ℕ → Bool
 piece_goes p colour kind a b = attacks_as p.men colour kind a b && not (is_of colour (man_at p.men b))
-
--- where the king goes that castles: g1, c1, g8 or c8
-abbrev pub king_goal : Colour → Wing → ℕ
-king_goal White KingSide = 6
-king_goal White QueenSide = 2
-king_goal Black KingSide = 62
-king_goal Black QueenSide = 58
-
--- The king castles on a wing while it has the right, no man stands between it and the rook, and neither the square on which it
--- stands, nor the one that it crosses, nor the one that it reaches is attacked (article 3.8.2).
-abbrev pub castles_to : Setup → Colour → Wing → ℕ → ℕ → Bool
-castles_to p colour wing a b =
-    has_right_of p.rights colour wing && (a == king_home colour) && (b == king_goal colour wing)
-    && is_clear p.men a (rook_home colour wing)
-    && not (is_attacked p.men a (other_side colour)) && not (is_attacked p.men (crossed a b) (other_side colour))
-    && not (is_attacked p.men b (other_side colour))
-
-abbrev pub castles : Setup → Colour → ℕ → ℕ → Bool
-castles p colour a b = castles_to p colour KingSide a b || castles_to p colour QueenSide a b
 
 -- A man of this colour and kind may go from a to b.
 abbrev pub goes : Setup → Colour → Kind → ℕ → ℕ → Bool
@@ -102,5 +70,5 @@ man_may p None m = false
 man_may p (Some man) m = is_colour man.colour p.side && suits man m.target m.promotion && goes p man.colour man.kind m.origin m.target
 
 -- The rules allow the move, whatever becomes of the mover's king.
-unfoldable pub is_candidate : Setup → Move → Bool
-is_candidate p m = man_may p (man_at p.men m.origin) m
+unfoldable pub is_pseudo_legal : Setup → Move → Bool
+is_pseudo_legal p m = man_may p (man_at p.men m.origin) m

@@ -6,15 +6,15 @@ use Rattle.chess_board.specs.declared.men.Colour.{Colour}
 use Rattle.chess_board.specs.declared.men.Colour.TheVariants.{White, Black}
 use Rattle.chess_board.specs.declared.men.Kind.TheVariants.{Pawn}
 use Rattle.chess_board.specs.declared.men.Man.{Man}
-use Rattle.chess_board.specs.Squares.{file_of, rank_of, file_gap}
+use Rattle.chess_board.specs.Squares.{file_of, rank_of, file_gap, crossed}
 use Rattle.chess_board.specs.Men.{other_side, is_of}
 use Rattle.chess_board.specs.KindTests.{is_pawn_of}
 use Rattle.chess_board.specs.Positions.{Setup, man_at, is_empty}
 use Rattle.chess_board.specs.Attacks.{is_forward, attacks_as}
 use Rattle.chess_board.specs.Soundness.{IsSound, has_pawn_of_target}
-use Rattle.chess_board.specs.Candidates.{crossed, is_square, steps_once, steps_twice, takes}
-use Rattle.chess_board.specs.After.{passed_pawn}
+use Rattle.chess_board.specs.PseudoLegal.{steps_once, steps_twice, takes}
 use Rattle.chess_board.specs.Fields.{target_rank}
+use Rattle.chess_board.specs.EnPassant.{is_square, captured_pawn}
 
 -- where the pawn stands that passed over the square, for the side that may capture it
 abbrev pub beyond : Colour → ℕ → ℕ
@@ -110,6 +110,6 @@ no_plain_way men c o t man there own h =
     (no_capture men c o t h)
 
 -- The pawn that is captured stands beyond the square.
-pub passed_is_beyond : (men : List (Option Man)) (c : Colour) (o t : ℕ) → attacks_as men c Pawn o t ≡ true → passed_pawn o t ≡ beyond c t
-passed_is_beyond men White o t h = let rank = eqb-true (rank_of t) (rank_of o + 1) ((and_parts (eqb (file_gap o t) 1) (is_forward White 1 o t) h).1) in omega arith
-passed_is_beyond men Black o t h = let rank = eqb-true (rank_of o) (rank_of t + 1) ((and_parts (eqb (file_gap o t) 1) (is_forward Black 1 o t) h).1) in omega arith
+pub captured_is_beyond : (men : List (Option Man)) (c : Colour) (o t : ℕ) → attacks_as men c Pawn o t ≡ true → captured_pawn o t ≡ beyond c t
+captured_is_beyond men White o t h = let rank = eqb-true (rank_of t) (rank_of o + 1) ((and_parts (eqb (file_gap o t) 1) (is_forward White 1 o t) h).1) in omega arith
+captured_is_beyond men Black o t h = let rank = eqb-true (rank_of o) (rank_of t + 1) ((and_parts (eqb (file_gap o t) 1) (is_forward Black 1 o t) h).1) in omega arith

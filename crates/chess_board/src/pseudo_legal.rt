@@ -1,16 +1,17 @@
-//! What the rules allow each kind of man, whatever becomes of its king (FIDE Laws of Chess, articles 3.1 to 3.8).
+//! Pseudo-legal moves: what the rules allow each kind of man, whatever becomes of its king (FIDE Laws of Chess, articles 3.1 to 3.8).
 
 ghost use Rattle.std.specs.Prelude.{◌≡◌};
 ghost use Rattle.chess_board.specs.declared.men.Kind.TheVariants as kind;
-ghost use Rattle.chess_board.specs.Candidates.{second_rank, last_rank, crossed, is_square, steps_once, steps_twice, takes, takes_in_passing, pawn_goes, piece_goes, king_goal, castles_to, castles, goes, is_promotion, promotes, suits, is_candidate};
+ghost use Rattle.chess_board.specs.PseudoLegal.{second_rank, last_rank, steps_once, steps_twice, takes, pawn_goes, piece_goes, goes, is_promotion, promotes, suits, is_pseudo_legal};
 
-use crate::attacks::{attacks_as, is_clear, is_forward};
+use crate::attacks::{attacks_as, is_forward};
 use crate::boards::Board;
-use crate::men::{Colour, Kind, Man, Wing, is_of};
+use crate::castling::castles;
+use crate::en_passant::takes_en_passant;
+use crate::men::{Colour, Kind, Man, is_of};
 use crate::moves::Move;
 use crate::positions::Position;
-use crate::soundness::{king_home, rook_home};
-use crate::squares::Square;
+use crate::squares::{Square, crossed};
 
 /// The rank on which a colour's pawns start.
 fn second_rank(colour: Colour) -> u8
@@ -29,23 +30,6 @@ fn last_rank(colour: Colour) -> u8
     match colour {
         Colour::White => 7,
         Colour::Black => 0,
-    }
-}
-
-/// The square in the middle of a double step, or the one that a castling king crosses.
-pub(crate) fn crossed(a: Square, b: Square) -> Square
-    ensures { result ≡ crossed a b }
-{
-    Square::numbered(((a.index() + b.index()) / 2) as u8)
-}
-
-/// Whether the target, if there is one, is this square.
-pub(crate) fn is_square(target: &Option<Square>, square: Square) -> bool
-    ensures { result ≡ is_square target.now square }
-{
-    match target {
-        Some(target) => *target == square,
-        None => false,
     }
 }
 
@@ -74,14 +58,6 @@ fn takes(men: &Board, man: Man, a: Square, b: Square) -> bool
     attacks_as(men, man, a, b) && is_of(men.man(b), man.colour.other())
 }
 
-/// Whether a pawn may capture en passant (article 3.7).
-fn takes_in_passing(position: &Position, man: Man, a: Square, b: Square) -> bool
-    requires { man.kind ≡ kind.Pawn }
-    ensures { result ≡ takes_in_passing position.now man.colour a b }
-{
-    attacks_as(position.board(), man, a, b) && is_square(&position.ep_target(), b)
-}
-
 /// Whether a pawn may go there in one of its four ways.
 fn pawn_goes(position: &Position, man: Man, a: Square, b: Square) -> bool
     requires { man.kind ≡ kind.Pawn }
@@ -91,7 +67,7 @@ fn pawn_goes(position: &Position, man: Man, a: Square, b: Square) -> bool
     steps_once(men, man.colour, a, b)
         || steps_twice(men, man.colour, a, b)
         || takes(men, man, a, b)
-        || takes_in_passing(position, man, a, b)
+        || takes_en_passant(position, man, a, b)
 }
 
 /// Whether a man attacks a square on which no man of its own stands (articles 3.1 to 3.6 and 3.8.1).
@@ -99,40 +75,6 @@ fn piece_goes(position: &Position, man: Man, a: Square, b: Square) -> bool
     ensures { result ≡ piece_goes position.now man.colour man.kind a b }
 {
     attacks_as(position.board(), man, a, b) && !is_of(position.man(b), man.colour)
-}
-
-/// Where a king goes that castles.
-fn king_goal(colour: Colour, wing: Wing) -> Square
-    ensures { result ≡ king_goal colour wing }
-{
-    match (colour, wing) {
-        (Colour::White, Wing::KingSide) => Square::numbered(6),
-        (Colour::White, Wing::QueenSide) => Square::numbered(2),
-        (Colour::Black, Wing::KingSide) => Square::numbered(62),
-        (Colour::Black, Wing::QueenSide) => Square::numbered(58),
-    }
-}
-
-/// Whether the king may castle on a wing: the right, a clear way to the rook, and no attack on the square on which the king
-/// stands, the one that it crosses and the one that it reaches (article 3.8.2).
-fn castles_to(position: &Position, colour: Colour, wing: Wing, a: Square, b: Square) -> bool
-    ensures { result ≡ castles_to position.now colour wing a b }
-{
-    position.has_right(colour, wing)
-        && a == king_home(colour)
-        && b == king_goal(colour, wing)
-        && is_clear(position.board(), a, rook_home(colour, wing))
-        && !position.is_attacked(a, colour.other())
-        && !position.is_attacked(crossed(a, b), colour.other())
-        && !position.is_attacked(b, colour.other())
-}
-
-/// Whether the king may castle on one of the wings.
-fn castles(position: &Position, colour: Colour, a: Square, b: Square) -> bool
-    ensures { result ≡ castles position.now colour a b }
-{
-    castles_to(position, colour, Wing::KingSide, a, b)
-        || castles_to(position, colour, Wing::QueenSide, a, b)
 }
 
 /// Whether a man may go there, by its kind.
@@ -174,9 +116,9 @@ fn suits(man: Man, b: Square, promotion: Option<Kind>) -> bool
 }
 
 /// Whether the rules allow the man on the origin this move, whatever becomes of its king.
-#[tactic(auto, unfolding(crate::specs::Candidates::is_candidate))]
-pub(crate) fn is_candidate(position: &Position, m: Move) -> bool
-    ensures { result ≡ is_candidate position.now m }
+#[tactic(auto, unfolding(crate::specs::PseudoLegal::is_pseudo_legal))]
+pub(crate) fn is_pseudo_legal(position: &Position, m: Move) -> bool
+    ensures { result ≡ is_pseudo_legal position.now m }
 {
     match position.man(m.origin) {
         Some(man) => {

@@ -2,7 +2,7 @@ use Rattle.std.proofs.Common.{◌≡◌, List, Option, None, Some, is_some, leng
 use Rattle.chess_board.specs.declared.men.Man.{Man}
 use Rattle.chess_board.specs.Men.{other_side}
 use Rattle.chess_moves.proofs.Moved.{stands_without, stands_with, stand_still}
-use Rattle.chess_moves.proofs.pins.is_safe_in_passing.Goals as goal
+use Rattle.chess_moves.proofs.pins.is_safe_en_passant.Goals as goal
 
 pub returns : goal.returns
 returns c = λ p man h from_own own.
