@@ -1,6 +1,9 @@
 //! The check information of a position: what its checks, its pins and all its moves ask about, found once for it.
 
-ghost use Rattle.std.specs.Prelude.{◌≡◌};
+ghost use Rattle.std.specs.Prelude.{◌≡◌, ◌<◌};
+ghost use Rattle.chess_board.specs.Positions.{Setup};
+ghost use Rattle.chess_board.specs.Men.{other_side};
+ghost use Rattle.chess_board.specs.Attacks.{is_attacked};
 ghost use Rattle.chess_moves.specs.CheckInfo.{IsCheckInfoOf};
 
 use crate::attackers::{diagonal_sight, straight_sight};
@@ -48,4 +51,12 @@ pub(crate) fn check_info_of(rays: &Rays, position: &Position) -> CheckInfo
         pin_squares: diagonal | straight,
         check_mask: check_mask(rays, &enemy, by, king, diagonal, straight),
     }
+}
+
+/// Whether the king of the side to move is attacked: only then does its own square answer no check.
+pub(crate) fn is_checked(info: &CheckInfo) -> bool
+    requires { info.now.king < 64 }
+    ensures { (p : Setup) → IsCheckInfoOf info.now p → result ≡ is_attacked p.men info.now.king (other_side p.side) }
+{
+    !square_sets::contains(info.check_mask, info.king)
 }

@@ -6,19 +6,20 @@ ghost use Rattle.square_sets.specs.Members.{has};
 ghost use Rattle.chess_board.specs.Legality.{is_legal};
 ghost use Rattle.chess_board.specs.Moves.{Move as MoveValue};
 ghost use Rattle.chess_board.specs.Positions.{man_at};
-ghost use Rattle.chess_board.specs.EnPassant.{is_square};
 ghost use Rattle.chess_moves.specs.GivesCheck.{gives_check};
 ghost use Rattle.chess_moves.specs.CheckInfo.{IsCheckInfoOf};
 ghost use Rattle.chess_moves.specs.CheckSquares.{AreCheckSquaresOf, squares_of as squares_for, is_special as is_special_move};
 
 use crate::attackers::is_hit_over;
-use crate::candidates::{attacks_of, castling_targets};
+use crate::castling::castling_targets;
 use crate::check_info::CheckInfo;
 use crate::directions::Leap;
+use crate::en_passant::en_passant_square;
 use crate::forces::{force_of, without};
 use crate::movers::promotion_squares;
+use crate::pseudo_legal::attacks_of;
 use crate::rays::Rays;
-use chess_board::{Kind, Man, Move, Position};
+use chess_board::{Kind, Man, Move, Position, is_castling, is_en_passant};
 
 /// For each kind, the squares from which a man of the side to move attacks the king of the other side.
 #[derive(Clone, Copy, Debug)]
@@ -77,13 +78,7 @@ pub(crate) fn attacks_king(check_squares: &CheckSquares, kind: Kind, square: u8)
 fn is_special(position: &Position, man: Man, m: Move) -> bool
     ensures { result ≡ is_special_move position.now man m }
 {
-    let is_target = match position.ep_target() {
-        Some(target) => target == m.target,
-        None => false,
-    };
-    m.promotion.is_some()
-        || man.kind == Kind::Pawn && is_target
-        || man.kind == Kind::King && m.origin.file().abs_diff(m.target.file()) == 2
+    m.promotion.is_some() || is_en_passant(position, man, m) || is_castling(man, m)
 }
 
 /// Whether the check squares tell if a move gives check. They do not where the man leaves a square from which a queen would attack
@@ -130,16 +125,6 @@ pub(crate) fn special_squares(rays: &Rays, position: &Position, info: &CheckInfo
         Kind::Pawn => promotion_squares(man) | en_passant_square(position),
         Kind::King => castling_targets(rays, position, info),
         Kind::Knight | Kind::Bishop | Kind::Rook | Kind::Queen => 0,
-    }
-}
-
-/// The square that the last move's double step passed over, or none.
-fn en_passant_square(position: &Position) -> u64
-    ensures { (t : ℕ) → t < 64 → has result t ≡ is_square position.now.target t }
-{
-    match position.ep_target() {
-        Some(target) => square_sets::with(0, target.index() as u8),
-        None => 0,
     }
 }
 

@@ -14,13 +14,15 @@ ghost use Rattle.chess_moves.specs.CheckInfo.{IsCheckInfoOf};
 ghost use Rattle.chess_moves.specs.CheckSquares.{AreCheckSquaresOf};
 ghost use Rattle.chess_moves.specs.Verdicts.{is_mate, has_mating_move as some_move_mates};
 
-use crate::candidates::{castling_targets, en_passant_targets, pawn_targets, piece_targets};
+use crate::castling::castling_targets;
 use crate::check_info::{CheckInfo, check_info_of};
 use crate::check_squares::{CheckSquares, check_squares_of, check_targets};
+use crate::en_passant::en_passant_targets;
 use crate::flights::{Flights, flights_once, squares_that_cover};
 use crate::judging::is_mated;
 use crate::move_generation::ManMoves;
 use crate::movers::own_man;
+use crate::pseudo_legal::{pawn_targets, piece_targets};
 use crate::rays::Rays;
 use crate::targets::targets_from;
 use chess_board::{Kind, Man, Position, after};

@@ -7,8 +7,7 @@ ghost use Rattle.chess_moves.specs.Verdicts.{verdict_of, is_mate};
 ghost use Rattle.chess_moves.specs.MoveGeneration.{members, moves_of_men, HaveOwnMen};
 
 use crate::attackers::attacked;
-use crate::candidates::is_checked;
-use crate::check_info::{CheckInfo, check_info_of};
+use crate::check_info::{CheckInfo, check_info_of, is_checked};
 use crate::move_generation::legal_moves;
 use crate::movers::{count_ways, own_man};
 use crate::rays::Rays;

@@ -5,17 +5,18 @@
 //! found by making it: sets of squares tell where each man may go.
 //!
 //! To read: `specs/Listing.antt`; `directions`, `rays`, `forces` and `attackers` (what is seen and attacked), `check_info`,
-//! `candidates` and `pins` (where a man goes, and where it leaves its king safe), `targets`; then `move_generation`, `judging` and
+//! `pseudo_legal` and `pins` (where a man goes, and where it leaves its king safe), `targets`; then `move_generation`, `judging` and
 //! `perft_count`; `check_squares` and `gives_check`; `attacked_sets`, `flights` and `gives_mate`. `laws` says what the lists hold in words
 //! that do not speak of how they are made. No call takes memory.
 #![tactic(auto)]
 
 mod attacked_sets;
 mod attackers;
-mod candidates;
+mod castling;
 mod check_info;
 mod check_squares;
 mod directions;
+mod en_passant;
 mod flights;
 mod forces;
 mod gives_check;
@@ -26,6 +27,7 @@ mod move_generation;
 mod movers;
 mod perft_count;
 mod pins;
+mod pseudo_legal;
 mod rays;
 mod targets;
 mod verdicts;

@@ -12,8 +12,8 @@ ghost use Rattle.chess_moves.specs.MoveGeneration.{members, moves_of_men, HaveMe
 ghost use Rattle.chess_moves.specs.Plays.{plays};
 ghost use Rattle.chess_moves.specs.Shifts.{is_shifted, back, left_file as left_file_of, right_file as right_file_of, third_rank as third_rank_of, AreFree};
 
-use crate::candidates::en_passant_origins;
 use crate::check_info::{CheckInfo, check_info_of};
+use crate::en_passant::en_passant_origins;
 use crate::move_generation::legal_moves;
 use crate::movers::count_ways;
 use crate::rays::Rays;

@@ -5,7 +5,7 @@ ghost use Rattle.square_sets.specs.Members.{has};
 ghost use Rattle.chess_board.specs.declared.men.Man.{Man as ManValue};
 ghost use Rattle.chess_board.specs.Squares.{some_square};
 ghost use Rattle.chess_board.specs.Men.{is_colour, is_of, other_side};
-ghost use Rattle.chess_board.specs.Positions.{Setup, man_at, moved, cleared};
+ghost use Rattle.chess_board.specs.Positions.{Setup, man_at, moved};
 ghost use Rattle.chess_board.specs.Sets.{IsSetOf};
 ghost use Rattle.chess_moves.specs.CheckInfo.{IsCheckInfoOf, gets_through};
 ghost use Rattle.chess_moves.specs.Directions.{sights_as_bishop, sights_as_rook};
@@ -27,44 +27,6 @@ pub(crate) fn is_safe_step(rays: &Rays, info: &CheckInfo, target: u8) -> bool
     let after = square_sets::with(square_sets::without(info.occupied, info.king), target);
     let left = without(&info.enemy, target);
     !is_hit_over(rays, after, &left, info.side.other(), target)
-}
-
-/// Whether the king is safe once it castled: it went to the target, and then its rook from one square to another.
-pub(crate) fn is_safe_castled(
-    rays: &Rays,
-    info: &CheckInfo,
-    target: u8,
-    rook_home: u8,
-    crossed: u8,
-) -> bool
-    requires { (info.now.king < 64) × (target < 64) × (rook_home < 64) × (crossed < 64) }
-    ensures { (p : Setup) (own rook : ManValue) → IsCheckInfoOf info.now p → is_colour (other_side p.side) own.colour ≡ false
-        → is_of (other_side p.side) (man_at p.men rook_home) ≡ false → is_colour (other_side p.side) rook.colour ≡ false
-        → result ≡ not (is_hit (moved (moved p.men info.now.king target own) rook_home crossed rook) target (other_side p.side)) }
-{
-    let stepped = square_sets::with(square_sets::without(info.occupied, info.king), target);
-    let after = square_sets::with(square_sets::without(stepped, rook_home), crossed);
-    let left = without(&without(&info.enemy, target), crossed);
-    !is_hit_over(rays, after, &left, info.side.other(), target)
-}
-
-/// Whether the king is safe once a pawn captured another in passing, which stood on the square `passed`.
-pub(crate) fn is_safe_en_passant(
-    rays: &Rays,
-    info: &CheckInfo,
-    origin: u8,
-    target: u8,
-    passed: u8,
-) -> bool
-    requires { (info.now.king < 64) × (origin < 64) × (target < 64) × (passed < 64) }
-    ensures { (p : Setup) (man : ManValue) → IsCheckInfoOf info.now p
-        → is_of (other_side p.side) (man_at p.men origin) ≡ false → is_colour (other_side p.side) man.colour ≡ false
-        → result ≡ not (is_hit (cleared (moved p.men origin target man) passed) info.now.king (other_side p.side)) }
-{
-    let moved = square_sets::with(square_sets::without(info.occupied, origin), target);
-    let after = square_sets::without(moved, passed);
-    let left = without(&without(&info.enemy, target), passed);
-    !is_hit_over(rays, after, &left, info.side.other(), info.king)
 }
 
 /// The squares on which a man stops each of these attackers: by a capture, or by standing in its way.

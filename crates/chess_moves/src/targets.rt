@@ -1,25 +1,24 @@
 //! The targets of a man's legal moves, as a set of squares: none of them is made.
 
-ghost use Rattle.std.specs.Prelude.{◌≡◌, ℕ, ◌<◌, true, false, not, ◌&&◌, Some, None, filter, length, nat_lt};
-ghost use Rattle.square_sets.specs.Members.{has};
+ghost use Rattle.std.specs.Prelude.{◌≡◌, ℕ, ◌<◌, true, false, not, Some, None, filter, length, nat_lt};
 ghost use Rattle.chess_board.specs.declared.men.Kind.TheVariants as kind;
-ghost use Rattle.chess_board.specs.Positions.{Setup, man_at, cleared, moved};
+ghost use Rattle.chess_board.specs.Positions.{Setup, man_at};
 ghost use Rattle.chess_board.specs.KindTests.{is_king_kind, is_pawn_kind};
 ghost use Rattle.chess_board.specs.Attacks.{is_in_check};
 ghost use Rattle.chess_board.specs.PseudoLegal.{goes};
 ghost use Rattle.chess_board.specs.MakeMove.{men_after};
 ghost use Rattle.chess_board.specs.Legality.{is_legal};
-ghost use Rattle.chess_board.specs.Castling.{rook_home as rook_home_of, wing_of};
-ghost use Rattle.chess_board.specs.EnPassant.{takes_en_passant, captured_pawn};
 ghost use Rattle.chess_moves.specs.Listing.{move_of, moves_to};
 ghost use Rattle.chess_moves.specs.CheckInfo.{IsCheckInfoOf};
 ghost use Rattle.chess_moves.specs.Targets.{AreTargets, IsTarget};
 
-use crate::candidates::{castling_targets, en_passant_targets, pawn_targets, piece_targets};
+use crate::castling::{castling_targets, is_safe_castled};
 use crate::check_info::CheckInfo;
-use crate::pins::{is_safe_castled, is_safe_en_passant, is_safe_step, legal_mask};
+use crate::en_passant::safe_en_passant;
+use crate::pins::{is_safe_step, legal_mask};
+use crate::pseudo_legal::{pawn_targets, piece_targets};
 use crate::rays::Rays;
-use chess_board::{Colour, Kind, Man, Position};
+use chess_board::{Kind, Man, Position, Square, rook_home, wing_of};
 use square_sets::with;
 
 /// The targets of the legal moves of a man of the side to move.
@@ -123,29 +122,6 @@ fn targets_of_pawn(rays: &Rays, position: &Position, info: &CheckInfo, man: Man,
         | safe_en_passant(rays, position, info, man, origin)
 }
 
-/// Where the pawn captures en passant so that its king is safe afterwards: one square at most.
-fn safe_en_passant(rays: &Rays, position: &Position, info: &CheckInfo, man: Man, origin: u8) -> u64
-    requires on_board { origin < 64 }
-    requires info { IsCheckInfoOf info.now position.now }
-    requires there { man_at position.now.men origin ≡ Some man }
-    requires own { man.colour ≡ position.now.side }
-    requires pawn { man.kind ≡ kind.Pawn }
-    ensures { (t : ℕ) → t < 64 → has result t ≡ (takes_en_passant position.now man.colour origin t
-        && not (is_in_check (cleared (moved position.now.men origin t man) (captured_pawn origin t)) position.now.side)) }
-{
-    let passing = en_passant_targets(rays, position, man, origin);
-    if passing == 0 {
-        return 0;
-    }
-    let target = passing.trailing_zeros() as u8;
-    let passed = 8 * (origin / 8) + target % 8;
-    if is_safe_en_passant(rays, info, origin, target, passed) {
-        passing
-    } else {
-        0
-    }
-}
-
 /// The same for the king. Each square is asked about by itself, since the king may step along the line of an attack.
 fn targets_of_king(rays: &Rays, position: &Position, info: &CheckInfo, man: Man, origin: u8) -> u64
     requires on_board { origin < 64 }
@@ -199,23 +175,11 @@ fn is_king_safe(rays: &Rays, info: &CheckInfo, target: u8) -> bool
 {
     let origin = info.king;
     if (origin % 8).abs_diff(target % 8) == 2 {
-        let home = rook_home(info.side, origin, target);
+        let (from, to) = (Square::numbered(origin), Square::numbered(target));
+        let home = rook_home(info.side, wing_of(from, to)).index() as u8;
         let crossed = (origin + target) / 2;
         is_safe_castled(rays, info, target, home, crossed)
     } else {
         is_safe_step(rays, info, target)
-    }
-}
-
-/// The square of the rook with which a king castles that goes to the target.
-fn rook_home(colour: Colour, king: u8, target: u8) -> u8
-    ensures home { result ≡ rook_home_of colour (wing_of king target) }
-    ensures on_board { result < 64 }
-{
-    match (colour, king < target) {
-        (Colour::White, true) => 7,
-        (Colour::White, false) => 0,
-        (Colour::Black, true) => 63,
-        (Colour::Black, false) => 56,
     }
 }

@@ -10,7 +10,8 @@ pub returns-then-abs_diff-eq2 : goal.returns-then-abs_diff-eq2
 returns-then-abs_diff-eq2 c = λ p h goes.
     let s = c.args.info.now in
     let t = c.args.target in
-    let home : c.rook_home-home.result ≡ rook_home p.side (wing_of s.king t) = c.rook_home-home.ensures.home ∙ ap (λ x. rook_home x (wing_of s.king t)) h.side in
+    let wing : c.wing_of.result ≡ wing_of s.king t = c.wing_of.ensures ∙ rw (c.numbered-from.ensures, c.numbered-to.ensures) refl in
+    let home : c.index-home.result ≡ rook_home p.side (wing_of s.king t) = c.index-home.ensures.number ∙ c.rook_home.ensures ∙ ap (λ x. rook_home x c.wing_of.result) h.side ∙ ap (rook_home p.side) wing in
     let far : eqb (file_gap s.king t) 2 ≡ true = eq-eqb (file_gap s.king t) 2 (omega arith) in
     let safe = rw home at c.is_safe_castled.ensures in
     let own = other_colour p.side p.side refl in

@@ -5,7 +5,7 @@ use Rattle.chess_board.specs.Positions.{man_at}
 use Rattle.chess_board.specs.Attacks.{attacks_as}
 use Rattle.chess_moves.proofs.SetParts.{parted}
 use Rattle.chess_moves.proofs.ManSets.{hits_by_set}
-use Rattle.chess_moves.proofs.candidates.piece_targets.Goals as goal
+use Rattle.chess_moves.proofs.pseudo_legal.piece_targets.Goals as goal
 
 pub returns : goal.returns
 returns c = λ t l.

@@ -13,7 +13,7 @@ use Rattle.chess_moves.proofs.AnyLemmas.{any_some}
 use Rattle.chess_moves.proofs.SharedSquares.{nonzero}
 use Rattle.chess_moves.proofs.SetParts.{joined, has_none}
 use Rattle.chess_moves.proofs.PawnSets.{once_set, twice_set, takes_set, twice_without_once}
-use Rattle.chess_moves.proofs.candidates.pawn_targets.Goals as goal
+use Rattle.chess_moves.proofs.pseudo_legal.pawn_targets.Goals as goal
 
 pub returns-then-step-eq0 : goal.returns-then-step-eq0
 returns-then-step-eq0 c = λ t l.

@@ -5,14 +5,14 @@ use Rattle.chess_board.specs.declared.men.Wing.TheVariants.{KingSide, QueenSide}
 use Rattle.chess_board.specs.Castling.{castles_to, king_home}
 use Rattle.chess_moves.proofs.CastlingWays.{castles_says}
 use Rattle.chess_moves.proofs.SetParts.{joined, has_none}
-use Rattle.chess_moves.proofs.candidates.castling_targets.Goals as goal
+use Rattle.chess_moves.proofs.castling.castling_targets.Goals as goal
 
-pub returns-then-info-king_home : goal.returns-then-info-king_home
-returns-then-info-king_home c = λ t l.
+pub returns-then-info-index : goal.returns-then-info-index
+returns-then-info-index c = λ t l.
     let p = c.args.position.now in
     let king = c.args.info.now.king in
     let none = λ (wing : Wing). false_from_ne_true (castles_to p p.side wing king t) (λ h.
-    c.if-info-king_home.true ((castles_says p p.side wing king t h).home ∙ ap king_home (sym c.requires.info.side) ∙ sym c.king_home.ensures)) in
+    c.if-info-index.true ((castles_says p p.side wing king t h).home ∙ ap king_home (sym c.requires.info.side) ∙ sym (c.index.ensures.number ∙ c.king_home.ensures))) in
     has_none 0 t refl ∙ rw (none KingSide, none QueenSide) refl
 
 pub returns : goal.returns

@@ -7,7 +7,7 @@ use Rattle.chess_board.specs.Positions.{man_at}
 use Rattle.chess_moves.proofs.KingTargets.{king}
 use Rattle.chess_moves.proofs.Moved.{stands_without, stands_with, stand_still}
 use Rattle.chess_moves.proofs.OwnColours.{own_not_other}
-use Rattle.chess_moves.proofs.pins.is_safe_castled.Goals as goal
+use Rattle.chess_moves.proofs.castling.is_safe_castled.Goals as goal
 
 -- no man of the other side stands on a square where none stood before, once none of it came to another
 still_not_of : (by : Colour) (men : List (Option Man)) (changed square : ℕ) (place : Option Man) → length men ≡ 64 → changed < 64

@@ -8,7 +8,7 @@ use Rattle.chess_moves.specs.declared.directions.Leap.{Leap}
 use Rattle.chess_moves.specs.Leaps.{leaps, capture_back}
 use Rattle.chess_moves.proofs.Geometry.{capture_mirrored}
 use Rattle.chess_moves.proofs.PawnSets.{capture_leap}
-use Rattle.chess_moves.proofs.candidates.en_passant_origins.Goals as goal
+use Rattle.chess_moves.proofs.en_passant.en_passant_origins.Goals as goal
 
 pub returns-in-Some : goal.returns-in-Some
 returns-in-Some c = λ o t o_on on unseen.

@@ -3,7 +3,7 @@ use Rattle.square_sets.specs.Members.{has}
 use Rattle.chess_board.specs.declared.men.Kind.{Kind}
 use Rattle.chess_moves.specs.Hits.{hits_as}
 use Rattle.chess_moves.proofs.SetParts.{joined}
-use Rattle.chess_moves.proofs.candidates.attacks_of.Goals as goal
+use Rattle.chess_moves.proofs.pseudo_legal.attacks_of.Goals as goal
 
 pub returns-in-Queen : goal.returns-in-Queen
 returns-in-Queen c = λ t l.

@@ -4,7 +4,7 @@ use Rattle.chess_board.specs.Men.{other_side}
 use Rattle.chess_board.specs.Attacks.{is_attacked}
 use Rattle.chess_moves.specs.Forces.{StandFor}
 use Rattle.chess_moves.proofs.Bridge.{attacked_same}
-use Rattle.chess_moves.proofs.candidates.is_attacked_in.Goals as goal
+use Rattle.chess_moves.proofs.castling.is_attacked_in.Goals as goal
 
 pub returns : goal.returns
 returns c = λ p info.

@@ -6,7 +6,7 @@ use Rattle.chess_moves.specs.declared.directions.Leap.{Leap}
 use Rattle.chess_moves.specs.Leaps.{leaps}
 use Rattle.chess_moves.proofs.SetParts.{part, only_one}
 use Rattle.chess_moves.proofs.PawnSets.{capture_leap}
-use Rattle.chess_moves.proofs.candidates.en_passant_targets.Goals as goal
+use Rattle.chess_moves.proofs.en_passant.en_passant_targets.Goals as goal
 
 pub returns-in-Some : goal.returns-in-Some
 returns-in-Some c = λ t l.

@@ -1,7 +1,7 @@
 use Rattle.chess_moves.proofs.CastlingWays.{has-way_set}
 use Rattle.chess_board.specs.declared.men.Colour.TheVariants.{White, Black}
 use Rattle.chess_board.specs.declared.men.Wing.TheVariants.{KingSide, QueenSide}
-use Rattle.chess_moves.proofs.candidates.castling_way.Goals as goal
+use Rattle.chess_moves.proofs.castling.castling_way.Goals as goal
 
 pub returns-in-White-KingSide : goal.returns-in-White-KingSide
 returns-in-White-KingSide c = λ t l. rw (c.in-White-KingSide.is-0, c.in-White-KingSide.is-1) (has-way_set White KingSide t l)

@@ -2,7 +2,7 @@ use Rattle.std.proofs.Common.{not, sym, ap, ◌∙◌}
 use Rattle.chess_board.specs.Men.{other_side}
 use Rattle.chess_moves.proofs.Bridge.{attacked_same}
 use Rattle.chess_moves.proofs.CheckMasks.{king_off_check_mask, not_not}
-use Rattle.chess_moves.proofs.candidates.is_checked.Goals as goal
+use Rattle.chess_moves.proofs.check_info.is_checked.Goals as goal
 
 pub returns : goal.returns
 returns c = λ p info.

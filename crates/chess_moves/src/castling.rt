@@ -1,0 +1,90 @@
+//! Castling: where the king goes that castles, and whether it is safe there (FIDE Laws of Chess, article 3.8.2).
+
+ghost use Rattle.std.specs.Prelude.{◌≡◌, ℕ, ◌<◌, false, not};
+ghost use Rattle.square_sets.specs.Members.{has};
+ghost use Rattle.chess_board.specs.declared.men.Man.{Man as ManValue};
+ghost use Rattle.chess_board.specs.Positions.{Setup, man_at, moved};
+ghost use Rattle.chess_board.specs.Men.{is_colour, is_of, other_side};
+ghost use Rattle.chess_board.specs.Attacks.{is_attacked};
+ghost use Rattle.chess_board.specs.Castling.{king_home as king_home_of, rook_home as rook_home_of, castles_to, castles};
+ghost use Rattle.chess_moves.specs.Directions.{stands_between};
+ghost use Rattle.chess_moves.specs.Hits.{is_hit};
+ghost use Rattle.chess_moves.specs.CheckInfo.{IsCheckInfoOf};
+
+use crate::attackers::is_hit_over;
+use crate::check_info::{CheckInfo, is_checked};
+use crate::forces::without;
+use crate::rays::Rays;
+use chess_board::{Colour, Position, Wing, king_goal, king_home};
+
+/// The squares between a king and a rook that castle.
+fn castling_way(colour: Colour, wing: Wing) -> u64
+    ensures { (t : ℕ) → t < 64 → has result t ≡ stands_between (king_home_of colour) (rook_home_of colour wing) t }
+{
+    match (colour, wing) {
+        (Colour::White, Wing::KingSide) => 0x60,
+        (Colour::White, Wing::QueenSide) => 0x0e,
+        (Colour::Black, Wing::KingSide) => 0x6000_0000_0000_0000,
+        (Colour::Black, Wing::QueenSide) => 0x0e00_0000_0000_0000,
+    }
+}
+
+/// Whether a man of the other side attacks a square.
+fn is_attacked_in(rays: &Rays, info: &CheckInfo, square: u8) -> bool
+    requires { square < 64 }
+    ensures { (p : Setup) → IsCheckInfoOf info.now p → result ≡ is_attacked p.men square (other_side p.side) }
+{
+    is_hit_over(rays, info.occupied, &info.enemy, info.side.other(), square)
+}
+
+/// Where the king goes when it castles on a wing: one square, or none.
+fn castling_target(rays: &Rays, position: &Position, info: &CheckInfo, wing: Wing) -> u64
+    requires info { IsCheckInfoOf info.now position.now }
+    ensures { (t : ℕ) → t < 64 → has result t ≡ castles_to position.now position.now.side wing info.now.king t }
+{
+    let home = king_home(info.side).index() as u8;
+    if info.king != home || !position.has_right(info.side, wing) {
+        return 0;
+    }
+    let between = castling_way(info.side, wing);
+    if between & info.occupied != 0 {
+        return 0;
+    }
+    let goal = king_goal(info.side, wing).index() as u8;
+    let crossed = (home + goal) / 2;
+    if is_checked(info) || is_attacked_in(rays, info, crossed) || is_attacked_in(rays, info, goal) {
+        return 0;
+    }
+    square_sets::with(0, goal)
+}
+
+/// Where the king goes when it castles: two squares at most.
+pub(crate) fn castling_targets(rays: &Rays, position: &Position, info: &CheckInfo) -> u64
+    requires info { IsCheckInfoOf info.now position.now }
+    ensures { (t : ℕ) → t < 64 → has result t ≡ castles position.now position.now.side info.now.king t }
+{
+    if info.king != king_home(info.side).index() as u8 {
+        return 0;
+    }
+    castling_target(rays, position, info, Wing::KingSide)
+        | castling_target(rays, position, info, Wing::QueenSide)
+}
+
+/// Whether the king is safe once it castled: it went to the target, and then its rook from one square to another.
+pub(crate) fn is_safe_castled(
+    rays: &Rays,
+    info: &CheckInfo,
+    target: u8,
+    rook_home: u8,
+    crossed: u8,
+) -> bool
+    requires { (info.now.king < 64) × (target < 64) × (rook_home < 64) × (crossed < 64) }
+    ensures { (p : Setup) (own rook : ManValue) → IsCheckInfoOf info.now p → is_colour (other_side p.side) own.colour ≡ false
+        → is_of (other_side p.side) (man_at p.men rook_home) ≡ false → is_colour (other_side p.side) rook.colour ≡ false
+        → result ≡ not (is_hit (moved (moved p.men info.now.king target own) rook_home crossed rook) target (other_side p.side)) }
+{
+    let stepped = square_sets::with(square_sets::without(info.occupied, info.king), target);
+    let after = square_sets::with(square_sets::without(stepped, rook_home), crossed);
+    let left = without(&without(&info.enemy, target), crossed);
+    !is_hit_over(rays, after, &left, info.side.other(), target)
+}

@@ -1,0 +1,70 @@
+//! Pseudo-legal targets: where the rules let a man go, whatever becomes of its king, castling and captures en passant aside (FIDE Laws
+//! of Chess, articles 3.1 to 3.7).
+
+ghost use Rattle.std.specs.Prelude.{◌≡◌, ℕ, ◌<◌, ◌||◌};
+ghost use Rattle.square_sets.specs.Members.{has};
+ghost use Rattle.chess_board.specs.declared.men.Kind.TheVariants as kind;
+ghost use Rattle.chess_board.specs.PseudoLegal.{steps_once, steps_twice, takes, piece_goes};
+ghost use Rattle.chess_moves.specs.Hits.{hits_as};
+ghost use Rattle.chess_moves.specs.CheckInfo.{IsCheckInfoOf};
+
+use crate::check_info::CheckInfo;
+use crate::directions::Leap;
+use crate::rays::Rays;
+use chess_board::{Kind, Man, Position};
+
+/// What a man attacks, among the squares that are taken.
+pub(crate) fn attacks_of(rays: &Rays, occupied: u64, man: Man, origin: u8) -> u64
+    requires { origin < 64 }
+    ensures { (t : ℕ) → t < 64 → has result t ≡ hits_as (has occupied) man.colour man.kind origin t }
+{
+    match man.kind {
+        Kind::Pawn => rays.leap(origin, Leap::capture_of(man.colour)),
+        Kind::Knight => rays.leap(origin, Leap::KnightLeap),
+        Kind::Bishop => rays.bishop_attacks(origin, occupied),
+        Kind::Rook => rays.rook_attacks(origin, occupied),
+        Kind::Queen => rays.bishop_attacks(origin, occupied) | rays.rook_attacks(origin, occupied),
+        Kind::King => rays.leap(origin, Leap::KingStep),
+    }
+}
+
+/// Where a man goes that is no pawn, castling aside: what it attacks, but not to a man of its own.
+pub(crate) fn piece_targets(
+    rays: &Rays,
+    position: &Position,
+    info: &CheckInfo,
+    man: Man,
+    origin: u8,
+) -> u64
+    requires on_board { origin < 64 }
+    requires info { IsCheckInfoOf info.now position.now }
+    requires own { man.colour ≡ position.now.side }
+    ensures { (t : ℕ) → t < 64 → has result t ≡ piece_goes position.now man.colour man.kind origin t }
+{
+    attacks_of(rays, info.occupied, man, origin) & !info.own
+}
+
+/// Where a pawn goes, a capture en passant aside: one step, two steps, and the enemies that it attacks.
+pub(crate) fn pawn_targets(
+    rays: &Rays,
+    position: &Position,
+    info: &CheckInfo,
+    man: Man,
+    origin: u8,
+) -> u64
+    requires on_board { origin < 64 }
+    requires info { IsCheckInfoOf info.now position.now }
+    requires own { man.colour ≡ position.now.side }
+    requires pawn { man.kind ≡ kind.Pawn }
+    ensures { (t : ℕ) → t < 64 → has result t
+        ≡ (steps_once position.now.men man.colour origin t || steps_twice position.now.men man.colour origin t
+        || takes position.now.men man.colour kind.Pawn origin t) }
+{
+    let captures = rays.leap(origin, Leap::capture_of(man.colour)) & info.occupied & !info.own;
+    let step = rays.leap(origin, Leap::step_of(man.colour)) & !info.occupied;
+    if step == 0 {
+        return captures;
+    }
+    let double = rays.leap(origin, Leap::double_of(man.colour)) & !info.occupied;
+    step | double | captures
+}
