@@ -1,5 +1,6 @@
 -- The squares of a colour's men that attack a square, by sets.
-use Rattle.std.proofs.Common.{◌≡◌, ℕ, ◌^◌, eqb, ◌<◌, Bool, true, false, not, ◌&&◌, ◌||◌, List, Option, None, Some, is_some, refl, sym, ap, ◌∙◌}
+use Rattle.std.proofs.Common.{◌≡◌, ℕ, ◌^◌, eqb, ◌<◌, Bool, true, false, not, ◌&&◌, ◌||◌, List, Option, None, Some, is_some, refl, sym, ap, ◌∙◌, w64}
+use Rattle.std.specs.Int.{bit_not}
 use Rattle.std.specs.Int.RustNames.{bit_and, bit_or}
 use Rattle.square_sets.specs.Members.{has}
 use Rattle.chess_board.specs.declared.men.Colour.{Colour}
@@ -19,7 +20,7 @@ use Rattle.chess_moves.specs.Leaps.{leaps, capture_of, capture_back}
 use Rattle.chess_moves.specs.Hits.{is_taken, hits_as, place_hits, hits_from}
 use Rattle.chess_moves.specs.Forces.{is_knight_kind, StandFor, is_one, is_diagonal_kind, is_straight_kind}
 use Rattle.std.proofs.Math.Bool.{and-false}
-use Rattle.chess_moves.proofs.SetBits.{has_and, has_or, has_none}
+use Rattle.chess_moves.proofs.SetBits.{has_and, has_or, has_less, has_none}
 use Rattle.chess_moves.proofs.AnyLemmas.{any_same, any_none, any_at}
 use Rattle.chess_moves.proofs.SharedSquares.{meets_is}
 use Rattle.chess_board.specs.Squares.{any_below}
@@ -45,6 +46,44 @@ eight a b c d e f g h t p q r s u v w x ea eb ec ed ee ef eg eh =
     let first : ℕ = bit_or (bit_or (bit_or a b) c) d in
     rw (has_or (bit_or (bit_or (bit_or first e) f) g) h t, has_or (bit_or (bit_or first e) f) g t, has_or (bit_or first e) f t, has_or first e t, ee, ef, eg, eh)
     (ap (λ (y : Bool). y || u || v || w || x) (four a b c d t p q r s ea eb ec ed))
+
+-- what lies on four rays and is not hidden on one of them
+pub open_four : (lines a b c d t : ℕ) (p q r s u v w x : Bool) → bit_or (bit_or (bit_or a b) c) d < 2 ^ 64 → t < 64
+    → has lines t ≡ (p || q || r || s) → has a t ≡ (p && u) → has b t ≡ (q && v) → has c t ≡ (r && w) → has d t ≡ (s && x)
+    → (p ≡ true → q ≡ true → ⊥) → (p ≡ true → r ≡ true → ⊥) → (p ≡ true → s ≡ true → ⊥) → (q ≡ true → r ≡ true → ⊥) → (q ≡ true → s ≡ true → ⊥) → (r ≡ true → s ≡ true → ⊥)
+    → has (bit_and lines (bit_not w64 (bit_or (bit_or (bit_or a b) c) d))) t ≡ (p && not u || q && not v || r && not w || s && not x)
+open_four lines a b c d t p q r s u v w x fits l on ea eb ec ed pq pr ps qr qs rs =
+    has_less lines (bit_or (bit_or (bit_or a b) c) d) t fits l
+    ∙ ap (λ (y : Bool). y && not (has (bit_or (bit_or (bit_or a b) c) d) t)) on
+    ∙ ap (λ (y : Bool). (p || q || r || s) && not y) (four a b c d t (p && u) (q && v) (r && w) (s && x) ea eb ec ed)
+    ∙ one_ray p q r s u v w x pq pr ps qr qs rs
+  where
+    alone : (y : Bool) → (not (y || false || false || false)) ≡ (not y || false || false || false)
+    alone true = refl
+    alone false = refl
+
+    second : (y : Bool) → (not (y || false || false)) ≡ (not y || false || false)
+    second true = refl
+    second false = refl
+
+    third : (y : Bool) → (not (y || false)) ≡ (not y || false)
+    third true = refl
+    third false = refl
+
+    one_ray : (p q r s u v w x : Bool)
+        → (p ≡ true → q ≡ true → ⊥) → (p ≡ true → r ≡ true → ⊥) → (p ≡ true → s ≡ true → ⊥) → (q ≡ true → r ≡ true → ⊥) → (q ≡ true → s ≡ true → ⊥) → (r ≡ true → s ≡ true → ⊥)
+        → ((p || q || r || s) && not ((p && u) || (q && v) || (r && w) || (s && x))) ≡ (p && not u || q && not v || r && not w || s && not x)
+    one_ray true true r s u v w x pq pr ps qr qs rs = absurd (pq refl refl)
+    one_ray true false true s u v w x pq pr ps qr qs rs = absurd (pr refl refl)
+    one_ray true false false true u v w x pq pr ps qr qs rs = absurd (ps refl refl)
+    one_ray true false false false u v w x pq pr ps qr qs rs = alone u
+    one_ray false true true s u v w x pq pr ps qr qs rs = absurd (qr refl refl)
+    one_ray false true false true u v w x pq pr ps qr qs rs = absurd (qs refl refl)
+    one_ray false true false false u v w x pq pr ps qr qs rs = second v
+    one_ray false false true true u v w x pq pr ps qr qs rs = absurd (rs refl refl)
+    one_ray false false true false u v w x pq pr ps qr qs rs = third w
+    one_ray false false false true u v w x pq pr ps qr qs rs = refl
+    one_ray false false false false u v w x pq pr ps qr qs rs = refl
 
 -- what two sets share
 pub part : (a b t : ℕ) (p q : Bool) → has a t ≡ p → has b t ≡ q → has (bit_and a b) t ≡ (p && q)
@@ -128,29 +167,6 @@ some_sight sliders ray taken square d fits rule some t =
     any_same (λ s. has sliders s && toward d square s) (λ s. has sliders s && has ray s) 64 (λ s l. ap (λ (x : Bool). has sliders s && x) (sym (rule s l)))
     ∙ sym (meets_is sliders ray fits) ∙ some in
     rw there refl
-
--- no slider on the ray: none of them is reached
-pub none_along : (sliders ray occupied square : ℕ) (d : Direction) → ((t : ℕ) → t < 64 → has ray t ≡ toward d square t)
-    → bit_and sliders ray ≡ 0 → (t : ℕ) → t < 64 → has 0 t ≡ (has sliders t && reaches (has occupied) d square t)
-none_along sliders ray occupied square d rule none t l =
-    let apart : (has sliders t && toward d square t) ≡ false =
-    sym (part sliders ray t (has sliders t) (toward d square t) refl (rule t l)) ∙ has_none (bit_and sliders ray) t none in
-    has_none 0 t refl ∙ sym (dropped (has sliders t) (toward d square t) (not (is_blocked (has occupied) d square t)) apart)
-  where
-    dropped : (x y z : Bool) → (x && y) ≡ false → (x && (y && z)) ≡ false
-    dropped true true z e = absurd (cc)
-    dropped true false z e = refl
-    dropped false y z e = refl
-
--- the sliders that four rays reach
-pub four_along : (sliders a b c d t : ℕ) (p q r s : Bool)
-    → has a t ≡ (has sliders t && p) → has b t ≡ (has sliders t && q) → has c t ≡ (has sliders t && r) → has d t ≡ (has sliders t && s)
-    → has (bit_or (bit_or (bit_or a b) c) d) t ≡ (has sliders t && (p || q || r || s))
-four_along sliders a b c d t p q r s ea eb ec ed = four a b c d t _ _ _ _ ea eb ec ed ∙ together (has sliders t) p q r s
-  where
-    together : (x p q r s : Bool) → (x && p || x && q || x && r || x && s) ≡ (x && (p || q || r || s))
-    together true p q r s = refl
-    together false p q r s = refl
 
 -- what a man of a kind attacks, by what pawns, knights, bishops, rooks and kings do
 by_kind : Kind → Bool → Bool → Bool → Bool → Bool → Bool

@@ -1,6 +1,6 @@
 -- Whether a king is in check once it went, by a step or by castling.
-use Rattle.std.proofs.Common.{◌≡◌, ◌≢◌, ℕ, ◌<◌, Bool, true, false, not, ◌&&◌, eqb, List, length, Option, Some, None, refl, ◌∙◌, inl, inr, arith, length-set, bit_or}
-use Rattle.std.proofs.lemmas.Bool.{and_parts, or_cases, eqb-true}
+use Rattle.std.proofs.Common.{◌≡◌, ◌≢◌, ℕ, ◌<◌, Bool, true, false, not, ◌&&◌, eqb, List, length, Option, Some, None, refl, sym, ap, ◌∙◌, inl, inr, arith, length-set, bit_or}
+use Rattle.std.proofs.lemmas.Bool.{and_parts, or_cases}
 use Rattle.std.proofs.Math.Bool.{and-false}
 use Rattle.std.proofs.lemmas.Bool.Decides.{nat_tests}
 use Rattle.square_sets.specs.Members.{has}
@@ -15,7 +15,7 @@ use Rattle.chess_board.specs.Squares.{file_gap, crossed}
 use Rattle.chess_board.specs.Men.{other_side, is_colour, is_of, has_right_of}
 use Rattle.chess_board.specs.KindTests.{is_king_of, is_rook_of}
 use Rattle.chess_board.specs.Positions.{Setup, man_at, cleared, moved}
-use Rattle.chess_board.specs.Attacks.{attacks_as, is_clear, is_attacked, is_in_check}
+use Rattle.chess_board.specs.Attacks.{attacks_as, is_attacked, is_in_check}
 use Rattle.chess_board.specs.Soundness.{IsSound, has_men_of_right}
 use Rattle.chess_board.specs.PseudoLegal.{piece_goes, goes, suits}
 use Rattle.chess_board.specs.MakeMove.{men_after}
@@ -24,7 +24,10 @@ use Rattle.chess_moves.specs.declared.check_info.CheckInfo.{CheckInfo}
 use Rattle.chess_moves.specs.Hits.{is_hit}
 use Rattle.chess_moves.specs.Listing.{move_of}
 use Rattle.chess_moves.specs.CheckInfo.{IsCheckInfoOf}
-use Rattle.chess_moves.proofs.OwnColours.{same_colour, own_rook_not_other}
+use Rattle.chess_moves.proofs.Bridge.{attacked_same}
+use Rattle.chess_moves.proofs.Castled.{unattacked_castled}
+use Rattle.chess_moves.proofs.CastlingWays.{Castles, castles_says}
+use Rattle.chess_moves.proofs.OwnColours.{same_colour, other_colour, own_rook_not_other}
 use Rattle.chess_moves.proofs.MovedKings.{in_check_there, king_of_scene, king_goes, king_stays}
 use Rattle.chess_moves.proofs.SetBits.{has_or}
 use Rattle.chess_moves.proofs.KeptWays.{goes_safely}
@@ -58,33 +61,12 @@ rook_at_home p c wing sound right =
     pick Black KingSide a b c d = c
     pick Black QueenSide a b c d = d
 
--- What is known of a king that castles.
-pub record IsCastlingOn (p : Setup) (c : Colour) (a b : ℕ) (wing : Wing) : Type 0 where
-  pub right : has_right_of p.rights c wing ≡ true
-  pub home : a ≡ king_home c
-  pub goal : b ≡ king_goal c wing
-
-castling_on : (p : Setup) (c : Colour) (wing : Wing) (a b : ℕ) → castles_to p c wing a b ≡ true → IsCastlingOn p c a b wing
-castling_on p c wing a b h =
-    let right = has_right_of p.rights c wing in
-    let home = eqb a (king_home c) in
-    let goal = eqb b (king_goal c wing) in
-    let clear = is_clear p.men a (rook_home c wing) in
-    let out = not (is_attacked p.men a (other_side c)) in
-    let over = not (is_attacked p.men (crossed a b) (other_side c)) in
-    let last = not (is_attacked p.men b (other_side c)) in
-    let q = and_parts (right && home && goal && clear && out && over) last h in
-    let r = and_parts (right && home && goal && clear && out) over q.0 in
-    let s = and_parts (right && home && goal && clear) out r.0 in
-    let f = four_parts right home goal clear s.0 in
-    record { right = f.0; home = eqb-true a (king_home c) f.1; goal = eqb-true b (king_goal c wing) f.2 }
-
-some_wing : (p : Setup) (c : Colour) (a b : ℕ) → goes p c King a b ≡ true → eqb (file_gap a b) 2 ≡ true → (wing : Wing) × IsCastlingOn p c a b wing
+some_wing : (p : Setup) (c : Colour) (a b : ℕ) → goes p c King a b ≡ true → eqb (file_gap a b) 2 ≡ true → (wing : Wing) × Castles p c wing a b
 some_wing p c a b h far = elim (or_cases (piece_goes p c King a b) (castles p c a b) h) [
   | inl g ↦ let near = step_is_near p.men c a b ((and_parts (attacks_as p.men c King a b) (not (is_of c (man_at p.men b))) g).0) in absurd (cc)
   | inr g ↦ elim (or_cases (castles_to p c KingSide a b) (castles_to p c QueenSide a b) g) [
-    | inl w ↦ (KingSide, castling_on p c KingSide a b w)
-    | inr w ↦ (QueenSide, castling_on p c QueenSide a b w)
+    | inl w ↦ (KingSide, castles_says p c KingSide a b w)
+    | inr w ↦ (QueenSide, castles_says p c QueenSide a b w)
   ]
 ]
 
@@ -107,15 +89,8 @@ pub in_check_stepped : (info : CheckInfo) (p : Setup) (b : ℕ) → IsCheckInfoO
 in_check_stepped info p b h on near =
     rw near (in_check_there (moved p.men info.king b (king p.side)) p.side b (king_goes p.men p.side info.king b h.sound.squares on (king_of_scene info p h)))
 
--- Where its rook stands before it castles, no man of the other side does.
-pub castling_rook : (p : Setup) (a b : ℕ) → IsSound p → goes p p.side King a b ≡ true → eqb (file_gap a b) 2 ≡ true
-    → is_of (other_side p.side) (man_at p.men (rook_home p.side (wing_of a b))) ≡ false
-castling_rook p a b sound h far =
-    let w = some_wing p p.side a b h far in
-    rw (w.1.home, w.1.goal, wing_is p.side w.0) (own_rook_not_other p.side (man_at p.men (rook_home p.side w.0)) (rook_at_home p p.side w.0 sound w.1.right))
-
 -- The same once it castled.
-pub in_check_castled : (info : CheckInfo) (p : Setup) (b : ℕ) → IsCheckInfoOf info p → b < 64 → goes p p.side King info.king b ≡ true → eqb (file_gap info.king b) 2 ≡ true
+in_check_castled : (info : CheckInfo) (p : Setup) (b : ℕ) → IsCheckInfoOf info p → b < 64 → goes p p.side King info.king b ≡ true → eqb (file_gap info.king b) 2 ≡ true
     → is_in_check (men_after p (king p.side) (move_of info.king b None)) p.side
     ≡ is_hit (moved (moved p.men info.king b (king p.side)) (rook_home p.side (wing_of info.king b)) (crossed info.king b) (rook p.side)) b (other_side p.side)
 in_check_castled info p b h on goes_there far =
@@ -128,6 +103,25 @@ in_check_castled info p b h on goes_there far =
     let over : b ≢ crossed info.king b = rw (w.1.home, w.1.goal) apart.1 in
     rw far (in_check_there (castled men p.side info.king b) p.side b
     (king_stays men p.side b (rook_home p.side (wing_of info.king b)) (crossed info.king b) (rook p.side) long went home over (and-false (is_colour p.side p.side))))
+
+found_rook : (c : Colour) (place : Option Man) → is_rook_of c place ≡ true → (man : Man) × (place ≡ Some man) × (is_colour (other_side c) man.colour ≡ false)
+found_rook c None h = absurd (cc)
+found_rook c (Some man) h = (man, refl, own_rook_not_other c (Some man) h)
+
+-- A king that castled is not in check.
+pub safe_castled : (info : CheckInfo) (p : Setup) (b : ℕ) → IsCheckInfoOf info p → b < 64 → goes p p.side King info.king b ≡ true → eqb (file_gap info.king b) 2 ≡ true
+    → is_in_check (men_after p (king p.side) (move_of info.king b None)) p.side ≡ false
+safe_castled info p b h on goes_there far =
+    let c : Colour = p.side in
+    let w = some_wing p c info.king b goes_there far in
+    let found = found_rook c (man_at p.men (rook_home c w.0)) (rook_at_home p c w.0 h.sound w.1.right) in
+    let own = other_colour c c refl in
+    let there : man_at p.men (king_home c) ≡ Some (king c) = ap (man_at p.men) (sym w.1.home) ∙ h.king in
+    let on_goal : king_goal c w.0 < 64 = rw w.1.goal at on in
+    let safe : is_hit p.men (king_goal c w.0) (other_side c) ≡ false =
+    sym (attacked_same p.men (king_goal c w.0) (other_side c) on_goal) ∙ ap (λ s. is_attacked p.men s (other_side c)) (sym w.1.goal) ∙ w.1.safe_goal in
+    in_check_castled info p b h on goes_there far
+    ∙ rw (w.1.home, w.1.goal, wing_is c w.0) (unattacked_castled p.men c w.0 (king c) found.0 (other_side c) h.sound.squares there found.1 own found.2 (king c) (rook c) own own safe)
 
 -- The king is not attacked once it went from a to b.
 abbrev pub safe_at : Setup → ℕ → ℕ → Bool

@@ -21,6 +21,8 @@ pub mod ForceSets
 pub mod Compass
 pub mod Moved
 pub mod Placed
+pub mod Arrivals
+pub mod Castled
 pub mod Kept
 pub mod Removed
 pub mod ManSets
@@ -43,6 +45,7 @@ pub mod Members
 pub mod Promotions
 pub mod Walks
 pub mod Tallies
+pub mod KingCounts
 pub mod CheckMasks
 pub mod Unpinned
 pub mod Sums

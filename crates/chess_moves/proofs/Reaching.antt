@@ -1,50 +1,41 @@
--- What lies on a ray up to its first man, by bits.
+-- What lies on a ray behind its first man, by bits.
 use Rattle.std.proofs.Common.{◌≡◌, ◌≢◌, ℕ, ◌-◌, ◌^◌, ◌<◌, Bool, true, false, not, ◌&&◌, ◌||◌, eqb, refl, sym, ap, ◌∙◌, arith, w64, inl, inr}
-use Rattle.std.specs.Int.{bit_at, bit_not, trailing_zeros, leading_zeros}
+use Rattle.std.specs.Int.{bit_at, trailing_zeros, leading_zeros}
 use Rattle.std.specs.Int.RustNames.{bit_and, bit_or}
 use Rattle.std.proofs.lemmas.Nat.Bits.{bit_at-trailing_zeros}
 use Rattle.std.proofs.lemmas.Bool.{eq-eqb, eqb-true, and_from, and_parts, cases_eq, cases_lt, or_right, not-true, false_from_ne_true}
 use Rattle.std.proofs.lemmas.Nat.{or_lt}
 use Rattle.square_sets.specs.Members.{has}
-use Rattle.chess_moves.proofs.SetBits.{has_and, has_or, has_less, has_none}
+use Rattle.chess_moves.proofs.SetBits.{has_and, has_or, has_none}
 use Rattle.chess_moves.specs.declared.directions.Direction.{Direction}
 use Rattle.chess_moves.specs.declared.directions.Direction.TheVariants.{North, NorthEast, East, SouthEast, South, SouthWest, West, NorthWest}
 use Rattle.chess_board.specs.Squares.{all_below}
 use Rattle.chess_moves.proofs.Promotions.{same, same_equal, each}
-use Rattle.chess_moves.specs.Directions.{toward, is_rising, reaches}
+use Rattle.chess_moves.specs.Directions.{toward, is_rising, is_hidden}
 use Rattle.chess_moves.proofs.Geometry.{toward_above, toward_below}
 use Rattle.chess_moves.proofs.Scan.{bit_at-leading_zeros}
-use Rattle.chess_moves.proofs.Slides.{reached_to, reached_all}
+use Rattle.chess_moves.proofs.Slides.{hidden_beyond, hidden_none}
 
 has_no : (set u : ℕ) → bit_at set u ≡ 0 → has set u ≡ false
 has_no set u e = rw e
 
 -- the first man on the ray at b
-reach_from : (ray occupied beyond s b : ℕ) (d : Direction) → ((t : ℕ) → t < 64 → has ray t ≡ toward d s t)
-    → ((t : ℕ) → t < 64 → has beyond t ≡ toward d b t) → beyond < 2 ^ 64
-    → b < 64 → bit_at (bit_and ray occupied) b ≡ 1
+hidden_from : (ray occupied beyond s b : ℕ) (d : Direction) → ((t : ℕ) → t < 64 → has ray t ≡ toward d s t)
+    → ((t : ℕ) → t < 64 → has beyond t ≡ toward d b t) → b < 64 → bit_at (bit_and ray occupied) b ≡ 1
     → ((u : ℕ) → u < 64 → toward d s b ≡ true → toward d s u ≡ true → has (bit_and ray occupied) u ≡ true → u ≢ b → toward d b u ≡ true)
-    → (t : ℕ) → t < 64 → has (bit_and ray (bit_not w64 beyond)) t ≡ reaches (has occupied) d s t
-reach_from ray occupied beyond s b d rule rule_beyond fits on there first t l =
+    → (t : ℕ) → t < 64 → has beyond t ≡ is_hidden (has occupied) d s t
+hidden_from ray occupied beyond s b d rule rule_beyond on there first t l =
     let taken = and_parts (has ray b) (has occupied b) (sym (has_and ray occupied b) ∙ eq-eqb (bit_at (bit_and ray occupied) b) 1 there) in
     let line : toward d s b ≡ true = sym (rule b on) ∙ taken.0 in
-    let parts : has (bit_and ray (bit_not w64 beyond)) t ≡ (toward d s t && not (toward d b t)) =
-    has_less ray beyond t fits l ∙ ap (λ x. x && not (has beyond t)) (rule t l) ∙ ap (λ x. toward d s t && not x) (rule_beyond t l) in
-    parts ∙ sym (reached_to (has occupied) d s b t on line taken.1
-    (λ u k h m ne. first u k line h (has_and ray occupied u ∙ and_from (has ray u) (has occupied u) (rule u k ∙ h) m) ne))
+    rule_beyond t l ∙ hidden_beyond (has occupied) d s b t on line taken.1
+    (λ u k h m ne. first u k line h (has_and ray occupied u ∙ and_from (has ray u) (has occupied u) (rule u k ∙ h) m) ne)
 
 -- no man on the ray, and nothing beyond b
-reach_past : (ray occupied beyond s : ℕ) (d : Direction) → ((t : ℕ) → t < 64 → has ray t ≡ toward d s t) → beyond < 2 ^ 64
+hidden_past : (ray occupied beyond s : ℕ) (d : Direction) → ((t : ℕ) → t < 64 → has ray t ≡ toward d s t)
     → ((t : ℕ) → t < 64 → has beyond t ≡ false) → ((u : ℕ) → u < 64 → has (bit_and ray occupied) u ≡ false)
-    → (t : ℕ) → t < 64 → has (bit_and ray (bit_not w64 beyond)) t ≡ reaches (has occupied) d s t
-reach_past ray occupied beyond s d rule fits nothing none t l =
-    has_less ray beyond t fits l ∙ whole (has ray t) (has beyond t) (nothing t l) ∙ rule t l
-    ∙ sym (reached_all (has occupied) d s t (λ u k. ap (λ x. x && has occupied u) (sym (rule u k)) ∙ sym (has_and ray occupied u) ∙ none u k))
-  where
-    whole : (x y : Bool) → y ≡ false → (x && not y) ≡ x
-    whole true true e = sym e
-    whole true false e = refl
-    whole false y e = refl
+    → (t : ℕ) → t < 64 → has beyond t ≡ is_hidden (has occupied) d s t
+hidden_past ray occupied beyond s d rule nothing none t l =
+    nothing t l ∙ hidden_none (has occupied) d s t (λ u k. ap (λ x. x && has occupied u) (sym (rule u k)) ∙ sym (has_and ray occupied u) ∙ none u k)
 
 -- nothing lies beyond h8 as the numbers rise, and nothing beyond a1 as they fall
 end_tried : (d : Direction) → is_rising d ≡ true → all_below 64 (λ t. not (toward d 63 t)) ≡ true
@@ -86,22 +77,22 @@ in_more : (set more e u : ℕ) → OneMore set more e → u < 64 → has set u �
 in_more set more e u h l m = h u l ∙ (rw m)
 
 -- The first man has the lowest number; with h8 taken there is one.
-pub reach_rising : (ray occupied more beyond s : ℕ) (d : Direction) → is_rising d ≡ true → ((t : ℕ) → t < 64 → has ray t ≡ toward d s t)
+pub hidden_rising : (ray occupied more beyond s : ℕ) (d : Direction) → is_rising d ≡ true → ((t : ℕ) → t < 64 → has ray t ≡ toward d s t)
     → OneMore (bit_and ray occupied) more 63 → more < 2 ^ 64
-    → ((t : ℕ) → t < 64 → has beyond t ≡ toward d (trailing_zeros w64 more) t) → beyond < 2 ^ 64
-    → (t : ℕ) → t < 64 → has (bit_and ray (bit_not w64 beyond)) t ≡ reaches (has occupied) d s t
-reach_rising ray occupied more beyond s d rises rule one_more small rule_beyond fits =
+    → ((t : ℕ) → t < 64 → has beyond t ≡ toward d (trailing_zeros w64 more) t)
+    → (t : ℕ) → t < 64 → has beyond t ≡ is_hidden (has occupied) d s t
+hidden_rising ray occupied more beyond s d rises rule one_more small rule_beyond =
     let m : ℕ = bit_and ray occupied in
     let z = bit_at-trailing_zeros w64 more (some_more m more 63 one_more (omega arith)) small in
     let b : ℕ = trailing_zeros w64 more in
     let low : (u : ℕ) → u < b → u < 64 → has m u ≡ true → ⊥ = λ u l k there. let none = has_no more u (z.2 u l) in let some = in_more m more 63 u one_more k there in cc in
-    (elim (has m b) as (λ x. has m b ≡ x → (t : ℕ) → t < 64 → has (bit_and ray (bit_not w64 beyond)) t ≡ reaches (has occupied) d s t) [
-      | true ↦ λ e. reach_from ray occupied beyond s b d rule rule_beyond fits z.0 (eqb-true (bit_at m b) 1 e)
+    (elim (has m b) as (λ x. has m b ≡ x → (t : ℕ) → t < 64 → has beyond t ≡ is_hidden (has occupied) d s t) [
+      | true ↦ λ e. hidden_from ray occupied beyond s b d rule rule_beyond z.0 (eqb-true (bit_at m b) 1 e)
           (λ u k line h there ne. toward_above d s b u rises line h (elim (cases_lt u b) [ inl l ↦ absurd (low u l k there) | inr g ↦ omega arith ]))
       | false ↦ λ e.
           let last : has more b ≡ eqb b 63 = one_more b z.0 ∙ (rw e) in
           let at_end : b ≡ 63 = eqb-true b 63 (sym last ∙ eq-eqb (bit_at more b) 1 z.1) in
-          reach_past ray occupied beyond s d rule fits
+          hidden_past ray occupied beyond s d rule
           (λ t l. rule_beyond t l ∙ ap (λ (u : ℕ). toward d u t) at_end ∙ nothing_at d 63 t (end_tried d rises) l)
           (λ u k. elim (cases_lt u b) [
             | inl l ↦ false_from_ne_true (has m u) (λ there. low u l k there)
@@ -110,22 +101,22 @@ reach_rising ray occupied more beyond s d rises rule one_more small rule_beyond 
     ]) refl
 
 -- The first man has the highest number; with a1 taken there is one.
-pub reach_falling : (ray occupied more beyond s : ℕ) (d : Direction) → is_rising d ≡ false → ((t : ℕ) → t < 64 → has ray t ≡ toward d s t)
+pub hidden_falling : (ray occupied more beyond s : ℕ) (d : Direction) → is_rising d ≡ false → ((t : ℕ) → t < 64 → has ray t ≡ toward d s t)
     → OneMore (bit_and ray occupied) more 0 → more < 2 ^ 64
-    → ((t : ℕ) → t < 64 → has beyond t ≡ toward d (63 - leading_zeros w64 more) t) → beyond < 2 ^ 64
-    → (t : ℕ) → t < 64 → has (bit_and ray (bit_not w64 beyond)) t ≡ reaches (has occupied) d s t
-reach_falling ray occupied more beyond s d rises rule one_more small rule_beyond fits =
+    → ((t : ℕ) → t < 64 → has beyond t ≡ toward d (63 - leading_zeros w64 more) t)
+    → (t : ℕ) → t < 64 → has beyond t ≡ is_hidden (has occupied) d s t
+hidden_falling ray occupied more beyond s d rises rule one_more small rule_beyond =
     let m : ℕ = bit_and ray occupied in
     let z = bit_at-leading_zeros more (some_more m more 0 one_more (omega arith)) small in
     let b : ℕ = 63 - leading_zeros w64 more in
     let high : (u : ℕ) → b < u → u < 64 → has m u ≡ true → ⊥ = λ u l k there. let none = has_no more u (z.3 u l) in let some = in_more m more 0 u one_more k there in cc in
-    (elim (has m b) as (λ x. has m b ≡ x → (t : ℕ) → t < 64 → has (bit_and ray (bit_not w64 beyond)) t ≡ reaches (has occupied) d s t) [
-      | true ↦ λ e. reach_from ray occupied beyond s b d rule rule_beyond fits z.0 (eqb-true (bit_at m b) 1 e)
+    (elim (has m b) as (λ x. has m b ≡ x → (t : ℕ) → t < 64 → has beyond t ≡ is_hidden (has occupied) d s t) [
+      | true ↦ λ e. hidden_from ray occupied beyond s b d rule rule_beyond z.0 (eqb-true (bit_at m b) 1 e)
           (λ u k line h there ne. toward_below d s b u rises line h (elim (cases_lt u b) [ inl l ↦ l | inr g ↦ absurd (high u (omega arith) k there) ]))
       | false ↦ λ e.
           let last : has more b ≡ eqb b 0 = one_more b z.0 ∙ (rw e) in
           let at_end : b ≡ 0 = eqb-true b 0 (sym last ∙ eq-eqb (bit_at more b) 1 z.2) in
-          reach_past ray occupied beyond s d rule fits
+          hidden_past ray occupied beyond s d rule
           (λ t l. rule_beyond t l ∙ ap (λ (u : ℕ). toward d u t) at_end ∙ nothing_at d 0 t (start_tried d rises) l)
           (λ u k. elim (cases_lt b u) [
             | inl l ↦ false_from_ne_true (has m u) (λ there. high u l k there)

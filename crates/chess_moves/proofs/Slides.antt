@@ -1,8 +1,9 @@
 -- What a slider reaches.
 use Rattle.std.proofs.Common.{◌≡◌, ◌≢◌, ℕ, ◌<◌, Bool, true, false, not, ◌&&◌, eqb, refl, sym, ap, ◌∙◌}
 use Rattle.std.proofs.lemmas.Bool.{and_parts, and_from, eqb-true, eqb-false, false_from_ne_true, not-true, not_from_false}
+use Rattle.std.proofs.Math.Bool.{and-false}
 use Rattle.chess_moves.specs.declared.directions.Direction.{Direction}
-use Rattle.chess_moves.specs.Directions.{toward, opposite, is_blocked, reaches}
+use Rattle.chess_moves.specs.Directions.{toward, opposite, is_blocked, is_hidden, reaches}
 use Rattle.chess_moves.proofs.AnyLemmas.{any_same, any_none, any_at, any_some}
 use Rattle.chess_moves.proofs.Geometry.{toward_on, toward_back, toward_self}
 
@@ -66,35 +67,32 @@ reached_before taken after d a k o stays hidden h =
     and_from (toward d a k) (not (is_blocked taken d a k)) x.0
     (not_from_false (is_blocked taken d a k) (false_from_ne_true (is_blocked taken d a k) (λ e. let again = still_blocked taken after d a k o stays hidden e in cc)))
 
--- with the nearest man on the ray at b: what is reached is what does not lie beyond b
-pub reached_to : (taken : ℕ → Bool) (d : Direction) (a b t : ℕ) → b < 64 → toward d a b ≡ true → taken b ≡ true
+-- with the nearest man on the ray at b: what lies behind a man is what lies beyond b
+pub hidden_beyond : (taken : ℕ → Bool) (d : Direction) (a b t : ℕ) → b < 64 → toward d a b ≡ true → taken b ≡ true
     → ((u : ℕ) → u < 64 → toward d a u ≡ true → taken u ≡ true → u ≢ b → toward d b u ≡ true)
-    → reaches taken d a t ≡ (toward d a t && not (toward d b t))
-reached_to taken d a b t on line there first =
-    ap (λ (x : Bool). toward d a t && not x)
-    ((elim (toward d b t) as (λ x. toward d b t ≡ x → is_blocked taken d a t ≡ x) [
-      | true ↦ λ e. blocked_at taken d a t b on line e there
-      | false ↦ λ e. false_from_ne_true (is_blocked taken d a t) (λ h.
+    → toward d b t ≡ is_hidden taken d a t
+hidden_beyond taken d a b t on line there first =
+    (elim (toward d b t) as (λ x. toward d b t ≡ x → x ≡ (toward d a t && is_blocked taken d a t)) [
+      | true ↦ λ e. sym (and_from (toward d a t) (is_blocked taken d a t) (toward_on d a b t line e) (blocked_at taken d a t b on line e there))
+      | false ↦ λ e.
+          let open_line : is_blocked taken d a t ≡ false = false_from_ne_true (is_blocked taken d a t) (λ h.
           let u = blocker_of taken d a t h in
           (elim (eqb u.square b) as (λ x. eqb u.square b ≡ x → ⊥) [
             | true ↦ λ same. let beyond : toward d b t ≡ true = ap (λ x. toward d x t) (sym (eqb-true u.square b same)) ∙ u.before in cc
             | false ↦ λ apart. let beyond = toward_on d b u.square t (first u.square u.on_board u.behind u.is_taken (eqb-false u.square b apart)) u.before in cc
-          ]) refl)
-    ]) refl)
+          ]) refl) in
+          rw open_line (sym (and-false (toward d a t)))
+    ]) refl
 
--- with no man on the ray all of it is reached
-pub reached_all : (taken : ℕ → Bool) (d : Direction) (a t : ℕ)
+-- with no man on the ray nothing of it is hidden
+pub hidden_none : (taken : ℕ → Bool) (d : Direction) (a t : ℕ)
     → ((u : ℕ) → u < 64 → (toward d a u && taken u) ≡ false)
-    → reaches taken d a t ≡ toward d a t
-reached_all taken d a t none =
+    → false ≡ is_hidden taken d a t
+hidden_none taken d a t none =
     let open_line : is_blocked taken d a t ≡ false = any_none (λ s. toward d a s && toward d s t && taken s) 64 (λ s l. dropped (toward d a s) (toward d s t) (taken s) (none s l)) in
-    rw open_line (kept (toward d a t))
+    rw open_line (sym (and-false (toward d a t)))
   where
     dropped : (x y z : Bool) → (x && z) ≡ false → (x && y && z) ≡ false
     dropped true true z e = e
     dropped true false z e = refl
     dropped false y z e = refl
-
-    kept : (x : Bool) → (x && true) ≡ x
-    kept true = refl
-    kept false = refl

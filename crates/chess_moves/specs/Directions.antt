@@ -75,6 +75,10 @@ is_on_straight a b = toward North a b || toward East a b || toward South a b || 
 abbrev pub is_blocked : (ℕ → Bool) → Direction → ℕ → ℕ → Bool
 is_blocked taken d a b = some_square (λ s. toward d a s && toward d s b && taken s)
 
+-- Square b lies in this direction from a, behind a square that is taken.
+abbrev pub is_hidden : (ℕ → Bool) → Direction → ℕ → ℕ → Bool
+is_hidden taken d a b = toward d a b && is_blocked taken d a b
+
 -- Square b lies in this direction from a, and no square strictly between them is taken.
 abbrev pub reaches : (ℕ → Bool) → Direction → ℕ → ℕ → Bool
 reaches taken d a b = toward d a b && not (is_blocked taken d a b)

@@ -5,7 +5,7 @@ ghost use Rattle.square_sets.specs.Members.{has};
 ghost use Rattle.chess_board.specs.declared.men.Man.{Man as ManValue};
 ghost use Rattle.chess_board.specs.Attacks.{is_attacked};
 ghost use Rattle.chess_board.specs.Sets.{IsSetOf};
-ghost use Rattle.chess_moves.specs.Directions.{reaches, reaches_as_bishop, reaches_as_rook, sights, sights_as_bishop, sights_as_rook};
+ghost use Rattle.chess_moves.specs.Directions.{reaches_as_bishop, reaches_as_rook, sights, sights_as_bishop, sights_as_rook};
 ghost use Rattle.chess_moves.specs.Hits.{hits_from, is_hit};
 ghost use Rattle.chess_moves.specs.Forces.{StandFor};
 
@@ -39,6 +39,9 @@ pub(crate) fn diagonal_sight(rays: &Rays, occupied: u64, sliders: u64, square: u
     requires { square < 64 }
     ensures { (t : ℕ) → t < 64 → has result t ≡ sights_as_bishop (has occupied) (has sliders) square t }
 {
+    if sliders & rays.diagonals(square) == 0 {
+        return 0;
+    }
     sight_along(rays, occupied, sliders, square, Direction::NorthEast)
         | sight_along(rays, occupied, sliders, square, Direction::SouthEast)
         | sight_along(rays, occupied, sliders, square, Direction::SouthWest)
@@ -50,49 +53,37 @@ pub(crate) fn straight_sight(rays: &Rays, occupied: u64, sliders: u64, square: u
     requires { square < 64 }
     ensures { (t : ℕ) → t < 64 → has result t ≡ sights_as_rook (has occupied) (has sliders) square t }
 {
+    if sliders & rays.straights(square) == 0 {
+        return 0;
+    }
     sight_along(rays, occupied, sliders, square, Direction::North)
         | sight_along(rays, occupied, sliders, square, Direction::East)
         | sight_along(rays, occupied, sliders, square, Direction::South)
         | sight_along(rays, occupied, sliders, square, Direction::West)
 }
 
-/// The sliders that see a square along one of its rays. A ray with none of them on it is not scanned.
-fn attackers_along(
-    rays: &Rays,
-    occupied: u64,
-    sliders: u64,
-    square: u8,
-    direction: Direction,
-) -> u64
-    requires { square < 64 }
-    ensures { (t : ℕ) → t < 64 → has result t ≡ (has sliders t && reaches (has occupied) direction square t) }
-{
-    if sliders & rays.ray(square, direction) == 0 {
-        return 0;
-    }
-    sliders & rays.ray_attacks(square, direction, occupied)
-}
-
-/// The sliders that see a square as bishops do.
+/// The sliders that see a square as bishops do. Where none of them stands on its diagonals nothing is scanned.
 fn diagonal_attackers(rays: &Rays, occupied: u64, sliders: u64, square: u8) -> u64
     requires { square < 64 }
     ensures { (t : ℕ) → t < 64 → has result t ≡ (has sliders t && reaches_as_bishop (has occupied) square t) }
 {
-    attackers_along(rays, occupied, sliders, square, Direction::NorthEast)
-        | attackers_along(rays, occupied, sliders, square, Direction::SouthEast)
-        | attackers_along(rays, occupied, sliders, square, Direction::SouthWest)
-        | attackers_along(rays, occupied, sliders, square, Direction::NorthWest)
+    let near = sliders & rays.diagonals(square);
+    if near == 0 {
+        return 0;
+    }
+    near & rays.bishop_attacks(square, occupied)
 }
 
-/// The sliders that see a square as rooks do.
+/// The sliders that see a square as rooks do. Where none of them stands on its rank or its file nothing is scanned.
 fn straight_attackers(rays: &Rays, occupied: u64, sliders: u64, square: u8) -> u64
     requires { square < 64 }
     ensures { (t : ℕ) → t < 64 → has result t ≡ (has sliders t && reaches_as_rook (has occupied) square t) }
 {
-    attackers_along(rays, occupied, sliders, square, Direction::North)
-        | attackers_along(rays, occupied, sliders, square, Direction::East)
-        | attackers_along(rays, occupied, sliders, square, Direction::South)
-        | attackers_along(rays, occupied, sliders, square, Direction::West)
+    let near = sliders & rays.straights(square);
+    if near == 0 {
+        return 0;
+    }
+    near & rays.rook_attacks(square, occupied)
 }
 
 /// The squares from which men of a colour attack a square, on whatever board these sets stand for.

@@ -1,19 +1,16 @@
-//! Castling: where the king goes that castles, and whether it is safe there (FIDE Laws of Chess, article 3.8.2).
+//! Castling: where the king goes that castles (FIDE Laws of Chess, article 3.8.2).
 
-ghost use Rattle.std.specs.Prelude.{◌≡◌, ℕ, ◌<◌, false, not};
+ghost use Rattle.std.specs.Prelude.{◌≡◌, ℕ, ◌<◌};
 ghost use Rattle.square_sets.specs.Members.{has};
-ghost use Rattle.chess_board.specs.declared.men.Man.{Man as ManValue};
-ghost use Rattle.chess_board.specs.Positions.{Setup, man_at, moved};
-ghost use Rattle.chess_board.specs.Men.{is_colour, is_of, other_side};
+ghost use Rattle.chess_board.specs.Positions.{Setup};
+ghost use Rattle.chess_board.specs.Men.{other_side};
 ghost use Rattle.chess_board.specs.Attacks.{is_attacked};
 ghost use Rattle.chess_board.specs.Castling.{king_home as king_home_of, rook_home as rook_home_of, castles_to, castles};
 ghost use Rattle.chess_moves.specs.Directions.{stands_between};
-ghost use Rattle.chess_moves.specs.Hits.{is_hit};
 ghost use Rattle.chess_moves.specs.CheckInfo.{IsCheckInfoOf};
 
 use crate::attackers::is_hit_over;
 use crate::check_info::{CheckInfo, is_checked};
-use crate::forces::without;
 use crate::rays::Rays;
 use chess_board::{Colour, Position, Wing, king_goal, king_home};
 
@@ -68,23 +65,4 @@ pub(crate) fn castling_targets(rays: &Rays, position: &Position, info: &CheckInf
     }
     castling_target(rays, position, info, Wing::KingSide)
         | castling_target(rays, position, info, Wing::QueenSide)
-}
-
-/// Whether the king is safe once it castled: it went to the target, and then its rook from one square to another.
-pub(crate) fn is_safe_castled(
-    rays: &Rays,
-    info: &CheckInfo,
-    target: u8,
-    rook_home: u8,
-    crossed: u8,
-) -> bool
-    requires { (info.now.king < 64) × (target < 64) × (rook_home < 64) × (crossed < 64) }
-    ensures { (p : Setup) (own rook : ManValue) → IsCheckInfoOf info.now p → is_colour (other_side p.side) own.colour ≡ false
-        → is_of (other_side p.side) (man_at p.men rook_home) ≡ false → is_colour (other_side p.side) rook.colour ≡ false
-        → result ≡ not (is_hit (moved (moved p.men info.now.king target own) rook_home crossed rook) target (other_side p.side)) }
-{
-    let stepped = square_sets::with(square_sets::without(info.occupied, info.king), target);
-    let after = square_sets::with(square_sets::without(stepped, rook_home), crossed);
-    let left = without(&without(&info.enemy, target), crossed);
-    !is_hit_over(rays, after, &left, info.side.other(), target)
 }

@@ -18,15 +18,15 @@ use crate::forces::{Force, without};
 use crate::rays::Rays;
 use chess_board::Colour;
 
-/// Whether the king is safe once it stepped to a square.
+/// Whether the king is safe once it stepped to a square. Whom it captures there attacks no square of its own, so that only the king
+/// is lifted off the board.
 pub(crate) fn is_safe_step(rays: &Rays, info: &CheckInfo, target: u8) -> bool
     requires { (info.now.king < 64) × (target < 64) }
     ensures { (p : Setup) (own : ManValue) → IsCheckInfoOf info.now p → is_colour (other_side p.side) own.colour ≡ false
         → result ≡ not (is_hit (moved p.men info.now.king target own) target (other_side p.side)) }
 {
-    let after = square_sets::with(square_sets::without(info.occupied, info.king), target);
-    let left = without(&info.enemy, target);
-    !is_hit_over(rays, after, &left, info.side.other(), target)
+    let lifted = square_sets::without(info.occupied, info.king);
+    !is_hit_over(rays, lifted, &info.enemy, info.side.other(), target)
 }
 
 /// The squares on which a man stops each of these attackers: by a capture, or by standing in its way.

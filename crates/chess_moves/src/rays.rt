@@ -3,9 +3,9 @@
 ghost use Rattle.std.specs.Prelude.{◌≡◌, ℕ, ◌<◌};
 ghost use Rattle.square_sets.specs.Members.{has};
 ghost use Rattle.chess_board.specs.Squares.{gap};
-ghost use Rattle.chess_moves.specs.Directions.{toward, reaches, reaches_as_bishop, reaches_as_rook, is_on_diagonal, is_on_straight, stands_between, RaysInOrder};
+ghost use Rattle.chess_moves.specs.Directions.{toward, is_hidden, reaches, reaches_as_bishop, reaches_as_rook, is_on_diagonal, is_on_straight, stands_between, RaysInOrder};
 ghost use Rattle.chess_moves.specs.Leaps.{leaps};
-ghost use Rattle.chess_moves.specs.Rays.{AreRaysFrom, AreLeapsFrom, AreRays};
+ghost use Rattle.chess_moves.specs.Rays.{AreRaysToward, AreTargetsOf, AreOneSetOf, AreRays};
 
 use crate::directions::{Direction, Leap};
 use std::marker::Model;
@@ -43,21 +43,15 @@ fn ray_from(square: u8, direction: Direction) -> u64
     set
 }
 
-/// The eight rays from a square, in the order of the directions.
-fn rays_from(square: u8) -> [u64; 8]
-    requires { square < 64 }
-    ensures { AreRaysFrom square result }
+/// The rays in a direction, one from each square.
+fn rays_toward(direction: Direction) -> [u64; 64]
+    ensures { AreRaysToward direction result }
 {
-    [
-        ray_from(square, Direction::North),
-        ray_from(square, Direction::NorthEast),
-        ray_from(square, Direction::East),
-        ray_from(square, Direction::SouthEast),
-        ray_from(square, Direction::South),
-        ray_from(square, Direction::SouthWest),
-        ray_from(square, Direction::West),
-        ray_from(square, Direction::NorthWest),
-    ]
+    let mut rays = [0; 64];
+    for square in 0..64u8 {
+        rays[square as usize] = ray_from(square, direction);
+    }
+    rays
 }
 
 /// How far apart two files, or two ranks, are.
@@ -103,29 +97,36 @@ fn leap_from(square: u8, leap: Leap) -> u64
     set
 }
 
-/// The targets of the eight leaps from a square, in their order.
-fn leaps_from(square: u8) -> [u64; 8]
-    requires { square < 64 }
-    ensures { AreLeapsFrom square result }
+/// The targets of a leap, from each square.
+fn targets_of(leap: Leap) -> [u64; 64]
+    ensures { AreTargetsOf leap result }
 {
-    [
-        leap_from(square, Leap::KnightLeap),
-        leap_from(square, Leap::KingStep),
-        leap_from(square, Leap::WhiteCapture),
-        leap_from(square, Leap::BlackCapture),
-        leap_from(square, Leap::WhiteStep),
-        leap_from(square, Leap::BlackStep),
-        leap_from(square, Leap::WhiteDouble),
-        leap_from(square, Leap::BlackDouble),
-    ]
+    let mut targets = [0; 64];
+    for square in 0..64u8 {
+        targets[square as usize] = leap_from(square, leap);
+    }
+    targets
 }
 
-/// For each square its eight rays and the targets of its leaps: made once for a program, and passed by reference to each
-/// question about moves.
+/// For each square its sets of four tables as one.
+fn one_set(a: &[u64; 64], b: &[u64; 64], c: &[u64; 64], d: &[u64; 64]) -> [u64; 64]
+    ensures { AreOneSetOf a.now b.now c.now d.now result }
+{
+    let mut sets = [0; 64];
+    for square in 0..64 {
+        sets[square] = a[square] | b[square] | c[square] | d[square];
+    }
+    sets
+}
+
+/// For each square its eight rays, its diagonals, its file and rank, and where the leaps go from it: made once for a program, and
+/// passed by reference to each question about moves.
 #[derive(Clone, Debug, Drop)]
 pub struct Rays {
-    rays: [[u64; 8]; 64],
-    leaps: [[u64; 8]; 64],
+    rays: [[u64; 64]; 8],
+    leaps: [[u64; 64]; 8],
+    diagonals: [u64; 64],
+    straights: [u64; 64],
 }
 
 impl Model for Rays {
@@ -133,11 +134,11 @@ impl Model for Rays {
 
     ghost Value = { Tables };
 
-    ghost view = { λ r. record { rays = r.rays; leaps = r.leaps } };
+    ghost view = { λ r. record { rays = r.rays; leaps = r.leaps; diagonals = r.diagonals; straights = r.straights } };
 
-    ghost invariant = { λ r. AreRays (record { rays = r.rays; leaps = r.leaps }) };
+    ghost invariant = { λ r. AreRays (record { rays = r.rays; leaps = r.leaps; diagonals = r.diagonals; straights = r.straights }) };
 
-    ghost inverse = { λ v. record { rays = v.rays; leaps = v.leaps } };
+    ghost inverse = { λ v. record { rays = v.rays; leaps = v.leaps; diagonals = v.diagonals; straights = v.straights } };
 }
 
 impl Rays {
@@ -145,13 +146,31 @@ impl Rays {
     pub fn new() -> Rays
         ensures { AreRays result }
     {
-        let mut rays = [[0; 8]; 64];
-        let mut leaps = [[0; 8]; 64];
-        for square in 0..64u8 {
-            rays[square as usize] = rays_from(square);
-            leaps[square as usize] = leaps_from(square);
+        let north = rays_toward(Direction::North);
+        let north_east = rays_toward(Direction::NorthEast);
+        let east = rays_toward(Direction::East);
+        let south_east = rays_toward(Direction::SouthEast);
+        let south = rays_toward(Direction::South);
+        let south_west = rays_toward(Direction::SouthWest);
+        let west = rays_toward(Direction::West);
+        let north_west = rays_toward(Direction::NorthWest);
+        Rays {
+            diagonals: one_set(&north_east, &south_east, &south_west, &north_west),
+            straights: one_set(&north, &east, &south, &west),
+            rays: [
+                north, north_east, east, south_east, south, south_west, west, north_west,
+            ],
+            leaps: [
+                targets_of(Leap::KnightLeap),
+                targets_of(Leap::KingStep),
+                targets_of(Leap::WhiteCapture),
+                targets_of(Leap::BlackCapture),
+                targets_of(Leap::WhiteStep),
+                targets_of(Leap::BlackStep),
+                targets_of(Leap::WhiteDouble),
+                targets_of(Leap::BlackDouble),
+            ],
         }
-        Rays { rays, leaps }
     }
 
     /// The squares that lie in a direction from a square.
@@ -159,7 +178,7 @@ impl Rays {
         requires { square < 64 }
         ensures { (t : ℕ) → t < 64 → has result t ≡ toward direction square t }
     {
-        self.rays[square as usize][direction as usize]
+        self.rays[direction as usize][square as usize]
     }
 
     /// The squares to which a leap goes from a square.
@@ -167,13 +186,13 @@ impl Rays {
         requires { square < 64 }
         ensures { (t : ℕ) → t < 64 → has result t ≡ leaps leap square t }
     {
-        self.leaps[square as usize][leap as usize]
+        self.leaps[leap as usize][square as usize]
     }
 
-    /// What a man on the square sees in a direction, the first square that is taken included.
-    pub(crate) fn ray_attacks(&self, square: u8, direction: Direction, occupied: u64) -> u64
+    /// What a man on the square does not see in a direction: all that lies behind the first square that is taken.
+    fn hidden(&self, square: u8, direction: Direction, occupied: u64) -> u64
         requires { square < 64 }
-        ensures { (t : ℕ) → t < 64 → has result t ≡ reaches (has occupied) direction square t }
+        ensures { (t : ℕ) → t < 64 → has result t ≡ is_hidden (has occupied) direction square t }
     {
         let ray = self.ray(square, direction);
         // Beyond the last square of the board lies nothing, so that one more man there spares a test for a ray without any.
@@ -182,7 +201,15 @@ impl Rays {
         } else {
             63 - (ray & occupied | 1).leading_zeros()
         };
-        ray & !self.ray(first as u8, direction)
+        self.ray(first as u8, direction)
+    }
+
+    /// What a man on the square sees in a direction, the first square that is taken included.
+    pub(crate) fn ray_attacks(&self, square: u8, direction: Direction, occupied: u64) -> u64
+        requires { square < 64 }
+        ensures { (t : ℕ) → t < 64 → has result t ≡ reaches (has occupied) direction square t }
+    {
+        self.ray(square, direction) & !self.hidden(square, direction, occupied)
     }
 
     /// What a bishop on the square sees.
@@ -190,10 +217,11 @@ impl Rays {
         requires { square < 64 }
         ensures { (t : ℕ) → t < 64 → has result t ≡ reaches_as_bishop (has occupied) square t }
     {
-        self.ray_attacks(square, Direction::NorthEast, occupied)
-            | self.ray_attacks(square, Direction::SouthEast, occupied)
-            | self.ray_attacks(square, Direction::SouthWest, occupied)
-            | self.ray_attacks(square, Direction::NorthWest, occupied)
+        let hidden = self.hidden(square, Direction::NorthEast, occupied)
+            | self.hidden(square, Direction::SouthEast, occupied)
+            | self.hidden(square, Direction::SouthWest, occupied)
+            | self.hidden(square, Direction::NorthWest, occupied);
+        self.diagonals(square) & !hidden
     }
 
     /// What a rook on the square sees.
@@ -201,10 +229,11 @@ impl Rays {
         requires { square < 64 }
         ensures { (t : ℕ) → t < 64 → has result t ≡ reaches_as_rook (has occupied) square t }
     {
-        self.ray_attacks(square, Direction::North, occupied)
-            | self.ray_attacks(square, Direction::East, occupied)
-            | self.ray_attacks(square, Direction::South, occupied)
-            | self.ray_attacks(square, Direction::West, occupied)
+        let hidden = self.hidden(square, Direction::North, occupied)
+            | self.hidden(square, Direction::East, occupied)
+            | self.hidden(square, Direction::South, occupied)
+            | self.hidden(square, Direction::West, occupied);
+        self.straights(square) & !hidden
     }
 
     /// The squares on the diagonals of a square.
@@ -212,10 +241,7 @@ impl Rays {
         requires { square < 64 }
         ensures { (t : ℕ) → t < 64 → has result t ≡ is_on_diagonal square t }
     {
-        self.ray(square, Direction::NorthEast)
-            | self.ray(square, Direction::SouthEast)
-            | self.ray(square, Direction::SouthWest)
-            | self.ray(square, Direction::NorthWest)
+        self.diagonals[square as usize]
     }
 
     /// The squares on the file and the rank of a square.
@@ -223,10 +249,7 @@ impl Rays {
         requires { square < 64 }
         ensures { (t : ℕ) → t < 64 → has result t ≡ is_on_straight square t }
     {
-        self.ray(square, Direction::North)
-            | self.ray(square, Direction::East)
-            | self.ray(square, Direction::South)
-            | self.ray(square, Direction::West)
+        self.straights[square as usize]
     }
 
     /// The squares strictly between two squares of one line, or none.

@@ -12,13 +12,13 @@ ghost use Rattle.chess_moves.specs.Listing.{move_of, moves_to};
 ghost use Rattle.chess_moves.specs.CheckInfo.{IsCheckInfoOf};
 ghost use Rattle.chess_moves.specs.Targets.{AreTargets, IsTarget};
 
-use crate::castling::{castling_targets, is_safe_castled};
+use crate::castling::castling_targets;
 use crate::check_info::CheckInfo;
 use crate::en_passant::safe_en_passant;
 use crate::pins::{is_safe_step, legal_mask};
 use crate::pseudo_legal::{pawn_targets, piece_targets};
 use crate::rays::Rays;
-use chess_board::{Kind, Man, Position, Square, rook_home, wing_of};
+use chess_board::{Kind, Man, Position};
 use square_sets::with;
 
 /// The targets of the legal moves of a man of the side to move.
@@ -167,19 +167,12 @@ pub(crate) fn has_flight(rays: &Rays, position: &Position, info: &CheckInfo) -> 
     false
 }
 
-/// Whether the king is safe where it goes, by a step or by castling.
+/// Whether the king is safe where it goes, by a step or by castling. Where it may castle its goal was asked about, and castling opens no
+/// line to it.
 fn is_king_safe(rays: &Rays, info: &CheckInfo, target: u8) -> bool
     requires { (info.now.king < 64) × (target < 64) }
     ensures { (p : Setup) → IsCheckInfoOf info.now p → goes p p.side kind.King info.now.king target ≡ true
         → result ≡ not (is_in_check (men_after p (record { colour = p.side; kind = kind.King }) (move_of info.now.king target None)) p.side) }
 {
-    let origin = info.king;
-    if (origin % 8).abs_diff(target % 8) == 2 {
-        let (from, to) = (Square::numbered(origin), Square::numbered(target));
-        let home = rook_home(info.side, wing_of(from, to)).index() as u8;
-        let crossed = (origin + target) / 2;
-        is_safe_castled(rays, info, target, home, crossed)
-    } else {
-        is_safe_step(rays, info, target)
-    }
+    (info.king % 8).abs_diff(target % 8) == 2 || is_safe_step(rays, info, target)
 }

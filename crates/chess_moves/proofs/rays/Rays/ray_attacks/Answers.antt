@@ -1,26 +1,16 @@
-use Rattle.std.proofs.Common.{ℕ, ◌<◌, ◌^◌, ◌∙◌, ap, sym, arith, bit_and}
-use Rattle.std.proofs.lemmas.Nat.{and_le_l}
-use Rattle.chess_moves.specs.Directions.{toward}
-use Rattle.chess_moves.proofs.Reaching.{reach_rising, reach_falling, with_h8, with_a1, small_h8, small_a1, first_rising, first_falling}
-use Rattle.chess_moves.proofs.rays.Rays.ray_attacks.Goals.{then-rises, else-rises}
+use Rattle.std.proofs.Common.{◌≡◌, Bool, true, false, not, ◌&&◌, refl, ◌∙◌, arith}
+use Rattle.square_sets.specs.Members.{has}
+use Rattle.chess_moves.specs.Directions.{toward, is_blocked}
+use Rattle.chess_moves.proofs.SetBits.{has_less}
 use Rattle.chess_moves.proofs.rays.Rays.ray_attacks.Goals as goal
 
-pub overflow_sub-first : goal.overflow_sub-first
-overflow_sub-first c = omega (arith, first_falling (bit_and c.ray-ray.result c.args.occupied) (omega (arith, and_le_l c.ray-ray.result c.args.occupied)))
-
-pub ray-requires : goal.ray-requires
-ray-requires c = elim c.if-rises.branch [
-  | then-rises w ↦ omega (arith, w.first-is, first_rising (bit_and c.ray-ray.result c.args.occupied) (omega (arith, and_le_l c.ray-ray.result c.args.occupied)))
-  | else-rises w ↦ omega (arith, w.first-is)
-]
+-- what is on the ray and not among those of the ray that are blocked
+open_one : (ray hidden line blocked : Bool) → ray ≡ line → hidden ≡ (line && blocked) → (ray && not hidden) ≡ (line && not blocked)
+open_one ray hidden true blocked e f = rw (e, f) refl
+open_one ray hidden false blocked e f = rw e refl
 
 pub returns : goal.returns
-returns c =
-    let set : ℕ = bit_and c.ray-ray.result c.args.occupied in
-    let small : set < 2 ^ 64 = omega (arith, and_le_l c.ray-ray.result c.args.occupied) in
-    elim c.if-rises.branch [
-      | then-rises w ↦ reach_rising c.ray-ray.result c.args.occupied _ c.ray.result c.args.square c.args.direction (sym w.if-rises.ensures) c.ray-ray.ensures (with_h8 set) (small_h8 set small)
-          (λ t l. c.ray.ensures t l ∙ ap (λ b. toward c.args.direction b t) w.first-is) (omega arith)
-      | else-rises w ↦ reach_falling c.ray-ray.result c.args.occupied _ c.ray.result c.args.square c.args.direction (sym w.if-rises.ensures) c.ray-ray.ensures (with_a1 set) (small_a1 set small)
-          (λ t l. c.ray.ensures t l ∙ ap (λ b. toward c.args.direction b t) w.first-is) (omega arith)
-    ]
+returns c = λ t l.
+    has_less c.ray.result c.hidden.result t (omega arith) l
+    ∙ open_one (has c.ray.result t) (has c.hidden.result t) (toward c.args.direction c.args.square t) (is_blocked (has c.args.occupied) c.args.direction c.args.square t)
+    (c.ray.ensures t l) (c.hidden.ensures t l)
