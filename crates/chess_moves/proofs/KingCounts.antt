@@ -1,5 +1,5 @@
 -- The moves of a side's king are those from its one square.
-use Rattle.std.proofs.Common.{◌≡◌, ℕ, zero, suc, ◌+◌, ◌*◌, ◌%◌, ◌^◌, ◌<◌, ◌≤◌, Bool, true, false, eqb, ltb, cond, filter, length, Option, refl, ap, ◌∙◌, arith, bit_or, w64}
+use Rattle.std.proofs.Common.{◌≡◌, ℕ, zero, suc, ◌+◌, ◌*◌, ◌%◌, ◌^◌, ◌<◌, ◌≤◌, Bool, true, false, ◌&&◌, eqb, ltb, cond, filter, length, Option, refl, ap, subst, ◌∙◌, arith, bit_or, w64}
 use Rattle.std.proofs.lemmas.Bool.{eqb-true, eqb-false, eq-eqb, false_from_ne_true}
 use Rattle.std.proofs.lemmas.Bool.Decides.{nat_tests}
 use Rattle.std.proofs.lemmas.Nat.Bits.{bit_at-zero, bit_at_set_same, bit_at_set_other}
@@ -33,13 +33,13 @@ has-one_square k s l h = (elim (eqb s k) as (λ b. eqb s k ≡ b → has (one_sq
 -- the king's set is that of its square
 pub king_alone : (info : CheckInfo) (p : Setup) → IsCheckInfoOf info p → IsSetOf (one_square info.king) (is_man info.side King) p.men
 king_alone info p h =
-    let at = king_of_scene info p h in
+    let one = king_of_scene info p h in
     let there : is_man info.side King (man_at p.men info.king) ≡ true =
-    ap (λ place. is_man info.side King place) at.here ∙ ap (λ (x : Bool). cond x true false) (same_colour info.side p.side h.side) in
+    ap (λ place. is_man info.side King place) one.here ∙ ap (λ (x : Bool). x && true) (same_colour info.side p.side h.side) in
     λ s l. has-one_square info.king s h.on_board l ∙ ((elim (eqb s info.king) as (λ b. eqb s info.king ≡ b → b ≡ is_man info.side King (man_at p.men s)) [
       | true ↦ λ e. let same = eqb-true s info.king e in rw same (rw there refl)
       | false ↦ λ e. let ne = eqb-false s info.king e in rw (false_from_ne_true (is_man info.side King (man_at p.men s))
-          (λ is. ne (at.alone s l (ap (λ (c : Colour). is_man c King (man_at p.men s)) (h.side) at is)))) refl
+          (λ is. ne (one.alone s l (subst (λ (c : Colour). is_man c King (man_at p.men s) ≡ true) h.side is)))) refl
     ]) refl)
 
 many_alone : (p : Setup) (set k n : ℕ) → n ≤ 64 → ((s : ℕ) → s < 64 → has set s ≡ eqb s k) → many_below p set n ≡ cond (ltb k n) (many_from p k) 0
@@ -52,7 +52,8 @@ many_alone p set k (suc n) h alone =
           let there : has set n ≡ true = alone n (omega arith) ∙ e in
           let before : ltb k n ≡ false = grind (arith, nat_tests) in
           let now : ltb k (suc n) ≡ true = grind (arith, nat_tests) in
-          rw (many_alone p set k n (omega arith) alone, there, before, now) (ap (many_from p) same)
+          let as_many : many_from p n ≡ many_from p k = ap (many_from p) same in
+          rw (many_alone p set k n (omega arith) alone, there, before, now) (omega (arith, as_many))
       | false ↦ λ e.
           let ne = eqb-false n k e in
           let off : has set n ≡ false = alone n (omega arith) ∙ e in

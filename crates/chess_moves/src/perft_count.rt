@@ -1,13 +1,14 @@
 //! Perft: the count of the lines of play. The last moves are counted from sets of targets and not played; pawns that nothing holds
 //! back are moved ahead as a set.
 
-ghost use Rattle.std.specs.Prelude.{◌≡◌, ℕ, ◌≤◌, ◌<◌, ◌&&◌, ◌==◌, ◌^◌, length};
+ghost use Rattle.std.specs.Prelude.{◌≡◌, ℕ, ◌≤◌, ◌<◌, ◌&&◌, ◌==◌, ◌^◌, filter, length};
 ghost use Rattle.square_sets.specs.Members.{has};
 ghost use Rattle.chess_board.specs.declared.men.Kind.TheVariants as kind;
 ghost use Rattle.chess_board.specs.Positions.{Setup};
 ghost use Rattle.chess_board.specs.Squares.{file_of, rank_of};
 ghost use Rattle.chess_moves.specs.CheckInfo.{IsCheckInfoOf};
-ghost use Rattle.chess_moves.specs.Listing.{legal_moves};
+ghost use Rattle.chess_board.specs.Legality.{is_legal};
+ghost use Rattle.chess_moves.specs.Listing.{legal_moves, moves_to};
 ghost use Rattle.chess_moves.specs.MoveGeneration.{members, moves_of_men, HaveMenOf};
 ghost use Rattle.chess_moves.specs.Plays.{plays};
 ghost use Rattle.chess_moves.specs.Shifts.{is_shifted, back, left_file as left_file_of, right_file as right_file_of, third_rank as third_rank_of, AreFree};
@@ -17,7 +18,7 @@ use crate::en_passant::en_passant_origins;
 use crate::move_generation::legal_moves;
 use crate::movers::count_ways;
 use crate::rays::Rays;
-use crate::targets::targets_at_once;
+use crate::targets::{targets_at_once, targets_of_king};
 use chess_board::{Colour, Kind, Man, Position, after};
 
 /// How many lines of `depth` legal moves there are, played one after the other: the count by which programs compare their
@@ -62,13 +63,25 @@ fn count_moves(rays: &Rays, position: &Position) -> u64
     let bishops = position.men(info.side, Kind::Bishop);
     let rooks = position.men(info.side, Kind::Rook);
     let queens = position.men(info.side, Kind::Queen);
-    let kings = position.men(info.side, Kind::King);
     count_pawns(rays, position, &info, pawns)
         + count_from(rays, position, &info, Kind::Knight, knights)
         + count_from(rays, position, &info, Kind::Bishop, bishops)
         + count_from(rays, position, &info, Kind::Rook, rooks)
         + count_from(rays, position, &info, Kind::Queen, queens)
-        + count_from(rays, position, &info, Kind::King, kings)
+        + count_king(rays, position, &info)
+}
+
+/// How many legal moves the king has.
+fn count_king(rays: &Rays, position: &Position, info: &CheckInfo) -> u64
+    requires info { IsCheckInfoOf info.now position.now }
+    ensures count { result ≡ length (filter (is_legal position.now) (moves_to info.now.king 64)) }
+    ensures few { result ≤ 256 }
+{
+    let king = Man {
+        colour: info.side,
+        kind: Kind::King,
+    };
+    count_ways(king, targets_of_king(rays, position, info, king, info.king))
 }
 
 /// How many legal moves pawns have together. Those that might be pinned or capture en passant are asked one by one.

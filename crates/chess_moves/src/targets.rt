@@ -122,8 +122,14 @@ fn targets_of_pawn(rays: &Rays, position: &Position, info: &CheckInfo, man: Man,
         | safe_en_passant(rays, position, info, man, origin)
 }
 
-/// The same for the king. Each square is asked about by itself, since the king may step along the line of an attack.
-fn targets_of_king(rays: &Rays, position: &Position, info: &CheckInfo, man: Man, origin: u8) -> u64
+/// The targets of the king's legal moves. Each square is asked about by itself, since the king may step along the line of an attack.
+pub(crate) fn targets_of_king(
+    rays: &Rays,
+    position: &Position,
+    info: &CheckInfo,
+    man: Man,
+    origin: u8,
+) -> u64
     requires on_board { origin < 64 }
     requires info { IsCheckInfoOf info.now position.now }
     requires there { man_at position.now.men origin ≡ Some man }

@@ -1,6 +1,7 @@
 use Rattle.std.proofs.Common.{arith}
-use Rattle.chess_board.specs.declared.men.Kind.TheVariants.{Pawn, Knight, Bishop, Rook, Queen, King}
+use Rattle.chess_board.specs.declared.men.Kind.TheVariants.{Pawn, Knight, Bishop, Rook, Queen}
 use Rattle.chess_moves.proofs.Few.{few_legal}
+use Rattle.chess_moves.proofs.KingCounts.{one_square, king_alone, many_of_king}
 use Rattle.chess_moves.proofs.Tallies.{many_by_kinds, men_of_kind}
 use Rattle.chess_moves.proofs.perft_count.count_moves.Goals as goal
 
@@ -19,15 +20,12 @@ count_from-requires-3-clause-men c = men_of_kind c.args.position.now c.check_inf
 pub count_from-requires-4-clause-men : goal.count_from-requires-4-clause-men
 count_from-requires-4-clause-men c = men_of_kind c.args.position.now c.check_info_of-info.result.side Queen c.men-queens.result c.check_info_of-info.ensures.side c.men-queens.ensures
 
-pub count_from-requires-5-clause-men : goal.count_from-requires-5-clause-men
-count_from-requires-5-clause-men c = men_of_kind c.args.position.now c.check_info_of-info.result.side King c.men-kings.result c.check_info_of-info.ensures.side c.men-kings.ensures
-
 pub returns-clause-count : goal.returns-clause-count
 returns-clause-count c =
-    let kinds = many_by_kinds c.args.position.now c.check_info_of-info.result.side c.check_info_of-info.result.own c.men-pawns.result c.men-knights.result c.men-bishops.result c.men-rooks.result c.men-queens.result c.men-kings.result c.check_info_of-info.ensures.side c.check_info_of-info.ensures.own c.men-pawns.ensures c.men-knights.ensures c.men-bishops.ensures c.men-rooks.ensures c.men-queens.ensures c.men-kings.ensures in
-    omega (arith, kinds, c.count_pawns.ensures.count, c.count_from.ensures.count, c.count_from-2.ensures.count, c.count_from-3.ensures.count, c.count_from-4.ensures.count, c.count_from-5.ensures.count)
+    let kinds = many_by_kinds c.args.position.now c.check_info_of-info.result.side c.check_info_of-info.result.own c.men-pawns.result c.men-knights.result c.men-bishops.result c.men-rooks.result c.men-queens.result (one_square c.check_info_of-info.result.king) c.check_info_of-info.ensures.side c.check_info_of-info.ensures.own c.men-pawns.ensures c.men-knights.ensures c.men-bishops.ensures c.men-rooks.ensures c.men-queens.ensures (king_alone c.check_info_of-info.result c.args.position.now c.check_info_of-info.ensures) in
+    omega (arith, kinds, c.count_pawns.ensures.count, c.count_from.ensures.count, c.count_from-2.ensures.count, c.count_from-3.ensures.count, c.count_from-4.ensures.count, c.count_king.ensures.count, many_of_king c.args.position.now c.check_info_of-info.result.king c.check_info_of-info.ensures.on_board)
 
 pub returns-clause-few : goal.returns-clause-few
 returns-clause-few c =
-    let kinds = many_by_kinds c.args.position.now c.check_info_of-info.result.side c.check_info_of-info.result.own c.men-pawns.result c.men-knights.result c.men-bishops.result c.men-rooks.result c.men-queens.result c.men-kings.result c.check_info_of-info.ensures.side c.check_info_of-info.ensures.own c.men-pawns.ensures c.men-knights.ensures c.men-bishops.ensures c.men-rooks.ensures c.men-queens.ensures c.men-kings.ensures in
-    omega (arith, kinds, c.count_pawns.ensures.count, c.count_from.ensures.count, c.count_from-2.ensures.count, c.count_from-3.ensures.count, c.count_from-4.ensures.count, c.count_from-5.ensures.count, few_legal c.args.position.now c.check_info_of-info.ensures.sound)
+    let kinds = many_by_kinds c.args.position.now c.check_info_of-info.result.side c.check_info_of-info.result.own c.men-pawns.result c.men-knights.result c.men-bishops.result c.men-rooks.result c.men-queens.result (one_square c.check_info_of-info.result.king) c.check_info_of-info.ensures.side c.check_info_of-info.ensures.own c.men-pawns.ensures c.men-knights.ensures c.men-bishops.ensures c.men-rooks.ensures c.men-queens.ensures (king_alone c.check_info_of-info.result c.args.position.now c.check_info_of-info.ensures) in
+    omega (arith, kinds, c.count_pawns.ensures.count, c.count_from.ensures.count, c.count_from-2.ensures.count, c.count_from-3.ensures.count, c.count_from-4.ensures.count, c.count_king.ensures.count, many_of_king c.args.position.now c.check_info_of-info.result.king c.check_info_of-info.ensures.on_board, few_legal c.args.position.now c.check_info_of-info.ensures.sound)
