@@ -1,12 +1,11 @@
 -- The moves of a side's king are those from its one square.
-use Rattle.std.proofs.Common.{◌≡◌, ℕ, zero, suc, ◌+◌, ◌*◌, ◌%◌, ◌^◌, ◌<◌, ◌≤◌, Bool, true, false, ◌&&◌, eqb, ltb, cond, filter, length, Option, refl, ap, subst, ◌∙◌, arith, bit_or, w64}
-use Rattle.std.proofs.lemmas.Bool.{eqb-true, eqb-false, eq-eqb, false_from_ne_true}
+use Rattle.std.proofs.Common.{◌≡◌, ℕ, zero, suc, ◌+◌, ◌*◌, ◌%◌, ◌^◌, ◌<◌, ◌≤◌, Bool, true, false, ◌&&◌, eqb, ltb, cond, filter, length, refl, ap, subst, ◌∙◌, arith, bit_or, w64}
+use Rattle.std.proofs.lemmas.Bool.{eqb-true, eqb-false, false_from_ne_true}
 use Rattle.std.proofs.lemmas.Bool.Decides.{nat_tests}
 use Rattle.std.proofs.lemmas.Nat.Bits.{bit_at-zero, bit_at_set_same, bit_at_set_other}
 use Rattle.square_sets.specs.Members.{has}
 use Rattle.chess_board.specs.declared.men.Colour.{Colour}
 use Rattle.chess_board.specs.declared.men.Kind.TheVariants.{King}
-use Rattle.chess_board.specs.KindTests.{is_king_of}
 use Rattle.chess_board.specs.Legality.{is_legal}
 use Rattle.chess_board.specs.Men.{is_man}
 use Rattle.chess_board.specs.Positions.{Setup, man_at}
@@ -15,7 +14,6 @@ use Rattle.chess_moves.specs.declared.check_info.CheckInfo.{CheckInfo}
 use Rattle.chess_moves.specs.CheckInfo.{IsCheckInfoOf}
 use Rattle.chess_moves.specs.Listing.{moves_to}
 use Rattle.chess_moves.specs.MoveGeneration.{members, moves_of_men}
-use Rattle.chess_moves.proofs.KingTargets.{king}
 use Rattle.chess_moves.proofs.MovedKings.{king_of_scene}
 use Rattle.chess_moves.proofs.OwnColours.{same_colour}
 use Rattle.chess_moves.proofs.Tallies.{many_from, many_below, many_below_suc, many_none}
