@@ -17,7 +17,7 @@ pub struct Bench {
 }
 
 impl Bench {
-    ghost use Rattle.std.specs.Prelude.{◌≡◌, ◌<◌, ◌⊎◌, [], ◌∷◌, ◌++◌, length, IsOk, OnOk, IfErr, OnErr};
+    ghost use Rattle.std.specs.Prelude.{◌≡◌, ◌<◌, ◌⊎◌, [], ◌∷◌, ◌++◌, length, IsOk, OnOk, IfErr, OnErr, true};
     ghost use Rattle.desk_room.specs.Dealing.{stops, WasEmpty};
     ghost use Rattle.desk_room.specs.Orders.{taken_order};
     ghost use Rattle.desk_room.specs.Benches.{got, known_taken, given, places_known, bench_ring, SameBench};
@@ -52,5 +52,22 @@ impl Bench {
             Ok(()) => Ok(()),
             Err(PushError::Full(value)) => Err(value),
         }
+    }
+
+    /// Whether a place of the back ring is known to be free.
+    pub(crate) fn has_place(&mut self) -> bool
+        ensures place { result ≡ true → 0 < places_known self.new }
+    {
+        !self.back.is_full()
+    }
+
+    /// Gives a job back, solved or not, where a place of the back ring is known to be free.
+    pub(crate) fn give(&mut self, back: Back)
+        requires { 0 < places_known self.old }
+        ensures given { given self.new ≡ given self.old ++ back ∷ [] }
+        ensures got { got self.new ≡ got self.old }
+        ensures ends { SameBench self.old self.new }
+    {
+        self.back.push_reserved(back);
     }
 }

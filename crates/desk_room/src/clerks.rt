@@ -50,7 +50,7 @@ impl Clerk {
     ghost use Rattle.std.specs.Prelude.{◌≡◌, ◌<◌, ◌≤◌, ◌+◌, ◌-◌, ◌^◌, ℕ, List, [], ◌∷◌, ◌++◌, OnOk, length, true, false};
     ghost use Rattle.chess_notation.specs.Words.{is_blank as is_blank_text};
     ghost use Rattle.mate_search.specs.InputReplies.{without_cr as text_without_cr, lines_of, IsLineReply};
-    ghost use Rattle.desk_room.specs.Windows.{letters_sent, collected, places_known, default_of, SameWindow};
+    ghost use Rattle.desk_room.specs.Windows.{letters_sent, collected, deliveries_known, places_known, default_of, SameWindow};
     ghost use Rattle.desk_room.specs.Clerks.{Collects, HasDealt};
 
     /// A clerk at a window by which nothing went yet.
@@ -69,24 +69,49 @@ impl Clerk {
         }
     }
 
+    /// Takes the next answer, which is awaited and has come, and writes it.
+    fn take_answer(&mut self, alloc: Global, rays: &Rays) -> Result<(), Why>
+        requires awaited { 0 < length self.old.behind.items }
+        requires known { 0 < length (deliveries_known self.old.window) }
+        ensures window { SameWindow self.old.window self.new.window }
+        ensures collects { OnOk result (Collects self.old self.new) }
+    {
+        let Delivery::Answer(answer) = self.window.first_known() else {
+            // No clerk withdraws, so that no notice comes.
+            return Err(Why::NoThread);
+        };
+        let Some(behind) = self.behind.pop_front() else {
+            unreachable!()
+        };
+        write_answer(alloc, rays, answer, behind.as_slice(), &mut self.text)?;
+        self.window.collect_seen();
+        Ok(())
+    }
+
+    #[tactic(auto, using(crate::proofs::RingEnds::same_window, crate::proofs::Collecting::collects_same))]
+    /// Whether an answer is awaited and has come. Nothing large is touched, so that looking often costs little.
+    fn has_answer(&mut self) -> bool
+        ensures window { SameWindow self.old.window self.new.window }
+        ensures awaited { result ≡ true → 0 < length self.new.behind.items }
+        ensures known { result ≡ true → 0 < length (deliveries_known self.new.window) }
+        ensures collects { Collects self.old self.new }
+    {
+        if self.behind.is_empty() {
+            return false;
+        }
+        self.window.has_delivery()
+    }
+
+    #[tactic(auto, using(crate::proofs::Collecting::window_then))]
     /// Takes the next answer, where one is awaited and has come. It answers whether it did.
     fn collect(&mut self, alloc: Global, rays: &Rays) -> Result<bool, Why>
         ensures window { SameWindow self.old.window self.new.window }
         ensures collects { OnOk result (Collects self.old self.new) }
     {
-        if self.behind.is_empty() {
+        if !self.has_answer() {
             return Ok(false);
         }
-        let answer = match self.window.collect() {
-            None => return Ok(false),
-            Some(Delivery::Answer(answer)) => answer,
-            // No clerk withdraws, so that none comes.
-            Some(Delivery::Notice(_, _)) => return Err(Why::NoThread),
-        };
-        let Some(behind) = self.behind.pop_front() else {
-            return Ok(false);
-        };
-        write_answer(alloc, rays, &answer, behind.as_slice(), &mut self.text)?;
+        self.take_answer(alloc, rays)?;
         Ok(true)
     }
 

@@ -31,6 +31,7 @@ impl Window {
     ghost use Rattle.std.specs.Prelude.{◌≡◌, ◌↔◌, ◌+◌, ◌-◌, ◌^◌, ◌<◌, ◌≤◌, [], ◌∷◌, ◌++◌, length, OnOk, IfErr, IfSome, IfNone, MatchResult, Err, true, false};
     ghost use mathlib.Core.List.{IsPrefix};
     ghost use Rattle.chess_notation.specs.Records.{RecordValue};
+    ghost use Rattle.mate_desk.specs.declared.deliveries.Delivery.{Delivery};
     ghost use Rattle.desk_room.specs.Letters.{records};
     ghost use Rattle.desk_room.specs.Windows.{letters_sent, collected, deliveries_known, places_known, places_of, is_gone, number_of, default_of, SameWindow};
     ghost use Rattle.desk_room.specs.WindowFaults.{SaysOnly, RefusesLine};
@@ -141,6 +142,37 @@ impl Window {
         ensures place { result ≡ true → 0 < places_known self.new }
     {
         !self.letters.is_full()
+    }
+
+    /// Whether a delivery is known to lie in the answer ring. It touches none, so that looking often costs little.
+    pub(crate) fn has_delivery(&mut self) -> bool
+        ensures window { SameWindow self.old self.new }
+        ensures sent { letters_sent self.new ≡ letters_sent self.old }
+        ensures collected { collected self.new ≡ collected self.old }
+        ensures stays { is_gone self.new ≡ is_gone self.old }
+        ensures delivery { result ≡ true → 0 < length (deliveries_known self.new) }
+    {
+        !self.answers.is_empty()
+    }
+
+    /// The first of the deliveries that are known to lie in the answer ring, left there.
+    pub(crate) fn first_known(&self) -> &Delivery
+        requires { 0 < length (deliveries_known self.now) }
+        ensures { IsPrefix (result.now ∷ []) (deliveries_known self.now) }
+    {
+        self.answers.peek_known()
+    }
+
+    /// Collects the first of the deliveries that are known to lie in the answer ring, and lets it go. What was seen of it there need
+    /// not be moved.
+    pub(crate) fn collect_seen(&mut self)
+        requires { 0 < length (deliveries_known self.old) }
+        ensures window { SameWindow self.old self.new }
+        ensures sent { letters_sent self.new ≡ letters_sent self.old }
+        ensures collected { (d : Delivery) → IsPrefix (d ∷ []) (deliveries_known self.old) → collected self.new ≡ collected self.old ++ d ∷ [] }
+        ensures stays { is_gone self.new ≡ is_gone self.old }
+    {
+        self.answers.pop_known();
     }
 
     /// Collects the next delivery, where one is known to lie in the answer ring.

@@ -1,5 +1,8 @@
 //! A bench at work.
 
+ghost use Rattle.std.specs.Prelude.{◌≡◌, ◌<◌, true};
+ghost use Rattle.desk_room.specs.Benches.{places_known};
+
 use crate::bells::{Bell, Why};
 use crate::benches::Bench;
 use crate::gates::Gate;
@@ -14,28 +17,38 @@ use std::sync::Wait;
 /// How many entries a bench's memo has.
 const ENTRIES: usize = 4096;
 
-/// Solves a job that the gate lets pass.
-fn solved<G: Gate>(rays: &Rays, memo: &mut Memo, gate: &G, bench: usize, job: Job) -> Back {
-    if gate.pass(bench, job.ticket()) {
-        Back::Solved(job.solve(rays, memo))
-    } else {
-        Back::Returned(job)
-    }
-}
-
-/// Gives a job back once the ring has a place, unless the bell is rung first.
-fn give_back<R: Wait>(rt: &R, bench: &mut Bench, back: Back, bell: &Bell) {
+/// Waits until the bench's ring has a place, unless the bell is rung first. It answers whether it has one.
+fn await_place<R: Wait>(rt: &R, bench: &mut Bench, bell: &Bell) -> bool
+    ensures { result ≡ true → 0 < places_known bench.new }
+{
     let mut waits = Waits::new();
-    let mut left = back;
     for _ in rt.forever() {
-        match bench.back(left) {
-            Ok(()) => return,
-            Err(refused) => left = refused,
+        if bench.has_place() {
+            return true;
         }
         if bell.rung().is_some() {
-            return;
+            return false;
         }
         waits.wait(rt, bell);
+    }
+    false
+}
+
+/// Gives a job back, solved where the gate lets it pass. What is solved goes straight to its place in the ring.
+fn deal_with<G: Gate>(
+    rays: &Rays,
+    memo: &mut Memo,
+    gate: &G,
+    number: usize,
+    bench: &mut Bench,
+    job: Job,
+)
+    requires { 0 < places_known bench.old }
+{
+    if gate.pass(number, job.ticket()) {
+        bench.give(Back::Solved(job.solve(rays, memo)));
+    } else {
+        bench.give(Back::Returned(job));
     }
 }
 
@@ -60,8 +73,10 @@ pub(crate) fn work<R: Wait, G: Gate>(
         }
         match bench.take() {
             Taken::Job(job) => {
-                let back = solved(rays, &mut memo, gate, number, job);
-                give_back(rt, &mut bench, back, bell);
+                if !await_place(rt, &mut bench, bell) {
+                    return;
+                }
+                deal_with(rays, &mut memo, gate, number, &mut bench, job);
                 waits.found();
             }
             Taken::Stop => return,
