@@ -1,13 +1,25 @@
 // Loaded before the C library, refuses the allocation numbered REFUSED, or with the variable TO_THE_END also those after it,
 // and writes a line to stream 9 for each.
+//
+// A request for 2^62 bytes is a mark, and is refused in any case. With the variable MARKED only what is asked for between a mark and
+// the next is counted.
 #define _GNU_SOURCE
 #include <dlfcn.h>
 #include <errno.h>
 #include <stdlib.h>
 #include <unistd.h>
 
-static int is_refused(void) {
-    static long asked;
+static const size_t mark = (size_t)1 << 62;
+
+static int is_refused(size_t size) {
+    static long asked, marks;
+    if (size == mark) {
+        __atomic_add_fetch(&marks, 1, __ATOMIC_SEQ_CST);
+        return 1;
+    }
+    if (getenv("MARKED") && __atomic_load_n(&marks, __ATOMIC_SEQ_CST) % 2 == 0) {
+        return 0;
+    }
     long number = __atomic_add_fetch(&asked, 1, __ATOMIC_SEQ_CST), at = atol(getenv("REFUSED"));
     return (number == at || (number > at && getenv("TO_THE_END"))) && write(9, "refused\n", 8) == 8;
 }
@@ -15,7 +27,7 @@ static int is_refused(void) {
 #define REFUSING(name, parameters, ...)                     \
     void *name parameters {                                 \
         void *(*real) parameters = dlsym(RTLD_NEXT, #name); \
-        if (is_refused()) {                                 \
+        if (is_refused(size)) {                             \
             errno = ENOMEM;                                 \
             return 0;                                       \
         }                                                   \
@@ -28,5 +40,5 @@ REFUSING(aligned_alloc, (size_t align, size_t size), align, size)
 
 int posix_memalign(void **out, size_t align, size_t size) {
     int (*real)(void **, size_t, size_t) = dlsym(RTLD_NEXT, "posix_memalign");
-    return is_refused() ? ENOMEM : real(out, align, size);
+    return is_refused(size) ? ENOMEM : real(out, align, size);
 }

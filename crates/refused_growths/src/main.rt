@@ -1,0 +1,75 @@
+//! Calls that take memory, each with growths refused in it: `refused_growths CALL`.
+//!
+//! Everything around the call has ample memory: the call stands between two marks, and `tests/refused_growths` runs this program under
+//! `tests/refuse.c`, which knows them. The first line that is printed is what the call answered. The lines behind it say what was found
+//! afterwards, and are the same whatever was refused. Where something else goes wrong, its name is said on standard error, and the
+//! status is 1.
+//!
+//! To read: `marks`; then the calls, by the crate that they are of: `of_notation`, `of_search`, `of_desk`, `of_room` and `of_ends`.
+#![tactic(auto)]
+
+mod marks;
+mod of_desk;
+mod of_ends;
+mod of_notation;
+mod of_room;
+mod of_search;
+
+use crate::marks::Stop;
+use chess_moves::Rays;
+use std::alloc::Global;
+use std::env;
+use std::process::ExitCode;
+use std::rt::Env;
+use std::sync::Wait;
+use std::thread::Threads;
+
+/// What the call of this name answered, and what was found afterwards.
+fn tell<R: Threads + Wait + Sync>(
+    rt: &R,
+    alloc: Global,
+    rays: &Rays,
+    name: &str,
+) -> Result<String, Stop> {
+    match name {
+        "read_record" => of_notation::tell_read_record(alloc, rays),
+        "Memo::new" => of_search::tell_new_memo(alloc),
+        "solve" => of_search::tell_solve(alloc, rays),
+        "Job::solve" => of_search::tell_job(alloc, rays),
+        "Answer::text" => of_search::tell_answer(alloc, rays),
+        "solve_input" => of_search::tell_input(alloc, rays),
+        "Desk::new" => of_desk::tell_new_desk(alloc, rays),
+        "run" => of_desk::tell_run(alloc, rays),
+        "reply_text" => of_desk::tell_reply_text(alloc, rays),
+        "open_room" => of_room::tell_open_room(alloc),
+        "serve" => of_room::tell_serve(rt, alloc, rays),
+        "Window::submit" => of_ends::tell_submit(alloc, rays),
+        "Keeper::turn" => of_ends::tell_turn(alloc, rays),
+        "Keeper::send_home" => of_ends::tell_send_home(alloc),
+        _ => Err(Stop("no such call")),
+    }
+}
+
+/// What the call that the program's word names answered.
+fn answer<R: Env + AllocGlobal + Threads + Wait + Sync>(
+    rt: &R,
+    alloc: Global,
+) -> Result<String, Stop> {
+    let words = env::args(rt).ok().ok_or("NoMemory")?;
+    let words: Vec<String> = words.collect(alloc).ok().ok_or("NoMemory")?;
+    let name = words.get(1).ok_or("no call")?;
+    tell(rt, alloc, &Rays::new(), name.as_str())
+}
+
+fn main(rt: HostRuntime) -> ExitCode {
+    match answer(&rt, rt.alloc()) {
+        Ok(told) => {
+            let _ = println!(rt; "{told}");
+            ExitCode::from(0)
+        }
+        Err(Stop(name)) => {
+            let _ = eprintln!(rt; "{name}");
+            ExitCode::from(1)
+        }
+    }
+}
