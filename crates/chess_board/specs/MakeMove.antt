@@ -1,5 +1,5 @@
 -- The position after a move: the men, the side to move, the castling rights that are left, and the en passant target.
-use Rattle.std.specs.Prelude.{ℕ, List, Option, Some, None, if◌then◌else◌}
+use Rattle.std.specs.Prelude.{List, Option, Some, None, if◌then◌else◌}
 use Rattle.chess_board.specs.declared.men.Kind.{Kind}
 use Rattle.chess_board.specs.declared.men.Man.{Man}
 use Rattle.chess_board.specs.Moves.{Move}

@@ -54,7 +54,13 @@ pub(crate) fn en_passant_origins(rays: &Rays, position: &Position, colour: Colou
 }
 
 /// Where the pawn captures en passant so that its king is safe afterwards: one square at most.
-pub(crate) fn safe_en_passant(rays: &Rays, position: &Position, info: &CheckInfo, man: Man, origin: u8) -> u64
+pub(crate) fn safe_en_passant(
+    rays: &Rays,
+    position: &Position,
+    info: &CheckInfo,
+    man: Man,
+    origin: u8,
+) -> u64
     requires on_board { origin < 64 }
     requires info { IsCheckInfoOf info.now position.now }
     requires there { man_at position.now.men origin ≡ Some man }
