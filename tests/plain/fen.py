@@ -1,6 +1,6 @@
 """Positions and FEN as docs/FORMATS.md describes them: a plain second reading, of which nothing is taken from the program.
 
-Texts are bytes. A square is a number from 0 (a1) over 7 (h1) to 63 (h8); an empty one holds b"." in a board of 64 bytes.
+A text is bytes, a board a str. A square is a number from 0 (a1) over 7 (h1) to 63 (h8); an empty one holds "." in a board of 64 letters.
 """
 
 import functools

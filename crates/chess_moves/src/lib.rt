@@ -5,9 +5,9 @@
 //! found by making it: sets of squares tell where each man may go.
 //!
 //! To read: `specs/Listing.antt`; `directions`, `rays`, `forces` and `attackers` (what is seen and attacked), `check_info`,
-//! `pseudo_legal` and `pins` (where a man goes, and where it leaves its king safe), `targets`; then `move_generation`, `judging` and
-//! `perft_count`; `check_squares` and `gives_check`; `attacked_sets`, `flights` and `gives_mate`. `laws` says what the lists hold in words
-//! that do not speak of how they are made. No call takes memory.
+//! `pseudo_legal`, `castling`, `en_passant` and `pins` (where a man goes, and where it leaves its king safe), `targets`; then
+//! `move_generation`, `judging` and `perft_count`; `check_squares` and `gives_check`; `attacked_sets`, `flights` and `gives_mate`. `laws`
+//! says what the lists hold in words that do not speak of how they are made. No call takes memory.
 #![tactic(auto)]
 
 mod attacked_sets;

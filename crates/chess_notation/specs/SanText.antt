@@ -18,7 +18,7 @@ use Rattle.chess_board.specs.declared.men.Wing.TheVariants.{KingSide, QueenSide}
 use Rattle.chess_moves.specs.Verdicts.{is_mate}
 use Rattle.chess_notation.specs.Disambiguation.{file_letter, disambiguation_text}
 
--- A man stands on the target, or a pawn captures in passing (section 8.2.3.3).
+-- A man stands on the target, or a pawn captures en passant (section 8.2.3.3).
 abbrev pub is_capture : Setup → Man → Move → Bool
 is_capture p man m = not (is_empty p.men m.target) || is_en_passant p man m
 

@@ -18,7 +18,7 @@ fn square_of(name: &[u8; 2]) -> Result<Square, Fail> {
 }
 
 /// Refuses where the text of a legal move is not this one.
-fn suffix_text(
+fn expect_text(
     rt: &impl Abort,
     position: &str,
     squares: (&[u8; 2], &[u8; 2]),
@@ -56,7 +56,7 @@ fn tells_a_man_from_its_rivals(rt: HostRuntime) -> Result<(), Fail> {
         (queens, b"h4", b"e1", "Qh4e1"),
     ];
     for (position, origin, target, expected) in table {
-        suffix_text(&rt, position, (origin, target), None, expected)?;
+        expect_text(&rt, position, (origin, target), None, expected)?;
     }
     Ok(())
 }
@@ -74,7 +74,7 @@ fn marks_check_and_mate(rt: HostRuntime) -> Result<(), Fail> {
         ("4k2r/8/8/8/8/8/8/5K2 b k - 0 1", b"e8", b"g8", "O-O+"),
     ];
     for (position, origin, target, expected) in table {
-        suffix_text(&rt, position, (origin, target), None, expected)?;
+        expect_text(&rt, position, (origin, target), None, expected)?;
     }
     Ok(())
 }
@@ -94,7 +94,7 @@ fn names_what_a_pawn_becomes(rt: HostRuntime) -> Result<(), Fail> {
         (captures, b"a7", b"b8", Kind::Queen, "axb8=Q+"),
     ];
     for (position, origin, target, kind, expected) in table {
-        suffix_text(&rt, position, (origin, target), Some(kind), expected)?;
+        expect_text(&rt, position, (origin, target), Some(kind), expected)?;
     }
     Ok(())
 }
