@@ -62,9 +62,17 @@ mod manners;
 #[cfg(test)]
 mod order_tests;
 #[cfg(test)]
+mod plain_room;
+#[cfg(test)]
+mod plain_turns;
+#[cfg(test)]
+mod real_room;
+#[cfg(test)]
 mod room_tests;
 #[cfg(test)]
 mod scenes;
+#[cfg(test)]
+mod sequence_tests;
 #[cfg(test)]
 mod serving_tests;
 #[cfg(test)]
@@ -75,5 +83,7 @@ mod solvers;
 mod submitters;
 #[cfg(test)]
 mod thread_tests;
+#[cfg(test)]
+mod told_calls;
 #[cfg(test)]
 mod window_tests;

@@ -165,7 +165,7 @@ fn reply(
 }
 
 /// The ends of a room of one window.
-fn ends_of_one(
+pub(crate) fn ends_of_one(
     alloc: Global,
     benches: usize,
     ring: usize,
