@@ -10,6 +10,8 @@ from moves import bare_texts
 Record = namedtuple("Record", "position bound operations")  # operations: opcode and text, those that are kept, in order of opcode
 
 OPCODE = re.compile(rb"[A-Za-z][A-Za-z0-9_]{0,14}\Z")
+PRINTABLE = re.compile(rb"[ -~]*\Z")
+MARK = re.compile(rb'[";]')
 # A segment without what ends it: an opcode, then operands, each behind one or more spaces. It may have spaces at both ends.
 STRING = rb'"[^"]{0,255}"'
 SEGMENT = re.compile(rb' *([^ ";]+)((?: +(?:' + STRING + rb'|[^ ";]+))*) *\Z')
@@ -22,12 +24,12 @@ MATE = re.compile(rb"bm [^;]+; dm ([0-9]+); pv [^;]+#;\Z")
 def segments_of(text):
     """The texts between the semicolons outside strings, whether the last is ended, and whether a string is open at the end."""
     segments, start, is_open = [], 0, False
-    for at, byte in enumerate(text):
-        if byte == 34:
+    for mark in MARK.finditer(text):
+        if mark.group() == b'"':
             is_open = not is_open
-        elif byte == 59 and not is_open:
-            segments.append(text[start:at])
-            start = at + 1
+        elif not is_open:
+            segments.append(text[start : mark.start()])
+            start = mark.end()
     rest = text[start:]
     if rest.strip(b" "):
         return segments + [rest], False, is_open
@@ -77,11 +79,12 @@ def fault_of_operations(segments, ended, is_open):
     return "DoubleOpcode" if len(set(opcodes)) < len(opcodes) else None
 
 
+@functools.lru_cache(maxsize=65536)
 def read_record(line, default):
     """The record that a line is and None, or None and the first fault."""
     if len(line) > 1023:
         return None, "TooLong"
-    if any(not 32 <= byte <= 126 for byte in line):
+    if not PRINTABLE.match(line):
         return None, "NotPrintable"
     words = [word for word in line.split(b" ") if word]
     if len(words) < 4:
@@ -101,10 +104,11 @@ def read_record(line, default):
     if fault:
         return None, fault
     bound = int(operations[b"dm"][0]) if b"dm" in operations else default
-    kept = {opcode: operands for opcode, operands in operations.items() if opcode not in OUTCOME}
-    return Record(position, bound, sorted(kept.items())), None
+    kept = ((opcode, tuple(operands)) for opcode, operands in operations.items() if opcode not in OUTCOME)
+    return Record(position, bound, tuple(sorted(kept))), None
 
 
+@functools.lru_cache(maxsize=65536)
 def is_answer(line, record):
     """Whether a line is an answer to it, in all but which moves mate, in how many, and how."""
     fields = fields_text(record.position).encode() + b" "

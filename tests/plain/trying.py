@@ -20,25 +20,22 @@ def is_text(word):
         return False
 
 
-def try_fen(runner, count, fen):
-    """Looks at it, and where it is read counts and compares its moves. No word can hold a byte 0."""
-    if 0 in fen:
-        return
-    status, out, err = runner.run("look", fen)
-    if not is_text(fen):
-        count.is_right((status, out, err) == (2, b"", b"matedesk: a word is not text\n"), "look", fen, status, out, err)
-        return
-    text, fault = looked(fen)
-    if fault:
-        wanted = (1, b"", f"matedesk: {fault}\n".encode())
+def try_fens(runner, count, fens, _room=None):
+    """Looks at each, and where it is read counts and compares its moves. No word can hold a byte 0."""
+    fens, read = [fen for fen in fens if 0 not in fen], []
+    for fen, (status, out, err) in zip(fens, runner.run_each([("look", fen) for fen in fens])):
+        text, fault = looked(fen) if is_text(fen) else (None, None)
+        if text:
+            read.append(fen)
+            wanted = (0, text.encode(), b"")
+        else:
+            wanted = (1, b"", f"matedesk: {fault}\n".encode()) if fault else (2, b"", b"matedesk: a word is not text\n")
         count.is_right((status, out, err) == wanted, "look", fen, status, out, err)
-        return
-    count.is_right((status, out, err) == (0, text.encode(), b""), "look", fen, status, out, err)
-    position, _ = read_fields(tuple(fen.split(b" ")[:4]))
-    listed = bare_texts(position) or ["mate" if in_check(position) else "stalemate"]
-    status, out, err = runner.run("moves", fen)
-    got = [line.rstrip("+#") for line in out.decode("latin-1").splitlines()]
-    count.is_right((status, got, err) == (0, listed, b""), "moves", fen, status, out, err)
+    for fen, (status, out, err) in zip(read, runner.run_each([("moves", fen) for fen in read])):
+        position, _ = read_fields(tuple(fen.split(b" ")[:4]))
+        listed = bare_texts(position) or ["mate" if in_check(position) else "stalemate"]
+        got = [line.rstrip("+#") for line in out.decode("latin-1").splitlines()]
+        count.is_right((status, got, err) == (0, listed, b""), "moves", fen, status, out, err)
 
 
 def short(line):
@@ -57,10 +54,11 @@ def short_lines(text):
         yield short(line[: len(line) - len(ending)]) + ending
 
 
-def try_records(runner, count, texts, place):
+def try_records(runner, count, texts, room):
     """Solves all these texts, one behind the other, in one run, and serves them in another."""
     inputs = b"\n".join(line for text in texts for line in short_lines(text))
     wanted = list(replies(inputs, 1))
+    place = room + "/records"
     Path(place).write_bytes(inputs)
     for words in (["solve", "--bound", "1"], ["serve", "--workers", "2", "--bound", "1"]):
         status, out, err = runner.run(*words, place)
@@ -72,14 +70,23 @@ def try_records(runner, count, texts, place):
             count.is_right(is_reply(line, reply), *words, "wanted", reply, "got", line)
 
 
-def try_script(runner, count, script, place):
-    """Replays it, or where a search would be long only reads it."""
-    wanted, said, desk = replayed(script)
+def short_script(script):
+    """The script, or where a search would be long one that is only read, and what is to be answered."""
+    replies, said, desk = replayed(script)
     if desk and any(bound > LONGEST_REPLAYED for bound in desk.bounds()):
         script += b"\nno step"
-        wanted, said, desk = replayed(script)
-    Path(place).write_bytes(script)
-    status, out, err = runner.run("replay", place)
-    lines = out.split(b"\n")
-    right = len(lines) == len(wanted) + 1 and all(is_reply(line, reply) for line, reply in zip(lines, wanted))
-    count.is_right(right and (status, err) == (1 if said else 0, said.encode()), "replay", script, status, out, err)
+        replies, said, desk = replayed(script)
+    return script, replies, said
+
+
+def try_scripts(runner, count, scripts, room):
+    """Replays each, or where a search would be long only reads it."""
+    scripts = [short_script(script) for script in scripts]
+    places = [f"{room}/{number}.script" for number in range(len(scripts))]
+    for place, (script, _, _) in zip(places, scripts):
+        Path(place).write_bytes(script)
+    ended = runner.run_each([("replay", place) for place in places])
+    for (script, wanted, said), (status, out, err) in zip(scripts, ended):
+        lines = out.split(b"\n")
+        right = len(lines) == len(wanted) + 1 and all(is_reply(line, reply) for line, reply in zip(lines, wanted))
+        count.is_right(right and (status, err) == (1 if said else 0, said.encode()), "replay", script, status, out, err)
