@@ -11,7 +11,7 @@ use Rattle.chess_board.specs.declared.men.Man.{Man}
 use Rattle.chess_board.specs.Moves.{Move}
 use Rattle.chess_board.specs.Positions.{Setup, man_at, moved}
 use Rattle.chess_board.specs.Men.{other_side, is_colour, is_of, is_kind, man_of}
-use Rattle.chess_board.specs.KindTests.{is_king_of, is_rook_of, is_pawn_of, is_pawn_kind}
+use Rattle.chess_board.specs.inside.KindTests.{is_king_of, is_rook_of, is_pawn_of, is_pawn_kind}
 use Rattle.chess_board.specs.Soundness.{HasOneKingEach, HasAtMostSixteenEach}
 use Rattle.chess_board.specs.PseudoLegal.{is_promotion, promotes, suits}
 use Rattle.chess_board.specs.MakeMove.{becomes, men_after}

@@ -11,7 +11,7 @@ use Rattle.chess_board.specs.Moves.{Move}
 use Rattle.chess_board.specs.Squares.{rank_of, crossed}
 use Rattle.chess_board.specs.Positions.{Setup, man_at, moved}
 use Rattle.chess_board.specs.Men.{has_right_of}
-use Rattle.chess_board.specs.KindTests.{is_king_of, is_rook_of}
+use Rattle.chess_board.specs.inside.KindTests.{is_king_of, is_rook_of}
 use Rattle.chess_board.specs.Soundness.{IsSound, has_men_of_right, has_men_of_rights}
 use Rattle.chess_board.specs.MakeMove.{becomes, men_after}
 use Rattle.chess_board.specs.Castling.{king_home, rook_home, king_goal, rook, touches, right_after, rights_after}

@@ -1,10 +1,8 @@
 -- The words of a board and the men that they show.
-use Rattle.std.proofs.Common.{◌≡◌, ℕ, zero, suc, ◌+◌, ◌<◌, ◌≤◌, ◌^◌, ltb, Bool, true, false, cond, ◌&&◌, ◌||◌, List, Option, None, Some, is_some, length, get_or, set, replicate, length-set, count_by, w64, refl, sym, ap, subst, ◌∙◌, arith}
-use Rattle.std.specs.Int.{trailing_zeros}
+use Rattle.std.proofs.Common.{◌≡◌, ℕ, zero, suc, ◌+◌, ◌<◌, ◌≤◌, ltb, Bool, true, false, cond, ◌&&◌, ◌||◌, List, Option, None, Some, is_some, length, get_or, set, replicate, length-set, count_by, refl, sym, ap, subst, ◌∙◌, arith}
 use Rattle.std.proofs.lemmas.Bool.{lt-ltb}
 use Rattle.std.proofs.lemmas.List.{ext_get_or, length-replicate, get_or-replicate}
-use Rattle.std.proofs.lemmas.Nat.{and_le_l}
-use Rattle.std.proofs.lemmas.Nat.Bits.{bit_at-zero, bit_at-trailing_zeros}
+use Rattle.std.proofs.lemmas.Nat.Bits.{bit_at-zero}
 use Rattle.square_sets.specs.Members.{has}
 use Rattle.chess_board.specs.declared.men.Man.{Man}
 use Rattle.chess_board.specs.declared.men.Colour.{Colour}
@@ -15,9 +13,9 @@ use Rattle.chess_board.specs.declared.boards.Board.TheInside.{Inside}
 use Rattle.chess_board.specs.Positions.{man_at}
 use Rattle.std.specs.Int.RustNames.{bit_and, bit_or}
 use Rattle.chess_board.specs.Men.{man_of, is_colour, is_of, is_man}
-use Rattle.chess_board.specs.KindTests.{is_king_kind, is_king_of}
+use Rattle.chess_board.specs.inside.KindTests.{is_king_kind, is_king_of}
 use Rattle.chess_board.specs.Sets.{IsSetOf}
-use Rattle.chess_board.specs.Boards.{is_of_kind, word_of, kind_by, place_by, place_at, listed, men_of, AreWordsOf, AreTheirWords}
+use Rattle.chess_board.specs.inside.Boards.{is_of_kind, word_of, kind_by, place_by, place_at, listed, men_of, AreWordsOf, AreTheirWords}
 use Rattle.chess_board.proofs.Counting.{count_by_none}
 use Rattle.chess_board.proofs.MenSets.{IsSetOf-word_of, word_of-IsSetOf, word_of-set, IsChanged, has-bit_or, IsSetOf-bit_and, IsSetOf-bit_or}
 
@@ -220,15 +218,16 @@ has_king men zero colour long is one =
     king_test (Some man) = refl
 has_king men (suc kings) colour long is one = omega arith
 
-pub king_at : (men : List (Option Man)) (b : Inside) (side : ℕ) (colour : Colour) → AreWordsOf men b → side < 2 ^ 64 → IsSetOf side (is_of colour) men
-    → count_by (is_king_of colour) men ≡ 1
-    → (trailing_zeros w64 (bit_and side b.kings) < 64) × (man_at men (trailing_zeros w64 (bit_and side b.kings)) ≡ man_of colour King)
-king_at men b side colour h small of_side one =
-    let kings = bit_and side b.kings in
-    let own = IsSetOf-is_man men side b.kings colour King of_side (IsSetOf-word_of (is_of_kind King) men b.kings h.squares h.kings) in
-    let first = bit_at-trailing_zeros w64 kings (has_king men kings colour h.squares own one) (omega (arith, and_le_l side b.kings)) in
-    let here : has kings (trailing_zeros w64 kings) ≡ true = rw first.1 in
-    (first.0, king_place colour (man_at men (trailing_zeros w64 kings)) (sym (own (trailing_zeros w64 kings) first.0) ∙ here))
+-- Among the squares of a side's men and those of the kings is one, and that side's king stands there.
+module _ (men : List (Option Man)) (b : Inside) (side : ℕ) (colour : Colour) (h : AreWordsOf men b) (of_side : IsSetOf side (is_of colour) men) where
+  own : IsSetOf (bit_and side b.kings) (is_man colour King) men
+  own = IsSetOf-is_man men side b.kings colour King of_side (IsSetOf-word_of (is_of_kind King) men b.kings h.squares h.kings)
+
+  pub some_king : count_by (is_king_of colour) men ≡ 1 → 0 < bit_and side b.kings
+  some_king one = has_king men (bit_and side b.kings) colour h.squares own one
+
+  pub king_there : (s : ℕ) → s < 64 → has (bit_and side b.kings) s ≡ true → man_at men s ≡ man_of colour King
+  king_there s on there = king_place colour (man_at men s) (sym (own s on) ∙ there)
 
 -- a board filled square by square up to n
 pub same_men-filled : (v w : List (Option Man)) (n : ℕ) → 64 ≤ n → length v ≡ 64 → length w ≡ 64

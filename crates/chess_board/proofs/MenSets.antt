@@ -9,7 +9,7 @@ use Rattle.square_sets.specs.Members.{has}
 use Rattle.chess_board.specs.declared.men.Man.{Man}
 use Rattle.chess_board.specs.Positions.{man_at}
 use Rattle.chess_board.specs.Sets.{IsSetOf}
-use Rattle.chess_board.specs.Boards.{word_of}
+use Rattle.chess_board.specs.inside.Boards.{word_of}
 
 -- members of two sets
 and_test : (x y : ℕ) → x < 2 → y < 2 → eqb (min x y) 1 ≡ (eqb x 1 && eqb y 1)

@@ -13,7 +13,7 @@ use Rattle.chess_board.specs.Moves.{Move}
 use Rattle.chess_board.specs.Squares.{file_gap, crossed}
 use Rattle.chess_board.specs.Positions.{Setup, man_at, is_empty, moved}
 use Rattle.chess_board.specs.Men.{other_side, is_of, has_right_of}
-use Rattle.chess_board.specs.KindTests.{is_king_of, is_rook_of}
+use Rattle.chess_board.specs.inside.KindTests.{is_king_of, is_rook_of}
 use Rattle.chess_board.specs.Attacks.{is_clear, is_between, attacks_as, is_attacked}
 use Rattle.chess_board.specs.Soundness.{IsSound, has_men_of_right}
 use Rattle.chess_board.specs.PseudoLegal.{piece_goes}

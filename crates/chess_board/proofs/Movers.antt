@@ -12,7 +12,7 @@ use Rattle.chess_board.specs.Moves.{Move}
 use Rattle.chess_board.specs.Squares.{rank_of, crossed}
 use Rattle.chess_board.specs.Positions.{Setup, man_at, moved, cleared}
 use Rattle.chess_board.specs.Men.{other_side, is_colour, is_of, man_of}
-use Rattle.chess_board.specs.KindTests.{is_king_of, is_rook_of, is_pawn_of}
+use Rattle.chess_board.specs.inside.KindTests.{is_king_of, is_rook_of, is_pawn_of}
 use Rattle.chess_board.specs.Attacks.{attacks_as, attacks_from, is_attacked, is_king_attacked, is_in_check}
 use Rattle.chess_board.specs.Soundness.{IsSound}
 use Rattle.chess_board.specs.PseudoLegal.{goes, promotes, suits}

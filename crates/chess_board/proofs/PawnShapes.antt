@@ -9,7 +9,7 @@ use Rattle.chess_board.specs.Moves.{Move}
 use Rattle.chess_board.specs.Squares.{file_of, rank_of, file_gap, crossed}
 use Rattle.chess_board.specs.Positions.{Setup, man_at, is_empty, moved}
 use Rattle.chess_board.specs.Men.{other_side, is_of, man_of}
-use Rattle.chess_board.specs.KindTests.{is_pawn_of}
+use Rattle.chess_board.specs.inside.KindTests.{is_pawn_of}
 use Rattle.chess_board.specs.Attacks.{is_forward, attacks_as}
 use Rattle.chess_board.specs.Fields.{target_rank}
 use Rattle.chess_board.specs.Soundness.{IsSound, has_pawn_of_target}

@@ -7,7 +7,7 @@ use Rattle.chess_board.specs.declared.men.Kind.{Kind}
 use Rattle.chess_board.specs.declared.men.Kind.TheVariants.{Pawn, Knight, Bishop, Rook, Queen, King}
 use Rattle.chess_board.specs.declared.men.Man.{Man}
 use Rattle.chess_board.specs.Placement.{kind_letter, coloured_letter, man_letter, run_text}
-use Rattle.chess_board.specs.RankReading.{kind_of_letter, man_as, man_of_letter, is_run_digit}
+use Rattle.chess_board.specs.inside.RankReading.{kind_of_letter, man_as, man_of_letter, is_run_digit}
 
 -- A man's letter is read as the man.
 pub man_of_letter-man_letter : (man : Man) → man_of_letter (man_letter man) ≡ Some man

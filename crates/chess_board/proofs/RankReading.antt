@@ -3,7 +3,7 @@ use Rattle.std.proofs.Common.{◌≡◌, ℕ, zero, suc, ◌+◌, ◌-◌, ◌<�
 use Rattle.std.proofs.lemmas.List.{append-nil}
 use Rattle.chess_board.specs.declared.men.Man.{Man}
 use Rattle.chess_board.specs.Placement.{man_letter, run_text, rank_text_after, rank_text}
-use Rattle.chess_board.specs.RankReading.{man_of_letter, is_run_digit}
+use Rattle.chess_board.specs.inside.RankReading.{man_of_letter, is_run_digit}
 use Rattle.chess_board.proofs.RankLetters.{man_of_letter-man_letter, is_run_digit-man_letter, man_spelt, run_spelt, is_run_digit-digit}
 
 -- a man in front of what is read after it

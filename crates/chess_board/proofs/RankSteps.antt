@@ -3,7 +3,7 @@ use Rattle.std.proofs.Common.{◌≡◌, ◌≢◌, ℕ, suc, ◌+◌, ◌-◌, 
 use Rattle.std.proofs.lemmas.List.{append-nil, length-replicate, drop_all}
 use Rattle.chess_board.specs.declared.men.Man.{Man}
 use Rattle.chess_board.specs.Placement.{rank_text}
-use Rattle.chess_board.specs.RankReading.{man_of_letter, is_run_digit}
+use Rattle.chess_board.specs.inside.RankReading.{man_of_letter, is_run_digit}
 use Rattle.chess_board.proofs.RankReading.{with_man, with_run, rank_read, read_exactly, spelt_read}
 
 -- squares in front of what is read after them

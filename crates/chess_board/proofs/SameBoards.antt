@@ -5,7 +5,7 @@ use Rattle.chess_board.specs.declared.men.Man.{Man}
 use Rattle.chess_board.specs.declared.men.Colour.TheVariants.{White, Black}
 use Rattle.chess_board.specs.declared.men.Kind.TheVariants.{Pawn, Knight, Bishop, Rook, Queen, King}
 use Rattle.chess_board.specs.Men.{is_of}
-use Rattle.chess_board.specs.Boards.{is_of_kind, word_of, words_of, AreWordsOf}
+use Rattle.chess_board.specs.inside.Boards.{is_of_kind, word_of, words_of, AreWordsOf}
 use Rattle.chess_board.proofs.BoardWords.{men_of-AreWordsOf}
 use Rattle.chess_board.proofs.Equality.{Agrees}
 

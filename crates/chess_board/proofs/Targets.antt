@@ -6,7 +6,7 @@ use Rattle.chess_board.specs.declared.men.Colour.{Colour}
 use Rattle.chess_board.specs.declared.men.Colour.TheVariants.{White, Black}
 use Rattle.chess_board.specs.declared.men.Man.{Man}
 use Rattle.chess_board.specs.Squares.{rank_of}
-use Rattle.chess_board.specs.KindTests.{is_pawn_of}
+use Rattle.chess_board.specs.inside.KindTests.{is_pawn_of}
 use Rattle.chess_board.specs.Positions.{Setup, man_at, is_empty}
 use Rattle.chess_board.specs.Soundness.{has_pawn_of_target, has_pawn_of_some_target}
 use Rattle.chess_board.specs.Fields.{IsTargetOf, target_rank}

@@ -5,7 +5,7 @@ use Rattle.std.proofs.lemmas.Bool.Decides.{nat_tests}
 use Rattle.std.proofs.lemmas.Bool.{and_parts, or_cases, or_left, or_right, eqb-true, eq-eqb}
 use Rattle.chess_board.specs.declared.men.Man.{Man}
 use Rattle.chess_board.specs.Squares.{file_of, rank_of, gap, file_gap, rank_gap}
-use Rattle.chess_board.specs.Walks.{toward_of, walked}
+use Rattle.chess_board.specs.inside.Walks.{toward_of, walked}
 use Rattle.chess_board.specs.Positions.{man_at, is_empty}
 use Rattle.chess_board.specs.Attacks.{is_amid, is_between, is_between_on_rank, is_between_on_file, is_between_on_diagonal, is_clear, is_rook_line, is_bishop_line, on_one_rank, on_one_file, on_one_diagonal}
 use Rattle.chess_board.proofs.Below.{all_from, all_not}

@@ -1,15 +1,10 @@
 pub mod Characters
 pub mod Squares
 pub mod Men
-pub mod KindTests
 pub mod Positions
 pub mod Sets
-pub mod Boards
-pub mod Hashing
 pub mod Attacks
-pub mod Walks
 pub mod Placement
-pub mod RankReading
 pub mod Fields
 pub mod Faults
 pub mod Fens
@@ -21,3 +16,4 @@ pub mod PseudoLegal
 pub mod MakeMove
 pub mod Legality
 pub mod Laws
+pub mod inside

@@ -3,7 +3,7 @@
 ghost use Rattle.std.specs.Prelude.{◌≡◌, Some, count_by};
 ghost use Rattle.chess_board.specs.declared.men.Colour.TheVariants as colour;
 ghost use Rattle.chess_board.specs.Men.{man_of};
-ghost use Rattle.chess_board.specs.KindTests.{is_king_of};
+ghost use Rattle.chess_board.specs.inside.KindTests.{is_king_of};
 
 use crate::boards::Board;
 use crate::men::{Colour, Kind, Man};

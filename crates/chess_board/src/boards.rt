@@ -5,9 +5,9 @@ ghost use Rattle.square_sets.specs.Members.{has};
 ghost use Rattle.chess_board.specs.declared.men.Kind.TheVariants as kind;
 ghost use Rattle.chess_board.specs.Positions.{man_at, moved};
 ghost use Rattle.chess_board.specs.Men.{man_of, is_of, is_man};
-ghost use Rattle.chess_board.specs.KindTests.{is_king_of};
+ghost use Rattle.chess_board.specs.inside.KindTests.{is_king_of};
 ghost use Rattle.chess_board.specs.Sets.{IsSetOf};
-ghost use Rattle.chess_board.specs.Boards.{is_of_kind, kind_by};
+ghost use Rattle.chess_board.specs.inside.Boards.{is_of_kind, kind_by};
 
 use crate::men::{Colour, Kind, Man};
 use crate::squares::Square;
@@ -33,7 +33,7 @@ impl Model for Board {
 
     ghost Value = { List (Option man.Man) };
 
-    ghost use Rattle.chess_board.specs.Boards.{men_of, words_of, AreTheirWords, words_of-men_of};
+    ghost use Rattle.chess_board.specs.inside.Boards.{men_of, words_of, AreTheirWords, words_of-men_of};
 
     ghost view = { men_of };
 
@@ -202,14 +202,14 @@ impl Board {
         ensures on_board { result < 64 }
     {
         let kings = self.side(colour) & self.kings;
-        Square::numbered(kings.trailing_zeros() as u8)
+        Square::numbered(square_sets::lowest(kings))
     }
 }
 
 impl Hash for Board {
     ghost use Rattle.std.specs.Cmp.Rules.{hashing};
     ghost use Rattle.std.proofs.Common.{rules};
-    ghost use Rattle.chess_board.specs.Hashing.{board_words};
+    ghost use Rattle.chess_board.specs.inside.Hashing.{board_words};
 
     ghost hash_input = { board_words };
 

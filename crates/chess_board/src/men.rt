@@ -3,7 +3,7 @@
 ghost use Rattle.std.specs.Prelude.{◌≡◌};
 ghost use Rattle.chess_board.specs.Men.{other_side, has_right_of};
 ghost use Rattle.chess_board.specs.Men.{is_of as place_is_of, is_pawn as place_is_pawn};
-ghost use Rattle.chess_board.specs.KindTests.{is_king_of as place_is_king_of, is_rook_of as place_is_rook_of, is_pawn_of as place_is_pawn_of};
+ghost use Rattle.chess_board.specs.inside.KindTests.{is_king_of as place_is_king_of, is_rook_of as place_is_rook_of, is_pawn_of as place_is_pawn_of};
 
 /// One of the two sides.
 #[derive(Clone, Copy, Debug, PartialEq, Eq, Hash)]

@@ -4,7 +4,7 @@ ghost use Rattle.std.specs.Prelude.{◌≡◌, ℕ, ◌+◌, ◌*◌, ◌<◌, �
 ghost use Rattle.arrayvec.specs.ArrayString.{array_string_len};
 ghost use Rattle.arrayvec.specs.ArrayVec.{array_vec_len};
 ghost use Rattle.chess_board.specs.Placement.{kind_letter, man_letter, run_text, rank_text, placement_text, SpellsPlacement};
-ghost use Rattle.chess_board.specs.RankReading.{kind_of_letter, man_of_letter, is_run_digit};
+ghost use Rattle.chess_board.specs.inside.RankReading.{kind_of_letter, man_of_letter, is_run_digit};
 ghost use Rattle.chess_board.specs.declared.men.Man.{Man};
 
 use crate::cuts::cut_at;

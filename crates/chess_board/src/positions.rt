@@ -5,7 +5,7 @@ ghost use Rattle.chess_board.specs.declared.men.Kind.TheVariants as kind;
 ghost use Rattle.chess_board.specs.Positions.{man_at};
 ghost use Rattle.chess_board.specs.Men.{has_right_of, is_man, man_of};
 ghost use Rattle.chess_board.specs.Sets.{IsSetOf};
-ghost use Rattle.chess_board.specs.Hashing.{state_word};
+ghost use Rattle.chess_board.specs.inside.Hashing.{state_word};
 ghost use Rattle.chess_board.specs.Attacks.{is_attacked, is_in_check};
 ghost use Rattle.chess_board.specs.Soundness.{IsSound};
 ghost use Rattle.chess_board.specs.Faults.{IsFirst, IsUnsoundBy, position_faults};
@@ -54,7 +54,7 @@ impl Hash for Position {
     ghost use Rattle.std.specs.Cmp.Rules.{hashing};
     ghost use Rattle.std.proofs.Common.{rules};
     ghost use Rattle.chess_board.specs.Positions.{Setup};
-    ghost use Rattle.chess_board.specs.Hashing.{position_words};
+    ghost use Rattle.chess_board.specs.inside.Hashing.{position_words};
 
     ghost hash_input = { position_words };
 

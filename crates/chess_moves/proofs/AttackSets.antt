@@ -8,17 +8,17 @@ use Rattle.chess_board.specs.declared.men.Kind.{Kind}
 use Rattle.chess_board.specs.declared.men.Kind.TheVariants.{Pawn, Knight, Bishop, Rook, Queen, King}
 use Rattle.chess_board.specs.declared.men.Man.{Man}
 use Rattle.chess_board.specs.Men.{is_colour}
-use Rattle.chess_board.specs.KindTests.{is_pawn_kind, is_king_kind}
+use Rattle.chess_board.specs.inside.KindTests.{is_pawn_kind, is_king_kind}
 use Rattle.chess_board.specs.Positions.{man_at}
 use Rattle.chess_board.specs.Sets.{IsSetOf}
 use Rattle.chess_moves.specs.declared.directions.Direction.{Direction}
 use Rattle.chess_moves.specs.declared.directions.Direction.TheVariants.{North, NorthEast, East, SouthEast, South, SouthWest, West, NorthWest}
 use Rattle.chess_moves.specs.declared.directions.Leap.TheVariants.{KnightLeap, KingStep}
 use Rattle.chess_moves.specs.declared.forces.Force.{Force}
-use Rattle.chess_moves.specs.Directions.{toward, opposite, is_blocked, reaches, reaches_as_bishop, reaches_as_rook, sights, sights_as_bishop, sights_as_rook}
-use Rattle.chess_moves.specs.Leaps.{leaps, capture_of, capture_back}
-use Rattle.chess_moves.specs.Hits.{is_taken, hits_as, place_hits, hits_from}
-use Rattle.chess_moves.specs.Forces.{is_knight_kind, StandFor, is_one, is_diagonal_kind, is_straight_kind}
+use Rattle.chess_moves.specs.inside.Directions.{toward, opposite, is_blocked, reaches, reaches_as_bishop, reaches_as_rook, sights, sights_as_bishop, sights_as_rook}
+use Rattle.chess_moves.specs.inside.Leaps.{leaps, capture_of, capture_back}
+use Rattle.chess_moves.specs.inside.Hits.{is_taken, hits_as, place_hits, hits_from}
+use Rattle.chess_moves.specs.inside.Forces.{is_knight_kind, StandFor, is_one, is_diagonal_kind, is_straight_kind}
 use Rattle.std.proofs.Math.Bool.{and-false}
 use Rattle.chess_moves.proofs.SetBits.{has_and, has_or, has_less, has_none}
 use Rattle.chess_moves.proofs.AnyLemmas.{any_same, any_none, any_at}

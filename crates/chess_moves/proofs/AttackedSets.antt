@@ -1,8 +1,8 @@
 -- All squares that a side attacks, put together man by man and kind by kind.
-use Rattle.std.proofs.Common.{◌≡◌, ℕ, ◌<◌, ◌^◌, Bool, true, false, ◌&&◌, ◌||◌, List, Option, is_some, refl, sym, ap, ◌∙◌, w64}
-use Rattle.std.specs.Int.{trailing_zeros}
+use Rattle.std.proofs.Common.{◌≡◌, ℕ, Bool, true, false, ◌&&◌, ◌||◌, List, Option, is_some, refl, sym, ap, ◌∙◌}
 use Rattle.std.specs.Int.RustNames.{bit_or}
 use Rattle.square_sets.specs.Members.{has}
+use Rattle.square_sets.specs.BitScan.{IsSplit}
 use Rattle.chess_board.specs.declared.men.Colour.{Colour}
 use Rattle.chess_board.specs.declared.men.Man.{Man}
 use Rattle.chess_board.specs.Positions.{man_at}
@@ -11,22 +11,21 @@ use Rattle.chess_board.specs.Squares.{any_below}
 use Rattle.chess_moves.specs.declared.directions.Leap.{Leap}
 use Rattle.chess_moves.specs.declared.directions.Leap.TheVariants.{KnightLeap, KingStep}
 use Rattle.chess_moves.specs.declared.forces.Force.{Force}
-use Rattle.chess_moves.specs.Directions.{reaches_as_bishop, reaches_as_rook}
-use Rattle.chess_moves.specs.Forces.{StandFor}
-use Rattle.chess_moves.specs.Hits.{is_taken, hits_from, is_hit}
-use Rattle.chess_moves.specs.Leaps.{leaps, capture_of}
+use Rattle.chess_moves.specs.inside.Directions.{reaches_as_bishop, reaches_as_rook}
+use Rattle.chess_moves.specs.inside.Forces.{StandFor}
+use Rattle.chess_moves.specs.inside.Hits.{is_taken, hits_from, is_hit}
+use Rattle.chess_moves.specs.inside.Leaps.{leaps, capture_of}
 use Rattle.chess_moves.proofs.AnyLemmas.{any_same, any_or}
 use Rattle.chess_moves.proofs.AttackSets.{five, slants_same, straight_same, place_by_kind}
 use Rattle.chess_moves.proofs.Kept.{any_first, none_left}
-use Rattle.chess_moves.proofs.SetBits.{clear, has_clear, has_or, first_square}
+use Rattle.chess_moves.proofs.SetBits.{has_or}
 
 -- what the first of the men that are left attacks is joined to the rest
-pub joined_from : (p : ℕ → Bool) (set more rest t : ℕ) → 0 < rest → rest < 2 ^ 64 → has more t ≡ p (trailing_zeros w64 rest)
-    → (has (bit_or set more) t || any_below 64 (λ a. has (clear rest (trailing_zeros w64 rest)) a && p a)) ≡ (has set t || any_below 64 (λ a. has rest a && p a))
-joined_from p set more rest t some fits is =
-    let first = first_square rest some fits in
-    let all = any_first rest (clear rest (trailing_zeros w64 rest)) p (trailing_zeros w64 rest) first.0 first.1 (λ s l. has_clear rest (trailing_zeros w64 rest) s first.0 l) in
-    rw (has_or set more t, is, all) (regrouped (has set t) (p (trailing_zeros w64 rest)) (any_below 64 (λ a. has (clear rest (trailing_zeros w64 rest)) a && p a)))
+pub joined_from : (p : ℕ → Bool) (set more from a rest t : ℕ) → IsSplit from a rest → has more t ≡ p a
+    → (has (bit_or set more) t || any_below 64 (λ a. has rest a && p a)) ≡ (has set t || any_below 64 (λ a. has from a && p a))
+joined_from p set more from a rest t split is =
+    let all = any_first from rest p a split in
+    rw (has_or set more t, is, all) (regrouped (has set t) (p a) (any_below 64 (λ a. has rest a && p a)))
   where
     regrouped : (x y z : Bool) → ((x || y) || z) ≡ (x || (y || z))
     regrouped true y z = refl

@@ -14,9 +14,9 @@ use Rattle.chess_board.specs.Attacks.{is_amid, on_one_rank, on_one_file, on_one_
 use Rattle.chess_board.specs.Attacks.{is_clear, is_rook_line, is_bishop_line, attacks_as, man_attacks, attacks_from, is_attacked}
 use Rattle.chess_moves.specs.declared.directions.Direction.{Direction}
 use Rattle.chess_moves.specs.declared.directions.Direction.TheVariants.{North, NorthEast, East, SouthEast, South, SouthWest, West, NorthWest}
-use Rattle.chess_moves.specs.Directions.{toward, is_blocked, reaches, reaches_as_bishop, reaches_as_rook, stands_between}
-use Rattle.chess_moves.specs.Leaps.{leaps}
-use Rattle.chess_moves.specs.Hits.{is_taken, hits_as, place_hits, hits_from, is_hit}
+use Rattle.chess_moves.specs.inside.Directions.{toward, is_blocked, reaches, reaches_as_bishop, reaches_as_rook, stands_between}
+use Rattle.chess_moves.specs.inside.Leaps.{leaps}
+use Rattle.chess_moves.specs.inside.Hits.{is_taken, hits_as, place_hits, hits_from, is_hit}
 use Rattle.chess_moves.proofs.AnyLemmas.{any_same}
 use Rattle.chess_moves.proofs.Geometry.{north_east_on, north_west_on, north_says, north_from, east_says, east_from, north_east_says, north_west_says}
 use Rattle.chess_moves.proofs.Compass.{between_from, between_some, between_in}

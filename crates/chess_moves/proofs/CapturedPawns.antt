@@ -8,7 +8,7 @@ use Rattle.chess_board.specs.declared.men.Kind.TheVariants.{Pawn}
 use Rattle.chess_board.specs.declared.men.Man.{Man}
 use Rattle.chess_board.specs.Squares.{file_of, rank_of, file_gap, crossed}
 use Rattle.chess_board.specs.Men.{other_side, is_of}
-use Rattle.chess_board.specs.KindTests.{is_pawn_of}
+use Rattle.chess_board.specs.inside.KindTests.{is_pawn_of}
 use Rattle.chess_board.specs.Positions.{Setup, man_at, is_empty}
 use Rattle.chess_board.specs.Attacks.{is_forward, attacks_as}
 use Rattle.chess_board.specs.Soundness.{IsSound, has_pawn_of_target}

@@ -12,12 +12,12 @@ use Rattle.chess_board.specs.Men.{is_colour}
 use Rattle.chess_board.specs.Positions.{moved, man_at}
 use Rattle.chess_board.specs.Squares.{crossed, all_below}
 use Rattle.chess_board.specs.Castling.{king_goal, king_home, rook_home}
-use Rattle.chess_moves.specs.CheckInfo.{gets_through}
-use Rattle.chess_moves.specs.Directions.{toward, stands_between}
-use Rattle.chess_moves.specs.Hits.{is_taken, place_hits, hits_from, is_hit}
+use Rattle.chess_moves.specs.inside.CheckInfo.{gets_through}
+use Rattle.chess_moves.specs.inside.Directions.{toward, stands_between}
+use Rattle.chess_moves.specs.inside.Hits.{is_taken, place_hits, hits_from, is_hit}
 use Rattle.chess_moves.proofs.AnyLemmas.{any_none, any_at}
 use Rattle.chess_moves.proofs.Placed.{attacks_placed}
-use Rattle.chess_moves.proofs.Promotions.{each}
+use Rattle.chess_moves.proofs.LastRanks.{each}
 
 -- an own man is lifted off the board: each attacker that got through stays
 attacks_lifted : (men : List (Option Man)) (o : ℕ) (man : Man) (by : Colour) (a k : ℕ) → length men ≡ 64 → o < 64 → man_at men o ≡ Some man

@@ -15,12 +15,12 @@ use Rattle.chess_board.specs.Sets.{IsSetOf}
 use Rattle.chess_board.specs.Attacks.{is_clear, is_attacked}
 use Rattle.chess_board.specs.Squares.{crossed, all_below}
 use Rattle.chess_board.specs.Castling.{king_home, rook_home, king_goal, castles_to}
-use Rattle.chess_moves.specs.Directions.{toward, stands_between}
-use Rattle.chess_moves.specs.Hits.{is_taken}
+use Rattle.chess_moves.specs.inside.Directions.{toward, stands_between}
+use Rattle.chess_moves.specs.inside.Hits.{is_taken}
 use Rattle.chess_moves.proofs.AnyLemmas.{any_same}
 use Rattle.chess_moves.proofs.SharedSquares.{meets_is}
 use Rattle.chess_moves.proofs.Bridge.{clear_same}
-use Rattle.chess_moves.proofs.Promotions.{same, same_equal, each}
+use Rattle.chess_moves.proofs.LastRanks.{same, same_equal, each}
 
 pub record Castles (p : Setup) (c : Colour) (w : Wing) (a b : ℕ) : Type 0 where
   pub right : has_right_of p.rights c w ≡ true

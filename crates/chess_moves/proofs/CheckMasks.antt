@@ -8,9 +8,9 @@ use Rattle.chess_board.specs.Men.{other_side, man_of}
 use Rattle.chess_board.specs.Positions.{man_at}
 use Rattle.chess_moves.specs.declared.directions.Direction.{Direction}
 use Rattle.chess_moves.specs.declared.directions.Direction.TheVariants.{North, NorthEast, East, SouthEast, South, SouthWest, West, NorthWest}
-use Rattle.chess_moves.specs.Directions.{toward, stands_between}
-use Rattle.chess_moves.specs.Hits.{is_taken, hits_from, is_hit, place_hits, hits_as}
-use Rattle.chess_moves.specs.CheckInfo.{gets_through}
+use Rattle.chess_moves.specs.inside.Directions.{toward, stands_between}
+use Rattle.chess_moves.specs.inside.Hits.{is_taken, hits_from, is_hit, place_hits, hits_as}
+use Rattle.chess_moves.specs.inside.CheckInfo.{gets_through}
 use Rattle.chess_moves.proofs.AnyLemmas.{any_same}
 use Rattle.chess_moves.proofs.Geometry.{toward_self}
 use Rattle.chess_moves.proofs.OwnColours.{other_colour}

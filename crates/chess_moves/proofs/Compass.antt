@@ -10,8 +10,8 @@ use Rattle.chess_moves.specs.declared.directions.Direction.{Direction}
 use Rattle.chess_moves.specs.declared.directions.Direction.TheVariants.{North, NorthEast, East, SouthEast, South, SouthWest, West, NorthWest}
 use Rattle.chess_moves.specs.declared.directions.Leap.{Leap}
 use Rattle.chess_moves.specs.declared.directions.Leap.TheVariants.{KnightLeap, KingStep}
-use Rattle.chess_moves.specs.Directions.{toward, is_blocked, stands_between, reaches}
-use Rattle.chess_moves.specs.Leaps.{leaps, capture_of}
+use Rattle.chess_moves.specs.inside.Directions.{toward, is_blocked, stands_between, reaches}
+use Rattle.chess_moves.specs.inside.Leaps.{leaps, capture_of}
 use Rattle.chess_moves.proofs.Geometry.{toward_on, north_says, east_says, north_east_says, north_west_says}
 use Rattle.chess_moves.proofs.AnyLemmas.{any_same, any_or, any_none, any_at}
 

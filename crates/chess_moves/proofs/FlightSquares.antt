@@ -8,7 +8,7 @@ use Rattle.chess_board.specs.declared.men.Kind.TheVariants.{King}
 use Rattle.chess_board.specs.declared.men.Man.{Man}
 use Rattle.chess_board.specs.Squares.{file_gap}
 use Rattle.chess_board.specs.Men.{is_colour, is_of, other_side, man_of}
-use Rattle.chess_board.specs.KindTests.{is_king_of, is_king_kind}
+use Rattle.chess_board.specs.inside.KindTests.{is_king_of, is_king_kind}
 use Rattle.chess_board.specs.Positions.{Setup, man_at, moved, cleared}
 use Rattle.chess_board.specs.Attacks.{attacks_as, is_attacked, is_in_check}
 use Rattle.chess_board.specs.Moves.{Move}
@@ -18,12 +18,12 @@ use Rattle.chess_board.specs.Legality.{is_legal, is_safe}
 use Rattle.chess_board.specs.Soundness.{IsSound}
 use Rattle.chess_board.specs.Castling.{castles}
 use Rattle.chess_moves.specs.declared.directions.Leap.TheVariants.{KingStep}
-use Rattle.chess_moves.specs.Flights.{IsFlight, leaves_flight}
-use Rattle.chess_moves.specs.Hits.{is_taken, hits_as, hits_from, is_hit}
-use Rattle.chess_moves.specs.Leaps.{leaps}
-use Rattle.chess_moves.specs.Listing.{move_of, legal_moves}
-use Rattle.chess_moves.specs.CheckInfo.{gets_through}
-use Rattle.chess_moves.specs.CheckSquares.{is_special}
+use Rattle.chess_moves.specs.inside.Flights.{IsFlight, leaves_flight}
+use Rattle.chess_moves.specs.inside.Hits.{is_taken, hits_as, hits_from, is_hit}
+use Rattle.chess_moves.specs.inside.Leaps.{leaps}
+use Rattle.chess_moves.specs.inside.Listing.{move_of, legal_moves}
+use Rattle.chess_moves.specs.inside.CheckInfo.{gets_through}
+use Rattle.chess_moves.specs.inside.CheckSquares.{is_special}
 use Rattle.chess_moves.specs.Verdicts.{has_legal_move, is_mate}
 use Rattle.chess_moves.proofs.AnyLemmas.{any_none, any_at}
 use Rattle.chess_moves.proofs.Bridge.{attacks_same, attacked_same}

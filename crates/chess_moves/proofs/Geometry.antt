@@ -8,8 +8,8 @@ use Rattle.chess_board.specs.Squares.{gap}
 use Rattle.chess_moves.specs.declared.directions.Direction.{Direction}
 use Rattle.chess_moves.specs.declared.directions.Direction.TheVariants.{North, NorthEast, East, SouthEast, South, SouthWest, West, NorthWest}
 use Rattle.chess_moves.specs.declared.directions.Leap.TheVariants.{KnightLeap, KingStep}
-use Rattle.chess_moves.specs.Directions.{toward, opposite, is_rising, is_north, is_east, is_north_east, is_north_west}
-use Rattle.chess_moves.specs.Leaps.{leaps, capture_of, capture_back}
+use Rattle.chess_moves.specs.inside.Directions.{toward, opposite, is_rising, is_north, is_east, is_north_east, is_north_west}
+use Rattle.chess_moves.specs.inside.Leaps.{leaps, capture_of, capture_back}
 
 -- a line's two tests and what they say
 both : (a b c d : ℕ) → (eqb a b && ltb c d) ≡ true → (a ≡ b) × (c < d)

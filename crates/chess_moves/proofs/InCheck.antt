@@ -8,7 +8,7 @@ use Rattle.chess_board.specs.declared.men.Kind.TheVariants.{King}
 use Rattle.chess_board.specs.declared.men.Man.{Man}
 use Rattle.chess_board.specs.Squares.{any_below}
 use Rattle.chess_board.specs.Men.{other_side, man_of}
-use Rattle.chess_board.specs.KindTests.{is_king_of}
+use Rattle.chess_board.specs.inside.KindTests.{is_king_of}
 use Rattle.chess_board.specs.Positions.{Setup, man_at}
 use Rattle.chess_board.specs.Attacks.{is_attacked, is_king_attacked, is_in_check}
 use Rattle.chess_board.specs.Soundness.{IsSound, HasOneKingEach}

@@ -10,8 +10,8 @@ use Rattle.chess_board.specs.Attacks.{is_in_check}
 use Rattle.chess_board.specs.PseudoLegal.{goes, is_promotion, promotes, suits, is_pseudo_legal}
 use Rattle.chess_board.specs.MakeMove.{men_after, after_setup}
 use Rattle.chess_board.specs.Legality.{is_safe, is_legal}
-use Rattle.chess_moves.specs.Listing.{move_of, promotions, moves_between}
-use Rattle.chess_moves.specs.Targets.{ways, AreTargets}
+use Rattle.chess_moves.specs.inside.Listing.{move_of, promotions, moves_between}
+use Rattle.chess_moves.specs.inside.Targets.{ways, AreTargets}
 use Rattle.chess_moves.proofs.OwnColours.{same_colour}
 use Rattle.chess_moves.proofs.Few.{between_promoted, between_plain}
 

@@ -3,7 +3,7 @@ use Rattle.std.proofs.Common.{◌≡◌, ℕ, zero, suc, ◌+◌, ◌*◌, ◌%�
 use Rattle.std.proofs.lemmas.Bool.{eqb-true, eqb-false, false_from_ne_true}
 use Rattle.std.proofs.lemmas.Bool.Decides.{nat_tests}
 use Rattle.std.proofs.lemmas.Nat.Bits.{bit_at-zero, bit_at_set_same, bit_at_set_other}
-use Rattle.square_sets.specs.Members.{has}
+use Rattle.square_sets.specs.Members.{has, members}
 use Rattle.chess_board.specs.declared.men.Colour.{Colour}
 use Rattle.chess_board.specs.declared.men.Kind.TheVariants.{King}
 use Rattle.chess_board.specs.Legality.{is_legal}
@@ -11,9 +11,9 @@ use Rattle.chess_board.specs.Men.{is_man}
 use Rattle.chess_board.specs.Positions.{Setup, man_at}
 use Rattle.chess_board.specs.Sets.{IsSetOf}
 use Rattle.chess_moves.specs.declared.check_info.CheckInfo.{CheckInfo}
-use Rattle.chess_moves.specs.CheckInfo.{IsCheckInfoOf}
-use Rattle.chess_moves.specs.Listing.{moves_to}
-use Rattle.chess_moves.specs.MoveGeneration.{members, moves_of_men}
+use Rattle.chess_moves.specs.inside.CheckInfo.{IsCheckInfoOf}
+use Rattle.chess_moves.specs.inside.Listing.{moves_to}
+use Rattle.chess_moves.specs.inside.MoveGeneration.{moves_of_men}
 use Rattle.chess_moves.proofs.MovedKings.{king_of_scene}
 use Rattle.chess_moves.proofs.OwnColours.{same_colour}
 use Rattle.chess_moves.proofs.Tallies.{many_from, many_below, many_below_suc, many_none}

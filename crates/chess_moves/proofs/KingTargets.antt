@@ -13,7 +13,7 @@ use Rattle.chess_board.specs.declared.men.Wing.TheVariants.{KingSide, QueenSide}
 use Rattle.chess_board.specs.declared.men.Man.{Man}
 use Rattle.chess_board.specs.Squares.{file_gap, crossed}
 use Rattle.chess_board.specs.Men.{other_side, is_colour, is_of, has_right_of}
-use Rattle.chess_board.specs.KindTests.{is_king_of, is_rook_of}
+use Rattle.chess_board.specs.inside.KindTests.{is_king_of, is_rook_of}
 use Rattle.chess_board.specs.Positions.{Setup, man_at, cleared, moved}
 use Rattle.chess_board.specs.Attacks.{attacks_as, is_attacked, is_in_check}
 use Rattle.chess_board.specs.Soundness.{IsSound, has_men_of_right}
@@ -21,9 +21,9 @@ use Rattle.chess_board.specs.PseudoLegal.{piece_goes, goes, suits}
 use Rattle.chess_board.specs.MakeMove.{men_after}
 use Rattle.chess_board.specs.Castling.{king_home, rook_home, king_goal, castles_to, castles, rook, wing_of, castled}
 use Rattle.chess_moves.specs.declared.check_info.CheckInfo.{CheckInfo}
-use Rattle.chess_moves.specs.Hits.{is_hit}
-use Rattle.chess_moves.specs.Listing.{move_of}
-use Rattle.chess_moves.specs.CheckInfo.{IsCheckInfoOf}
+use Rattle.chess_moves.specs.inside.Hits.{is_hit}
+use Rattle.chess_moves.specs.inside.Listing.{move_of}
+use Rattle.chess_moves.specs.inside.CheckInfo.{IsCheckInfoOf}
 use Rattle.chess_moves.proofs.Bridge.{attacked_same}
 use Rattle.chess_moves.proofs.Castled.{unattacked_castled}
 use Rattle.chess_moves.proofs.CastlingWays.{Castles, castles_says}

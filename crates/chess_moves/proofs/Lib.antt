@@ -42,7 +42,7 @@ pub mod PawnTargets
 pub mod KingTargets
 pub mod Sifting
 pub mod Members
-pub mod Promotions
+pub mod LastRanks
 pub mod Walks
 pub mod Tallies
 pub mod KingCounts

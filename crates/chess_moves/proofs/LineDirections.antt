@@ -4,7 +4,7 @@ use Rattle.std.proofs.lemmas.Bool.{and_parts, and_from, or_cases, or_left, or_ri
 use Rattle.chess_board.specs.Squares.{file_gap, rank_gap}
 use Rattle.chess_board.specs.Attacks.{on_one_rank, on_one_file, on_one_diagonal, is_rook_line, is_bishop_line}
 use Rattle.chess_moves.specs.declared.directions.Direction.TheVariants.{North, NorthEast, East, SouthEast, South, SouthWest, West, NorthWest}
-use Rattle.chess_moves.specs.Directions.{toward}
+use Rattle.chess_moves.specs.inside.Directions.{toward}
 use Rattle.chess_moves.proofs.Geometry.{north_says, north_from, east_says, east_from, north_east_says, north_west_says}
 use Rattle.chess_moves.proofs.Slants.{slant_east, slant_west, east_gaps, west_gaps, gaps_back}
 

@@ -9,7 +9,7 @@ use Rattle.chess_board.specs.declared.men.Man.{Man}
 use Rattle.chess_board.specs.Men.{other_side, is_colour, is_of}
 use Rattle.chess_board.specs.Sets.{IsSetOf}
 use Rattle.chess_board.specs.Attacks.{attacks_as}
-use Rattle.chess_moves.specs.Hits.{is_taken, hits_as}
+use Rattle.chess_moves.specs.inside.Hits.{is_taken, hits_as}
 use Rattle.chess_moves.proofs.AttackSets.{slants_same, straight_same}
 use Rattle.chess_moves.proofs.Bridge.{attacks_same}
 

@@ -3,7 +3,7 @@ use Rattle.std.proofs.Common.{◌≡◌, ℕ, ◌+◌, ◌^◌, ◌<◌, Bool, t
 use Rattle.std.specs.Prelude.{nat_lt}
 use Rattle.std.specs.Int.{bit_not}
 use Rattle.std.proofs.lemmas.Bool.{eqb-true, eqb-false, ne_eqb, and_parts, lt-ltb, ltb-true, ltb-false}
-use Rattle.square_sets.specs.Members.{has}
+use Rattle.square_sets.specs.Members.{has, members}
 use Rattle.chess_board.specs.declared.men.Colour.{Colour}
 use Rattle.chess_board.specs.declared.men.Colour.TheVariants.{White, Black}
 use Rattle.chess_board.specs.declared.men.Kind.TheVariants.{King}
@@ -14,11 +14,11 @@ use Rattle.chess_board.specs.Sets.{IsSetOf}
 use Rattle.chess_board.specs.MakeMove.{after_setup}
 use Rattle.chess_board.specs.Moves.{Move}
 use Rattle.chess_moves.specs.declared.check_info.CheckInfo.{CheckInfo}
-use Rattle.chess_moves.specs.CheckInfo.{IsCheckInfoOf}
+use Rattle.chess_moves.specs.inside.CheckInfo.{IsCheckInfoOf}
 use Rattle.chess_moves.specs.GivesCheck.{gives_check}
 use Rattle.chess_moves.specs.Verdicts.{has_legal_move, is_mate}
-use Rattle.chess_moves.specs.MoveGeneration.{members, moves_of_men, HaveOwnMen}
-use Rattle.chess_moves.proofs.SetBits.{has_none, has_less}
+use Rattle.chess_moves.specs.inside.MoveGeneration.{moves_of_men, HaveOwnMen}
+use Rattle.chess_moves.proofs.SetBits.{has_less}
 use Rattle.chess_moves.proofs.Tallies.{many_from, many_below, many_below_suc, many_none, many_parts}
 use Rattle.chess_moves.proofs.Walks.{legal_of_men}
 
@@ -28,16 +28,12 @@ own_king Black = refl
 
 -- The set holds the king's square alone.
 abbrev pub IsKing : ℕ → ℕ → Type 0
-IsKing set king = (s : ℕ) → s < 64 → has set s ≡ (eqb s king || has 0 s)
+IsKing set king = (s : ℕ) → s < 64 → has set s ≡ eqb s king
 
 pub king_is_own : (info : CheckInfo) (p : Setup) (set : ℕ) → IsCheckInfoOf info p → IsKing set info.king → HaveOwnMen set p
 king_is_own info p set h is s l on =
-    let here : eqb s info.king ≡ true = only (eqb s info.king) (has 0 s) (sym (is s l) ∙ on) (has_none 0 s refl) in
+    let here : eqb s info.king ≡ true = sym (is s l) ∙ on in
     ap (λ q. is_of p.side (man_at p.men q)) (eqb-true s info.king here) ∙ ap (is_of p.side) h.king ∙ own_king p.side
-  where
-    only : (a b : Bool) → (a || b) ≡ true → b ≡ false → a ≡ true
-    only true b e n = refl
-    only false b e n = cc
 
 pub others_are_own : (p : Setup) (own set : ℕ) → set < 2 ^ 64 → IsSetOf own (is_of p.side) p.men → HaveOwnMen (bit_and own (bit_not w64 set)) p
 others_are_own p own set fits is s l on = sym (is s l) ∙ (and_parts (has own s) (not (has set s)) (sym (has_less own set s fits l) ∙ on)).0
@@ -70,16 +66,9 @@ unfolding members
 moves_apart info p set h fits is =
     ap (λ (n : ℕ). nat_lt 0 n) (ap length (legal_of_men p info.own h.own)
     ∙ many_parts p info.own set fits (λ s l on. h.own s l ∙ king_is_own info p set h is s l on)
-    ∙ ap (λ n. n + length (moves_of_men p (members (bit_and info.own (bit_not w64 set))))) (one_below p set info.king 64 alone h.on_board))
+    ∙ ap (λ n. n + length (moves_of_men p (members (bit_and info.own (bit_not w64 set))))) (one_below p set info.king 64 is h.on_board))
     ∙ some_of (many_from p info.king) (length (moves_of_men p (members (bit_and info.own (bit_not w64 set)))))
   where
-    alone : (s : ℕ) → s < 64 → has set s ≡ eqb s info.king
-    alone s l = is s l ∙ without (eqb s info.king) (has 0 s) (has_none 0 s refl)
-      where
-        without : (a b : Bool) → b ≡ false → (a || b) ≡ a
-        without true b e = refl
-        without false b e = e
-
     some_of : (a b : ℕ) → nat_lt 0 (a + b) ≡ (nat_lt 0 a || nat_lt 0 b)
     some_of a b = (elim (nat_lt 0 a) as (λ x. nat_lt 0 a ≡ x → nat_lt 0 (a + b) ≡ (x || nat_lt 0 b)) [
       | true ↦ λ e. let some = ltb-true 0 a e in lt-ltb 0 (a + b) (omega arith)

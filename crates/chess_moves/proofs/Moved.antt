@@ -6,11 +6,11 @@ use Rattle.chess_board.specs.declared.men.Colour.{Colour}
 use Rattle.chess_board.specs.declared.men.Kind.{Kind}
 use Rattle.chess_board.specs.declared.men.Man.{Man}
 use Rattle.chess_board.specs.Men.{is_colour, is_of}
-use Rattle.chess_board.specs.KindTests.{is_pawn_kind, is_king_kind}
+use Rattle.chess_board.specs.inside.KindTests.{is_pawn_kind, is_king_kind}
 use Rattle.chess_board.specs.Positions.{man_at}
 use Rattle.chess_board.specs.Sets.{IsSetOf}
 use Rattle.chess_moves.specs.declared.forces.Force.{Force}
-use Rattle.chess_moves.specs.Forces.{is_knight_kind, StandFor, is_one, is_diagonal_kind, is_straight_kind}
+use Rattle.chess_moves.specs.inside.Forces.{is_knight_kind, StandFor, is_one, is_diagonal_kind, is_straight_kind}
 
 -- the square that changed, and the others
 stands_after : (test : Option Man → Bool) (men : List (Option Man)) (old new square : ℕ) (place : Option Man) → length men ≡ 64 → square < 64

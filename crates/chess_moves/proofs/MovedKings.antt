@@ -5,12 +5,12 @@ use Rattle.chess_board.specs.declared.men.Colour.{Colour}
 use Rattle.chess_board.specs.declared.men.Kind.TheVariants.{King}
 use Rattle.chess_board.specs.declared.men.Man.{Man}
 use Rattle.chess_board.specs.Men.{other_side, man_of}
-use Rattle.chess_board.specs.KindTests.{is_king_of}
+use Rattle.chess_board.specs.inside.KindTests.{is_king_of}
 use Rattle.chess_board.specs.Positions.{Setup, man_at, moved, cleared}
 use Rattle.chess_board.specs.Attacks.{is_in_check}
 use Rattle.chess_moves.specs.declared.check_info.CheckInfo.{CheckInfo}
-use Rattle.chess_moves.specs.Hits.{is_hit}
-use Rattle.chess_moves.specs.CheckInfo.{IsCheckInfoOf}
+use Rattle.chess_moves.specs.inside.Hits.{is_hit}
+use Rattle.chess_moves.specs.inside.CheckInfo.{IsCheckInfoOf}
 use Rattle.chess_moves.proofs.OneKing.{only_king, in_check_at}
 
 -- The colour's king stands on the square, and on no other.

@@ -4,7 +4,7 @@ use Rattle.std.specs.Prelude.{Contains}
 use Rattle.std.specs.List.{list_any, list_all, flat_map}
 use Rattle.std.proofs.lemmas.List.Folds.{list_any-append, list_all-append}
 use Rattle.std.proofs.lemmas.List.Elements.{Contains-append_right}
-use Rattle.square_sets.specs.Members.{has}
+use Rattle.square_sets.specs.Members.{has, members_below, members}
 use Rattle.chess_board.specs.declared.men.Man.{Man}
 use Rattle.chess_board.specs.MakeMove.{after_setup}
 use Rattle.chess_board.specs.PseudoLegal.{goes}
@@ -12,10 +12,9 @@ use Rattle.chess_board.specs.Legality.{is_legal}
 use Rattle.chess_board.specs.Moves.{Move}
 use Rattle.chess_board.specs.Positions.{Setup, man_at}
 use Rattle.chess_moves.specs.GivesCheck.{gives_check}
-use Rattle.chess_moves.specs.Listing.{moves_between, moves_to}
-use Rattle.chess_moves.specs.Targets.{ways, AreTargets}
+use Rattle.chess_moves.specs.inside.Listing.{moves_between, moves_to}
+use Rattle.chess_moves.specs.inside.Targets.{ways, AreTargets}
 use Rattle.chess_moves.specs.Verdicts.{is_mate}
-use Rattle.chess_moves.specs.MoveGeneration.{members_below, members}
 use Rattle.chess_moves.proofs.Listed.{between_in, to_in}
 use Rattle.chess_moves.proofs.Mates.{no_mate}
 use Rattle.chess_moves.proofs.Members.{flat_map-below_suc}

@@ -7,11 +7,11 @@ use Rattle.chess_board.specs.declared.men.Colour.TheVariants.{White, Black}
 use Rattle.chess_board.specs.declared.men.Kind.TheVariants.{King}
 use Rattle.chess_board.specs.declared.men.Man.{Man}
 use Rattle.chess_board.specs.Men.{man_of, other_side}
-use Rattle.chess_board.specs.KindTests.{is_king_of}
+use Rattle.chess_board.specs.inside.KindTests.{is_king_of}
 use Rattle.chess_board.specs.Positions.{Setup, man_at}
 use Rattle.chess_board.specs.Attacks.{is_attacked, is_king_attacked, is_in_check}
 use Rattle.chess_board.specs.Soundness.{IsSound, HasOneKingEach}
-use Rattle.chess_moves.specs.Hits.{is_hit}
+use Rattle.chess_moves.specs.inside.Hits.{is_hit}
 use Rattle.chess_moves.proofs.AnyLemmas.{any_none, any_at}
 use Rattle.chess_moves.proofs.Bridge.{attacked_same}
 

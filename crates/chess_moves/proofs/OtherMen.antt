@@ -5,14 +5,14 @@ use Rattle.chess_board.specs.declared.men.Kind.{Kind}
 use Rattle.chess_board.specs.declared.men.Kind.TheVariants.{Pawn, Knight, Bishop, Rook, Queen, King}
 use Rattle.chess_board.specs.declared.men.Man.{Man}
 use Rattle.chess_board.specs.Men.{other_side, is_of, man_of}
-use Rattle.chess_board.specs.KindTests.{is_king_kind, is_king_of}
+use Rattle.chess_board.specs.inside.KindTests.{is_king_kind, is_king_of}
 use Rattle.chess_board.specs.Positions.{Setup, man_at, moved}
 use Rattle.chess_board.specs.Attacks.{is_in_check}
 use Rattle.chess_board.specs.PseudoLegal.{promotes, suits}
 use Rattle.chess_board.specs.MakeMove.{becomes}
 use Rattle.chess_moves.specs.declared.check_info.CheckInfo.{CheckInfo}
-use Rattle.chess_moves.specs.Hits.{is_hit}
-use Rattle.chess_moves.specs.CheckInfo.{IsCheckInfoOf}
+use Rattle.chess_moves.specs.inside.Hits.{is_hit}
+use Rattle.chess_moves.specs.inside.CheckInfo.{IsCheckInfoOf}
 use Rattle.chess_moves.proofs.OwnColours.{same_colour, no_king_of}
 use Rattle.chess_moves.proofs.MovedKings.{IsKingAt, in_check_there, king_of_scene, king_stays}
 

@@ -6,7 +6,7 @@ use Rattle.chess_board.specs.declared.men.Colour.TheVariants.{White, Black}
 use Rattle.chess_board.specs.declared.men.Man.{Man}
 use Rattle.chess_board.specs.declared.men.Kind.TheVariants.{Rook, King}
 use Rattle.chess_board.specs.Men.{other_side, is_colour, is_kind, is_of, man_of}
-use Rattle.chess_board.specs.KindTests.{is_king_kind, is_king_of, is_rook_of}
+use Rattle.chess_board.specs.inside.KindTests.{is_king_kind, is_king_of, is_rook_of}
 use Rattle.chess_board.specs.Positions.{Setup, man_at}
 
 pub same_colour : (a b : Colour) → a ≡ b → is_colour a b ≡ true

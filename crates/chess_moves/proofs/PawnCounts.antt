@@ -4,7 +4,7 @@ use Rattle.std.specs.List.{flat_map}
 use Rattle.std.proofs.lemmas.Bool.{and_parts, eqb-true}
 use Rattle.std.proofs.lemmas.List.Elements.{filter-append}
 use Rattle.std.proofs.Math.Bool.{or-false}
-use Rattle.square_sets.specs.Members.{has}
+use Rattle.square_sets.specs.Members.{has, members_below, members}
 use Rattle.chess_board.specs.declared.men.Colour.{Colour}
 use Rattle.chess_board.specs.declared.men.Kind.TheVariants.{Pawn}
 use Rattle.chess_board.specs.declared.men.Man.{Man}
@@ -15,13 +15,13 @@ use Rattle.chess_board.specs.PseudoLegal.{promotes, steps_once, steps_twice, tak
 use Rattle.chess_board.specs.MakeMove.{becomes}
 use Rattle.chess_board.specs.Legality.{is_legal}
 use Rattle.chess_moves.specs.declared.check_info.CheckInfo.{CheckInfo}
-use Rattle.chess_moves.specs.Hits.{is_hit}
-use Rattle.chess_moves.specs.Leaps.{is_step, is_double, is_pawn_capture}
-use Rattle.chess_moves.specs.Listing.{move_of, promotions, moves_between, moves_to}
-use Rattle.chess_moves.specs.CheckInfo.{IsCheckInfoOf}
-use Rattle.chess_moves.specs.Shifts.{is_shifted, back, left_file, right_file, third_rank, AreFree}
-use Rattle.chess_moves.specs.Targets.{ways}
-use Rattle.chess_moves.specs.MoveGeneration.{members_below, members, moves_of_men, HaveMenOf}
+use Rattle.chess_moves.specs.inside.Hits.{is_hit}
+use Rattle.chess_moves.specs.inside.Leaps.{is_step, is_double, is_pawn_capture}
+use Rattle.chess_moves.specs.inside.Listing.{move_of, promotions, moves_between, moves_to}
+use Rattle.chess_moves.specs.inside.CheckInfo.{IsCheckInfoOf}
+use Rattle.chess_moves.specs.inside.Shifts.{is_shifted, back, left_file, right_file, third_rank, AreFree}
+use Rattle.chess_moves.specs.inside.Targets.{ways}
+use Rattle.chess_moves.specs.inside.MoveGeneration.{moves_of_men, HaveMenOf}
 use Rattle.chess_moves.proofs.SetBits.{has_and}
 use Rattle.chess_moves.proofs.Members.{flat_map-below_suc}
 use Rattle.chess_moves.proofs.OwnColours.{other_colour, own_not_other}

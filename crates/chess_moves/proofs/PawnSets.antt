@@ -14,7 +14,7 @@ use Rattle.chess_board.specs.Positions.{man_at, is_empty}
 use Rattle.chess_board.specs.Sets.{IsSetOf}
 use Rattle.chess_board.specs.Attacks.{is_forward, attacks_as}
 use Rattle.chess_board.specs.PseudoLegal.{second_rank, steps_once, steps_twice, takes}
-use Rattle.chess_moves.specs.Leaps.{leaps, capture_of, step_of, double_of}
+use Rattle.chess_moves.specs.inside.Leaps.{leaps, capture_of, step_of, double_of}
 use Rattle.chess_moves.proofs.SetParts.{part, parted}
 use Rattle.chess_moves.proofs.ManSets.{some_not_of}
 

@@ -8,9 +8,9 @@ use Rattle.square_sets.specs.Members.{has}
 use Rattle.chess_board.specs.declared.men.Colour.{Colour}
 use Rattle.chess_board.specs.declared.men.Colour.TheVariants.{White, Black}
 use Rattle.chess_board.specs.Squares.{file_of, rank_of, all_below, crossed}
-use Rattle.chess_moves.specs.Leaps.{is_step, is_double, is_pawn_capture}
-use Rattle.chess_moves.specs.Shifts.{is_shifted, back, left_file, right_file, third_rank}
-use Rattle.chess_moves.proofs.Promotions.{same, same_equal, each}
+use Rattle.chess_moves.specs.inside.Leaps.{is_step, is_double, is_pawn_capture}
+use Rattle.chess_moves.specs.inside.Shifts.{is_shifted, back, left_file, right_file, third_rank}
+use Rattle.chess_moves.proofs.LastRanks.{same, same_equal, each}
 
 -- a test of two squares, tried on all of them
 each_pair : (test : ℕ → ℕ → Bool) (a b : ℕ) → all_below 64 (λ o. all_below 64 (λ t. test o t)) ≡ true → a < 64 → b < 64 → test a b ≡ true

@@ -9,16 +9,16 @@ use Rattle.chess_board.specs.declared.men.Kind.TheVariants.{Pawn}
 use Rattle.chess_board.specs.declared.men.Man.{Man}
 use Rattle.chess_board.specs.Squares.{file_of, rank_of, crossed}
 use Rattle.chess_board.specs.Men.{other_side, is_of}
-use Rattle.chess_board.specs.KindTests.{is_pawn_kind, is_king_kind}
+use Rattle.chess_board.specs.inside.KindTests.{is_pawn_kind, is_king_kind}
 use Rattle.chess_board.specs.Positions.{Setup, man_at, is_empty, moved, cleared}
 use Rattle.chess_board.specs.Attacks.{is_forward, attacks_as, is_in_check}
 use Rattle.chess_board.specs.PseudoLegal.{second_rank, steps_once, steps_twice, takes, goes, suits}
 use Rattle.chess_board.specs.MakeMove.{becomes, men_after}
 use Rattle.chess_board.specs.EnPassant.{is_square, takes_en_passant, captured_pawn}
 use Rattle.chess_moves.specs.declared.check_info.CheckInfo.{CheckInfo}
-use Rattle.chess_moves.specs.Hits.{is_hit}
-use Rattle.chess_moves.specs.Listing.{move_of}
-use Rattle.chess_moves.specs.CheckInfo.{IsCheckInfoOf}
+use Rattle.chess_moves.specs.inside.Hits.{is_hit}
+use Rattle.chess_moves.specs.inside.Listing.{move_of}
+use Rattle.chess_moves.specs.inside.CheckInfo.{IsCheckInfoOf}
 use Rattle.chess_moves.proofs.OwnColours.{other_colour, other_not_own}
 use Rattle.chess_moves.proofs.MovedKings.{in_check_there, king_kept}
 use Rattle.chess_moves.proofs.KeptWays.{goes_safely, and_when}

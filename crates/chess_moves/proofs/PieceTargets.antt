@@ -6,15 +6,15 @@ use Rattle.chess_board.specs.declared.men.Kind.{Kind}
 use Rattle.chess_board.specs.declared.men.Kind.TheVariants.{Pawn, Knight, Bishop, Rook, Queen, King}
 use Rattle.chess_board.specs.declared.men.Man.{Man}
 use Rattle.chess_board.specs.Men.{other_side, is_of}
-use Rattle.chess_board.specs.KindTests.{is_pawn_kind, is_king_kind}
+use Rattle.chess_board.specs.inside.KindTests.{is_pawn_kind, is_king_kind}
 use Rattle.chess_board.specs.Positions.{Setup, man_at, moved}
 use Rattle.chess_board.specs.Attacks.{attacks_as, is_in_check}
 use Rattle.chess_board.specs.PseudoLegal.{piece_goes, goes, suits}
 use Rattle.chess_board.specs.MakeMove.{becomes, men_after}
 use Rattle.chess_moves.specs.declared.check_info.CheckInfo.{CheckInfo}
-use Rattle.chess_moves.specs.Hits.{is_hit}
-use Rattle.chess_moves.specs.Listing.{move_of}
-use Rattle.chess_moves.specs.CheckInfo.{IsCheckInfoOf}
+use Rattle.chess_moves.specs.inside.Hits.{is_hit}
+use Rattle.chess_moves.specs.inside.Listing.{move_of}
+use Rattle.chess_moves.specs.inside.CheckInfo.{IsCheckInfoOf}
 use Rattle.chess_moves.proofs.KeptWays.{goes_safely, and_when}
 use Rattle.chess_moves.proofs.OtherMen.{becomes_no_king, in_check_beside}
 

@@ -9,7 +9,7 @@ use Rattle.chess_board.specs.declared.men.Kind.TheVariants.{Pawn, Knight, Bishop
 use Rattle.chess_board.specs.declared.men.Man.{Man}
 use Rattle.chess_board.specs.Squares.{gap, any_below}
 use Rattle.chess_board.specs.Men.{is_colour, other_side, man_of}
-use Rattle.chess_board.specs.KindTests.{is_king_kind, is_king_of}
+use Rattle.chess_board.specs.inside.KindTests.{is_king_kind, is_king_of}
 use Rattle.chess_board.specs.Positions.{Setup, man_at, moved}
 use Rattle.chess_board.specs.Attacks.{is_attacked, is_king_attacked, is_in_check}
 use Rattle.chess_board.specs.Moves.{Move}
@@ -21,11 +21,11 @@ use Rattle.chess_board.specs.Castling.{is_castling}
 use Rattle.chess_moves.specs.declared.directions.Direction.{Direction}
 use Rattle.chess_moves.specs.declared.directions.Direction.TheVariants.{North, NorthEast, East, SouthEast, South, SouthWest, West, NorthWest}
 use Rattle.chess_moves.specs.declared.check_squares.CheckSquares.{CheckSquares}
-use Rattle.chess_moves.specs.Directions.{toward, reaches, is_blocked, stands_between, reaches_as_bishop, reaches_as_rook}
-use Rattle.chess_moves.specs.Leaps.{leaps}
-use Rattle.chess_moves.specs.Hits.{is_taken, hits_as, place_hits, hits_from, is_hit}
+use Rattle.chess_moves.specs.inside.Directions.{toward, reaches, is_blocked, stands_between, reaches_as_bishop, reaches_as_rook}
+use Rattle.chess_moves.specs.inside.Leaps.{leaps}
+use Rattle.chess_moves.specs.inside.Hits.{is_taken, hits_as, place_hits, hits_from, is_hit}
 use Rattle.chess_moves.specs.GivesCheck.{gives_check}
-use Rattle.chess_moves.specs.CheckSquares.{AreCheckSquaresOf, squares_of, is_special}
+use Rattle.chess_moves.specs.inside.CheckSquares.{AreCheckSquaresOf, squares_of, is_special}
 use Rattle.chess_moves.proofs.AnyLemmas.{any_none, any_at}
 use Rattle.chess_moves.proofs.Bridge.{attacked_same}
 use Rattle.chess_moves.proofs.Compass.{between_some}

@@ -10,8 +10,8 @@ use Rattle.chess_moves.proofs.SetBits.{has_and, has_or, has_none}
 use Rattle.chess_moves.specs.declared.directions.Direction.{Direction}
 use Rattle.chess_moves.specs.declared.directions.Direction.TheVariants.{North, NorthEast, East, SouthEast, South, SouthWest, West, NorthWest}
 use Rattle.chess_board.specs.Squares.{all_below}
-use Rattle.chess_moves.proofs.Promotions.{same, same_equal, each}
-use Rattle.chess_moves.specs.Directions.{toward, is_rising, is_hidden}
+use Rattle.chess_moves.proofs.LastRanks.{same, same_equal, each}
+use Rattle.chess_moves.specs.inside.Directions.{toward, is_rising, is_hidden}
 use Rattle.chess_moves.proofs.Geometry.{toward_above, toward_below}
 use Rattle.chess_moves.proofs.Scan.{bit_at-leading_zeros}
 use Rattle.chess_moves.proofs.Slides.{hidden_beyond, hidden_none}

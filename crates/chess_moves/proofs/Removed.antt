@@ -10,9 +10,9 @@ use Rattle.chess_board.specs.Positions.{man_at}
 use Rattle.chess_board.specs.Squares.{any_below}
 use Rattle.chess_moves.specs.declared.directions.Direction.{Direction}
 use Rattle.chess_moves.specs.declared.directions.Direction.TheVariants.{North, NorthEast, East, SouthEast, South, SouthWest, West, NorthWest}
-use Rattle.chess_moves.specs.Directions.{reaches, is_blocked, toward, opposite, reaches_as_bishop, reaches_as_rook, sights, sights_as_bishop, sights_as_rook}
-use Rattle.chess_moves.specs.Forces.{is_one, is_diagonal_kind, is_straight_kind}
-use Rattle.chess_moves.specs.Hits.{is_taken, hits_as, place_hits, hits_from}
+use Rattle.chess_moves.specs.inside.Directions.{reaches, is_blocked, toward, opposite, reaches_as_bishop, reaches_as_rook, sights, sights_as_bishop, sights_as_rook}
+use Rattle.chess_moves.specs.inside.Forces.{is_one, is_diagonal_kind, is_straight_kind}
+use Rattle.chess_moves.specs.inside.Hits.{is_taken, hits_as, place_hits, hits_from}
 use Rattle.chess_moves.proofs.Slides.{blocker_of, blocked_at, reached_before}
 use Rattle.chess_moves.proofs.Geometry.{toward_back}
 use Rattle.chess_moves.proofs.AnyLemmas.{any_at}

@@ -2,7 +2,7 @@
 use Rattle.std.proofs.Common.{ℕ, zero, suc, ◌+◌, ◌<◌, ◌≤◌, Bool, true, false, cond, List, [], ◌∷◌, ◌++◌, filter, None, arith}
 use Rattle.chess_board.specs.Moves.{Move, move_place}
 use Rattle.chess_board.specs.Legality.{is_legal}
-use Rattle.chess_moves.specs.Listing.{move_of, legal_moves, moves_between, moves_to, moves_below}
+use Rattle.chess_moves.specs.inside.Listing.{move_of, legal_moves, moves_between, moves_to, moves_below}
 use Rattle.chess_moves.specs.Laws.{IsAbove, IsRising, LegalRise}
 
 -- Each move of the list comes at this place or later, or before it.

@@ -5,7 +5,7 @@ use Rattle.chess_board.specs.declared.men.Colour.TheVariants.{White, Black}
 use Rattle.chess_board.specs.declared.men.Kind.{Kind}
 use Rattle.chess_board.specs.declared.men.Kind.TheVariants.{Pawn, Knight, Bishop, Rook, Queen, King}
 use Rattle.chess_board.specs.Men.{other_side}
-use Rattle.chess_moves.specs.Hits.{hits_as}
+use Rattle.chess_moves.specs.inside.Hits.{hits_as}
 use Rattle.chess_moves.proofs.AttackSets.{slants_back, straight_back, slants_same, straight_same}
 use Rattle.chess_moves.proofs.Geometry.{knight_back, king_back, capture_mirrored}
 

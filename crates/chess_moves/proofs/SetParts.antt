@@ -1,5 +1,5 @@
 -- The members of a set, from what is known of the sets that it is made of.
-use Rattle.std.proofs.Common.{◌≡◌, ℕ, ◌^◌, ◌<◌, not, ◌&&◌, ◌||◌, Bool, true, false, eqb, refl, sym, ◌∙◌, w64}
+use Rattle.std.proofs.Common.{◌≡◌, ℕ, ◌^◌, ◌<◌, not, ◌&&◌, ◌||◌, Bool, true, false, eqb, refl, sym, w64}
 use Rattle.std.specs.Int.{bit_not}
 use Rattle.std.specs.Int.RustNames.{bit_and, bit_or}
 use Rattle.std.proofs.lemmas.Nat.Bits.{bit_at-zero}
@@ -20,8 +20,8 @@ pub has_none : (set u : ℕ) → set ≡ 0 → has set u ≡ false
 has_none set u e = rw e (rw (bit_at-zero u))
 
 -- the set of one square
-pub only_one : (s t : ℕ) → (eqb t s || has 0 t) ≡ eqb s t
-only_one s t = (elim (eqb t s) as (λ b. eqb t s ≡ b → (b || has 0 t) ≡ eqb s t) [
+pub eqb_turned : (s t : ℕ) → eqb t s ≡ eqb s t
+eqb_turned s t = (elim (eqb t s) as (λ b. eqb t s ≡ b → b ≡ eqb s t) [
   | true ↦ λ e. sym (eq-eqb s t (sym (eqb-true t s e)))
-  | false ↦ λ e. has_none 0 t refl ∙ sym (ne_eqb s t (λ same. eqb-false t s e (sym same)))
+  | false ↦ λ e. sym (ne_eqb s t (λ same. eqb-false t s e (sym same)))
 ]) refl

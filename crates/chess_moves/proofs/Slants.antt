@@ -1,7 +1,7 @@
 -- A diagonal step, by its gaps of file and rank.
 use Rattle.std.proofs.Common.{◌≡◌, ℕ, ◌+◌, ◌/◌, ◌%◌, ◌<◌, true, arith}
 use Rattle.chess_board.specs.Squares.{gap, file_gap, rank_gap}
-use Rattle.chess_moves.specs.Directions.{is_north_east, is_north_west}
+use Rattle.chess_moves.specs.inside.Directions.{is_north_east, is_north_west}
 use Rattle.chess_moves.proofs.Geometry.{north_east_says, north_east_from, north_west_says, north_west_from}
 
 pub slant_east : (a b : ℕ) → file_gap a b ≡ rank_gap a b → a % 8 < b % 8 → a / 8 < b / 8 → is_north_east a b ≡ true

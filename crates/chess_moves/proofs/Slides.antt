@@ -3,7 +3,7 @@ use Rattle.std.proofs.Common.{◌≡◌, ◌≢◌, ℕ, ◌<◌, Bool, true, fa
 use Rattle.std.proofs.lemmas.Bool.{and_parts, and_from, eqb-true, eqb-false, false_from_ne_true, not-true, not_from_false}
 use Rattle.std.proofs.Math.Bool.{and-false}
 use Rattle.chess_moves.specs.declared.directions.Direction.{Direction}
-use Rattle.chess_moves.specs.Directions.{toward, opposite, is_blocked, is_hidden, reaches}
+use Rattle.chess_moves.specs.inside.Directions.{toward, opposite, is_blocked, is_hidden, reaches}
 use Rattle.chess_moves.proofs.AnyLemmas.{any_same, any_none, any_at, any_some}
 use Rattle.chess_moves.proofs.Geometry.{toward_on, toward_back, toward_self}
 

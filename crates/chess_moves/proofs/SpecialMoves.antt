@@ -8,7 +8,7 @@ use Rattle.chess_board.specs.declared.men.Kind.{Kind}
 use Rattle.chess_board.specs.declared.men.Kind.TheVariants.{Pawn, Knight, Bishop, Rook, Queen, King}
 use Rattle.chess_board.specs.declared.men.Man.{Man}
 use Rattle.chess_board.specs.Squares.{file_gap, rank_gap}
-use Rattle.chess_board.specs.KindTests.{is_pawn_kind, is_king_kind}
+use Rattle.chess_board.specs.inside.KindTests.{is_pawn_kind, is_king_kind}
 use Rattle.chess_board.specs.Men.{is_colour}
 use Rattle.chess_board.specs.Moves.{Move}
 use Rattle.chess_board.specs.Positions.{Setup, man_at}
@@ -17,8 +17,8 @@ use Rattle.chess_board.specs.Legality.{is_legal}
 use Rattle.chess_board.specs.EnPassant.{is_square, is_en_passant}
 use Rattle.chess_board.specs.Castling.{castles, is_castling}
 use Rattle.chess_moves.specs.declared.check_info.CheckInfo.{CheckInfo}
-use Rattle.chess_moves.specs.CheckInfo.{IsCheckInfoOf}
-use Rattle.chess_moves.specs.CheckSquares.{is_special}
+use Rattle.chess_moves.specs.inside.CheckInfo.{IsCheckInfoOf}
+use Rattle.chess_moves.specs.inside.CheckSquares.{is_special}
 use Rattle.chess_moves.proofs.KingTargets.{king_origin}
 use Rattle.chess_moves.proofs.Played.{played, IsPlayed}
 

@@ -1,9 +1,9 @@
 -- How many legal moves the men of a set have, told from its parts.
 use Rattle.std.proofs.Common.{◌≡◌, ℕ, zero, suc, ◌+◌, ◌<◌, ◌≤◌, ◌^◌, Bool, true, false, not, eqb, ◌&&◌, cond, [], filter, length, Option, Some, None, refl, sym, subst, ap, ◌∙◌, arith, length-append, w64, bit_and, bit_or, ◌||◌}
-use Rattle.std.specs.Int.{trailing_zeros, bit_not}
-use Rattle.std.proofs.lemmas.Nat.Bits.{bit_at-trailing_zeros}
+use Rattle.std.specs.Int.{bit_not}
 use Rattle.std.proofs.lemmas.Bool.{and_parts}
-use Rattle.square_sets.specs.Members.{has}
+use Rattle.square_sets.specs.Members.{has, members_below, members}
+use Rattle.square_sets.specs.BitScan.{IsLowest, IsSplit}
 use Rattle.chess_board.specs.declared.men.Colour.{Colour}
 use Rattle.chess_board.specs.declared.men.Colour.TheVariants.{White, Black}
 use Rattle.chess_board.specs.declared.men.Kind.{Kind}
@@ -14,9 +14,9 @@ use Rattle.chess_board.specs.Positions.{Setup, man_at}
 use Rattle.chess_board.specs.Sets.{IsSetOf}
 use Rattle.chess_board.specs.Soundness.{IsSound}
 use Rattle.chess_board.specs.Legality.{is_legal}
-use Rattle.chess_moves.specs.Listing.{moves_to, legal_moves}
-use Rattle.chess_moves.specs.MoveGeneration.{members_below, members, moves_of_men, HaveMenOf}
-use Rattle.chess_moves.proofs.SetBits.{clear, has_and, has_or, has_clear, has_less}
+use Rattle.chess_moves.specs.inside.Listing.{moves_to, legal_moves}
+use Rattle.chess_moves.specs.inside.MoveGeneration.{moves_of_men, HaveMenOf}
+use Rattle.chess_moves.proofs.SetBits.{has_and, has_or, has_less}
 use Rattle.chess_moves.proofs.Members.{flat_map-below_suc}
 use Rattle.chess_moves.proofs.Walks.{legal_of_men}
 use Rattle.chess_moves.proofs.Few.{few_legal}
@@ -150,14 +150,12 @@ pub few_of_kind : (p : Setup) (asked : Kind) (set own : ℕ) → IsSound p → I
 few_of_kind p asked set own sound is men =
     omega (arith, many_within p set own (own_of_kind p asked set own men is), few_legal p sound, ap length (legal_of_men p own is))
 
--- One stands on the lowest square of the set, and one on each of the others.
-pub first_of_kind : (p : Setup) (asked : Kind) (set : ℕ) (side : Colour) → side ≡ p.side → 0 < set → set < 2 ^ 64 → HaveMenOf asked set p
-    → man_at p.men (trailing_zeros w64 set) ≡ man_of side asked
-first_of_kind p asked set side same some fits men =
-    let z = bit_at-trailing_zeros w64 set some fits in rw same (men (trailing_zeros w64 set) z.0 (rw z.1 refl))
+-- One stands on each square of the set, and of what is left of it.
+pub there_of_kind : (p : Setup) (asked : Kind) (set o : ℕ) (side : Colour) → side ≡ p.side → IsLowest o set → HaveMenOf asked set p → man_at p.men o ≡ man_of side asked
+there_of_kind p asked set o side same lowest men = rw same (men o lowest.on_board lowest.there)
 
-pub others_of_kind : (p : Setup) (asked : Kind) (set s : ℕ) → s < 64 → HaveMenOf asked set p → HaveMenOf asked (clear set s) p
-others_of_kind p asked set s l men t k e = men t k ((and_parts (not (eqb t s)) (has set t) (sym (has_clear set s t l k) ∙ e)).1)
+pub others_of_kind : (p : Setup) (asked : Kind) (set o rest : ℕ) → IsSplit set o rest → HaveMenOf asked set p → HaveMenOf asked rest p
+others_of_kind p asked set o rest split men t k e = men t k ((and_parts (not (eqb t o)) (has set t) (sym (split.others t k) ∙ e)).1)
 
 -- A set's moves are those of a part and those of the rest.
 parts_below : (p : Setup) (set part n : ℕ) → n ≤ 64 → part < 2 ^ 64 → ((s : ℕ) → s < 64 → has part s ≡ true → has set s ≡ true)

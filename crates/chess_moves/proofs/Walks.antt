@@ -1,25 +1,23 @@
 -- The legal moves, told from the squares of the men and from the targets of each.
-use Rattle.std.proofs.Common.{◌≡◌, ℕ, zero, suc, ◌+◌, ◌<◌, ◌≤◌, ◌^◌, true, false, not, eqb, cond, List, [], ◌∷◌, ◌++◌, filter, length, Option, Some, None, refl, sym, ap, ◌∙◌, arith, length-append, w64}
+use Rattle.std.proofs.Common.{◌≡◌, ℕ, zero, suc, ◌+◌, ◌≤◌, true, false, not, eqb, cond, List, [], ◌∷◌, ◌++◌, filter, length, Option, Some, None, refl, sym, ap, ◌∙◌, arith, length-append}
 use Rattle.std.specs.List.{flat_map}
-use Rattle.std.specs.Int.{trailing_zeros}
 use Rattle.std.proofs.lemmas.Bool.{and_parts}
-use Rattle.std.proofs.lemmas.Nat.Bits.{bit_at-trailing_zeros}
 use Rattle.std.proofs.lemmas.List.Elements.{filter-append}
-use Rattle.square_sets.specs.Members.{has}
+use Rattle.square_sets.specs.Members.{has, members_below, members}
+use Rattle.square_sets.specs.BitScan.{IsSplit}
 use Rattle.chess_board.specs.declared.men.Kind.{Kind}
 use Rattle.chess_board.specs.declared.men.Kind.TheVariants.{Pawn, Knight, Bishop, Rook, Queen, King}
 use Rattle.chess_board.specs.declared.men.Man.{Man}
 use Rattle.chess_board.specs.Men.{is_of}
-use Rattle.chess_board.specs.Positions.{Setup, man_at}
+use Rattle.chess_board.specs.Positions.{Setup}
 use Rattle.chess_board.specs.Sets.{IsSetOf}
 use Rattle.chess_board.specs.Moves.{Move}
 use Rattle.chess_board.specs.PseudoLegal.{promotes}
 use Rattle.chess_board.specs.Legality.{is_legal}
-use Rattle.chess_moves.specs.Listing.{move_of, moves_between, moves_to, moves_below, legal_moves}
-use Rattle.chess_moves.specs.Targets.{ways, AreTargets}
-use Rattle.chess_moves.specs.MoveGeneration.{members_below, members, next_promotion, moves_from, moves_of_men, HaveOwnMen}
-use Rattle.chess_moves.proofs.SetBits.{clear, has_clear}
-use Rattle.chess_moves.proofs.Members.{no_members, first_member, flat_map-below_suc}
+use Rattle.chess_moves.specs.inside.Listing.{move_of, moves_between, moves_to, moves_below, legal_moves}
+use Rattle.chess_moves.specs.inside.Targets.{ways, AreTargets}
+use Rattle.chess_moves.specs.inside.MoveGeneration.{next_promotion, moves_from, moves_of_men, HaveOwnMen}
+use Rattle.chess_moves.proofs.Members.{no_members, flat_map-below_suc}
 use Rattle.chess_moves.proofs.Few.{none_from}
 
 -- One man's moves.
@@ -70,28 +68,22 @@ first_way first man o t ts = (elim (promotes man t) as (λ b. promotes man t ≡
     promoted Pawn e = rw e (last (Some Pawn))
     promoted King e = rw e (last (Some King))
 
--- what is left of a man's moves to a set of targets: where no promotion follows, those to the targets above the lowest
-abbrev pub left_after : Option Kind → Man → ℕ → ℕ → List Move
-left_after None man o set = moves_from Knight man o (members (clear set (trailing_zeros w64 set)))
-left_after (Some later) man o set = moves_from later man o (members set)
+-- what is left of a man's moves to a set of targets: where no promotion follows, those to the rest of them
+abbrev pub left_after : Option Kind → Man → ℕ → ℕ → ℕ → List Move
+left_after None man o set rest = moves_from Knight man o (members rest)
+left_after (Some later) man o set rest = moves_from later man o (members set)
 
-pub first_move : (first : Kind) (man : Man) (o set : ℕ) → 0 < set → set < 2 ^ 64
-    → moves_from first man o (members set)
-    ≡ move_of o (trailing_zeros w64 set) (promotion_at first man (trailing_zeros w64 set))
-    ∷ left_after (next_promotion (promotion_at first man (trailing_zeros w64 set))) man o set
-first_move first man o set h fits =
-    let t : ℕ = trailing_zeros w64 set in
+pub first_move : (first : Kind) (man : Man) (o set t rest : ℕ) → IsSplit set t rest
+    → moves_from first man o (members set) ≡ move_of o t (promotion_at first man t) ∷ left_after (next_promotion (promotion_at first man t)) man o set rest
+first_move first man o set t rest split =
     let r : Option Kind = promotion_at first man t in
-    ap (moves_from first man o) e
-    ∙ first_way first man o t (members (clear set t))
+    ap (moves_from first man o) split.rising
+    ∙ first_way first man o t (members rest)
     ∙ ap (λ (ms : List Move). move_of o t r ∷ ms) (after (next_promotion r))
   where
-    e : members set ≡ trailing_zeros w64 set ∷ members (clear set (trailing_zeros w64 set))
-    e = first_member set h fits
-
-    after : (r : Option Kind) → moves_after r man o (trailing_zeros w64 set) (members (clear set (trailing_zeros w64 set))) ≡ left_after r man o set
+    after : (r : Option Kind) → moves_after r man o t (members rest) ≡ left_after r man o set rest
     after None = refl
-    after (Some later) = ap (moves_from later man o) (sym e)
+    after (Some later) = ap (moves_from later man o) (sym split.rising)
 
 -- A man without targets has no moves.
 pub no_moves : (first : Kind) (man : Man) (o set : ℕ) → set ≡ 0 → moves_from first man o (members set) ≡ []
@@ -120,26 +112,21 @@ unfolding legal_moves members
 legal_of_men p own is = legal_below p own 64 is (omega arith)
 
 -- those of the lowest man, and those of the others
-pub first_man : (p : Setup) (set : ℕ) → 0 < set → set < 2 ^ 64 → moves_of_men p (members set) ≡ filter (is_legal p) (moves_to (trailing_zeros w64 set) 64) ++ moves_of_men p (members (clear set (trailing_zeros w64 set)))
-first_man p set h fits = ap (λ (os : List ℕ). moves_of_men p os) (first_member set h fits)
+pub first_man : (p : Setup) (set o rest : ℕ) → IsSplit set o rest → moves_of_men p (members set) ≡ filter (is_legal p) (moves_to o 64) ++ moves_of_men p (members rest)
+first_man p set o rest split = ap (λ (os : List ℕ). moves_of_men p os) split.rising
 
 -- how many they are, where these are the targets of the lowest man
-pub many_first : (p : Setup) (man : Man) (set targets : ℕ) → 0 < set → set < 2 ^ 64 → AreTargets targets p man (trailing_zeros w64 set)
-    → length (moves_of_men p (members set)) ≡ length (flat_map (ways man (trailing_zeros w64 set)) (members targets)) + length (moves_of_men p (members (clear set (trailing_zeros w64 set))))
-many_first p man set targets h fits are =
-    let o : ℕ = trailing_zeros w64 set in
-    let rest : List Move = moves_of_men p (members (clear set o)) in
-    ap length (first_man p set h fits)
-    ∙ ap (λ (ms : List Move). length (ms ++ rest)) (legal_to p man o targets are)
-    ∙ length-append (flat_map (ways man o) (members targets)) rest
+pub many_first : (p : Setup) (man : Man) (set o rest targets : ℕ) → IsSplit set o rest → AreTargets targets p man o
+    → length (moves_of_men p (members set)) ≡ length (flat_map (ways man o) (members targets)) + length (moves_of_men p (members rest))
+many_first p man set o rest targets split are =
+    let others : List Move = moves_of_men p (members rest) in
+    ap length (first_man p set o rest split)
+    ∙ ap (λ (ms : List Move). length (ms ++ others)) (legal_to p man o targets are)
+    ∙ length-append (flat_map (ways man o) (members targets)) others
 
--- An own man stands on the lowest square of a set of them.
-pub own_first : (p : Setup) (set : ℕ) → 0 < set → set < 2 ^ 64 → HaveOwnMen set p → is_of p.side (man_at p.men (trailing_zeros w64 set)) ≡ true
-own_first p set h fits own = let z = bit_at-trailing_zeros w64 set h fits in own (trailing_zeros w64 set) z.0 (rw z.1 refl)
-
--- and on each of the others
-pub own_others : (p : Setup) (set s : ℕ) → s < 64 → HaveOwnMen set p → HaveOwnMen (clear set s) p
-own_others p set s l own t k e = own t k ((and_parts (not (eqb t s)) (has set t) (sym (has_clear set s t l k) ∙ e)).1)
+-- An own man stands on each square of what is left of a set of them.
+pub own_others : (p : Setup) (set o rest : ℕ) → IsSplit set o rest → HaveOwnMen set p → HaveOwnMen rest p
+own_others p set o rest split own t k e = own t k ((and_parts (not (eqb t o)) (has set t) (sym (split.others t k) ∙ e)).1)
 
 pub own_all : (p : Setup) (own : ℕ) → IsSetOf own (is_of p.side) p.men → HaveOwnMen own p
 own_all p own is s l e = sym (is s l) ∙ e

@@ -4,7 +4,7 @@ use Rattle.chess_board.specs.Positions.{Setup}
 use Rattle.chess_board.specs.Attacks.{is_in_check}
 use Rattle.chess_board.specs.Moves.{Move}
 use Rattle.chess_board.specs.MakeMove.{after_setup}
-use Rattle.chess_moves.specs.Listing.{legal_moves}
+use Rattle.chess_moves.specs.inside.Listing.{legal_moves}
 
 -- After the move the king of the side then to move is attacked.
 unfoldable pub gives_check : Setup → Move → Bool

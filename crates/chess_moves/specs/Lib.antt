@@ -1,16 +1,5 @@
-pub mod Directions
-pub mod Leaps
-pub mod Rays
-pub mod Hits
-pub mod Forces
-pub mod CheckInfo
-pub mod Listing
-pub mod Targets
-pub mod MoveGeneration
 pub mod Verdicts
 pub mod GivesCheck
-pub mod CheckSquares
-pub mod Flights
 pub mod Plays
 pub mod Laws
-pub mod Shifts
+pub mod inside

@@ -6,7 +6,7 @@ use Rattle.chess_board.specs.MakeMove.{after_setup}
 use Rattle.chess_moves.specs.declared.verdicts.Verdict.{Verdict}
 use Rattle.chess_moves.specs.declared.verdicts.Verdict.TheVariants.{Play, Mate, Stalemate}
 use Rattle.std.specs.List.{list_any}
-use Rattle.chess_moves.specs.Listing.{legal_moves}
+use Rattle.chess_moves.specs.inside.Listing.{legal_moves}
 
 -- The side to move has a legal move.
 abbrev pub has_legal_move : Setup → Bool

@@ -5,15 +5,16 @@ ghost use Rattle.square_sets.specs.Members.{has};
 ghost use Rattle.chess_board.specs.declared.men.Man.{Man as ManValue};
 ghost use Rattle.chess_board.specs.Sets.{IsSetOf};
 ghost use Rattle.chess_board.specs.Squares.{some_square};
-ghost use Rattle.chess_moves.specs.Directions.{reaches_as_bishop, reaches_as_rook};
-ghost use Rattle.chess_moves.specs.Forces.{StandFor};
-ghost use Rattle.chess_moves.specs.Hits.{is_hit};
-ghost use Rattle.chess_moves.specs.Leaps.{leaps};
+ghost use Rattle.chess_moves.specs.inside.Directions.{reaches_as_bishop, reaches_as_rook};
+ghost use Rattle.chess_moves.specs.inside.Forces.{StandFor};
+ghost use Rattle.chess_moves.specs.inside.Hits.{is_hit};
+ghost use Rattle.chess_moves.specs.inside.Leaps.{leaps};
 
 use crate::directions::Leap;
 use crate::forces::Force;
-use crate::rays::Rays;
+use crate::ray_tables::Rays;
 use chess_board::Colour;
+use square_sets::squares;
 
 /// The squares that men of a colour attack, on whatever board these sets stand for.
 pub(crate) fn attacked_squares(rays: &Rays, occupied: u64, force: &Force, by: Colour) -> u64
@@ -32,11 +33,8 @@ fn leapt_to(rays: &Rays, from: u64, leap: Leap) -> u64
     ensures { (t : ℕ) → t < 64 → has result t ≡ some_square (λ a. has from a && leaps leap a t) }
 {
     let mut set = 0;
-    let mut rest = from;
-    while rest != 0 {
-        let a = rest.trailing_zeros();
-        rest &= !(1 << a);
-        set |= rays.leap(a as u8, leap);
+    for a in squares(from) {
+        set |= rays.leap(a, leap);
     }
     set
 }
@@ -46,11 +44,8 @@ fn seen_by_bishops(rays: &Rays, from: u64, occupied: u64) -> u64
     ensures { (t : ℕ) → t < 64 → has result t ≡ some_square (λ a. has from a && reaches_as_bishop (has occupied) a t) }
 {
     let mut set = 0;
-    let mut rest = from;
-    while rest != 0 {
-        let a = rest.trailing_zeros();
-        rest &= !(1 << a);
-        set |= rays.bishop_attacks(a as u8, occupied);
+    for a in squares(from) {
+        set |= rays.bishop_attacks(a, occupied);
     }
     set
 }
@@ -60,11 +55,8 @@ fn seen_by_rooks(rays: &Rays, from: u64, occupied: u64) -> u64
     ensures { (t : ℕ) → t < 64 → has result t ≡ some_square (λ a. has from a && reaches_as_rook (has occupied) a t) }
 {
     let mut set = 0;
-    let mut rest = from;
-    while rest != 0 {
-        let a = rest.trailing_zeros();
-        rest &= !(1 << a);
-        set |= rays.rook_attacks(a as u8, occupied);
+    for a in squares(from) {
+        set |= rays.rook_attacks(a, occupied);
     }
     set
 }

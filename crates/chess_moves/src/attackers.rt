@@ -5,13 +5,13 @@ ghost use Rattle.square_sets.specs.Members.{has};
 ghost use Rattle.chess_board.specs.declared.men.Man.{Man as ManValue};
 ghost use Rattle.chess_board.specs.Attacks.{is_attacked};
 ghost use Rattle.chess_board.specs.Sets.{IsSetOf};
-ghost use Rattle.chess_moves.specs.Directions.{reaches_as_bishop, reaches_as_rook, sights, sights_as_bishop, sights_as_rook};
-ghost use Rattle.chess_moves.specs.Hits.{hits_from, is_hit};
-ghost use Rattle.chess_moves.specs.Forces.{StandFor};
+ghost use Rattle.chess_moves.specs.inside.Directions.{reaches_as_bishop, reaches_as_rook, sights, sights_as_bishop, sights_as_rook};
+ghost use Rattle.chess_moves.specs.inside.Hits.{hits_from, is_hit};
+ghost use Rattle.chess_moves.specs.inside.Forces.{StandFor};
 
 use crate::directions::{Direction, Leap};
 use crate::forces::{Force, force_of};
-use crate::rays::Rays;
+use crate::ray_tables::Rays;
 use chess_board::{Colour, Position, Square};
 
 /// Whether some man of the colour attacks the square, whoever stands there, and whether or not that man may move (FIDE Laws

@@ -6,12 +6,12 @@ ghost use Rattle.chess_board.specs.Positions.{Setup};
 ghost use Rattle.chess_board.specs.Men.{other_side};
 ghost use Rattle.chess_board.specs.Attacks.{is_attacked};
 ghost use Rattle.chess_board.specs.Castling.{king_home as king_home_of, rook_home as rook_home_of, castles_to, castles};
-ghost use Rattle.chess_moves.specs.Directions.{stands_between};
-ghost use Rattle.chess_moves.specs.CheckInfo.{IsCheckInfoOf};
+ghost use Rattle.chess_moves.specs.inside.Directions.{stands_between};
+ghost use Rattle.chess_moves.specs.inside.CheckInfo.{IsCheckInfoOf};
 
 use crate::attackers::is_hit_over;
 use crate::check_info::{CheckInfo, is_checked};
-use crate::rays::Rays;
+use crate::ray_tables::Rays;
 use chess_board::{Colour, Position, Wing, king_goal, king_home};
 
 /// The squares between a king and a rook that castle.
@@ -52,7 +52,7 @@ fn castling_target(rays: &Rays, position: &Position, info: &CheckInfo, wing: Win
     if is_checked(info) || is_attacked_in(rays, info, crossed) || is_attacked_in(rays, info, goal) {
         return 0;
     }
-    square_sets::with(0, goal)
+    square_sets::single(goal)
 }
 
 /// Where the king goes when it castles: two squares at most.

@@ -4,12 +4,12 @@ ghost use Rattle.std.specs.Prelude.{◌≡◌, ◌<◌};
 ghost use Rattle.chess_board.specs.Positions.{Setup};
 ghost use Rattle.chess_board.specs.Men.{other_side};
 ghost use Rattle.chess_board.specs.Attacks.{is_attacked};
-ghost use Rattle.chess_moves.specs.CheckInfo.{IsCheckInfoOf};
+ghost use Rattle.chess_moves.specs.inside.CheckInfo.{IsCheckInfoOf};
 
 use crate::attackers::{diagonal_sight, straight_sight};
+use crate::checks_and_pins::check_mask;
 use crate::forces::{Force, all_of, force_of};
-use crate::pins::check_mask;
-use crate::rays::Rays;
+use crate::ray_tables::Rays;
 use chess_board::{Colour, Position};
 
 /// The sets of a position that each of its moves asks about, the check mask among them.

@@ -1,5 +1,5 @@
-//! Check squares: from where a man of each kind attacks the king of the side that is not to move. They tell whether a move gives
-//! check, mostly without making it.
+//! Check squares and discovered checks: from where a man of each kind attacks the king of the side that is not to move, and which man
+//! opens a line to it where it leaves its square. They tell whether a move gives check, mostly without making it.
 
 ghost use Rattle.std.specs.Prelude.{◌≡◌, ℕ, ◌<◌, true, false, not, ◌||◌, Some};
 ghost use Rattle.square_sets.specs.Members.{has};
@@ -7,8 +7,8 @@ ghost use Rattle.chess_board.specs.Legality.{is_legal};
 ghost use Rattle.chess_board.specs.Moves.{Move as MoveValue};
 ghost use Rattle.chess_board.specs.Positions.{man_at};
 ghost use Rattle.chess_moves.specs.GivesCheck.{gives_check};
-ghost use Rattle.chess_moves.specs.CheckInfo.{IsCheckInfoOf};
-ghost use Rattle.chess_moves.specs.CheckSquares.{AreCheckSquaresOf, squares_of as squares_for, is_special as is_special_move};
+ghost use Rattle.chess_moves.specs.inside.CheckInfo.{IsCheckInfoOf};
+ghost use Rattle.chess_moves.specs.inside.CheckSquares.{AreCheckSquaresOf, squares_of as squares_for, is_special as is_special_move};
 
 use crate::attackers::is_hit_over;
 use crate::castling::castling_targets;
@@ -16,9 +16,9 @@ use crate::check_info::CheckInfo;
 use crate::directions::Leap;
 use crate::en_passant::en_passant_square;
 use crate::forces::{force_of, without};
-use crate::movers::promotion_squares;
+use crate::promotions::promotion_squares;
 use crate::pseudo_legal::attacks_of;
-use crate::rays::Rays;
+use crate::ray_tables::Rays;
 use chess_board::{Kind, Man, Move, Position, is_castling, is_en_passant};
 
 /// For each kind, the squares from which a man of the side to move attacks the king of the other side.

@@ -1,8 +1,8 @@
 //! The directions of a ray, and the leaps that nothing in between can stop.
 
 ghost use Rattle.std.specs.Prelude.{◌≡◌};
-ghost use Rattle.chess_moves.specs.Directions.{is_rising};
-ghost use Rattle.chess_moves.specs.Leaps.{capture_of, step_of, double_of, capture_back};
+ghost use Rattle.chess_moves.specs.inside.Directions.{is_rising};
+ghost use Rattle.chess_moves.specs.inside.Leaps.{capture_of, step_of, double_of, capture_back};
 
 use chess_board::Colour;
 

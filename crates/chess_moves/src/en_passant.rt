@@ -8,14 +8,14 @@ ghost use Rattle.chess_board.specs.Positions.{Setup, man_at, cleared, moved};
 ghost use Rattle.chess_board.specs.Men.{is_colour, is_of, other_side};
 ghost use Rattle.chess_board.specs.Attacks.{is_in_check};
 ghost use Rattle.chess_board.specs.EnPassant.{is_square, takes_en_passant, captured_pawn};
-ghost use Rattle.chess_moves.specs.Hits.{is_hit};
-ghost use Rattle.chess_moves.specs.CheckInfo.{IsCheckInfoOf};
+ghost use Rattle.chess_moves.specs.inside.Hits.{is_hit};
+ghost use Rattle.chess_moves.specs.inside.CheckInfo.{IsCheckInfoOf};
 
 use crate::attackers::is_hit_over;
 use crate::check_info::CheckInfo;
 use crate::directions::Leap;
 use crate::forces::without;
-use crate::rays::Rays;
+use crate::ray_tables::Rays;
 use chess_board::{Colour, Man, Position, Square, captured_pawn};
 
 /// The square that the last move's double step passed over, or none.
@@ -23,7 +23,7 @@ pub(crate) fn en_passant_square(position: &Position) -> u64
     ensures { (t : ℕ) → t < 64 → has result t ≡ is_square position.now.target t }
 {
     match position.ep_target() {
-        Some(target) => square_sets::with(0, target.index() as u8),
+        Some(target) => square_sets::single(target.index() as u8),
         None => 0,
     }
 }
@@ -37,7 +37,7 @@ pub(crate) fn en_passant_targets(rays: &Rays, position: &Position, man: Man, ori
     match position.ep_target() {
         Some(target) => {
             let captures = rays.leap(origin, Leap::capture_of(man.colour));
-            captures & square_sets::with(0, target.index() as u8)
+            captures & square_sets::single(target.index() as u8)
         }
         None => 0,
     }
@@ -73,7 +73,7 @@ pub(crate) fn safe_en_passant(
     if passing == 0 {
         return 0;
     }
-    let target = passing.trailing_zeros() as u8;
+    let target = square_sets::lowest(passing);
     let captured = captured_pawn(Square::numbered(origin), Square::numbered(target));
     if is_safe_en_passant(rays, info, origin, target, captured.index() as u8) {
         passing

@@ -6,9 +6,9 @@ ghost use Rattle.chess_board.specs.MakeMove.{after_setup};
 ghost use Rattle.chess_board.specs.Legality.{is_legal};
 ghost use Rattle.chess_board.specs.Moves.{Move as MoveValue};
 ghost use Rattle.chess_board.specs.Positions.{man_at};
-ghost use Rattle.chess_moves.specs.Flights.{AreFlightsOf, leaves_flight};
-ghost use Rattle.chess_moves.specs.Hits.{hits_as};
-ghost use Rattle.chess_moves.specs.CheckInfo.{IsCheckInfoOf};
+ghost use Rattle.chess_moves.specs.inside.Flights.{AreFlightsOf, leaves_flight};
+ghost use Rattle.chess_moves.specs.inside.Hits.{hits_as};
+ghost use Rattle.chess_moves.specs.inside.CheckInfo.{IsCheckInfoOf};
 ghost use Rattle.chess_moves.specs.Verdicts.{is_mate};
 
 use crate::attacked_sets::attacked_squares;
@@ -17,7 +17,7 @@ use crate::check_info::CheckInfo;
 use crate::check_squares::special_squares;
 use crate::directions::Leap;
 use crate::forces::{force_of, without};
-use crate::rays::Rays;
+use crate::ray_tables::Rays;
 use chess_board::{Colour, Kind, Man, Position, sound_after};
 
 /// The king of the side that is not to move, and its flights: the squares beside it that hold none of its own men and that nobody
@@ -87,10 +87,10 @@ pub(crate) fn squares_that_cover(
     sound_after();
     let special = special_squares(rays, position, info, man);
     let mut covering = hopes;
-    let mut rest = flights.squares;
-    while rest != 0 && covering != 0 {
-        let flight = rest.trailing_zeros() as u8;
-        rest &= !(1 << flight);
+    for flight in square_sets::squares(flights.squares) {
+        if covering == 0 {
+            break;
+        }
         covering &= special | squares_covering(rays, position, info, flights, man, origin, flight);
     }
     covering

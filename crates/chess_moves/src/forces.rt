@@ -5,7 +5,7 @@ ghost use Rattle.chess_board.specs.declared.men.Man.{Man as ManValue};
 ghost use Rattle.chess_board.specs.declared.men.Colour.{Colour as ColourValue};
 ghost use Rattle.chess_board.specs.Men.{is_of};
 ghost use Rattle.chess_board.specs.Sets.{IsSetOf};
-ghost use Rattle.chess_moves.specs.Forces.{StandFor};
+ghost use Rattle.chess_moves.specs.inside.Forces.{StandFor};
 
 use chess_board::{Colour, Kind, Position};
 

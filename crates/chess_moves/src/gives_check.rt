@@ -3,12 +3,12 @@
 ghost use Rattle.std.specs.Prelude.{◌≡◌, true};
 ghost use Rattle.chess_board.specs.Legality.{is_legal as is_legal_in};
 ghost use Rattle.chess_moves.specs.GivesCheck.{gives_check as gives_check_in, checking_moves};
-ghost use Rattle.chess_moves.specs.CheckSquares.{AreCheckSquaresOf};
+ghost use Rattle.chess_moves.specs.inside.CheckSquares.{AreCheckSquaresOf};
 
 use crate::check_squares::{CheckSquares, attacks_king, check_squares_of, is_told};
-use crate::judging::in_check;
+use crate::mate_and_stalemate::in_check;
 use crate::move_generation::{MoveList, legal_moves};
-use crate::rays::Rays;
+use crate::ray_tables::Rays;
 use chess_board::{Move, Position, after};
 
 /// Exactly the legal moves after which the side then to move is in check, each once, in the order of moves.

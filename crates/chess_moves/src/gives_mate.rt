@@ -8,10 +8,10 @@ ghost use Rattle.chess_board.specs.PseudoLegal.{goes};
 ghost use Rattle.chess_board.specs.Legality.{is_legal};
 ghost use Rattle.chess_board.specs.Men.{is_of};
 ghost use Rattle.chess_board.specs.Positions.{man_at};
-ghost use Rattle.chess_moves.specs.Flights.{AreFlightsOf};
-ghost use Rattle.chess_moves.specs.Listing.{moves_to};
-ghost use Rattle.chess_moves.specs.CheckInfo.{IsCheckInfoOf};
-ghost use Rattle.chess_moves.specs.CheckSquares.{AreCheckSquaresOf};
+ghost use Rattle.chess_moves.specs.inside.Flights.{AreFlightsOf};
+ghost use Rattle.chess_moves.specs.inside.Listing.{moves_to};
+ghost use Rattle.chess_moves.specs.inside.CheckInfo.{IsCheckInfoOf};
+ghost use Rattle.chess_moves.specs.inside.CheckSquares.{AreCheckSquaresOf};
 ghost use Rattle.chess_moves.specs.Verdicts.{is_mate, has_mating_move as some_move_mates};
 
 use crate::castling::castling_targets;
@@ -19,11 +19,11 @@ use crate::check_info::{CheckInfo, check_info_of};
 use crate::check_squares::{CheckSquares, check_squares_of, check_targets};
 use crate::en_passant::en_passant_targets;
 use crate::flights::{Flights, flights_once, squares_that_cover};
-use crate::judging::is_mated;
+use crate::mate_and_stalemate::is_mated;
 use crate::move_generation::ManMoves;
-use crate::movers::own_man;
+use crate::promotions::own_man;
 use crate::pseudo_legal::{pawn_targets, piece_targets};
-use crate::rays::Rays;
+use crate::ray_tables::Rays;
 use crate::targets::targets_from;
 use chess_board::{Kind, Man, Position, after};
 
@@ -35,10 +35,7 @@ pub fn has_mating_move(rays: &Rays, position: &Position) -> bool
     let info = check_info_of(rays, position);
     let check_squares = check_squares_of(rays, position);
     let mut flights = None;
-    let mut origins = info.own;
-    while origins != 0 {
-        let origin = origins.trailing_zeros() as u8;
-        origins &= !(1 << origin);
+    for origin in square_sets::squares(info.own) {
         if man_mates(rays, position, &info, &check_squares, &mut flights, origin) {
             return true;
         }

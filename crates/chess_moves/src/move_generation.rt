@@ -7,17 +7,18 @@ ghost use Rattle.chess_board.specs.PseudoLegal.{suits};
 ghost use Rattle.chess_board.specs.Legality.{is_legal as is_legal_in};
 ghost use Rattle.chess_board.specs.Men.{is_of};
 ghost use Rattle.chess_board.specs.Positions.{man_at};
-ghost use Rattle.chess_moves.specs.CheckInfo.{IsCheckInfoOf};
-ghost use Rattle.chess_moves.specs.Listing.{moves_to, legal_moves};
-ghost use Rattle.chess_moves.specs.MoveGeneration.{next_promotion, man_moves};
+ghost use Rattle.chess_moves.specs.inside.CheckInfo.{IsCheckInfoOf};
+ghost use Rattle.chess_moves.specs.inside.Listing.{moves_to, legal_moves};
+ghost use Rattle.chess_moves.specs.inside.MoveGeneration.{next_promotion, man_moves};
 
 use crate::check_info::{CheckInfo, check_info_of};
 use crate::forces::{all_of, force_of};
-use crate::movers::{own_man, promotion_squares};
-use crate::rays::Rays;
+use crate::promotions::{own_man, promotion_squares};
+use crate::ray_tables::Rays;
 use crate::targets::{is_target, targets_from};
 use arrayvec::ArrayVec;
 use chess_board::{Kind, Man, Move, Position, Square};
+use square_sets::SquareScan;
 use std::iter::FusedIterator;
 use std::marker::Model;
 
@@ -28,7 +29,7 @@ pub struct LegalMoves<'a> {
     position: &'a Position,
     info: CheckInfo,
     /// The squares of the men that have not had their turn.
-    origins: u64,
+    origins: SquareScan,
     turn: ManMoves,
 }
 
@@ -38,7 +39,7 @@ impl<'a> Model for LegalMoves<'a> {
 
     ghost Value = { List Move };
 
-    ghost use Rattle.chess_moves.specs.MoveGeneration.{moves_left, IsUnderWay};
+    ghost use Rattle.chess_moves.specs.inside.MoveGeneration.{moves_left, IsUnderWay};
 
     ghost view = { moves_left };
 
@@ -55,7 +56,7 @@ pub fn legal_moves<'a>(rays: &'a Rays, position: &'a Position) -> LegalMoves<'a>
         rays,
         position,
         info,
-        origins: info.own,
+        origins: square_sets::squares(info.own),
         turn: ManMoves {
             man: Man {
                 colour: info.side,
@@ -77,11 +78,7 @@ impl<'a> Iterator for LegalMoves<'a> {
 
     fn next(&mut self) -> Option<Move> {
         while self.turn.targets == 0 {
-            if self.origins == 0 {
-                return None;
-            }
-            let origin = self.origins.trailing_zeros() as u8;
-            self.origins &= !(1 << origin);
+            let origin = self.origins.next()?;
             self.turn = moves_of_man(self.rays, self.position, &self.info, origin);
         }
         Some(self.turn.take())
@@ -125,7 +122,8 @@ impl ManMoves {
         ensures moves { man_moves self.old ≡ result ∷ man_moves self.new }
         ensures origin { self.new.origin ≡ self.old.origin }
     {
-        let target = self.targets.trailing_zeros() as u8;
+        let target = square_sets::lowest(self.targets);
+        let others = square_sets::without_lowest(self.targets);
         let promotion = if square_sets::contains(promotion_squares(self.man), target) {
             Some(self.promotion)
         } else {
@@ -134,7 +132,7 @@ impl ManMoves {
         match next_promotion(promotion) {
             Some(kind) => self.promotion = kind,
             None => {
-                self.targets &= !(1 << target);
+                self.targets = others;
                 self.promotion = Kind::Knight;
             }
         }

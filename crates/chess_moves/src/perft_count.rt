@@ -2,22 +2,22 @@
 //! back are moved ahead as a set.
 
 ghost use Rattle.std.specs.Prelude.{◌≡◌, ℕ, ◌≤◌, ◌<◌, ◌&&◌, ◌==◌, ◌^◌, filter, length};
-ghost use Rattle.square_sets.specs.Members.{has};
+ghost use Rattle.square_sets.specs.Members.{has, members};
 ghost use Rattle.chess_board.specs.declared.men.Kind.TheVariants as kind;
 ghost use Rattle.chess_board.specs.Positions.{Setup};
 ghost use Rattle.chess_board.specs.Squares.{file_of, rank_of};
-ghost use Rattle.chess_moves.specs.CheckInfo.{IsCheckInfoOf};
+ghost use Rattle.chess_moves.specs.inside.CheckInfo.{IsCheckInfoOf};
 ghost use Rattle.chess_board.specs.Legality.{is_legal};
-ghost use Rattle.chess_moves.specs.Listing.{legal_moves, moves_to};
-ghost use Rattle.chess_moves.specs.MoveGeneration.{members, moves_of_men, HaveMenOf};
+ghost use Rattle.chess_moves.specs.inside.Listing.{legal_moves, moves_to};
+ghost use Rattle.chess_moves.specs.inside.MoveGeneration.{moves_of_men, HaveMenOf};
 ghost use Rattle.chess_moves.specs.Plays.{plays};
-ghost use Rattle.chess_moves.specs.Shifts.{is_shifted, back, left_file as left_file_of, right_file as right_file_of, third_rank as third_rank_of, AreFree};
+ghost use Rattle.chess_moves.specs.inside.Shifts.{is_shifted, back, left_file as left_file_of, right_file as right_file_of, third_rank as third_rank_of, AreFree};
 
 use crate::check_info::{CheckInfo, check_info_of};
 use crate::en_passant::en_passant_origins;
 use crate::move_generation::legal_moves;
-use crate::movers::count_ways;
-use crate::rays::Rays;
+use crate::promotions::count_ways;
+use crate::ray_tables::Rays;
 use crate::targets::{targets_at_once, targets_of_king};
 use chess_board::{Colour, Kind, Man, Position, after};
 
@@ -107,10 +107,7 @@ fn count_from(rays: &Rays, position: &Position, info: &CheckInfo, kind: Kind, me
         kind,
     };
     let mut total = 0;
-    let mut origins = men;
-    while origins != 0 {
-        let origin = origins.trailing_zeros() as u8;
-        origins &= !(1 << origin);
+    for origin in square_sets::squares(men) {
         total += count_ways(man, targets_at_once(rays, position, info, man, origin));
     }
     total

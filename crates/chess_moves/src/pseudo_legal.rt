@@ -5,12 +5,12 @@ ghost use Rattle.std.specs.Prelude.{◌≡◌, ℕ, ◌<◌, ◌||◌};
 ghost use Rattle.square_sets.specs.Members.{has};
 ghost use Rattle.chess_board.specs.declared.men.Kind.TheVariants as kind;
 ghost use Rattle.chess_board.specs.PseudoLegal.{steps_once, steps_twice, takes, piece_goes};
-ghost use Rattle.chess_moves.specs.Hits.{hits_as};
-ghost use Rattle.chess_moves.specs.CheckInfo.{IsCheckInfoOf};
+ghost use Rattle.chess_moves.specs.inside.Hits.{hits_as};
+ghost use Rattle.chess_moves.specs.inside.CheckInfo.{IsCheckInfoOf};
 
 use crate::check_info::CheckInfo;
 use crate::directions::Leap;
-use crate::rays::Rays;
+use crate::ray_tables::Rays;
 use chess_board::{Kind, Man, Position};
 
 /// What a man attacks, among the squares that are taken.

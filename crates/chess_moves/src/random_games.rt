@@ -1,6 +1,7 @@
 //! Lists, checks, mates and verdicts against the plain rules: in positions of random games, and in some made for it.
 
-use crate::tests::{check_checks, check_moves, check_replies, position_of};
+use crate::plain_rules_tests::{check_checks, check_moves, check_replies};
+use crate::test_positions::position_of;
 use crate::{Rays, legal};
 use chess_board::{Position, after};
 use std::process::Abort;

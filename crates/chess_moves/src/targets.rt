@@ -3,23 +3,23 @@
 ghost use Rattle.std.specs.Prelude.{◌≡◌, ℕ, ◌<◌, true, false, not, Some, None, filter, length, nat_lt};
 ghost use Rattle.chess_board.specs.declared.men.Kind.TheVariants as kind;
 ghost use Rattle.chess_board.specs.Positions.{Setup, man_at};
-ghost use Rattle.chess_board.specs.KindTests.{is_king_kind, is_pawn_kind};
+ghost use Rattle.chess_board.specs.inside.KindTests.{is_king_kind, is_pawn_kind};
 ghost use Rattle.chess_board.specs.Attacks.{is_in_check};
 ghost use Rattle.chess_board.specs.PseudoLegal.{goes};
 ghost use Rattle.chess_board.specs.MakeMove.{men_after};
 ghost use Rattle.chess_board.specs.Legality.{is_legal};
-ghost use Rattle.chess_moves.specs.Listing.{move_of, moves_to};
-ghost use Rattle.chess_moves.specs.CheckInfo.{IsCheckInfoOf};
-ghost use Rattle.chess_moves.specs.Targets.{AreTargets, IsTarget};
+ghost use Rattle.chess_moves.specs.inside.Listing.{move_of, moves_to};
+ghost use Rattle.chess_moves.specs.inside.CheckInfo.{IsCheckInfoOf};
+ghost use Rattle.chess_moves.specs.inside.Targets.{AreTargets, IsTarget};
 
 use crate::castling::castling_targets;
 use crate::check_info::CheckInfo;
+use crate::checks_and_pins::{is_safe_step, legal_mask};
 use crate::en_passant::safe_en_passant;
-use crate::pins::{is_safe_step, legal_mask};
 use crate::pseudo_legal::{pawn_targets, piece_targets};
-use crate::rays::Rays;
+use crate::ray_tables::Rays;
 use chess_board::{Kind, Man, Position};
-use square_sets::with;
+use square_sets::{squares, with};
 
 /// The targets of the legal moves of a man of the side to move.
 pub(crate) fn targets_from(
@@ -140,19 +140,16 @@ pub(crate) fn targets_of_king(
     let goals = piece_targets(rays, position, info, man, origin)
         | castling_targets(rays, position, info);
     let mut safe = 0;
-    let mut rest = goals;
-    while rest != 0 {
-        let target = rest.trailing_zeros() as u8;
+    for target in squares(goals) {
         if is_king_safe(rays, info, target) {
             safe = with(safe, target);
         }
-        rest &= !(1 << target);
     }
     safe
 }
 
 /// Whether the king has a legal move. It looks no further than the first.
-pub(crate) fn has_flight(rays: &Rays, position: &Position, info: &CheckInfo) -> bool
+pub(crate) fn king_can_move(rays: &Rays, position: &Position, info: &CheckInfo) -> bool
     requires info { IsCheckInfoOf info.now position.now }
     ensures { result ≡ nat_lt 0 (length (filter (is_legal position.now) (moves_to info.now.king 64))) }
 {
@@ -162,13 +159,10 @@ pub(crate) fn has_flight(rays: &Rays, position: &Position, info: &CheckInfo) -> 
     };
     let goals = piece_targets(rays, position, info, king, info.king)
         | castling_targets(rays, position, info);
-    let mut rest = goals;
-    while rest != 0 {
-        let flight = rest.trailing_zeros() as u8;
+    for flight in squares(goals) {
         if is_king_safe(rays, info, flight) {
             return true;
         }
-        rest &= !(1 << flight);
     }
     false
 }

@@ -10,7 +10,7 @@ use Rattle.chess_board.specs.Moves.{Move}
 use Rattle.chess_moves.specs.Laws.{LegalListed}
 use Rattle.chess_notation.specs.declared.problems.Outcome.TheVariants.{Mate, NoMate}
 use Rattle.chess_notation.specs.Operations.{Operation, Entry, SpellsOperations, is_printable}
-use Rattle.chess_notation.specs.Records.{RecordValue, IsApart, IsWord, SpellsWords, field_words, SpellsRest, Reads}
+use Rattle.chess_notation.specs.Records.{RecordValue, IsApart, IsWord, SpellsWords, field_words, SpellsRest, Reads, max_line}
 use Rattle.chess_notation.specs.Answers.{entries_text, answer_text, IsPlayable}
 use Rattle.chess_notation.specs.RecordLaws.{AnswerReads}
 use Rattle.chess_notation.proofs.PlainBytes.{list_all-parts, list_all-both, visible_word}
@@ -65,7 +65,7 @@ four_printable a b c d a_is b_is c_is d_is =
 
 -- A sound position's text with an answer's operations behind it is a record.
 answer_says : PrintedSpells → (p : Setup) (default asked : ℕ) (avoid : List Move) (entries rest : List Entry) → IsSound p → IsAnswered p avoid entries rest default asked
-    → length (position_text p ++ entries_text entries) ≤ 1023
+    → length (position_text p ++ entries_text entries) ≤ max_line
     → Reads (position_text p ++ entries_text entries) default (record { position = p; bound = asked; avoid = avoid; rest = rest })
 unfolding position_text
 answer_says printed p default asked avoid entries rest sound answered short =

@@ -8,7 +8,7 @@ use Rattle.chess_board.specs.declared.men.Wing.{Wing}
 use Rattle.chess_board.specs.declared.men.Wing.TheVariants.{KingSide, QueenSide}
 use Rattle.chess_board.specs.declared.men.Man.{Man}
 use Rattle.chess_board.specs.Squares.{file_gap}
-use Rattle.chess_board.specs.KindTests.{is_pawn_kind, is_king_kind}
+use Rattle.chess_board.specs.inside.KindTests.{is_pawn_kind, is_king_kind}
 use Rattle.chess_board.specs.Positions.{Setup, man_at}
 use Rattle.chess_board.specs.Placement.{kind_letter}
 use Rattle.chess_board.specs.Moves.{Move}

@@ -13,7 +13,7 @@ use Rattle.chess_board.specs.Moves.{Move}
 use Rattle.chess_board.specs.Squares.{file_gap, crossed}
 use Rattle.chess_board.specs.Positions.{Setup, man_at}
 use Rattle.chess_board.specs.Men.{other_side, is_of, has_right_of}
-use Rattle.chess_board.specs.KindTests.{is_king_kind}
+use Rattle.chess_board.specs.inside.KindTests.{is_king_kind}
 use Rattle.chess_board.specs.Attacks.{is_clear, attacks_as, is_attacked}
 use Rattle.chess_board.specs.PseudoLegal.{piece_goes, goes}
 use Rattle.chess_board.specs.Castling.{king_home, rook_home, king_goal, castles_to, castles, is_castling, wing_of}

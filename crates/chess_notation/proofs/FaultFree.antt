@@ -11,6 +11,7 @@ use Rattle.chess_notation.specs.Words.{word_at, behind, is_blank}
 use Rattle.chess_notation.specs.Segments.{Segments}
 use Rattle.chess_notation.specs.Quoting.{strings_fit}
 use Rattle.chess_notation.specs.Operations.{is_printable}
+use Rattle.chess_notation.specs.Records.{max_line}
 use Rattle.chess_notation.specs.RecordFields.{is_number, is_counter, behind_fields, behind_counters, operations_in, cut_of}
 use Rattle.chess_notation.specs.EpdFaults.{each_segment, has_opcode, are_distinct, is_bound_segment, has_number, has_number_if_bound, is_small_if_bound}
 use Rattle.chess_notation.proofs.WordSplits.{all_behind}
@@ -46,7 +47,7 @@ bound_number segment bound number small =
 
 -- The tests that a line without a fault passes.
 pub record ArePassed (line : List ℕ) : Type 0 where
-  pub short : length line ≤ 1023
+  pub short : length line ≤ max_line
   pub printable : list_all is_printable line ≡ true
   pub opcodes : list_all has_opcode (cut_of line).ended ≡ true
   pub fit : list_all strings_fit (cut_of line).ended ≡ true
@@ -70,7 +71,7 @@ no_fault_passes line clear = record {
   numbers = not_false (list_all has_number_if_bound (cut_of line).ended) (clear BadBound (omega arith));
   small = not_false (list_all is_small_if_bound (cut_of line).ended) (clear BoundTooLarge (omega arith));
 } where
-  no_more : (1023 < length line → ⊥) → length line ≤ 1023
+  no_more : (max_line < length line → ⊥) → length line ≤ max_line
   no_more h = omega (arith, h)
 
 -- So its operations are printable, each segment has an opcode of its own, and the bound is one.

@@ -6,17 +6,17 @@ use Rattle.std.proofs.lemmas.List.{length-append, length-take}
 use Rattle.chess_board.specs.declared.men.Man.{Man}
 use Rattle.chess_board.specs.declared.men.Wing.{Wing}
 use Rattle.chess_board.specs.declared.men.Wing.TheVariants.{KingSide, QueenSide}
-use Rattle.chess_board.specs.KindTests.{is_pawn_kind}
+use Rattle.chess_board.specs.inside.KindTests.{is_pawn_kind}
 use Rattle.chess_board.specs.Positions.{Setup}
 use Rattle.chess_board.specs.Fields.{square_text}
 use Rattle.chess_board.specs.Moves.{Move}
 use Rattle.chess_board.specs.Castling.{is_castling, wing_of}
-use Rattle.chess_moves.specs.Listing.{legal_moves}
+use Rattle.chess_moves.specs.inside.Listing.{legal_moves}
 use Rattle.chess_moves.specs.Laws.{LegalListed}
 use Rattle.chess_notation.specs.SanText.{is_capture, pawn_origin_text, becomes_text, pawn_text, piece_text, wing_text, man_text, bare_text}
 use Rattle.chess_notation.specs.Disambiguation.{disambiguation_text}
 use Rattle.chess_notation.specs.Words.{word_at, behind, is_blank, words_in}
-use Rattle.chess_notation.specs.Records.{IsApart}
+use Rattle.chess_notation.specs.Records.{IsApart, max_line}
 use Rattle.chess_notation.specs.AvoidMoves.{is_suffix, without_suffix, names, is_name}
 use Rattle.chess_notation.proofs.LegalMen.{played}
 use Rattle.chess_notation.proofs.Members.{any_member}
@@ -104,5 +104,5 @@ few_words_in listed p (suc most) text short names = (elim (is_blank text) as (λ
       omega (arith, whole, long, few, count)
 ]) refl
 
-pub few_words : LegalListed → (p : Setup) (text : List ℕ) → length text ≤ 1023 → list_all (is_name p) (words_in text) ≡ true → length (words_in text) ≤ 341
+pub few_words : LegalListed → (p : Setup) (text : List ℕ) → length text ≤ max_line → list_all (is_name p) (words_in text) ≡ true → length (words_in text) ≤ 341
 few_words listed p text short names = let few = few_words_in listed p (length text) text (omega arith) names in omega (arith, few, short)

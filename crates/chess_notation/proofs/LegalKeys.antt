@@ -3,7 +3,7 @@ use Rattle.std.proofs.Common.{◌≡◌, true, ℕ, zero, suc, ◌<◌, List, []
 use Rattle.chess_board.specs.Positions.{Setup}
 use Rattle.chess_board.specs.Moves.{Move}
 use Rattle.chess_board.specs.Legality.{is_legal}
-use Rattle.chess_moves.specs.Listing.{legal_moves}
+use Rattle.chess_moves.specs.inside.Listing.{legal_moves}
 use Rattle.chess_moves.specs.Laws.{LegalListed}
 use Rattle.chess_notation.specs.Answers.{AreLegal}
 

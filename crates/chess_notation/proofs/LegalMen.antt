@@ -9,7 +9,7 @@ use Rattle.chess_board.specs.Positions.{Setup, man_at}
 use Rattle.chess_board.specs.Moves.{Move}
 use Rattle.chess_board.specs.PseudoLegal.{goes, suits, man_may, is_pseudo_legal}
 use Rattle.chess_board.specs.Legality.{is_safe, is_legal}
-use Rattle.chess_moves.specs.Listing.{legal_moves}
+use Rattle.chess_moves.specs.inside.Listing.{legal_moves}
 use Rattle.chess_moves.specs.Laws.{LegalListed}
 
 -- The man stands on the origin, is of the side to move, and goes so.

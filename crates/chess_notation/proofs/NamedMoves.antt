@@ -6,7 +6,7 @@ use Rattle.std.proofs.lemmas.List.Elements.{filter_more}
 use Rattle.std.proofs.lemmas.List.{map-append, length-map}
 use Rattle.chess_board.specs.Positions.{Setup}
 use Rattle.chess_board.specs.Moves.{Move, move_place}
-use Rattle.chess_moves.specs.Listing.{legal_moves}
+use Rattle.chess_moves.specs.inside.Listing.{legal_moves}
 use Rattle.chess_moves.specs.Laws.{IsAbove, IsRising, LegalRise}
 use Rattle.chess_notation.specs.declared.avoid_moves.Named.{Named}
 use Rattle.chess_notation.specs.SanText.{bare_text}

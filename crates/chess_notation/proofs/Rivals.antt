@@ -10,7 +10,7 @@ use Rattle.chess_board.specs.Men.{is_colour}
 use Rattle.chess_board.specs.Positions.{Setup, man_at}
 use Rattle.chess_board.specs.Placement.{kind_letter}
 use Rattle.chess_board.specs.Moves.{Move}
-use Rattle.chess_moves.specs.Listing.{legal_moves}
+use Rattle.chess_moves.specs.inside.Listing.{legal_moves}
 use Rattle.chess_notation.specs.Disambiguation.{is_such, is_rival, some_rival}
 use Rattle.chess_notation.proofs.LegalMen.{IsPlayed}
 use Rattle.chess_notation.proofs.TextBytes.{same_square}

@@ -5,7 +5,7 @@ use Rattle.chess_board.specs.declared.men.Kind.{Kind}
 use Rattle.chess_board.specs.declared.men.Kind.TheVariants.{Pawn}
 use Rattle.chess_board.specs.declared.men.Man.{Man}
 use Rattle.chess_board.specs.Squares.{file_of, rank_of}
-use Rattle.chess_board.specs.KindTests.{is_pawn_kind}
+use Rattle.chess_board.specs.inside.KindTests.{is_pawn_kind}
 use Rattle.chess_board.specs.Positions.{Setup, is_empty}
 use Rattle.chess_board.specs.Moves.{Move}
 use Rattle.chess_board.specs.PseudoLegal.{suits, pawn_goes}

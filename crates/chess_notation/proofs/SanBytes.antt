@@ -8,7 +8,7 @@ use Rattle.chess_board.specs.declared.men.Man.{Man}
 use Rattle.chess_board.specs.declared.men.Wing.{Wing}
 use Rattle.chess_board.specs.declared.men.Wing.TheVariants.{KingSide, QueenSide}
 use Rattle.chess_board.specs.Squares.{file_of, rank_of}
-use Rattle.chess_board.specs.KindTests.{is_pawn_kind}
+use Rattle.chess_board.specs.inside.KindTests.{is_pawn_kind}
 use Rattle.chess_board.specs.Positions.{Setup, man_at}
 use Rattle.chess_board.specs.Attacks.{is_in_check}
 use Rattle.chess_board.specs.Placement.{kind_letter}

@@ -6,7 +6,7 @@ use Rattle.std.proofs.lemmas.Bool.{and_parts}
 use mathlib.Core.Bool.{not}
 use Rattle.chess_board.specs.Positions.{Setup}
 use Rattle.chess_board.specs.Moves.{Move}
-use Rattle.chess_moves.specs.Listing.{legal_moves}
+use Rattle.chess_moves.specs.inside.Listing.{legal_moves}
 use Rattle.chess_moves.specs.Laws.{LegalListed}
 use Rattle.chess_notation.specs.Words.{front_word, word_at, behind, is_blank, words_in}
 use Rattle.chess_notation.specs.Operations.{Operand, SpellsOperands, Operation}

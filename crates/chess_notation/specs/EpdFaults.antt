@@ -15,6 +15,7 @@ use Rattle.chess_notation.specs.Operations.{is_printable, is_opcode}
 use Rattle.chess_notation.specs.Opcodes.{same_text}
 use Rattle.chess_notation.specs.AvoidMoves.{is_name}
 use Rattle.chess_notation.specs.Problems.{max_bound}
+use Rattle.chess_notation.specs.Records.{max_line}
 use Rattle.chess_notation.specs.RecordFields.{is_number, fourth_word, line_fields, cut_of}
 
 -- A fault prints as its name; that of the fields as the word `Fen`, a space and the name of the FEN's fault.
@@ -87,7 +88,7 @@ has_names_if_avoid p segment = not (is_avoid_segment segment) || are_names p (be
 -- What is wrong with a line, fault by fault. Of the fields it is their first fault. Moves to avoid are asked about in the position
 -- that the fields spell. Want of memory is no fault of a line.
 abbrev pub IsAmissBy : List ℕ → EpdFault → Type 0
-IsAmissBy line TooLong = 1023 < length line
+IsAmissBy line TooLong = max_line < length line
 IsAmissBy line NotPrintable = list_all is_printable line ≡ false
 IsAmissBy line (Fen FieldCount) = fourth_word line ≡ []
 IsAmissBy line (Fen fault) = (fourth_word line ≢ []) × IsFirst (IsAmiss (line_fields line)) field_faults fault

@@ -3,7 +3,7 @@ use Rattle.std.specs.Prelude.{◌≡◌, ℕ, ◌≤◌, List, length}
 use Rattle.chess_notation.specs.declared.problems.Outcome.{Outcome}
 use Rattle.chess_notation.specs.declared.problems.Outcome.TheVariants.{Mate, NoMate}
 use Rattle.chess_notation.specs.Problems.{max_bound}
-use Rattle.chess_notation.specs.Records.{RecordValue, Reads}
+use Rattle.chess_notation.specs.Records.{RecordValue, Reads, max_line}
 use Rattle.chess_notation.specs.EpdFaults.{HasNoFault}
 use Rattle.chess_notation.specs.Answers.{answer_text, IsPlayable}
 
@@ -29,4 +29,4 @@ HasLength NoMate = Unit {0}
 -- An answer that is no longer than a record may be, made for a record that was read, says that record again.
 abbrev pub AnswerReads : Type 0
 AnswerReads = (line : List ℕ) (asked default : ℕ) (r : RecordValue) (outcome : Outcome) → Reads line asked r → IsPlayable r.position outcome
-    → HasLength outcome → length (answer_text r outcome) ≤ 1023 → Reads (answer_text r outcome) default (answered r outcome default)
+    → HasLength outcome → length (answer_text r outcome) ≤ max_line → Reads (answer_text r outcome) default (answered r outcome default)

@@ -15,6 +15,10 @@ use Rattle.chess_notation.specs.Opcodes.{is_own, RisesByOpcode}
 use Rattle.chess_notation.specs.AvoidMoves.{is_name, named}
 use Rattle.chess_notation.specs.Problems.{ProblemValue, max_bound}
 
+-- The most bytes of a record's line.
+abbrev pub max_line : ℕ
+max_line = 1023
+
 -- what a record says: a position, the bound within which mate is asked for, the first moves to avoid, and the other operations
 pub record RecordValue : Type 0 where
   pub position : Setup
@@ -94,7 +98,7 @@ IsRestOf operations rest = RisesByOpcode rest × ((entry : Entry) → Contains r
 
 -- The line says the record, with this bound where it asks for none itself.
 pub record Reads (line : List ℕ) (default : ℕ) (r : RecordValue) : Type 0 where
-  pub short : length line ≤ 1023
+  pub short : length line ≤ max_line
   pub printable : list_all is_printable line ≡ true
   pub fields : Fields
   pub tail : List ℕ

@@ -2,10 +2,11 @@
 
 ghost use Rattle.std.specs.Prelude.{◌≡◌, ℕ, ◌≤◌, List, length, map, filter, true, false, not, ◌&&◌, IfSome, IfNone};
 ghost use Rattle.std.specs.List.{list_any, list_all};
-ghost use Rattle.chess_moves.specs.Listing.{legal_moves};
+ghost use Rattle.chess_moves.specs.inside.Listing.{legal_moves};
 ghost use Rattle.chess_notation.specs.SanText.{bare_text};
 ghost use Rattle.chess_notation.specs.Words.{words_in, is_blank as is_blank_text};
 ghost use Rattle.chess_notation.specs.Opcodes.{same_text};
+ghost use Rattle.chess_notation.specs.Records.{max_line};
 ghost use Rattle.chess_notation.specs.AvoidMoves.{is_suffix as is_suffix_byte, without_suffix as text_without_suffix, named};
 ghost use Rattle.chess_notation.specs.EpdFaults.{are_names as do_words_name};
 
@@ -130,7 +131,7 @@ fn moves_named(words: &[u8], names: &[Named]) -> AvoidList
 /// It stands by itself, so that its lists take no room where nothing is to be avoided.
 #[inline(never)]
 pub(crate) fn named_moves(rays: &Rays, position: &Position, words: &[u8]) -> Option<AvoidList>
-    requires { length words.now ≤ 1023 }
+    requires { length words.now ≤ max_line }
     ensures names { IfSome result (λ moves. do_words_name position.now words.now ≡ true) }
     ensures moves { IfSome result (λ moves. moves.items ≡ named position.now (words_in words.now)) }
     ensures refused { IfNone result (do_words_name position.now words.now ≡ false) }

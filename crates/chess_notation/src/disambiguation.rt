@@ -3,7 +3,7 @@
 ghost use Rattle.std.specs.Prelude.{◌≡◌, ◌==◌, ◌+◌, ◌++◌, [], ◌≤◌, true, if◌then◌else◌};
 ghost use Rattle.arrayvec.specs.ArrayString.{array_string_len};
 ghost use Rattle.chess_board.specs.Squares.{file_of, rank_of};
-ghost use Rattle.chess_moves.specs.Listing.{legal_moves};
+ghost use Rattle.chess_moves.specs.inside.Listing.{legal_moves};
 ghost use Rattle.chess_notation.specs.Disambiguation.{is_such as is_such_in, is_rival as is_rival_in, some_rival, origin_text};
 
 use crate::san_parts::{push_file, push_rank, push_square};

@@ -23,6 +23,9 @@ use crate::words::{is_blank, word_at};
 use chess_board::{FenFault, Position, read_fields, spells_one};
 use thiserror::Error;
 
+/// The most bytes of a record's line.
+const MAX_LINE: usize = 1023;
+
 /// The first fault of a line, in the order in which the variants stand. It prints as its name; that of the fields as the word
 /// `Fen`, a space and the name of the FEN's fault.
 #[derive(Clone, Copy, Debug, PartialEq, Eq, Error)]
@@ -232,7 +235,7 @@ pub(crate) fn position_of(line: &[u8]) -> Result<Position, EpdFault>
     ensures clear { OnOk result (IsClearTo 8 line.now) }
     ensures refused { IfErr result (λ fault. IsFaultOf line.now fault) }
 {
-    if 1023 < line.len() {
+    if MAX_LINE < line.len() {
         return Err(EpdFault::TooLong);
     }
     if !are_printable(line) {

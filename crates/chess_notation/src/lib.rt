@@ -42,6 +42,8 @@ pub use words::is_blank;
 #[cfg(test)]
 mod answer_tests;
 #[cfg(test)]
+mod avoid_move_tests;
+#[cfg(test)]
 mod record_reading_tests;
 #[cfg(test)]
 mod san_tests;

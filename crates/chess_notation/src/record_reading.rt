@@ -5,7 +5,7 @@ ghost use Rattle.std.specs.List.{list_all};
 ghost use Rattle.chess_board.specs.Soundness.{IsSound};
 ghost use Rattle.chess_notation.specs.Segments.{segments_of};
 ghost use Rattle.chess_notation.specs.Operations.{is_printable};
-ghost use Rattle.chess_notation.specs.Records.{RecordValue, Reads};
+ghost use Rattle.chess_notation.specs.Records.{RecordValue, Reads, max_line};
 ghost use Rattle.chess_notation.specs.EpdFaults.{IsFaultOf, has_opcode, are_distinct, has_names_if_avoid};
 ghost use Rattle.chess_notation.specs.inside.RecordReading.{avoid_text_in, avoid_in, rest_of};
 
@@ -29,7 +29,7 @@ fn record_of(
     position: Position,
     asked: Asked<'_>,
 ) -> Result<Record, EpdFault>
-    requires short { length text.now ≤ 1023 }
+    requires short { length text.now ≤ max_line }
     requires printable { list_all is_printable text.now ≡ true }
     requires opcodes { list_all has_opcode (segments_of text.now).ended ≡ true }
     requires distinct { are_distinct (segments_of text.now).ended ≡ true }

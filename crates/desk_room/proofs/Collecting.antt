@@ -7,7 +7,7 @@ use Rattle.mate_desk.specs.declared.deliveries.Delivery.TheVariants.{Answer}
 use Rattle.desk_room.specs.Letters.{records}
 use Rattle.desk_room.specs.Deliveries.{asked}
 use Rattle.desk_room.specs.Windows.{letters_sent, collected, default_of, SameWindow}
-use Rattle.desk_room.specs.Clerks.{Collects, Deals}
+use Rattle.desk_room.specs.inside.Clerks.{Collects, Deals}
 use Rattle.desk_room.specs.declared.clerks.Clerk.{Clerk}
 use Rattle.desk_room.specs.declared.windows.Window.{Window}
 use Rattle.desk_room.proofs.Dealt.{deal_answer}

@@ -3,7 +3,7 @@ use Rattle.std.proofs.Common.{◌≡◌, ℕ, ◌+◌, ◌≤◌, List, [], ◌�
 use Rattle.chess_notation.specs.Records.{RecordValue}
 use Rattle.mate_search.specs.InputReplies.{answer_line, without_cr, IsLineReply, IsReplyFrom}
 use Rattle.mate_search.proofs.InputReplies.{replies_next}
-use Rattle.desk_room.specs.Clerks.{woven, Deals}
+use Rattle.desk_room.specs.inside.Clerks.{woven, Deals}
 
 woven_snoc : (rs : List RecordValue) (ts : List (List ℕ)) (r : RecordValue) → length ts ≡ length rs → woven (rs ++ r ∷ []) (ts ++ [] ∷ []) ≡ woven rs ts ++ answer_line r
 woven_snoc [] [] r is = append-nil (answer_line r ++ []) ∙ append-nil (answer_line r)

@@ -1,6 +1,6 @@
 -- How much each ring gains in a pass.
 use Rattle.std.proofs.Common.{◌≡◌, ◌≢◌, ◌<◌, ◌≤◌, ◌⊎◌, inl, inr, ⊎_elim, ℕ, ◌+◌, List, [], ◌∷◌, ◌++◌, length, map, set, get_or, refl, ap, ◌∙◌, arith, length-append}
-use Rattle.desk_room.specs.Steps.{Untouched, GainBefore}
+use Rattle.desk_room.specs.inside.Steps.{Untouched, GainBefore}
 use Rattle.desk_room.specs.Turns.{GainFew}
 use Rattle.desk_room.proofs.Places.{is_or_not, below_or, below_or_past, at_other, at_same, at_old}
 

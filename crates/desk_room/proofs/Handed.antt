@@ -11,7 +11,7 @@ use Rattle.desk_room.specs.Letters.{records}
 use Rattle.desk_room.specs.Deliveries.{asked}
 use Rattle.desk_room.specs.Windows.{letters_sent, collected, default_of, SameWindow}
 use Rattle.desk_room.specs.WindowFaults.{SaysOnly, SaysRecord}
-use Rattle.desk_room.specs.Clerks.{Deals, HasDealt, Reports}
+use Rattle.desk_room.specs.inside.Clerks.{Deals, HasDealt, Reports}
 use Rattle.desk_room.specs.declared.letters.Letter.TheVariants.{Record}
 use Rattle.desk_room.specs.declared.clerks.Clerk.{Clerk}
 use Rattle.desk_room.specs.declared.windows.Window.{Window}

@@ -2,13 +2,13 @@
 use Rattle.std.proofs.Common.{◌≡◌, ℕ, ◌+◌, List, [], ◌∷◌, ◌++◌, Result, Ok, IfOk, refl, sym, ◌∙◌, subst, append_assoc}
 use Rattle.desk_room.specs.Opening.{AreOpened}
 use Rattle.desk_room.specs.Keepers.{IsOf, SameRoom}
-use Rattle.desk_room.specs.Clerks.{Reports}
-use Rattle.desk_room.specs.Threads.{AllFresh, AllOf, AllReport, AllSettled, IsFreshWindow, IsSettled}
+use Rattle.desk_room.specs.inside.Clerks.{Reports}
+use Rattle.desk_room.specs.inside.Threads.{AllFresh, AllOf, AllReport, AllSettled, IsFreshWindow, IsSettled}
 use Rattle.desk_room.specs.Serving.{AreReplies}
 use Rattle.mate_search.specs.InputReplies.{IsReply}
 use Rattle.mate_search.specs.declared.input_replies.Output.{Output}
 use Rattle.desk_room.specs.declared.windows.Window.{Window}
-use Rattle.desk_room.specs.declared.lines.Line.{Line}
+use Rattle.desk_room.specs.declared.keeper_ends.Line.{Line}
 use Rattle.desk_room.specs.declared.keepers.Keeper.{Keeper}
 use Rattle.desk_room.specs.declared.reports.Report.{Report}
 use Rattle.desk_room.proofs.Opened.{of_then, of_window, opened_of}

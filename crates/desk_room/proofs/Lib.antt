@@ -22,7 +22,7 @@ pub mod Staying
 pub mod Stepping
 pub mod Served
 pub mod Tickets
-pub mod Meeting
+pub mod Settlements
 pub mod Closing
 pub mod Openings
 pub mod Fewness

@@ -2,7 +2,7 @@
 use Rattle.std.proofs.Common.{◌≡◌, ◌<◌, ◌≤◌, ⊎_elim, ℕ, zero, suc, ◌+◌, List, [], ◌∷◌, length, map, get_or, refl, sym, ◌∙◌, subst, arith}
 use Rattle.desk_room.specs.Benches.{heard, back_known}
 use Rattle.desk_room.specs.Keepers.{backs_known, BacksAhead}
-use Rattle.desk_room.specs.Steps.{Untouched}
+use Rattle.desk_room.specs.inside.Steps.{Untouched}
 use Rattle.desk_room.specs.declared.ears.Ear.{Ear}
 use Rattle.desk_room.specs.declared.keepers.Keeper.{Keeper}
 use Rattle.desk_room.proofs.Places.{below_or, below_or_past}

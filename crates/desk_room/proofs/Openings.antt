@@ -8,7 +8,7 @@ use Rattle.desk_room.specs.Kept.{room_of, owed, EachIsMarked}
 use Rattle.desk_room.specs.Opening.{IsFresh, AreOpened, IsIdle, AreIdle}
 use Rattle.desk_room.specs.declared.letters.Letter.{Letter}
 use Rattle.desk_room.specs.declared.windows.Window.{Window}
-use Rattle.desk_room.specs.declared.lines.Line.{Line}
+use Rattle.desk_room.specs.declared.keeper_ends.Line.{Line}
 use Rattle.desk_room.specs.declared.benches.Bench.{Bench}
 use Rattle.desk_room.specs.declared.ears.Ear.{Ear}
 

@@ -6,11 +6,11 @@ use Rattle.mate_desk.specs.Calls.{change_at, in_queue, into_phase, with_entry, w
 use Rattle.mate_desk.specs.declared.deliveries.Delivery.{Delivery}
 use Rattle.desk_room.specs.Dealing.{stops}
 use Rattle.desk_room.specs.Benches.{heard}
-use Rattle.desk_room.specs.Lines.{letters_taken, deliveries_put}
+use Rattle.desk_room.specs.KeeperEnds.{letters_taken, deliveries_put}
 use Rattle.desk_room.specs.Events.{RoomLists, Takes, Gives, Orders, Hears, May, after, one_more, taking, hearing}
 use Rattle.desk_room.specs.Kept.{room_of, AreOwed, AreMarked}
 use Rattle.desk_room.specs.Passes.{Taking, Giving, Hearing}
-use Rattle.desk_room.specs.Steps.{HeardOne, TookOne, OrderedOne, GaveOne, Trying}
+use Rattle.desk_room.specs.inside.Steps.{HeardOne, TookOne, OrderedOne, GaveOne, Trying}
 use Rattle.desk_room.specs.Turns.{waiting}
 use Rattle.desk_room.specs.declared.letters.Letter.{Letter}
 use Rattle.desk_room.specs.declared.letters.Letter.TheVariants.{Record, Withdrawal, Farewell}
@@ -19,7 +19,7 @@ use Rattle.desk_room.specs.declared.letters.Back.TheVariants.{Solved, Returned}
 use Rattle.desk_room.specs.declared.orders.Order.{Order}
 use Rattle.desk_room.specs.declared.orders.Order.TheVariants.{Solve}
 use Rattle.desk_room.specs.declared.ears.Ear.{Ear}
-use Rattle.desk_room.specs.declared.lines.Line.{Line}
+use Rattle.desk_room.specs.declared.keeper_ends.Line.{Line}
 use Rattle.desk_room.specs.declared.hearing.Heard.{Heard}
 use Rattle.desk_room.specs.declared.taking.Took.{Took}
 use Rattle.desk_room.specs.declared.ordering.Tried.{Tried}

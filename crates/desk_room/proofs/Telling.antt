@@ -1,10 +1,9 @@
 -- What the desk was told, and where that changes nothing.
-use Rattle.std.proofs.Common.{◌≡◌, ◌≤◌, ℕ, zero, suc, ◌+◌, ◌-◌, Bool, true, false, nat_lt, nat_le, if◌then◌else◌, List, [], ◌∷◌, length, slice_get, Option, Some, None, refl, sym, ap, ◌∙◌, arith}
+use Rattle.std.proofs.Common.{◌≡◌, ◌≤◌, ℕ, zero, suc, ◌+◌, ◌-◌, Bool, true, false, nat_lt, nat_le, if◌then◌else◌, List, [], ◌∷◌, length, slice_get, Option, Some, None, is_some, refl, sym, ap, ◌∙◌, arith}
 use Rattle.std.proofs.lemmas.Bool.Decides.{nat_tests}
 use Rattle.mate_search.specs.Jobs.{Task}
 use Rattle.mate_desk.specs.Content.{Content, QueueValue, EntryValue, Phase, Waiting, Finished, entries, waits, lower, lowest, is_out_with}
-use Rattle.mate_desk.specs.Calls.{change_at, has_out, after_return, ready, ready_of, ready_first, collected, collected_by, after_collect, withdrawn, withdrawn_at, withdraw_refusal, withdraw_refusal_of, withdraw_refusal_by, after_withdraw}
-use Rattle.mate_desk.specs.Deliveries.{delivery}
+use Rattle.mate_desk.specs.Calls.{change_at, has_out, after_return, withdrawn, withdrawn_at, withdraw_refusal, withdraw_refusal_of, withdraw_refusal_by, after_withdraw}
 use Rattle.mate_desk.specs.declared.refusals.WithdrawRefusal.{WithdrawRefusal}
 use Rattle.mate_desk.specs.declared.refusals.WithdrawRefusal.TheVariants as refusal
 use Rattle.desk_room.specs.Events.{one_if, job_of, hearing, solved_in, returned_in, stranger_in}
@@ -69,21 +68,9 @@ pub refused_same : (c : Content) (n m : ℕ) (r : WithdrawRefusal) → withdraw_
 refused_same c n m r h = ap (λ (qs : List QueueValue). record { queues = qs; next = c.next; closed = c.closed }) (refused_all n m c.queues r h)
 
 -- nothing that is ready
-pub none_ready : (o : Option EntryValue) → delivery o ≡ None → o ≡ None
+pub none_ready : (o : Option EntryValue) → is_some o ≡ false → o ≡ None
 none_ready None h = refl
 none_ready (Some e) h = absurd (cc)
-
-stays_queue : (q : QueueValue) → ready_first q.pending ≡ None → collected q ≡ q
-stays_queue q h = ap (λ o. collected_by o q) h
-
-stays_all : (n : ℕ) (qs : List QueueValue) → ready_of (slice_get qs n) ≡ None → change_at n collected qs ≡ qs
-stays_all zero [] h = refl
-stays_all (suc n) [] h = refl
-stays_all zero (q ∷ qs) h = ap (λ x. x ∷ qs) (stays_queue q h)
-stays_all (suc n) (q ∷ qs) h = ap (λ l. q ∷ l) (stays_all n qs h)
-
-pub none_collected : (c : Content) (n : ℕ) → ready c n ≡ None → after_collect c n ≡ c
-none_collected c n h = ap (λ (qs : List QueueValue). record { queues = qs; next = c.next; closed = c.closed }) (stays_all n c.queues h)
 
 -- nothing that waits
 lower_some : (t : ℕ) (o : Option ℕ) → lower t o ≡ None → ⊥

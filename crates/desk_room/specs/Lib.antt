@@ -7,13 +7,11 @@ pub mod Events
 pub mod Kept
 pub mod Passes
 pub mod Turns
-pub mod Lines
+pub mod KeeperEnds
 pub mod WindowFaults
 pub mod Windows
 pub mod Orders
 pub mod Keepers
-pub mod Steps
 pub mod Opening
 pub mod Serving
-pub mod Clerks
-pub mod Threads
+pub mod inside

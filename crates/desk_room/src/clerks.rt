@@ -51,7 +51,7 @@ impl Clerk {
     ghost use Rattle.chess_notation.specs.Words.{is_blank as is_blank_text};
     ghost use Rattle.mate_search.specs.InputReplies.{without_cr as text_without_cr, lines_of, IsLineReply};
     ghost use Rattle.desk_room.specs.Windows.{letters_sent, collected, deliveries_known, places_known, default_of, SameWindow};
-    ghost use Rattle.desk_room.specs.Clerks.{Collects, HasDealt};
+    ghost use Rattle.desk_room.specs.inside.Clerks.{Collects, HasDealt};
 
     /// A clerk at a window by which nothing went yet.
     pub(crate) fn new(alloc: Global, window: Window) -> Clerk

@@ -1,14 +1,14 @@
 //! The fourth pass of a turn: deliveries.
 
 ghost use Rattle.std.specs.Prelude.{◌≡◌, ◌<◌, ◌≤◌, length};
-ghost use Rattle.desk_room.specs.Lines.{letters_taken, letters_known, SameLine};
-ghost use Rattle.desk_room.specs.Steps.{GaveOne};
+ghost use Rattle.desk_room.specs.KeeperEnds.{letters_taken, letters_known, SameLine};
+ghost use Rattle.desk_room.specs.inside.Steps.{GaveOne};
 
+use crate::keeper_ends::Line;
 use crate::keepers::Keeper;
-use crate::lines::Line;
 use mate_desk::Desk;
 
-#[tactic(auto, using(crate::proofs::Telling::none_collected, crate::proofs::Telling::none_ready))]
+#[tactic(auto, using(crate::proofs::Telling::none_ready))]
 // Puts a delivery on the ring, where that has a place and one is ready.
 fn give_delivery(line: &mut Line, desk: &mut Desk, n: usize) -> bool
     requires { n < length desk.old.queues }
@@ -17,24 +17,18 @@ fn give_delivery(line: &mut Line, desk: &mut Desk, n: usize) -> bool
     ensures known { letters_known line.new ≡ letters_known line.old }
     ensures line { SameLine line.old line.new }
 {
-    if line.is_full() {
+    if !desk.is_ready(n) || line.is_full() {
         return false;
     }
-    match desk.collect(n) {
-        Ok(Some(delivery)) => {
-            line.put(delivery);
-            true
-        }
-        Ok(None) => false,
-        Err(_) => unreachable!(),
-    }
+    line.put(desk.deliver(n));
+    true
 }
 
 impl Keeper {
     ghost use Rattle.std.specs.Prelude.{◌≡◌, ◌<◌, ◌≤◌, ◌+◌, ◌*◌, ℕ, true, false, [], length, get_or, if◌then◌else◌};
     ghost use Rattle.desk_room.specs.Keepers.{lists, known, ring_of, IsServed, OthersServed, SameRoom};
     ghost use Rattle.desk_room.specs.Passes.{Giving};
-    ghost use Rattle.desk_room.specs.Steps.{Untouched};
+    ghost use Rattle.desk_room.specs.inside.Steps.{Untouched};
     ghost use Rattle.desk_room.specs.Turns.{GainFew, pending_at};
 
     // Puts a delivery on a window's ring, if it can.

@@ -2,7 +2,7 @@
 
 ghost use Rattle.std.specs.Prelude.{◌≡◌, ◌<◌, ◌+◌, length};
 ghost use Rattle.desk_room.specs.Benches.{back_known, SameEar};
-ghost use Rattle.desk_room.specs.Steps.{HeardOne};
+ghost use Rattle.desk_room.specs.inside.Steps.{HeardOne};
 
 use crate::ears::Ear;
 use crate::keepers::Keeper;
@@ -47,7 +47,7 @@ impl Keeper {
     ghost use Rattle.std.specs.Prelude.{◌≡◌, ◌<◌, ◌≤◌, ◌+◌, ◌*◌, ℕ, [], length, get_or};
     ghost use Rattle.desk_room.specs.Keepers.{lists, ring_of, backs_known, windows_of, benches_of, BacksAhead};
     ghost use Rattle.desk_room.specs.Passes.{Hearing};
-    ghost use Rattle.desk_room.specs.Steps.{Untouched};
+    ghost use Rattle.desk_room.specs.inside.Steps.{Untouched};
     ghost use Rattle.desk_room.specs.Turns.{GainFew};
 
     // Learns of what lies in a bench's ring.

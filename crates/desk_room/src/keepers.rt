@@ -4,13 +4,13 @@ ghost use Rattle.std.specs.Prelude.{◌≡◌, ◌≤◌, ◌<◌, true, false, 
 ghost use Rattle.desk_room.specs.Letters.{records};
 ghost use Rattle.desk_room.specs.Dealing.{stops};
 ghost use Rattle.desk_room.specs.Orders.{orders, passes};
-ghost use Rattle.desk_room.specs.Lines.{letters_taken, deliveries_put, ring_of as line_ring};
+ghost use Rattle.desk_room.specs.KeeperEnds.{letters_taken, deliveries_put, ring_of as line_ring};
 ghost use Rattle.desk_room.specs.Benches.{ear_ring};
 ghost use Rattle.desk_room.specs.Kept.{owed, room_of, EachIsMarked};
 
 use crate::dealers::Dealer;
 use crate::ears::Ear;
-use crate::lines::Line;
+use crate::keeper_ends::Line;
 use mate_desk::Desk;
 
 /// The keeper of a room's desk. It alone calls the desk: between turns letters and jobs wait in the rings.

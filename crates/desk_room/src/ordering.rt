@@ -3,7 +3,7 @@
 ghost use Rattle.std.specs.Prelude.{◌≡◌, ◌≤◌, length};
 ghost use Rattle.desk_room.specs.Dealing.{stops};
 ghost use Rattle.desk_room.specs.Orders.{orders, passes, places};
-ghost use Rattle.desk_room.specs.Steps.{OrderedOne};
+ghost use Rattle.desk_room.specs.inside.Steps.{OrderedOne};
 ghost use Rattle.desk_room.specs.declared.ordering.Tried.TheVariants.{Refused};
 
 use crate::dealers::Dealer;
@@ -47,7 +47,7 @@ impl Keeper {
     ghost use Rattle.desk_room.specs.Orders.{orders, places};
     ghost use Rattle.desk_room.specs.Keepers.{lists};
     ghost use Rattle.desk_room.specs.Turns.{waiting};
-    ghost use Rattle.desk_room.specs.Steps.{Trying};
+    ghost use Rattle.desk_room.specs.inside.Steps.{Trying};
     ghost use Rattle.desk_room.specs.Passes.{Ordering};
     ghost use Rattle.desk_room.specs.declared.ordering.Tried.TheVariants.{Refused};
 

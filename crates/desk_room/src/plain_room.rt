@@ -1,7 +1,7 @@
 //! A room of one window and one bench as plain lists, written from what is promised of a room: a slow one to compare with. Whatever
 //! one end does is seen by the others at once, and memory is ample. Its turn is in `plain_turns`.
 
-use crate::pairs::Settled;
+use crate::ring_pairs::Settled;
 use crate::told_calls::{Call, Reply};
 use std::alloc::Global;
 use std::collections::VecDeque;

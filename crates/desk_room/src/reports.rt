@@ -4,7 +4,7 @@ ghost use Rattle.std.specs.Prelude.{◌≡◌, [], OnOk};
 ghost use Rattle.mate_search.specs.InputReplies.{lines_of};
 ghost use Rattle.desk_room.specs.Letters.{records};
 ghost use Rattle.desk_room.specs.Windows.{letters_sent, collected, SameWindow};
-ghost use Rattle.desk_room.specs.Clerks.{HasDealt, Reports};
+ghost use Rattle.desk_room.specs.inside.Clerks.{HasDealt, Reports};
 
 use crate::bells::{Bell, Why};
 use crate::clerks::Clerk;

@@ -3,17 +3,17 @@
 ghost use Rattle.std.specs.Prelude.{◌≡◌, ◌≢◌, ◌↔◌, ◌⊎◌, ◌<◌, ◌≤◌, length, map, vec_len, IfOk, IfSome, Err};
 ghost use Rattle.std.specs.Thread.{IsSync};
 ghost use Rattle.desk_room.specs.Serving.{AreReplies};
-ghost use Rattle.desk_room.specs.Threads.{AllFresh, AllOf, AllReport, AllSettled, IsSettled};
+ghost use Rattle.desk_room.specs.inside.Threads.{AllFresh, AllOf, AllReport, AllSettled, IsSettled};
 ghost use Rattle.desk_room.specs.Keepers.{IsOf, SameRoom};
 ghost use Rattle.desk_room.specs.declared.rooms.RoomFault.TheVariants as fault;
 
 use crate::bells::{Bell, Why};
 use crate::benches::Bench;
-use crate::gates::Gate;
 use crate::keepers::Keeper;
 use crate::keeping::keep;
 use crate::reports::Report;
 use crate::rooms::{Room, RoomFault, open_room};
+use crate::solve_gates::Gate;
 use crate::threads::{Worked, attend_all, work_all};
 use crate::windows::Window;
 use chess_moves::Rays;

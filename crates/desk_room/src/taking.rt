@@ -3,12 +3,12 @@
 ghost use Rattle.std.specs.Prelude.{◌≡◌, ◌<◌, ◌≤◌, ◌-◌, ◌^◌, true, length};
 ghost use Rattle.desk_room.specs.Letters.{records};
 ghost use Rattle.desk_room.specs.Events.{accepts};
-ghost use Rattle.desk_room.specs.Lines.{letters_taken, letters_known, deliveries_put, places_free, SameLine};
-ghost use Rattle.desk_room.specs.Steps.{TookOne};
+ghost use Rattle.desk_room.specs.KeeperEnds.{letters_taken, letters_known, deliveries_put, places_free, SameLine};
+ghost use Rattle.desk_room.specs.inside.Steps.{TookOne};
 
+use crate::keeper_ends::Line;
 use crate::keepers::Keeper;
 use crate::letters::Letter;
-use crate::lines::Line;
 use mate_desk::Desk;
 
 /// What came of letters.
@@ -56,7 +56,7 @@ impl Keeper {
     ghost use Rattle.desk_room.specs.Events.{accepts};
     ghost use Rattle.desk_room.specs.Keepers.{lists, known, ring_of, windows_of, IsRead, Ahead, OthersRead, SameRoom};
     ghost use Rattle.desk_room.specs.Passes.{Taking};
-    ghost use Rattle.desk_room.specs.Steps.{Untouched};
+    ghost use Rattle.desk_room.specs.inside.Steps.{Untouched};
     ghost use Rattle.desk_room.specs.Turns.{GainFew};
 
     // Learns of the letters in a window's ring.

@@ -5,7 +5,7 @@ ghost use Rattle.desk_room.specs.Keepers.{SameRoom};
 
 use crate::keepers::Keeper;
 use crate::manners::{Manner, Pace};
-use crate::pairs::Settled;
+use crate::ring_pairs::Settled;
 use crate::scenes::ends_of_two;
 use crate::solvers::Solver;
 use crate::submitters::{RECORDS, SameEnds, Submitter};

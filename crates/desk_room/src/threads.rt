@@ -2,13 +2,13 @@
 
 ghost use Rattle.std.specs.Prelude.{◌≡◌, List, ℕ, length, map, vec_len, IfOk};
 ghost use Rattle.std.specs.Thread.{IsSync};
-ghost use Rattle.desk_room.specs.Threads.{AllFresh, IsFreshWindow, AllReport};
-ghost use Rattle.desk_room.specs.Clerks.{Reports};
+ghost use Rattle.desk_room.specs.inside.Threads.{AllFresh, IsFreshWindow, AllReport};
+ghost use Rattle.desk_room.specs.inside.Clerks.{Reports};
 
 use crate::bells::{Bell, Why};
 use crate::benches::Bench;
-use crate::gates::Gate;
 use crate::reports::{Report, attend};
+use crate::solve_gates::Gate;
 use crate::windows::Window;
 use crate::working::work;
 use chess_moves::Rays;

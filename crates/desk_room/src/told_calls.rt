@@ -1,6 +1,6 @@
 //! Calls of a room of one window and one bench, and what they answer.
 
-use crate::pairs::Settled;
+use crate::ring_pairs::Settled;
 use crate::turns::Turn;
 
 /// A call of one of the room's ends.

@@ -1,10 +1,10 @@
 //! Calls of a window and of the keeper's ends of its rings, told with their replies.
 
-ghost use Rattle.desk_room.specs.Lines.{AreEnds};
+ghost use Rattle.desk_room.specs.KeeperEnds.{AreEnds};
 
+use crate::keeper_ends::Line;
 use crate::letters::Letter;
-use crate::lines::Line;
-use crate::pairs::open_line;
+use crate::ring_pairs::open_line;
 use crate::window_faults::{ByeFault, WindowFault, WithdrawFault};
 use crate::windows::Window;
 use chess_moves::Rays;

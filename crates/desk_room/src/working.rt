@@ -5,9 +5,9 @@ ghost use Rattle.desk_room.specs.Benches.{places_known};
 
 use crate::bells::{Bell, Why};
 use crate::benches::Bench;
-use crate::gates::Gate;
 use crate::letters::Back;
 use crate::seats::Taken;
+use crate::solve_gates::Gate;
 use crate::waits::Waits;
 use chess_moves::Rays;
 use mate_search::{Job, Memo};

@@ -10,7 +10,7 @@ use Rattle.mate_search.specs.Jobs.{Task}
 use Rattle.mate_desk.specs.Calls.{change_at, with_entry, has_out}
 use Rattle.mate_desk.specs.History.{Claim, Parcel, Answered, Noticed}
 use Rattle.mate_desk.specs.Headline.{AreForFirst, IsFor}
-use Rattle.mate_desk.specs.Mirrors.{entry_at, entries_from, queue_with, AreClaimsBelow, AreRead, are_settled, Sound}
+use Rattle.mate_desk.specs.inside.Mirrors.{entry_at, entries_from, queue_with, AreClaimsBelow, AreRead, are_settled, Sound}
 use Rattle.mate_desk.proofs.PhaseChanges.{but, any_queues}
 
 -- what tickets ask, but for one of them

@@ -11,7 +11,7 @@ use Rattle.mate_desk.specs.declared.events.Step.{Step}
 use Rattle.mate_desk.specs.declared.events.Reply.{Reply}
 use Rattle.mate_desk.specs.History.{History, past_onto, accepted, delivered, pending, phase}
 use Rattle.mate_desk.specs.Replies.{from, AreReplies}
-use Rattle.mate_desk.specs.Mirrors.{queue_of, AreApart, MirrorsBy}
+use Rattle.mate_desk.specs.inside.Mirrors.{queue_of, AreApart, MirrorsBy}
 use Rattle.mate_desk.proofs.Hands.{AreFound, found_few, jobs_found, not_among}
 use Rattle.mate_desk.proofs.PhaseChanges.{waiting_not_out}
 use Rattle.mate_desk.proofs.Waits.{lowest_is, least_waits, out_phase}

@@ -9,8 +9,8 @@ use Rattle.mate_desk.specs.Deliveries.{delivery}
 use Rattle.mate_desk.specs.History.{History, Claim, Parcel, Answered, Noticed, accepted, delivered, phase, withdrawn, count_accepted, is_notice}
 use Rattle.mate_desk.specs.Headline.{IsFor}
 use Rattle.mate_desk.specs.Replies.{from, IsOwed, IsFirstOwed, IsCollectReply, IsCollectReplyBy, IsReplyTo}
-use Rattle.mate_desk.specs.Mirrors.{entry_at, queue_of, AreOut, Sound, MirrorsBy, Makes}
-use Rattle.mate_desk.specs.Stepping.{found_reply}
+use Rattle.mate_desk.specs.inside.Mirrors.{entry_at, queue_of, AreOut, Sound, MirrorsBy, Makes}
+use Rattle.mate_desk.specs.inside.Stepping.{found_reply}
 use Rattle.mate_desk.specs.declared.events.Reply.{Reply}
 use Rattle.mate_desk.specs.declared.events.Step.TheVariants as step
 use Rattle.mate_desk.specs.declared.events.Reply.TheVariants as reply
@@ -19,7 +19,8 @@ use Rattle.mate_desk.proofs.Hands.{out_kept}
 use Rattle.mate_desk.proofs.Leaving.{and_fixed}
 use Rattle.mate_desk.proofs.Acceptances.{out_change}
 use Rattle.mate_desk.proofs.Submissions.{queue_known, queue_unknown}
-use Rattle.mate_desk.proofs.Handovers.{pending_some, pending_none, read_at, sound_delivered, queues_delivered, out_collected, none_collected}
+use Rattle.mate_desk.proofs.Handovers.{pending_some, pending_none, read_at, sound_delivered, queues_delivered, out_collected}
+use Rattle.mate_desk.proofs.Steps.{stays_queue}
 
 length_each : (f : ℕ → QueueValue) (k n : ℕ) → length (map f (from k n)) ≡ n
 length_each f k zero = refl
@@ -31,7 +32,7 @@ collect_known n default h s r inside f = let w : nat_lt s n ≡ true = grind (ar
 still : (asks : ℕ → RecordValue) (room : ℕ) (h : History) (s n : ℕ) → ready_first (queue_of asks room h s).pending ≡ None → change_at s collected (map (queue_of asks room h) (from 0 n)) ≡ map (queue_of asks room h) (from 0 n)
 still asks room h s n e =
     let z : 0 + s ≡ s = omega arith in
-    change_from (queue_of asks room h) (queue_of asks room h) collected 0 n s (λ i far. refl) (subst (λ i. collected (queue_of asks room h i) ≡ queue_of asks room h i) (sym z) (none_collected (queue_of asks room h s) e))
+    change_from (queue_of asks room h) (queue_of asks room h) collected 0 n s (λ i far. refl) (subst (λ i. collected (queue_of asks room h i) ≡ queue_of asks room h i) (sym z) (stays_queue (queue_of asks room h s) e))
 
 -- The jobs that are out stay so.
 out_after : (c : Content) (s : ℕ) (jobs : List Task) → AreOut c jobs → AreOut (after_collect c s) jobs

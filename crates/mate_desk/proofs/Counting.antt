@@ -9,7 +9,7 @@ use Rattle.std.proofs.lemmas.List.{length-map}
 use Rattle.std.proofs.Math.Nat.{pow-le-pow_right}
 use lib.Lanes.{mask_l}
 use Rattle.mate_desk.specs.Content.{EntryValue, waits}
-use Rattle.mate_desk.specs.Keeping.{waits_at, Marks}
+use Rattle.mate_desk.specs.inside.Keeping.{waits_at, Marks}
 
 waits_listed : (es : List EntryValue) (p : ℕ) → waits_at es p ≡ get_or (map waits es) p false
 waits_listed [] zero = refl

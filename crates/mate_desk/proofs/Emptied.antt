@@ -8,7 +8,7 @@ use Rattle.mate_desk.specs.Content.{Content, EntryValue, QueueValue, is_out_with
 use Rattle.mate_desk.specs.Calls.{is_drained}
 use Rattle.mate_desk.specs.History.{History, hand, pending}
 use Rattle.mate_desk.specs.Replies.{from, drained}
-use Rattle.mate_desk.specs.Mirrors.{queue_of, AreOut, MirrorsBy, Makes}
+use Rattle.mate_desk.specs.inside.Mirrors.{queue_of, AreOut, MirrorsBy, Makes}
 use Rattle.mate_desk.specs.declared.events.Step.TheVariants as step
 use Rattle.mate_desk.specs.declared.events.Reply.TheVariants as reply
 use Rattle.mate_desk.proofs.Leaving.{and_fixed}

@@ -5,7 +5,7 @@ use Rattle.mate_desk.specs.Content.{Content, EntryValue, QueueValue, Phase, Wait
 use Rattle.mate_desk.specs.Calls.{change_at, everywhere, in_queue, into_phase, with_entry, withdrawn, withdrawn_at, collected, collected_by, ready, ready_first, ready_of, after_submit, after_withdraw, after_collect}
 use Rattle.mate_desk.specs.Deliveries.{delivery}
 use Rattle.mate_desk.specs.Laws.{AreDistinct}
-use Rattle.mate_desk.specs.Stepping.{answers, found_reply, is_done, count_done}
+use Rattle.mate_desk.specs.inside.Stepping.{answers, found_reply, is_done, count_done}
 use Rattle.mate_desk.specs.declared.deliveries.Delivery.{Delivery}
 use Rattle.mate_desk.specs.declared.deliveries.Delivery.TheVariants.{Answer, Notice}
 use Rattle.mate_desk.proofs.Distinct.{one_if, count_cons, count_append, count_joined}

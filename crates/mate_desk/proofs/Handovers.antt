@@ -9,7 +9,7 @@ use Rattle.mate_desk.specs.Calls.{change_at, ready_first, collected, collected_b
 use Rattle.mate_desk.specs.History.{History, Claim, Parcel, accepted, delivered, phase, withdrawn, is_notice}
 use Rattle.mate_desk.specs.Headline.{AreForFirst, IsFor}
 use Rattle.mate_desk.specs.Replies.{from}
-use Rattle.mate_desk.specs.Mirrors.{entry_at, entries_from, queue_with, queue_of, are_settled, AreRead, AreNoticesMarked, Sound}
+use Rattle.mate_desk.specs.inside.Mirrors.{entry_at, entries_from, queue_with, queue_of, are_settled, AreRead, AreNoticesMarked, Sound}
 use Rattle.mate_desk.proofs.Each.{change_from}
 use Rattle.mate_desk.proofs.PhaseChanges.{and_both, both_of}
 
@@ -131,7 +131,3 @@ any_collected task room d (x ∷ es) e = (elim (is_ready x) as (λ b. is_ready x
 
 pub out_collected : (task : Task) (q : QueueValue) → list_any (is_out_with task) q.pending ≡ true → list_any (is_out_with task) (collected q).pending ≡ true
 out_collected task q y = any_collected task q.room q.delivered q.pending y
-
--- a queue with nothing ready
-pub none_collected : (q : QueueValue) → ready_first q.pending ≡ None → collected q ≡ q
-none_collected q e = rw e refl

@@ -8,7 +8,7 @@ use Rattle.mate_search.specs.Jobs.{is_same_problem}
 use Rattle.chess_notation.specs.Records.{problem_of}
 use Rattle.mate_desk.specs.History.{without}
 use Rattle.mate_desk.specs.Calls.{has_out}
-use Rattle.mate_desk.specs.Mirrors.{AreApart, AreOut}
+use Rattle.mate_desk.specs.inside.Mirrors.{AreApart, AreOut}
 
 pub any_get : (t : ℕ) (jobs : List Task) (i : ℕ) (job : Task) → slice_get jobs i ≡ Some job → t ≡ job.ticket → list_any (λ v. v == t) (map (λ j. j.ticket) jobs) ≡ true
 any_get t [] i job e q = cc

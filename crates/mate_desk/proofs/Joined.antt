@@ -4,7 +4,7 @@ use Rattle.std.specs.List.{list_any}
 use Rattle.std.proofs.lemmas.Bool.Decides.{nat_tests}
 use Rattle.std.proofs.lemmas.List.Folds.{list_any-append}
 use Rattle.mate_desk.specs.Content.{EntryValue, QueueValue, waits, lower, lowest}
-use Rattle.mate_desk.specs.Keeping.{is_lower}
+use Rattle.mate_desk.specs.inside.Keeping.{is_lower}
 use Rattle.mate_desk.proofs.Tests.{or_fails}
 use Rattle.mate_desk.proofs.Changes.{got_one}
 

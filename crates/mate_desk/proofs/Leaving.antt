@@ -8,7 +8,7 @@ use Rattle.mate_desk.specs.Content.{Content, Phase, Waiting, Out, Finished, is_w
 use Rattle.mate_desk.specs.Calls.{into_phase, in_queue, everywhere, has_out, after_close}
 use Rattle.mate_desk.specs.History.{History, accepted, delivered, phase, withdrawn, hand, count_accepted, without}
 use Rattle.mate_desk.specs.Replies.{take_reply, finish_reply, back_reply, IsReplyTo, AreReplies}
-use Rattle.mate_desk.specs.Mirrors.{queue_with, queue_of, AreApart, MirrorsBy, Makes}
+use Rattle.mate_desk.specs.inside.Mirrors.{queue_with, queue_of, AreApart, MirrorsBy, Makes}
 use Rattle.mate_desk.specs.declared.events.Step.{Step}
 use Rattle.mate_desk.specs.declared.events.Reply.{Reply}
 use Rattle.mate_desk.specs.declared.events.Step.TheVariants as step

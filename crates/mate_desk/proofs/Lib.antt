@@ -5,6 +5,7 @@ pub mod Changes
 pub mod Waiting
 pub mod Seeking
 pub mod Counting
+pub mod OwnJobs
 pub mod Kept
 pub mod Joined
 pub mod Distinct

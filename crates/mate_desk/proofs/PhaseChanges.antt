@@ -9,7 +9,7 @@ use Rattle.mate_search.specs.Jobs.{Task}
 use Rattle.mate_desk.specs.Content.{Content, EntryValue, QueueValue, Phase, Waiting, Out, Finished, is_waiting, is_out, is_finished, is_out_with, has_ticket, has_task}
 use Rattle.mate_desk.specs.Calls.{into_phase, in_queue, everywhere, has_out}
 use Rattle.mate_desk.specs.History.{Claim, Parcel}
-use Rattle.mate_desk.specs.Mirrors.{entry_at, entries_from, queue_with, are_settled, Sound}
+use Rattle.mate_desk.specs.inside.Mirrors.{entry_at, entries_from, queue_with, are_settled, Sound}
 
 -- the phases, but for one ticket
 abbrev pub but : (ℕ → Phase) → ℕ → Phase → ℕ → Phase

@@ -13,7 +13,7 @@ use Rattle.mate_desk.specs.declared.events.Reply.TheVariants as reply
 use Rattle.mate_desk.specs.History.{History, Event, past_onto, Claim, Parcel, accepted, delivered, count_accepted, closed, pending, phase, withdrawn, hand, is_ticket, is_notice}
 use Rattle.mate_desk.specs.Replies.{from, drained, AreReplies, IsReplyTo, IsSubmitReply, IsOwed, IsFirstOwed, IsCollectReplyBy, submit_reply, take_reply, finish_reply, back_reply, withdraw_reply}
 use Rattle.mate_desk.specs.Headline.{DeliversInOrder, GivesNoticeOfWithdrawn, DeliversAllOnceDrained, AcceptsNoneAfterClose}
-use Rattle.mate_desk.specs.Mirrors.{MirrorsBy, AreNoticesMarked, AtEachMoment}
+use Rattle.mate_desk.specs.inside.Mirrors.{MirrorsBy, AreNoticesMarked, AtEachMoment}
 use Rattle.mate_desk.proofs.PhaseChanges.{both_of}
 
 pub in_order : (asks : ℕ → RecordValue) (n room default : ℕ) (h : History) (c : Content) (jobs : List Task) → MirrorsBy asks n room default h c jobs → DeliversInOrder default h

@@ -1,12 +1,12 @@
 -- What a change of one queue is to the whole desk.
-use Rattle.std.proofs.Common.{◌≡◌, ◌≢◌, ℕ, ◌+◌, ◌≤◌, ◌==◌, nat_le, List, length, set, get_or, Bool, true, false, ap, refl, sym, ◌∙◌, subst, arith, None, Some, Option, slice_get, count_by, IfNone, IfSome, IfOk, IfErr, Result, Ok, Err}
+use Rattle.std.proofs.Common.{◌≡◌, ◌≢◌, ℕ, zero, suc, [], ◌∷◌, is_some, ◌<◌, ◌+◌, ◌≤◌, ◌==◌, nat_le, List, length, set, get_or, Bool, true, false, ap, refl, sym, ◌∙◌, subst, arith, None, Some, Option, slice_get, count_by, IfNone, IfSome, IfOk, IfErr, Result, Ok, Err}
 use Rattle.std.specs.List.{list_any}
 use Rattle.std.proofs.lemmas.Bool.Decides.{nat_tests}
 use Rattle.mate_search.specs.Jobs.{Task}
 use Rattle.mate_desk.specs.Content.{Content, EntryValue, QueueValue, Phase, Waiting, Out, Finished, is_waiting, is_out, waits, has_ticket, waits_as, is_out_with, entries, lowest}
-use Rattle.mate_desk.specs.Calls.{with_queue, in_queue, everywhere, into_phase, has_out, after_take, after_return, submit_refusal, withdraw_refusal, withdraw_refusal_of, withdrawn_at, after_withdraw}
+use Rattle.mate_desk.specs.Calls.{with_queue, in_queue, everywhere, into_phase, has_out, after_take, after_return, submit_refusal, withdraw_refusal, withdraw_refusal_of, withdrawn_at, after_withdraw, change_at, ready, ready_of, ready_first, collected, collected_by, after_collect}
 use Rattle.mate_desk.specs.Laws.{AreKept}
-use Rattle.mate_desk.specs.Keeping.{IsOutAt, IsOutIn}
+use Rattle.mate_desk.specs.inside.Keeping.{IsOutAt, IsOutIn}
 use Rattle.mate_desk.specs.declared.refusals.WithdrawRefusal.{WithdrawRefusal}
 use Rattle.mate_desk.proofs.Tests.{and_tells}
 use Rattle.mate_desk.proofs.Changes.{got, got_one, got_inside, change_set, set_same, got_set, phase_other, ticket_own, waits_own, out_own, OfTicket}
@@ -160,3 +160,26 @@ pub none_refuses : (next : ℕ) (qs : List QueueValue) (s : ℕ) (q : QueueValue
 none_refuses next qs s q g room few =
     let given : (next == 18446744073709551615) ≡ false = grind (arith, nat_tests, few) in
     rw (g, room, given) refl
+
+-- Where nothing is ready, nothing is collected.
+pub stays_queue : (q : QueueValue) → ready_first q.pending ≡ None → collected q ≡ q
+stays_queue q h = ap (λ o. collected_by o q) h
+
+stays_all : (n : ℕ) (qs : List QueueValue) → ready_of (slice_get qs n) ≡ None → change_at n collected qs ≡ qs
+stays_all zero [] h = refl
+stays_all (suc n) [] h = refl
+stays_all zero (q ∷ qs) h = ap (λ x. x ∷ qs) (stays_queue q h)
+stays_all (suc n) (q ∷ qs) h = ap (λ l. q ∷ l) (stays_all n qs h)
+
+is_none_ready : (o : Option EntryValue) → is_some o ≡ false → o ≡ None
+is_none_ready None h = refl
+is_none_ready (Some e) h = cc
+
+pub none_collected : (c : Content) (n : ℕ) → is_some (ready c n) ≡ false → c ≡ after_collect c n
+none_collected c n h = ap (λ (qs : List QueueValue). record { queues = qs; next = c.next; closed = c.closed }) (sym (stays_all n c.queues (is_none_ready (ready c n) h)))
+
+-- Where something is ready, there is the submitter.
+pub ready_inside : (qs : List QueueValue) (n : ℕ) → is_some (ready_of (slice_get qs n)) ≡ true → n < length qs
+ready_inside [] n h = cc
+ready_inside (q ∷ qs) zero h = omega arith
+ready_inside (q ∷ qs) (suc n) h = omega (arith, ready_inside qs n h)

@@ -13,7 +13,7 @@ use Rattle.mate_desk.specs.declared.refusals.SubmitRefusal.{SubmitRefusal}
 use Rattle.mate_desk.specs.declared.refusals.SubmitRefusal.TheVariants as refused
 use Rattle.mate_desk.specs.History.{History, Claim, Parcel, accepted, delivered, phase, withdrawn, hand, count_accepted, closed, pending}
 use Rattle.mate_desk.specs.Replies.{from, submit_reply, IsSubmitReply, IsReplyTo}
-use Rattle.mate_desk.specs.Mirrors.{entries_from, queue_with, queue_of, Sound, MirrorsBy, Mirrors, Makes}
+use Rattle.mate_desk.specs.inside.Mirrors.{entries_from, queue_with, queue_of, Sound, MirrorsBy, Mirrors, Makes}
 use Rattle.mate_desk.specs.declared.events.Step.{Step}
 use Rattle.mate_desk.specs.declared.events.Reply.{Reply}
 use Rattle.mate_desk.specs.declared.events.Step.TheVariants as step

@@ -8,7 +8,7 @@ use Rattle.mate_desk.specs.Content.{Content, EntryValue, QueueValue, Phase, Wait
 use Rattle.mate_desk.specs.Calls.{has_out}
 use Rattle.mate_desk.specs.History.{History, Claim, accepted, delivered, phase, withdrawn, count_accepted}
 use Rattle.mate_desk.specs.Replies.{from, waiting_among, waiting, least}
-use Rattle.mate_desk.specs.Mirrors.{entry_at, entries_from, queue_of, are_settled, Sound, MirrorsBy}
+use Rattle.mate_desk.specs.inside.Mirrors.{entry_at, entries_from, queue_of, are_settled, Sound, MirrorsBy}
 use Rattle.mate_desk.proofs.PhaseChanges.{both_of, any_out, any_queues}
 use Rattle.mate_desk.proofs.Each.{any_from}
 

@@ -3,14 +3,11 @@ pub mod Refusals
 pub mod Calls
 pub mod Deliveries
 pub mod Laws
-pub mod Places
-pub mod Keeping
 pub mod History
 pub mod Replies
 pub mod Headline
 pub mod RunFaults
-pub mod Mirrors
-pub mod Stepping
 pub mod Holding
 pub mod ReplyTexts
 pub mod HistoryLaws
+pub mod inside

@@ -1,6 +1,6 @@
 //! The desk.
 
-ghost use Rattle.std.specs.Prelude.{ℕ, ◌≡◌, ◌↔◌, ◌⊎◌, ◌<◌, ◌≤◌, ◌^◌, true, false, length, count_by, slice_get, IfOk, IfErr, IfNone, IfSome, Some, None, Ok, Err, is_none};
+ghost use Rattle.std.specs.Prelude.{ℕ, ◌≡◌, ◌↔◌, ◌⊎◌, ◌<◌, ◌≤◌, ◌^◌, true, false, length, count_by, slice_get, IfOk, IfErr, IfNone, IfSome, Some, None, Ok, Err, is_none, is_some};
 ghost use Rattle.mate_desk.specs.Content.{entries, lowest, waits, waits_as, has_ticket, is_out_with, Waiting as waiting_phase, Out as out, Finished as finished};
 ghost use Rattle.mate_desk.specs.Calls.{empty, everywhere, into_phase, submit_refusal, after_submit, after_take, has_out, after_return, ready, after_collect, withdraw_refusal, after_withdraw, after_close, pending_of, is_drained as is_drained_content};
 ghost use Rattle.mate_desk.specs.Deliveries.{delivery};
@@ -170,6 +170,7 @@ impl Desk {
         self.queues[submitter].withdraw(n)
     }
 
+    #[tactic(auto, using(crate::proofs::Steps::none_collected))]
     /// What is owed for the first pending record of a submitter: its answer once it is finished, or its notice where it was
     /// withdrawn and its job is not out. None where there is neither.
     pub fn collect(&mut self, submitter: usize) -> Result<Option<Delivery>, NoSuchSubmitter>
@@ -182,7 +183,27 @@ impl Desk {
         if self.queues.len() <= submitter {
             return Err(NoSuchSubmitter);
         }
-        Ok(self.queues[submitter].collect())
+        if !self.is_ready(submitter) {
+            return Ok(None);
+        }
+        Ok(Some(self.deliver(submitter)))
+    }
+
+    /// Whether something is owed for the first pending record of a submitter, so that `collect` gives it.
+    pub fn is_ready(&self, submitter: usize) -> bool
+        ensures { result ≡ is_some (ready self.now submitter) }
+    {
+        submitter < self.queues.len() && self.queues[submitter].is_ready()
+    }
+
+    /// What is owed for the first pending record of a submitter that is ready: what `collect` gives. An answer is large, and here
+    /// it is moved less often.
+    pub fn deliver(&mut self, submitter: usize) -> Delivery
+        requires { is_some (ready self.old submitter) ≡ true }
+        ensures delivery { Some result ≡ delivery (ready self.old submitter) }
+        ensures collected { self.new ≡ after_collect self.old submitter }
+    {
+        self.queues[submitter].deliver()
     }
 
     /// Closes the desk: nothing is accepted from now on. All else goes on.

@@ -1,26 +1,26 @@
 //! A pending record.
 
 ghost use Rattle.std.specs.Prelude.{◌≡◌, true, false, not, ◌&&◌};
-ghost use Rattle.mate_search.specs.Jobs.{Task};
 ghost use Rattle.chess_notation.specs.Records.{problem_of};
-ghost use Rattle.mate_desk.specs.Content.{waits, is_ready, is_out_with, has_task, Waiting as waiting, Out as out, Finished as finished};
+ghost use Rattle.mate_desk.specs.Content.{waits, is_ready, is_finished, is_out_with, has_task, Waiting as waiting, Out as out, Finished as finished};
 ghost use Rattle.mate_desk.specs.Calls.{withdrawn as withdrawn_entry};
-ghost use Rattle.mate_desk.specs.Deliveries.{delivery_of};
+ghost use Rattle.mate_desk.specs.inside.Keeping.{task_of};
+ghost use Rattle.mate_desk.specs.declared.deliveries.Delivery.TheVariants.{Answer, Notice};
 
 use crate::deliveries::Delivery;
 use chess_notation::{Problem, Record};
-use mate_search::{Done, Job, Ticket, is_same_problem, same_problem_reads};
+use mate_search::{Done, Job, Ticket, asks, same_problem_reads};
 use std::marker::Model;
 
 /// How far a record came.
-#[derive(Drop)]
+#[derive(Clone, Copy, Drop)]
 enum Standing {
     Waiting,
     Out,
-    Finished(Done),
+    Finished,
 }
 
-/// A pending record under its ticket. Where it is finished, what was solved is its problem.
+/// A pending record under its ticket. What was solved of it lies apart, since that is large.
 #[derive(Drop)]
 pub(crate) struct Entry {
     ticket: Ticket,
@@ -30,15 +30,12 @@ pub(crate) struct Entry {
 }
 
 impl Model for Entry {
-    ghost use Rattle.chess_notation.specs.Records.{problem_of};
     ghost use Rattle.mate_desk.specs.Content.{EntryValue};
-    ghost use Rattle.mate_desk.specs.Keeping.{phase_of, IsOf};
+    ghost use Rattle.mate_desk.specs.inside.Keeping.{phase_of};
 
     ghost Value = { EntryValue };
 
     ghost view = { λ e. record { ticket = e.ticket; asked = e.asked; phase = phase_of e.standing; withdrawn = e.withdrawn } };
-
-    ghost invariant = { λ e. IsOf (problem_of e.asked) e.standing };
 }
 
 impl Entry {
@@ -75,8 +72,35 @@ impl Entry {
         match self.standing {
             Standing::Waiting => self.withdrawn,
             Standing::Out => false,
-            Standing::Finished(_) => true,
+            Standing::Finished => true,
         }
+    }
+
+    /// Whether it was solved.
+    pub(crate) fn is_finished(&self) -> bool
+        ensures { result ≡ is_finished self.now.phase }
+    {
+        match self.standing {
+            Standing::Waiting => false,
+            Standing::Out => false,
+            Standing::Finished => true,
+        }
+    }
+
+    /// Whether it has that ticket and asks that problem.
+    fn is_of(&self, ticket: Ticket, problem: &Problem) -> bool
+        ensures exact { result ≡ has_task (record { ticket = ticket; problem = problem.now }) self.now }
+        ensures same { result ≡ true → problem_of self.now.asked ≡ problem.now }
+    {
+        self.ticket == ticket && asks(&self.asked, problem)
+    }
+
+    /// The job that it is given out as is its own. It does nothing: its contract is the law, which is one of sound positions.
+    pub(crate) fn has_own_task(&self)
+        ensures { has_task (task_of self.now) self.now ≡ true }
+    {
+        same_problem_reads();
+        self.asked.position.side();
     }
 
     /// Whether it is out with a job of that ticket and problem.
@@ -85,9 +109,7 @@ impl Entry {
         ensures same { result ≡ true → problem_of self.now.asked ≡ problem.now }
     {
         match self.standing {
-            Standing::Out => {
-                self.ticket == ticket && is_same_problem(&self.asked.problem(), problem)
-            }
+            Standing::Out => self.is_of(ticket, problem),
             _ => false,
         }
     }
@@ -106,12 +128,11 @@ impl Entry {
         Job::new(self.ticket, problem)
     }
 
-    /// Takes in what was solved of it.
-    pub(crate) fn finish(&mut self, done: Done)
-        requires { problem_of self.old.asked ≡ done.problem }
+    /// It was solved.
+    pub(crate) fn finish(&mut self)
         ensures { self.new ≡ record { ticket = self.old.ticket; asked = self.old.asked; phase = finished; withdrawn = self.old.withdrawn } }
     {
-        self.standing = Standing::Finished(done);
+        self.standing = Standing::Finished;
     }
 
     /// It is out no more, and nothing was solved.
@@ -128,23 +149,27 @@ impl Entry {
         self.withdrawn = true;
     }
 
-    /// What is collected for it.
-    pub(crate) fn into_delivery(self) -> Delivery
-        requires { is_ready self ≡ true }
-        ensures { result ≡ delivery_of self }
+    #[tactic(auto, using(crate::proofs::OwnJobs::own_job))]
+    /// Whether what was solved is of it.
+    pub(crate) fn is_solved_by(&self, done: &Done) -> bool
+        ensures exact { result ≡ has_task done.now self.now }
+        ensures same { result ≡ true → done.now ≡ task_of self.now }
     {
-        let Entry {
-            ticket,
-            asked,
-            standing,
-            withdrawn,
-        } = self;
-        if withdrawn {
-            return Delivery::Notice(ticket, asked);
-        }
-        match standing {
-            Standing::Finished(done) => Delivery::Answer(done.into_answer(asked)),
-            _ => unreachable!(),
-        }
+        self.is_of(done.ticket(), done.problem())
+    }
+
+    /// The notice that it was withdrawn.
+    pub(crate) fn into_notice(self) -> Delivery
+        ensures { result ≡ Notice self.ticket self.asked }
+    {
+        Delivery::Notice(self.ticket, self.asked)
+    }
+
+    /// The answer to it, of what was solved.
+    pub(crate) fn into_answer(self, done: Done) -> Delivery
+        requires { problem_of self.asked ≡ done.problem }
+        ensures { result ≡ Answer self.asked }
+    {
+        Delivery::Answer(done.into_answer(self.asked))
     }
 }

@@ -4,8 +4,8 @@
 //! `specs/Content.antt`, and what its calls answer and leave behind in `specs/Calls.antt`. Of a run, `specs/History.antt` says how
 //! its steps and replies are read, `specs/Replies.antt` what each reply is, and `specs/Headline.antt` what follows.
 //!
-//! To read: `refusals` and `deliveries`; then `desks`, over `lookups`, `queues` (what one submitter has pending), `entries` and
-//! `places`. `Desk::new` takes all memory that a desk ever needs. Then `events` and `held_answers`, the steps and the replies;
+//! To read: `refusals` and `deliveries`; then `desks`, over `lookups`, `queues` (what one submitter has pending), `entries`, `solved`
+//! and `places`. `Desk::new` takes all memory that a desk ever needs. Then `events` and `held_answers`, the steps and the replies;
 //! `runs`, over `stepping`; `reply_texts`; and `history_laws`, which tells the history in plain words (`specs/HistoryLaws.antt`).
 #![tactic(auto)]
 
@@ -21,6 +21,7 @@ mod queues;
 mod refusals;
 mod reply_texts;
 mod runs;
+mod solved;
 mod stepping;
 
 pub use deliveries::Delivery;
@@ -36,8 +37,16 @@ pub use reply_texts::reply_text;
 pub use runs::{RunFault, run};
 
 #[cfg(test)]
+mod limit_tests;
+#[cfg(test)]
+mod plain_desk;
+#[cfg(test)]
 mod row_tests;
 #[cfg(test)]
 mod run_tests;
+#[cfg(test)]
+mod run_withdrawal_tests;
+#[cfg(test)]
+mod stranger_tests;
 #[cfg(test)]
 mod walk_tests;

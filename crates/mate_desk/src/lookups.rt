@@ -3,7 +3,7 @@
 ghost use Rattle.std.specs.Prelude.{◌≡◌, ◌<◌, false, flat_map, length, slice_get, Some, None, IfNone, IfSome};
 ghost use Rattle.std.specs.List.{list_any};
 ghost use Rattle.mate_desk.specs.Content.{QueueValue, lowest, is_out_with};
-ghost use Rattle.mate_desk.specs.Keeping.{is_lower as is_lower_ticket, IsOutIn};
+ghost use Rattle.mate_desk.specs.inside.Keeping.{is_lower as is_lower_ticket, IsOutIn};
 
 use crate::queues::Queue;
 use chess_notation::Problem;

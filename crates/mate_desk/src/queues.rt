@@ -6,41 +6,45 @@ ghost use Rattle.mate_desk.specs.Content.{EntryValue, lowest, waits, waits_as, h
 ghost use Rattle.mate_desk.specs.Calls.{in_queue, into_phase, with_entry, ready_first, collected, withdraw_refusal_of, withdrawn_at};
 ghost use Rattle.mate_desk.specs.Deliveries.{delivery};
 ghost use Rattle.mate_desk.specs.Laws.{AreBelow};
-ghost use Rattle.mate_desk.specs.Keeping.{IsOutAt};
+ghost use Rattle.mate_desk.specs.inside.Keeping.{IsOutAt};
 
 use crate::deliveries::Delivery;
 use crate::entries::Entry;
 use crate::places::{first_place, lower_places, with_place, without_place};
 use crate::refusals::WithdrawRefusal;
+use crate::solved::deliver;
 use chess_notation::{Problem, Record};
 use mate_search::{Done, Job, Ticket};
 use std::alloc::{AllocError, Global};
 use std::collections::VecDeque;
 use std::marker::Model;
 
-/// The pending records of one submitter, in order of acceptance and so by rising tickets. Its places are reserved. A word has
-/// the places of the records that wait, so that the first of them is found at once.
+/// The pending records of one submitter, in order of acceptance and so by rising tickets, and apart from them what was solved, in
+/// any order. Places for both are reserved. A word has the places of the records that wait, so that the first of them is found at
+/// once.
 #[derive(Drop)]
 pub(crate) struct Queue {
     entries: VecDeque<Entry>,
+    solved: Vec<Done>,
     room: usize,
     delivered: u64,
     waiting: u64,
 }
 
 impl Model for Queue {
-    ghost use Rattle.std.specs.Prelude.{◌≤◌, ◌<◌, ◌+◌, ◌^◌, length};
+    ghost use Rattle.std.specs.Prelude.{◌≤◌, ◌<◌, ◌+◌, ◌^◌, length, vec_capacity};
     ghost use Rattle.std.specs.VecDeque.{deque_capacity};
     ghost use Rattle.mate_desk.specs.Content.{QueueValue};
     ghost use Rattle.mate_desk.specs.Laws.{Rises};
-    ghost use Rattle.mate_desk.specs.Keeping.{Marks};
+    ghost use Rattle.mate_desk.specs.inside.Keeping.{Marks, AreSolved};
 
     ghost Value = { QueueValue };
 
     ghost view = { λ q. record { room = q.room; delivered = q.delivered; pending = q.entries.items } };
 
     ghost invariant = { λ q. (q.room ≤ deque_capacity q.entries) × (q.room ≤ 64) × (length q.entries.items ≤ q.room)
-        × (q.delivered + length q.entries.items < 2 ^ 64) × Rises 0 q.entries.items × Marks q.waiting q.entries.items };
+        × (q.delivered + length q.entries.items < 2 ^ 64) × Rises 0 q.entries.items × Marks q.waiting q.entries.items
+        × (q.room ≤ vec_capacity q.solved) × AreSolved q.solved.items q.entries.items };
 }
 
 impl Queue {
@@ -50,8 +54,10 @@ impl Queue {
         ensures { IfOk result (λ q. q ≡ record { room = room; delivered = 0; pending = [] }) }
     {
         let entries = VecDeque::with_capacity(alloc, room)?;
+        let solved = Vec::with_capacity(alloc, room)?;
         Ok(Queue {
             entries,
+            solved,
             room,
             delivered: 0,
             waiting: 0,
@@ -133,7 +139,8 @@ impl Queue {
         ensures finished { self.new ≡ in_queue (into_phase (is_out_with done) finished) self.old }
         ensures by_ticket { self.new ≡ in_queue (into_phase (has_ticket done.ticket) finished) self.old }
     {
-        self.entries[place].finish(done);
+        self.entries[place].finish();
+        self.solved.push_reserved(done);
     }
 
     /// Takes the job back with which the record at a place is out. It waits again, unless it was withdrawn.
@@ -172,7 +179,7 @@ impl Queue {
     }
 
     /// Whether the first record may be collected.
-    fn is_ready(&self) -> bool
+    pub(crate) fn is_ready(&self) -> bool
         ensures { result ≡ is_some (ready_first self.now.pending) }
     {
         match self.entries.front() {
@@ -181,17 +188,17 @@ impl Queue {
         }
     }
 
-    /// The answer or notice of the first record, where it may be collected.
-    pub(crate) fn collect(&mut self) -> Option<Delivery>
-        ensures delivery { result ≡ delivery (ready_first self.old.pending) }
+    /// The answer or notice of the first record, which may be collected.
+    pub(crate) fn deliver(&mut self) -> Delivery
+        requires { is_some (ready_first self.old.pending) ≡ true }
+        ensures delivery { Some result ≡ delivery (ready_first self.old.pending) }
         ensures content { self.new ≡ collected self.old }
     {
-        if !self.is_ready() {
-            return None;
-        }
-        let entry = self.entries.pop_front()?;
+        let Some(entry) = self.entries.pop_front() else {
+            unreachable!()
+        };
         self.delivered += 1;
         self.waiting = lower_places(self.waiting);
-        Some(entry.into_delivery())
+        deliver(entry, &mut self.solved)
     }
 }

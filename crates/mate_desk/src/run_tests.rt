@@ -1,6 +1,6 @@
 //! Runs, told with their replies as texts.
 
-use crate::Step::{Close, Collect, Drained, Finish, HandBack, Take, Withdraw};
+use crate::Step::{Close, Collect, Drained, Finish, HandBack, Take};
 use crate::{Reply, RunFault, Step, reply_text, run};
 use chess_moves::Rays;
 use chess_notation::Bound;
@@ -10,22 +10,22 @@ use std::process::Abort;
 use std::test::Fail;
 
 /// Two records, and their answers.
-const A: &str = "6k1/5ppp/8/8/8/8/8/R3K3 w Q - dm 1;";
+pub(crate) const A: &str = "6k1/5ppp/8/8/8/8/8/R3K3 w Q - dm 1;";
 
 const ANSWER_A: &str = "6k1/5ppp/8/8/8/8/8/R3K3 w Q - bm Ra8#; dm 1; pv Ra8#;";
 
-const B: &str = "7k/8/5K2/8/8/8/8/R7 w - - dm 2;";
+pub(crate) const B: &str = "7k/8/5K2/8/8/8/8/R7 w - - dm 2;";
 
 const ANSWER_B: &str = "7k/8/5K2/8/8/8/8/R7 w - - bm Kf7 Kg6; dm 2; pv Kg6 Kg8 Ra8#;";
 
-fn submit(alloc: Global, submitter: usize, line: &str) -> Result<Step, Fail> {
+pub(crate) fn submit(alloc: Global, submitter: usize, line: &str) -> Result<Step, Fail> {
     let mut bytes = Vec::new(alloc);
     bytes.extend_from_slice(line.as_bytes())?;
     Ok(Step::Submit(submitter, bytes))
 }
 
 /// Whether the steps, at a desk of so many submitters with this room each, are answered by these texts.
-fn answers<R: Abort>(
+pub(crate) fn answers<R: Abort>(
     rt: &R,
     alloc: Global,
     (submitters, room): (usize, usize),
@@ -169,100 +169,6 @@ fn full_unknown_and_nothing_to_take(rt: HostRuntime) -> Result<(), Fail> {
         "nothing",
     ];
     answers(&rt, alloc, (2, 1), &steps, &texts)
-}
-
-#[test]
-fn withdrawn_records_give_notices_in_their_places(rt: HostRuntime) -> Result<(), Fail> {
-    let alloc = rt.alloc();
-    let steps = [
-        submit(alloc, 0, A)?,
-        submit(alloc, 0, B)?,
-        Take,
-        Withdraw(0, 0),
-        Withdraw(0, 1),
-        Take,
-        Collect(0),
-        Drained,
-        Finish(0),
-        Collect(0),
-        Collect(0),
-        Collect(0),
-        Withdraw(0, 0),
-        Withdraw(0, 2),
-        Withdraw(1, 0),
-        Drained,
-    ];
-    let texts = [
-        "ticket 0",
-        "ticket 1",
-        "job 0",
-        "withdrawn",
-        "withdrawn",
-        "nothing",
-        "none",
-        "drained no",
-        "done 0",
-        "notice 0",
-        "notice 1",
-        "none",
-        "refused Delivered",
-        "refused NotAccepted",
-        "refused NoSuchSubmitter",
-        "drained yes",
-    ];
-    answers(&rt, alloc, (1, 2), &steps, &texts)
-}
-
-#[test]
-fn a_finished_record_is_withdrawn(rt: HostRuntime) -> Result<(), Fail> {
-    let alloc = rt.alloc();
-    let steps = [
-        submit(alloc, 0, A)?,
-        Take,
-        Finish(0),
-        Withdraw(0, 0),
-        Withdraw(0, 0),
-        submit(alloc, 0, B)?,
-        Close,
-        Collect(0),
-        Drained,
-    ];
-    let texts = [
-        "ticket 0",
-        "job 0",
-        "done 0",
-        "withdrawn",
-        "refused Withdrawn",
-        "refused Full",
-        "closed",
-        "notice 0",
-        "drained yes",
-    ];
-    answers(&rt, alloc, (1, 1), &steps, &texts)
-}
-
-#[test]
-fn a_withdrawn_job_handed_back_waits_no_more(rt: HostRuntime) -> Result<(), Fail> {
-    let alloc = rt.alloc();
-    let steps = [
-        submit(alloc, 0, A)?,
-        Take,
-        Withdraw(0, 0),
-        HandBack(0),
-        Take,
-        Collect(0),
-        Drained,
-    ];
-    let texts = [
-        "ticket 0",
-        "job 0",
-        "withdrawn",
-        "back 0",
-        "nothing",
-        "notice 0",
-        "drained yes",
-    ];
-    answers(&rt, alloc, (1, 1), &steps, &texts)
 }
 
 #[test]

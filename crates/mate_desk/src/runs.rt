@@ -6,7 +6,7 @@ ghost use Rattle.mate_desk.specs.History.{past};
 ghost use Rattle.mate_desk.specs.Replies.{AreReplies};
 ghost use Rattle.mate_desk.specs.Headline.{AfterEachPrefix, DeliversInOrder, GivesNoticeOfWithdrawn, DeliversAllOnceDrained, AcceptsNoneAfterClose};
 ghost use Rattle.mate_desk.specs.RunFaults.{run_fault_name};
-ghost use Rattle.mate_desk.specs.Stepping.{collects, finishes};
+ghost use Rattle.mate_desk.specs.inside.Stepping.{collects, finishes};
 ghost use Rattle.mate_desk.specs.declared.runs.RunFault.TheVariants as fault;
 
 use crate::desks::Desk;

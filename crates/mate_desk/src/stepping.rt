@@ -3,8 +3,8 @@
 ghost use Rattle.std.specs.Prelude.{ℕ, List, ◌≡◌, ◌<◌, ◌≤◌, ◌+◌, ◌-◌, ◌^◌, Some, true, cond, vec_len, vec_capacity};
 ghost use Rattle.mate_search.specs.Jobs.{Task};
 ghost use Rattle.mate_desk.specs.Content.{entries, lowest};
-ghost use Rattle.mate_desk.specs.Mirrors.{Makes};
-ghost use Rattle.mate_desk.specs.Stepping.{delivery_reply, found_reply, answers, collects, finishes, count_done};
+ghost use Rattle.mate_desk.specs.inside.Mirrors.{Makes};
+ghost use Rattle.mate_desk.specs.inside.Stepping.{delivery_reply, found_reply, answers, collects, finishes, count_done};
 ghost use Rattle.mate_desk.specs.declared.events.Step.TheVariants as step;
 
 use crate::deliveries::Delivery;

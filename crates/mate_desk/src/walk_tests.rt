@@ -1,7 +1,7 @@
-//! Desks of a hundred sizes beside a plain desk, a thousand calls each. The plain desk is a list of all that was accepted,
-//! never shortened, and answers by filters over it.
+//! Desks of a hundred sizes beside a plain desk, a thousand calls each.
 
-use crate::{Delivery, Desk, NoSuchSubmitter, Stranger, SubmitRefusal, WithdrawRefusal};
+use crate::plain_desk::{Phase, PlainDesk, Told};
+use crate::{Delivery, Desk, NoSuchSubmitter, Stranger};
 use chess_moves::Rays;
 use chess_notation::{Bound, Outcome, Record, read_record};
 use mate_search::{Job, Memo, Ticket};
@@ -15,172 +15,6 @@ const LINES: [(&str, u8); 3] = [
     ("6k1/5ppp/8/8/8/8/8/R3K3 w Q - dm 2;", 1),
     ("7k/8/5K2/8/8/8/8/R7 w - - dm 1;", 0),
 ];
-
-#[derive(Clone, Copy, PartialEq, Eq)]
-enum Phase {
-    Waiting,
-    Out,
-    Finished,
-}
-
-/// A record that was accepted.
-#[derive(Clone, Copy)]
-struct Asked {
-    submitter: usize,
-    ticket: u64,
-    line: usize,
-    phase: Phase,
-    withdrawn: bool,
-    delivered: bool,
-}
-
-/// What is delivered for a record: its notice, or its answer.
-#[derive(Clone, Copy, PartialEq, Eq, Debug)]
-enum Told {
-    Answer(u64),
-    Notice(u64),
-}
-
-/// A desk that remembers all it accepted.
-#[derive(Drop)]
-struct PlainDesk {
-    submitters: usize,
-    room: usize,
-    next: u64,
-    closed: bool,
-    all: Vec<Asked>,
-}
-
-impl PlainDesk {
-    fn accepted(&self, s: usize) -> usize {
-        self.all.iter().filter(|asked| asked.submitter == s).count()
-    }
-
-    fn pending(&self, s: usize) -> usize {
-        self.all
-            .iter()
-            .filter(|asked| asked.submitter == s && !asked.delivered)
-            .count()
-    }
-
-    fn waiting(&self) -> usize {
-        self.all
-            .iter()
-            .filter(|asked| asked.phase == Phase::Waiting && !asked.withdrawn)
-            .count()
-    }
-
-    fn refusal(&self, s: usize) -> Option<SubmitRefusal> {
-        if self.submitters <= s {
-            Some(SubmitRefusal::NoSuchSubmitter)
-        } else if self.closed {
-            Some(SubmitRefusal::Closed)
-        } else if self.pending(s) == self.room {
-            Some(SubmitRefusal::Full)
-        } else if self.next == u64::MAX {
-            Some(SubmitRefusal::Exhausted)
-        } else {
-            None
-        }
-    }
-
-    fn submit(&mut self, s: usize, line: usize) -> Result<u64, Fail> {
-        let ticket = self.next;
-        self.all.push(Asked {
-            submitter: s,
-            ticket,
-            line,
-            phase: Phase::Waiting,
-            withdrawn: false,
-            delivered: false,
-        })?;
-        self.next = ticket.wrapping_add(1);
-        Ok(ticket)
-    }
-
-    /// The lowest ticket that waits, which is out then.
-    fn take(&mut self) -> Option<u64> {
-        let mut lowest = None;
-        for asked in &self.all {
-            if asked.phase == Phase::Waiting
-                && !asked.withdrawn
-                && lowest.is_none_or(|ticket| asked.ticket < ticket)
-            {
-                lowest = Some(asked.ticket);
-            }
-        }
-        for asked in self.all.iter_mut() {
-            if Some(asked.ticket) == lowest {
-                asked.phase = Phase::Out;
-            }
-        }
-        lowest
-    }
-
-    /// Whether a record is out under a ticket with the problem of a line; it comes into another phase then.
-    fn bring_back(&mut self, ticket: u64, line: usize, phase: Phase) -> bool {
-        let mut known = false;
-        for asked in self.all.iter_mut() {
-            if asked.ticket == ticket && asked.line == line && asked.phase == Phase::Out {
-                asked.phase = phase;
-                known = true;
-            }
-        }
-        known
-    }
-
-    fn collect(&mut self, s: usize) -> Option<Told> {
-        for asked in self.all.iter_mut() {
-            if asked.submitter == s && !asked.delivered {
-                if asked.phase == Phase::Out {
-                    return None;
-                }
-                if asked.withdrawn {
-                    asked.delivered = true;
-                    return Some(Told::Notice(asked.ticket));
-                }
-                if asked.phase == Phase::Waiting {
-                    return None;
-                }
-                asked.delivered = true;
-                return Some(Told::Answer(asked.ticket));
-            }
-        }
-        None
-    }
-
-    fn withdraw(&mut self, s: usize, n: usize) -> Option<WithdrawRefusal> {
-        if self.submitters <= s {
-            return Some(WithdrawRefusal::NoSuchSubmitter);
-        }
-        let mut place = 0usize;
-        for asked in self.all.iter_mut() {
-            if asked.submitter == s {
-                if place == n {
-                    if asked.delivered {
-                        return Some(WithdrawRefusal::Delivered);
-                    }
-                    if asked.withdrawn {
-                        return Some(WithdrawRefusal::Withdrawn);
-                    }
-                    asked.withdrawn = true;
-                    return None;
-                }
-                place = place.saturating_add(1);
-            }
-        }
-        Some(WithdrawRefusal::NotAccepted)
-    }
-
-    fn line_under(&self, ticket: u64) -> Option<usize> {
-        let asked = self.all.iter().find(|asked| asked.ticket == ticket)?;
-        Some(asked.line)
-    }
-
-    fn is_drained(&self) -> bool {
-        self.all.iter().all(|asked| asked.delivered)
-    }
-}
 
 /// Numbers that look random (xorshift of 64 bits).
 #[derive(Drop)]
@@ -357,6 +191,7 @@ impl Pair {
     fn collect(&mut self, rt: &impl Abort, numbers: &mut Numbers) -> Result<(), Fail> {
         let s = numbers.below(self.plain.submitters.saturating_add(1));
         let told = self.plain.collect(s);
+        assert_eq!(rt; self.desk.is_ready(s), told.is_some(), "{s}");
         match self.desk.collect(s) {
             Ok(Some(delivery)) => assert_eq!(rt; told, Some(self.told_by(rt, &delivery)?)),
             Ok(None) => assert_eq!(rt; told, None),

@@ -8,7 +8,7 @@ use Rattle.chess_board.specs.declared.men.Kind.{Kind}
 use Rattle.chess_board.specs.declared.men.Kind.TheVariants.{Pawn, Knight, Bishop, Rook, Queen, King}
 use Rattle.chess_board.specs.Moves.{Move, promotion_place}
 use Rattle.chess_board.specs.Legality.{is_legal}
-use Rattle.chess_moves.specs.Listing.{legal_moves}
+use Rattle.chess_moves.specs.inside.Listing.{legal_moves}
 use Rattle.chess_moves.specs.Laws.{LegalRise}
 use Rattle.chess_notation.specs.Problems.{ProblemValue}
 use Rattle.mate_search.specs.inside.Truth.{is_same_move, first_moves, truth_among, truth}

@@ -10,7 +10,7 @@ use Rattle.mate_search.specs.declared.memo_entries.Entry.{Entry}
 use Rattle.mate_search.specs.Wins.{win}
 use Rattle.mate_search.specs.inside.MemoEntries.{IsTrueOf, AreTrue, IsTrueMemo}
 use Rattle.mate_search.proofs.Room.{put_within, length-promoted}
-use Rattle.chess_moves.specs.Listing.{legal_moves}
+use Rattle.chess_moves.specs.inside.Listing.{legal_moves}
 use Rattle.mate_search.specs.inside.Truth.{dist}
 use Rattle.mate_search.proofs.Wins.{win_more}
 use Rattle.mate_search.proofs.Least.{none_dist}

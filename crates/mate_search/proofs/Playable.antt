@@ -5,7 +5,7 @@ use Rattle.std.proofs.lemmas.List.Elements.{All-filter, All-contains_itself}
 use Rattle.chess_board.specs.Positions.{Setup}
 use Rattle.chess_board.specs.Moves.{Move}
 use Rattle.chess_board.specs.MakeMove.{after_setup}
-use Rattle.chess_moves.specs.Listing.{legal_moves}
+use Rattle.chess_moves.specs.inside.Listing.{legal_moves}
 use Rattle.chess_moves.specs.Laws.{IsLine, LegalListed}
 use Rattle.mate_search.specs.Wins.{leaves_lost}
 use Rattle.mate_search.specs.inside.Variation.{variation, least_key, longest_defence, defence}

@@ -4,7 +4,7 @@ use Rattle.std.specs.List.{list_all}
 use Rattle.chess_board.specs.Positions.{Setup}
 use Rattle.chess_board.specs.Moves.{Move}
 use Rattle.chess_board.specs.MakeMove.{after_setup}
-use Rattle.chess_moves.specs.Listing.{legal_moves}
+use Rattle.chess_moves.specs.inside.Listing.{legal_moves}
 use Rattle.chess_moves.specs.Verdicts.{has_legal_move, is_mate}
 use Rattle.mate_search.specs.Wins.{win, lost, loses_by, leaves_lost, win_among}
 use Rattle.mate_search.specs.inside.Variation.{variation, least_key, longest_defence}

@@ -3,7 +3,7 @@ use Rattle.std.proofs.Common.{◌≡◌, ℕ, zero, suc, ◌-◌, ◌≤◌, tru
 use Rattle.chess_board.specs.Positions.{Setup}
 use Rattle.chess_board.specs.Moves.{Move}
 use Rattle.chess_board.specs.MakeMove.{after_setup}
-use Rattle.chess_moves.specs.Listing.{legal_moves}
+use Rattle.chess_moves.specs.inside.Listing.{legal_moves}
 use Rattle.chess_moves.specs.Laws.{IsRising, LegalRise}
 use Rattle.mate_search.specs.Wins.{win, lost, leaves_lost, win_among}
 use Rattle.mate_search.specs.inside.Variation.{variation, least_key}

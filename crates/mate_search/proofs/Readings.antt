@@ -7,7 +7,7 @@ use Rattle.std.proofs.lemmas.List.Elements.{filter_passes, All-filter, All-conta
 use Rattle.chess_board.specs.Positions.{Setup}
 use Rattle.chess_board.specs.Moves.{Move}
 use Rattle.chess_board.specs.MakeMove.{after_setup}
-use Rattle.chess_moves.specs.Listing.{legal_moves}
+use Rattle.chess_moves.specs.inside.Listing.{legal_moves}
 use Rattle.chess_moves.specs.Verdicts.{has_legal_move, is_mate}
 use Rattle.mate_search.specs.Wins.{win, leaves_lost}
 use Rattle.chess_notation.specs.declared.problems.Outcome.{Outcome}

@@ -10,7 +10,7 @@ use Rattle.chess_board.specs.MakeMove.{after_setup}
 use Rattle.chess_board.specs.Legality.{is_legal}
 use Rattle.chess_board.specs.Attacks.{is_in_check}
 use Rattle.chess_moves.specs.Laws.{LegalListed}
-use Rattle.chess_moves.specs.Listing.{legal_moves, moves_below}
+use Rattle.chess_moves.specs.inside.Listing.{legal_moves, moves_below}
 use Rattle.chess_moves.specs.Verdicts.{has_legal_move, is_mate, has_mating_move}
 use Rattle.mate_search.specs.Wins.{win, lost, loses_by, leaves_lost, win_among}
 use Rattle.mate_search.proofs.Searches.{any_weaker, all_weaker, all_contains}

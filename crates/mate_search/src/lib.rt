@@ -7,7 +7,7 @@
 //!
 //! To read: `memo_entries`, `killers`, `memo`, `searching`, `principal_variation`, `solving`; `laws` says of the definitions what they
 //! are meant to say; then `specs/InputReplies.antt` and `input_replies`, over `inputs` (bytes as they come), `input_lines`, `writing`
-//! and `stops`; at last `specs/Jobs.antt`, `tickets` and `jobs`, what a desk hands out and takes back, and `problems`. `solve` takes
+//! and `stops`; at last `specs/Jobs.antt`, `tickets` and `jobs`, what a desk hands out and takes back, and `same_problems`. `solve` takes
 //! memory for its memo alone, and never fails for want of it.
 #![tactic(auto)]
 
@@ -20,7 +20,7 @@ mod laws;
 mod memo;
 mod memo_entries;
 mod principal_variation;
-mod problems;
+mod same_problems;
 mod searching;
 mod solving;
 mod stops;
@@ -36,7 +36,7 @@ pub use laws::{
     truth_reads, win_grows, win_reads,
 };
 pub use memo::{Memo, MemoFault};
-pub use problems::{is_same_problem, same_problem_reads};
+pub use same_problems::{asks, same_problem_reads};
 pub use solving::solve;
 pub use stops::Stop;
 pub use tickets::Ticket;
@@ -45,4 +45,8 @@ pub use writing::{put, stop_of_output};
 #[cfg(test)]
 mod avoid_tests;
 #[cfg(test)]
-mod tests;
+mod input_tests;
+#[cfg(test)]
+mod memo_tests;
+#[cfg(test)]
+mod solve_tests;

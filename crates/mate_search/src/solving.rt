@@ -5,7 +5,7 @@ ghost use Rattle.chess_board.specs.Legality.{is_legal};
 ghost use Rattle.mate_search.specs.inside.Variation.{keys, variation};
 ghost use Rattle.chess_board.specs.Positions.{Setup};
 ghost use Rattle.mate_search.specs.inside.Truth.{dist, is_same_move as are_same_move, first_moves as moves_to_begin, truth, truth_among};
-ghost use Rattle.chess_moves.specs.Listing.{legal_moves};
+ghost use Rattle.chess_moves.specs.inside.Listing.{legal_moves};
 ghost use Rattle.std.specs.List.{list_any};
 ghost use Rattle.mate_search.specs.inside.MemoEntries.{IsTrueOf};
 ghost use Rattle.chess_notation.specs.Answers.{IsPlayable};

@@ -5,7 +5,7 @@ use Rattle.chess_board.specs.Fens.{FenValue, IsFault, Spells, fen_text}
 use Rattle.chess_board.specs.Positions.{Setup}
 use Rattle.chess_board.specs.Soundness.{IsSound}
 use Rattle.chess_board.specs.declared.faults.FenFault.{FenFault}
-use Rattle.chess_moves.specs.Listing.{legal_moves}
+use Rattle.chess_moves.specs.inside.Listing.{legal_moves}
 use Rattle.chess_moves.specs.Plays.{plays}
 use Rattle.chess_moves.specs.Verdicts.{verdict_of}
 use Rattle.chess_moves.specs.declared.verdicts.Verdict.{Verdict}

@@ -62,12 +62,18 @@ fn main(rt: HostRuntime) -> ExitCode {
 }
 
 #[cfg(test)]
+mod command_line_tests;
+#[cfg(test)]
+mod fen_command_tests;
+#[cfg(test)]
+mod output_tests;
+#[cfg(test)]
 mod script_tests;
 #[cfg(test)]
 mod serve_tests;
 #[cfg(test)]
 mod shelves;
 #[cfg(test)]
-mod tests;
+mod solve_tests;
 #[cfg(test)]
 mod worked_tests;

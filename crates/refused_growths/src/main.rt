@@ -5,12 +5,13 @@
 //! afterwards, and are the same whatever was refused. Where something else goes wrong, its name is said on standard error, and the
 //! status is 1.
 //!
-//! To read: `marks`; then the calls, by the crate that they are of: `of_notation`, `of_search`, `of_desk`, `of_room` and `of_ends`.
+//! To read: `marks`; then the calls, by the crate that they are of: `of_notation`, `of_search`, `of_inputs`, `of_desk`, `of_room` and `of_ends`.
 #![tactic(auto)]
 
 mod marks;
 mod of_desk;
 mod of_ends;
+mod of_inputs;
 mod of_notation;
 mod of_room;
 mod of_search;
@@ -37,7 +38,10 @@ fn tell<R: Threads + Wait + Sync>(
         "solve" => of_search::tell_solve(alloc, rays),
         "Job::solve" => of_search::tell_job(alloc, rays),
         "Answer::text" => of_search::tell_answer(alloc, rays),
-        "solve_input" => of_search::tell_input(alloc, rays),
+        "answer_text" => of_search::tell_answer_text(alloc, rays),
+        "answer_input" => of_inputs::tell_answer_input(alloc, rays),
+        "solve_input" => of_inputs::tell_solve_input(alloc, rays),
+        "fault_text" => of_inputs::tell_fault_text(alloc),
         "Desk::new" => of_desk::tell_new_desk(alloc, rays),
         "run" => of_desk::tell_run(alloc, rays),
         "reply_text" => of_desk::tell_reply_text(alloc, rays),

@@ -1,4 +1,4 @@
-//! A call of `chess_notation`. Its `answer_text` is called by `Answer::text`.
+//! A call of `chess_notation`. Its `answer_text`, which wants an outcome, is called in `of_search`.
 
 use crate::marks::{Stop, default, mark};
 use chess_moves::Rays;

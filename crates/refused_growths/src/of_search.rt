@@ -1,27 +1,27 @@
-//! Calls of `mate_search`.
+//! Calls of `mate_search` on one record, and the text of an outcome.
 
 use crate::marks::{Stop, default, mark};
 use chess_moves::Rays;
-use chess_notation::{Outcome, Record, read_record};
-use mate_search::{Answer, Job, Memo, Ticket, solve, solve_input};
+use chess_notation::{NoMemory, Outcome, Record, answer_text, read_record};
+use mate_search::{Answer, Job, Memo, Ticket, solve};
 use std::alloc::Global;
 
 /// A mate in three, on the way to which positions are kept in a memo.
 const LINE: &[u8] = b"6k1/2r2ppp/3r4/8/8/8/8/R6K w - - dm 3; id \"two replies\";";
 
-/// Of this input the second line is refused.
-const INPUT: &[u8] =
-    b"7k/8/5K2/8/8/8/8/R7 w - - dm 2; id \"b\";\n8/8/8/8/8/8/8/K7 w - - dm 1;\n\n7k/8/5K2/8/8/8/8/R7 w - - dm 1;";
+/// The same within one move less, in which there is none.
+const SHORTER: &[u8] = b"6k1/2r2ppp/3r4/8/8/8/8/R6K w - - dm 2; id \"two replies\";";
 
-fn memo_of(alloc: Global, entries: usize) -> Result<Memo, Stop> {
+/// A memo of this size, with ample memory.
+pub(crate) fn memo_of(alloc: Global, entries: usize) -> Result<Memo, Stop> {
     match Memo::new(alloc, entries) {
         Ok(memo) => Ok(memo),
         Err(fault) => Err(Stop(fault.code())),
     }
 }
 
-fn record_of(alloc: Global, rays: &Rays) -> Result<Record, Stop> {
-    match read_record(alloc, rays, LINE, default().ok_or("bound")?) {
+fn record_of(alloc: Global, rays: &Rays, line: &[u8]) -> Result<Record, Stop> {
+    match read_record(alloc, rays, line, default().ok_or("bound")?) {
         Ok(record) => Ok(record),
         Err(fault) => Err(Stop(fault.code())),
     }
@@ -55,7 +55,7 @@ fn mate_of(alloc: Global, outcome: &Outcome) -> Result<String, Stop> {
 
 /// Afterwards: the outcome by the same memo once more.
 pub(crate) fn tell_solve(alloc: Global, rays: &Rays) -> Result<String, Stop> {
-    let problem = record_of(alloc, rays)?.problem();
+    let problem = record_of(alloc, rays, LINE)?.problem();
     let mut memo = memo_of(alloc, 64)?;
     mark(alloc);
     let outcome = solve(rays, &problem, &mut memo);
@@ -68,7 +68,7 @@ pub(crate) fn tell_solve(alloc: Global, rays: &Rays) -> Result<String, Stop> {
 
 /// Afterwards: the ticket of what was solved.
 pub(crate) fn tell_job(alloc: Global, rays: &Rays) -> Result<String, Stop> {
-    let job = Job::new(Ticket(7), record_of(alloc, rays)?.problem());
+    let job = Job::new(Ticket(7), record_of(alloc, rays, LINE)?.problem());
     let mut memo = memo_of(alloc, 64)?;
     mark(alloc);
     let done = job.solve(rays, &mut memo);
@@ -78,7 +78,7 @@ pub(crate) fn tell_job(alloc: Global, rays: &Rays) -> Result<String, Stop> {
 }
 
 fn answer_of(alloc: Global, rays: &Rays) -> Result<Answer, Stop> {
-    let record = record_of(alloc, rays)?;
+    let record = record_of(alloc, rays, LINE)?;
     let mut memo = memo_of(alloc, 64)?;
     let done = Job::new(Ticket(0), record.problem()).solve(rays, &mut memo);
     Ok(done.into_answer(record))
@@ -97,34 +97,27 @@ pub(crate) fn tell_answer(alloc: Global, rays: &Rays) -> Result<String, Stop> {
     }
 }
 
-/// An output in one line.
-fn shown(alloc: Global, text: &[u8], refused: usize) -> Result<String, Stop> {
-    let mut shown = format!(in alloc; "{refused} refused: ")?;
-    for byte in text {
-        let next = if *byte == b'\n' {
-            '|'
-        } else {
-            char::from(*byte)
-        };
-        shown.push(next)?;
+/// What an answer text came to, behind those before it.
+fn told(alloc: Global, before: String, text: Result<String, NoMemory>) -> Result<String, Stop> {
+    match text {
+        Ok(text) => Ok(format!(in alloc; "{before}|{text}")?),
+        Err(refused) => Ok(format!(in alloc; "{before}|{refused}")?),
     }
-    Ok(shown)
 }
 
-/// Afterwards: the output by the same memo once more.
-pub(crate) fn tell_input(alloc: Global, rays: &Rays) -> Result<String, Stop> {
-    let default = default().ok_or("bound")?;
+/// The texts of a mate and of no mate, each between marks, or want of memory for it. Afterwards: both texts.
+pub(crate) fn tell_answer_text(alloc: Global, rays: &Rays) -> Result<String, Stop> {
     let mut memo = memo_of(alloc, 64)?;
-    mark(alloc);
-    let output = solve_input(alloc, rays, INPUT, default, &mut memo);
-    mark(alloc);
-    let Ok(again) = solve_input(alloc, rays, INPUT, default, &mut memo) else {
-        return Err(Stop("NoMemory"));
-    };
-    let again = shown(alloc, again.text.as_slice(), again.refused)?;
-    let first = match output {
-        Ok(output) => shown(alloc, output.text.as_slice(), output.refused)?,
-        Err(refused) => format!(in alloc; "{refused}")?,
-    };
-    Ok(format!(in alloc; "{first}\n{again}")?)
+    let mut answer = String::new(alloc);
+    let mut later = String::new(alloc);
+    for line in [LINE, SHORTER] {
+        let record = record_of(alloc, rays, line)?;
+        let outcome = solve(rays, &record.problem(), &mut memo);
+        mark(alloc);
+        let text = answer_text(alloc, rays, &record, &outcome);
+        mark(alloc);
+        answer = told(alloc, answer, text)?;
+        later = told(alloc, later, answer_text(alloc, rays, &record, &outcome))?;
+    }
+    Ok(format!(in alloc; "{answer}\n{later}")?)
 }

@@ -11,6 +11,14 @@ pub fn contains(set: u64, square: u8) -> bool
     set >> square & 1 == 1
 }
 
+/// The set of one square.
+pub fn single(square: u8) -> u64
+    requires { square < 64 }
+    ensures { (s : ℕ) → s < 64 → has result s ≡ (s == square) }
+{
+    with(0, square)
+}
+
 /// A set with one square more.
 pub fn with(set: u64, square: u8) -> u64
     requires { square < 64 }
@@ -36,6 +44,7 @@ mod tests {
     fn puts_and_takes_squares(rt: HostRuntime) {
         // a1, h1, a2, h8
         for (square, set) in [(0, 0x1), (7, 0x80), (8, 0x100), (63, 0x8000_0000_0000_0000)] {
+            assert_eq!(rt; single(square), set, "square {square}");
             assert_eq!(rt; with(0, square), set, "square {square}");
             assert_eq!(rt; with(set, square), set, "square {square}");
             assert_eq!(rt; without(set, square), 0, "square {square}");

@@ -4,7 +4,7 @@ use Rattle.std.specs.Option.{option_map_or}
 use Rattle.chess_board.specs.Positions.{Setup}
 use Rattle.chess_board.specs.Moves.{Move}
 use Rattle.chess_board.specs.MakeMove.{after_setup}
-use Rattle.chess_moves.specs.Listing.{legal_moves}
+use Rattle.chess_moves.specs.inside.Listing.{legal_moves}
 use Rattle.mate_search.specs.Wins.{win, leaves_lost}
 
 -- The keys of a mate within n moves: of these first moves each that leaves the defender lost with n - 1 more, in their order.

@@ -1,6 +1,6 @@
 use Rattle.std.proofs.Common.{◌≡◌, sym, arith, true, ◌∙◌}
 use Rattle.std.specs.Prelude.{is_some}
-use Rattle.chess_board.specs.Walks.{walked}
+use Rattle.chess_board.specs.inside.Walks.{walked}
 use Rattle.chess_board.specs.Positions.{man_at}
 use Rattle.chess_board.proofs.Walk.{clear_from_walk, blocked_by_walk}
 use Rattle.chess_board.proofs.attacks.is_clear.Goals as goal

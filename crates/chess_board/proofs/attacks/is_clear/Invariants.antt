@@ -1,6 +1,6 @@
 use Rattle.std.proofs.Common.{◌≡◌, ℕ, ◌<◌, None}
 use Rattle.chess_board.specs.Positions.{man_at}
-use Rattle.chess_board.specs.Walks.{walked}
+use Rattle.chess_board.specs.inside.Walks.{walked}
 use Rattle.chess_board.proofs.attacks.is_clear.Given as goal
 
 abbrev pub invariant-loop-steps : goal.invariant-loop-steps

@@ -1,5 +1,5 @@
 use Rattle.std.proofs.Common.{◌∙◌, sym, ap, arith}
-use Rattle.chess_moves.specs.Hits.{is_hit}
+use Rattle.chess_moves.specs.inside.Hits.{is_hit}
 use Rattle.chess_moves.proofs.Bridge.{attacked_same}
 use Rattle.chess_moves.proofs.attackers.attacked.Goals as goal
 

@@ -1,5 +1,5 @@
 use Rattle.std.proofs.Common.{◌∙◌, ap}
-use Rattle.chess_moves.specs.Leaps.{leaps}
+use Rattle.chess_moves.specs.inside.Leaps.{leaps}
 use Rattle.chess_moves.proofs.AttackSets.{attackers_are}
 use Rattle.chess_moves.proofs.attackers.attackers.Goals as goal
 

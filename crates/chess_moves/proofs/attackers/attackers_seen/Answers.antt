@@ -1,5 +1,5 @@
 use Rattle.std.proofs.Common.{◌∙◌, ap, bit_and}
-use Rattle.chess_moves.specs.Leaps.{leaps}
+use Rattle.chess_moves.specs.inside.Leaps.{leaps}
 use Rattle.chess_moves.proofs.AttackSets.{attackers_are, slants_towards, straight_towards}
 use Rattle.chess_moves.proofs.attackers.attackers_seen.Goals as goal
 

@@ -1,6 +1,6 @@
 use Rattle.std.proofs.Common.{arith, ◌∙◌}
 use Rattle.square_sets.specs.Members.{has}
-use Rattle.chess_moves.specs.Hits.{hits_from, is_hit}
+use Rattle.chess_moves.specs.inside.Hits.{hits_from, is_hit}
 use Rattle.chess_moves.proofs.AnyLemmas.{any_same}
 use Rattle.chess_moves.proofs.SharedSquares.{nonzero}
 use Rattle.chess_moves.proofs.attackers.is_hit_over.Goals as goal

@@ -1,4 +1,4 @@
-use Rattle.chess_moves.specs.Directions.{sights_as_rook}
+use Rattle.chess_moves.specs.inside.Directions.{sights_as_rook}
 use Rattle.square_sets.specs.Members.{has}
 use Rattle.chess_moves.proofs.AttackSets.{four}
 use Rattle.chess_moves.proofs.EmptyLines.{no_straight_sight}

@@ -4,9 +4,9 @@ use Rattle.chess_board.specs.Squares.{some_square}
 use Rattle.chess_board.specs.Men.{other_side, is_of, man_of}
 use Rattle.chess_board.specs.Positions.{man_at}
 use Rattle.chess_board.specs.Sets.{IsSetOf}
-use Rattle.chess_moves.specs.Hits.{hits_from}
-use Rattle.chess_moves.specs.Forces.{StandFor}
-use Rattle.chess_moves.specs.CheckInfo.{gets_through}
+use Rattle.chess_moves.specs.inside.Hits.{hits_from}
+use Rattle.chess_moves.specs.inside.Forces.{StandFor}
+use Rattle.chess_moves.specs.inside.CheckInfo.{gets_through}
 use Rattle.chess_moves.proofs.AttackSets.{joined}
 use Rattle.chess_moves.proofs.check_info.check_info_of.Goals as goal
 

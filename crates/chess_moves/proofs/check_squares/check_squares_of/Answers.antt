@@ -5,10 +5,10 @@ use Rattle.chess_board.specs.declared.men.Colour.{Colour}
 use Rattle.chess_board.specs.Men.{other_side, man_of}
 use Rattle.chess_board.specs.Positions.{man_at}
 use Rattle.square_sets.specs.Members.{has}
-use Rattle.chess_moves.specs.Directions.{reaches_as_bishop, reaches_as_rook}
-use Rattle.chess_moves.specs.Leaps.{leaps, capture_of, capture_back}
-use Rattle.chess_moves.specs.Hits.{is_taken, hits_as}
-use Rattle.chess_moves.specs.CheckSquares.{squares_of}
+use Rattle.chess_moves.specs.inside.Directions.{reaches_as_bishop, reaches_as_rook}
+use Rattle.chess_moves.specs.inside.Leaps.{leaps, capture_of, capture_back}
+use Rattle.chess_moves.specs.inside.Hits.{is_taken, hits_as}
+use Rattle.chess_moves.specs.inside.CheckSquares.{squares_of}
 use Rattle.chess_moves.specs.declared.check_squares.CheckSquares.{CheckSquares}
 use Rattle.chess_moves.specs.declared.directions.Leap.TheVariants.{KnightLeap, KingStep}
 use Rattle.chess_moves.proofs.Geometry.{knight_back, king_back, capture_mirrored}

@@ -5,7 +5,7 @@ use Rattle.chess_board.specs.declared.men.Man.{Man}
 use Rattle.chess_board.specs.declared.men.Kind.TheVariants.{King}
 use Rattle.chess_board.specs.Men.{other_side, man_of}
 use Rattle.chess_board.specs.Positions.{Setup, man_at}
-use Rattle.chess_moves.specs.Hits.{is_taken, is_hit, hits_as}
+use Rattle.chess_moves.specs.inside.Hits.{is_taken, is_hit, hits_as}
 use Rattle.chess_moves.proofs.Kept.{has_all}
 use Rattle.chess_moves.proofs.Moved.{stands_without}
 use Rattle.chess_moves.proofs.PlainChecks.{lifted_check}

@@ -5,7 +5,7 @@ use Rattle.chess_board.specs.Attacks.{attacks_as}
 use Rattle.chess_board.specs.EnPassant.{is_square, takes_en_passant}
 use Rattle.chess_board.specs.declared.men.Kind.TheVariants.{Pawn}
 use Rattle.chess_moves.specs.declared.directions.Leap.{Leap}
-use Rattle.chess_moves.specs.Leaps.{leaps, capture_back}
+use Rattle.chess_moves.specs.inside.Leaps.{leaps, capture_back}
 use Rattle.chess_moves.proofs.Geometry.{capture_mirrored}
 use Rattle.chess_moves.proofs.PawnSets.{capture_leap}
 use Rattle.chess_moves.proofs.en_passant.en_passant_origins.Goals as goal

@@ -7,7 +7,7 @@ use Rattle.chess_board.specs.declared.men.Colour.{Colour}
 use Rattle.chess_board.specs.declared.men.Kind.TheVariants.{King}
 use Rattle.chess_board.specs.Men.{other_side, is_of, man_of}
 use Rattle.chess_board.specs.Positions.{man_at}
-use Rattle.chess_moves.specs.Hits.{is_hit}
+use Rattle.chess_moves.specs.inside.Hits.{is_hit}
 use Rattle.chess_moves.proofs.Moved.{stands_without, stand_still}
 use Rattle.chess_moves.proofs.OwnColours.{not_of_other, free_of_other}
 use Rattle.chess_moves.proofs.SetParts.{parted}

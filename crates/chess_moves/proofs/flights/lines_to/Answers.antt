@@ -2,8 +2,8 @@ use Rattle.std.proofs.Common.{sym, ap, ◌∙◌}
 use Rattle.std.proofs.lemmas.Bool.{or_parts}
 use Rattle.square_sets.specs.Members.{has}
 use Rattle.chess_board.specs.declared.men.Kind.{Kind}
-use Rattle.chess_moves.specs.Hits.{hits_as}
-use Rattle.chess_moves.specs.Leaps.{leaps}
+use Rattle.chess_moves.specs.inside.Hits.{hits_as}
+use Rattle.chess_moves.specs.inside.Leaps.{leaps}
 use Rattle.chess_moves.proofs.EmptyLines.{off_diagonals, off_straights, off_lines}
 use Rattle.chess_moves.proofs.Geometry.{knight_back, king_back, capture_mirrored}
 use Rattle.chess_moves.proofs.SetBits.{has_or}

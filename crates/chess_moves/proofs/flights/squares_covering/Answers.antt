@@ -4,7 +4,7 @@ use Rattle.chess_board.specs.declared.men.Colour.{Colour}
 use Rattle.chess_board.specs.declared.men.Man.{Man}
 use Rattle.chess_board.specs.Men.{is_of}
 use Rattle.chess_board.specs.Positions.{man_at}
-use Rattle.chess_moves.specs.Hits.{is_taken, hits_as, is_hit}
+use Rattle.chess_moves.specs.inside.Hits.{is_taken, hits_as, is_hit}
 use Rattle.chess_moves.proofs.Kept.{has_all}
 use Rattle.chess_moves.proofs.Moved.{stands_without, stand_still}
 use Rattle.chess_moves.proofs.OwnColours.{not_of_other}

@@ -1,43 +1,39 @@
-use Rattle.std.proofs.Common.{◌≡◌, refl, ℕ, ◌<◌, true, false, ◌&&◌, sym, ap, subst, ◌∙◌, arith, w64, bit_or}
-use Rattle.std.specs.Int.{trailing_zeros}
+use Rattle.std.proofs.Common.{◌≡◌, refl, ℕ, ◌<◌, true, false, ◌&&◌, sym, ap, subst, ◌∙◌, bit_or}
 use Rattle.std.proofs.lemmas.Bool.{or_parts, and_parts}
 use Rattle.square_sets.specs.Members.{has}
 use Rattle.chess_board.specs.MakeMove.{after_setup}
 use Rattle.chess_board.specs.Positions.{man_at}
-use Rattle.chess_moves.specs.Flights.{leaves_flight}
+use Rattle.chess_moves.specs.inside.Flights.{leaves_flight}
 use Rattle.chess_moves.specs.Verdicts.{is_mate}
 use Rattle.chess_moves.proofs.FlightSquares.{flight_left}
-use Rattle.chess_moves.proofs.SetBits.{clear_smaller, first_square, has_clear, has_and, has_or}
+use Rattle.chess_moves.proofs.SetBits.{has_and, has_or}
 use Rattle.chess_moves.proofs.flights.squares_that_cover.Goals as goal
 
 pub squares_covering-requires-clause-flight : goal.squares_covering-requires-clause-flight
 squares_covering-requires-clause-flight c =
-    let first = first_square c.loop-rest.rest (omega arith) (omega arith) in c.loop-rest.invariant.left (trailing_zeros w64 c.loop-rest.rest) first.0 first.1
+    let lowest = c.in-Some.ensures.steps.lowest in c.loop-flight.invariant.left c.in-Some.flight lowest.on_board lowest.there
 
-pub loop-rest-smaller : goal.loop-rest-smaller
-loop-rest-smaller c = clear_smaller c.loop-rest.rest (omega arith) (omega arith)
-
-pub loop-rest-preserved : goal.loop-rest-preserved
-loop-rest-preserved c =
+pub loop-flight-preserved : goal.loop-flight-preserved
+loop-flight-preserved c =
     let p = c.args.position.now in
     let flights = c.requires.flights in
-    let f : ℕ = trailing_zeros w64 c.loop-rest.rest in
-    let first = first_square c.loop-rest.rest (omega arith) (omega arith) in
+    let f : ℕ = c.in-Some.flight in
+    let split = c.in-Some.ensures.steps in
     let special = c.special_squares-special.result in
     let from = c.squares_covering.result in
     record {
       dropped = λ m legal at t_on hoped out.
-          (elim (has c.loop-rest.covering m.target) as (λ b. has c.loop-rest.covering m.target ≡ b → is_mate (after_setup p m) ≡ false) [
-            | false ↦ λ e. c.loop-rest.invariant.dropped m legal at t_on hoped e
+          (elim (has c.loop-flight.covering m.target) as (λ b. has c.loop-flight.covering m.target ≡ b → is_mate (after_setup p m) ≡ false) [
+            | false ↦ λ e. c.loop-flight.invariant.dropped m legal at t_on hoped e
             | true ↦ λ e.
-                let now : (true && has (bit_or special from) m.target) ≡ false = ap (λ x. x && has (bit_or special from) m.target) (sym e) ∙ sym (has_and c.loop-rest.covering (bit_or special from) m.target) ∙ out in
+                let now : (true && has (bit_or special from) m.target) ≡ false = ap (λ x. x && has (bit_or special from) m.target) (sym e) ∙ sym (has_and c.loop-flight.covering (bit_or special from) m.target) ∙ out in
                 let both = or_parts (has special m.target) (has from m.target) (sym (has_or special from m.target) ∙ now) in
                 let o_on : m.origin < 64 = subst (λ s. s < 64) (sym at) c.requires.on_board in
                 let here = ap (man_at p.men) at ∙ c.requires.there in
                 let plain = c.special_squares-special.ensures m legal here o_on t_on both.0 in
                 let leaves = ap (λ s. leaves_flight p c.args.flights.king s c.args.man.kind m.target f) at ∙ c.squares_covering.ensures m.target t_on both.1 in
                 flight_left p c.args.flights.king f c.args.man m flights.sound (c.sound_after.ensures p m flights.sound o_on t_on legal) flights.on_board flights.there o_on t_on here legal plain
-                (flights.squares f first.0 (c.loop-rest.invariant.left f first.0 first.1)) leaves
+                (flights.squares f split.lowest.on_board (c.loop-flight.invariant.left f split.lowest.on_board split.lowest.there)) leaves
           ]) refl;
-      left = λ s l on. c.loop-rest.invariant.left s l (and_parts _ (has c.loop-rest.rest s) (sym (has_clear c.loop-rest.rest f s first.0 l) ∙ on)).1;
+      left = λ s l on. c.loop-flight.invariant.left s l (and_parts _ (has c.loop-flight.flight-iterator s) (sym (split.others s l) ∙ on)).1;
     }

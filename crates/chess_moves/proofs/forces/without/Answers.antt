@@ -1,5 +1,5 @@
-use Rattle.chess_board.specs.KindTests.{is_pawn_kind, is_king_kind}
-use Rattle.chess_moves.specs.Forces.{is_knight_kind, is_one, is_diagonal_kind, is_straight_kind}
+use Rattle.chess_board.specs.inside.KindTests.{is_pawn_kind, is_king_kind}
+use Rattle.chess_moves.specs.inside.Forces.{is_knight_kind, is_one, is_diagonal_kind, is_straight_kind}
 use Rattle.chess_moves.proofs.Moved.{stands_without, is_one-not_of}
 use Rattle.chess_moves.proofs.forces.without.Goals as goal
 

@@ -8,7 +8,7 @@ use Rattle.chess_board.specs.Attacks.{is_in_check}
 use Rattle.chess_board.specs.Legality.{is_legal}
 use Rattle.chess_board.specs.Moves.{Move}
 use Rattle.chess_moves.specs.declared.check_squares.CheckSquares.{CheckSquares}
-use Rattle.chess_moves.specs.CheckSquares.{squares_of, is_special}
+use Rattle.chess_moves.specs.inside.CheckSquares.{squares_of, is_special}
 use Rattle.chess_moves.specs.GivesCheck.{gives_check}
 use Rattle.chess_moves.proofs.PlainChecks.{plain_check}
 use Rattle.chess_moves.proofs.Played.{not_own}

@@ -1,9 +1,9 @@
 use Rattle.std.proofs.Common.{sym, ap, ◌∙◌, arith, bit_and}
 use Rattle.std.specs.List.{list_any, list_all}
+use Rattle.square_sets.specs.Members.{members}
 use Rattle.chess_board.specs.MakeMove.{after_setup}
 use Rattle.chess_board.specs.Legality.{is_legal}
 use Rattle.chess_moves.specs.Verdicts.{is_mate}
-use Rattle.chess_moves.specs.MoveGeneration.{members}
 use Rattle.chess_moves.proofs.Narrowed.{mate_squares, fewer_squares, none_mates, narrowed_mates, narrowed_legal}
 use Rattle.chess_moves.proofs.Walks.{all_ways, no_moves}
 use Rattle.chess_moves.proofs.gives_mate.man_mates.Goals as goal

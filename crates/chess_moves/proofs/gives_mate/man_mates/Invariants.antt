@@ -2,9 +2,9 @@ use Rattle.std.proofs.Common.{◌≡◌, ◌<◌, true, filter, length}
 use Rattle.std.specs.List.{list_any, list_all}
 use Rattle.chess_board.specs.MakeMove.{after_setup}
 use Rattle.chess_board.specs.Legality.{is_legal}
-use Rattle.chess_moves.specs.Listing.{moves_to}
+use Rattle.chess_moves.specs.inside.Listing.{moves_to}
 use Rattle.chess_moves.specs.Verdicts.{is_mate}
-use Rattle.chess_moves.specs.MoveGeneration.{man_moves}
+use Rattle.chess_moves.specs.inside.MoveGeneration.{man_moves}
 use Rattle.chess_moves.proofs.gives_mate.man_mates.Given as goal
 
 -- no move so far mates

@@ -1,5 +1,5 @@
 use Rattle.std.proofs.Common.{◌≡◌, ◌++◌}
-use Rattle.chess_moves.specs.Listing.{legal_moves}
+use Rattle.chess_moves.specs.inside.Listing.{legal_moves}
 use Rattle.chess_moves.proofs.move_generation.legal.Given as goal
 
 -- those listed, and those that are still to come

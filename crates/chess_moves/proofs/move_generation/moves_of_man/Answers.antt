@@ -1,5 +1,5 @@
 use Rattle.std.proofs.Common.{sym, ◌∙◌}
-use Rattle.chess_moves.specs.MoveGeneration.{members}
+use Rattle.square_sets.specs.Members.{members}
 use Rattle.chess_moves.proofs.Walks.{legal_to, all_ways}
 use Rattle.chess_moves.proofs.move_generation.moves_of_man.Goals as goal
 

@@ -1,5 +1,5 @@
 use Rattle.std.proofs.Common.{◌≡◌, ◌-◌, ◌^◌, sym, ap, ◌∙◌, arith, length}
-use Rattle.chess_moves.specs.Listing.{legal_moves}
+use Rattle.chess_moves.specs.inside.Listing.{legal_moves}
 use Rattle.chess_moves.proofs.Listed.{all_legal}
 use Rattle.chess_moves.proofs.Counts.{plays_of_one, plays_step, pow_step, pow_fits, one_of, times_grow}
 use Rattle.chess_moves.proofs.perft_count.+count_plays.Goals as goal

@@ -5,7 +5,7 @@ use Rattle.chess_board.specs.Men.{is_of}
 use Rattle.chess_board.specs.Positions.{man_at}
 use Rattle.chess_board.specs.Sets.{IsSetOf}
 use Rattle.chess_board.specs.Squares.{file_of, rank_of}
-use Rattle.chess_moves.specs.Shifts.{is_shifted, back, left_file, right_file, third_rank}
+use Rattle.chess_moves.specs.inside.Shifts.{is_shifted, back, left_file, right_file, third_rank}
 use Rattle.chess_moves.proofs.SetBits.{has_and, has_less}
 use Rattle.chess_moves.proofs.SetParts.{part, parted}
 use Rattle.chess_moves.proofs.ManSets.{some_not_of}

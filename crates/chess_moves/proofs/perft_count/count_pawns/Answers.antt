@@ -4,8 +4,8 @@ use Rattle.std.proofs.lemmas.Bool.{and_parts}
 use Rattle.std.proofs.lemmas.Nat.{and_le_l}
 use Rattle.square_sets.specs.Members.{has}
 use Rattle.chess_board.specs.declared.men.Kind.TheVariants.{Pawn}
-use Rattle.chess_moves.specs.Shifts.{AreFree}
-use Rattle.chess_moves.specs.MoveGeneration.{HaveMenOf}
+use Rattle.chess_moves.specs.inside.Shifts.{AreFree}
+use Rattle.chess_moves.specs.inside.MoveGeneration.{HaveMenOf}
 use Rattle.chess_moves.proofs.SetBits.{has_and}
 use Rattle.chess_moves.proofs.Tallies.{many_parts, few_of_kind, rest_of_set}
 use Rattle.chess_moves.proofs.perft_count.count_pawns.Goals as goal

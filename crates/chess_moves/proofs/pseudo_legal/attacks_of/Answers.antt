@@ -1,7 +1,7 @@
 use Rattle.std.proofs.Common.{sym, ap, ◌∙◌}
 use Rattle.square_sets.specs.Members.{has}
 use Rattle.chess_board.specs.declared.men.Kind.{Kind}
-use Rattle.chess_moves.specs.Hits.{hits_as}
+use Rattle.chess_moves.specs.inside.Hits.{hits_as}
 use Rattle.chess_moves.proofs.SetParts.{joined}
 use Rattle.chess_moves.proofs.pseudo_legal.attacks_of.Goals as goal
 

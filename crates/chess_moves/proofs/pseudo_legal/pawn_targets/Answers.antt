@@ -8,7 +8,7 @@ use Rattle.chess_board.specs.Sets.{IsSetOf}
 use Rattle.chess_board.specs.Men.{is_of}
 use Rattle.chess_board.specs.PseudoLegal.{steps_once}
 use Rattle.chess_moves.specs.declared.directions.Leap.{Leap}
-use Rattle.chess_moves.specs.Leaps.{leaps}
+use Rattle.chess_moves.specs.inside.Leaps.{leaps}
 use Rattle.chess_moves.proofs.AnyLemmas.{any_some}
 use Rattle.chess_moves.proofs.SharedSquares.{nonzero}
 use Rattle.chess_moves.proofs.SetParts.{joined, has_none}

@@ -1,5 +1,5 @@
 use Rattle.std.proofs.Common.{rules}
-use Rattle.desk_room.specs.Threads.{AllSettled}
+use Rattle.desk_room.specs.inside.Threads.{AllSettled}
 use Rattle.desk_room.proofs.Joined.{all_later, front_of, settled_more}
 use Rattle.desk_room.proofs.serving.+settling.Goals as goal
 

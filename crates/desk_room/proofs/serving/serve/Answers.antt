@@ -1,5 +1,5 @@
 use Rattle.std.proofs.Common.{map, rules}
-use Rattle.desk_room.specs.Threads.{AllReport, AllSettled}
+use Rattle.desk_room.specs.inside.Threads.{AllReport, AllSettled}
 use Rattle.desk_room.proofs.Joined.{all_of, are_replies, of_ok, opened_fresh}
 use Rattle.desk_room.proofs.serving.serve.Goals as goal
 

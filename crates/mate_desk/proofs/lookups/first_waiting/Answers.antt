@@ -1,6 +1,6 @@
 use Rattle.std.proofs.Common.{◌≡◌, ◌∙◌, ℕ, sym, ap, arith, true, false, Option}
 use Rattle.mate_desk.specs.Content.{lowest}
-use Rattle.mate_desk.specs.Keeping.{is_lower}
+use Rattle.mate_desk.specs.inside.Keeping.{is_lower}
 use Rattle.mate_desk.proofs.Changes.{got}
 use Rattle.mate_desk.proofs.Joined.{lowest_more, stands_here, still_stands}
 use Rattle.mate_desk.proofs.lookups.first_waiting.Goals as goal

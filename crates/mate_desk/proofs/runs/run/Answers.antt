@@ -9,11 +9,11 @@ use Rattle.mate_desk.specs.declared.events.Step.TheVariants.{Take}
 use Rattle.mate_desk.specs.History.{past, History}
 use Rattle.mate_desk.specs.Replies.{AreReplies}
 use Rattle.mate_desk.specs.Headline.{DeliversInOrder, GivesNoticeOfWithdrawn, DeliversAllOnceDrained, AfterEachPrefix}
-use Rattle.mate_desk.specs.Mirrors.{MirrorsBy, Mirrors, AtEachMoment}
+use Rattle.mate_desk.specs.inside.Mirrors.{MirrorsBy, Mirrors, AtEachMoment}
 use Rattle.mate_desk.proofs.Promises.{in_order, notices, all_delivered, none_after_close, first_moment, and_moment, prefix_has}
 use Rattle.mate_desk.proofs.Beginnings.{start, past_more, hand_fits}
 use Rattle.mate_desk.specs.Holding.{nothing}
-use Rattle.mate_desk.specs.Stepping.{collects, finishes, count_done, answers}
+use Rattle.mate_desk.specs.inside.Stepping.{collects, finishes, count_done, answers}
 use Rattle.mate_desk.proofs.Placing.{HasPlaces, none_done, place_there, places_left}
 use Rattle.mate_desk.proofs.runs.run.Goals as goal
 

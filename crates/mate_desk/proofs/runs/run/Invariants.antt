@@ -1,8 +1,8 @@
 use Rattle.std.proofs.Common.{◌≡◌, ◌≤◌, ◌⊎◌, ◌*◌, length, take, drop, vec_len, vec_capacity}
 use Rattle.mate_desk.specs.History.{past}
-use Rattle.mate_desk.specs.Mirrors.{Mirrors, AtEachMoment}
+use Rattle.mate_desk.specs.inside.Mirrors.{Mirrors, AtEachMoment}
 use Rattle.mate_desk.specs.Headline.{DeliversInOrder, GivesNoticeOfWithdrawn, DeliversAllOnceDrained}
-use Rattle.mate_desk.specs.Stepping.{count_done}
+use Rattle.mate_desk.specs.inside.Stepping.{count_done}
 use Rattle.mate_desk.proofs.Placing.{HasPlaces}
 use Rattle.mate_desk.proofs.runs.run.Given as goal
 

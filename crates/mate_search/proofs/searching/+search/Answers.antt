@@ -1,5 +1,5 @@
 use Rattle.std.proofs.Common.{◌≡◌, refl, sym, ap, ◌∙◌, arith}
-use Rattle.chess_moves.specs.Listing.{legal_moves}
+use Rattle.chess_moves.specs.inside.Listing.{legal_moves}
 use Rattle.mate_search.specs.Wins.{win}
 use Rattle.mate_search.proofs.Wins.{all_legal, refuted_by}
 use Rattle.mate_search.proofs.Known.{win_within_more, no_win_within_fewer}

@@ -1,5 +1,5 @@
 use Rattle.std.proofs.Common.{◌≡◌, refl, ◌∙◌}
-use Rattle.chess_moves.specs.Listing.{legal_moves}
+use Rattle.chess_moves.specs.inside.Listing.{legal_moves}
 use Rattle.mate_search.proofs.Wins.{all_legal}
 use Rattle.mate_search.proofs.searching.is_known_refuted.Goals as goal
 

@@ -1,5 +1,5 @@
 use Rattle.chess_board.specs.declared.men.Kind.TheVariants.{Pawn, Knight, Bishop, Rook, Queen, King}
-use Rattle.chess_board.specs.Boards.{is_of_kind}
+use Rattle.chess_board.specs.inside.Boards.{is_of_kind}
 use Rattle.chess_board.proofs.BoardWords.{AreWordsOf-shown}
 use Rattle.chess_board.proofs.MenSets.{IsSetOf-word_of}
 use Rattle.chess_board.proofs.boards.Board.kind.Goals as goal

@@ -7,7 +7,7 @@ use Rattle.chess_board.specs.declared.men.Colour.TheVariants.{White, Black}
 use Rattle.chess_board.specs.declared.men.Kind.{Kind}
 use Rattle.chess_board.specs.declared.men.Kind.TheVariants.{Pawn, Knight, Bishop, Rook, Queen, King}
 use Rattle.chess_board.specs.Men.{is_colour, is_kind}
-use Rattle.chess_board.specs.Boards.{AreWordsOf}
+use Rattle.chess_board.specs.inside.Boards.{AreWordsOf}
 use Rattle.chess_board.proofs.MenSets.{IsChanged-where}
 use Rattle.chess_board.proofs.BoardWords.{AreWordsOf-shown, AreWordsOf-set, men_of-AreWordsOf, AreTheirWords-AreWordsOf}
 use Rattle.chess_board.proofs.boards.Board.with.Goals as goal

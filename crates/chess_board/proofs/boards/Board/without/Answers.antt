@@ -1,5 +1,5 @@
 use Rattle.std.proofs.Common.{None, set, arith}
-use Rattle.chess_board.specs.Boards.{AreWordsOf}
+use Rattle.chess_board.specs.inside.Boards.{AreWordsOf}
 use Rattle.chess_board.proofs.MenSets.{IsChanged-without}
 use Rattle.chess_board.proofs.BoardWords.{AreWordsOf-shown, AreWordsOf-set, men_of-AreWordsOf, AreTheirWords-AreWordsOf}
 use Rattle.chess_board.proofs.boards.Board.without.Goals as goal

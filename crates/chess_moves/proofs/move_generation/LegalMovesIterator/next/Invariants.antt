@@ -1,5 +1,6 @@
-use Rattle.std.proofs.Common.{◌≡◌}
-use Rattle.chess_moves.specs.MoveGeneration.{moves_left, IsUnderWay}
+use Rattle.std.proofs.Common.{◌≡◌, length}
+use Rattle.square_sets.specs.Members.{members}
+use Rattle.chess_moves.specs.inside.MoveGeneration.{moves_left, IsUnderWay}
 use Rattle.chess_moves.proofs.move_generation.LegalMovesIterator.next.Given as goal
 
 -- men without a legal move have their turn, and what is left stays what it was
@@ -10,4 +11,4 @@ invariant-loop-self l = record {
 }
 
 abbrev pub decreases-loop-self : goal.decreases-loop-self
-decreases-loop-self l = l.self-inside.origins
+decreases-loop-self l = length (members l.self-inside.origins)

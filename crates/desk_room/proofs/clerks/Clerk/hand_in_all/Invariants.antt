@@ -1,6 +1,6 @@
 use Rattle.std.proofs.Common.{◌<◌}
 use Rattle.desk_room.specs.Windows.{SameWindow}
-use Rattle.desk_room.specs.Clerks.{IsAt}
+use Rattle.desk_room.specs.inside.Clerks.{IsAt}
 use Rattle.desk_room.proofs.clerks.Clerk.hand_in_all.Given as goal
 
 abbrev pub invariant-loop-number : goal.invariant-loop-number

@@ -1,7 +1,7 @@
 use Rattle.std.proofs.Common.{ℕ, ◌≡◌, ◌≤◌, ◌<◌, ◌*◌, length}
 use Rattle.desk_room.specs.Keepers.{lists, known, IsServed, SameRoom}
 use Rattle.desk_room.specs.Passes.{Giving}
-use Rattle.desk_room.specs.Steps.{GainBefore}
+use Rattle.desk_room.specs.inside.Steps.{GainBefore}
 use Rattle.desk_room.proofs.keepers.Keeper.give_all.Given as goal
 
 abbrev pub invariant-loop-n : goal.invariant-loop-n

@@ -2,7 +2,7 @@ use Rattle.std.proofs.Common.{◌≡◌, ◌≤◌, ◌+◌, length, get_or, []}
 use Rattle.desk_room.specs.Turns.{pending_at}
 use Rattle.desk_room.specs.Keepers.{lists, known, OthersServed, SameRoom}
 use Rattle.desk_room.specs.Passes.{Giving}
-use Rattle.desk_room.specs.Steps.{Untouched}
+use Rattle.desk_room.specs.inside.Steps.{Untouched}
 use Rattle.desk_room.proofs.keepers.Keeper.give_answers.Given as goal
 
 abbrev pub invariant-loop-given : goal.invariant-loop-given

@@ -1,7 +1,7 @@
 use Rattle.std.proofs.Common.{◌≡◌, ◌<◌, ◌≤◌, ◌+◌, ◌*◌, ℕ, [], length, get_or}
 use Rattle.desk_room.specs.Keepers.{lists, backs_known, BacksAhead}
 use Rattle.desk_room.specs.Passes.{Hearing}
-use Rattle.desk_room.specs.Steps.{GainBefore}
+use Rattle.desk_room.specs.inside.Steps.{GainBefore}
 use Rattle.desk_room.proofs.keepers.Keeper.hear_all.Given as goal
 
 abbrev pub invariant-loop-b : goal.invariant-loop-b

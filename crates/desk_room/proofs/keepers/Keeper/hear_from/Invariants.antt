@@ -1,7 +1,7 @@
 use Rattle.std.proofs.Common.{◌≡◌, ◌≤◌, ◌+◌, length, get_or, []}
 use Rattle.desk_room.specs.Keepers.{lists, backs_known, BacksAhead}
 use Rattle.desk_room.specs.Passes.{Hearing}
-use Rattle.desk_room.specs.Steps.{Untouched}
+use Rattle.desk_room.specs.inside.Steps.{Untouched}
 use Rattle.desk_room.proofs.keepers.Keeper.hear_from.Given as goal
 
 abbrev pub invariant-loop : goal.invariant-loop

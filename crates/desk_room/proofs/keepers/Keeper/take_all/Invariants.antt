@@ -1,7 +1,7 @@
 use Rattle.std.proofs.Common.{ℕ, ◌≡◌, ◌≤◌, ◌<◌, ◌*◌, length}
 use Rattle.desk_room.specs.Keepers.{lists, IsRead, Ahead, SameRoom}
 use Rattle.desk_room.specs.Passes.{Taking}
-use Rattle.desk_room.specs.Steps.{GainBefore}
+use Rattle.desk_room.specs.inside.Steps.{GainBefore}
 use Rattle.desk_room.proofs.keepers.Keeper.take_all.Given as goal
 
 abbrev pub invariant-loop-n : goal.invariant-loop-n

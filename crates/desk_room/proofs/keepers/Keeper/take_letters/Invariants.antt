@@ -1,7 +1,7 @@
 use Rattle.std.proofs.Common.{◌≡◌, ◌≤◌, ◌+◌, length, get_or, []}
 use Rattle.desk_room.specs.Keepers.{lists, known, Ahead, OthersRead, SameRoom}
 use Rattle.desk_room.specs.Passes.{Taking}
-use Rattle.desk_room.specs.Steps.{Untouched}
+use Rattle.desk_room.specs.inside.Steps.{Untouched}
 use Rattle.desk_room.proofs.keepers.Keeper.take_letters.Given as goal
 
 abbrev pub invariant-loop : goal.invariant-loop

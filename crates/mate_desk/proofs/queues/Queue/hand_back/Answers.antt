@@ -1,10 +1,10 @@
 use Rattle.std.proofs.Common.{◌≡◌, ◌∙◌, sym, ap, refl, arith, subst, true, false}
 use Rattle.mate_desk.specs.Content.{EntryValue, QueueValue, Waiting, waits, has_ticket, is_out_with}
 use Rattle.mate_desk.specs.Calls.{in_queue, into_phase}
-use Rattle.mate_desk.specs.Keeping.{IsOutAt}
+use Rattle.mate_desk.specs.inside.Keeping.{IsOutAt}
 use Rattle.mate_desk.proofs.Changes.{got, read_set}
 use Rattle.mate_desk.proofs.Waiting.{marks_same, marks_with}
-use Rattle.mate_desk.proofs.Kept.{kept_set, returned, Returned, out_at_waits, out_inside}
+use Rattle.mate_desk.proofs.Kept.{kept_set, solved_back, returned, Returned, out_at_waits, out_inside}
 use Rattle.mate_desk.proofs.queues.Queue.hand_back.Goals as goal
 
 pub invariant_of-self : goal.invariant_of-self
@@ -19,7 +19,8 @@ invariant_of-self c =
     let gone : e.withdrawn ≡ true = ap (λ (x : EntryValue). x.withdrawn) (sym c.hand_back.ensures ∙ read) ∙ (sym c.is_withdrawn.ensures ∙ c.if-is_withdrawn.true) in
     let still : waits y ≡ false = rw (c.hand_back.ensures, gone) refl in
     let marks = marks_same c.self.inside.waiting q.pending c.args.place e y c.self.invariant.5 there (still ∙ sym idle) in
-    kept_set _ c.self.inside.waiting c.self.inside.waiting q c.args.place e y c.self.invariant there (ap (λ (x : EntryValue). x.ticket) c.hand_back.ensures) marks
+    let solved = solved_back c.self.inside.solved.items c.args.job.now q.pending c.args.place e y c.self.invariant.7 at there (rw c.hand_back.ensures refl) in
+    kept_set _ _ c.self.inside.waiting c.self.inside.waiting c.self.inside.solved.items c.self.inside.solved.items q c.args.place e y c.self.invariant there (ap (λ (x : EntryValue). x.ticket) c.hand_back.ensures) marks solved
 
 gone_returned : (c : goal.Then-is_withdrawn) → Returned (record { room = c.self.inside.room; delivered = c.self.inside.delivered; pending = c.self.inside.entries.items }) c.args.job.now Waiting c.args.place c.hand_back.new.self
 gone_returned c =
@@ -50,7 +51,8 @@ invariant_of-self-2 c =
     let read = read_set c.args.place q.pending e y c.index.result.now there c.index.ensures in
     let free : e.withdrawn ≡ false = ap (λ (x : EntryValue). x.withdrawn) (sym c.hand_back.ensures ∙ read) ∙ (sym c.is_withdrawn.ensures ∙ c.if-is_withdrawn.false) in
     let marks = marks_with c.self.inside.waiting c.with_place-self-inside.result q.pending c.args.place e y c.self.invariant.5 there (rw (c.hand_back.ensures, free) refl) c.with_place-self-inside.ensures in
-    kept_set _ c.self.inside.waiting c.with_place-self-inside.result q c.args.place e y c.self.invariant there (ap (λ (x : EntryValue). x.ticket) c.hand_back.ensures) marks
+    let solved = solved_back c.self.inside.solved.items c.args.job.now q.pending c.args.place e y c.self.invariant.7 at there (rw c.hand_back.ensures refl) in
+    kept_set _ _ c.self.inside.waiting c.with_place-self-inside.result c.self.inside.solved.items c.self.inside.solved.items q c.args.place e y c.self.invariant there (ap (λ (x : EntryValue). x.ticket) c.hand_back.ensures) marks solved
 
 waits_returned : (c : goal.After-self-2-1) → Returned (record { room = c.self.inside.room; delivered = c.self.inside.delivered; pending = c.self.inside.entries.items }) c.args.job.now Waiting c.args.place c.hand_back.new.self
 waits_returned c =

@@ -1,9 +1,10 @@
 use Rattle.std.proofs.Common.{◌≡◌, ◌∙◌, ◌+◌, ◌<◌, ◌==◌, ◌||◌, length, ◌∷◌, [], ◌++◌, ap, refl, arith, subst, sym, length-append}
 use Rattle.mate_desk.specs.Content.{EntryValue, QueueValue}
 use Rattle.mate_desk.specs.Laws.{AreBelow}
-use Rattle.mate_desk.specs.Places.{has_place}
+use Rattle.mate_desk.specs.inside.Places.{has_place}
 use Rattle.mate_desk.proofs.Changes.{rises_push}
 use Rattle.mate_desk.proofs.Waiting.{marks_push}
+use Rattle.mate_desk.proofs.OwnJobs.{solved_push}
 use Rattle.mate_desk.proofs.queues.Queue.push.Goals as goal
 
 pub invariant_of-self : goal.invariant_of-self
@@ -24,4 +25,6 @@ invariant_of-self c =
       omega (arith, long, few),
       rises_push 0 q.pending e k.4 below (omega arith),
       marks,
+      k.6,
+      solved_push c.self.inside.solved.items q.pending e k.7 (rw c.new.ensures refl),
     )

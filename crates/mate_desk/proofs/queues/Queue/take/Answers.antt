@@ -3,8 +3,8 @@ use Rattle.std.specs.List.{list_any}
 use Rattle.mate_desk.specs.Content.{EntryValue, QueueValue, Out, lowest, has_ticket, waits_as}
 use Rattle.mate_desk.specs.Calls.{in_queue, into_phase}
 use Rattle.mate_desk.proofs.Changes.{got}
-use Rattle.mate_desk.proofs.Waiting.{first_found, none_found, marks_without}
-use Rattle.mate_desk.proofs.Kept.{kept_set, taken, Taken}
+use Rattle.mate_desk.proofs.Waiting.{first_found, first_lowest, none_found, marks_without}
+use Rattle.mate_desk.proofs.Kept.{kept_set, solved_taken, taken, Taken}
 use Rattle.mate_desk.proofs.queues.Queue.take.Goals as goal
 
 pub returns-in_err-place-clause-none : goal.returns-in_err-place-clause-none
@@ -25,7 +25,9 @@ invariant_of-self c =
     let first = first_found c.self.inside.waiting q.pending c.in_ok-place.place c.self.invariant.5 c.in_ok-place.ensures.inside c.in_ok-place.ensures.lowest in
     let there = got q.pending c.in_ok-place.place e first.inside c.index_mut.ensures.value in
     let marks = marks_without c.self.inside.waiting c.without_place-self-inside.result q.pending c.in_ok-place.place e c.take.new.self c.self.invariant.5 there (rw c.take.ensures.out refl) c.without_place-self-inside.ensures in
-    kept_set _ c.self.inside.waiting c.without_place-self-inside.result q c.in_ok-place.place e c.take.new.self c.self.invariant there (ap (λ (x : EntryValue). x.ticket) c.take.ensures.out) marks
+    let waited = (first_lowest q.pending c.in_ok-place.place e c.self.invariant.4 first there).0 in
+    let solved = solved_taken c.self.inside.solved.items q.pending c.in_ok-place.place e c.take.new.self c.self.invariant.7 there waited (rw c.take.ensures.out refl) in
+    kept_set _ _ c.self.inside.waiting c.without_place-self-inside.result c.self.inside.solved.items c.self.inside.solved.items q c.in_ok-place.place e c.take.new.self c.self.invariant there (ap (λ (x : EntryValue). x.ticket) c.take.ensures.out) marks solved
 
 the_taken : (c : goal.After-self-2-1) → Taken (record { room = c.self.inside.room; delivered = c.self.inside.delivered; pending = c.self.inside.entries.items }) c.take.result c.in_ok-place.place c.take.new.self
 the_taken c =

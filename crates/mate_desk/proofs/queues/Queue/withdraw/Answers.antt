@@ -3,7 +3,7 @@ use Rattle.mate_desk.specs.Content.{EntryValue, QueueValue}
 use Rattle.mate_desk.specs.Calls.{withdrawn_at, withdraw_refusal_of}
 use Rattle.mate_desk.proofs.Changes.{got, got_one}
 use Rattle.mate_desk.proofs.Waiting.{marks_without}
-use Rattle.mate_desk.proofs.Kept.{kept_set, marked, Marked, withdrawn_waits}
+use Rattle.mate_desk.proofs.Kept.{kept_set, solved_withdrawn, marked, Marked, withdrawn_waits}
 use Rattle.mate_desk.proofs.queues.Queue.withdraw.Goals as goal
 
 pub invariant_of-self : goal.invariant_of-self
@@ -13,7 +13,8 @@ invariant_of-self c =
     let place : ℕ = c.args.n - c.self.inside.delivered in
     let there = got q.pending place e (omega (arith, c.if-self-len.false, c.if-n-self.false, c.len.ensures, c.self.inside.entries.ok.0)) c.index_mut.ensures.value in
     let marks = marks_without c.self.inside.waiting c.without_place-self-inside.result q.pending place e c.withdraw.new.self c.self.invariant.5 there (rw c.withdraw.ensures (withdrawn_waits e)) c.without_place-self-inside.ensures in
-    kept_set _ c.self.inside.waiting c.without_place-self-inside.result q place e c.withdraw.new.self c.self.invariant there (ap (λ (x : EntryValue). x.ticket) c.withdraw.ensures) marks
+    let solved = solved_withdrawn c.self.inside.solved.items q.pending place e c.withdraw.new.self c.self.invariant.7 there c.withdraw.ensures in
+    kept_set _ _ c.self.inside.waiting c.without_place-self-inside.result c.self.inside.solved.items c.self.inside.solved.items q place e c.withdraw.new.self c.self.invariant there (ap (λ (x : EntryValue). x.ticket) c.withdraw.ensures) marks solved
 
 the_marked : (c : goal.After-self-2-1) → Marked (record { room = c.self.inside.room; delivered = c.self.inside.delivered; pending = c.self.inside.entries.items }) c.args.n c.withdraw.new.self
 the_marked c =

@@ -1,0 +1,5 @@
+pub mod KindTests
+pub mod Boards
+pub mod Hashing
+pub mod Walks
+pub mod RankReading

@@ -1,0 +1,20 @@
+use Rattle.std.proofs.Common.{◌≡◌, List, Option, None, is_some, length, set, refl, sym, ap, not, length-set, ◌∙◌}
+use Rattle.chess_board.specs.declared.men.Man.{Man}
+use Rattle.chess_board.specs.Men.{other_side}
+use Rattle.chess_moves.proofs.Arrivals.{hit_on_arrival}
+use Rattle.chess_moves.proofs.KingTargets.{king}
+use Rattle.chess_moves.proofs.Moved.{stands_without, stand_still}
+use Rattle.chess_moves.proofs.OwnColours.{own_not_other}
+use Rattle.chess_moves.proofs.checks_and_pins.is_safe_step.Goals as goal
+
+pub returns : goal.returns
+returns c = λ p own h own_is.
+    let s = c.args.info.now in
+    let by : c.other.result ≡ other_side p.side = c.other.ensures ∙ ap other_side h.side in
+    let len = h.sound.squares in
+    let gone : List (Option Man) = set p.men s.king None in
+    let len1 : length gone ≡ 64 = simp length-set len in
+    let cleared = stands_without is_some p.men s.occupied c.without-lifted.result s.king None len c.requires.0 c.without-lifted.ensures refl h.occupied in
+    let still = stand_still s.enemy (other_side p.side) p.men s.king None len c.requires.0 (own_not_other p (king p.side) s.king h.king refl) refl h.enemy in
+    let hit = rw by at c.is_hit_over.ensures in
+    ap not (hit gone cleared still ∙ sym (hit_on_arrival gone c.args.target own (other_side p.side) len1 c.requires.1 own_is))

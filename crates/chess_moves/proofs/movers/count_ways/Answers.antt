@@ -1,6 +1,0 @@
-use Rattle.std.proofs.Common.{arith}
-use Rattle.chess_moves.proofs.Promotions.{many_ways}
-use Rattle.chess_moves.proofs.movers.count_ways.Goals as goal
-
-pub returns-clause-count : goal.returns-clause-count
-returns-clause-count c = λ origin. omega (arith, many_ways c.args.man origin c.args.targets c.promotion_squares.result c.promotion_squares.ensures (omega arith))

@@ -1,8 +1,0 @@
-use Rattle.std.proofs.Common.{◌≡◌, ℕ, ◌<◌, ◌&&◌, ltb}
-use Rattle.square_sets.specs.Members.{has}
-use Rattle.chess_moves.specs.Leaps.{leaps}
-use Rattle.chess_moves.proofs.rays.leap_from.Given as goal
-
--- the set has those below t that the leap reaches, and no other
-abbrev pub invariant-loop-t : goal.invariant-loop-t
-invariant-loop-t l = (k : ℕ) → k < 64 → has l.set k ≡ (ltb k l.t && leaps l.leap l.square k)

@@ -1,0 +1,12 @@
+pub mod Directions
+pub mod Leaps
+pub mod RayTables
+pub mod Hits
+pub mod Forces
+pub mod CheckInfo
+pub mod Listing
+pub mod Targets
+pub mod MoveGeneration
+pub mod CheckSquares
+pub mod Flights
+pub mod Shifts

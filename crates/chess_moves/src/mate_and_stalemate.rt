@@ -1,0 +1,70 @@
+//! Mate and stalemate: whether the game goes on, and whether a king is in check.
+
+ghost use Rattle.std.specs.Prelude.{◌≡◌, length, nat_lt};
+ghost use Rattle.square_sets.specs.Members.{members};
+ghost use Rattle.chess_board.specs.Attacks.{is_in_check};
+ghost use Rattle.chess_moves.specs.inside.CheckInfo.{IsCheckInfoOf};
+ghost use Rattle.chess_moves.specs.Verdicts.{verdict_of, is_mate};
+ghost use Rattle.chess_moves.specs.inside.MoveGeneration.{moves_of_men, HaveOwnMen};
+
+use crate::attackers::attacked;
+use crate::check_info::{CheckInfo, check_info_of, is_checked};
+use crate::move_generation::legal_moves;
+use crate::promotions::{count_ways, own_man};
+use crate::ray_tables::Rays;
+use crate::targets::{king_can_move, targets_from};
+use crate::verdicts::Verdict;
+use chess_board::Position;
+
+/// The verdict of a position: mate, stalemate or play (FIDE Laws of Chess, articles 5.1.1 and 5.2.1). It looks no further than the
+/// first legal move.
+pub fn verdict(rays: &Rays, position: &Position) -> Verdict
+    ensures { result ≡ verdict_of position.now }
+{
+    if legal_moves(rays, position).next().is_some() {
+        Verdict::Play
+    } else if in_check(rays, position) {
+        Verdict::Mate
+    } else {
+        Verdict::Stalemate
+    }
+}
+
+/// Whether the king of the side to move is attacked.
+#[tactic(auto, using(crate::proofs::InCheck::in_check_is))]
+pub(crate) fn in_check(rays: &Rays, position: &Position) -> bool
+    ensures { result ≡ is_in_check position.now.men position.now.side }
+{
+    let side = position.side();
+    attacked(rays, position, position.king(side), side.other())
+}
+
+/// Whether the side to move is mated, told in the order that refutes soonest: no check, a move of the king, a move of another man.
+pub(crate) fn is_mated(rays: &Rays, position: &Position) -> bool
+    ensures { result ≡ is_mate position.now }
+{
+    let info = check_info_of(rays, position);
+    if !is_checked(&info) {
+        return false;
+    }
+    if king_can_move(rays, position, &info) {
+        return false;
+    }
+    let king = square_sets::single(info.king);
+    !can_move(rays, position, &info, info.own & !king)
+}
+
+/// Whether one of these men of the side to move has a legal move.
+fn can_move(rays: &Rays, position: &Position, info: &CheckInfo, men: u64) -> bool
+    requires info { IsCheckInfoOf info.now position.now }
+    requires men { HaveOwnMen men position.now }
+    ensures { result ≡ nat_lt 0 (length (moves_of_men position.now (members men))) }
+{
+    for origin in square_sets::squares(men) {
+        let man = own_man(position, origin);
+        if count_ways(man, targets_from(rays, position, info, man, origin)) != 0 {
+            return true;
+        }
+    }
+    false
+}

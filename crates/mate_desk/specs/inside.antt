@@ -1,0 +1,4 @@
+pub mod Places
+pub mod Keeping
+pub mod Mirrors
+pub mod Stepping

@@ -1,0 +1,47 @@
+//! What was solved and is not collected yet.
+
+ghost use Rattle.std.specs.Prelude.{ℕ, ◌≡◌, ◌+◌, ◌≤◌, true, ◌<◌, length, vec_capacity, slice_get, sum_by, count_by, Some, IfSome, IfNone};
+ghost use Rattle.mate_search.specs.Jobs.{Task};
+ghost use Rattle.mate_desk.specs.Content.{is_ready, has_task};
+ghost use Rattle.mate_desk.specs.Deliveries.{delivery_of};
+ghost use Rattle.mate_desk.specs.inside.Keeping.{task_of, finished_by};
+
+use crate::deliveries::Delivery;
+use crate::entries::Entry;
+use mate_search::Done;
+
+/// Where what was solved of a record stands.
+fn place_of(solved: &[Done], entry: &Entry) -> Option<usize>
+    ensures none { IfNone result (count_by (λ done. has_task done entry.now) solved.now ≡ 0) }
+    ensures some { IfSome result (λ place. (done : Task) → slice_get solved.now place ≡ Some done → done ≡ task_of entry.now) }
+    ensures inside { IfSome result (λ place. place < length solved.now) }
+{
+    for (place, done) in solved.iter().enumerate() {
+        if entry.is_solved_by(done) {
+            return Some(place);
+        }
+    }
+    None
+}
+
+/// What is owed for a record that may be collected. What was solved of it is gone then, also where its notice is owed.
+pub(crate) fn deliver(entry: Entry, solved: &mut Vec<Done>) -> Delivery
+    requires ready { is_ready entry ≡ true }
+    requires there { (f : Task → ℕ) → finished_by f entry ≤ sum_by f solved.old.items }
+    ensures delivery { result ≡ delivery_of entry }
+    ensures gone { (f : Task → ℕ) → sum_by f solved.old.items ≡ sum_by f solved.new.items + finished_by f entry }
+    ensures capacity { vec_capacity solved.new ≡ vec_capacity solved.old }
+{
+    entry.has_own_task();
+    if !entry.is_finished() {
+        return entry.into_notice();
+    }
+    let Some(place) = place_of(solved, &entry) else {
+        unreachable!()
+    };
+    let done = solved.swap_remove(place);
+    if entry.is_withdrawn() {
+        return entry.into_notice();
+    }
+    entry.into_answer(done)
+}

@@ -1,0 +1,104 @@
+//! The commands over a FEN: what they show, and how each fault is named.
+
+use crate::shelves::{ALWAYS, run};
+use std::test::Fail;
+
+pub(crate) const START: &str = "rnbqkbnr/pppppppp/8/8/8/8/PPPPPPPP/RNBQKBNR w KQkq - 0 1";
+
+pub(crate) const MATED: &str = "rnb1kbnr/pppp1ppp/8/4p3/6Pq/5P2/PPPPP2P/RNBQKBNR w KQkq - 1 3";
+
+#[test]
+fn look_shows_the_fen_and_the_verdict(rt: HostRuntime) -> Result<(), Fail> {
+    let alloc = rt.alloc();
+    for (fen, verdict) in [(START, "no check"), (MATED, "check")] {
+        let ended = run(&rt, &["look", fen], ALWAYS, ALWAYS)?;
+        let want = format!(in alloc; "{fen}\n{verdict}\n")?;
+        assert_eq!(rt; ended.status, 0, "{fen}");
+        assert_eq!(rt; ended.out.as_slice(), want.as_bytes(), "{fen}");
+        assert_eq!(rt; ended.err.as_slice(), b"".as_slice(), "{fen}");
+    }
+    Ok(())
+}
+
+#[test]
+fn a_refused_fen_is_named_on_err(rt: HostRuntime) -> Result<(), Fail> {
+    let rows = [
+        ["look", ""],
+        ["look", "8/8"],
+        ["look", "-abc"],
+        ["moves", "-abc"],
+        ["look", "-"],
+        ["look", "-V"],
+        ["look", "--version"],
+        ["look", "--help-me"],
+    ];
+    for words in rows {
+        let fen = words[1];
+        let ended = run(&rt, words.as_slice(), ALWAYS, ALWAYS)?;
+        assert_eq!(rt; ended.status, 1, "{fen}");
+        assert_eq!(rt; ended.out.as_slice(), b"".as_slice(), "{fen}");
+        assert_eq!(rt;
+            ended.err.as_slice(),
+            b"matedesk: FieldCount\n".as_slice(),
+            "{fen}"
+        );
+    }
+    Ok(())
+}
+
+#[test]
+fn each_fault_of_a_fen_is_named(rt: HostRuntime) -> Result<(), Fail> {
+    let alloc = rt.alloc();
+    let rows = [
+        ("4k3/8/8/8/8/8/8/4K3 w - - 0 1 x", "FieldCount"),
+        ("4k3/8/8/8/8/8/8/4K3  w - - 0 1", "FieldCount"),
+        ("7kK/8/8/8/8/8/8/8 w - - 0 1", "BadPlacement"),
+        ("44/8/8/8/8/8/8/K1k5 w - - 0 1", "BadPlacement"),
+        ("4k3/8/8/8/8/8/8/4K3 W - - 0 1", "BadSide"),
+        ("4k3/8/8/8/8/8/8/4K3 w KK - 0 1", "BadCastling"),
+        ("4k3/8/8/8/4P3/8/8/4K3 w - e3 0 1", "BadTarget"),
+        ("4k3/8/8/8/8/8/8/4K3 w - - x 1", "BadCounter"),
+        ("8/8/8/8/8/8/8/K7 w - - 0 1", "BadKings"),
+        ("P7/8/8/8/8/8/8/K1k5 w - - 0 1", "PawnOnEndRank"),
+        ("4k3/8/8/8/8/P7/PPPPPPPP/RNBQKBNR w - - 0 1", "TooManyMen"),
+        ("4k3/8/8/8/8/8/8/4K3 w K - 0 1", "RightWithoutMen"),
+        ("4k3/8/8/8/8/8/8/4K3 w - e6 0 1", "TargetWithoutPawn"),
+        ("4k3/8/8/8/8/8/8/4RK2 w - - 0 1", "OpponentInCheck"),
+        ("8/8/8/8/8/8/8/Kk6 w - - 0 1", "OpponentInCheck"),
+    ];
+    for (fen, fault) in rows {
+        let message = format!(in alloc; "matedesk: {fault}\n")?;
+        for words in [["look", fen, ""], ["moves", fen, ""], ["perft", fen, "1"]] {
+            let given = if words[2].is_empty() { 2 } else { 3 };
+            let ended = run(&rt, &words[..given], ALWAYS, ALWAYS)?;
+            assert_eq!(rt; ended.status, 1, "{fen}");
+            assert_eq!(rt; ended.out.as_slice(), b"".as_slice(), "{fen}");
+            assert_eq!(rt; ended.err.as_slice(), message.as_bytes(), "{fen}");
+        }
+    }
+    Ok(())
+}
+
+#[test]
+fn moves_and_perft_show_what_is_legal(rt: HostRuntime) -> Result<(), Fail> {
+    let passing = "8/8/8/K2pP2r/8/8/8/7k w - d6 0 1";
+    let stalemate = "7k/5Q2/6K1/8/8/8/8/8 b - - 0 1";
+    let castling = "4kr2/8/8/8/8/8/8/R3K2R w KQ - 0 1";
+    let rows = [
+        (["moves", passing, ""], "Ka4\nKb4\nKb5\nKa6\nKb6\ne6\n"),
+        (["moves", MATED, ""], "mate\n"),
+        (["moves", stalemate, ""], "stalemate\n"),
+        (["perft", START, "0"], "1\n"),
+        (["perft", START, "2"], "400\n"),
+        (["perft", castling, "1"], "23\n"),
+        (["perft", MATED, "6"], "0\n"),
+    ];
+    for (words, text) in rows {
+        let given = if words[2].is_empty() { 2 } else { 3 };
+        let ended = run(&rt, &words[..given], ALWAYS, ALWAYS)?;
+        assert_eq!(rt; ended.status, 0, "{text}");
+        assert_eq!(rt; ended.out.as_slice(), text.as_bytes());
+        assert_eq!(rt; ended.err.as_slice(), b"".as_slice(), "{text}");
+    }
+    Ok(())
+}
