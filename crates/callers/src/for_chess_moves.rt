@@ -1,0 +1,27 @@
+//! Callers of `chess_moves`, as docs/CALLING.md shows them.
+
+ghost use Rattle.std.specs.Prelude.{◌≡◌, ℕ, length, IfSome, Contains};
+ghost use Rattle.chess_board.specs.MakeMove.{after_setup};
+ghost use Rattle.chess_board.specs.Moves.{Move};
+ghost use Rattle.chess_moves.specs.inside.Listing.{legal_moves};
+
+use chess_board::{Position, after};
+use chess_moves::{Rays, legal, legal_listed};
+
+/// How many legal moves there are.
+pub fn mobility(rays: &Rays, position: &Position) -> usize
+    ensures { result ≡ length (legal_moves position.now) }
+{
+    legal(rays, position).len()
+}
+
+/// The position after the first legal move; none where there is no legal move.
+pub fn after_first(rays: &Rays, position: &Position) -> Option<Position>
+    ensures { IfSome result (λ next. (m : Move) × Contains (legal_moves position.now) m × (next ≡ after_setup position.now m)) }
+{
+    legal_listed();
+    for m in legal(rays, position).as_slice() {
+        return Some(after(position, *m));
+    }
+    None
+}

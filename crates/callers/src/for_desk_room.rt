@@ -1,0 +1,48 @@
+//! Callers of `desk_room`, as docs/CALLING.md shows them.
+
+ghost use Rattle.std.specs.Prelude.{◌≡◌, [], ◌∷◌, ◌++◌, map, IfOk, IfSome};
+ghost use Rattle.desk_room.specs.Serving.{AreReplies};
+ghost use Rattle.desk_room.specs.Windows.{collected};
+
+use chess_moves::Rays;
+use chess_notation::Bound;
+use desk_room::{Back, Bench, Keeper, OpenGate, RoomFault, Taken, Window, serve};
+use mate_desk::Delivery;
+use mate_search::{Memo, Output};
+use std::alloc::Global;
+use std::sync::Wait;
+use std::thread::Threads;
+
+/// The replies to inputs, by four benches.
+pub fn on_threads<R: Threads + Wait + Sync>(
+    rt: &R,
+    alloc: Global,
+    inputs: &[Vec<u8>],
+    default: Bound,
+) -> Result<Vec<Output>, RoomFault>
+    ensures { IfOk result (λ outputs. AreReplies default (map (λ input. input.items) inputs.now) outputs.items) }
+{
+    serve(rt, alloc, &Rays::new(), inputs, default, 4, &OpenGate)
+}
+
+/// One round of a room whose ends are all on this thread: what the window collects once a line was sent; none where something is
+/// refused, or not yet there.
+pub fn one_round(
+    alloc: Global,
+    rays: &Rays,
+    memo: &mut Memo,
+    line: &[u8],
+    window: &mut Window,
+    keeper: &mut Keeper,
+    bench: &mut Bench,
+) -> Option<Delivery>
+    ensures { IfSome result (λ d. collected window.new ≡ collected window.old ++ d ∷ []) }
+{
+    window.submit(alloc, rays, line).ok()?;
+    keeper.turn();
+    if let Taken::Job(job) = bench.take() {
+        bench.back(Back::Solved(job.solve(rays, memo))).ok()?;
+    }
+    keeper.turn();
+    window.collect()
+}

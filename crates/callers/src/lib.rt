@@ -1,0 +1,11 @@
+//! What docs/CALLING.md shows, so that each caller of that page is proved as it stands there: a file for each crate that is called,
+//! lowest first. `tests/callers` holds the page and the files to one another.
+#![tactic(auto)]
+
+pub mod for_chess_board;
+pub mod for_chess_moves;
+pub mod for_chess_notation;
+pub mod for_desk_room;
+pub mod for_mate_desk;
+pub mod for_mate_search;
+pub mod for_square_sets;
