@@ -20,10 +20,10 @@ use Rattle.chess_board.specs.Soundness.{IsSound, has_men_of_right}
 use Rattle.chess_board.specs.PseudoLegal.{piece_goes, goes, suits}
 use Rattle.chess_board.specs.MakeMove.{men_after}
 use Rattle.chess_board.specs.Castling.{king_home, rook_home, king_goal, castles_to, castles, rook, wing_of, castled}
-use Rattle.chess_moves.specs.declared.check_info.CheckInfo.{CheckInfo}
+use Rattle.chess_moves.specs.declared.legality_info.LegalityInfo.{LegalityInfo}
 use Rattle.chess_moves.specs.inside.Hits.{is_hit}
 use Rattle.chess_moves.specs.inside.Listing.{move_of}
-use Rattle.chess_moves.specs.inside.CheckInfo.{IsCheckInfoOf}
+use Rattle.chess_moves.specs.inside.LegalityInfo.{IsLegalityInfoOf}
 use Rattle.chess_moves.proofs.Bridge.{attacked_same}
 use Rattle.chess_moves.proofs.Castled.{unattacked_castled}
 use Rattle.chess_moves.proofs.CastlingWays.{Castles, castles_says}
@@ -84,13 +84,13 @@ goal_apart Black KingSide = (λ e. omega arith, λ e. omega arith)
 goal_apart Black QueenSide = (λ e. omega arith, λ e. omega arith)
 
 -- Once it stepped, the king is in check where the square is attacked to which it went.
-pub in_check_stepped : (info : CheckInfo) (p : Setup) (b : ℕ) → IsCheckInfoOf info p → b < 64 → eqb (file_gap info.king b) 2 ≡ false
+pub in_check_stepped : (info : LegalityInfo) (p : Setup) (b : ℕ) → IsLegalityInfoOf info p → b < 64 → eqb (file_gap info.king b) 2 ≡ false
     → is_in_check (men_after p (king p.side) (move_of info.king b None)) p.side ≡ is_hit (moved p.men info.king b (king p.side)) b (other_side p.side)
 in_check_stepped info p b h on near =
     rw near (in_check_there (moved p.men info.king b (king p.side)) p.side b (king_goes p.men p.side info.king b h.sound.squares on (king_of_scene info p h)))
 
 -- The same once it castled.
-in_check_castled : (info : CheckInfo) (p : Setup) (b : ℕ) → IsCheckInfoOf info p → b < 64 → goes p p.side King info.king b ≡ true → eqb (file_gap info.king b) 2 ≡ true
+in_check_castled : (info : LegalityInfo) (p : Setup) (b : ℕ) → IsLegalityInfoOf info p → b < 64 → goes p p.side King info.king b ≡ true → eqb (file_gap info.king b) 2 ≡ true
     → is_in_check (men_after p (king p.side) (move_of info.king b None)) p.side
     ≡ is_hit (moved (moved p.men info.king b (king p.side)) (rook_home p.side (wing_of info.king b)) (crossed info.king b) (rook p.side)) b (other_side p.side)
 in_check_castled info p b h on goes_there far =
@@ -109,7 +109,7 @@ found_rook c None h = absurd (cc)
 found_rook c (Some man) h = (man, refl, own_rook_not_other c (Some man) h)
 
 -- A king that castled is not in check.
-pub safe_castled : (info : CheckInfo) (p : Setup) (b : ℕ) → IsCheckInfoOf info p → b < 64 → goes p p.side King info.king b ≡ true → eqb (file_gap info.king b) 2 ≡ true
+pub safe_castled : (info : LegalityInfo) (p : Setup) (b : ℕ) → IsLegalityInfoOf info p → b < 64 → goes p p.side King info.king b ≡ true → eqb (file_gap info.king b) 2 ≡ true
     → is_in_check (men_after p (king p.side) (move_of info.king b None)) p.side ≡ false
 safe_castled info p b h on goes_there far =
     let c : Colour = p.side in
@@ -128,7 +128,7 @@ abbrev pub safe_at : Setup → ℕ → ℕ → Bool
 safe_at p a b = not (is_in_check (men_after p (king p.side) (move_of a b None)) p.side)
 
 -- The origin of a king is that of the check information.
-pub king_origin : (info : CheckInfo) (p : Setup) (man : Man) (o : ℕ) → IsCheckInfoOf info p → o < 64 → man_at p.men o ≡ Some man → man.colour ≡ p.side → man.kind ≡ King → o ≡ info.king
+pub king_origin : (info : LegalityInfo) (p : Setup) (man : Man) (o : ℕ) → IsLegalityInfoOf info p → o < 64 → man_at p.men o ≡ Some man → man.colour ≡ p.side → man.kind ≡ King → o ≡ info.king
 king_origin info p man o h on there own is_king =
     let colour = same_colour p.side p.side refl in
     (king_of_scene info p h).alone o on (rw (there, is_king, own, colour) refl)

@@ -16,8 +16,8 @@ use Rattle.chess_board.specs.PseudoLegal.{suits, promotes, is_promotion, goes, p
 use Rattle.chess_board.specs.Legality.{is_legal}
 use Rattle.chess_board.specs.EnPassant.{is_square, is_en_passant}
 use Rattle.chess_board.specs.Castling.{castles, is_castling}
-use Rattle.chess_moves.specs.declared.check_info.CheckInfo.{CheckInfo}
-use Rattle.chess_moves.specs.inside.CheckInfo.{IsCheckInfoOf}
+use Rattle.chess_moves.specs.declared.legality_info.LegalityInfo.{LegalityInfo}
+use Rattle.chess_moves.specs.inside.LegalityInfo.{IsLegalityInfoOf}
 use Rattle.chess_moves.specs.inside.CheckSquares.{is_special}
 use Rattle.chess_moves.proofs.KingTargets.{king_origin}
 use Rattle.chess_moves.proofs.Played.{played, IsPlayed}
@@ -59,7 +59,7 @@ no_step p c o t two =
     none true y z = refl
     none false y z = refl
 
-pub plain_king : (info : CheckInfo) (p : Setup) (man : Man) (m : Move) → IsCheckInfoOf info p → is_legal p m ≡ true → man_at p.men m.origin ≡ Some man → m.origin < 64
+pub plain_king : (info : LegalityInfo) (p : Setup) (man : Man) (m : Move) → IsLegalityInfoOf info p → is_legal p m ≡ true → man_at p.men m.origin ≡ Some man → m.origin < 64
     → man.kind ≡ King → castles p p.side info.king m.target ≡ false → is_special p man m ≡ false
 plain_king info p man m h legal there on king none =
     let by = as_played p m man there legal in
