@@ -6,7 +6,8 @@ use Rattle.chess_board.specs.Men.{other_side, has_right_of}
 use Rattle.chess_board.specs.Attacks.{is_clear, is_attacked}
 use Rattle.chess_board.specs.Castling.{king_home, rook_home, king_goal, castles_to}
 use Rattle.chess_board.specs.Squares.{crossed}
-use Rattle.chess_moves.proofs.SetParts.{has_none, eqb_turned}
+use Rattle.chess_moves.proofs.SetBits.{has_none}
+use Rattle.chess_moves.proofs.SetParts.{eqb_turned}
 use Rattle.chess_moves.proofs.CastlingWays.{castles_says, castles_from, clear_way}
 use Rattle.chess_moves.proofs.castling_targets.castling_target.Goals as goal
 use Rattle.chess_moves.proofs.castling_targets.castling_target.Goals.{then-is_checked-via-then-is_checked, then-is_checked-via-else-is_checked+then-is_attacked_in, then-is_checked-via-else-is_checked+else-is_attacked_in+then-is_attacked_in-2}

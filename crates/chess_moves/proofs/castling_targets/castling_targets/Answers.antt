@@ -4,7 +4,8 @@ use Rattle.chess_board.specs.declared.men.Wing.{Wing}
 use Rattle.chess_board.specs.declared.men.Wing.TheVariants.{KingSide, QueenSide}
 use Rattle.chess_board.specs.Castling.{castles_to, king_home}
 use Rattle.chess_moves.proofs.CastlingWays.{castles_says}
-use Rattle.chess_moves.proofs.SetParts.{joined, has_none}
+use Rattle.chess_moves.proofs.SetBits.{has_none}
+use Rattle.chess_moves.proofs.SetParts.{joined}
 use Rattle.chess_moves.proofs.castling_targets.castling_targets.Goals as goal
 
 pub returns-then-info-index : goal.returns-then-info-index

@@ -7,7 +7,7 @@ use Rattle.chess_board.specs.Sets.{IsSetOf}
 use Rattle.chess_moves.specs.inside.Hits.{hits_from}
 use Rattle.chess_moves.specs.inside.Forces.{StandFor}
 use Rattle.chess_moves.specs.inside.LegalityInfo.{gets_through}
-use Rattle.chess_moves.proofs.AttackSets.{joined}
+use Rattle.chess_moves.proofs.SetParts.{joined}
 use Rattle.chess_moves.proofs.legality_info.legality_info_of.Goals as goal
 
 pub returns : goal.returns

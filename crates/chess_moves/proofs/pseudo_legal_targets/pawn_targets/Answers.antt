@@ -11,7 +11,8 @@ use Rattle.chess_moves.specs.declared.directions.Leap.{Leap}
 use Rattle.chess_moves.specs.inside.Leaps.{leaps}
 use Rattle.chess_moves.proofs.AnyLemmas.{any_some}
 use Rattle.chess_moves.proofs.SharedSquares.{nonzero}
-use Rattle.chess_moves.proofs.SetParts.{joined, has_none}
+use Rattle.chess_moves.proofs.SetBits.{has_none}
+use Rattle.chess_moves.proofs.SetParts.{joined}
 use Rattle.chess_moves.proofs.PawnSets.{once_set, twice_set, takes_set, twice_without_once}
 use Rattle.chess_moves.proofs.pseudo_legal_targets.pawn_targets.Goals as goal
 
