@@ -1,5 +1,5 @@
 -- The squares strictly between two squares in line are those that a walk from the one to the other meets.
-use Rattle.std.proofs.Common.{◌≡◌, ℕ, ◌+◌, ◌-◌, ◌<◌, ◌⊎◌, inl, inr, sym, ap, subst, ◌∙◌, arith, List, Option, Some, None, max, Bool, true, false, ◌&&◌, ◌||◌, not, refl, eqb}
+use Rattle.std.proofs.Common.{◌≡◌, ℕ, ◌+◌, ◌-◌, ◌<◌, ◌⊎◌, inl, inr, sym, ap, subst, ◌∙◌, arith, List, Option, Some, None, max, true, false, ◌||◌, not, refl, eqb}
 use Rattle.std.specs.Prelude.{is_some}
 use Rattle.std.proofs.lemmas.Bool.Decides.{nat_tests}
 use Rattle.std.proofs.lemmas.Bool.{and_parts, or_cases, or_left, or_right, eqb-true, eq-eqb}
@@ -9,6 +9,7 @@ use Rattle.chess_board.specs.inside.Walks.{toward_of, walked}
 use Rattle.chess_board.specs.Positions.{man_at, is_empty}
 use Rattle.chess_board.specs.Attacks.{is_amid, is_between, is_between_on_rank, is_between_on_file, is_between_on_diagonal, is_clear, is_rook_line, is_bishop_line, on_one_rank, on_one_file, on_one_diagonal}
 use Rattle.chess_board.proofs.Below.{all_from, all_not}
+use Rattle.chess_board.proofs.Conjunctions.{all_three, all_five}
 
 -- x lies strictly between a and b
 abbrev IsAmid : ℕ → ℕ → ℕ → Type 0
@@ -52,29 +53,14 @@ IsBetween a b s =
     ⊎ ((file_of a ≡ file_of b) × (file_of a ≡ file_of s) × IsAmid (rank_of a) (rank_of b) (rank_of s))
     ⊎ ((file_gap a b ≡ rank_gap a b) × (file_gap a s ≡ rank_gap a s) × (file_gap s b ≡ rank_gap s b) × IsAmid (file_of a) (file_of b) (file_of s) × IsAmid (rank_of a) (rank_of b) (rank_of s))
 
--- the parts of a conjunction
-and3 : (x y z : Bool) → (x && y && z) ≡ true → (x ≡ true) × (y ≡ true) × (z ≡ true)
-and3 true true true h = (refl, refl, refl)
-and3 true true false h = cc
-and3 true false z h = cc
-and3 false y z h = cc
-
-and5 : (x y z u v : Bool) → (x && y && z && u && v) ≡ true → (x ≡ true) × (y ≡ true) × (z ≡ true) × (u ≡ true) × (v ≡ true)
-and5 true true true true true h = (refl, refl, refl, refl, refl)
-and5 true true true true false h = cc
-and5 true true true false v h = cc
-and5 true true false u v h = cc
-and5 true false z u v h = cc
-and5 false y z u v h = cc
-
 between_reads : (a b s : ℕ) → is_between a b s ≡ true → IsBetween a b s
 between_reads a b s h = elim (or_cases (is_between_on_rank a b s || is_between_on_file a b s) (is_between_on_diagonal a b s) h) [
   | inl t ↦ elim (or_cases (is_between_on_rank a b s) (is_between_on_file a b s) t) [
-    | inl r ↦ let p = and3 (on_one_rank a b) (on_one_rank a s) (is_amid (file_of a) (file_of b) (file_of s)) r in inl (eqb-true _ _ p.0, eqb-true _ _ p.1, amid_reads _ _ _ p.2)
-    | inr r ↦ let p = and3 (on_one_file a b) (on_one_file a s) (is_amid (rank_of a) (rank_of b) (rank_of s)) r in inr (inl (eqb-true _ _ p.0, eqb-true _ _ p.1, amid_reads _ _ _ p.2))
+    | inl r ↦ let p = all_three (on_one_rank a b) (on_one_rank a s) (is_amid (file_of a) (file_of b) (file_of s)) r in inl (eqb-true _ _ p.0, eqb-true _ _ p.1, amid_reads _ _ _ p.2)
+    | inr r ↦ let p = all_three (on_one_file a b) (on_one_file a s) (is_amid (rank_of a) (rank_of b) (rank_of s)) r in inr (inl (eqb-true _ _ p.0, eqb-true _ _ p.1, amid_reads _ _ _ p.2))
   ]
   | inr r ↦
-      let p = and5 (on_one_diagonal a b) (on_one_diagonal a s) (on_one_diagonal s b) (is_amid (file_of a) (file_of b) (file_of s)) (is_amid (rank_of a) (rank_of b) (rank_of s)) r in
+      let p = all_five (on_one_diagonal a b) (on_one_diagonal a s) (on_one_diagonal s b) (is_amid (file_of a) (file_of b) (file_of s)) (is_amid (rank_of a) (rank_of b) (rank_of s)) r in
       inr (inr (eqb-true _ _ p.0, eqb-true _ _ p.1, eqb-true _ _ p.2, amid_reads _ _ _ p.3, amid_reads _ _ _ p.4))
 ]
 

@@ -1,6 +1,6 @@
 //! FEN, read and printed.
 
-ghost use Rattle.std.specs.Prelude.{◌≡◌, ◌↔◌, ℕ, ◌≤◌, ◌≢◌, ◌∷◌, [], Ok, IfSome, IfNone, IfOk, IfErr, length};
+ghost use Rattle.std.specs.Prelude.{◌≡◌, ◌↔◌, ◌≤◌, ◌≢◌, ◌∷◌, [], Ok, IfSome, IfNone, IfOk, IfErr, length};
 ghost use Rattle.chess_board.specs.Positions.{Setup as SetupValue};
 ghost use Rattle.chess_board.specs.Soundness.{IsSound};
 ghost use Rattle.chess_board.specs.Faults.{IsFirst, spelling_faults, field_faults};

@@ -46,6 +46,6 @@ pub use squares::Square;
 #[cfg(test)]
 mod board_tests;
 #[cfg(test)]
-mod move_tests;
+mod fen_tests;
 #[cfg(test)]
-mod tests;
+mod move_tests;

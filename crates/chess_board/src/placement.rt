@@ -1,6 +1,6 @@
 //! The placement field of a FEN, read and printed, rank by rank (PGN Specification, 16.1.3.1).
 
-ghost use Rattle.std.specs.Prelude.{◌≡◌, ℕ, ◌+◌, ◌*◌, ◌<◌, ◌≤◌, ◌++◌, List, Option, None, length, replicate, take, drop, IfSome, IfNone};
+ghost use Rattle.std.specs.Prelude.{◌≡◌, ◌+◌, ◌*◌, ◌<◌, ◌≤◌, ◌++◌, List, Option, None, length, replicate, take, drop, IfSome, IfNone};
 ghost use Rattle.arrayvec.specs.ArrayString.{array_string_len};
 ghost use Rattle.arrayvec.specs.ArrayVec.{array_vec_len};
 ghost use Rattle.chess_board.specs.Placement.{kind_letter, man_letter, run_text, rank_text, placement_text, SpellsPlacement};

@@ -13,7 +13,7 @@ use Rattle.chess_board.specs.Positions.{man_at}
 use Rattle.chess_board.specs.Squares.{file_gap}
 use Rattle.chess_moves.specs.declared.directions.Direction.TheVariants.{North, NorthEast, East, SouthEast, South, SouthWest, West, NorthWest}
 use Rattle.chess_moves.specs.declared.directions.Leap.TheVariants.{KnightLeap, KingStep}
-use Rattle.chess_moves.specs.inside.CheckInfo.{gets_through}
+use Rattle.chess_moves.specs.inside.LegalityInfo.{gets_through}
 use Rattle.chess_moves.specs.inside.Directions.{toward, stands_between, reaches_as_bishop, reaches_as_rook}
 use Rattle.chess_moves.specs.inside.Hits.{is_taken, hits_as, place_hits, hits_from, is_hit}
 use Rattle.chess_moves.specs.inside.Leaps.{leaps, capture_of}

@@ -20,17 +20,15 @@ use Rattle.chess_moves.specs.inside.Leaps.{leaps, capture_of, capture_back}
 use Rattle.chess_moves.specs.inside.Hits.{is_taken, hits_as, place_hits, hits_from}
 use Rattle.chess_moves.specs.inside.Forces.{is_knight_kind, StandFor, is_one, is_diagonal_kind, is_straight_kind}
 use Rattle.std.proofs.Math.Bool.{and-false}
-use Rattle.chess_moves.proofs.SetBits.{has_and, has_or, has_less, has_none}
+use Rattle.chess_moves.proofs.SetBits.{has_or, has_less, has_none}
+use Rattle.chess_moves.proofs.SetParts.{part}
 use Rattle.chess_moves.proofs.AnyLemmas.{any_same, any_none, any_at}
 use Rattle.chess_moves.proofs.SharedSquares.{meets_is}
 use Rattle.chess_board.specs.Squares.{any_below}
 use Rattle.chess_moves.proofs.Geometry.{toward_back, knight_back, king_back, capture_mirrored}
 use Rattle.chess_moves.proofs.Slides.{blocked_back}
 
--- the squares of two sets together, of four, of five, and of eight
-pub joined : (a b t : ℕ) (p q : Bool) → has a t ≡ p → has b t ≡ q → has (bit_or a b) t ≡ (p || q)
-joined a b t p q ea eb = rw (has_or a b t, ea, eb)
-
+-- the squares of four sets together, of five, and of eight
 pub four : (a b c d t : ℕ) (p q r s : Bool) → has a t ≡ p → has b t ≡ q → has c t ≡ r → has d t ≡ s
     → has (bit_or (bit_or (bit_or a b) c) d) t ≡ (p || q || r || s)
 four a b c d t p q r s ea eb ec ed = rw (has_or (bit_or (bit_or a b) c) d t, has_or (bit_or a b) c t, has_or a b t, ea, eb, ec, ed)
@@ -84,10 +82,6 @@ open_four lines a b c d t p q r s u v w x fits l on ea eb ec ed pq pr ps qr qs r
     one_ray false false true false u v w x pq pr ps qr qs rs = third w
     one_ray false false false true u v w x pq pr ps qr qs rs = refl
     one_ray false false false false u v w x pq pr ps qr qs rs = refl
-
--- what two sets share
-pub part : (a b t : ℕ) (p q : Bool) → has a t ≡ p → has b t ≡ q → has (bit_and a b) t ≡ (p && q)
-part a b t p q ea eb = rw (has_and a b t, ea, eb)
 
 -- what lies in a direction from a, and in the opposite one from b
 pub along : (d : Direction) (a b t x y : ℕ) → has x t ≡ toward d a t → has y t ≡ toward (opposite d) b t

@@ -12,7 +12,7 @@ use Rattle.chess_board.specs.Men.{is_colour}
 use Rattle.chess_board.specs.Positions.{moved, man_at}
 use Rattle.chess_board.specs.Squares.{crossed, all_below}
 use Rattle.chess_board.specs.Castling.{king_goal, king_home, rook_home}
-use Rattle.chess_moves.specs.inside.CheckInfo.{gets_through}
+use Rattle.chess_moves.specs.inside.LegalityInfo.{gets_through}
 use Rattle.chess_moves.specs.inside.Directions.{toward, stands_between}
 use Rattle.chess_moves.specs.inside.Hits.{is_taken, place_hits, hits_from, is_hit}
 use Rattle.chess_moves.proofs.AnyLemmas.{any_none, any_at}

@@ -10,7 +10,7 @@ use Rattle.chess_moves.specs.declared.directions.Direction.{Direction}
 use Rattle.chess_moves.specs.declared.directions.Direction.TheVariants.{North, NorthEast, East, SouthEast, South, SouthWest, West, NorthWest}
 use Rattle.chess_moves.specs.inside.Directions.{toward, stands_between}
 use Rattle.chess_moves.specs.inside.Hits.{is_taken, hits_from, is_hit, place_hits, hits_as}
-use Rattle.chess_moves.specs.inside.CheckInfo.{gets_through}
+use Rattle.chess_moves.specs.inside.LegalityInfo.{gets_through}
 use Rattle.chess_moves.proofs.AnyLemmas.{any_same}
 use Rattle.chess_moves.proofs.Geometry.{toward_self}
 use Rattle.chess_moves.proofs.OwnColours.{other_colour}

@@ -8,7 +8,8 @@ use Rattle.chess_moves.specs.declared.directions.Direction.{Direction}
 use Rattle.chess_moves.specs.declared.directions.Direction.TheVariants.{North, NorthEast, East, SouthEast, South, SouthWest, West, NorthWest}
 use Rattle.chess_moves.specs.inside.Directions.{toward, is_blocked, reaches, reaches_as_bishop, reaches_as_rook, is_on_diagonal, is_on_straight, sights_as_bishop, sights_as_rook}
 use Rattle.chess_moves.proofs.AnyLemmas.{any_none}
-use Rattle.chess_moves.proofs.AttackSets.{part, slants_back, straight_back}
+use Rattle.chess_moves.proofs.SetParts.{part}
+use Rattle.chess_moves.proofs.AttackSets.{slants_back, straight_back}
 use Rattle.chess_moves.proofs.Removed.{four_none}
 use Rattle.chess_moves.proofs.SetBits.{has_none}
 

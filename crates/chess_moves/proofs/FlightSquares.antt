@@ -22,7 +22,7 @@ use Rattle.chess_moves.specs.inside.Flights.{IsFlight, leaves_flight}
 use Rattle.chess_moves.specs.inside.Hits.{is_taken, hits_as, hits_from, is_hit}
 use Rattle.chess_moves.specs.inside.Leaps.{leaps}
 use Rattle.chess_moves.specs.inside.Listing.{move_of, legal_moves}
-use Rattle.chess_moves.specs.inside.CheckInfo.{gets_through}
+use Rattle.chess_moves.specs.inside.LegalityInfo.{gets_through}
 use Rattle.chess_moves.specs.inside.CheckSquares.{is_special}
 use Rattle.chess_moves.specs.Verdicts.{has_legal_move, is_mate}
 use Rattle.chess_moves.proofs.AnyLemmas.{any_none, any_at}

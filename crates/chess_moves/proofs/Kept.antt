@@ -7,7 +7,7 @@ use Rattle.square_sets.specs.Members.{has}
 use Rattle.square_sets.specs.BitScan.{IsSplit}
 use Rattle.chess_board.specs.Squares.{any_below}
 use Rattle.chess_moves.specs.inside.Directions.{stands_between}
-use Rattle.chess_moves.specs.inside.CheckInfo.{gets_through}
+use Rattle.chess_moves.specs.inside.LegalityInfo.{gets_through}
 use Rattle.chess_moves.proofs.SetBits.{has_and}
 use Rattle.chess_moves.proofs.AnyLemmas.{any_same, any_or, any_none, any_at}
 

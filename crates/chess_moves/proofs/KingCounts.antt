@@ -10,8 +10,8 @@ use Rattle.chess_board.specs.Legality.{is_legal}
 use Rattle.chess_board.specs.Men.{is_man}
 use Rattle.chess_board.specs.Positions.{Setup, man_at}
 use Rattle.chess_board.specs.Sets.{IsSetOf}
-use Rattle.chess_moves.specs.declared.check_info.CheckInfo.{CheckInfo}
-use Rattle.chess_moves.specs.inside.CheckInfo.{IsCheckInfoOf}
+use Rattle.chess_moves.specs.declared.legality_info.LegalityInfo.{LegalityInfo}
+use Rattle.chess_moves.specs.inside.LegalityInfo.{IsLegalityInfoOf}
 use Rattle.chess_moves.specs.inside.Listing.{moves_to}
 use Rattle.chess_moves.specs.inside.MoveGeneration.{moves_of_men}
 use Rattle.chess_moves.proofs.MovedKings.{king_of_scene}
@@ -29,7 +29,7 @@ has-one_square k s l h = (elim (eqb s k) as (λ b. eqb s k ≡ b → has (one_sq
 ]) refl
 
 -- the king's set is that of its square
-pub king_alone : (info : CheckInfo) (p : Setup) → IsCheckInfoOf info p → IsSetOf (one_square info.king) (is_man info.side King) p.men
+pub king_alone : (info : LegalityInfo) (p : Setup) → IsLegalityInfoOf info p → IsSetOf (one_square info.king) (is_man info.side King) p.men
 king_alone info p h =
     let one = king_of_scene info p h in
     let there : is_man info.side King (man_at p.men info.king) ≡ true =

@@ -13,8 +13,8 @@ use Rattle.chess_board.specs.Positions.{Setup, man_at}
 use Rattle.chess_board.specs.Sets.{IsSetOf}
 use Rattle.chess_board.specs.MakeMove.{after_setup}
 use Rattle.chess_board.specs.Moves.{Move}
-use Rattle.chess_moves.specs.declared.check_info.CheckInfo.{CheckInfo}
-use Rattle.chess_moves.specs.inside.CheckInfo.{IsCheckInfoOf}
+use Rattle.chess_moves.specs.declared.legality_info.LegalityInfo.{LegalityInfo}
+use Rattle.chess_moves.specs.inside.LegalityInfo.{IsLegalityInfoOf}
 use Rattle.chess_moves.specs.GivesCheck.{gives_check}
 use Rattle.chess_moves.specs.Verdicts.{has_legal_move, is_mate}
 use Rattle.chess_moves.specs.inside.MoveGeneration.{moves_of_men, HaveOwnMen}
@@ -30,7 +30,7 @@ own_king Black = refl
 abbrev pub IsKing : ℕ → ℕ → Type 0
 IsKing set king = (s : ℕ) → s < 64 → has set s ≡ eqb s king
 
-pub king_is_own : (info : CheckInfo) (p : Setup) (set : ℕ) → IsCheckInfoOf info p → IsKing set info.king → HaveOwnMen set p
+pub king_is_own : (info : LegalityInfo) (p : Setup) (set : ℕ) → IsLegalityInfoOf info p → IsKing set info.king → HaveOwnMen set p
 king_is_own info p set h is s l on =
     let here : eqb s info.king ≡ true = sym (is s l) ∙ on in
     ap (λ q. is_of p.side (man_at p.men q)) (eqb-true s info.king here) ∙ ap (is_of p.side) h.king ∙ own_king p.side
@@ -60,7 +60,7 @@ one_below p set k (suc n) is l = (elim (eqb n k) as (λ b. eqb n k ≡ b → man
 ]) refl
 
 -- The king's moves and those of the other men are all.
-pub moves_apart : (info : CheckInfo) (p : Setup) (set : ℕ) → IsCheckInfoOf info p → set < 2 ^ 64 → IsKing set info.king
+pub moves_apart : (info : LegalityInfo) (p : Setup) (set : ℕ) → IsLegalityInfoOf info p → set < 2 ^ 64 → IsKing set info.king
     → has_legal_move p ≡ (nat_lt 0 (many_from p info.king) || nat_lt 0 (length (moves_of_men p (members (bit_and info.own (bit_not w64 set))))))
 unfolding members
 moves_apart info p set h fits is =
@@ -76,7 +76,7 @@ moves_apart info p set h fits is =
     ]) refl
 
 -- Where the king has a move, there is one.
-pub king_moves : (info : CheckInfo) (p : Setup) → IsCheckInfoOf info p → nat_lt 0 (many_from p info.king) ≡ true → has_legal_move p ≡ true
+pub king_moves : (info : LegalityInfo) (p : Setup) → IsLegalityInfoOf info p → nat_lt 0 (many_from p info.king) ≡ true → has_legal_move p ≡ true
 unfolding members
 king_moves info p h some =
     let own : has info.own info.king ≡ true = h.own info.king h.on_board ∙ ap (is_of p.side) h.king ∙ own_king p.side in

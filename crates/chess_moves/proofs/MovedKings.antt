@@ -8,9 +8,9 @@ use Rattle.chess_board.specs.Men.{other_side, man_of}
 use Rattle.chess_board.specs.inside.KindTests.{is_king_of}
 use Rattle.chess_board.specs.Positions.{Setup, man_at, moved, cleared}
 use Rattle.chess_board.specs.Attacks.{is_in_check}
-use Rattle.chess_moves.specs.declared.check_info.CheckInfo.{CheckInfo}
+use Rattle.chess_moves.specs.declared.legality_info.LegalityInfo.{LegalityInfo}
 use Rattle.chess_moves.specs.inside.Hits.{is_hit}
-use Rattle.chess_moves.specs.inside.CheckInfo.{IsCheckInfoOf}
+use Rattle.chess_moves.specs.inside.LegalityInfo.{IsLegalityInfoOf}
 use Rattle.chess_moves.proofs.OneKing.{only_king, in_check_at}
 
 -- The colour's king stands on the square, and on no other.
@@ -22,7 +22,7 @@ pub record IsKingAt (men : List (Option Man)) (c : Colour) (k : ℕ) : Type 0 wh
 pub in_check_there : (men : List (Option Man)) (c : Colour) (k : ℕ) → IsKingAt men c k → is_in_check men c ≡ is_hit men k (other_side c)
 in_check_there men c k h = in_check_at men c k h.on_board h.here h.alone
 
-pub king_of_scene : (info : CheckInfo) (p : Setup) → IsCheckInfoOf info p → IsKingAt p.men p.side info.king
+pub king_of_scene : (info : LegalityInfo) (p : Setup) → IsLegalityInfoOf info p → IsKingAt p.men p.side info.king
 king_of_scene info p h = record {
   on_board = h.on_board;
   here = h.king;

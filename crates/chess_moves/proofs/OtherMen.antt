@@ -10,9 +10,9 @@ use Rattle.chess_board.specs.Positions.{Setup, man_at, moved}
 use Rattle.chess_board.specs.Attacks.{is_in_check}
 use Rattle.chess_board.specs.PseudoLegal.{promotes, suits}
 use Rattle.chess_board.specs.MakeMove.{becomes}
-use Rattle.chess_moves.specs.declared.check_info.CheckInfo.{CheckInfo}
+use Rattle.chess_moves.specs.declared.legality_info.LegalityInfo.{LegalityInfo}
 use Rattle.chess_moves.specs.inside.Hits.{is_hit}
-use Rattle.chess_moves.specs.inside.CheckInfo.{IsCheckInfoOf}
+use Rattle.chess_moves.specs.inside.LegalityInfo.{IsLegalityInfoOf}
 use Rattle.chess_moves.proofs.OwnColours.{same_colour, no_king_of}
 use Rattle.chess_moves.proofs.MovedKings.{IsKingAt, in_check_there, king_of_scene, king_stays}
 
@@ -41,13 +41,13 @@ king_off : (men : List (Option Man)) (c : Colour) (k t : ℕ) → man_at men k �
 king_off men c k t here none e = let x = rw (← e, here) at none in let y = same_colour c c refl in cc
 
 -- The king keeps its square.
-pub king_beside : (info : CheckInfo) (p : Setup) (man new : Man) (o t : ℕ) → IsCheckInfoOf info p → man_at p.men o ≡ Some man → is_king_kind man.kind ≡ false
+pub king_beside : (info : LegalityInfo) (p : Setup) (man new : Man) (o t : ℕ) → IsLegalityInfoOf info p → man_at p.men o ≡ Some man → is_king_kind man.kind ≡ false
     → is_of p.side (man_at p.men t) ≡ false → is_king_kind new.kind ≡ false → IsKingAt (moved p.men o t new) p.side info.king
 king_beside info p man new o t h there no_king free stays =
     king_stays p.men p.side info.king o t new h.sound.squares (king_of_scene info p h) (king_apart p.men p.side info.king o man h.king there no_king)
     (king_off p.men p.side info.king t h.king free) (no_king_of p.side new stays)
 
-pub in_check_beside : (info : CheckInfo) (p : Setup) (man new : Man) (o t : ℕ) → IsCheckInfoOf info p → man_at p.men o ≡ Some man → is_king_kind man.kind ≡ false
+pub in_check_beside : (info : LegalityInfo) (p : Setup) (man new : Man) (o t : ℕ) → IsLegalityInfoOf info p → man_at p.men o ≡ Some man → is_king_kind man.kind ≡ false
     → is_of p.side (man_at p.men t) ≡ false → is_king_kind new.kind ≡ false
     → is_in_check (moved p.men o t new) p.side ≡ is_hit (moved p.men o t new) info.king (other_side p.side)
 in_check_beside info p man new o t h there no_king free stays =

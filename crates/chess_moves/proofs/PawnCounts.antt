@@ -14,11 +14,11 @@ use Rattle.chess_board.specs.Positions.{Setup, man_at, is_empty, moved}
 use Rattle.chess_board.specs.PseudoLegal.{promotes, steps_once, steps_twice, takes}
 use Rattle.chess_board.specs.MakeMove.{becomes}
 use Rattle.chess_board.specs.Legality.{is_legal}
-use Rattle.chess_moves.specs.declared.check_info.CheckInfo.{CheckInfo}
+use Rattle.chess_moves.specs.declared.legality_info.LegalityInfo.{LegalityInfo}
 use Rattle.chess_moves.specs.inside.Hits.{is_hit}
 use Rattle.chess_moves.specs.inside.Leaps.{is_step, is_double, is_pawn_capture}
 use Rattle.chess_moves.specs.inside.Listing.{move_of, promotions, moves_between, moves_to}
-use Rattle.chess_moves.specs.inside.CheckInfo.{IsCheckInfoOf}
+use Rattle.chess_moves.specs.inside.LegalityInfo.{IsLegalityInfoOf}
 use Rattle.chess_moves.specs.inside.Shifts.{is_shifted, back, left_file, right_file, third_rank, AreFree}
 use Rattle.chess_moves.specs.inside.Targets.{ways}
 use Rattle.chess_moves.specs.inside.MoveGeneration.{moves_of_men, HaveMenOf}
@@ -147,7 +147,7 @@ from_beside true sh there here far off e a h g = rw (h refl, g refl) (same sh th
     same false true z = refl
     same false false z = refl
 
-module _ (info : CheckInfo) (p : Setup) (pawns once twice left right : ℕ) (h : IsCheckInfoOf info p) (men : HaveMenOf Pawn pawns p) (free : AreFree pawns info p)
+module _ (info : LegalityInfo) (p : Setup) (pawns once twice left right : ℕ) (h : IsLegalityInfoOf info p) (men : HaveMenOf Pawn pawns p) (free : AreFree pawns info p)
     (once_is : (t : ℕ) → t < 64 → has once t ≡ ((is_shifted info.side 8 t && has pawns (back info.side 8 t)) && is_empty p.men t))
     (twice_is : (t : ℕ) → t < 64 → has twice t ≡ ((is_shifted info.side 8 t && (has once (back info.side 8 t) && eqb (rank_of (back info.side 8 t)) (third_rank info.side))) && is_empty p.men t))
     (left_is : (t : ℕ) → t < 64 → has left t ≡ ((is_shifted info.side 7 t && (has pawns (back info.side 7 t) && not (eqb (file_of (back info.side 7 t)) (left_file info.side)))) && is_of (other_side info.side) (man_at p.men t)))

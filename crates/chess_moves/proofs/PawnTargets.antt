@@ -15,10 +15,10 @@ use Rattle.chess_board.specs.Attacks.{is_forward, attacks_as, is_in_check}
 use Rattle.chess_board.specs.PseudoLegal.{second_rank, steps_once, steps_twice, takes, goes, suits}
 use Rattle.chess_board.specs.MakeMove.{becomes, men_after}
 use Rattle.chess_board.specs.EnPassant.{is_square, takes_en_passant, captured_pawn}
-use Rattle.chess_moves.specs.declared.check_info.CheckInfo.{CheckInfo}
+use Rattle.chess_moves.specs.declared.legality_info.LegalityInfo.{LegalityInfo}
 use Rattle.chess_moves.specs.inside.Hits.{is_hit}
 use Rattle.chess_moves.specs.inside.Listing.{move_of}
-use Rattle.chess_moves.specs.inside.CheckInfo.{IsCheckInfoOf}
+use Rattle.chess_moves.specs.inside.LegalityInfo.{IsLegalityInfoOf}
 use Rattle.chess_moves.proofs.OwnColours.{other_colour, other_not_own}
 use Rattle.chess_moves.proofs.MovedKings.{in_check_there, king_kept}
 use Rattle.chess_moves.proofs.KeptWays.{goes_safely, and_when}
@@ -49,7 +49,7 @@ men_after_plain : (p : Setup) (man : Man) (o t : ℕ) (r : Option Kind) → is_p
 men_after_plain p man o t r pawn no_king elsewhere = rw (pawn, no_king, elsewhere) refl
 
 -- A pawn goes safely where it goes in a plain way, or en passant, and its king is not attacked then.
-pub pawn_goes_safely : (info : CheckInfo) (p : Setup) (man : Man) (o t : ℕ) (r : Option Kind) (safe : Bool) → IsCheckInfoOf info p → man_at p.men o ≡ Some man → man.colour ≡ p.side
+pub pawn_goes_safely : (info : LegalityInfo) (p : Setup) (man : Man) (o t : ℕ) (r : Option Kind) (safe : Bool) → IsLegalityInfoOf info p → man_at p.men o ≡ Some man → man.colour ≡ p.side
     → man.kind ≡ Pawn → suits man t r ≡ true → safe ≡ not (is_hit (moved p.men o t (becomes man r)) info.king (other_side p.side))
     → goes_safely p man o t r ≡ (plain_ways p.men man.colour o t && safe
     || (takes_en_passant p man.colour o t && not (is_in_check (cleared (moved p.men o t man) (captured_pawn o t)) p.side)))
@@ -74,7 +74,7 @@ pawn_goes_safely info p man o t r safe h there own pawn suited safe_is =
     ]) refl
 
 -- En passant the king keeps its square: an enemy pawn stands where one is taken away.
-in_check_en_passant : (info : CheckInfo) (p : Setup) (man : Man) (o t : ℕ) → IsCheckInfoOf info p → man_at p.men o ≡ Some man → man.colour ≡ p.side → man.kind ≡ Pawn
+in_check_en_passant : (info : LegalityInfo) (p : Setup) (man : Man) (o t : ℕ) → IsLegalityInfoOf info p → man_at p.men o ≡ Some man → man.colour ≡ p.side → man.kind ≡ Pawn
     → takes_en_passant p man.colour o t ≡ true
     → is_in_check (cleared (moved p.men o t man) (captured_pawn o t)) p.side ≡ is_hit (cleared (moved p.men o t man) (captured_pawn o t)) info.king (other_side p.side)
 in_check_en_passant info p man o t h there own pawn goes =
@@ -90,7 +90,7 @@ in_check_en_passant info p man o t h there own pawn goes =
     (king_kept (moved p.men o t man) p.side info.king (captured_pawn o t) long (king_beside info p man man o t h there no_king free no_king) apart)
 
 -- Of the set of captures en passant, which is one square at most, the safe ones are all or none.
-pub en_passant_goes_safely : (info : CheckInfo) (p : Setup) (man : Man) (o set target : ℕ) (safe : Bool) → IsCheckInfoOf info p → man_at p.men o ≡ Some man → man.colour ≡ p.side
+pub en_passant_goes_safely : (info : LegalityInfo) (p : Setup) (man : Man) (o set target : ℕ) (safe : Bool) → IsLegalityInfoOf info p → man_at p.men o ≡ Some man → man.colour ≡ p.side
     → man.kind ≡ Pawn → ((t : ℕ) → t < 64 → has set t ≡ takes_en_passant p man.colour o t) → target < 64 → has set target ≡ true
     → safe ≡ not (is_hit (cleared (moved p.men o target man) (captured_pawn o target)) info.king (other_side p.side)) → (t : ℕ) → t < 64
     → (has set t && safe) ≡ (takes_en_passant p man.colour o t && not (is_in_check (cleared (moved p.men o t man) (captured_pawn o t)) p.side))

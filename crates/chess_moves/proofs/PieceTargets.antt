@@ -11,10 +11,10 @@ use Rattle.chess_board.specs.Positions.{Setup, man_at, moved}
 use Rattle.chess_board.specs.Attacks.{attacks_as, is_in_check}
 use Rattle.chess_board.specs.PseudoLegal.{piece_goes, goes, suits}
 use Rattle.chess_board.specs.MakeMove.{becomes, men_after}
-use Rattle.chess_moves.specs.declared.check_info.CheckInfo.{CheckInfo}
+use Rattle.chess_moves.specs.declared.legality_info.LegalityInfo.{LegalityInfo}
 use Rattle.chess_moves.specs.inside.Hits.{is_hit}
 use Rattle.chess_moves.specs.inside.Listing.{move_of}
-use Rattle.chess_moves.specs.inside.CheckInfo.{IsCheckInfoOf}
+use Rattle.chess_moves.specs.inside.LegalityInfo.{IsLegalityInfoOf}
 use Rattle.chess_moves.proofs.KeptWays.{goes_safely, and_when}
 use Rattle.chess_moves.proofs.OtherMen.{becomes_no_king, in_check_beside}
 
@@ -31,7 +31,7 @@ men_after_piece : (p : Setup) (man : Man) (o t : ℕ) (r : Option Kind) → is_p
 men_after_piece p man o t r no_pawn no_king = rw (no_pawn, no_king) refl
 
 -- A piece goes safely where it goes and its king is not attacked then.
-pub piece_goes_safely : (info : CheckInfo) (p : Setup) (man : Man) (o t : ℕ) (r : Option Kind) (safe : Bool) → IsCheckInfoOf info p → man_at p.men o ≡ Some man → man.colour ≡ p.side
+pub piece_goes_safely : (info : LegalityInfo) (p : Setup) (man : Man) (o t : ℕ) (r : Option Kind) (safe : Bool) → IsLegalityInfoOf info p → man_at p.men o ≡ Some man → man.colour ≡ p.side
     → is_pawn_kind man.kind ≡ false → is_king_kind man.kind ≡ false → suits man t r ≡ true → safe ≡ not (is_hit (moved p.men o t (becomes man r)) info.king (other_side p.side))
     → goes_safely p man o t r ≡ (piece_goes p man.colour man.kind o t && safe)
 piece_goes_safely info p man o t r safe h there own no_pawn no_king suited safe_is =

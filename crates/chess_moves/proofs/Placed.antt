@@ -14,7 +14,7 @@ use Rattle.chess_moves.specs.declared.directions.Leap.TheVariants.{KnightLeap, K
 use Rattle.chess_moves.specs.inside.Directions.{reaches, stands_between, reaches_as_bishop, reaches_as_rook}
 use Rattle.chess_moves.specs.inside.Leaps.{leaps, capture_of}
 use Rattle.chess_moves.specs.inside.Hits.{is_taken, hits_as, place_hits, hits_from}
-use Rattle.chess_moves.specs.inside.CheckInfo.{gets_through}
+use Rattle.chess_moves.specs.inside.LegalityInfo.{gets_through}
 use Rattle.chess_moves.proofs.Compass.{IsFar, leap_between, reached_with, far_no_knight, far_no_king, far_no_capture}
 
 four_and : (p q r s n : Bool) → (p && n || q && n || r && n || s && n) ≡ ((p || q || r || s) && n)

@@ -17,13 +17,7 @@ use Rattle.chess_moves.proofs.Slides.{blocker_of, blocked_at, reached_before}
 use Rattle.chess_moves.proofs.Geometry.{toward_back}
 use Rattle.chess_moves.proofs.AnyLemmas.{any_at}
 use Rattle.chess_moves.proofs.AttackSets.{reaches_back}
-
--- two tests that each give the other
-same_test : (x y : Bool) → (x ≡ true → y ≡ true) → (y ≡ true → x ≡ true) → x ≡ y
-same_test true true f g = refl
-same_test true false f g = let e = f refl in cc
-same_test false true f g = let e = g refl in cc
-same_test false false f g = refl
+use Rattle.chess_moves.proofs.LineDirections.{same_tests}
 
 -- what is not reached in a direction, and lies there, is blocked
 hidden_by : (taken : ℕ → Bool) (d : Direction) (o k : ℕ) → reaches taken d o k ≡ false → toward d o k ≡ true → is_blocked taken d o k ≡ true
@@ -54,7 +48,7 @@ pub record Leaves (taken after : ℕ → Bool) (o : ℕ) : Type 0 where
 reached_same : (taken after : ℕ → Bool) (o : ℕ) → Leaves taken after o → (d : Direction) (a k : ℕ)
     → reaches taken d o k ≡ false → reaches after d a k ≡ reaches taken d a k
 reached_same taken after o h d a k hidden =
-    same_test (reaches after d a k) (reaches taken d a k)
+    same_tests (reaches after d a k) (reaches taken d a k)
     (reached_before taken after d a k o h.stays (hidden_by taken d o k hidden)) (reached_more taken after h.fewer d a k)
 
 -- So does one towards which the king sees, but no slider of that kind lies there.

@@ -2,7 +2,6 @@
 use Rattle.std.proofs.Common.{◌≡◌, ℕ, ◌^◌, ◌<◌, not, ◌&&◌, ◌||◌, Bool, true, false, eqb, refl, sym, w64}
 use Rattle.std.specs.Int.{bit_not}
 use Rattle.std.specs.Int.RustNames.{bit_and, bit_or}
-use Rattle.std.proofs.lemmas.Nat.Bits.{bit_at-zero}
 use Rattle.std.proofs.lemmas.Bool.{eqb-true, eqb-false, eq-eqb, ne_eqb}
 use Rattle.square_sets.specs.Members.{has}
 use Rattle.chess_moves.proofs.SetBits.{has_and, has_or, has_less}
@@ -15,9 +14,6 @@ joined a b t p q ea eb = rw (has_or a b t, ea, eb)
 
 pub parted : (a b t : ℕ) (p q : Bool) → b < 2 ^ 64 → t < 64 → has a t ≡ p → has b t ≡ q → has (bit_and a (bit_not w64 b)) t ≡ (p && not q)
 parted a b t p q fits l ea eb = rw (has_less a b t fits l, ea, eb)
-
-pub has_none : (set u : ℕ) → set ≡ 0 → has set u ≡ false
-has_none set u e = rw e (rw (bit_at-zero u))
 
 -- the set of one square
 pub eqb_turned : (s t : ℕ) → eqb t s ≡ eqb s t

@@ -16,22 +16,15 @@ use Rattle.chess_board.specs.PseudoLegal.{suits, promotes, is_promotion, goes, p
 use Rattle.chess_board.specs.Legality.{is_legal}
 use Rattle.chess_board.specs.EnPassant.{is_square, is_en_passant}
 use Rattle.chess_board.specs.Castling.{castles, is_castling}
-use Rattle.chess_moves.specs.declared.check_info.CheckInfo.{CheckInfo}
-use Rattle.chess_moves.specs.inside.CheckInfo.{IsCheckInfoOf}
+use Rattle.chess_moves.specs.declared.legality_info.LegalityInfo.{LegalityInfo}
+use Rattle.chess_moves.specs.inside.LegalityInfo.{IsLegalityInfoOf}
 use Rattle.chess_moves.specs.inside.CheckSquares.{is_special}
 use Rattle.chess_moves.proofs.KingTargets.{king_origin}
-use Rattle.chess_moves.proofs.Played.{played, IsPlayed}
+use Rattle.chess_moves.proofs.Played.{played_by}
 
 no_promotion : (man : Man) (t : ℕ) (r : Option Kind) → suits man t r ≡ true → promotes man t ≡ false → is_some r ≡ false
 no_promotion man t None s h = refl
 no_promotion man t (Some asked) s h = let x = (and_parts (promotes man t) (is_promotion asked) s).0 in cc
-
--- the man that is known to stand on the origin
-as_played : (p : Setup) (m : Move) (man : Man) → man_at p.men m.origin ≡ Some man → is_legal p m ≡ true → IsPlayed p m man
-as_played p m man is legal =
-    let by = played p m legal in
-    let same : by.0 ≡ man = let there = by.1.there in cc in
-    rw same at by.1
 
 none_special : (p : Setup) (man : Man) (m : Move) → is_some m.promotion ≡ false → is_en_passant p man m ≡ false → is_castling man m ≡ false → is_special p man m ≡ false
 none_special p man m a b c = rw (a, b, c) refl
@@ -39,7 +32,7 @@ none_special p man m a b c = rw (a, b, c) refl
 pub plain_pawn : (p : Setup) (man : Man) (m : Move) → is_legal p m ≡ true → man_at p.men m.origin ≡ Some man → man.kind ≡ Pawn
     → promotes man m.target ≡ false → is_square p.target m.target ≡ false → is_special p man m ≡ false
 plain_pawn p man m legal there pawn last passed = none_special p man m
-    (no_promotion man m.target m.promotion (as_played p m man there legal).suits last)
+    (no_promotion man m.target m.promotion (played_by p m man there legal).suits last)
     (and_right (is_pawn_kind man.kind) (is_square p.target m.target) passed)
     (and_left (is_king_kind man.kind) (eqb (file_gap m.origin m.target) 2) (ap is_king_kind pawn))
 
@@ -59,10 +52,10 @@ no_step p c o t two =
     none true y z = refl
     none false y z = refl
 
-pub plain_king : (info : CheckInfo) (p : Setup) (man : Man) (m : Move) → IsCheckInfoOf info p → is_legal p m ≡ true → man_at p.men m.origin ≡ Some man → m.origin < 64
+pub plain_king : (info : LegalityInfo) (p : Setup) (man : Man) (m : Move) → IsLegalityInfoOf info p → is_legal p m ≡ true → man_at p.men m.origin ≡ Some man → m.origin < 64
     → man.kind ≡ King → castles p p.side info.king m.target ≡ false → is_special p man m ≡ false
 plain_king info p man m h legal there on king none =
-    let by = as_played p m man there legal in
+    let by = played_by p m man there legal in
     let own : man.colour ≡ p.side = same_side man.colour p.side by.own in
     let at : m.origin ≡ info.king = king_origin info p man m.origin h on there own king in
     let no_pawn : is_pawn_kind man.kind ≡ false = ap is_pawn_kind king in
@@ -78,7 +71,7 @@ plain_king info p man m h legal there on king none =
 pub plain_piece : (p : Setup) (man : Man) (m : Move) → is_legal p m ≡ true → man_at p.men m.origin ≡ Some man → is_pawn_kind man.kind ≡ false → is_king_kind man.kind ≡ false
     → is_special p man m ≡ false
 plain_piece p man m legal there no_pawn no_king = none_special p man m
-    (no_promotion man m.target m.promotion (as_played p m man there legal).suits (and_left (is_pawn_kind man.kind) _ no_pawn))
+    (no_promotion man m.target m.promotion (played_by p m man there legal).suits (and_left (is_pawn_kind man.kind) _ no_pawn))
     (and_left (is_pawn_kind man.kind) (is_square p.target m.target) no_pawn)
     (and_left (is_king_kind man.kind) (eqb (file_gap m.origin m.target) 2) no_king)
 

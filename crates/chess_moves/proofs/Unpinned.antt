@@ -12,7 +12,7 @@ use Rattle.chess_moves.specs.declared.forces.Force.{Force}
 use Rattle.chess_moves.specs.inside.Directions.{sights_as_bishop, sights_as_rook}
 use Rattle.chess_moves.specs.inside.Forces.{StandFor, is_one, is_diagonal_kind, is_straight_kind}
 use Rattle.chess_moves.specs.inside.Hits.{is_taken, hits_from, is_hit}
-use Rattle.chess_moves.specs.inside.CheckInfo.{gets_through}
+use Rattle.chess_moves.specs.inside.LegalityInfo.{gets_through}
 use Rattle.chess_moves.proofs.AnyLemmas.{any_same}
 use Rattle.chess_moves.proofs.AttackSets.{slant_sights_same, straight_sights_same}
 use Rattle.chess_moves.proofs.Placed.{attacks_placed}

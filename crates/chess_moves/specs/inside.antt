@@ -3,7 +3,7 @@ pub mod Leaps
 pub mod RayTables
 pub mod Hits
 pub mod Forces
-pub mod CheckInfo
+pub mod LegalityInfo
 pub mod Listing
 pub mod Targets
 pub mod MoveGeneration

@@ -1,23 +1,19 @@
-//! Check squares and discovered checks: from where a man of each kind attacks the king of the side that is not to move, and which man
-//! opens a line to it where it leaves its square. They tell whether a move gives check, mostly without making it.
+//! Check squares: from where a man of each kind attacks the king of the side that is not to move. They tell whether a move gives check,
+//! unless it may open a line to that king, promotes, castles or captures en passant.
 
-ghost use Rattle.std.specs.Prelude.{◌≡◌, ℕ, ◌<◌, true, false, not, ◌||◌, Some};
+ghost use Rattle.std.specs.Prelude.{◌≡◌, ◌<◌, true, false, not, ◌||◌, Some};
 ghost use Rattle.square_sets.specs.Members.{has};
 ghost use Rattle.chess_board.specs.Legality.{is_legal};
 ghost use Rattle.chess_board.specs.Moves.{Move as MoveValue};
 ghost use Rattle.chess_board.specs.Positions.{man_at};
-ghost use Rattle.chess_moves.specs.GivesCheck.{gives_check};
-ghost use Rattle.chess_moves.specs.inside.CheckInfo.{IsCheckInfoOf};
+ghost use Rattle.chess_moves.specs.inside.LegalityInfo.{IsLegalityInfoOf};
 ghost use Rattle.chess_moves.specs.inside.CheckSquares.{AreCheckSquaresOf, squares_of as squares_for, is_special as is_special_move};
 
-use crate::attackers::is_hit_over;
-use crate::castling::castling_targets;
-use crate::check_info::CheckInfo;
+use crate::castling_targets::castling_targets;
 use crate::directions::Leap;
-use crate::en_passant::en_passant_square;
-use crate::forces::{force_of, without};
+use crate::en_passant_targets::en_passant_square;
+use crate::legality_info::LegalityInfo;
 use crate::promotions::promotion_squares;
-use crate::pseudo_legal::attacks_of;
 use crate::ray_tables::Rays;
 use chess_board::{Kind, Man, Move, Position, is_castling, is_en_passant};
 
@@ -53,7 +49,7 @@ pub(crate) fn check_squares_of(rays: &Rays, position: &Position) -> CheckSquares
 }
 
 /// The squares from which a man of a kind attacks the king, as the board stands.
-fn squares_of(check_squares: &CheckSquares, kind: Kind) -> u64
+pub(crate) fn squares_of(check_squares: &CheckSquares, kind: Kind) -> u64
     ensures { result ≡ squares_for check_squares.now kind }
 {
     match kind {
@@ -90,34 +86,14 @@ pub(crate) fn is_told(position: &Position, check_squares: &CheckSquares, man: Ma
         && !is_special(position, man, m)
 }
 
-/// The squares to which a man's legal move may give check. They are all squares where it opens a line to the king, and those of
-/// its special moves stand among them.
-pub(crate) fn check_targets(
+/// The squares to which a man's special moves go.
+pub(crate) fn special_squares(
     rays: &Rays,
     position: &Position,
-    info: &CheckInfo,
-    check_squares: &CheckSquares,
+    info: &LegalityInfo,
     man: Man,
-    origin: u8,
 ) -> u64
-    requires on_board { origin < 64 }
-    requires info { IsCheckInfoOf info.now position.now }
-    requires check_squares { AreCheckSquaresOf check_squares.now position.now }
-    requires there { man_at position.now.men origin ≡ Some man }
-    ensures { (m : MoveValue) → is_legal position.now m ≡ true → m.origin ≡ origin → m.target < 64 → has result m.target ≡ false
-        → gives_check position.now m ≡ false }
-{
-    let special = special_squares(rays, position, info, man);
-    if square_sets::contains(check_squares.queen, origin) {
-        squares_behind(rays, position, man, origin) | special
-    } else {
-        squares_of(check_squares, man.kind) | special
-    }
-}
-
-/// The squares to which a man's special moves go.
-pub(crate) fn special_squares(rays: &Rays, position: &Position, info: &CheckInfo, man: Man) -> u64
-    requires info { IsCheckInfoOf info.now position.now }
+    requires info { IsLegalityInfoOf info.now position.now }
     ensures { (m : MoveValue) → is_legal position.now m ≡ true → man_at position.now.men m.origin ≡ Some man → m.origin < 64
         → m.target < 64 → has result m.target ≡ false → is_special_move position.now man m ≡ false }
 {
@@ -126,26 +102,4 @@ pub(crate) fn special_squares(rays: &Rays, position: &Position, info: &CheckInfo
         Kind::King => castling_targets(rays, position, info),
         Kind::Knight | Kind::Bishop | Kind::Rook | Kind::Queen => 0,
     }
-}
-
-/// The squares from which a man attacks the king once it left its own: all where a line is open then.
-fn squares_behind(rays: &Rays, position: &Position, man: Man, origin: u8) -> u64
-    requires on_board { origin < 64 }
-    requires there { man_at position.now.men origin ≡ Some man }
-    ensures { (m : MoveValue) → is_legal position.now m ≡ true → m.origin ≡ origin → m.target < 64
-        → is_special_move position.now man m ≡ false → has result m.target ≡ false → gives_check position.now m ≡ false }
-{
-    let side = position.side();
-    let enemy = side.other();
-    let square = position.king(enemy).index() as u8;
-    let lifted = square_sets::without(position.occupied(), origin);
-    let others = without(&force_of(position, side), origin);
-    if is_hit_over(rays, lifted, &others, side, square) {
-        return u64::MAX;
-    }
-    let seen_back = Man {
-        colour: enemy,
-        kind: man.kind,
-    };
-    attacks_of(rays, lifted, seen_back, square)
 }

@@ -7,22 +7,22 @@ ghost use Rattle.chess_board.specs.Squares.{some_square};
 ghost use Rattle.chess_board.specs.Men.{is_colour, is_of, other_side};
 ghost use Rattle.chess_board.specs.Positions.{Setup, man_at, moved};
 ghost use Rattle.chess_board.specs.Sets.{IsSetOf};
-ghost use Rattle.chess_moves.specs.inside.CheckInfo.{IsCheckInfoOf, gets_through};
+ghost use Rattle.chess_moves.specs.inside.LegalityInfo.{IsLegalityInfoOf, gets_through};
 ghost use Rattle.chess_moves.specs.inside.Directions.{sights_as_bishop, sights_as_rook};
 ghost use Rattle.chess_moves.specs.inside.Forces.{StandFor};
 ghost use Rattle.chess_moves.specs.inside.Hits.{hits_from, is_hit};
 
 use crate::attackers::{attackers, attackers_seen, is_hit_over};
-use crate::check_info::CheckInfo;
 use crate::forces::{Force, without};
+use crate::legality_info::LegalityInfo;
 use crate::ray_tables::Rays;
 use chess_board::Colour;
 
 /// Whether the king is safe once it stepped to a square. Whom it captures there attacks no square of its own, so that only the king
 /// is lifted off the board.
-pub(crate) fn is_safe_step(rays: &Rays, info: &CheckInfo, target: u8) -> bool
+pub(crate) fn is_safe_step(rays: &Rays, info: &LegalityInfo, target: u8) -> bool
     requires { (info.now.king < 64) × (target < 64) }
-    ensures { (p : Setup) (own : ManValue) → IsCheckInfoOf info.now p → is_colour (other_side p.side) own.colour ≡ false
+    ensures { (p : Setup) (own : ManValue) → IsLegalityInfoOf info.now p → is_colour (other_side p.side) own.colour ≡ false
         → result ≡ not (is_hit (moved p.men info.now.king target own) target (other_side p.side)) }
 {
     let lifted = square_sets::without(info.occupied, info.king);
@@ -63,9 +63,9 @@ pub(crate) fn check_mask(
 
 /// The check mask and the pin mask of a man other than the king in one: the squares to which it may go from its origin so that the
 /// king is safe afterwards. Without that man the board shows whom it holds back: who attacks the king then gives check now, or pins it.
-fn check_and_pin_mask(rays: &Rays, info: &CheckInfo, origin: u8) -> u64
+fn check_and_pin_mask(rays: &Rays, info: &LegalityInfo, origin: u8) -> u64
     requires { (info.now.king < 64) × (origin < 64) }
-    ensures { (p : Setup) (man : ManValue) → IsCheckInfoOf info.now p
+    ensures { (p : Setup) (man : ManValue) → IsLegalityInfoOf info.now p
         → is_of (other_side p.side) (man_at p.men origin) ≡ false → is_colour (other_side p.side) man.colour ≡ false
         → (t : ℕ) → t < 64 → has result t ≡ not (is_hit (moved p.men origin t man) info.now.king (other_side p.side)) }
 {
@@ -75,9 +75,9 @@ fn check_and_pin_mask(rays: &Rays, info: &CheckInfo, origin: u8) -> u64
 }
 
 /// The same: a man that stands on no square on which it can be pinned need only answer the checks that there are.
-pub(crate) fn legal_mask(rays: &Rays, info: &CheckInfo, origin: u8) -> u64
+pub(crate) fn legal_mask(rays: &Rays, info: &LegalityInfo, origin: u8) -> u64
     requires { (info.now.king < 64) × (origin < 64) }
-    ensures { (p : Setup) (man : ManValue) → IsCheckInfoOf info.now p
+    ensures { (p : Setup) (man : ManValue) → IsLegalityInfoOf info.now p
         → is_of (other_side p.side) (man_at p.men origin) ≡ false → is_colour (other_side p.side) man.colour ≡ false
         → (t : ℕ) → t < 64 → has result t ≡ not (is_hit (moved p.men origin t man) info.now.king (other_side p.side)) }
 {

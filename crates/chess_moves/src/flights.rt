@@ -8,15 +8,15 @@ ghost use Rattle.chess_board.specs.Moves.{Move as MoveValue};
 ghost use Rattle.chess_board.specs.Positions.{man_at};
 ghost use Rattle.chess_moves.specs.inside.Flights.{AreFlightsOf, leaves_flight};
 ghost use Rattle.chess_moves.specs.inside.Hits.{hits_as};
-ghost use Rattle.chess_moves.specs.inside.CheckInfo.{IsCheckInfoOf};
+ghost use Rattle.chess_moves.specs.inside.LegalityInfo.{IsLegalityInfoOf};
 ghost use Rattle.chess_moves.specs.Verdicts.{is_mate};
 
 use crate::attacked_sets::attacked_squares;
 use crate::attackers::is_hit_over;
-use crate::check_info::CheckInfo;
 use crate::check_squares::special_squares;
 use crate::directions::Leap;
 use crate::forces::{force_of, without};
+use crate::legality_info::LegalityInfo;
 use crate::ray_tables::Rays;
 use chess_board::{Colour, Kind, Man, Position, sound_after};
 
@@ -32,10 +32,10 @@ pub(crate) struct Flights {
 pub(crate) fn flights_once(
     rays: &Rays,
     position: &Position,
-    info: &CheckInfo,
+    info: &LegalityInfo,
     found: &mut Option<Flights>,
 ) -> Flights
-    requires info { IsCheckInfoOf info.now position.now }
+    requires info { IsLegalityInfoOf info.now position.now }
     requires found { IfSome found.old (λ f. AreFlightsOf f position.now) }
     ensures flights { AreFlightsOf result position.now }
     ensures found { IfSome found.new (λ f. AreFlightsOf f position.now) }
@@ -51,8 +51,8 @@ pub(crate) fn flights_once(
 }
 
 /// The flights of a position.
-fn flights_of(rays: &Rays, position: &Position, info: &CheckInfo) -> Flights
-    requires info { IsCheckInfoOf info.now position.now }
+fn flights_of(rays: &Rays, position: &Position, info: &LegalityInfo) -> Flights
+    requires info { IsLegalityInfoOf info.now position.now }
     ensures { AreFlightsOf result position.now }
 {
     let side = info.side;
@@ -70,14 +70,14 @@ fn flights_of(rays: &Rays, position: &Position, info: &CheckInfo) -> Flights
 pub(crate) fn squares_that_cover(
     rays: &Rays,
     position: &Position,
-    info: &CheckInfo,
+    info: &LegalityInfo,
     flights: Flights,
     man: Man,
     origin: u8,
     hopes: u64,
 ) -> u64
     requires on_board { origin < 64 }
-    requires info { IsCheckInfoOf info.now position.now }
+    requires info { IsLegalityInfoOf info.now position.now }
     requires flights { AreFlightsOf flights position.now }
     requires there { man_at position.now.men origin ≡ Some man }
     ensures { (m : MoveValue) → is_legal position.now m ≡ true → m.origin ≡ origin → m.target < 64 → has hopes m.target ≡ true
@@ -100,14 +100,14 @@ pub(crate) fn squares_that_cover(
 fn squares_covering(
     rays: &Rays,
     position: &Position,
-    info: &CheckInfo,
+    info: &LegalityInfo,
     flights: Flights,
     man: Man,
     origin: u8,
     flight: u8,
 ) -> u64
     requires on_board { (origin < 64) × (flight < 64) }
-    requires info { IsCheckInfoOf info.now position.now }
+    requires info { IsLegalityInfoOf info.now position.now }
     requires flights { AreFlightsOf flights position.now }
     requires flight { has flights.squares flight ≡ true }
     ensures { (t : ℕ) → t < 64 → has result t ≡ false → leaves_flight position.now flights.king origin man.kind t flight ≡ true }

@@ -1,6 +1,6 @@
 //! One side's men as sets of squares.
 
-ghost use Rattle.std.specs.Prelude.{◌≡◌, ℕ, ◌<◌, false, List, Option, length, slice_set};
+ghost use Rattle.std.specs.Prelude.{◌≡◌, ◌<◌, false, List, Option, length, slice_set};
 ghost use Rattle.chess_board.specs.declared.men.Man.{Man as ManValue};
 ghost use Rattle.chess_board.specs.declared.men.Colour.{Colour as ColourValue};
 ghost use Rattle.chess_board.specs.Men.{is_of};

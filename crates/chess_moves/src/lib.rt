@@ -5,39 +5,41 @@
 //! found by making it: sets of squares tell where each man may go.
 //!
 //! To read: `specs/Laws.antt` (which moves the list has) and `specs/inside/Listing.antt` (how it is put together); `directions`,
-//! `ray_tables`, `forces` and `attackers` (what is seen and attacked), `check_info`, `pseudo_legal`, `castling`, `en_passant` and
-//! `checks_and_pins` (where a man goes, and where it leaves its king safe), `targets` and `promotions`; then `move_generation`,
-//! `mate_and_stalemate` with `verdicts`, and `perft_count`; `check_squares` and `gives_check`; `attacked_sets`, `flights` and
-//! `gives_mate`. `laws` says what the lists hold in words that do not speak of how they are made. No call takes memory.
+//! `ray_tables`, `forces` and `attackers` (what is seen and attacked), `legality_info`, `castling_targets`, `en_passant_targets`,
+//! `pseudo_legal_targets` and `checks_and_pins` (where a man goes, and where it leaves its king safe), `targets` and `promotions`; then
+//! `move_generation`, `mate_and_stalemate` with `verdicts`, and `perft_count`; `check_squares` and `gives_check`; `discovered_checks`,
+//! `attacked_sets`, `flights` and `mate_in_one`. `laws` says what the lists hold in words that do not speak of how they are made. No
+//! call takes memory.
 #![tactic(auto)]
 
 mod attacked_sets;
 mod attackers;
-mod castling;
-mod check_info;
+mod castling_targets;
 mod check_squares;
 mod checks_and_pins;
 mod directions;
-mod en_passant;
+mod discovered_checks;
+mod en_passant_targets;
 mod flights;
 mod forces;
 mod gives_check;
-mod gives_mate;
 mod laws;
+mod legality_info;
 mod mate_and_stalemate;
+mod mate_in_one;
 mod move_generation;
 mod perft_count;
 mod promotions;
-mod pseudo_legal;
+mod pseudo_legal_targets;
 mod ray_tables;
 mod targets;
 mod verdicts;
 
 pub use attackers::attacked;
 pub use gives_check::checks;
-pub use gives_mate::has_mating_move;
 pub use laws::{legal_listed, legal_rise, plays_listed, plays_once};
 pub use mate_and_stalemate::verdict;
+pub use mate_in_one::has_mating_move;
 pub use move_generation::{LegalMoves, MoveList, is_legal, legal, legal_moves};
 pub use perft_count::perft;
 pub use ray_tables::{Rays, rays_in_order};

@@ -3,12 +3,12 @@
 ghost use Rattle.std.specs.Prelude.{◌≡◌, length, nat_lt};
 ghost use Rattle.square_sets.specs.Members.{members};
 ghost use Rattle.chess_board.specs.Attacks.{is_in_check};
-ghost use Rattle.chess_moves.specs.inside.CheckInfo.{IsCheckInfoOf};
+ghost use Rattle.chess_moves.specs.inside.LegalityInfo.{IsLegalityInfoOf};
 ghost use Rattle.chess_moves.specs.Verdicts.{verdict_of, is_mate};
 ghost use Rattle.chess_moves.specs.inside.MoveGeneration.{moves_of_men, HaveOwnMen};
 
 use crate::attackers::attacked;
-use crate::check_info::{CheckInfo, check_info_of, is_checked};
+use crate::legality_info::{LegalityInfo, is_checked, legality_info_of};
 use crate::move_generation::legal_moves;
 use crate::promotions::{count_ways, own_man};
 use crate::ray_tables::Rays;
@@ -43,7 +43,7 @@ pub(crate) fn in_check(rays: &Rays, position: &Position) -> bool
 pub(crate) fn is_mated(rays: &Rays, position: &Position) -> bool
     ensures { result ≡ is_mate position.now }
 {
-    let info = check_info_of(rays, position);
+    let info = legality_info_of(rays, position);
     if !is_checked(&info) {
         return false;
     }
@@ -55,8 +55,8 @@ pub(crate) fn is_mated(rays: &Rays, position: &Position) -> bool
 }
 
 /// Whether one of these men of the side to move has a legal move.
-fn can_move(rays: &Rays, position: &Position, info: &CheckInfo, men: u64) -> bool
-    requires info { IsCheckInfoOf info.now position.now }
+fn can_move(rays: &Rays, position: &Position, info: &LegalityInfo, men: u64) -> bool
+    requires info { IsLegalityInfoOf info.now position.now }
     requires men { HaveOwnMen men position.now }
     ensures { result ≡ nat_lt 0 (length (moves_of_men position.now (members men))) }
 {

@@ -7,12 +7,12 @@ ghost use Rattle.chess_board.specs.PseudoLegal.{suits};
 ghost use Rattle.chess_board.specs.Legality.{is_legal as is_legal_in};
 ghost use Rattle.chess_board.specs.Men.{is_of};
 ghost use Rattle.chess_board.specs.Positions.{man_at};
-ghost use Rattle.chess_moves.specs.inside.CheckInfo.{IsCheckInfoOf};
+ghost use Rattle.chess_moves.specs.inside.LegalityInfo.{IsLegalityInfoOf};
 ghost use Rattle.chess_moves.specs.inside.Listing.{moves_to, legal_moves};
 ghost use Rattle.chess_moves.specs.inside.MoveGeneration.{next_promotion, man_moves};
 
-use crate::check_info::{CheckInfo, check_info_of};
 use crate::forces::{all_of, force_of};
+use crate::legality_info::{LegalityInfo, legality_info_of};
 use crate::promotions::{own_man, promotion_squares};
 use crate::ray_tables::Rays;
 use crate::targets::{is_target, targets_from};
@@ -27,7 +27,7 @@ use std::marker::Model;
 pub struct LegalMoves<'a> {
     rays: &'a Rays,
     position: &'a Position,
-    info: CheckInfo,
+    info: LegalityInfo,
     /// The squares of the men that have not had their turn.
     origins: SquareScan,
     turn: ManMoves,
@@ -51,7 +51,7 @@ pub fn legal_moves<'a>(rays: &'a Rays, position: &'a Position) -> LegalMoves<'a>
     ensures moves { result ≡ legal_moves position.now }
     ensures few { length result ≤ 1024 }
 {
-    let info = check_info_of(rays, position);
+    let info = legality_info_of(rays, position);
     LegalMoves {
         rays,
         position,
@@ -98,9 +98,9 @@ pub(crate) struct ManMoves {
 }
 
 /// The legal moves of the man of the side to move on a square.
-fn moves_of_man(rays: &Rays, position: &Position, info: &CheckInfo, origin: u8) -> ManMoves
+fn moves_of_man(rays: &Rays, position: &Position, info: &LegalityInfo, origin: u8) -> ManMoves
     requires on_board { origin < 64 }
-    requires info { IsCheckInfoOf info.now position.now }
+    requires info { IsLegalityInfoOf info.now position.now }
     requires own { is_of position.now.side (man_at position.now.men origin) ≡ true }
     ensures moves { man_moves result ≡ filter (is_legal_in position.now) (moves_to origin 64) }
     ensures on_board { result.origin < 64 }
@@ -173,7 +173,7 @@ pub fn is_legal(rays: &Rays, position: &Position, m: Move) -> bool
     if !is_suited(man, m) {
         return false;
     }
-    let info = check_info_of(rays, position);
+    let info = legality_info_of(rays, position);
     let target = m.target.index() as u8;
     is_target(rays, position, &info, man, origin, target)
 }

@@ -6,15 +6,15 @@ ghost use Rattle.square_sets.specs.Members.{has, members};
 ghost use Rattle.chess_board.specs.declared.men.Kind.TheVariants as kind;
 ghost use Rattle.chess_board.specs.Positions.{Setup};
 ghost use Rattle.chess_board.specs.Squares.{file_of, rank_of};
-ghost use Rattle.chess_moves.specs.inside.CheckInfo.{IsCheckInfoOf};
+ghost use Rattle.chess_moves.specs.inside.LegalityInfo.{IsLegalityInfoOf};
 ghost use Rattle.chess_board.specs.Legality.{is_legal};
 ghost use Rattle.chess_moves.specs.inside.Listing.{legal_moves, moves_to};
 ghost use Rattle.chess_moves.specs.inside.MoveGeneration.{moves_of_men, HaveMenOf};
 ghost use Rattle.chess_moves.specs.Plays.{plays};
 ghost use Rattle.chess_moves.specs.inside.Shifts.{is_shifted, back, left_file as left_file_of, right_file as right_file_of, third_rank as third_rank_of, AreFree};
 
-use crate::check_info::{CheckInfo, check_info_of};
-use crate::en_passant::en_passant_origins;
+use crate::en_passant_targets::en_passant_origins;
+use crate::legality_info::{LegalityInfo, legality_info_of};
 use crate::move_generation::legal_moves;
 use crate::promotions::count_ways;
 use crate::ray_tables::Rays;
@@ -57,7 +57,7 @@ fn count_moves(rays: &Rays, position: &Position) -> u64
     ensures count { result ≡ length (legal_moves position.now) }
     ensures few { result ≤ 1024 }
 {
-    let info = check_info_of(rays, position);
+    let info = legality_info_of(rays, position);
     let pawns = position.men(info.side, Kind::Pawn);
     let knights = position.men(info.side, Kind::Knight);
     let bishops = position.men(info.side, Kind::Bishop);
@@ -72,8 +72,8 @@ fn count_moves(rays: &Rays, position: &Position) -> u64
 }
 
 /// How many legal moves the king has.
-fn count_king(rays: &Rays, position: &Position, info: &CheckInfo) -> u64
-    requires info { IsCheckInfoOf info.now position.now }
+fn count_king(rays: &Rays, position: &Position, info: &LegalityInfo) -> u64
+    requires info { IsLegalityInfoOf info.now position.now }
     ensures count { result ≡ length (filter (is_legal position.now) (moves_to info.now.king 64)) }
     ensures few { result ≤ 256 }
 {
@@ -85,8 +85,8 @@ fn count_king(rays: &Rays, position: &Position, info: &CheckInfo) -> u64
 }
 
 /// How many legal moves pawns have together. Those that might be pinned or capture en passant are asked one by one.
-fn count_pawns(rays: &Rays, position: &Position, info: &CheckInfo, pawns: u64) -> u64
-    requires info { IsCheckInfoOf info.now position.now }
+fn count_pawns(rays: &Rays, position: &Position, info: &LegalityInfo, pawns: u64) -> u64
+    requires info { IsLegalityInfoOf info.now position.now }
     requires men { HaveMenOf kind.Pawn pawns position.now }
     ensures count { result ≡ length (moves_of_men position.now (members pawns)) }
     ensures few { result ≤ 1024 }
@@ -96,8 +96,8 @@ fn count_pawns(rays: &Rays, position: &Position, info: &CheckInfo, pawns: u64) -
 }
 
 /// How many legal moves men of one kind have together.
-fn count_from(rays: &Rays, position: &Position, info: &CheckInfo, kind: Kind, men: u64) -> u64
-    requires info { IsCheckInfoOf info.now position.now }
+fn count_from(rays: &Rays, position: &Position, info: &LegalityInfo, kind: Kind, men: u64) -> u64
+    requires info { IsLegalityInfoOf info.now position.now }
     requires men { HaveMenOf kind men position.now }
     ensures count { result ≡ length (moves_of_men position.now (members men)) }
     ensures few { result ≤ 1024 }
@@ -114,8 +114,8 @@ fn count_from(rays: &Rays, position: &Position, info: &CheckInfo, kind: Kind, me
 }
 
 /// How many legal moves pawns have together, none of which can be pinned or captures en passant.
-fn count_free_pawns(info: &CheckInfo, pawns: u64) -> u64
-    ensures count { (p : Setup) → IsCheckInfoOf info.now p → HaveMenOf kind.Pawn pawns p → AreFree pawns info.now p
+fn count_free_pawns(info: &LegalityInfo, pawns: u64) -> u64
+    ensures count { (p : Setup) → IsLegalityInfoOf info.now p → HaveMenOf kind.Pawn pawns p → AreFree pawns info.now p
         → result ≡ length (moves_of_men p (members pawns)) }
     ensures few { result ≤ 1024 }
 {

@@ -1,22 +1,19 @@
 //! The targets of a man's legal moves, as a set of squares: none of them is made.
 
-ghost use Rattle.std.specs.Prelude.{◌≡◌, ℕ, ◌<◌, true, false, not, Some, None, filter, length, nat_lt};
+ghost use Rattle.std.specs.Prelude.{◌≡◌, ◌<◌, false, Some, filter, length, nat_lt};
 ghost use Rattle.chess_board.specs.declared.men.Kind.TheVariants as kind;
-ghost use Rattle.chess_board.specs.Positions.{Setup, man_at};
+ghost use Rattle.chess_board.specs.Positions.{man_at};
 ghost use Rattle.chess_board.specs.inside.KindTests.{is_king_kind, is_pawn_kind};
-ghost use Rattle.chess_board.specs.Attacks.{is_in_check};
-ghost use Rattle.chess_board.specs.PseudoLegal.{goes};
-ghost use Rattle.chess_board.specs.MakeMove.{men_after};
 ghost use Rattle.chess_board.specs.Legality.{is_legal};
-ghost use Rattle.chess_moves.specs.inside.Listing.{move_of, moves_to};
-ghost use Rattle.chess_moves.specs.inside.CheckInfo.{IsCheckInfoOf};
+ghost use Rattle.chess_moves.specs.inside.Listing.{moves_to};
+ghost use Rattle.chess_moves.specs.inside.LegalityInfo.{IsLegalityInfoOf};
 ghost use Rattle.chess_moves.specs.inside.Targets.{AreTargets, IsTarget};
 
-use crate::castling::castling_targets;
-use crate::check_info::CheckInfo;
+use crate::castling_targets::castling_targets;
 use crate::checks_and_pins::{is_safe_step, legal_mask};
-use crate::en_passant::safe_en_passant;
-use crate::pseudo_legal::{pawn_targets, piece_targets};
+use crate::en_passant_targets::safe_en_passant;
+use crate::legality_info::LegalityInfo;
+use crate::pseudo_legal_targets::{pawn_targets, piece_targets};
 use crate::ray_tables::Rays;
 use chess_board::{Kind, Man, Position};
 use square_sets::{squares, with};
@@ -25,12 +22,12 @@ use square_sets::{squares, with};
 pub(crate) fn targets_from(
     rays: &Rays,
     position: &Position,
-    info: &CheckInfo,
+    info: &LegalityInfo,
     man: Man,
     origin: u8,
 ) -> u64
     requires on_board { origin < 64 }
-    requires info { IsCheckInfoOf info.now position.now }
+    requires info { IsLegalityInfoOf info.now position.now }
     requires there { man_at position.now.men origin ≡ Some man }
     requires own { man.colour ≡ position.now.side }
     ensures { AreTargets result position.now man origin }
@@ -48,12 +45,12 @@ pub(crate) fn targets_from(
 pub(crate) fn targets_at_once(
     rays: &Rays,
     position: &Position,
-    info: &CheckInfo,
+    info: &LegalityInfo,
     man: Man,
     origin: u8,
 ) -> u64
     requires on_board { origin < 64 }
-    requires info { IsCheckInfoOf info.now position.now }
+    requires info { IsLegalityInfoOf info.now position.now }
     requires there { man_at position.now.men origin ≡ Some man }
     requires own { man.colour ≡ position.now.side }
     ensures { AreTargets result position.now man origin }
@@ -73,31 +70,40 @@ pub(crate) fn targets_at_once(
 pub(crate) fn is_target(
     rays: &Rays,
     position: &Position,
-    info: &CheckInfo,
+    info: &LegalityInfo,
     man: Man,
     origin: u8,
     target: u8,
 ) -> bool
     requires on_board { (origin < 64) × (target < 64) }
-    requires info { IsCheckInfoOf info.now position.now }
+    requires info { IsLegalityInfoOf info.now position.now }
     requires there { man_at position.now.men origin ≡ Some man }
     requires own { man.colour ≡ position.now.side }
     ensures { IsTarget result position.now man origin target }
 {
     match man.kind {
         Kind::King => {
-            let goals = piece_targets(rays, position, info, man, origin)
-                | castling_targets(rays, position, info);
-            square_sets::contains(goals, target) && is_king_safe(rays, info, target)
+            let steps = piece_targets(rays, position, info, man, origin);
+            if square_sets::contains(steps, target) {
+                is_safe_step(rays, info, target)
+            } else {
+                square_sets::contains(castling_targets(rays, position, info), target)
+            }
         }
         _ => square_sets::contains(targets_from(rays, position, info, man, origin), target),
     }
 }
 
 /// The same for a knight, a bishop, a rook or a queen.
-fn targets_of_piece(rays: &Rays, position: &Position, info: &CheckInfo, man: Man, origin: u8) -> u64
+fn targets_of_piece(
+    rays: &Rays,
+    position: &Position,
+    info: &LegalityInfo,
+    man: Man,
+    origin: u8,
+) -> u64
     requires on_board { origin < 64 }
-    requires info { IsCheckInfoOf info.now position.now }
+    requires info { IsLegalityInfoOf info.now position.now }
     requires there { man_at position.now.men origin ≡ Some man }
     requires own { man.colour ≡ position.now.side }
     requires no_pawn { is_pawn_kind man.kind ≡ false }
@@ -109,9 +115,15 @@ fn targets_of_piece(rays: &Rays, position: &Position, info: &CheckInfo, man: Man
 }
 
 /// The same for a pawn.
-fn targets_of_pawn(rays: &Rays, position: &Position, info: &CheckInfo, man: Man, origin: u8) -> u64
+fn targets_of_pawn(
+    rays: &Rays,
+    position: &Position,
+    info: &LegalityInfo,
+    man: Man,
+    origin: u8,
+) -> u64
     requires on_board { origin < 64 }
-    requires info { IsCheckInfoOf info.now position.now }
+    requires info { IsLegalityInfoOf info.now position.now }
     requires there { man_at position.now.men origin ≡ Some man }
     requires own { man.colour ≡ position.now.side }
     requires pawn { man.kind ≡ kind.Pawn }
@@ -122,57 +134,46 @@ fn targets_of_pawn(rays: &Rays, position: &Position, info: &CheckInfo, man: Man,
         | safe_en_passant(rays, position, info, man, origin)
 }
 
-/// The targets of the king's legal moves. Each square is asked about by itself, since the king may step along the line of an attack.
+/// The targets of the king's legal moves. Each step is asked about by itself, since the king may step along the line of an attack; where
+/// it castles its goal was asked about, and castling opens no line to it.
 pub(crate) fn targets_of_king(
     rays: &Rays,
     position: &Position,
-    info: &CheckInfo,
+    info: &LegalityInfo,
     man: Man,
     origin: u8,
 ) -> u64
     requires on_board { origin < 64 }
-    requires info { IsCheckInfoOf info.now position.now }
+    requires info { IsLegalityInfoOf info.now position.now }
     requires there { man_at position.now.men origin ≡ Some man }
     requires own { man.colour ≡ position.now.side }
     requires king { man.kind ≡ kind.King }
     ensures { AreTargets result position.now man origin }
 {
-    let goals = piece_targets(rays, position, info, man, origin)
-        | castling_targets(rays, position, info);
+    let steps = piece_targets(rays, position, info, man, origin);
     let mut safe = 0;
-    for target in squares(goals) {
-        if is_king_safe(rays, info, target) {
+    for target in squares(steps) {
+        if is_safe_step(rays, info, target) {
             safe = with(safe, target);
         }
     }
-    safe
+    safe | castling_targets(rays, position, info)
 }
 
 /// Whether the king has a legal move. It looks no further than the first.
-pub(crate) fn king_can_move(rays: &Rays, position: &Position, info: &CheckInfo) -> bool
-    requires info { IsCheckInfoOf info.now position.now }
+pub(crate) fn king_can_move(rays: &Rays, position: &Position, info: &LegalityInfo) -> bool
+    requires info { IsLegalityInfoOf info.now position.now }
     ensures { result ≡ nat_lt 0 (length (filter (is_legal position.now) (moves_to info.now.king 64))) }
 {
     let king = Man {
         colour: info.side,
         kind: Kind::King,
     };
-    let goals = piece_targets(rays, position, info, king, info.king)
-        | castling_targets(rays, position, info);
-    for flight in squares(goals) {
-        if is_king_safe(rays, info, flight) {
+    let steps = piece_targets(rays, position, info, king, info.king);
+    for target in squares(steps) {
+        if is_safe_step(rays, info, target) {
             return true;
         }
     }
-    false
-}
-
-/// Whether the king is safe where it goes, by a step or by castling. Where it may castle its goal was asked about, and castling opens no
-/// line to it.
-fn is_king_safe(rays: &Rays, info: &CheckInfo, target: u8) -> bool
-    requires { (info.now.king < 64) × (target < 64) }
-    ensures { (p : Setup) → IsCheckInfoOf info.now p → goes p p.side kind.King info.now.king target ≡ true
-        → result ≡ not (is_in_check (men_after p (record { colour = p.side; kind = kind.King }) (move_of info.now.king target None)) p.side) }
-{
-    (info.king % 8).abs_diff(target % 8) == 2 || is_safe_step(rays, info, target)
+    castling_targets(rays, position, info) != 0
 }

@@ -14,7 +14,7 @@ use Rattle.chess_moves.specs.declared.move_generation.ManMoves.{ManMoves}
 use Rattle.chess_moves.specs.declared.move_generation.LegalMoves.TheInside.{Inside}
 use Rattle.chess_moves.specs.inside.Listing.{move_of, promotions, moves_to}
 use Rattle.chess_moves.specs.inside.Targets.{ways}
-use Rattle.chess_moves.specs.inside.CheckInfo.{IsCheckInfoOf}
+use Rattle.chess_moves.specs.inside.LegalityInfo.{IsLegalityInfoOf}
 
 -- the promotion that comes after this one, if it is one and not the last
 abbrev pub next_promotion : Option Kind → Option Kind
@@ -58,6 +58,6 @@ abbrev pub HaveMenOf : Kind → ℕ → Setup → Type 0
 HaveMenOf kind set p = (s : ℕ) → s < 64 → has set s ≡ true → man_at p.men s ≡ man_of p.side kind
 
 pub record IsUnderWay (left : Inside) : Type 0 where
-  pub info : IsCheckInfoOf left.info left.position.now
+  pub info : IsLegalityInfoOf left.info left.position.now
   pub origins : HaveOwnMen left.origins left.position.now
   pub on_board : left.turn.origin < 64

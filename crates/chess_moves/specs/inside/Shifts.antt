@@ -5,7 +5,7 @@ use Rattle.chess_board.specs.declared.men.Colour.{Colour}
 use Rattle.chess_board.specs.declared.men.Colour.TheVariants.{White, Black}
 use Rattle.chess_board.specs.Positions.{Setup}
 use Rattle.chess_board.specs.EnPassant.{takes_en_passant}
-use Rattle.chess_moves.specs.declared.check_info.CheckInfo.{CheckInfo}
+use Rattle.chess_moves.specs.declared.legality_info.LegalityInfo.{LegalityInfo}
 
 -- There is a square so many numbers behind t.
 abbrev pub is_shifted : Colour → ℕ → ℕ → Bool
@@ -32,5 +32,5 @@ third_rank White = 2
 third_rank Black = 5
 
 -- No pawn of the set can be pinned, and none captures en passant.
-abbrev pub AreFree : ℕ → CheckInfo → Setup → Type 0
+abbrev pub AreFree : ℕ → LegalityInfo → Setup → Type 0
 AreFree pawns info p = (o : ℕ) → o < 64 → has pawns o ≡ true → (has info.pin_squares o ≡ false) × ((t : ℕ) → t < 64 → takes_en_passant p info.side o t ≡ false)

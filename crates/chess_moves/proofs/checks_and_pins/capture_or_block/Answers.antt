@@ -1,7 +1,7 @@
 use Rattle.std.proofs.Common.{◌∙◌, ap, sym, ◌||◌, eqb}
 use Rattle.std.proofs.Math.Bool.{and-true}
 use Rattle.square_sets.specs.Members.{has}
-use Rattle.chess_moves.specs.inside.CheckInfo.{gets_through}
+use Rattle.chess_moves.specs.inside.LegalityInfo.{gets_through}
 use Rattle.chess_moves.proofs.Kept.{kept_from, has_all, none_left}
 use Rattle.chess_moves.proofs.checks_and_pins.capture_or_block.Goals as goal
 

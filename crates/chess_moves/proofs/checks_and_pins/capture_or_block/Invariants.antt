@@ -1,7 +1,7 @@
 use Rattle.std.proofs.Common.{◌≡◌, ℕ, ◌<◌, not, ◌&&◌}
 use Rattle.square_sets.specs.Members.{has}
 use Rattle.chess_board.specs.Squares.{some_square}
-use Rattle.chess_moves.specs.inside.CheckInfo.{gets_through}
+use Rattle.chess_moves.specs.inside.LegalityInfo.{gets_through}
 use Rattle.chess_moves.proofs.checks_and_pins.capture_or_block.Given as goal
 
 -- allowed so far, and through none of the attackers that are left

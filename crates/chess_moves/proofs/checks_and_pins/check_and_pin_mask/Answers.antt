@@ -3,7 +3,7 @@ use Rattle.square_sets.specs.Members.{has}
 use Rattle.chess_board.specs.declared.men.Man.{Man}
 use Rattle.chess_board.specs.Men.{other_side}
 use Rattle.chess_moves.specs.inside.Hits.{hits_from, is_hit}
-use Rattle.chess_moves.specs.inside.CheckInfo.{gets_through}
+use Rattle.chess_moves.specs.inside.LegalityInfo.{gets_through}
 use Rattle.chess_moves.proofs.AnyLemmas.{any_same}
 use Rattle.chess_moves.proofs.Moved.{stands_without, stand_still}
 use Rattle.chess_moves.proofs.Placed.{attacks_placed}

@@ -1,7 +1,7 @@
 use Rattle.std.proofs.Common.{ℕ, not, ◌&&◌, ◌∙◌, ap}
 use Rattle.square_sets.specs.Members.{has}
 use Rattle.chess_moves.specs.inside.Hits.{hits_from}
-use Rattle.chess_moves.specs.inside.CheckInfo.{gets_through}
+use Rattle.chess_moves.specs.inside.LegalityInfo.{gets_through}
 use Rattle.chess_moves.proofs.AnyLemmas.{any_same}
 use Rattle.chess_moves.proofs.checks_and_pins.check_mask.Goals as goal
 

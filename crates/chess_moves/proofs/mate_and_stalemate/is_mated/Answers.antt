@@ -8,27 +8,27 @@ use Rattle.chess_moves.proofs.mate_and_stalemate.is_mated.Goals as goal
 pub returns-then-not-is_checked : goal.returns-then-not-is_checked
 returns-then-not-is_checked c =
     let p = c.args.position.now in
-    let h = c.check_info_of-info.ensures in
-    let none : is_in_check p.men p.side ≡ false = in_check_is p c.check_info_of-info.result.king h.sound h.on_board h.king ∙ sym (c.is_checked.ensures p h) ∙ c.if-not-is_checked.true in
+    let h = c.legality_info_of-info.ensures in
+    let none : is_in_check p.men p.side ≡ false = in_check_is p c.legality_info_of-info.result.king h.sound h.on_board h.king ∙ sym (c.is_checked.ensures p h) ∙ c.if-not-is_checked.true in
     sym (mate_by p false (has_legal_move p) none refl)
 
 pub returns-then-king_can_move : goal.returns-then-king_can_move
 returns-then-king_can_move c =
     let p = c.args.position.now in
-    sym (mate_by p (is_in_check p.men p.side) true refl (king_moves c.check_info_of-info.result p c.check_info_of-info.ensures (sym c.king_can_move.ensures ∙ c.if-king_can_move.true)) ∙ none (is_in_check p.men p.side))
+    sym (mate_by p (is_in_check p.men p.side) true refl (king_moves c.legality_info_of-info.result p c.legality_info_of-info.ensures (sym c.king_can_move.ensures ∙ c.if-king_can_move.true)) ∙ none (is_in_check p.men p.side))
   where
     none : (b : Bool) → (b && false) ≡ false
     none true = refl
     none false = refl
 
 pub can_move-requires-clause-men : goal.can_move-requires-clause-men
-can_move-requires-clause-men c = others_are_own c.args.position.now c.check_info_of-info.result.own c.single-king.result (omega arith) c.check_info_of-info.ensures.own
+can_move-requires-clause-men c = others_are_own c.args.position.now c.legality_info_of-info.result.own c.single-king.result (omega arith) c.legality_info_of-info.ensures.own
 
 pub returns : goal.returns
 returns c =
     let p = c.args.position.now in
-    let h = c.check_info_of-info.ensures in
-    let check : is_in_check p.men p.side ≡ true = in_check_is p c.check_info_of-info.result.king h.sound h.on_board h.king ∙ sym (c.is_checked.ensures p h) ∙ c.if-not-is_checked.false in
-    let apart = moves_apart c.check_info_of-info.result p c.single-king.result h (omega arith) c.single-king.ensures in
+    let h = c.legality_info_of-info.ensures in
+    let check : is_in_check p.men p.side ≡ true = in_check_is p c.legality_info_of-info.result.king h.sound h.on_board h.king ∙ sym (c.is_checked.ensures p h) ∙ c.if-not-is_checked.false in
+    let apart = moves_apart c.legality_info_of-info.result p c.single-king.result h (omega arith) c.single-king.ensures in
     let others : has_legal_move p ≡ c.can_move.result = (rw (sym c.king_can_move.ensures ∙ c.if-king_can_move.false) at apart) ∙ sym c.can_move.ensures in
     sym (mate_by p true c.can_move.result check others)

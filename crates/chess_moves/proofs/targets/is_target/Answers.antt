@@ -1,8 +1,8 @@
-use Rattle.std.proofs.Common.{◌≡◌, ℕ, true, false, ◌&&◌, sym, ap, ◌∙◌}
-use Rattle.chess_board.specs.declared.men.Kind.TheVariants.{King}
-use Rattle.chess_board.specs.PseudoLegal.{goes}
+use Rattle.std.proofs.Common.{ℕ, ◌&&◌, ◌||◌, refl, sym, ap, ◌∙◌}
+use Rattle.square_sets.specs.Members.{has}
 use Rattle.chess_moves.proofs.KeptWays.{ways_kept}
-use Rattle.chess_moves.proofs.KingTargets.{safe_at, king_origin, king_goals, king_goes_safely}
+use Rattle.chess_moves.proofs.KingTargets.{king, safe_at, king_origin, step_safe, king_goes_safely, king_goes_safely_there}
+use Rattle.chess_moves.proofs.OwnColours.{other_colour}
 use Rattle.chess_moves.proofs.targets.is_target.Goals as goal
 
 pub returns-then-contains : goal.returns-then-contains
@@ -13,11 +13,12 @@ returns-then-contains c =
     let man = c.args.man in
     let o : ℕ = c.args.origin in
     let t : ℕ = c.args.target in
+    let on = r.on_board.1 in
     let at = king_origin c.args.info.now p man o r.info r.on_board.0 r.there r.own c.in-King.is in
-    let goals = king_goals p man o k c.piece_targets.result c.castling_targets.result t r.own c.in-King.is at (c.piece_targets.ensures t r.on_board.1) (c.castling_targets.ensures t r.on_board.1) in
-    let gone : goes p p.side King k t ≡ true = sym goals ∙ sym c.contains.ensures ∙ c.if-contains.true in
-    ways_kept p man o t c.is_king_safe.result r.there r.own (λ x suited.
-    king_goes_safely p man o k t x r.own c.in-King.is at suited ∙ ap (λ b. b && safe_at p k t) gone ∙ sym (c.is_king_safe.ensures p r.info gone))
+    let step = step_safe c.args.info.now p man o c.piece_targets-steps.result t r.info on r.own c.in-King.is at (c.piece_targets-steps.ensures t on) (sym c.contains.ensures ∙ c.if-contains.true) in
+    let safe = c.is_safe_step.ensures p (king p.side) r.info (other_colour p.side p.side refl) ∙ step.1 in
+    ways_kept p man o t c.is_safe_step.result r.there r.own (λ x suited.
+    king_goes_safely p man o k t x r.own c.in-King.is at suited ∙ ap (λ b. b && safe_at p k t) step.0 ∙ sym safe)
 
 pub returns-else-contains : goal.returns-else-contains
 returns-else-contains c =
@@ -27,8 +28,10 @@ returns-else-contains c =
     let man = c.args.man in
     let o : ℕ = c.args.origin in
     let t : ℕ = c.args.target in
+    let on = r.on_board.1 in
+    let steps = c.piece_targets-steps.result in
+    let castlings = c.castling_targets.result in
     let at = king_origin c.args.info.now p man o r.info r.on_board.0 r.there r.own c.in-King.is in
-    let goals = king_goals p man o k c.piece_targets.result c.castling_targets.result t r.own c.in-King.is at (c.piece_targets.ensures t r.on_board.1) (c.castling_targets.ensures t r.on_board.1) in
-    let gone : goes p p.side King k t ≡ false = sym goals ∙ sym c.contains.ensures ∙ c.if-contains.false in
-    ways_kept p man o t c.contains.result r.there r.own (λ x suited.
-    king_goes_safely p man o k t x r.own c.in-King.is at suited ∙ ap (λ b. b && safe_at p k t) gone ∙ sym c.if-contains.false)
+    ways_kept p man o t c.contains-else-contains.result r.there r.own (λ x suited.
+    king_goes_safely_there c.args.info.now p man o steps castlings t x r.info on r.own c.in-King.is at (c.piece_targets-steps.ensures t on) (c.castling_targets.ensures t on) suited
+    ∙ ap (λ b. (b && safe_at p k t) || has castlings t) (sym c.contains.ensures ∙ c.if-contains.false) ∙ sym c.contains-else-contains.ensures)

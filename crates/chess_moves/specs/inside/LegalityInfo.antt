@@ -1,0 +1,34 @@
+-- Not for believing: the legality information of a position: what is the same for all its moves, as sets of squares.
+use Rattle.std.specs.Prelude.{◌≡◌, ℕ, ◌<◌, Bool, not, ◌&&◌, ◌||◌, ◌==◌, is_some}
+use Rattle.square_sets.specs.Members.{has}
+use Rattle.chess_board.specs.declared.men.Kind.TheVariants.{King}
+use Rattle.chess_board.specs.Squares.{some_square}
+use Rattle.chess_board.specs.Men.{other_side, is_of, man_of}
+use Rattle.chess_board.specs.Positions.{Setup, man_at}
+use Rattle.chess_board.specs.Sets.{IsSetOf}
+use Rattle.chess_board.specs.Soundness.{IsSound}
+use Rattle.chess_moves.specs.declared.legality_info.LegalityInfo.{LegalityInfo}
+use Rattle.chess_moves.specs.inside.Directions.{stands_between, sights_as_bishop, sights_as_rook}
+use Rattle.chess_moves.specs.inside.Hits.{hits_from}
+use Rattle.chess_moves.specs.inside.Forces.{StandFor}
+
+-- a man on t neither takes the attacker on a nor stands between it and the king
+abbrev pub gets_through : ℕ → ℕ → ℕ → Bool
+gets_through a king t = not (t == a || stands_between a king t)
+
+-- a man on t leaves no attack on the king: it takes, or stands in the way of, each man that gives check
+abbrev pub is_in_check_mask : Setup → ℕ → ℕ → Bool
+is_in_check_mask p king t = not (some_square (λ a. hits_from p.men (other_side p.side) a king && gets_through a king t))
+
+pub record IsLegalityInfoOf (info : LegalityInfo) (p : Setup) : Type 0 where
+  pub side : info.side ≡ p.side
+  pub occupied : IsSetOf info.occupied is_some p.men
+  pub own : IsSetOf info.own (is_of p.side) p.men
+  pub enemy : StandFor info.enemy (other_side p.side) p.men
+  pub on_board : info.king < 64
+  pub king : man_at p.men info.king ≡ man_of p.side King
+  -- what the king sees towards the enemy's sliders
+  pub pin_squares : (t : ℕ) → t < 64 → has info.pin_squares t
+      ≡ (sights_as_bishop (has info.occupied) (has info.enemy.diagonal) info.king t || sights_as_rook (has info.occupied) (has info.enemy.straight) info.king t)
+  pub check_mask : (t : ℕ) → t < 64 → has info.check_mask t ≡ is_in_check_mask p info.king t
+  pub sound : IsSound p

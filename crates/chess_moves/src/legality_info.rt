@@ -1,0 +1,63 @@
+//! The legality information of a position: what the legality of each of its moves asks about, its checks and pins among it, found
+//! once for it.
+
+ghost use Rattle.std.specs.Prelude.{◌≡◌, ◌<◌};
+ghost use Rattle.chess_board.specs.Positions.{Setup};
+ghost use Rattle.chess_board.specs.Men.{other_side};
+ghost use Rattle.chess_board.specs.Attacks.{is_attacked};
+ghost use Rattle.chess_moves.specs.inside.LegalityInfo.{IsLegalityInfoOf};
+
+use crate::attackers::{diagonal_sight, straight_sight};
+use crate::checks_and_pins::check_mask;
+use crate::forces::{Force, all_of, force_of};
+use crate::ray_tables::Rays;
+use chess_board::{Colour, Position};
+
+/// What the legality of each move asks about, mostly as sets of squares.
+#[derive(Clone, Copy, Debug)]
+pub(crate) struct LegalityInfo {
+    /// The side to move.
+    pub side: Colour,
+    /// Where a man stands, of either side.
+    pub occupied: u64,
+    /// Where a man of the side to move stands.
+    pub own: u64,
+    /// The men of the other side.
+    pub enemy: Force,
+    /// The square of the king of the side to move.
+    pub king: u8,
+    /// What the king sees on its lines with a slider of the other side: only men on these squares can be pinned.
+    pub pin_squares: u64,
+    /// The squares on which a man other than the king answers the checks that there are: all where there is none.
+    pub check_mask: u64,
+}
+
+/// The legality information of a position.
+pub(crate) fn legality_info_of(rays: &Rays, position: &Position) -> LegalityInfo
+    ensures { IsLegalityInfoOf result position.now }
+{
+    let side = position.side();
+    let by = side.other();
+    let enemy = force_of(position, by);
+    let occupied = position.occupied();
+    let king = position.king(side).index() as u8;
+    let diagonal = diagonal_sight(rays, occupied, enemy.diagonal, king);
+    let straight = straight_sight(rays, occupied, enemy.straight, king);
+    LegalityInfo {
+        side,
+        occupied,
+        own: all_of(&force_of(position, side)),
+        enemy,
+        king,
+        pin_squares: diagonal | straight,
+        check_mask: check_mask(rays, &enemy, by, king, diagonal, straight),
+    }
+}
+
+/// Whether the king of the side to move is attacked: only then does its own square answer no check.
+pub(crate) fn is_checked(info: &LegalityInfo) -> bool
+    requires { info.now.king < 64 }
+    ensures { (p : Setup) → IsLegalityInfoOf info.now p → result ≡ is_attacked p.men info.now.king (other_side p.side) }
+{
+    !square_sets::contains(info.check_mask, info.king)
+}
