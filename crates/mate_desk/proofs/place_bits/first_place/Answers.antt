@@ -1,7 +1,7 @@
 use Rattle.std.proofs.Common.{w64, arith}
 use Rattle.std.proofs.lemmas.Nat.Bits.{bit_at-trailing_zeros}
 use Rattle.mate_desk.proofs.Bits.{is_absent, is_there}
-use Rattle.mate_desk.proofs.places.first_place.Goals as goal
+use Rattle.mate_desk.proofs.place_bits.first_place.Goals as goal
 
 pub returns-clause-inside : goal.returns-clause-inside
 returns-clause-inside c =

@@ -1,7 +1,7 @@
 //! Places in a queue of at most 64, as a word: bit k stands for the k-th place.
 
 ghost use Rattle.std.specs.Prelude.{◌≡◌, ◌+◌, ◌<◌, ◌==◌, ◌||◌, ◌&&◌, not, true, false, ℕ, IfNone, IfSome};
-ghost use Rattle.mate_desk.specs.inside.Places.{has_place};
+ghost use Rattle.mate_desk.specs.inside.PlaceBits.{has_place};
 
 /// The lowest place in a word; none where it has no place.
 pub(crate) fn first_place(word: u64) -> Option<usize>
