@@ -10,7 +10,7 @@ use Rattle.mate_search.specs.declared.input_replies.Output.{Output}
 use Rattle.desk_room.specs.declared.windows.Window.{Window}
 use Rattle.desk_room.specs.declared.keeper_ends.Line.{Line}
 use Rattle.desk_room.specs.declared.keepers.Keeper.{Keeper}
-use Rattle.desk_room.specs.declared.reports.Report.{Report}
+use Rattle.desk_room.specs.declared.attending.Report.{Report}
 use Rattle.desk_room.proofs.Opened.{of_then, of_window, opened_of}
 
 reports_snoc : (ws : List Window) (inputs : List (List ℕ)) (rs : List Report) (w : Window) (input : List ℕ) (r : Report)

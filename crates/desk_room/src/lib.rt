@@ -5,13 +5,14 @@
 //! deque work is that of `rtrb` and `crossbeam_deque`.
 //!
 //! To read: `letters` (what goes over the rings); `windows`, with `window_faults`, and `keeper_ends`, the keeper's ends of a window's two
-//! rings; `ring_pairs` opens both ends and lets them meet. Then `orders`; `dealing`, the rule of the deque; `dealers`, its end at the
-//! keeper, and `seats`, its ends at the `benches`; `ears`, the keeper's ends of the `back_rings`. Then `keepers`, and a turn, pass by pass:
-//! `hearing`, `taking`, `ordering`, `giving`, and `turns` as a whole; `rooms`, which opens all of it, and `meeting`, where a window settles
-//! with the keeper. Last what `serve` is made of: `solve_gates`; `bells` and `waits`, how its threads end and wait; `clerks`, one at each
-//! window, with their `reports`; benches `working` and the keeper `keeping`; `threads`, and `serving` as a whole.
+//! rings; `window_rings` makes both. Then `orders`; `dealing`, the rule of the deque; `dealers`, its end at the keeper, and `seats`, its
+//! ends at the `benches`; `ears`, the keeper's ends of the `back_rings`. Then `keepers`, and a turn, pass by pass: `hearing`, `taking`,
+//! `ordering`, `giving`, and `turns` as a whole; `rooms`, which opens all of it, and `settling`, of a window with the keeper. Last what
+//! `serve` is made of: `solve_gates`; `bells` and `waits`, how its threads end and wait; `clerks`, one at each window, `attending` to an
+//! input; benches `working` and the keeper `keeping`; `threads`, and `serving` as a whole.
 #![tactic(auto)]
 
+mod attending;
 mod back_rings;
 mod bells;
 mod benches;
@@ -25,20 +26,19 @@ mod keeper_ends;
 mod keepers;
 mod keeping;
 mod letters;
-mod meeting;
 mod ordering;
 mod orders;
-mod reports;
-mod ring_pairs;
 mod rooms;
 mod seats;
 mod serving;
+mod settling;
 mod solve_gates;
 mod taking;
 mod threads;
 mod turns;
 mod waits;
 mod window_faults;
+mod window_rings;
 mod windows;
 mod working;
 
@@ -46,31 +46,19 @@ pub use benches::Bench;
 pub use keepers::Keeper;
 pub use letters::{Back, Letter};
 pub use orders::Order;
-pub use ring_pairs::Settled;
 pub use rooms::{Room, RoomFault, open_room};
 pub use seats::Taken;
 pub use serving::serve;
+pub use settling::Settled;
 pub use solve_gates::{Gate, OpenGate};
 pub use turns::Turn;
 pub use window_faults::{ByeFault, WindowFault, WithdrawFault};
 pub use windows::Window;
 
 #[cfg(test)]
-mod crews;
-#[cfg(test)]
-mod manners;
-#[cfg(test)]
 mod order_tests;
 #[cfg(test)]
-mod plain_room;
-#[cfg(test)]
-mod plain_turns;
-#[cfg(test)]
-mod real_room;
-#[cfg(test)]
 mod room_tests;
-#[cfg(test)]
-mod scenes;
 #[cfg(test)]
 mod sequence_tests;
 #[cfg(test)]
@@ -78,12 +66,24 @@ mod serving_tests;
 #[cfg(test)]
 mod shared_tests;
 #[cfg(test)]
-mod solvers;
+mod test_calls;
 #[cfg(test)]
-mod submitters;
+mod test_crews;
+#[cfg(test)]
+mod test_manners;
+#[cfg(test)]
+mod test_plain_room;
+#[cfg(test)]
+mod test_plain_turns;
+#[cfg(test)]
+mod test_real_room;
+#[cfg(test)]
+mod test_scenes;
+#[cfg(test)]
+mod test_solvers;
+#[cfg(test)]
+mod test_submitters;
 #[cfg(test)]
 mod thread_tests;
-#[cfg(test)]
-mod told_calls;
 #[cfg(test)]
 mod window_tests;

@@ -1,7 +1,7 @@
 //! Rooms turned by hand, on one thread, told with the replies.
 
 use crate::rooms::{RoomFault, open_room};
-use crate::scenes::{A, ANSWER_A, ANSWER_B, B, Call, check_room, check_two_windows};
+use crate::test_scenes::{A, ANSWER_A, ANSWER_B, B, Call, check_room, check_two_windows};
 use chess_notation::Bound;
 use std::alloc::Global;
 use std::test::Fail;

@@ -15,7 +15,7 @@ use crate::dealers::Dealer;
 use crate::ears::Ear;
 use crate::keeper_ends::Line;
 use crate::keepers::Keeper;
-use crate::ring_pairs::open_line;
+use crate::window_rings::open_line;
 use crate::windows::Window;
 use chess_notation::Bound;
 use mate_desk::Desk;

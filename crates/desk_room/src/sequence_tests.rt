@@ -1,9 +1,9 @@
 //! Every sequence of five calls on a room of one window and one bench, each on a room of its own, beside a plain room.
 
-use crate::plain_room::PlainRoom;
-use crate::real_room::{Tools, make_tools, reply};
-use crate::scenes::ends_of_one;
-use crate::told_calls::Call;
+use crate::test_calls::Call;
+use crate::test_plain_room::PlainRoom;
+use crate::test_real_room::{Tools, make_tools, reply};
+use crate::test_scenes::ends_of_one;
 use std::alloc::Global;
 use std::collections::VecDeque;
 use std::process::Abort;

@@ -7,11 +7,11 @@ ghost use Rattle.desk_room.specs.inside.Threads.{AllFresh, AllOf, AllReport, All
 ghost use Rattle.desk_room.specs.Keepers.{IsOf, SameRoom};
 ghost use Rattle.desk_room.specs.declared.rooms.RoomFault.TheVariants as fault;
 
+use crate::attending::Report;
 use crate::bells::{Bell, Why};
 use crate::benches::Bench;
 use crate::keepers::Keeper;
 use crate::keeping::keep;
-use crate::reports::Report;
 use crate::rooms::{Room, RoomFault, open_room};
 use crate::solve_gates::Gate;
 use crate::threads::{Worked, attend_all, work_all};

@@ -1,9 +1,9 @@
 //! Inputs served by threads.
 
 use crate::rooms::RoomFault;
-use crate::scenes::{A, ANSWER_A, ANSWER_B, B};
 use crate::serving::serve;
 use crate::solve_gates::{Gate, OpenGate};
+use crate::test_scenes::{A, ANSWER_A, ANSWER_B, B};
 use chess_moves::Rays;
 use chess_notation::Bound;
 use mate_search::{Memo, Output, Ticket, solve_input};

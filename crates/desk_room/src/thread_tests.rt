@@ -4,11 +4,11 @@ ghost use Rattle.std.specs.Prelude.{◌≡◌};
 ghost use Rattle.desk_room.specs.Keepers.{SameRoom};
 
 use crate::keepers::Keeper;
-use crate::manners::{Manner, Pace};
-use crate::ring_pairs::Settled;
-use crate::scenes::ends_of_two;
-use crate::solvers::Solver;
-use crate::submitters::{RECORDS, SameEnds, Submitter};
+use crate::settling::Settled;
+use crate::test_manners::{Manner, Pace};
+use crate::test_scenes::ends_of_two;
+use crate::test_solvers::Solver;
+use crate::test_submitters::{RECORDS, SameEnds, Submitter};
 use crate::turns::Turn;
 use crate::windows::Window;
 use std::alloc::Global;

@@ -5,9 +5,9 @@ ghost use Rattle.std.specs.Thread.{IsSync};
 ghost use Rattle.desk_room.specs.inside.Threads.{AllFresh, IsFreshWindow, AllReport};
 ghost use Rattle.desk_room.specs.inside.Clerks.{Reports};
 
+use crate::attending::{Report, attend};
 use crate::bells::{Bell, Why};
 use crate::benches::Bench;
-use crate::reports::{Report, attend};
 use crate::solve_gates::Gate;
 use crate::windows::Window;
 use crate::working::work;

@@ -4,8 +4,8 @@ ghost use Rattle.desk_room.specs.KeeperEnds.{AreEnds};
 
 use crate::keeper_ends::Line;
 use crate::letters::Letter;
-use crate::ring_pairs::open_line;
 use crate::window_faults::{ByeFault, WindowFault, WithdrawFault};
+use crate::window_rings::open_line;
 use crate::windows::Window;
 use chess_moves::Rays;
 use chess_notation::{Bound, EpdFault, Record, read_record};

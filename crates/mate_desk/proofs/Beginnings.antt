@@ -7,8 +7,8 @@ use Rattle.chess_notation.specs.Records.{RecordValue}
 use Rattle.mate_search.specs.Jobs.{Task}
 use Rattle.mate_desk.specs.Content.{Content, EntryValue, QueueValue, entries, lowest, lower, waits, has_ticket, is_waiting, is_out}
 use Rattle.mate_desk.specs.Calls.{empty, has_out}
-use Rattle.mate_desk.specs.declared.events.Step.{Step}
-use Rattle.mate_desk.specs.declared.events.Reply.{Reply}
+use Rattle.mate_desk.specs.declared.steps_and_replies.Step.{Step}
+use Rattle.mate_desk.specs.declared.steps_and_replies.Reply.{Reply}
 use Rattle.mate_desk.specs.History.{History, past_onto, accepted, delivered, pending, phase}
 use Rattle.mate_desk.specs.Replies.{from, AreReplies}
 use Rattle.mate_desk.specs.inside.Mirrors.{queue_of, AreApart, MirrorsBy}

@@ -4,7 +4,7 @@ use Rattle.std.specs.Int.{bit_not}
 use Rattle.std.specs.Int.RustNames.{bit_and, bit_or}
 use Rattle.std.proofs.lemmas.Nat.Bits.{bit_at_clear_same, bit_at_clear_other, bit_at_set_same, bit_at_set_other, bit_at-suc, bit_at-zero}
 use Rattle.std.proofs.lemmas.Bool.{eqb-true, eqb-false}
-use Rattle.mate_desk.specs.inside.Places.{has_place}
+use Rattle.mate_desk.specs.inside.PlaceBits.{has_place}
 
 pub has_set : (word k p : ℕ) → k < 64 → p < 64 → has_place (bit_or word (1 * 2 ^ k % 2 ^ 64)) p ≡ (eqb p k || has_place word p)
 has_set word k p l h = (elim (eqb p k) as (λ b. eqb p k ≡ b → has_place (bit_or word (1 * 2 ^ k % 2 ^ 64)) p ≡ (b || has_place word p)) [

@@ -11,9 +11,9 @@ use Rattle.mate_desk.specs.Headline.{IsFor}
 use Rattle.mate_desk.specs.Replies.{from, IsOwed, IsFirstOwed, IsCollectReply, IsCollectReplyBy, IsReplyTo}
 use Rattle.mate_desk.specs.inside.Mirrors.{entry_at, queue_of, AreOut, Sound, MirrorsBy, Makes}
 use Rattle.mate_desk.specs.inside.Stepping.{found_reply}
-use Rattle.mate_desk.specs.declared.events.Reply.{Reply}
-use Rattle.mate_desk.specs.declared.events.Step.TheVariants as step
-use Rattle.mate_desk.specs.declared.events.Reply.TheVariants as reply
+use Rattle.mate_desk.specs.declared.steps_and_replies.Reply.{Reply}
+use Rattle.mate_desk.specs.declared.steps_and_replies.Step.TheVariants as step
+use Rattle.mate_desk.specs.declared.steps_and_replies.Reply.TheVariants as reply
 use Rattle.mate_desk.proofs.Each.{change_from, get_out}
 use Rattle.mate_desk.proofs.Hands.{out_kept}
 use Rattle.mate_desk.proofs.Leaving.{and_fixed}

@@ -9,8 +9,8 @@ use Rattle.mate_desk.specs.Calls.{is_drained}
 use Rattle.mate_desk.specs.History.{History, hand, pending}
 use Rattle.mate_desk.specs.Replies.{from, drained}
 use Rattle.mate_desk.specs.inside.Mirrors.{queue_of, AreOut, MirrorsBy, Makes}
-use Rattle.mate_desk.specs.declared.events.Step.TheVariants as step
-use Rattle.mate_desk.specs.declared.events.Reply.TheVariants as reply
+use Rattle.mate_desk.specs.declared.steps_and_replies.Step.TheVariants as step
+use Rattle.mate_desk.specs.declared.steps_and_replies.Reply.TheVariants as reply
 use Rattle.mate_desk.proofs.Leaving.{and_fixed}
 use Rattle.mate_desk.proofs.Submissions.{length_queue}
 

@@ -4,10 +4,10 @@ use Rattle.std.specs.List.{list_any}
 use Rattle.std.proofs.lemmas.Bool.Decides.{nat_tests}
 use Rattle.std.proofs.lemmas.List.Recursion.{is_count_by}
 use Rattle.mate_desk.specs.Content.{Phase, Waiting, Out, Finished}
-use Rattle.mate_desk.specs.declared.events.Step.{Step}
-use Rattle.mate_desk.specs.declared.events.Step.TheVariants as step
-use Rattle.mate_desk.specs.declared.events.Reply.{Reply}
-use Rattle.mate_desk.specs.declared.events.Reply.TheVariants as reply
+use Rattle.mate_desk.specs.declared.steps_and_replies.Step.{Step}
+use Rattle.mate_desk.specs.declared.steps_and_replies.Step.TheVariants as step
+use Rattle.mate_desk.specs.declared.steps_and_replies.Reply.{Reply}
+use Rattle.mate_desk.specs.declared.steps_and_replies.Reply.TheVariants as reply
 use Rattle.mate_desk.specs.History.{History, Event, withdraws, withdrawn, closes, closed, phase_by, phase, is_ticket, count_accepted}
 use Rattle.mate_desk.specs.HistoryLaws.{WasMade, WithdrawnReads, ClosedReads, CountReads, says_by, says_phase, NoneSays, IsLast, PhaseReads}
 

@@ -9,10 +9,10 @@ use Rattle.mate_desk.specs.Calls.{into_phase, in_queue, everywhere, has_out, aft
 use Rattle.mate_desk.specs.History.{History, accepted, delivered, phase, withdrawn, hand, count_accepted, without}
 use Rattle.mate_desk.specs.Replies.{take_reply, finish_reply, back_reply, IsReplyTo, AreReplies}
 use Rattle.mate_desk.specs.inside.Mirrors.{queue_with, queue_of, AreApart, MirrorsBy, Makes}
-use Rattle.mate_desk.specs.declared.events.Step.{Step}
-use Rattle.mate_desk.specs.declared.events.Reply.{Reply}
-use Rattle.mate_desk.specs.declared.events.Step.TheVariants as step
-use Rattle.mate_desk.specs.declared.events.Reply.TheVariants as reply
+use Rattle.mate_desk.specs.declared.steps_and_replies.Step.{Step}
+use Rattle.mate_desk.specs.declared.steps_and_replies.Reply.{Reply}
+use Rattle.mate_desk.specs.declared.steps_and_replies.Step.TheVariants as step
+use Rattle.mate_desk.specs.declared.steps_and_replies.Reply.TheVariants as reply
 use Rattle.mate_desk.proofs.Each.{map_from}
 use Rattle.mate_desk.proofs.PhaseChanges.{but, queue_into, sound_into, out_other, waiting_not_out, waiting_not_finished, out_not_finished}
 use Rattle.mate_desk.proofs.Waits.{lowest_is, least_waits, out_phase}

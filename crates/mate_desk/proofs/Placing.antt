@@ -3,7 +3,7 @@ use Rattle.std.proofs.Common.{◌≡◌, ◌⊎◌, inl, inr, ℕ, zero, suc, �
 use Rattle.std.proofs.lemmas.List.Sums.{sum_by-cons}
 use Rattle.mate_desk.specs.Content.{QueueValue}
 use Rattle.mate_desk.specs.Calls.{empty}
-use Rattle.mate_desk.specs.declared.events.Step.{Step}
+use Rattle.mate_desk.specs.declared.steps_and_replies.Step.{Step}
 use Rattle.mate_desk.specs.inside.Stepping.{collects, finishes, is_done, count_done}
 use Rattle.mate_desk.proofs.Distinct.{one_if}
 use Rattle.mate_desk.proofs.Joined.{joined}

@@ -6,10 +6,10 @@ use Rattle.chess_notation.specs.Records.{RecordValue}
 use Rattle.mate_search.specs.Jobs.{Task}
 use Rattle.mate_desk.specs.Content.{Content, Phase, Waiting, Out, Finished}
 use Rattle.mate_desk.specs.declared.refusals.SubmitRefusal.TheVariants as refused
-use Rattle.mate_desk.specs.declared.events.Step.{Step}
-use Rattle.mate_desk.specs.declared.events.Reply.{Reply}
-use Rattle.mate_desk.specs.declared.events.Step.TheVariants as step
-use Rattle.mate_desk.specs.declared.events.Reply.TheVariants as reply
+use Rattle.mate_desk.specs.declared.steps_and_replies.Step.{Step}
+use Rattle.mate_desk.specs.declared.steps_and_replies.Reply.{Reply}
+use Rattle.mate_desk.specs.declared.steps_and_replies.Step.TheVariants as step
+use Rattle.mate_desk.specs.declared.steps_and_replies.Reply.TheVariants as reply
 use Rattle.mate_desk.specs.History.{History, Event, past_onto, Claim, Parcel, accepted, delivered, count_accepted, closed, pending, phase, withdrawn, hand, is_ticket, is_notice}
 use Rattle.mate_desk.specs.Replies.{from, drained, AreReplies, IsReplyTo, IsSubmitReply, IsOwed, IsFirstOwed, IsCollectReplyBy, submit_reply, take_reply, finish_reply, back_reply, withdraw_reply}
 use Rattle.mate_desk.specs.Headline.{DeliversInOrder, GivesNoticeOfWithdrawn, DeliversAllOnceDrained, AcceptsNoneAfterClose}

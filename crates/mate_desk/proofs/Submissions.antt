@@ -14,10 +14,10 @@ use Rattle.mate_desk.specs.declared.refusals.SubmitRefusal.TheVariants as refuse
 use Rattle.mate_desk.specs.History.{History, Claim, Parcel, accepted, delivered, phase, withdrawn, hand, count_accepted, closed, pending}
 use Rattle.mate_desk.specs.Replies.{from, submit_reply, IsSubmitReply, IsReplyTo}
 use Rattle.mate_desk.specs.inside.Mirrors.{entries_from, queue_with, queue_of, Sound, MirrorsBy, Mirrors, Makes}
-use Rattle.mate_desk.specs.declared.events.Step.{Step}
-use Rattle.mate_desk.specs.declared.events.Reply.{Reply}
-use Rattle.mate_desk.specs.declared.events.Step.TheVariants as step
-use Rattle.mate_desk.specs.declared.events.Reply.TheVariants as reply
+use Rattle.mate_desk.specs.declared.steps_and_replies.Step.{Step}
+use Rattle.mate_desk.specs.declared.steps_and_replies.Reply.{Reply}
+use Rattle.mate_desk.specs.declared.steps_and_replies.Step.TheVariants as step
+use Rattle.mate_desk.specs.declared.steps_and_replies.Reply.TheVariants as reply
 use Rattle.mate_desk.proofs.Each.{get_in, get_out, change_from}
 use Rattle.mate_desk.proofs.PhaseChanges.{but}
 use Rattle.mate_desk.proofs.Hands.{out_kept}

@@ -4,7 +4,7 @@ use Rattle.std.proofs.lemmas.Bool.Decides.{nat_tests}
 use Rattle.std.proofs.lemmas.Nat.Bits.{bit_at_above}
 use Rattle.mate_desk.specs.Content.{EntryValue, waits, lower, lowest}
 use Rattle.mate_desk.specs.Laws.{Rises}
-use Rattle.mate_desk.specs.inside.Places.{has_place}
+use Rattle.mate_desk.specs.inside.PlaceBits.{has_place}
 use Rattle.mate_desk.specs.inside.Keeping.{waits_at, Marks}
 use Rattle.mate_desk.proofs.Bits.{is_absent, none_has}
 use Rattle.mate_desk.proofs.Changes.{got_one}

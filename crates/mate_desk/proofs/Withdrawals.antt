@@ -12,9 +12,9 @@ use Rattle.mate_desk.specs.declared.refusals.WithdrawRefusal.TheVariants as kept
 use Rattle.mate_desk.specs.History.{History, Claim, Parcel, accepted, delivered, phase, withdrawn, count_accepted, is_notice}
 use Rattle.mate_desk.specs.Replies.{from, withdraw_reply}
 use Rattle.mate_desk.specs.inside.Mirrors.{entry_at, entries_from, queue_with, queue_of, are_settled, AreNoticesMarked, Sound, MirrorsBy, Makes}
-use Rattle.mate_desk.specs.declared.events.Reply.{Reply}
-use Rattle.mate_desk.specs.declared.events.Step.TheVariants as step
-use Rattle.mate_desk.specs.declared.events.Reply.TheVariants as reply
+use Rattle.mate_desk.specs.declared.steps_and_replies.Reply.{Reply}
+use Rattle.mate_desk.specs.declared.steps_and_replies.Step.TheVariants as step
+use Rattle.mate_desk.specs.declared.steps_and_replies.Reply.TheVariants as reply
 use Rattle.mate_desk.proofs.Each.{change_from}
 use Rattle.mate_desk.proofs.Hands.{out_kept}
 use Rattle.mate_desk.proofs.Leaving.{and_fixed}

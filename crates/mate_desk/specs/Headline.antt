@@ -4,9 +4,9 @@ use Rattle.chess_board.specs.Moves.{Move}
 use Rattle.chess_notation.specs.declared.problems.Outcome.{Outcome}
 use Rattle.chess_notation.specs.Records.{RecordValue, Reads, problem_of}
 use Rattle.mate_search.specs.Laws.{AreFirstMoves, IsTold}
-use Rattle.mate_desk.specs.declared.events.Step.{Step}
-use Rattle.mate_desk.specs.declared.events.Reply.{Reply}
-use Rattle.mate_desk.specs.declared.events.Reply.TheVariants.{Answer}
+use Rattle.mate_desk.specs.declared.steps_and_replies.Step.{Step}
+use Rattle.mate_desk.specs.declared.steps_and_replies.Reply.{Reply}
+use Rattle.mate_desk.specs.declared.steps_and_replies.Reply.TheVariants.{Answer}
 use Rattle.mate_desk.specs.History.{History, past, Claim, Parcel, Answered, Noticed, accepted, delivered, withdrawn, closed, is_notice, is_ticket}
 use Rattle.mate_desk.specs.Replies.{drained}
 

@@ -2,10 +2,10 @@
 use Rattle.std.specs.Prelude.{ℕ, ◌+◌, ◌-◌, ◌==◌, Bool, true, false, not, ◌&&◌, ◌||◌, if◌then◌else◌, List, [], ◌∷◌, ◌++◌, length, filter}
 use Rattle.chess_notation.specs.Records.{RecordValue}
 use Rattle.mate_desk.specs.Content.{Phase, Waiting, Out, Finished}
-use Rattle.mate_desk.specs.declared.events.Step.{Step}
-use Rattle.mate_desk.specs.declared.events.Step.TheVariants.{Submit, Collect, Withdraw, Close}
-use Rattle.mate_desk.specs.declared.events.Reply.{Reply}
-use Rattle.mate_desk.specs.declared.events.Reply.TheVariants as reply
+use Rattle.mate_desk.specs.declared.steps_and_replies.Step.{Step}
+use Rattle.mate_desk.specs.declared.steps_and_replies.Step.TheVariants.{Submit, Collect, Withdraw, Close}
+use Rattle.mate_desk.specs.declared.steps_and_replies.Reply.{Reply}
+use Rattle.mate_desk.specs.declared.steps_and_replies.Reply.TheVariants as reply
 
 pub record Event : Type 0 where
   pub step : Step

@@ -8,10 +8,10 @@ use Rattle.chess_notation.specs.declared.epd_faults.EpdFault.TheVariants.{NoMemo
 use Rattle.mate_desk.specs.Content.{Phase, Waiting, Out, Finished, is_waiting, lower}
 use Rattle.mate_desk.specs.declared.refusals.SubmitRefusal.TheVariants as submit
 use Rattle.mate_desk.specs.declared.refusals.WithdrawRefusal.TheVariants as withdraw
-use Rattle.mate_desk.specs.declared.events.Step.{Step}
-use Rattle.mate_desk.specs.declared.events.Step.TheVariants.{Submit, Take, Finish, HandBack, Collect, Withdraw, Drained, Close}
-use Rattle.mate_desk.specs.declared.events.Reply.{Reply}
-use Rattle.mate_desk.specs.declared.events.Reply.TheVariants as reply
+use Rattle.mate_desk.specs.declared.steps_and_replies.Step.{Step}
+use Rattle.mate_desk.specs.declared.steps_and_replies.Step.TheVariants.{Submit, Take, Finish, HandBack, Collect, Withdraw, Drained, Close}
+use Rattle.mate_desk.specs.declared.steps_and_replies.Reply.{Reply}
+use Rattle.mate_desk.specs.declared.steps_and_replies.Reply.TheVariants as reply
 use Rattle.mate_desk.specs.History.{History, Claim, accepted, delivered, phase, withdrawn, hand, count_accepted, closed, pending}
 
 -- so many numbers, from k on

@@ -5,8 +5,8 @@ use Rattle.chess_notation.specs.Answers.{answer_text}
 use Rattle.chess_notation.specs.EpdFaults.{epd_fault_name}
 use Rattle.mate_search.specs.inside.Truth.{truth}
 use Rattle.mate_desk.specs.Refusals.{submit_refusal_name, withdraw_refusal_name}
-use Rattle.mate_desk.specs.declared.events.Reply.{Reply}
-use Rattle.mate_desk.specs.declared.events.Reply.TheVariants.{Ticket, Refused, BadRecord, Job, Nothing, Done, NoJob, Back, Answer, Notice, Empty, NoSuchSubmitter, Withdrawn, NotWithdrawn, Drained, Closed}
+use Rattle.mate_desk.specs.declared.steps_and_replies.Reply.{Reply}
+use Rattle.mate_desk.specs.declared.steps_and_replies.Reply.TheVariants.{Ticket, Refused, BadRecord, Job, Nothing, Done, NoJob, Back, Answer, Notice, Empty, NoSuchSubmitter, Withdrawn, NotWithdrawn, Drained, Closed}
 
 -- An answer prints as the record with what is true of its problem, a refusal as the word `refused` and its name.
 unfoldable pub reply_text : Reply → List ℕ

@@ -1,4 +1,4 @@
-pub mod Places
+pub mod PlaceBits
 pub mod Keeping
 pub mod Mirrors
 pub mod Stepping

@@ -5,29 +5,29 @@
 //! its steps and replies are read, `specs/Replies.antt` what each reply is, and `specs/Headline.antt` what follows.
 //!
 //! To read: `refusals` and `deliveries`; then `desks`, over `lookups`, `queues` (what one submitter has pending), `entries`, `solved`
-//! and `places`. `Desk::new` takes all memory that a desk ever needs. Then `events` and `held_answers`, the steps and the replies;
-//! `runs`, over `stepping`; `reply_texts`; and `history_laws`, which tells the history in plain words (`specs/HistoryLaws.antt`).
+//! and `place_bits`. `Desk::new` takes all memory that a desk ever needs. Then `steps_and_replies`, with `held_answers`; `runs`, over
+//! `stepping`; `reply_texts`; and `history_laws`, which tells the history in plain words (`specs/HistoryLaws.antt`).
 #![tactic(auto)]
 
 mod deliveries;
 mod desks;
 mod entries;
-mod events;
 mod held_answers;
 mod history_laws;
 mod lookups;
-mod places;
+mod place_bits;
 mod queues;
 mod refusals;
 mod reply_texts;
 mod runs;
 mod solved;
 mod stepping;
+mod steps_and_replies;
 
 pub use deliveries::Delivery;
 pub use desks::Desk;
-pub use events::{Reply, Step};
 pub use held_answers::HeldAnswer;
+pub use steps_and_replies::{Reply, Step};
 pub use history_laws::{
     accepted_reads, closed_reads, count_reads, delivered_reads, hand_reads, phase_reads,
     withdrawn_reads,
@@ -39,8 +39,6 @@ pub use runs::{RunFault, run};
 #[cfg(test)]
 mod limit_tests;
 #[cfg(test)]
-mod plain_desk;
-#[cfg(test)]
 mod row_tests;
 #[cfg(test)]
 mod run_tests;
@@ -48,5 +46,7 @@ mod run_tests;
 mod run_withdrawal_tests;
 #[cfg(test)]
 mod stranger_tests;
+#[cfg(test)]
+mod test_plain_desk;
 #[cfg(test)]
 mod walk_tests;

@@ -10,7 +10,7 @@ ghost use Rattle.mate_desk.specs.inside.Keeping.{IsOutAt};
 
 use crate::deliveries::Delivery;
 use crate::entries::Entry;
-use crate::places::{first_place, lower_places, with_place, without_place};
+use crate::place_bits::{first_place, lower_places, with_place, without_place};
 use crate::refusals::WithdrawRefusal;
 use crate::solved::deliver;
 use chess_notation::{Problem, Record};

@@ -3,7 +3,7 @@
 ghost use Rattle.std.specs.Prelude.{◌≡◌, ◌++◌, IfOk, codes, decimal, string_bytes};
 ghost use Rattle.mate_desk.specs.ReplyTexts.{reply_text as text_of};
 
-use crate::events::Reply;
+use crate::steps_and_replies::Reply;
 use chess_moves::Rays;
 use chess_notation::NoMemory;
 use mate_search::Ticket;

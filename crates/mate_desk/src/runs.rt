@@ -10,10 +10,10 @@ ghost use Rattle.mate_desk.specs.inside.Stepping.{collects, finishes};
 ghost use Rattle.mate_desk.specs.declared.runs.RunFault.TheVariants as fault;
 
 use crate::desks::Desk;
-use crate::events::{Reply, Step};
 use crate::held_answers::new_places;
 use crate::refusals::DeskFault;
 use crate::stepping::make;
+use crate::steps_and_replies::{Reply, Step};
 use chess_moves::Rays;
 use chess_notation::Bound;
 use mate_search::Memo;

@@ -5,12 +5,12 @@ ghost use Rattle.mate_search.specs.Jobs.{Task};
 ghost use Rattle.mate_desk.specs.Content.{entries, lowest};
 ghost use Rattle.mate_desk.specs.inside.Mirrors.{Makes};
 ghost use Rattle.mate_desk.specs.inside.Stepping.{delivery_reply, found_reply, answers, collects, finishes, count_done};
-ghost use Rattle.mate_desk.specs.declared.events.Step.TheVariants as step;
+ghost use Rattle.mate_desk.specs.declared.steps_and_replies.Step.TheVariants as step;
 
 use crate::deliveries::Delivery;
 use crate::desks::Desk;
-use crate::events::{Reply, Step};
 use crate::held_answers::{Place, hold};
+use crate::steps_and_replies::{Reply, Step};
 use chess_moves::Rays;
 use chess_notation::{Bound, read_record};
 use mate_search::{Job, Memo};

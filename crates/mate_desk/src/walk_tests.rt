@@ -1,6 +1,6 @@
 //! Desks of a hundred sizes beside a plain desk, a thousand calls each.
 
-use crate::plain_desk::{Phase, PlainDesk, Told};
+use crate::test_plain_desk::{Phase, PlainDesk, Told};
 use crate::{Delivery, Desk, NoSuchSubmitter, Stranger};
 use chess_moves::Rays;
 use chess_notation::{Bound, Outcome, Record, read_record};

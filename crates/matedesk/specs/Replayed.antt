@@ -4,8 +4,8 @@ use Rattle.mate_desk.specs.History.{past}
 use Rattle.mate_desk.specs.Refusals.{AreServed, IsRoom}
 use Rattle.mate_desk.specs.Replies.{AreReplies}
 use Rattle.mate_desk.specs.ReplyTexts.{reply_text}
-use Rattle.mate_desk.specs.declared.events.Reply.{Reply}
-use Rattle.mate_desk.specs.declared.events.Step.{Step}
+use Rattle.mate_desk.specs.declared.steps_and_replies.Reply.{Reply}
+use Rattle.mate_desk.specs.declared.steps_and_replies.Step.{Step}
 use Rattle.mate_search.specs.Inputs.{MayBe}
 use Rattle.matedesk.specs.Scripts.{IsFirstFault, IsScript, ScriptValue, step_value}
 use Rattle.matedesk.specs.Writing.{line}

@@ -5,8 +5,8 @@ use Rattle.chess_board.specs.Fields.{digits_value}
 use Rattle.chess_notation.specs.Problems.{max_bound}
 use Rattle.chess_notation.specs.Operations.{is_digit}
 use Rattle.chess_notation.specs.Words.{is_blank}
-use Rattle.mate_desk.specs.declared.events.Step.{Step}
-use Rattle.mate_desk.specs.declared.events.Step.TheVariants as step
+use Rattle.mate_desk.specs.declared.steps_and_replies.Step.{Step}
+use Rattle.mate_desk.specs.declared.steps_and_replies.Step.TheVariants as step
 use Rattle.mate_search.specs.InputReplies.{lines_of, without_cr}
 use Rattle.matedesk.specs.declared.scripts.Script.{Script}
 use Rattle.matedesk.specs.declared.scripts.ScriptFault.{ScriptFault}

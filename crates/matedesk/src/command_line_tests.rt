@@ -2,7 +2,7 @@
 
 use crate::command::command;
 use crate::help::VERSION;
-use crate::shelves::{ALWAYS, run, shelf_of};
+use crate::test_shelves::{ALWAYS, run, shelf_of};
 use std::test::Fail;
 
 /// Whether the text holds the words.

@@ -1,6 +1,6 @@
 //! The commands over a FEN: what they show, and how each fault is named.
 
-use crate::shelves::{ALWAYS, run};
+use crate::test_shelves::{ALWAYS, run};
 use std::test::Fail;
 
 pub(crate) const START: &str = "rnbqkbnr/pppppppp/8/8/8/8/PPPPPPPP/RNBQKBNR w KQkq - 0 1";

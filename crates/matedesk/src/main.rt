@@ -72,8 +72,8 @@ mod script_tests;
 #[cfg(test)]
 mod serve_tests;
 #[cfg(test)]
-mod shelves;
-#[cfg(test)]
 mod solve_tests;
+#[cfg(test)]
+mod test_shelves;
 #[cfg(test)]
 mod worked_tests;

@@ -2,8 +2,8 @@
 
 use crate::command::command;
 use crate::fen_command_tests::{MATED, START};
-use crate::shelves::{ALWAYS, Failing, run, run_with, shelf_of, words_of};
 use crate::solve_tests::LINES;
+use crate::test_shelves::{ALWAYS, Failing, run, run_with, shelf_of, words_of};
 use std::io;
 use std::test::Fail;
 

@@ -1,7 +1,7 @@
 //! What no contract says of `serve`: that it answers with ample memory, and what comes first where it does not.
 
 use crate::command::plain_command;
-use crate::shelves::{ALWAYS, run_with, shelf_of, words_of};
+use crate::test_shelves::{ALWAYS, run_with, shelf_of, words_of};
 use std::test::Fail;
 
 /// As many names as there are windows.

@@ -3,7 +3,7 @@ use Rattle.std.specs.Prelude.{◌≡◌, ℕ, zero, suc, ◌<◌, nat_lt, Bool, 
 use Rattle.mate_search.specs.Jobs.{Task}
 use Rattle.chess_notation.specs.Records.{problem_of}
 use Rattle.mate_desk.specs.Content.{Phase, Waiting, Out, Finished, EntryValue, QueueValue, waits, is_finished, is_out_with}
-use Rattle.mate_desk.specs.inside.Places.{has_place}
+use Rattle.mate_desk.specs.inside.PlaceBits.{has_place}
 use Rattle.mate_desk.specs.declared.entries.Standing.{Standing}
 use Rattle.mate_desk.specs.declared.entries.Standing.TheVariants as kept
 

@@ -7,8 +7,8 @@ use Rattle.mate_desk.specs.Content.{Content, QueueValue, EntryValue, Phase, is_f
 use Rattle.mate_desk.specs.Calls.{has_out}
 use Rattle.mate_desk.specs.History.{History, Claim, Parcel, accepted, delivered, phase, withdrawn, hand, count_accepted, closed, is_notice}
 use Rattle.mate_desk.specs.Replies.{from, AreReplies}
-use Rattle.mate_desk.specs.declared.events.Step.{Step}
-use Rattle.mate_desk.specs.declared.events.Reply.{Reply}
+use Rattle.mate_desk.specs.declared.steps_and_replies.Step.{Step}
+use Rattle.mate_desk.specs.declared.steps_and_replies.Reply.{Reply}
 use Rattle.mate_desk.specs.Headline.{AreForFirst}
 
 -- how a submitter's j-th accepted record stands: what tickets ask, their phases, and the withdrawn places

@@ -1,12 +1,12 @@
 -- Not for believing: how what is collected is handed on, and how many answers there can be. No contract of a public call rests on it.
 use Rattle.std.specs.Prelude.{ℕ, Bool, true, false, count_by, Option, None, Some}
 use Rattle.mate_desk.specs.Content.{Content, EntryValue, entries, is_finished}
-use Rattle.mate_desk.specs.declared.events.Step.{Step}
-use Rattle.mate_desk.specs.declared.events.Step.TheVariants as step
+use Rattle.mate_desk.specs.declared.steps_and_replies.Step.{Step}
+use Rattle.mate_desk.specs.declared.steps_and_replies.Step.TheVariants as step
 use Rattle.mate_desk.specs.declared.deliveries.Delivery.{Delivery}
 use Rattle.mate_desk.specs.declared.deliveries.Delivery.TheVariants as delivery
-use Rattle.mate_desk.specs.declared.events.Reply.{Reply}
-use Rattle.mate_desk.specs.declared.events.Reply.TheVariants as reply
+use Rattle.mate_desk.specs.declared.steps_and_replies.Reply.{Reply}
+use Rattle.mate_desk.specs.declared.steps_and_replies.Reply.TheVariants as reply
 
 abbrev pub delivery_reply : Delivery → Reply
 delivery_reply (delivery.Answer asked) = reply.Answer asked

@@ -1,6 +1,6 @@
 use Rattle.std.proofs.Common.{refl, ap, ◌∙◌, ◌++◌, ◌∷◌}
-use Rattle.mate_desk.specs.declared.events.Step.TheVariants as step
-use Rattle.mate_desk.specs.declared.events.Reply.TheVariants as reply
+use Rattle.mate_desk.specs.declared.steps_and_replies.Step.TheVariants as step
+use Rattle.mate_desk.specs.declared.steps_and_replies.Reply.TheVariants as reply
 use Rattle.mate_desk.specs.History.{accepted}
 use Rattle.mate_desk.proofs.HistoryReadings.{AddsClaim, find_added, read_added, claims_grow, claims_added}
 use Rattle.mate_desk.proofs.history_laws.accepted_reads.Goals as goal

@@ -4,8 +4,8 @@ use Rattle.std.proofs.lemmas.Bool.Decides.{nat_tests}
 use Rattle.std.proofs.lemmas.List.{get_or_default, take_all}
 use Rattle.mate_search.specs.Jobs.{Task}
 use Rattle.mate_desk.specs.Content.{Content}
-use Rattle.mate_desk.specs.declared.events.Step.{Step}
-use Rattle.mate_desk.specs.declared.events.Step.TheVariants.{Take}
+use Rattle.mate_desk.specs.declared.steps_and_replies.Step.{Step}
+use Rattle.mate_desk.specs.declared.steps_and_replies.Step.TheVariants.{Take}
 use Rattle.mate_desk.specs.History.{past, History}
 use Rattle.mate_desk.specs.Replies.{AreReplies}
 use Rattle.mate_desk.specs.Headline.{DeliversInOrder, GivesNoticeOfWithdrawn, DeliversAllOnceDrained, AfterEachPrefix}

@@ -1,7 +1,7 @@
 use Rattle.std.proofs.Common.{◌≡◌, ◌∙◌, ◌+◌, ◌<◌, ◌==◌, ◌||◌, length, ◌∷◌, [], ◌++◌, ap, refl, arith, subst, sym, length-append}
 use Rattle.mate_desk.specs.Content.{EntryValue, QueueValue}
 use Rattle.mate_desk.specs.Laws.{AreBelow}
-use Rattle.mate_desk.specs.inside.Places.{has_place}
+use Rattle.mate_desk.specs.inside.PlaceBits.{has_place}
 use Rattle.mate_desk.proofs.Changes.{rises_push}
 use Rattle.mate_desk.proofs.Waiting.{marks_push}
 use Rattle.mate_desk.proofs.OwnJobs.{solved_push}
