@@ -10,7 +10,7 @@ use Rattle.chess_board.specs.declared.men.Kind.TheVariants.{Pawn, Knight, Bishop
 use Rattle.chess_board.specs.declared.men.Man.{Man}
 use Rattle.chess_board.specs.Men.{is_colour}
 use Rattle.chess_board.specs.Positions.{man_at}
-use Rattle.chess_board.specs.Squares.{file_gap}
+use Rattle.chess_board.specs.Squares.{file_gap, any_below}
 use Rattle.chess_moves.specs.declared.directions.Direction.TheVariants.{North, NorthEast, East, SouthEast, South, SouthWest, West, NorthWest}
 use Rattle.chess_moves.specs.declared.directions.Leap.TheVariants.{KnightLeap, KingStep}
 use Rattle.chess_moves.specs.inside.LegalityInfo.{gets_through}
@@ -43,7 +43,8 @@ no_rook_stays : (taken : ℕ → Bool) (s : ℕ) → reaches_as_rook taken s s �
 unfolding reaches_as_rook
 no_rook_stays taken s = rw (toward_self North s, toward_self East s, toward_self South s, toward_self West s) refl
 
-no_man_stays : (taken : ℕ → Bool) (by : Colour) (kind : Kind) (s : ℕ) → hits_as taken by kind s s ≡ false
+-- No man attacks the square on which it stands.
+pub no_man_stays : (taken : ℕ → Bool) (by : Colour) (kind : Kind) (s : ℕ) → hits_as taken by kind s s ≡ false
 no_man_stays taken by Pawn s = no_capture_stays by s
 no_man_stays taken by Knight s = no_knight_stays s
 no_man_stays taken by Bishop s = no_bishop_stays taken s
@@ -70,6 +71,11 @@ through_to_it men by a s = (elim (eqb s a) as (λ b. eqb s a ≡ b → (hits_fro
       rw none refl
   | false ↦ λ e. rw (none_between a s) (and-true (hits_from men by a s))
 ]) refl
+
+-- so that all attackers get through to it
+pub hit_through : (men : List (Option Man)) (by : Colour) (s : ℕ) → any_below 64 (λ a. hits_from men by a s && gets_through a s s) ≡ is_hit men s by
+unfolding is_hit
+hit_through men by s = any_same (λ a. hits_from men by a s && gets_through a s s) (λ a. hits_from men by a s) 64 (λ a l. through_to_it men by a s)
 
 pub hit_on_arrival : (men : List (Option Man)) (s : ℕ) (man : Man) (by : Colour) → length men ≡ 64 → s < 64 → is_colour by man.colour ≡ false
     → is_hit (set men s (Some man)) s by ≡ is_hit men s by

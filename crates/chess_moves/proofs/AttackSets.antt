@@ -22,6 +22,7 @@ use Rattle.chess_moves.specs.inside.Forces.{is_knight_kind, StandFor, is_one, is
 use Rattle.std.proofs.Math.Bool.{and-false}
 use Rattle.chess_moves.proofs.SetBits.{has_or, has_less, has_none}
 use Rattle.chess_moves.proofs.SetParts.{part}
+use Rattle.chess_moves.proofs.Connectives.{and_when}
 use Rattle.chess_moves.proofs.AnyLemmas.{any_same, any_none, any_at}
 use Rattle.chess_moves.proofs.SharedSquares.{meets_is}
 use Rattle.chess_board.specs.Squares.{any_below}
@@ -244,16 +245,12 @@ seen_itself sliders taken d square t l on = (elim (toward d square t) as (λ b. 
   | false ↦ λ e. rw e (and-false (any_below 64 (λ s. sliders s && toward d square s)))
 ]) refl
 
-same_within : (x p q : Bool) → (x ≡ true → p ≡ q) → (x && p) ≡ (x && q)
-same_within true p q h = h refl
-same_within false p q h = refl
-
 pub slants_towards : (sliders sight occupied square t : ℕ) → t < 64 → has sight t ≡ sights_as_bishop (has occupied) (has sliders) square t
     → has (bit_and sliders sight) t ≡ (has sliders t && reaches_as_bishop (has occupied) square t)
 unfolding sights_as_bishop reaches_as_bishop
 slants_towards sliders sight occupied square t l e =
     part sliders sight t _ _ refl e
-    ∙ same_within (has sliders t) _ _ (λ on. let s = λ (d : Direction). seen_itself (has sliders) (has occupied) d square t l on in
+    ∙ and_when (has sliders t) _ _ (λ on. let s = λ (d : Direction). seen_itself (has sliders) (has occupied) d square t l on in
     rw (s NorthEast, s SouthEast, s SouthWest, s NorthWest) refl)
 
 pub straight_towards : (sliders sight occupied square t : ℕ) → t < 64 → has sight t ≡ sights_as_rook (has occupied) (has sliders) square t
@@ -261,5 +258,5 @@ pub straight_towards : (sliders sight occupied square t : ℕ) → t < 64 → ha
 unfolding sights_as_rook reaches_as_rook
 straight_towards sliders sight occupied square t l e =
     part sliders sight t _ _ refl e
-    ∙ same_within (has sliders t) _ _ (λ on. let s = λ (d : Direction). seen_itself (has sliders) (has occupied) d square t l on in
+    ∙ and_when (has sliders t) _ _ (λ on. let s = λ (d : Direction). seen_itself (has sliders) (has occupied) d square t l on in
     rw (s North, s East, s South, s West) refl)

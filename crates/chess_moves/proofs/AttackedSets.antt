@@ -1,6 +1,7 @@
 -- All squares that a side attacks, put together man by man and kind by kind.
 use Rattle.std.proofs.Common.{◌≡◌, ℕ, Bool, true, false, ◌&&◌, ◌||◌, List, Option, is_some, refl, sym, ap, ◌∙◌}
 use Rattle.std.specs.Int.RustNames.{bit_or}
+use Rattle.std.proofs.Math.Bool.{or-false}
 use Rattle.square_sets.specs.Members.{has}
 use Rattle.square_sets.specs.BitScan.{IsSplit}
 use Rattle.chess_board.specs.declared.men.Colour.{Colour}
@@ -32,11 +33,7 @@ joined_from p set more from a rest t split is =
     regrouped false y z = refl
 
 pub none_to_join : (p : ℕ → Bool) (set rest t : ℕ) → rest ≡ 0 → (has set t || any_below 64 (λ a. has rest a && p a)) ≡ has set t
-none_to_join p set rest t none = let no = none_left rest p none in rw no (or_false (has set t))
-  where
-    or_false : (x : Bool) → (x || false) ≡ x
-    or_false true = refl
-    or_false false = refl
+none_to_join p set rest t none = let no = none_left rest p none in rw no (or-false (has set t))
 
 abbrev pub some_leap : ℕ → Leap → ℕ → Bool
 some_leap set leap t = any_below 64 (λ a. has set a && leaps leap a t)

@@ -21,7 +21,8 @@ use Rattle.chess_moves.proofs.AnyLemmas.{any_same}
 use Rattle.chess_moves.proofs.Geometry.{north_east_on, north_west_on, north_says, north_from, east_says, east_from, north_east_says, north_west_says}
 use Rattle.chess_moves.proofs.Compass.{between_from, between_some, between_in}
 use Rattle.chess_moves.proofs.Slants.{slant_east, slant_west, east_gaps, west_gaps, gaps_back}
-use Rattle.chess_moves.proofs.LineDirections.{same_tests, bishop_line, rook_line}
+use Rattle.chess_moves.proofs.LineDirections.{bishop_line, rook_line}
+use Rattle.chess_moves.proofs.Connectives.{same_tests, four_and}
 
 -- x strictly between a and b, one way or the other
 amid_says : (a b x : ℕ) → is_amid a b x ≡ true → ((a < x) × (x < b)) ⊎ ((b < x) × (x < a))
@@ -198,12 +199,6 @@ reaches_clear men d a b a_on b_on =
       | false ↦ λ line. refl
     ]) refl
 
-four : (w x y z c : Bool) → (w && c || x && c || y && c || z && c) ≡ ((w || x || y || z) && c)
-four w x y z c = sym (
-    and-or_distrib_right (w || x || y) z c
-    ∙ ap (λ (v : Bool). v || z && c) (and-or_distrib_right (w || x) y c
-    ∙ ap (λ (v : Bool). v || y && c) (and-or_distrib_right w x c)))
-
 -- A slider of each kind reaches the same squares.
 pub bishop_same : (men : List (Option Man)) (a b : ℕ) → a < 64 → b < 64
     → (is_bishop_line a b && is_clear men a b) ≡ reaches_as_bishop (λ s. is_taken men s) a b
@@ -213,7 +208,7 @@ bishop_same men a b a_on b_on =
     let se = reaches_clear men SouthEast a b a_on b_on in
     let sw = reaches_clear men SouthWest a b a_on b_on in
     let nw = reaches_clear men NorthWest a b a_on b_on in
-    sym (rw (ne, se, sw, nw) (four (toward NorthEast a b) (toward SouthEast a b) (toward SouthWest a b) (toward NorthWest a b) (is_clear men a b))
+    sym (rw (ne, se, sw, nw) (four_and (toward NorthEast a b) (toward SouthEast a b) (toward SouthWest a b) (toward NorthWest a b) (is_clear men a b))
     ∙ ap (λ (x : Bool). x && is_clear men a b) (sym (bishop_line a b)))
 
 pub rook_same : (men : List (Option Man)) (a b : ℕ) → a < 64 → b < 64
@@ -224,7 +219,7 @@ rook_same men a b a_on b_on =
     let e = reaches_clear men East a b a_on b_on in
     let s = reaches_clear men South a b a_on b_on in
     let w = reaches_clear men West a b a_on b_on in
-    sym (rw (n, e, s, w) (four (toward North a b) (toward East a b) (toward South a b) (toward West a b) (is_clear men a b))
+    sym (rw (n, e, s, w) (four_and (toward North a b) (toward East a b) (toward South a b) (toward West a b) (is_clear men a b))
     ∙ ap (λ (x : Bool). x && is_clear men a b) (sym (rook_line a b)))
 
 pub queen_same : (men : List (Option Man)) (a b : ℕ) → a < 64 → b < 64

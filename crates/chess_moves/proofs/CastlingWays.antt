@@ -17,6 +17,7 @@ use Rattle.chess_board.specs.Squares.{crossed, all_below}
 use Rattle.chess_board.specs.Castling.{king_home, rook_home, king_goal, castles_to}
 use Rattle.chess_moves.specs.inside.Directions.{toward, stands_between}
 use Rattle.chess_moves.specs.inside.Hits.{is_taken}
+use Rattle.chess_moves.proofs.Connectives.{not_not}
 use Rattle.chess_moves.proofs.AnyLemmas.{any_same}
 use Rattle.chess_moves.proofs.SharedSquares.{meets_is}
 use Rattle.chess_moves.proofs.Bridge.{clear_same}
@@ -81,11 +82,7 @@ clear_by_sets men a b between occupied j k fits rule set =
     ∙ ap not (sym (meets_is between occupied (omega (arith, and_le_l between occupied))
     ∙ any_same (λ s. has between s && has occupied s) (λ s. stands_between a b s && is_taken men s) 64
     (λ s l. ap (λ (x : Bool). x && has occupied s) (rule s l) ∙ ap (λ (x : Bool). stands_between a b s && x) (set s l))))
-    ∙ twice (eqb (bit_and between occupied) 0)
-  where
-    twice : (x : Bool) → not (not x) ≡ x
-    twice true = refl
-    twice false = refl
+    ∙ not_not (eqb (bit_and between occupied) 0)
 
 -- the same of the way between a king and a rook at home
 pub clear_way : (men : List (Option Man)) (c : Colour) (w : Wing) (home rook between occupied : ℕ) → home ≡ king_home c → rook ≡ rook_home c w → between < 2 ^ 64

@@ -30,9 +30,10 @@ use Rattle.chess_moves.proofs.Bridge.{attacks_same, attacked_same}
 use Rattle.chess_moves.proofs.KingTargets.{king, step_is_near}
 use Rattle.chess_moves.proofs.Listed.{legal_listed}
 use Rattle.chess_moves.proofs.MovedKings.{IsKingAt, in_check_there, king_goes, king_stays, there_after}
-use Rattle.chess_moves.proofs.OneKing.{count_by-cons, one_king, only_king}
+use Rattle.chess_moves.proofs.OneKing.{count_by-cons, king_found, one_king, only_king}
 use Rattle.chess_moves.proofs.Placed.{attacks_placed}
-use Rattle.chess_moves.proofs.PlainChecks.{hit_placed, plainly, side_back, other_colour, colour_back}
+use Rattle.chess_moves.proofs.PlainChecks.{hit_placed, plainly, side_back, colour_back}
+use Rattle.chess_moves.proofs.OwnColours.{own_is_not_other}
 use Rattle.chess_moves.proofs.Played.{played}
 
 -- what is counted is there
@@ -120,7 +121,7 @@ module _ (p : Setup) (k f : ℕ) (man : Man) (m : Move) (sound : IsSound p) (sti
       colour_back man.colour p.side (ap (λ x. is_colour x.colour p.side) (sym same) ∙ by.1.own)
 
   no_king : is_king_of (other_side p.side) (Some man) ≡ false
-  no_king = ap (λ x. x && is_king_kind man.kind) (other_colour p.side man.colour own)
+  no_king = ap (λ x. x && is_king_kind man.kind) (own_is_not_other p.side man.colour own)
 
   men_are : (after_setup p m).men ≡ moved p.men m.origin m.target man
   unfolding after_setup
@@ -131,11 +132,7 @@ module _ (p : Setup) (k f : ℕ) (man : Man) (m : Move) (sound : IsSound p) (sti
   side_is = ap (λ place. (after_man p place m).side) here
 
   king_here : is_king_of (other_side p.side) (man_at p.men k) ≡ true
-  king_here = ap (is_king_of (other_side p.side)) there ∙ king_is (other_side p.side)
-    where
-      king_is : (c : Colour) → is_king_of c (man_of c King) ≡ true
-      king_is White = refl
-      king_is Black = refl
+  king_here = king_found p.men (other_side p.side) k there
 
   alone : (s : ℕ) → s < 64 → is_king_of (other_side p.side) (man_at p.men s) ≡ true → s ≡ k
   alone s l is = only_king p sound (other_side p.side) k s k_on l there is
@@ -173,7 +170,7 @@ module _ (p : Setup) (k f : ℕ) (man : Man) (m : Move) (sound : IsSound p) (sti
       king_stays p.men c k m.origin m.target man sound.squares (record { on_board = k_on; here = there; alone = alone }) not_left not_taken no_king in
       let free : is_of c (man_at (moved p.men m.origin m.target man) f) ≡ false =
       there_after (λ place. is_of c place ≡ false) p.men m.origin m.target man f sound.squares flight.on_board
-      (λ e. other_colour p.side man.colour own) refl (λ off to. flight.free) in
+      (λ e. own_is_not_other p.side man.colour own) refl (λ off to. flight.free) in
       let step = step_legal q k f still.squares
       (rw (men_are, side_is) at) flight.on_board flight.beside (rw (men_are, side_is) free) (rw (men_are, side_is) unhit) in
       let listed : Contains (legal_moves q) (move_of k f None) = (legal_listed q (move_of k f None)).1 (k_on, flight.on_board, step) in

@@ -155,7 +155,7 @@ toward_self West a = east_self a
 gap_back : (a b : ℕ) → gap b a ≡ gap a b
 gap_back a b = add_comm (b - a) (a - b)
 
-eqb_back : (a b : ℕ) → eqb b a ≡ eqb a b
+pub eqb_back : (a b : ℕ) → eqb b a ≡ eqb a b
 eqb_back a b = grind (arith, nat_tests)
 
 -- leaps that go back as they came

@@ -19,11 +19,6 @@ use Rattle.chess_moves.proofs.Few.{between_promoted, between_plain}
 abbrev pub goes_safely : Setup → Man → ℕ → ℕ → Option Kind → Bool
 goes_safely p man o t r = goes p man.colour man.kind o t && not (is_in_check (men_after p man (move_of o t r)) p.side)
 
--- Two tests give one answer after a third where they do while it passes.
-pub and_when : (a b c : Bool) → (a ≡ true → b ≡ c) → (a && b) ≡ (a && c)
-and_when true b c h = h refl
-and_when false b c h = refl
-
 -- A way that suits the man is legal where the man goes safely.
 legal_way : (p : Setup) (man : Man) (o t : ℕ) (r : Option Kind) → man_at p.men o ≡ Some man → man.colour ≡ p.side → suits man t r ≡ true
     → is_legal p (move_of o t r) ≡ goes_safely p man o t r

@@ -7,6 +7,7 @@ pub mod Listed
 pub mod Counts
 pub mod Lines
 pub mod Once
+pub mod Connectives
 pub mod AnyLemmas
 pub mod Geometry
 pub mod SetBits
@@ -46,12 +47,10 @@ pub mod LastRanks
 pub mod Walks
 pub mod Tallies
 pub mod KingCounts
-pub mod CheckMasks
 pub mod Unpinned
 pub mod Sums
 pub mod PawnShifts
 pub mod PawnCounts
-pub mod InCheck
 pub mod PlainChecks
 pub mod Mates
 pub mod SpecialMoves

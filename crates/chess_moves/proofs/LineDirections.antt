@@ -1,19 +1,13 @@
 -- A bishop's line is one of four directions, and a rook's line one of the other four.
-use Rattle.std.proofs.Common.{◌≡◌, ◌≢◌, ℕ, ◌/◌, ◌%◌, ◌<◌, Bool, true, false, not, ◌||◌, eqb, ◌⊎◌, inl, inr, refl, sym, arith}
+use Rattle.std.proofs.Common.{◌≡◌, ◌≢◌, ℕ, ◌/◌, ◌%◌, ◌<◌, true, not, ◌||◌, eqb, ◌⊎◌, inl, inr, sym, arith}
 use Rattle.std.proofs.lemmas.Bool.{and_parts, and_from, or_cases, or_left, or_right, eqb-true, eq-eqb, ne_eqb, eqb-false, not-true, not_from_false, cases_order}
 use Rattle.chess_board.specs.Squares.{file_gap, rank_gap}
 use Rattle.chess_board.specs.Attacks.{on_one_rank, on_one_file, on_one_diagonal, is_rook_line, is_bishop_line}
 use Rattle.chess_moves.specs.declared.directions.Direction.TheVariants.{North, NorthEast, East, SouthEast, South, SouthWest, West, NorthWest}
 use Rattle.chess_moves.specs.inside.Directions.{toward}
 use Rattle.chess_moves.proofs.Geometry.{north_says, north_from, east_says, east_from, north_east_says, north_west_says}
+use Rattle.chess_moves.proofs.Connectives.{same_tests}
 use Rattle.chess_moves.proofs.Slants.{slant_east, slant_west, east_gaps, west_gaps, gaps_back}
-
--- two tests, each of which says the other
-pub same_tests : (x y : Bool) → (x ≡ true → y ≡ true) → (y ≡ true → x ≡ true) → x ≡ y
-same_tests true true f g = refl
-same_tests true false f g = sym (f refl)
-same_tests false true f g = g refl
-same_tests false false f g = refl
 
 -- squares on two ranks, or on two files, are two
 apart_up : (a b : ℕ) → a / 8 < b / 8 → a ≢ b

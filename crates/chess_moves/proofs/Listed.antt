@@ -101,13 +101,14 @@ legal_listed p m = (
       kept (is_legal p) (moves_below 64) m (below_has m.origin 64 m h.0 (to_has m.origin m.target 64 m h.1 (between_has w.0 m.origin m.target m.promotion w.1.suits))) h.2),
 )
 
+-- All that pass a test pass it.
+pub all_kept : (f : Move → Bool) (xs : List Move) → list_all f (filter f xs) ≡ true
+all_kept f [] = refl
+all_kept f (x ∷ xs) = (elim (f x) as (λ b. f x ≡ b → list_all f (cond b (x ∷ filter f xs) (filter f xs)) ≡ true) [ true ↦ λ e. rw e (all_kept f xs) | false ↦ λ e. all_kept f xs ]) refl
+
 pub all_legal : (p : Setup) → list_all (is_legal p) (legal_moves p) ≡ true
 unfolding legal_moves
 all_legal p = all_kept (is_legal p) (moves_below 64)
-  where
-    all_kept : (f : Move → Bool) (xs : List Move) → list_all f (filter f xs) ≡ true
-    all_kept f [] = refl
-    all_kept f (x ∷ xs) = (elim (f x) as (λ b. f x ≡ b → list_all f (cond b (x ∷ filter f xs) (filter f xs)) ≡ true) [ true ↦ λ e. rw e (all_kept f xs) | false ↦ λ e. all_kept f xs ]) refl
 
 -- A way that suits the man stands among its ways.
 ways_have : (man : Man) (o t : ℕ) (r : Option Kind) → suits man t r ≡ true → Contains (ways man o t) (move_of o t r)

@@ -15,7 +15,7 @@ use Rattle.chess_moves.specs.GivesCheck.{gives_check}
 use Rattle.chess_moves.specs.inside.Listing.{moves_between, moves_to}
 use Rattle.chess_moves.specs.inside.Targets.{ways, AreTargets}
 use Rattle.chess_moves.specs.Verdicts.{is_mate}
-use Rattle.chess_moves.proofs.Listed.{between_in, to_in}
+use Rattle.chess_moves.proofs.Listed.{between_in, to_in, all_kept}
 use Rattle.chess_moves.proofs.Mates.{no_mate}
 use Rattle.chess_moves.proofs.Members.{flat_map-below_suc}
 use Rattle.chess_moves.proofs.Played.{played}
@@ -31,10 +31,6 @@ none_kept f g (x ∷ xs) h =
       | true ↦ λ e. let here = h x (0, omega arith, refl) e in rw (here, rest) refl
       | false ↦ λ e. rest
     ]) refl
-
-all_kept : (f : Move → Bool) (xs : List Move) → list_all f (filter f xs) ≡ true
-all_kept f [] = refl
-all_kept f (x ∷ xs) = (elim (f x) as (λ b. f x ≡ b → list_all f (cond b (x ∷ filter f xs) (filter f xs)) ≡ true) [ true ↦ λ e. rw e (all_kept f xs) | false ↦ λ e. all_kept f xs ]) refl
 
 any_narrowed : (f : Move → Bool) (man : Man) (o set targets n : ℕ)
     → ((t : ℕ) → t < n → has targets t ≡ true → has set t ≡ false → list_any f (ways man o t) ≡ false)

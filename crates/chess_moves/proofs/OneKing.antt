@@ -1,5 +1,5 @@
 -- A side's king stands on one square alone, and check is attack on that square.
-use Rattle.std.proofs.Common.{◌≡◌, ℕ, zero, suc, ◌+◌, ◌<◌, Bool, true, false, ◌&&◌, cond, List, [], ◌∷◌, length, get_or, count_by, Option, None, refl, ap, ◌∙◌, arith}
+use Rattle.std.proofs.Common.{◌≡◌, ℕ, zero, suc, ◌+◌, ◌<◌, Bool, true, false, ◌&&◌, cond, List, [], ◌∷◌, length, get_or, count_by, Option, None, refl, sym, ap, ◌∙◌, arith}
 use Rattle.std.proofs.lemmas.Bool.{and_from}
 use Rattle.std.proofs.lemmas.List.Sums.{sum_by-cons}
 use Rattle.chess_board.specs.declared.men.Colour.{Colour}
@@ -40,7 +40,7 @@ count_by_once p (x ∷ xs) (suc i) (suc j) d i_in j_in at_i at_j once =
     let total : cond (p x) 1 0 + count_by p xs ≡ 1 = rw count_by-cons at once in
     ap suc (count_by_once p xs i j d (omega arith) (omega arith) at_i at_j (omega arith))
 
-king_found : (men : List (Option Man)) (c : Colour) (square : ℕ) → man_at men square ≡ man_of c King → is_king_of c (man_at men square) ≡ true
+pub king_found : (men : List (Option Man)) (c : Colour) (square : ℕ) → man_at men square ≡ man_of c King → is_king_of c (man_at men square) ≡ true
 king_found men White square h = rw h refl
 king_found men Black square h = rw h refl
 
@@ -70,3 +70,9 @@ in_check_at men c k on there alone =
       | true ↦ λ king. rw (alone s s_on king) safe
       | false ↦ λ none. refl
     ]) refl
+
+-- the same of the side to move
+pub in_check_is : (p : Setup) (king : ℕ) → IsSound p → king < 64 → man_at p.men king ≡ man_of p.side King
+    → is_in_check p.men p.side ≡ is_attacked p.men king (other_side p.side)
+in_check_is p king sound on there =
+    in_check_at p.men p.side king on there (λ s l is. only_king p sound p.side king s on l there is) ∙ sym (attacked_same p.men king (other_side p.side) on)

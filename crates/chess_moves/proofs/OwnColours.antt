@@ -18,7 +18,7 @@ other_colour White b e = rw (← e) refl
 other_colour Black b e = rw (← e) refl
 
 -- a man of one colour is not of the other
-own_is_not_other : (c a : Colour) → is_colour c a ≡ true → is_colour (other_side c) a ≡ false
+pub own_is_not_other : (c a : Colour) → is_colour c a ≡ true → is_colour (other_side c) a ≡ false
 own_is_not_other White White h = refl
 own_is_not_other White Black h = cc
 own_is_not_other Black White h = cc

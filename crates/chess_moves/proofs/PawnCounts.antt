@@ -28,7 +28,8 @@ use Rattle.chess_moves.proofs.OwnColours.{other_colour, own_not_other}
 use Rattle.chess_moves.proofs.OtherMen.{becomes_colour}
 use Rattle.chess_moves.proofs.CapturedPawns.{plain_ways}
 use Rattle.chess_moves.proofs.PawnTargets.{pawn_goes_safely}
-use Rattle.chess_moves.proofs.KeptWays.{ways_kept, and_when}
+use Rattle.chess_moves.proofs.Connectives.{and_when}
+use Rattle.chess_moves.proofs.KeptWays.{ways_kept}
 use Rattle.chess_moves.proofs.Unpinned.{safe_unpinned}
 use Rattle.chess_moves.proofs.Tallies.{many_from, many_below, many_below_suc, many_none}
 use Rattle.chess_moves.proofs.Sums.{sum_to, sum_same, sum_none, sum_four, sum_swap, sum_at}

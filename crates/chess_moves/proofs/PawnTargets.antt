@@ -21,7 +21,8 @@ use Rattle.chess_moves.specs.inside.Listing.{move_of}
 use Rattle.chess_moves.specs.inside.LegalityInfo.{IsLegalityInfoOf}
 use Rattle.chess_moves.proofs.OwnColours.{other_colour, other_not_own}
 use Rattle.chess_moves.proofs.MovedKings.{in_check_there, king_kept}
-use Rattle.chess_moves.proofs.KeptWays.{goes_safely, and_when}
+use Rattle.chess_moves.proofs.Connectives.{and_when}
+use Rattle.chess_moves.proofs.KeptWays.{goes_safely}
 use Rattle.chess_moves.proofs.OtherMen.{becomes_no_king, in_check_beside, king_beside}
 use Rattle.chess_moves.proofs.CapturedPawns.{beyond, passed_over, plain_ways, no_plain_way, captured_is_beyond}
 

@@ -15,7 +15,8 @@ use Rattle.chess_moves.specs.declared.legality_info.LegalityInfo.{LegalityInfo}
 use Rattle.chess_moves.specs.inside.Hits.{is_hit}
 use Rattle.chess_moves.specs.inside.Listing.{move_of}
 use Rattle.chess_moves.specs.inside.LegalityInfo.{IsLegalityInfoOf}
-use Rattle.chess_moves.proofs.KeptWays.{goes_safely, and_when}
+use Rattle.chess_moves.proofs.Connectives.{and_when}
+use Rattle.chess_moves.proofs.KeptWays.{goes_safely}
 use Rattle.chess_moves.proofs.OtherMen.{becomes_no_king, in_check_beside}
 
 pub goes_as_piece : (p : Setup) (c : Colour) (k : Kind) (a b : ℕ) → is_pawn_kind k ≡ false → is_king_kind k ≡ false → goes p c k a b ≡ piece_goes p c k a b

@@ -15,11 +15,8 @@ use Rattle.chess_moves.specs.inside.Directions.{reaches, stands_between, reaches
 use Rattle.chess_moves.specs.inside.Leaps.{leaps, capture_of}
 use Rattle.chess_moves.specs.inside.Hits.{is_taken, hits_as, place_hits, hits_from}
 use Rattle.chess_moves.specs.inside.LegalityInfo.{gets_through}
+use Rattle.chess_moves.proofs.Connectives.{four_and}
 use Rattle.chess_moves.proofs.Compass.{IsFar, leap_between, reached_with, far_no_knight, far_no_king, far_no_capture}
-
-four_and : (p q r s n : Bool) → (p && n || q && n || r && n || s && n) ≡ ((p || q || r || s) && n)
-four_and p q r s true = simp and-true
-four_and p q r s false = simp and-false
 
 two_and : (p q n : Bool) → (p && n || q && n) ≡ ((p || q) && n)
 two_and p q true = simp and-true

@@ -1,13 +1,13 @@
 -- Whether a move gives check, told by what is seen from the king before it: where it is not special and opens no line.
-use Rattle.std.proofs.Common.{◌≡◌, ◌≢◌, ℕ, ◌%◌, ◌<◌, Bool, true, false, not, ◌&&◌, ◌||◌, List, Option, None, Some, is_some, refl, sym, ap, ◌∙◌, eqb, length, set, length-set, get_or-set_same, get_or-set_other, arith}
-use Rattle.std.proofs.lemmas.Bool.{eqb-true, eqb-false, eq-eqb, and_left, and_right, and_from, and_parts, both_ways, or_parts, false_from_ne_true}
+use Rattle.std.proofs.Common.{◌≡◌, ◌≢◌, ℕ, ◌<◌, Bool, true, false, not, ◌&&◌, ◌||◌, List, Option, None, Some, is_some, refl, sym, ap, ◌∙◌, eqb, length, set, length-set, get_or-set_same, get_or-set_other, arith}
+use Rattle.std.proofs.lemmas.Bool.{eqb-true, eqb-false, and_left, and_right, and_from, and_parts, both_ways, or_parts, false_from_ne_true}
 use Rattle.square_sets.specs.Members.{has}
 use Rattle.chess_board.specs.declared.men.Colour.{Colour}
 use Rattle.chess_board.specs.declared.men.Colour.TheVariants.{White, Black}
 use Rattle.chess_board.specs.declared.men.Kind.{Kind}
-use Rattle.chess_board.specs.declared.men.Kind.TheVariants.{Pawn, Knight, Bishop, Rook, Queen, King}
+use Rattle.chess_board.specs.declared.men.Kind.TheVariants.{Queen, King}
 use Rattle.chess_board.specs.declared.men.Man.{Man}
-use Rattle.chess_board.specs.Squares.{gap, any_below}
+use Rattle.chess_board.specs.Squares.{any_below}
 use Rattle.chess_board.specs.Men.{is_colour, other_side, man_of}
 use Rattle.chess_board.specs.inside.KindTests.{is_king_kind, is_king_of}
 use Rattle.chess_board.specs.Positions.{Setup, man_at, moved}
@@ -18,19 +18,18 @@ use Rattle.chess_board.specs.Legality.{is_legal}
 use Rattle.chess_board.specs.Soundness.{IsSound}
 use Rattle.chess_board.specs.EnPassant.{is_en_passant}
 use Rattle.chess_board.specs.Castling.{is_castling}
-use Rattle.chess_moves.specs.declared.directions.Direction.{Direction}
-use Rattle.chess_moves.specs.declared.directions.Direction.TheVariants.{North, NorthEast, East, SouthEast, South, SouthWest, West, NorthWest}
 use Rattle.chess_moves.specs.declared.check_squares.CheckSquares.{CheckSquares}
-use Rattle.chess_moves.specs.inside.Directions.{toward, reaches, is_blocked, stands_between, reaches_as_bishop, reaches_as_rook}
-use Rattle.chess_moves.specs.inside.Leaps.{leaps}
+use Rattle.chess_moves.specs.inside.Directions.{toward, stands_between, reaches_as_bishop, reaches_as_rook}
 use Rattle.chess_moves.specs.inside.Hits.{is_taken, hits_as, place_hits, hits_from, is_hit}
 use Rattle.chess_moves.specs.GivesCheck.{gives_check}
 use Rattle.chess_moves.specs.inside.CheckSquares.{AreCheckSquaresOf, squares_of, is_special}
 use Rattle.chess_moves.proofs.AnyLemmas.{any_none, any_at}
+use Rattle.chess_moves.proofs.Arrivals.{no_man_stays}
+use Rattle.chess_moves.proofs.OwnColours.{own_is_not_other}
 use Rattle.chess_moves.proofs.Bridge.{attacked_same}
 use Rattle.chess_moves.proofs.Compass.{between_some}
 use Rattle.chess_moves.proofs.Geometry.{toward_self}
-use Rattle.chess_moves.proofs.OneKing.{only_king, in_check_at}
+use Rattle.chess_moves.proofs.OneKing.{king_found, only_king, in_check_at}
 use Rattle.chess_moves.proofs.Placed.{place_with}
 use Rattle.chess_moves.proofs.Played.{played}
 use Rattle.chess_moves.proofs.Removed.{Leaves, place_left}
@@ -141,24 +140,6 @@ hidden_lifted men o len o_on by k hidden safe =
       (λ man t own. rw own at (still (Some man) t)),
     )
 
-gap_self : (n : ℕ) → gap n n ≡ 0
-gap_self n = omega arith
-
-reached_self : (taken : ℕ → Bool) (d : Direction) (k : ℕ) → reaches taken d k k ≡ false
-reached_self taken d k = ap (λ x. x && not (is_blocked taken d k k)) (toward_self d k)
-
--- No man attacks the square on which it stands.
-not_itself : (taken : ℕ → Bool) (c : Colour) (asked : Kind) (k : ℕ) → hits_as taken c asked k k ≡ false
-unfolding leaps reaches_as_bishop reaches_as_rook
-not_itself taken White Pawn k = rw (gap_self (k % 8))
-not_itself taken Black Pawn k = rw (gap_self (k % 8))
-not_itself taken c Knight k = rw (gap_self (k % 8))
-not_itself taken c Bishop k = let r = reached_self taken in rw (r NorthEast k, r SouthEast k, r SouthWest k, r NorthWest k)
-not_itself taken c Rook k = let r = reached_self taken in rw (r North k, r East k, r South k, r West k)
-not_itself taken c Queen k =
-    let r = reached_self taken in rw (r NorthEast k, r SouthEast k, r SouthWest k, r NorthWest k, r North k, r East k, r South k, r West k)
-not_itself taken c King k = rw (eq-eqb k k refl)
-
 pub side_back : (c : Colour) → other_side (other_side c) ≡ c
 side_back White = refl
 side_back Black = refl
@@ -168,16 +149,6 @@ colour_back White White h = refl
 colour_back White Black h = h
 colour_back Black White h = h
 colour_back Black Black h = refl
-
-pub other_colour : (by c : Colour) → is_colour by c ≡ true → is_colour (other_side by) c ≡ false
-other_colour White White h = refl
-other_colour White Black h = absurd (cc)
-other_colour Black White h = absurd (cc)
-other_colour Black Black h = refl
-
-king_of : (c : Colour) → is_king_of c (man_of c King) ≡ true
-king_of White = refl
-king_of Black = refl
 
 -- The king of the side that is not to move is not attacked.
 pub king_safe : (p : Setup) (k : ℕ) → IsSound p → k < 64 → man_at p.men k ≡ man_of (other_side p.side) King → is_hit p.men k p.side ≡ false
@@ -195,13 +166,13 @@ check_after p k o t man taken sound k_on o_on t_on there here own hits =
     let c : Colour = other_side p.side in
     let men : List (Option Man) = moved p.men o t man in
     let alone : (s : ℕ) → s < 64 → is_king_of c (man_at p.men s) ≡ true → s ≡ k = λ s l king. only_king p sound c k s k_on l there king in
-    let king : is_king_of c (man_at p.men k) ≡ true = ap (is_king_of c) there ∙ king_of c in
-    let no_king : is_king_of c (Some man) ≡ false = and_left (is_colour c man.colour) (is_king_kind man.kind) (other_colour p.side man.colour own) in
+    let king : is_king_of c (man_at p.men k) ≡ true = king_found p.men c k there in
+    let no_king : is_king_of c (Some man) ≡ false = and_left (is_colour c man.colour) (is_king_kind man.kind) (own_is_not_other p.side man.colour own) in
     let hit : is_attacked men k (other_side c) ≡ hits_as taken p.side man.kind t k =
     attacked_same men k (other_side c) k_on ∙ ap (is_hit men k) (side_back p.side) ∙ hits in
     (elim (hits_as taken p.side man.kind t k) as (λ b. hits_as taken p.side man.kind t k ≡ b → is_in_check men c ≡ b) [
       | true ↦ λ e.
-          let apart : k ≢ t = λ same. both_ways (hits_as taken p.side man.kind k k) (not_itself taken p.side man.kind k)
+          let apart : k ≢ t = λ same. both_ways (hits_as taken p.side man.kind k k) (no_man_stays taken p.side man.kind k)
           (ap (λ s. hits_as taken p.side man.kind s k) same ∙ e) in
           let other : k ≢ o = λ same. both_ways (is_king_of c (man_at p.men o)) (ap (is_king_of c) here ∙ no_king)
           (ap (λ s. is_king_of c (man_at p.men s)) (sym same) ∙ king) in

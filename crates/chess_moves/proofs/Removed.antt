@@ -17,7 +17,7 @@ use Rattle.chess_moves.proofs.Slides.{blocker_of, blocked_at, reached_before}
 use Rattle.chess_moves.proofs.Geometry.{toward_back}
 use Rattle.chess_moves.proofs.AnyLemmas.{any_at}
 use Rattle.chess_moves.proofs.AttackSets.{reaches_back}
-use Rattle.chess_moves.proofs.LineDirections.{same_tests}
+use Rattle.chess_moves.proofs.Connectives.{same_tests}
 
 -- what is not reached in a direction, and lies there, is blocked
 hidden_by : (taken : ℕ → Bool) (d : Direction) (o k : ℕ) → reaches taken d o k ≡ false → toward d o k ≡ true → is_blocked taken d o k ≡ true

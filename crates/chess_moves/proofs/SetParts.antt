@@ -1,8 +1,7 @@
 -- The members of a set, from what is known of the sets that it is made of.
-use Rattle.std.proofs.Common.{◌≡◌, ℕ, ◌^◌, ◌<◌, not, ◌&&◌, ◌||◌, Bool, true, false, eqb, refl, sym, w64}
+use Rattle.std.proofs.Common.{◌≡◌, ℕ, ◌^◌, ◌<◌, not, ◌&&◌, ◌||◌, Bool, w64}
 use Rattle.std.specs.Int.{bit_not}
 use Rattle.std.specs.Int.RustNames.{bit_and, bit_or}
-use Rattle.std.proofs.lemmas.Bool.{eqb-true, eqb-false, eq-eqb, ne_eqb}
 use Rattle.square_sets.specs.Members.{has}
 use Rattle.chess_moves.proofs.SetBits.{has_and, has_or, has_less}
 
@@ -14,10 +13,3 @@ joined a b t p q ea eb = rw (has_or a b t, ea, eb)
 
 pub parted : (a b t : ℕ) (p q : Bool) → b < 2 ^ 64 → t < 64 → has a t ≡ p → has b t ≡ q → has (bit_and a (bit_not w64 b)) t ≡ (p && not q)
 parted a b t p q fits l ea eb = rw (has_less a b t fits l, ea, eb)
-
--- the set of one square
-pub eqb_turned : (s t : ℕ) → eqb t s ≡ eqb s t
-eqb_turned s t = (elim (eqb t s) as (λ b. eqb t s ≡ b → b ≡ eqb s t) [
-  | true ↦ λ e. sym (eq-eqb s t (sym (eqb-true t s e)))
-  | false ↦ λ e. sym (ne_eqb s t (λ same. eqb-false t s e (sym same)))
-]) refl

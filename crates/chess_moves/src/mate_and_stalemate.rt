@@ -31,7 +31,7 @@ pub fn verdict(rays: &Rays, position: &Position) -> Verdict
 }
 
 /// Whether the king of the side to move is attacked.
-#[tactic(auto, using(crate::proofs::InCheck::in_check_is))]
+#[tactic(auto, using(crate::proofs::OneKing::in_check_is))]
 pub(crate) fn in_check(rays: &Rays, position: &Position) -> bool
     ensures { result ≡ is_in_check position.now.men position.now.side }
 {

@@ -7,7 +7,7 @@ use Rattle.chess_board.specs.Attacks.{is_clear, is_attacked}
 use Rattle.chess_board.specs.Castling.{king_home, rook_home, king_goal, castles_to}
 use Rattle.chess_board.specs.Squares.{crossed}
 use Rattle.chess_moves.proofs.SetBits.{has_none}
-use Rattle.chess_moves.proofs.SetParts.{eqb_turned}
+use Rattle.chess_moves.proofs.Geometry.{eqb_back}
 use Rattle.chess_moves.proofs.CastlingWays.{castles_says, castles_from, clear_way}
 use Rattle.chess_moves.proofs.castling_targets.castling_target.Goals as goal
 use Rattle.chess_moves.proofs.castling_targets.castling_target.Goals.{then-is_checked-via-then-is_checked, then-is_checked-via-else-is_checked+then-is_attacked_in, then-is_checked-via-else-is_checked+else-is_attacked_in+then-is_attacked_in-2}
@@ -66,7 +66,7 @@ returns c = λ t l.
     (ap king_home info.side) (ap (λ (colour : Colour). rook_home colour c.args.wing) info.side)
     (omega arith) c.castling_way-between.ensures info.occupied in
     let goal_there : target ≡ king_goal p.side c.args.wing = (c.index-goal.ensures.number ∙ c.king_goal.ensures) ∙ ap (λ (colour : Colour). king_goal colour c.args.wing) info.side in
-    c.single.ensures t l ∙ eqb_turned target t
+    c.single.ensures t l ∙ eqb_back target t
     ∙ (elim (eqb target t) as (λ b. eqb target t ≡ b → b ≡ castles_to p p.side c.args.wing king t) [
       | true ↦ λ e.
           let at_goal : t ≡ target = sym (eqb-true target t e) in

@@ -4,7 +4,8 @@ use Rattle.chess_board.specs.EnPassant.{is_square}
 use Rattle.chess_board.specs.declared.men.Kind.TheVariants.{Pawn}
 use Rattle.chess_moves.specs.declared.directions.Leap.{Leap}
 use Rattle.chess_moves.specs.inside.Leaps.{leaps}
-use Rattle.chess_moves.proofs.SetParts.{part, eqb_turned}
+use Rattle.chess_moves.proofs.SetParts.{part}
+use Rattle.chess_moves.proofs.Geometry.{eqb_back}
 use Rattle.chess_moves.proofs.PawnSets.{capture_leap}
 use Rattle.chess_moves.proofs.en_passant_targets.en_passant_targets.Goals as goal
 
@@ -16,4 +17,4 @@ returns-in-Some c = λ t l.
     let is_target : is_square (Some c.in-Some.target) t ≡ is_square p.target t = ap (λ (target : Option ℕ). is_square target t) c.in-Some.ensures.target in
     part c.leap-captures.result c.single.result t (attacks_as p.men c.args.man.colour Pawn o t) (is_square p.target t)
     (c.leap-captures.ensures t l ∙ ap (λ (leap : Leap). leaps leap o t) c.capture_of.ensures ∙ capture_leap p.men c.args.man.colour o t)
-    (c.single.ensures t l ∙ eqb_turned c.index.result t ∙ ap (λ (g : ℕ). eqb g t) same ∙ is_target)
+    (c.single.ensures t l ∙ eqb_back c.index.result t ∙ ap (λ (g : ℕ). eqb g t) same ∙ is_target)

@@ -1,7 +1,8 @@
 use Rattle.std.proofs.Common.{not, sym, ap, ◌∙◌}
 use Rattle.chess_board.specs.Men.{other_side}
 use Rattle.chess_moves.proofs.Bridge.{attacked_same}
-use Rattle.chess_moves.proofs.CheckMasks.{king_off_check_mask, not_not}
+use Rattle.chess_moves.proofs.Connectives.{not_not}
+use Rattle.chess_moves.proofs.Arrivals.{hit_through}
 use Rattle.chess_moves.proofs.legality_info.is_checked.Goals as goal
 
 pub returns : goal.returns
@@ -9,5 +10,5 @@ returns c = λ p info.
     let k = c.args.info.now.king in
     ap not (c.contains.ensures ∙ info.check_mask k c.requires)
     ∙ not_not _
-    ∙ king_off_check_mask p.men p.side k info.king
+    ∙ hit_through p.men (other_side p.side) k
     ∙ sym (attacked_same p.men k (other_side p.side) c.requires)

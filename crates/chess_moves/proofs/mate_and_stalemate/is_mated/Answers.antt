@@ -1,7 +1,8 @@
-use Rattle.std.proofs.Common.{◌≡◌, Bool, true, false, ◌&&◌, refl, sym, ◌∙◌, arith}
+use Rattle.std.proofs.Common.{◌≡◌, true, false, refl, sym, ◌∙◌, arith}
+use Rattle.std.proofs.Math.Bool.{and-false}
 use Rattle.chess_board.specs.Attacks.{is_in_check}
 use Rattle.chess_moves.specs.Verdicts.{has_legal_move}
-use Rattle.chess_moves.proofs.InCheck.{in_check_is}
+use Rattle.chess_moves.proofs.OneKing.{in_check_is}
 use Rattle.chess_moves.proofs.Mates.{king_moves, others_are_own, moves_apart, mate_by}
 use Rattle.chess_moves.proofs.mate_and_stalemate.is_mated.Goals as goal
 
@@ -15,11 +16,7 @@ returns-then-not-is_checked c =
 pub returns-then-king_can_move : goal.returns-then-king_can_move
 returns-then-king_can_move c =
     let p = c.args.position.now in
-    sym (mate_by p (is_in_check p.men p.side) true refl (king_moves c.legality_info_of-info.result p c.legality_info_of-info.ensures (sym c.king_can_move.ensures ∙ c.if-king_can_move.true)) ∙ none (is_in_check p.men p.side))
-  where
-    none : (b : Bool) → (b && false) ≡ false
-    none true = refl
-    none false = refl
+    sym (mate_by p (is_in_check p.men p.side) true refl (king_moves c.legality_info_of-info.result p c.legality_info_of-info.ensures (sym c.king_can_move.ensures ∙ c.if-king_can_move.true)) ∙ and-false (is_in_check p.men p.side))
 
 pub can_move-requires-clause-men : goal.can_move-requires-clause-men
 can_move-requires-clause-men c = others_are_own c.args.position.now c.legality_info_of-info.result.own c.single-king.result (omega arith) c.legality_info_of-info.ensures.own

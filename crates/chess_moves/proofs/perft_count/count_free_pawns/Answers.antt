@@ -9,7 +9,7 @@ use Rattle.chess_moves.specs.inside.Shifts.{is_shifted, back, left_file, right_f
 use Rattle.chess_moves.proofs.SetBits.{has_and, has_less}
 use Rattle.chess_moves.proofs.SetParts.{part, parted}
 use Rattle.chess_moves.proofs.ManSets.{some_not_of}
-use Rattle.chess_moves.proofs.KeptWays.{and_when}
+use Rattle.chess_moves.proofs.Connectives.{and_when}
 use Rattle.chess_moves.proofs.PawnShifts.{back_on}
 use Rattle.chess_moves.proofs.PawnCounts.{free_pawns}
 use Rattle.chess_moves.proofs.perft_count.count_free_pawns.Goals as goal
