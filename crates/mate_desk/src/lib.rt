@@ -27,7 +27,6 @@ mod steps_and_replies;
 pub use deliveries::Delivery;
 pub use desks::Desk;
 pub use held_answers::HeldAnswer;
-pub use steps_and_replies::{Reply, Step};
 pub use history_laws::{
     accepted_reads, closed_reads, count_reads, delivered_reads, hand_reads, phase_reads,
     withdrawn_reads,
@@ -35,6 +34,7 @@ pub use history_laws::{
 pub use refusals::{DeskFault, NoSuchSubmitter, Stranger, SubmitRefusal, WithdrawRefusal};
 pub use reply_texts::reply_text;
 pub use runs::{RunFault, run};
+pub use steps_and_replies::{Reply, Step};
 
 #[cfg(test)]
 mod limit_tests;
