@@ -7,7 +7,7 @@ use Rattle.mate_desk.specs.Content.{Content, QueueValue, Waiting}
 use Rattle.mate_desk.specs.Calls.{change_at, submit_refusal_by, with_entry, withdrawn, withdrawn_at}
 use Rattle.mate_desk.specs.declared.refusals.SubmitRefusal.TheVariants as refusal
 use Rattle.desk_room.specs.Events.{taking, accepts}
-use Rattle.desk_room.specs.KeeperEnds.{letters_taken, letters_known}
+use Rattle.desk_room.specs.WindowRings.{letters_taken, letters_known}
 use Rattle.desk_room.specs.Keepers.{known, IsRead, Ahead, OthersRead}
 use Rattle.desk_room.specs.declared.letters.Letter.{Letter}
 use Rattle.desk_room.specs.declared.letters.Letter.TheVariants.{Record, Withdrawal, Farewell}

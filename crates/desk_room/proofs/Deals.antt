@@ -11,8 +11,8 @@ use Rattle.crossbeam_deque.specs.Tasks.{Pushes, Takes, Forks, FindsFew}
 use Rattle.mate_search.specs.Jobs.{Task}
 use Rattle.desk_room.specs.declared.orders.Order.{Order}
 use Rattle.desk_room.specs.declared.orders.Order.TheVariants.{Solve, Stop}
-use Rattle.desk_room.specs.declared.dealing.View.{View}
-use Rattle.desk_room.specs.Dealing.{stops, JobsFirst, got_by, Dealt, Ruled, keeper_view, bench_view, WasEmpty}
+use Rattle.desk_room.specs.declared.deque_rule.View.{View}
+use Rattle.desk_room.specs.DequeRule.{stops, JobsFirst, got_by, Dealt, Ruled, keeper_view, bench_view, WasEmpty}
 
 pub length_orders : (xs ys : List Order) → length (xs ++ ys) ≡ length xs + length ys
 length_orders xs ys = length-append xs ys

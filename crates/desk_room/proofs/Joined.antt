@@ -8,9 +8,9 @@ use Rattle.desk_room.specs.Serving.{AreReplies}
 use Rattle.mate_search.specs.InputReplies.{IsReply}
 use Rattle.mate_search.specs.declared.input_replies.Output.{Output}
 use Rattle.desk_room.specs.declared.windows.Window.{Window}
-use Rattle.desk_room.specs.declared.keeper_ends.Line.{Line}
+use Rattle.desk_room.specs.declared.window_ring_line.Line.{Line}
 use Rattle.desk_room.specs.declared.keepers.Keeper.{Keeper}
-use Rattle.desk_room.specs.declared.attending.Report.{Report}
+use Rattle.desk_room.specs.declared.window_thread.Report.{Report}
 use Rattle.desk_room.proofs.Opened.{of_then, of_window, opened_of}
 
 reports_snoc : (ws : List Window) (inputs : List (List ℕ)) (rs : List Report) (w : Window) (input : List ℕ) (r : Report)

@@ -3,7 +3,7 @@ use Rattle.std.proofs.Common.{◌≡◌, ◌<◌, ◌≤◌, ⊎_elim, ℕ, zero
 use Rattle.desk_room.specs.Benches.{heard, back_known}
 use Rattle.desk_room.specs.Keepers.{backs_known, BacksAhead}
 use Rattle.desk_room.specs.inside.Steps.{Untouched}
-use Rattle.desk_room.specs.declared.ears.Ear.{Ear}
+use Rattle.desk_room.specs.declared.back_ring_ear.Ear.{Ear}
 use Rattle.desk_room.specs.declared.keepers.Keeper.{Keeper}
 use Rattle.desk_room.proofs.Places.{below_or, below_or_past}
 use Rattle.desk_room.proofs.Ahead.{Longer, prefix_same, prefix_then}

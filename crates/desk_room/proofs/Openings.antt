@@ -8,9 +8,9 @@ use Rattle.desk_room.specs.Kept.{room_of, owed, EachIsMarked}
 use Rattle.desk_room.specs.Opening.{IsFresh, AreOpened, IsIdle, AreIdle}
 use Rattle.desk_room.specs.declared.letters.Letter.{Letter}
 use Rattle.desk_room.specs.declared.windows.Window.{Window}
-use Rattle.desk_room.specs.declared.keeper_ends.Line.{Line}
+use Rattle.desk_room.specs.declared.window_ring_line.Line.{Line}
 use Rattle.desk_room.specs.declared.benches.Bench.{Bench}
-use Rattle.desk_room.specs.declared.ears.Ear.{Ear}
+use Rattle.desk_room.specs.declared.back_ring_ear.Ear.{Ear}
 
 snoc_replicate : {A : Type 0} (n : ℕ) (a : A) → replicate n a ++ a ∷ [] ≡ a ∷ replicate n a
 snoc_replicate zero a = refl

@@ -2,9 +2,9 @@
 use Rattle.std.proofs.Common.{◌≡◌, ◌∷◌, ◌++◌, [], List, get_or, refl, ap, ◌∙◌, sym}
 use mathlib.Core.List.{IsPrefix}
 use Rattle.desk_room.specs.Windows.{SameWindow}
-use Rattle.desk_room.specs.KeeperEnds.{SameLine, AreEnds}
+use Rattle.desk_room.specs.WindowRings.{SameLine, AreEnds}
 use Rattle.desk_room.specs.declared.windows.Window.{Window}
-use Rattle.desk_room.specs.declared.keeper_ends.Line.{Line}
+use Rattle.desk_room.specs.declared.window_ring_line.Line.{Line}
 
 pub same_window : (w : Window) → SameWindow w w
 same_window w = (((refl, refl, refl, refl), refl), ((refl, refl, refl, refl), refl), refl, refl)

@@ -3,10 +3,10 @@ use Rattle.std.proofs.lemmas.List.Sums.{sum_by-cons, count_by_more_yes, count_by
 use Rattle.desk_room.specs.Letters.{farewells}
 use Rattle.std.proofs.Common.{take, Bool, true, false, if◌then◌else◌, count_by, sum_by, cond, nat_lt, ◌+◌, ◌≡◌, ◌≢◌, ◌<◌, ◌⊎◌, inl, inr, ℕ, zero, suc, List, [], ◌∷◌, length, map, set, get_or, slice_get, Some, refl, sym, ap, ◌∙◌, subst, arith}
 use Rattle.desk_room.specs.Windows.{number_of}
-use Rattle.desk_room.specs.KeeperEnds.{letters_taken, SameLine, AreEnds}
+use Rattle.desk_room.specs.WindowRings.{letters_taken, SameLine, AreEnds}
 use Rattle.desk_room.specs.Keepers.{windows_gone, IsOf, SameRoom, Stays}
 use Rattle.desk_room.specs.declared.windows.Window.{Window}
-use Rattle.desk_room.specs.declared.keeper_ends.Line.{Line}
+use Rattle.desk_room.specs.declared.window_ring_line.Line.{Line}
 use Rattle.desk_room.specs.declared.keepers.Keeper.{Keeper}
 use Rattle.desk_room.proofs.Places.{is_or_not}
 use Rattle.desk_room.proofs.RingEnds.{same_window, ends_stay}

@@ -4,9 +4,9 @@ use Rattle.mate_search.specs.Jobs.{Task}
 use Rattle.mate_desk.specs.Content.{Content, QueueValue, EntryValue, Waiting, Out, Finished, waits_as, is_out_with}
 use Rattle.mate_desk.specs.Calls.{change_at, in_queue, into_phase, with_entry, withdrawn_at, collected, after_take, after_collect}
 use Rattle.mate_desk.specs.declared.deliveries.Delivery.{Delivery}
-use Rattle.desk_room.specs.Dealing.{stops}
+use Rattle.desk_room.specs.DequeRule.{stops}
 use Rattle.desk_room.specs.Benches.{heard}
-use Rattle.desk_room.specs.KeeperEnds.{letters_taken, deliveries_put}
+use Rattle.desk_room.specs.WindowRings.{letters_taken, deliveries_put}
 use Rattle.desk_room.specs.Events.{RoomLists, Takes, Gives, Orders, Hears, May, after, one_more, taking, hearing}
 use Rattle.desk_room.specs.Kept.{room_of, AreOwed, AreMarked}
 use Rattle.desk_room.specs.Passes.{Taking, Giving, Hearing}
@@ -18,12 +18,12 @@ use Rattle.desk_room.specs.declared.letters.Back.{Back}
 use Rattle.desk_room.specs.declared.letters.Back.TheVariants.{Solved, Returned}
 use Rattle.desk_room.specs.declared.orders.Order.{Order}
 use Rattle.desk_room.specs.declared.orders.Order.TheVariants.{Solve}
-use Rattle.desk_room.specs.declared.ears.Ear.{Ear}
-use Rattle.desk_room.specs.declared.keeper_ends.Line.{Line}
-use Rattle.desk_room.specs.declared.hearing.Heard.{Heard}
-use Rattle.desk_room.specs.declared.taking.Took.{Took}
-use Rattle.desk_room.specs.declared.ordering.Tried.{Tried}
-use Rattle.desk_room.specs.declared.ordering.Tried.TheVariants.{Ordered, Refused, NoneWaits}
+use Rattle.desk_room.specs.declared.back_ring_ear.Ear.{Ear}
+use Rattle.desk_room.specs.declared.window_ring_line.Line.{Line}
+use Rattle.desk_room.specs.declared.back_pass.Heard.{Heard}
+use Rattle.desk_room.specs.declared.letter_pass.Took.{Took}
+use Rattle.desk_room.specs.declared.order_pass.Tried.{Tried}
+use Rattle.desk_room.specs.declared.order_pass.Tried.TheVariants.{Ordered, Refused, NoneWaits}
 use Rattle.desk_room.proofs.Places.{map_change, map_same, map_length, head_is, tail_is}
 use Rattle.desk_room.proofs.Runs.{taking_one, hearing_one, ordering_one, giving_one, giving_same}
 use Rattle.desk_room.proofs.Owing.{owed_after, owed_run}

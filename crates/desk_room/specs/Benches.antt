@@ -5,7 +5,7 @@ use Rattle.desk_room.specs.Orders.{seat_got, seat_known_taken, SameSeat}
 use Rattle.desk_room.specs.declared.orders.Order.{Order}
 use Rattle.desk_room.specs.declared.letters.Back.{Back}
 use Rattle.desk_room.specs.declared.benches.Bench.{Bench}
-use Rattle.desk_room.specs.declared.ears.Ear.{Ear}
+use Rattle.desk_room.specs.declared.back_ring_ear.Ear.{Ear}
 
 -- the orders that the bench got, oldest first
 abbrev pub got : Bench → List Order

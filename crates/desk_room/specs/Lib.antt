@@ -1,5 +1,5 @@
 pub mod Benches
-pub mod Dealing
+pub mod DequeRule
 pub mod Letters
 pub mod Deliveries
 pub mod Withdrawals
@@ -7,7 +7,7 @@ pub mod Events
 pub mod Kept
 pub mod Passes
 pub mod Turns
-pub mod KeeperEnds
+pub mod WindowRings
 pub mod WindowFaults
 pub mod Windows
 pub mod Orders

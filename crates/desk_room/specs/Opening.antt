@@ -1,12 +1,12 @@
 -- A room that was just opened, and why none is.
 use Rattle.std.specs.Prelude.{◌≡◌, ℕ, ◌+◌, List, [], ◌∷◌, codes}
 use Rattle.desk_room.specs.Windows.{letters_sent, collected, places_known, places_of, number_of, default_of}
-use Rattle.desk_room.specs.KeeperEnds.{AreEnds, places_free}
+use Rattle.desk_room.specs.WindowRings.{AreEnds, places_free}
 use Rattle.desk_room.specs.Benches.{got, given, bench_ring, AreEnds as AreBackEnds}
 use Rattle.desk_room.specs.declared.windows.Window.{Window}
-use Rattle.desk_room.specs.declared.keeper_ends.Line.{Line}
+use Rattle.desk_room.specs.declared.window_ring_line.Line.{Line}
 use Rattle.desk_room.specs.declared.benches.Bench.{Bench}
-use Rattle.desk_room.specs.declared.ears.Ear.{Ear}
+use Rattle.desk_room.specs.declared.back_ring_ear.Ear.{Ear}
 use Rattle.desk_room.specs.declared.rooms.RoomFault.{RoomFault}
 use Rattle.desk_room.specs.declared.rooms.RoomFault.TheVariants as fault
 

@@ -3,10 +3,10 @@ use Rattle.std.specs.Prelude.{◌≡◌, ℕ, List, [], ◌∷◌}
 use Rattle.crossbeam_deque.specs.Handles.{view, taken, worker_view, worker_deque, worker_capacity, stealer_deque}
 use Rattle.desk_room.specs.declared.orders.Order.{Order}
 use Rattle.desk_room.specs.declared.orders.Order.TheVariants.{Solve, Stop}
-use Rattle.desk_room.specs.declared.dealers.Dealer.{Dealer}
-use Rattle.desk_room.specs.declared.seats.Seat.{Seat}
-use Rattle.desk_room.specs.declared.seats.Taken.{Taken}
-use Rattle.desk_room.specs.declared.seats.Taken.TheVariants.{Job as TookJob, Stop as TookStop, Nothing}
+use Rattle.desk_room.specs.declared.deque_dealer.Dealer.{Dealer}
+use Rattle.desk_room.specs.declared.deque_seat.Seat.{Seat}
+use Rattle.desk_room.specs.declared.deque_seat.Taken.{Taken}
+use Rattle.desk_room.specs.declared.deque_seat.Taken.TheVariants.{Job as TookJob, Stop as TookStop, Nothing}
 
 -- the orders that were put out, oldest first
 abbrev pub orders : Dealer → List Order

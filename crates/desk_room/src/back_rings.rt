@@ -3,9 +3,9 @@
 ghost use Rattle.std.specs.Prelude.{◌≡◌, ◌≤◌, [], IfOk};
 ghost use Rattle.desk_room.specs.Benches.{given, places_known, bench_ring, heard, back_known, ear_ring, AreEnds};
 
+use crate::back_ring_ear::Ear;
 use crate::benches::Bench;
-use crate::ears::Ear;
-use crate::seats::Seat;
+use crate::deque_seat::Seat;
 use rtrb::RingBuffer;
 use std::alloc::{AllocError, Global};
 

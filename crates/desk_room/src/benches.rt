@@ -3,8 +3,8 @@
 ghost use Rattle.std.specs.Prelude.{◌+◌, ◌≤◌, length};
 ghost use Rattle.rtrb.specs.Ring.{sent, known_free, producer_capacity};
 
+use crate::deque_seat::{Seat, Taken};
 use crate::letters::Back;
-use crate::seats::{Seat, Taken};
 use rtrb::{Producer, PushError};
 
 /// A solver's end of a room: it takes orders, and gives back what came of them. It may go to a thread of its own, and no call
@@ -18,10 +18,10 @@ pub struct Bench {
 
 impl Bench {
     ghost use Rattle.std.specs.Prelude.{◌≡◌, ◌<◌, ◌⊎◌, [], ◌∷◌, ◌++◌, length, IsOk, OnOk, IfErr, OnErr, true};
-    ghost use Rattle.desk_room.specs.Dealing.{stops, WasEmpty};
+    ghost use Rattle.desk_room.specs.DequeRule.{stops, WasEmpty};
     ghost use Rattle.desk_room.specs.Orders.{taken_order};
     ghost use Rattle.desk_room.specs.Benches.{got, known_taken, given, places_known, bench_ring, SameBench};
-    ghost use Rattle.desk_room.specs.declared.seats.Taken.TheVariants.{Stop, Nothing};
+    ghost use Rattle.desk_room.specs.declared.deque_seat.Taken.TheVariants.{Stop, Nothing};
 
     /// Tries to take the next order. Once it has answered `Stop` it always does, and takes nothing more.
     pub fn take(&mut self) -> Taken

@@ -2,15 +2,15 @@
 
 ghost use Rattle.std.specs.Prelude.{◌≡◌, ◌≤◌, ◌<◌, true, false, length, map, replicate, count_by};
 ghost use Rattle.desk_room.specs.Letters.{records};
-ghost use Rattle.desk_room.specs.Dealing.{stops};
+ghost use Rattle.desk_room.specs.DequeRule.{stops};
 ghost use Rattle.desk_room.specs.Orders.{orders, passes};
-ghost use Rattle.desk_room.specs.KeeperEnds.{letters_taken, deliveries_put, ring_of as line_ring};
+ghost use Rattle.desk_room.specs.WindowRings.{letters_taken, deliveries_put, ring_of as line_ring};
 ghost use Rattle.desk_room.specs.Benches.{ear_ring};
 ghost use Rattle.desk_room.specs.Kept.{owed, room_of, EachIsMarked};
 
-use crate::dealers::Dealer;
-use crate::ears::Ear;
-use crate::keeper_ends::Line;
+use crate::back_ring_ear::Ear;
+use crate::deque_dealer::Dealer;
+use crate::window_ring_line::Line;
 use mate_desk::Desk;
 
 /// The keeper of a room's desk. It alone calls the desk: between turns letters and jobs wait in the rings.
@@ -55,7 +55,7 @@ fn count_gone(lines: &[Line]) -> usize
 impl Keeper {
     ghost use Rattle.std.specs.Prelude.{◌≡◌, ◌≤◌, ◌⊎◌, ℕ, ◌+◌, ◌++◌, length, true, replicate};
     ghost use Rattle.mate_desk.specs.Calls.{after_close, is_drained as is_drained_content};
-    ghost use Rattle.desk_room.specs.Dealing.{stops};
+    ghost use Rattle.desk_room.specs.DequeRule.{stops};
     ghost use Rattle.desk_room.specs.Kept.{AreOwed, AreMarked};
     ghost use Rattle.desk_room.specs.Keepers.{lists, known, backs_known, benches_of, order_places, is_home, windows_gone, Stays, SameRoom};
     ghost use Rattle.desk_room.specs.declared.orders.Order.TheVariants.{Stop};

@@ -3,18 +3,18 @@
 ghost use Rattle.std.specs.Prelude.{◌≡◌, ◌≢◌, ◌↔◌, ◌⊎◌, ◌<◌, ◌≤◌, [], codes, length, replicate, map, IfOk, Err, false};
 ghost use Rattle.mate_desk.specs.Calls.{empty};
 ghost use Rattle.desk_room.specs.Benches.{heard, ear_ring};
-ghost use Rattle.desk_room.specs.KeeperEnds.{letters_taken, deliveries_put, ring_of as line_ring};
+ghost use Rattle.desk_room.specs.WindowRings.{letters_taken, deliveries_put, ring_of as line_ring};
 ghost use Rattle.desk_room.specs.Orders.{orders, passes};
 ghost use Rattle.desk_room.specs.Keepers.{lists, lines_of, ears_of, ring_of, is_home};
 ghost use Rattle.desk_room.specs.Opening.{AreOpened, AreIdle, room_fault_name};
 ghost use Rattle.desk_room.specs.declared.rooms.RoomFault.TheVariants as fault;
 
+use crate::back_ring_ear::Ear;
 use crate::back_rings::open_bench;
 use crate::benches::Bench;
-use crate::dealers::Dealer;
-use crate::ears::Ear;
-use crate::keeper_ends::Line;
+use crate::deque_dealer::Dealer;
 use crate::keepers::Keeper;
+use crate::window_ring_line::Line;
 use crate::window_rings::open_line;
 use crate::windows::Window;
 use chess_notation::Bound;

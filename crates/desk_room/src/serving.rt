@@ -7,14 +7,14 @@ ghost use Rattle.desk_room.specs.inside.Threads.{AllFresh, AllOf, AllReport, All
 ghost use Rattle.desk_room.specs.Keepers.{IsOf, SameRoom};
 ghost use Rattle.desk_room.specs.declared.rooms.RoomFault.TheVariants as fault;
 
-use crate::attending::Report;
 use crate::bells::{Bell, Why};
 use crate::benches::Bench;
+use crate::keeper_thread::keep;
 use crate::keepers::Keeper;
-use crate::keeping::keep;
 use crate::rooms::{Room, RoomFault, open_room};
 use crate::solve_gates::Gate;
-use crate::threads::{Worked, attend_all, work_all};
+use crate::thread_groups::{Worked, attend_all, work_all};
+use crate::window_thread::Report;
 use crate::windows::Window;
 use chess_moves::Rays;
 use chess_notation::Bound;

@@ -1,7 +1,7 @@
 //! A window and the keeper settle: what is left in the two rings between them.
 
-use crate::keeper_ends::Line;
 use crate::keepers::Keeper;
+use crate::window_ring_line::Line;
 use crate::windows::Window;
 
 /// What a settlement finds.
@@ -18,7 +18,7 @@ impl Line {
     ghost use mathlib.Core.List.{IsPrefix};
     ghost use Rattle.desk_room.specs.Letters.{records};
     ghost use Rattle.desk_room.specs.Windows.{letters_sent, collected, deliveries_known, places_known, is_gone, SameWindow};
-    ghost use Rattle.desk_room.specs.KeeperEnds.{letters_taken, letters_known, deliveries_put, places_free, SameLine, AreEnds};
+    ghost use Rattle.desk_room.specs.WindowRings.{letters_taken, letters_known, deliveries_put, places_free, SameLine, AreEnds};
 
     /// What is left in the two rings of the window whose ends these are. It moves nothing, and each end learns what lies there.
     #[tactic(auto, using(crate::proofs::LetterCounts::records_count, crate::proofs::LetterCounts::records_few))]

@@ -1,7 +1,7 @@
 //! Orders put out on one thread and taken on two others.
 
 use crate::back_rings::open_bench;
-use crate::dealers::Dealer;
+use crate::deque_dealer::Dealer;
 use crate::{Bench, Taken};
 use chess_moves::Rays;
 use chess_notation::{Bound, read_record};

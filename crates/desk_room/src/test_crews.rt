@@ -1,8 +1,8 @@
 //! The benches of a room on one thread, and what they do, told with the replies.
 
 use crate::benches::Bench;
+use crate::deque_seat::Taken;
 use crate::letters::Back;
-use crate::seats::Taken;
 use chess_moves::Rays;
 use chess_notation::{Bound, read_record};
 use mate_search::{Job, Memo, Ticket};

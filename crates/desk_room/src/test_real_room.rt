@@ -4,9 +4,9 @@ ghost use Rattle.desk_room.specs.Windows.{SameWindow};
 ghost use Rattle.desk_room.specs.Keepers.{IsOf, SameRoom};
 
 use crate::benches::Bench;
+use crate::deque_seat::Taken;
 use crate::keepers::Keeper;
 use crate::letters::Back;
-use crate::seats::Taken;
 use crate::test_calls::{Call, Reply};
 use crate::test_scenes::{A, ANSWER_A};
 use crate::windows::Window;

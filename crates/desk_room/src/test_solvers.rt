@@ -1,8 +1,8 @@
 //! A bench on a thread of its own.
 
 use crate::benches::Bench;
+use crate::deque_seat::Taken;
 use crate::letters::Back;
-use crate::seats::Taken;
 use crate::test_manners::{Manner, Pace, is_third};
 use chess_moves::Rays;
 use chess_notation::{Bound, Record, read_record};

@@ -2,9 +2,9 @@
 
 ghost use Rattle.std.specs.Prelude.{◌≡◌, ◌≤◌, [], IfOk, false};
 ghost use Rattle.desk_room.specs.Windows.{letters_sent, collected, is_gone, number_of, default_of, places_known, places_of};
-ghost use Rattle.desk_room.specs.KeeperEnds.{letters_taken, deliveries_put, places_free, ring_of, AreEnds};
+ghost use Rattle.desk_room.specs.WindowRings.{letters_taken, deliveries_put, places_free, ring_of, AreEnds};
 
-use crate::keeper_ends::Line;
+use crate::window_ring_line::Line;
 use crate::windows::Window;
 use chess_notation::Bound;
 use rtrb::RingBuffer;

@@ -1,10 +1,10 @@
 //! Calls of a window and of the keeper's ends of its rings, told with their replies.
 
-ghost use Rattle.desk_room.specs.KeeperEnds.{AreEnds};
+ghost use Rattle.desk_room.specs.WindowRings.{AreEnds};
 
-use crate::keeper_ends::Line;
 use crate::letters::Letter;
 use crate::window_faults::{ByeFault, WindowFault, WithdrawFault};
+use crate::window_ring_line::Line;
 use crate::window_rings::open_line;
 use crate::windows::Window;
 use chess_moves::Rays;

@@ -8,7 +8,7 @@ use Rattle.desk_room.specs.Deliveries.{asked}
 use Rattle.desk_room.specs.Windows.{letters_sent, collected, default_of, SameWindow}
 use Rattle.desk_room.specs.declared.windows.Window.{Window}
 use Rattle.desk_room.specs.declared.clerks.Clerk.{Clerk}
-use Rattle.desk_room.specs.declared.attending.Report.{Report}
+use Rattle.desk_room.specs.declared.window_thread.Report.{Report}
 
 -- the answers to these records, each with what stands behind it
 abbrev pub woven : List RecordValue → List (List ℕ) → List ℕ

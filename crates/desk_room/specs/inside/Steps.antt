@@ -10,17 +10,17 @@ use Rattle.desk_room.specs.Passes.{Ordering}
 use Rattle.desk_room.specs.Turns.{waiting}
 use Rattle.desk_room.specs.Events.{RoomLists, hearing, taking, withdrawn_in, solved_in, returned_in, stranger_in}
 use Rattle.desk_room.specs.Benches.{heard, back_known}
-use Rattle.desk_room.specs.KeeperEnds.{letters_taken, letters_known, deliveries_put, places_free}
+use Rattle.desk_room.specs.WindowRings.{letters_taken, letters_known, deliveries_put, places_free}
 use Rattle.desk_room.specs.declared.letters.Letter.{Letter}
 use Rattle.desk_room.specs.declared.letters.Back.{Back}
 use Rattle.desk_room.specs.declared.orders.Order.{Order}
 use Rattle.desk_room.specs.declared.orders.Order.TheVariants.{Solve}
-use Rattle.desk_room.specs.declared.ears.Ear.{Ear}
-use Rattle.desk_room.specs.declared.keeper_ends.Line.{Line}
-use Rattle.desk_room.specs.declared.hearing.Heard.{Heard}
-use Rattle.desk_room.specs.declared.taking.Took.{Took}
-use Rattle.desk_room.specs.declared.ordering.Tried.{Tried}
-use Rattle.desk_room.specs.declared.ordering.Tried.TheVariants.{Ordered, Refused, NoneWaits}
+use Rattle.desk_room.specs.declared.back_ring_ear.Ear.{Ear}
+use Rattle.desk_room.specs.declared.window_ring_line.Line.{Line}
+use Rattle.desk_room.specs.declared.back_pass.Heard.{Heard}
+use Rattle.desk_room.specs.declared.letter_pass.Took.{Took}
+use Rattle.desk_room.specs.declared.order_pass.Tried.{Tried}
+use Rattle.desk_room.specs.declared.order_pass.Tried.TheVariants.{Ordered, Refused, NoneWaits}
 
 -- Something was heard, and the desk was told of it.
 pub record HeardOne (old new : Ear) (c d : Content) (counts : Heard) : Type 0 where

@@ -7,7 +7,7 @@ use Rattle.desk_room.specs.Keepers.{IsOf}
 use Rattle.desk_room.specs.inside.Clerks.{IsReplyIf, Reports}
 use Rattle.desk_room.specs.declared.keepers.Keeper.{Keeper}
 use Rattle.desk_room.specs.declared.windows.Window.{Window}
-use Rattle.desk_room.specs.declared.attending.Report.{Report}
+use Rattle.desk_room.specs.declared.window_thread.Report.{Report}
 
 -- A window by which nothing went yet.
 abbrev pub IsFreshWindow : Window → Type 0

@@ -1,5 +1,5 @@
 use Rattle.std.proofs.Common.{◌≡◌, ◌≤◌, take, count_by}
-use Rattle.desk_room.specs.declared.keeper_ends.Line.{Line}
+use Rattle.desk_room.specs.declared.window_ring_line.Line.{Line}
 use Rattle.desk_room.proofs.keepers.count_gone.Given as goal
 
 abbrev pub invariant-loop-line : goal.invariant-loop-line

@@ -1,5 +1,5 @@
 use Rattle.std.proofs.Common.{◌≡◌, ◌≤◌, vec_len, vec_capacity, [], map, replicate}
-use Rattle.desk_room.specs.KeeperEnds.{letters_taken, deliveries_put, ring_of}
+use Rattle.desk_room.specs.WindowRings.{letters_taken, deliveries_put, ring_of}
 use Rattle.desk_room.specs.Opening.{AreOpened}
 use Rattle.desk_room.proofs.rooms.open_windows.Given as goal
 

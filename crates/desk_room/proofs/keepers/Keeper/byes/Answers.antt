@@ -1,5 +1,5 @@
 use Rattle.std.proofs.Common.{ap, ◌∙◌, List, count_by}
-use Rattle.desk_room.specs.declared.keeper_ends.Line.{Line}
+use Rattle.desk_room.specs.declared.window_ring_line.Line.{Line}
 use Rattle.desk_room.proofs.Staying.{gone_counted}
 use Rattle.desk_room.proofs.keepers.Keeper.byes.Goals as goal
 

@@ -3,12 +3,12 @@ use Rattle.std.proofs.Math.Logic.{∥∥₁_elim}
 use Rattle.std.specs.Coded.{Coded-set, coded_bool}
 use Rattle.desk_room.specs.Orders.{orders}
 use Rattle.desk_room.specs.Letters.{records}
-use Rattle.desk_room.specs.KeeperEnds.{AreEnds, letters_taken, letters_known, deliveries_put, ring_of}
+use Rattle.desk_room.specs.WindowRings.{AreEnds, letters_taken, letters_known, deliveries_put, ring_of}
 use Rattle.desk_room.specs.Windows.{letters_sent, collected, deliveries_known, number_of}
 use Rattle.desk_room.specs.Withdrawals.{marks, are_notices_marked}
 use Rattle.desk_room.specs.Kept.{AreOwed}
 use Rattle.desk_room.specs.Keepers.{Ahead}
-use Rattle.desk_room.specs.declared.keeper_ends.Line.{Line}
+use Rattle.desk_room.specs.declared.window_ring_line.Line.{Line}
 use Rattle.desk_room.proofs.Places.{map_length}
 use Rattle.desk_room.proofs.Ahead.{ahead_at, ahead_looked}
 use Rattle.desk_room.proofs.Stepping.{of_same, rings_set}

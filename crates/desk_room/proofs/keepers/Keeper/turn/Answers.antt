@@ -1,5 +1,5 @@
 use Rattle.std.proofs.Common.{arith, true, ◌≡◌, ◌<◌, ◌≤◌, inl, inr, ⊎_elim, sym, ap, ◌∙◌, subst, length, map, get_or, []}
-use Rattle.desk_room.specs.KeeperEnds.{letters_known}
+use Rattle.desk_room.specs.WindowRings.{letters_known}
 use Rattle.desk_room.specs.Orders.{orders, places}
 use Rattle.desk_room.specs.Turns.{waiting, GainFew}
 use Rattle.desk_room.specs.Keepers.{lists, known}
