@@ -9,8 +9,8 @@ use lib.ListN.{get_elem?}
 use Rattle.std.proofs.Math.ListN.{length-set}
 use Rattle.crossbeam_deque.specs.Tasks.{Pushes, Takes, Forks, FindsFew}
 use Rattle.mate_search.specs.Jobs.{Task}
-use Rattle.desk_room.specs.declared.orders.Order.{Order}
-use Rattle.desk_room.specs.declared.orders.Order.TheVariants.{Solve, Stop}
+use Rattle.desk_room.specs.declared.deque_rule.Order.{Order}
+use Rattle.desk_room.specs.declared.deque_rule.Order.TheVariants.{Solve, Stop}
 use Rattle.desk_room.specs.declared.deque_rule.View.{View}
 use Rattle.desk_room.specs.DequeRule.{stops, JobsFirst, got_by, Dealt, Ruled, keeper_view, bench_view, WasEmpty}
 

@@ -15,7 +15,7 @@ use Rattle.desk_room.specs.declared.turns.Turn.{Turn}
 use Rattle.desk_room.specs.declared.letters.Letter.TheVariants.{Record, Withdrawal, Farewell}
 use Rattle.desk_room.specs.declared.letters.Back.{Back}
 use Rattle.desk_room.specs.declared.letters.Back.TheVariants.{Solved, Returned}
-use Rattle.desk_room.specs.declared.orders.Order.TheVariants.{Solve}
+use Rattle.desk_room.specs.declared.deque_rule.Order.TheVariants.{Solve}
 use Rattle.desk_room.proofs.LetterCounts.{records_append, farewells_count}
 use Rattle.desk_room.proofs.Places.{change_past}
 use Rattle.desk_room.proofs.Counting.{count_in, count_all, count_entries, count_same, count_change, count_snoc}

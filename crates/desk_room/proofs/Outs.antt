@@ -12,8 +12,8 @@ use Rattle.desk_room.specs.declared.turns.Turn.{Turn}
 use Rattle.desk_room.specs.declared.letters.Letter.TheVariants.{Record, Withdrawal, Farewell}
 use Rattle.desk_room.specs.declared.letters.Back.{Back}
 use Rattle.desk_room.specs.declared.letters.Back.TheVariants.{Solved, Returned}
-use Rattle.desk_room.specs.declared.orders.Order.{Order}
-use Rattle.desk_room.specs.declared.orders.Order.TheVariants.{Solve, Stop}
+use Rattle.desk_room.specs.declared.deque_rule.Order.{Order}
+use Rattle.desk_room.specs.declared.deque_rule.Order.TheVariants.{Solve, Stop}
 use Rattle.desk_room.proofs.Places.{nil_append, drop_all}
 use Rattle.desk_room.proofs.Tests.{and_both, same_is}
 use Rattle.desk_room.proofs.Counting.{count_in, count_all, count_entries, count_same, count_more, count_change, count_snoc}

@@ -2,7 +2,7 @@
 use Rattle.std.specs.Prelude.{◌≡◌, ℕ, List}
 use Rattle.rtrb.specs.Ring.{sent, known_free, producer_capacity, received, known_items, IsPair, SameProducer, SameConsumer}
 use Rattle.desk_room.specs.Orders.{seat_got, seat_known_taken, SameSeat}
-use Rattle.desk_room.specs.declared.orders.Order.{Order}
+use Rattle.desk_room.specs.declared.deque_rule.Order.{Order}
 use Rattle.desk_room.specs.declared.letters.Back.{Back}
 use Rattle.desk_room.specs.declared.benches.Bench.{Bench}
 use Rattle.desk_room.specs.declared.back_ring_ear.Ear.{Ear}

@@ -10,8 +10,8 @@ use Rattle.desk_room.specs.declared.letters.Letter.{Letter}
 use Rattle.desk_room.specs.declared.letters.Letter.TheVariants.{Record, Withdrawal, Farewell}
 use Rattle.desk_room.specs.declared.letters.Back.{Back}
 use Rattle.desk_room.specs.declared.letters.Back.TheVariants.{Solved, Returned}
-use Rattle.desk_room.specs.declared.orders.Order.{Order}
-use Rattle.desk_room.specs.declared.orders.Order.TheVariants.{Solve}
+use Rattle.desk_room.specs.declared.deque_rule.Order.{Order}
+use Rattle.desk_room.specs.declared.deque_rule.Order.TheVariants.{Solve}
 
 -- For each window the letters taken off its ring and the deliveries put on its ring, for each bench what was taken off its back ring,
 -- the orders put out, and what the desk holds.

@@ -1,8 +1,8 @@
 -- What a contract sees of the two ends of the deque of orders: the keeper's, a dealer, and a bench's, a seat (own to this project).
 use Rattle.std.specs.Prelude.{◌≡◌, ℕ, List, [], ◌∷◌}
 use Rattle.crossbeam_deque.specs.Handles.{view, taken, worker_view, worker_deque, worker_capacity, stealer_deque}
-use Rattle.desk_room.specs.declared.orders.Order.{Order}
-use Rattle.desk_room.specs.declared.orders.Order.TheVariants.{Solve, Stop}
+use Rattle.desk_room.specs.declared.deque_rule.Order.{Order}
+use Rattle.desk_room.specs.declared.deque_rule.Order.TheVariants.{Solve, Stop}
 use Rattle.desk_room.specs.declared.deque_dealer.Dealer.{Dealer}
 use Rattle.desk_room.specs.declared.deque_seat.Seat.{Seat}
 use Rattle.desk_room.specs.declared.deque_seat.Taken.{Taken}

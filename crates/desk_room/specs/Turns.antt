@@ -10,8 +10,8 @@ use Rattle.desk_room.specs.Kept.{is_withdrawn}
 use Rattle.desk_room.specs.Passes.{Hearing, Taking, Ordering, Giving}
 use Rattle.desk_room.specs.declared.letters.Back.{Back}
 use Rattle.desk_room.specs.declared.letters.Back.TheVariants.{Solved, Returned}
-use Rattle.desk_room.specs.declared.orders.Order.{Order}
-use Rattle.desk_room.specs.declared.orders.Order.TheVariants.{Solve, Stop}
+use Rattle.desk_room.specs.declared.deque_rule.Order.{Order}
+use Rattle.desk_room.specs.declared.deque_rule.Order.TheVariants.{Solve, Stop}
 use Rattle.desk_room.specs.declared.turns.Turn.{Turn}
 
 -- the four passes, one after the other

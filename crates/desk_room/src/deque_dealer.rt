@@ -4,9 +4,8 @@ ghost use Rattle.std.specs.Prelude.{◌≡◌, ◌≤◌, length, true};
 ghost use Rattle.crossbeam_deque.specs.Handles.{worker_port, worker_view, worker_flavor, worker_capacity, worker_index};
 ghost use Rattle.desk_room.specs.DequeRule.{stops};
 
-use crate::deque_rule::{Dealing, Hands, Puts, View};
+use crate::deque_rule::{Dealing, Hands, Order, Puts, View};
 use crate::deque_seat::Seat;
-use crate::orders::Order;
 use crossbeam_deque::Worker;
 use mate_search::Job;
 use std::alloc::{AllocError, Global};
@@ -32,7 +31,7 @@ impl Dealer {
     ghost use Rattle.std.specs.Bool.{OnTrue, OnFalse};
     ghost use Rattle.desk_room.specs.DequeRule.{stops};
     ghost use Rattle.desk_room.specs.Orders.{orders, passes, places, seat_got, IsSeatOf, SameDeque};
-    ghost use Rattle.desk_room.specs.declared.orders.Order.TheVariants.{Solve, Stop};
+    ghost use Rattle.desk_room.specs.declared.deque_rule.Order.TheVariants.{Solve, Stop};
 
     /// A deque of one slot, with no order and no seat. It grows as it must.
     pub(crate) fn new(alloc: Global) -> Result<Dealer, AllocError>

@@ -1,14 +1,23 @@
-//! The rule of the deque of orders, to which the keeper and the benches keep.
+//! The orders that the keeper puts out for the benches, and the rule of their deque, to which both keep.
 //!
-//! `specs/DequeRule.antt` says what it is. Each of the few steps that anybody takes on the deque keeps it, so it holds at every moment,
-//! whoever else is at work.
+//! `specs/DequeRule.antt` says what the rule is. Each of the few steps that anybody takes on the deque keeps it, so it holds at every
+//! moment, whoever else is at work.
 
 ghost use Rattle.std.specs.Prelude.{◌≡◌, ◌++◌};
 ghost use Rattle.desk_room.specs.DequeRule.{keeper_view, bench_view};
 
-use crate::orders::Order;
 use crossbeam_deque::protocol::{Outcome, Protocol, Split};
+use mate_search::Job;
 use std::collections::LinkedList;
+
+/// An order to a bench.
+#[derive(Debug, Drop)]
+pub enum Order {
+    /// Solve this job.
+    Solve(Job),
+    /// Take no more orders.
+    Stop,
+}
 
 /// What the holder of a pass to the deque knows: the keeper how many passes it handed out and which orders it put out, a bench
 /// which orders it got. No value of it is ever made.

@@ -4,8 +4,7 @@ ghost use Rattle.std.specs.Prelude.{◌≡◌, if◌then◌else◌};
 ghost use Rattle.crossbeam_deque.specs.Handles.{view, IsPassOf, stealer_deque, stealer_flavor};
 ghost use Rattle.desk_room.specs.DequeRule.{stops, bench_view};
 
-use crate::deque_rule::{Dealing, Takes, View};
-use crate::orders::Order;
+use crate::deque_rule::{Dealing, Order, Takes, View};
 use crossbeam_deque::{Pass, Steal, Stealer};
 use mate_search::Job;
 use std::alloc::Global;

@@ -58,7 +58,7 @@ impl Keeper {
     ghost use Rattle.desk_room.specs.DequeRule.{stops};
     ghost use Rattle.desk_room.specs.Kept.{AreOwed, AreMarked};
     ghost use Rattle.desk_room.specs.Keepers.{lists, known, backs_known, benches_of, order_places, is_home, windows_gone, Stays, SameRoom};
-    ghost use Rattle.desk_room.specs.declared.orders.Order.TheVariants.{Stop};
+    ghost use Rattle.desk_room.specs.declared.deque_rule.Order.TheVariants.{Stop};
 
     /// What was taken of each window is what was delivered to it and then what it has pending, and withdrawals are marked so. It
     /// does nothing: its contract is the law.

@@ -2,7 +2,7 @@ use Rattle.std.proofs.Common.{◌≡◌, ◌+◌, ◌++◌, ◌∷◌, [], ap, �
 use Rattle.std.proofs.lemmas.List.{replicate_more}
 use Rattle.desk_room.specs.DequeRule.{stops}
 use Rattle.desk_room.specs.Orders.{orders}
-use Rattle.desk_room.specs.declared.orders.Order.TheVariants.{Stop}
+use Rattle.desk_room.specs.declared.deque_rule.Order.TheVariants.{Stop}
 use Rattle.desk_room.proofs.Deals.{stops_append}
 use Rattle.desk_room.proofs.deque_dealer.Dealer.send_home.Goals as goal
 

@@ -1,6 +1,6 @@
 use Rattle.std.proofs.Common.{◌-◌, ◌≡◌, ◌≤◌, ◌++◌, ℕ, replicate}
 use Rattle.desk_room.specs.Orders.{orders, passes, places, SameDeque}
-use Rattle.desk_room.specs.declared.orders.Order.TheVariants.{Stop}
+use Rattle.desk_room.specs.declared.deque_rule.Order.TheVariants.{Stop}
 use Rattle.desk_room.proofs.deque_dealer.Dealer.send_home.Given as goal
 
 abbrev pub invariant-loop-self : goal.invariant-loop-self
