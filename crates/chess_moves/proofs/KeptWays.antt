@@ -11,7 +11,7 @@ use Rattle.chess_board.specs.PseudoLegal.{goes, is_promotion, promotes, suits, i
 use Rattle.chess_board.specs.MakeMove.{men_after, after_setup}
 use Rattle.chess_board.specs.Legality.{is_safe, is_legal}
 use Rattle.chess_moves.specs.inside.Listing.{move_of, promotions, moves_between}
-use Rattle.chess_moves.specs.inside.Targets.{ways, AreTargets}
+use Rattle.chess_moves.specs.inside.LegalTargets.{ways, AreTargets}
 use Rattle.chess_moves.proofs.OwnColours.{same_colour}
 use Rattle.chess_moves.proofs.Few.{between_promoted, between_plain}
 

@@ -9,7 +9,7 @@ use Rattle.chess_board.specs.declared.men.Man.{Man}
 use Rattle.chess_board.specs.Squares.{rank_of, all_below}
 use Rattle.chess_board.specs.PseudoLegal.{promotes}
 use Rattle.chess_moves.specs.inside.Listing.{move_of, promotions}
-use Rattle.chess_moves.specs.inside.Targets.{ways}
+use Rattle.chess_moves.specs.inside.LegalTargets.{ways}
 use Rattle.chess_moves.proofs.SetBits.{has_and}
 use Rattle.chess_moves.proofs.Members.{flat_map-below_suc, length-below_more, length-members}
 

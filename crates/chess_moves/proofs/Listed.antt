@@ -14,7 +14,7 @@ use Rattle.chess_board.specs.PseudoLegal.{suits, promotes, is_promotion}
 use Rattle.chess_board.specs.Legality.{is_legal}
 use Rattle.chess_moves.specs.inside.Listing.{move_of, promotions, moves_between, moves_to, moves_below, legal_moves}
 use Rattle.chess_moves.specs.Laws.{LegalListed}
-use Rattle.chess_moves.specs.inside.Targets.{ways, IsTarget}
+use Rattle.chess_moves.specs.inside.LegalTargets.{ways, IsTarget}
 use Rattle.chess_moves.proofs.Played.{played}
 
 pub kept : (f : Move → Bool) (xs : List Move) (x : Move) → Contains xs x → f x ≡ true → Contains (filter f xs) x

@@ -13,7 +13,7 @@ use Rattle.chess_board.specs.Moves.{Move}
 use Rattle.chess_board.specs.Positions.{Setup, man_at}
 use Rattle.chess_moves.specs.GivesCheck.{gives_check}
 use Rattle.chess_moves.specs.inside.Listing.{moves_between, moves_to}
-use Rattle.chess_moves.specs.inside.Targets.{ways, AreTargets}
+use Rattle.chess_moves.specs.inside.LegalTargets.{ways, AreTargets}
 use Rattle.chess_moves.specs.Verdicts.{is_mate}
 use Rattle.chess_moves.proofs.Listed.{between_in, to_in, all_kept}
 use Rattle.chess_moves.proofs.Mates.{no_mate}

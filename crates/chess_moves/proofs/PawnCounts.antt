@@ -20,7 +20,7 @@ use Rattle.chess_moves.specs.inside.Leaps.{is_step, is_double, is_pawn_capture}
 use Rattle.chess_moves.specs.inside.Listing.{move_of, promotions, moves_between, moves_to}
 use Rattle.chess_moves.specs.inside.LegalityInfo.{IsLegalityInfoOf}
 use Rattle.chess_moves.specs.inside.Shifts.{is_shifted, back, left_file, right_file, third_rank, AreFree}
-use Rattle.chess_moves.specs.inside.Targets.{ways}
+use Rattle.chess_moves.specs.inside.LegalTargets.{ways}
 use Rattle.chess_moves.specs.inside.MoveGeneration.{moves_of_men, HaveMenOf}
 use Rattle.chess_moves.proofs.SetBits.{has_and}
 use Rattle.chess_moves.proofs.Members.{flat_map-below_suc}

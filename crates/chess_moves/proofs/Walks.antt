@@ -15,7 +15,7 @@ use Rattle.chess_board.specs.Moves.{Move}
 use Rattle.chess_board.specs.PseudoLegal.{promotes}
 use Rattle.chess_board.specs.Legality.{is_legal}
 use Rattle.chess_moves.specs.inside.Listing.{move_of, moves_between, moves_to, moves_below, legal_moves}
-use Rattle.chess_moves.specs.inside.Targets.{ways, AreTargets}
+use Rattle.chess_moves.specs.inside.LegalTargets.{ways, AreTargets}
 use Rattle.chess_moves.specs.inside.MoveGeneration.{next_promotion, moves_from, moves_of_men, HaveOwnMen}
 use Rattle.chess_moves.proofs.Members.{no_members, flat_map-below_suc}
 use Rattle.chess_moves.proofs.Few.{none_from}

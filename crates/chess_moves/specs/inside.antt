@@ -5,7 +5,7 @@ pub mod Hits
 pub mod Forces
 pub mod LegalityInfo
 pub mod Listing
-pub mod Targets
+pub mod LegalTargets
 pub mod MoveGeneration
 pub mod CheckSquares
 pub mod Flights

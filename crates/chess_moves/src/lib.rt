@@ -6,10 +6,10 @@
 //!
 //! To read: `specs/Laws.antt` (which moves the list has) and `specs/inside/Listing.antt` (how it is put together); `directions`,
 //! `ray_tables`, `forces` and `attackers` (what is seen and attacked), `legality_info`, `castling_targets`, `en_passant_targets`,
-//! `pseudo_legal_targets` and `checks_and_pins` (where a man goes, and where it leaves its king safe), `targets` and `promotions`; then
-//! `move_generation`, `mate_and_stalemate` with `verdicts`, and `perft_count`; `check_squares` and `gives_check`; `discovered_checks`,
-//! `attacked_sets`, `flights` and `mate_in_one`. `laws` says what the lists hold in words that do not speak of how they are made. No
-//! call takes memory.
+//! `pseudo_legal_targets` and `checks_and_pins` (where a man goes, and where it leaves its king safe), `legal_targets` and `promotions`;
+//! then `move_generation`, `mate_and_stalemate` with `verdicts`, and `perft_count`; `check_squares` and `gives_check`;
+//! `discovered_checks`, `attacked_sets`, `flights` and `mate_in_one`. `laws` says what the lists hold in words that do not speak of how
+//! they are made. No call takes memory.
 #![tactic(auto)]
 
 mod attacked_sets;
@@ -24,6 +24,7 @@ mod flights;
 mod forces;
 mod gives_check;
 mod laws;
+mod legal_targets;
 mod legality_info;
 mod mate_and_stalemate;
 mod mate_in_one;
@@ -32,7 +33,6 @@ mod perft_count;
 mod promotions;
 mod pseudo_legal_targets;
 mod ray_tables;
-mod targets;
 mod verdicts;
 
 pub use attackers::attacked;

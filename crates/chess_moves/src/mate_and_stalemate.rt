@@ -8,11 +8,11 @@ ghost use Rattle.chess_moves.specs.Verdicts.{verdict_of, is_mate};
 ghost use Rattle.chess_moves.specs.inside.MoveGeneration.{moves_of_men, HaveOwnMen};
 
 use crate::attackers::attacked;
+use crate::legal_targets::{king_can_move, targets_from};
 use crate::legality_info::{LegalityInfo, is_checked, legality_info_of};
 use crate::move_generation::legal_moves;
 use crate::promotions::{count_ways, own_man};
 use crate::ray_tables::Rays;
-use crate::targets::{king_can_move, targets_from};
 use crate::verdicts::Verdict;
 use chess_board::Position;
 

@@ -12,10 +12,10 @@ ghost use Rattle.chess_moves.specs.inside.Listing.{moves_to, legal_moves};
 ghost use Rattle.chess_moves.specs.inside.MoveGeneration.{next_promotion, man_moves};
 
 use crate::forces::{all_of, force_of};
+use crate::legal_targets::{is_target, targets_from};
 use crate::legality_info::{LegalityInfo, legality_info_of};
 use crate::promotions::{own_man, promotion_squares};
 use crate::ray_tables::Rays;
-use crate::targets::{is_target, targets_from};
 use arrayvec::ArrayVec;
 use chess_board::{Kind, Man, Move, Position, Square};
 use square_sets::SquareScan;

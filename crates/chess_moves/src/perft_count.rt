@@ -14,11 +14,11 @@ ghost use Rattle.chess_moves.specs.Plays.{plays};
 ghost use Rattle.chess_moves.specs.inside.Shifts.{is_shifted, back, left_file as left_file_of, right_file as right_file_of, third_rank as third_rank_of, AreFree};
 
 use crate::en_passant_targets::en_passant_origins;
+use crate::legal_targets::{targets_at_once, targets_of_king};
 use crate::legality_info::{LegalityInfo, legality_info_of};
 use crate::move_generation::legal_moves;
 use crate::promotions::count_ways;
 use crate::ray_tables::Rays;
-use crate::targets::{targets_at_once, targets_of_king};
 use chess_board::{Colour, Kind, Man, Position, after};
 
 /// How many lines of `depth` legal moves there are, played one after the other: the count by which programs compare their

@@ -6,7 +6,7 @@ ghost use Rattle.square_sets.specs.Members.{has, members};
 ghost use Rattle.chess_board.specs.Men.{is_of};
 ghost use Rattle.chess_board.specs.Positions.{man_at};
 ghost use Rattle.chess_board.specs.PseudoLegal.{promotes};
-ghost use Rattle.chess_moves.specs.inside.Targets.{ways};
+ghost use Rattle.chess_moves.specs.inside.LegalTargets.{ways};
 
 use chess_board::{Colour, Kind, Man, Position, Square};
 

@@ -13,7 +13,7 @@ use Rattle.chess_board.specs.Legality.{is_legal}
 use Rattle.chess_moves.specs.declared.move_generation.ManMoves.{ManMoves}
 use Rattle.chess_moves.specs.declared.move_generation.LegalMoves.TheInside.{Inside}
 use Rattle.chess_moves.specs.inside.Listing.{move_of, promotions, moves_to}
-use Rattle.chess_moves.specs.inside.Targets.{ways}
+use Rattle.chess_moves.specs.inside.LegalTargets.{ways}
 use Rattle.chess_moves.specs.inside.LegalityInfo.{IsLegalityInfoOf}
 
 -- the promotion that comes after this one, if it is one and not the last

@@ -9,7 +9,7 @@ use Rattle.chess_moves.proofs.PieceTargets.{piece_goes_safely}
 use Rattle.chess_moves.proofs.KeptWays.{targets_where_safe}
 use Rattle.chess_moves.proofs.SpecialMoves.{is_piece}
 use Rattle.chess_moves.proofs.Unpinned.{safe_unpinned}
-use Rattle.chess_moves.proofs.targets.targets_at_once.Goals as goal
+use Rattle.chess_moves.proofs.legal_targets.targets_at_once.Goals as goal
 
 pub returns-else-contains : goal.returns-else-contains
 returns-else-contains c =

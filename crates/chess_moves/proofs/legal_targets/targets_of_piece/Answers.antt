@@ -6,7 +6,7 @@ use Rattle.chess_moves.proofs.OwnColours.{other_colour, own_not_other}
 use Rattle.chess_moves.proofs.OtherMen.{becomes_colour}
 use Rattle.chess_moves.proofs.PieceTargets.{piece_goes_safely}
 use Rattle.chess_moves.proofs.KeptWays.{targets_where_safe}
-use Rattle.chess_moves.proofs.targets.targets_of_piece.Goals as goal
+use Rattle.chess_moves.proofs.legal_targets.targets_of_piece.Goals as goal
 
 pub returns : goal.returns
 returns c =

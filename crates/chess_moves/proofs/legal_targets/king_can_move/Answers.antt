@@ -11,7 +11,7 @@ use Rattle.chess_board.specs.Men.{man_of}
 use Rattle.chess_board.specs.Moves.{Move}
 use Rattle.chess_board.specs.Positions.{Setup, man_at}
 use Rattle.chess_moves.specs.inside.Listing.{moves_to}
-use Rattle.chess_moves.specs.inside.Targets.{ways, AreTargets, IsTarget}
+use Rattle.chess_moves.specs.inside.LegalTargets.{ways, AreTargets, IsTarget}
 use Rattle.chess_moves.proofs.AnyLemmas.{any_some}
 use Rattle.chess_moves.proofs.Sifting.{sifted_none, sifted_all, sifted_out}
 use Rattle.chess_moves.proofs.KingTargets.{king, safe_at, step_safe, king_goes_safely, king_goes_safely_there}
@@ -22,7 +22,7 @@ use Rattle.chess_moves.proofs.OwnColours.{other_colour}
 use Rattle.chess_moves.proofs.SetBits.{has_none}
 use Rattle.chess_moves.proofs.SharedSquares.{nonzero}
 use Rattle.chess_moves.proofs.Walks.{legal_to}
-use Rattle.chess_moves.proofs.targets.king_can_move.Goals as goal
+use Rattle.chess_moves.proofs.legal_targets.king_can_move.Goals as goal
 
 -- A man that is nowhere promoted has a legal move where it has a target.
 some_target : (p : Setup) (man : Man) (o set : ℕ) → set < 2 ^ 64 → ((t : ℕ) → promotes man t ≡ false) → AreTargets set p man o

@@ -7,7 +7,7 @@ ghost use Rattle.chess_board.specs.inside.KindTests.{is_king_kind, is_pawn_kind}
 ghost use Rattle.chess_board.specs.Legality.{is_legal};
 ghost use Rattle.chess_moves.specs.inside.Listing.{moves_to};
 ghost use Rattle.chess_moves.specs.inside.LegalityInfo.{IsLegalityInfoOf};
-ghost use Rattle.chess_moves.specs.inside.Targets.{AreTargets, IsTarget};
+ghost use Rattle.chess_moves.specs.inside.LegalTargets.{AreTargets, IsTarget};
 
 use crate::castling_targets::castling_targets;
 use crate::checks_and_pins::{is_safe_step, legal_mask};

@@ -3,7 +3,7 @@ use Rattle.square_sets.specs.Members.{has}
 use Rattle.chess_moves.proofs.KeptWays.{ways_kept}
 use Rattle.chess_moves.proofs.KingTargets.{king, safe_at, king_origin, step_safe, king_goes_safely, king_goes_safely_there}
 use Rattle.chess_moves.proofs.OwnColours.{other_colour}
-use Rattle.chess_moves.proofs.targets.is_target.Goals as goal
+use Rattle.chess_moves.proofs.legal_targets.is_target.Goals as goal
 
 pub returns-then-contains : goal.returns-then-contains
 returns-then-contains c =

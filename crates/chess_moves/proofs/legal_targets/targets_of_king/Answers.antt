@@ -5,7 +5,7 @@ use Rattle.chess_moves.proofs.KingTargets.{king, safe_at, king_origin, step_safe
 use Rattle.chess_moves.proofs.KeptWays.{targets_where_safe}
 use Rattle.chess_moves.proofs.OwnColours.{other_colour}
 use Rattle.chess_moves.proofs.SetBits.{has_or}
-use Rattle.chess_moves.proofs.targets.targets_of_king.Goals as goal
+use Rattle.chess_moves.proofs.legal_targets.targets_of_king.Goals as goal
 
 pub loop-target-init : goal.loop-target-init
 loop-target-init c = let start = c.into_iter-target-iterator.ensures.into_iter_gives ∙ c.squares-target-items.ensures in rw start (sifted_none _ _)
