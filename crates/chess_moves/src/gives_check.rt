@@ -6,9 +6,9 @@ ghost use Rattle.chess_moves.specs.GivesCheck.{gives_check as gives_check_in, ch
 ghost use Rattle.chess_moves.specs.inside.CheckSquares.{AreCheckSquaresOf};
 
 use crate::check_squares::{CheckSquares, attacks_king, check_squares_of, is_told};
-use crate::mate_and_stalemate::in_check;
 use crate::move_generation::{MoveList, legal_moves};
 use crate::ray_tables::Rays;
+use crate::verdict_of_position::in_check;
 use chess_board::{Move, Position, after};
 
 /// Exactly the legal moves after which the side then to move is in check, each once, in the order of moves.

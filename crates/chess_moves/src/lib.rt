@@ -7,7 +7,7 @@
 //! To read: `specs/Laws.antt` (which moves the list has) and `specs/inside/Listing.antt` (how it is put together); `directions`,
 //! `ray_tables`, `forces` and `attackers` (what is seen and attacked), `legality_info`, `castling_targets`, `en_passant_targets`,
 //! `pseudo_legal_targets` and `checks_and_pins` (where a man goes, and where it leaves its king safe), `legal_targets` and `promotions`;
-//! then `move_generation`, `mate_and_stalemate` with `verdicts`, and `perft_count`; `check_squares` and `gives_check`;
+//! then `move_generation`, `verdicts` and `verdict_of_position`, and `perft_count`; `check_squares` and `gives_check`;
 //! `discovered_checks`, `attacked_sets`, `flights` and `mate_in_one`. `laws` says what the lists hold in words that do not speak of how
 //! they are made. No call takes memory.
 #![tactic(auto)]
@@ -26,23 +26,23 @@ mod gives_check;
 mod laws;
 mod legal_targets;
 mod legality_info;
-mod mate_and_stalemate;
 mod mate_in_one;
 mod move_generation;
 mod perft_count;
 mod promotions;
 mod pseudo_legal_targets;
 mod ray_tables;
+mod verdict_of_position;
 mod verdicts;
 
 pub use attackers::attacked;
 pub use gives_check::checks;
 pub use laws::{legal_listed, legal_rise, plays_listed, plays_once};
-pub use mate_and_stalemate::verdict;
 pub use mate_in_one::has_mating_move;
 pub use move_generation::{LegalMoves, MoveList, is_legal, legal, legal_moves};
 pub use perft_count::perft;
 pub use ray_tables::{Rays, rays_in_order};
+pub use verdict_of_position::verdict;
 pub use verdicts::Verdict;
 
 #[cfg(test)]

@@ -17,11 +17,11 @@ use crate::discovered_checks::check_targets;
 use crate::flights::{Flights, flights_once, squares_that_cover};
 use crate::legal_targets::targets_from;
 use crate::legality_info::{LegalityInfo, legality_info_of};
-use crate::mate_and_stalemate::is_mated;
 use crate::move_generation::ManMoves;
 use crate::promotions::own_man;
 use crate::pseudo_legal_targets::pseudo_legal_targets;
 use crate::ray_tables::Rays;
+use crate::verdict_of_position::is_mated;
 use chess_board::{Kind, Position, after};
 
 /// Whether some legal move mates (FIDE Laws of Chess, article 5.1.1): the last move of a search. Of the moves only those that give

@@ -4,7 +4,7 @@ use Rattle.chess_board.specs.Attacks.{is_in_check}
 use Rattle.chess_moves.specs.Verdicts.{has_legal_move}
 use Rattle.chess_moves.proofs.OneKing.{in_check_is}
 use Rattle.chess_moves.proofs.Mates.{king_moves, others_are_own, moves_apart, mate_by}
-use Rattle.chess_moves.proofs.mate_and_stalemate.is_mated.Goals as goal
+use Rattle.chess_moves.proofs.verdict_of_position.is_mated.Goals as goal
 
 pub returns-then-not-is_checked : goal.returns-then-not-is_checked
 returns-then-not-is_checked c =

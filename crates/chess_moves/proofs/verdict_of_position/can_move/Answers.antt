@@ -3,7 +3,7 @@ use Rattle.std.proofs.lemmas.Bool.{lt-ltb}
 use Rattle.chess_moves.specs.inside.MoveGeneration.{moves_of_men}
 use Rattle.chess_moves.proofs.Members.{no_members}
 use Rattle.chess_moves.proofs.Walks.{many_first, own_others}
-use Rattle.chess_moves.proofs.mate_and_stalemate.can_move.Goals as goal
+use Rattle.chess_moves.proofs.verdict_of_position.can_move.Goals as goal
 
 pub own_man-man-requires-clause-own : goal.own_man-man-requires-clause-own
 own_man-man-requires-clause-own c =

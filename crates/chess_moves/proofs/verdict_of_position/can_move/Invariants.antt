@@ -1,7 +1,7 @@
 use Rattle.std.proofs.Common.{◌≡◌, length}
 use Rattle.square_sets.specs.Members.{members}
 use Rattle.chess_moves.specs.inside.MoveGeneration.{moves_of_men, HaveOwnMen}
-use Rattle.chess_moves.proofs.mate_and_stalemate.can_move.Given as goal
+use Rattle.chess_moves.proofs.verdict_of_position.can_move.Given as goal
 
 -- none of the men so far has a move
 abbrev pub invariant-loop-origin : goal.invariant-loop-origin
