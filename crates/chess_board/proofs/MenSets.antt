@@ -2,6 +2,7 @@
 use Rattle.std.proofs.Common.{◌≡◌, ℕ, zero, suc, ◌+◌, ◌*◌, ◌/◌, ◌%◌, ◌^◌, ◌<◌, min, max, Bool, true, false, not, ◌&&◌, ◌||◌, cond, eqb, List, [], ◌∷◌, Option, None, length, get_or, set, get_or-set_same, get_or-set_other, length-set, refl, sym, ap, ◌∙◌, arith}
 use Rattle.std.specs.Int.{bit_at}
 use Rattle.std.specs.Int.RustNames.{bit_and, bit_or}
+use Rattle.std.proofs.lemmas.Bool.Decides.{nat_tests}
 use Rattle.std.proofs.lemmas.Bool.{eqb-true, eqb-false}
 use Rattle.std.proofs.lemmas.Nat.Bits.{bit_at_lowest, bit_at-suc, bit_at-lt, bit_at_and, bit_at_or, same_from_bits_below}
 use native.Mathlib.Numerals.{unary_clauses}
@@ -13,22 +14,10 @@ use Rattle.chess_board.specs.inside.Boards.{word_of}
 
 -- members of two sets
 and_test : (x y : ℕ) → x < 2 → y < 2 → eqb (min x y) 1 ≡ (eqb x 1 && eqb y 1)
-and_test zero zero h k = refl
-and_test zero (suc zero) h k = refl
-and_test zero (suc (suc y)) h k = absurd (omega arith)
-and_test (suc zero) zero h k = refl
-and_test (suc zero) (suc zero) h k = refl
-and_test (suc zero) (suc (suc y)) h k = absurd (omega arith)
-and_test (suc (suc x)) y h k = absurd (omega arith)
+and_test x y h k = grind (arith, nat_tests)
 
 or_test : (x y : ℕ) → x < 2 → y < 2 → eqb (max x y) 1 ≡ (eqb x 1 || eqb y 1)
-or_test zero zero h k = refl
-or_test zero (suc zero) h k = refl
-or_test zero (suc (suc y)) h k = absurd (omega arith)
-or_test (suc zero) zero h k = refl
-or_test (suc zero) (suc zero) h k = refl
-or_test (suc zero) (suc (suc y)) h k = absurd (omega arith)
-or_test (suc (suc x)) y h k = absurd (omega arith)
+or_test x y h k = grind (arith, nat_tests)
 
 pub has-bit_and : (a b square : ℕ) → has (bit_and a b) square ≡ (has a square && has b square)
 has-bit_and a b square =
@@ -40,13 +29,7 @@ has-bit_or a b square =
 
 -- a word is told by its members
 same_bit : (x y : ℕ) → x < 2 → y < 2 → eqb x 1 ≡ eqb y 1 → x ≡ y
-same_bit zero zero h k same = refl
-same_bit zero (suc zero) h k same = cc
-same_bit zero (suc (suc y)) h k same = absurd (omega arith)
-same_bit (suc zero) zero h k same = cc
-same_bit (suc zero) (suc zero) h k same = refl
-same_bit (suc zero) (suc (suc y)) h k same = absurd (omega arith)
-same_bit (suc (suc x)) y h k same = absurd (omega arith)
+same_bit x y h k same = grind (arith, nat_tests)
 
 same_set : (a b : ℕ) → a < 2 ^ 64 → b < 2 ^ 64 → ((square : ℕ) → square < 64 → has a square ≡ has b square) → a ≡ b
 same_set a b small low same =

@@ -6,7 +6,7 @@ ghost use Rattle.chess_board.specs.declared.men.Colour.{Colour as ColourValue};
 ghost use Rattle.chess_board.specs.Fields.{side_text, times, has_letter, rights_in, has_any, IsRightLetters, IsCastling, SpellsCastling, castling_text, target_rank, target_text, SpellsTarget, IsCounter, SpellsCounter};
 
 use crate::men::{Colour, Rights};
-use crate::squares::Square;
+use crate::squares::{Square, push_square};
 use arrayvec::ArrayString;
 use itoa::Buffer;
 
@@ -150,10 +150,7 @@ pub(crate) fn push_target(text: &mut ArrayString<96>, target: &Option<Square>)
 {
     match target {
         None => text.push('-'),
-        Some(square) => {
-            text.push((b'a' + square.file()) as char);
-            text.push((b'1' + square.rank()) as char);
-        }
+        Some(square) => push_square(text, *square),
     }
 }
 

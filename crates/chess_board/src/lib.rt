@@ -41,7 +41,7 @@ pub use make_move::after;
 pub use men::{Colour, Kind, Man, Rights, Wing};
 pub use moves::{Move, comes_before};
 pub use positions::{Position, is_same_position};
-pub use squares::Square;
+pub use squares::{Square, push_square};
 
 #[cfg(test)]
 mod board_tests;

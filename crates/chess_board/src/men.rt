@@ -1,8 +1,10 @@
 //! The men, their colours and kinds, and the castling rights.
 
-ghost use Rattle.std.specs.Prelude.{◌≡◌};
+ghost use Rattle.std.specs.Prelude.{◌≡◌, ◌≤◌};
+ghost use Rattle.chess_board.specs.Characters.{char};
 ghost use Rattle.chess_board.specs.Men.{other_side, has_right_of};
 ghost use Rattle.chess_board.specs.Men.{is_of as place_is_of, is_pawn as place_is_pawn};
+ghost use Rattle.chess_board.specs.Placement.{kind_letter};
 ghost use Rattle.chess_board.specs.inside.KindTests.{is_king_of as place_is_king_of, is_rook_of as place_is_rook_of, is_pawn_of as place_is_pawn_of};
 
 /// One of the two sides.
@@ -33,6 +35,23 @@ pub enum Kind {
     Rook,
     Queen,
     King,
+}
+
+impl Kind {
+    /// The kind's letter in English, a capital: `P`, `N`, `B`, `R`, `Q`, `K` (PGN Specification, section 8.2.3.2).
+    pub fn letter(self) -> u8
+        ensures letter { result ≡ kind_letter self }
+        ensures capital { (char "A" ≤ result) × (result ≤ char "Z") }
+    {
+        match self {
+            Kind::Pawn => b'P',
+            Kind::Knight => b'N',
+            Kind::Bishop => b'B',
+            Kind::Rook => b'R',
+            Kind::Queen => b'Q',
+            Kind::King => b'K',
+        }
+    }
 }
 
 /// A man of one side.

@@ -2,11 +2,10 @@
 
 ghost use Rattle.std.specs.Prelude.{◌≡◌, ◌↔◌, ◌+◌, ◌++◌, ◌<◌, ◌≤◌, IsTrue};
 ghost use Rattle.arrayvec.specs.ArrayString.{array_string_len};
-ghost use Rattle.chess_board.specs.Fields.{square_text};
 ghost use Rattle.chess_board.specs.Moves.{promotion_text, move_text, move_place};
 
 use crate::men::Kind;
-use crate::squares::Square;
+use crate::squares::{Square, push_square};
 use arrayvec::ArrayString;
 use std::marker::Model;
 
@@ -34,29 +33,13 @@ impl Model for Move {
     ghost inverse = { λ v. record { origin = v.origin; target = v.target; promotion = v.promotion } };
 }
 
-/// Writes a square: its file's letter and its rank's digit.
-fn push_square(text: &mut ArrayString<8>, square: Square)
-    requires { array_string_len text.old + 2 ≤ 8 }
-    ensures text { text.new.bytes ≡ text.old.bytes ++ square_text square }
-    ensures short { array_string_len text.new ≤ array_string_len text.old + 2 }
-{
-    text.push((b'a' + square.file()) as char);
-    text.push((b'1' + square.rank()) as char);
-}
-
 /// Writes what the pawn becomes by its small letter, or nothing.
 fn push_promotion(text: &mut ArrayString<8>, promotion: Option<Kind>)
     requires { array_string_len text.old < 8 }
     ensures { text.new.bytes ≡ text.old.bytes ++ promotion_text promotion }
 {
-    match promotion {
-        None => {}
-        Some(Kind::Pawn) => text.push('p'),
-        Some(Kind::Knight) => text.push('n'),
-        Some(Kind::Bishop) => text.push('b'),
-        Some(Kind::Rook) => text.push('r'),
-        Some(Kind::Queen) => text.push('q'),
-        Some(Kind::King) => text.push('k'),
+    if let Some(kind) = promotion {
+        text.push((kind.letter() + 32) as char);
     }
 }
 

@@ -3,7 +3,7 @@
 ghost use Rattle.std.specs.Prelude.{◌≡◌, ◌+◌, ◌*◌, ◌<◌, ◌≤◌, ◌++◌, List, Option, None, length, replicate, take, drop, IfSome, IfNone};
 ghost use Rattle.arrayvec.specs.ArrayString.{array_string_len};
 ghost use Rattle.arrayvec.specs.ArrayVec.{array_vec_len};
-ghost use Rattle.chess_board.specs.Placement.{kind_letter, man_letter, run_text, rank_text, placement_text, SpellsPlacement};
+ghost use Rattle.chess_board.specs.Placement.{man_letter, run_text, rank_text, placement_text, SpellsPlacement};
 ghost use Rattle.chess_board.specs.inside.RankReading.{kind_of_letter, man_of_letter, is_run_digit};
 ghost use Rattle.chess_board.specs.declared.men.Man.{Man};
 
@@ -96,28 +96,14 @@ fn rank_of_text(text: &[u8]) -> Option<ArrayVec<Option<Man>, 8>>
     if places.is_full() { Some(places) } else { None }
 }
 
-/// A kind's letter, as a capital.
-fn kind_letter(kind: Kind) -> u8
-    ensures { result ≡ kind_letter kind }
-{
-    match kind {
-        Kind::Pawn => b'P',
-        Kind::Knight => b'N',
-        Kind::Bishop => b'B',
-        Kind::Rook => b'R',
-        Kind::Queen => b'Q',
-        Kind::King => b'K',
-    }
-}
-
 /// A man's letter, a capital for White and a small one for Black.
 fn man_letter(man: Man) -> u8
     ensures letter { result ≡ man_letter man }
     ensures ascii { result < 128 }
 {
     match man.colour {
-        Colour::White => kind_letter(man.kind),
-        Colour::Black => kind_letter(man.kind) + 32,
+        Colour::White => man.kind.letter(),
+        Colour::Black => man.kind.letter() + 32,
     }
 }
 

@@ -1,8 +1,12 @@
-//! The squares of the board.
+//! The squares of the board, and how they are written.
 
-ghost use Rattle.std.specs.Prelude.{◌≡◌, ℕ, ◌+◌, ◌*◌, ◌/◌, ◌%◌, ◌<◌, ◌↔◌, IsSome, IfSome};
+ghost use Rattle.std.specs.Prelude.{◌≡◌, ℕ, ◌+◌, ◌*◌, ◌/◌, ◌%◌, ◌++◌, ◌<◌, ◌≤◌, ◌↔◌, IsSome, IfSome};
+ghost use Rattle.arrayvec.specs.ArrayString.{array_string_len};
+ghost use Rattle.chess_board.specs.Characters.{char};
 ghost use Rattle.chess_board.specs.Squares.{file_of, rank_of, file_gap, rank_gap, crossed};
+ghost use Rattle.chess_board.specs.Fields.{square_text};
 
+use arrayvec::ArrayString;
 use std::marker::Model;
 
 /// A square of the board, seen by its number: a1 is 0, b1 is 1, .. h1 is 7, a2 is 8, .. h8 is 63.
@@ -67,6 +71,32 @@ impl Square {
     {
         self.number / 8
     }
+
+    /// The letter of the file, from `a` to `h`.
+    pub fn file_letter(&self) -> u8
+        ensures letter { result ≡ char "a" + file_of self.now }
+        ensures on_board { result ≤ char "h" }
+    {
+        b'a' + self.file()
+    }
+
+    /// The digit of the rank, from `1` to `8`.
+    pub fn rank_digit(&self) -> u8
+        ensures digit { result ≡ char "1" + rank_of self.now }
+        ensures on_board { result ≤ char "8" }
+    {
+        b'1' + self.rank()
+    }
+}
+
+/// Writes a square: its file's letter and its rank's digit.
+pub fn push_square<const N: usize>(text: &mut ArrayString<N>, square: Square)
+    requires room { array_string_len text.old + 2 ≤ N }
+    ensures text { text.new.bytes ≡ text.old.bytes ++ square_text square }
+    ensures length { array_string_len text.new ≡ array_string_len text.old + 2 }
+{
+    text.push(square.file_letter() as char);
+    text.push(square.rank_digit() as char);
 }
 
 /// How many files lie from one square to the other.

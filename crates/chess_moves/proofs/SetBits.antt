@@ -2,35 +2,18 @@
 use Rattle.std.proofs.Common.{◌≡◌, ℕ, zero, suc, ◌-◌, ◌^◌, ◌<◌, min, max, not, ◌&&◌, ◌||◌, false, eqb, refl, arith, w64}
 use Rattle.std.specs.Int.{bit_at, bit_not}
 use Rattle.std.specs.Int.RustNames.{bit_and, bit_or}
+use Rattle.std.proofs.lemmas.Bool.Decides.{nat_tests}
 use Rattle.std.proofs.lemmas.Nat.Bits.{bit_at-zero, bit_at_and, bit_at_or, bit_at_not, bit_at-lt}
 use Rattle.square_sets.specs.Members.{has}
 
 and_test : (x y : ℕ) → x < 2 → y < 2 → eqb (min x y) 1 ≡ (eqb x 1 && eqb y 1)
-and_test zero zero h k = refl
-and_test zero (suc zero) h k = refl
-and_test zero (suc (suc y)) h k = absurd (omega arith)
-and_test (suc zero) zero h k = refl
-and_test (suc zero) (suc zero) h k = refl
-and_test (suc zero) (suc (suc y)) h k = absurd (omega arith)
-and_test (suc (suc x)) y h k = absurd (omega arith)
+and_test x y h k = grind (arith, nat_tests)
 
 or_test : (x y : ℕ) → x < 2 → y < 2 → eqb (max x y) 1 ≡ (eqb x 1 || eqb y 1)
-or_test zero zero h k = refl
-or_test zero (suc zero) h k = refl
-or_test zero (suc (suc y)) h k = absurd (omega arith)
-or_test (suc zero) zero h k = refl
-or_test (suc zero) (suc zero) h k = refl
-or_test (suc zero) (suc (suc y)) h k = absurd (omega arith)
-or_test (suc (suc x)) y h k = absurd (omega arith)
+or_test x y h k = grind (arith, nat_tests)
 
 less_test : (x y : ℕ) → x < 2 → y < 2 → eqb (min x (1 - y)) 1 ≡ (eqb x 1 && not (eqb y 1))
-less_test zero zero h k = refl
-less_test zero (suc zero) h k = refl
-less_test zero (suc (suc y)) h k = absurd (omega arith)
-less_test (suc zero) zero h k = refl
-less_test (suc zero) (suc zero) h k = refl
-less_test (suc zero) (suc (suc y)) h k = absurd (omega arith)
-less_test (suc (suc x)) y h k = absurd (omega arith)
+less_test x y h k = grind (arith, nat_tests)
 
 -- what is in both sets
 pub has_and : (a b t : ℕ) → has (bit_and a b) t ≡ (has a t && has b t)

@@ -74,7 +74,8 @@ fn check_and_pin_mask(rays: &Rays, info: &LegalityInfo, origin: u8) -> u64
     capture_or_block(rays, through, info.king)
 }
 
-/// The same: a man that stands on no square on which it can be pinned need only answer the checks that there are.
+/// The squares to which a man other than the king may go from its origin so that the king is safe afterwards. One that stands on no
+/// square on which it can be pinned need only answer the checks that there are.
 pub(crate) fn legal_mask(rays: &Rays, info: &LegalityInfo, origin: u8) -> u64
     requires { (info.now.king < 64) × (origin < 64) }
     ensures { (p : Setup) (man : ManValue) → IsLegalityInfoOf info.now p

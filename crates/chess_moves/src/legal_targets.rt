@@ -41,7 +41,7 @@ pub(crate) fn targets_from(
     }
 }
 
-/// The same, told at once for a knight, a bishop, a rook or a queen that cannot be pinned.
+/// The targets of the legal moves of a man of the side to move, told at once for a piece but the king that cannot be pinned.
 pub(crate) fn targets_at_once(
     rays: &Rays,
     position: &Position,
@@ -94,7 +94,7 @@ pub(crate) fn is_target(
     }
 }
 
-/// The same for a knight, a bishop, a rook or a queen.
+/// The targets of the legal moves of a knight, a bishop, a rook or a queen.
 fn targets_of_piece(
     rays: &Rays,
     position: &Position,
@@ -114,7 +114,7 @@ fn targets_of_piece(
     piece_targets(rays, position, info, man, origin) & allowed
 }
 
-/// The same for a pawn.
+/// The targets of a pawn's legal moves.
 fn targets_of_pawn(
     rays: &Rays,
     position: &Position,

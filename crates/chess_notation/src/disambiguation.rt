@@ -6,9 +6,8 @@ ghost use Rattle.chess_board.specs.Squares.{file_of, rank_of};
 ghost use Rattle.chess_moves.specs.inside.Listing.{legal_moves};
 ghost use Rattle.chess_notation.specs.Disambiguation.{is_such as is_such_in, is_rival as is_rival_in, some_rival, origin_text};
 
-use crate::san_parts::{push_file, push_rank, push_square};
 use arrayvec::ArrayString;
-use chess_board::{Man, Move, Position, Square};
+use chess_board::{Man, Move, Position, Square, push_square};
 
 /// Where the rivals of a man stand.
 #[derive(Clone, Copy)]
@@ -68,9 +67,9 @@ pub(crate) fn push_disambiguation(text: &mut ArrayString<8>, rivals: Rivals, ori
 {
     if rivals.some {
         if !rivals.on_file {
-            push_file(text, origin);
+            text.push(origin.file_letter() as char);
         } else if !rivals.on_rank {
-            push_rank(text, origin);
+            text.push(origin.rank_digit() as char);
         } else {
             push_square(text, origin);
         }

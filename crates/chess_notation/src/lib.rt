@@ -1,7 +1,7 @@
 //! The notations of chess: how a move is written (SAN), what a line of EPD asks, and how it is answered.
 //!
 //! Which moves are legal is `chess_moves`'s business, and solving is none of this crate's. To read: `specs/SanText.antt` and `san_text`,
-//! over `disambiguation` and `san_parts`; `problems`; then `specs/Records.antt`, `records` and `record_reading`, over `epd_faults` (the
+//! over `disambiguation`; `problems`; then `specs/Records.antt`, `records` and `record_reading`, over `epd_faults` (the
 //! faults of a line, in their order), `words`, `record_fields`, `segments` (operations cut at their semicolons), `quoting`, `opcodes`,
 //! `problem_operations` (what `dm` and `am` ask), `avoid_moves` and `operations`; at last `specs/Answers.antt` and `answers`. `san_laws` and
 //! `record_laws` say what holds of them. Only `read_record` and `answer_text` take memory.
@@ -22,7 +22,6 @@ mod record_laws;
 mod record_reading;
 mod records;
 mod san_laws;
-mod san_parts;
 mod san_text;
 mod segments;
 mod words;

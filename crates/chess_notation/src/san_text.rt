@@ -3,12 +3,13 @@
 ghost use Rattle.std.specs.Prelude.{◌≡◌, ◌+◌, ◌++◌, ◌<◌, ◌≤◌, true};
 ghost use Rattle.arrayvec.specs.ArrayString.{array_string_len};
 ghost use Rattle.chess_board.specs.Legality.{is_legal};
-ghost use Rattle.chess_notation.specs.SanText.{is_capture as is_capture_in, pawn_text, piece_text, wing_text, bare_text, suffix_text, san_text};
+ghost use Rattle.chess_notation.specs.SanText.{is_capture as is_capture_in, becomes_text, pawn_text, piece_text, wing_text, bare_text, suffix_text, san_text};
 
 use crate::disambiguation::{push_disambiguation, rivals_among};
-use crate::san_parts::{push_file, push_letter, push_promotion, push_square};
 use arrayvec::ArrayString;
-use chess_board::{Kind, Man, Move, Position, Wing, after, is_castling, is_en_passant, wing_of};
+use chess_board::{
+    Kind, Man, Move, Position, Wing, after, is_castling, is_en_passant, push_square, wing_of,
+};
 use chess_moves::{Rays, Verdict, legal, verdict};
 
 /// Whether the move captures: a man on its target, or a pawn en passant.
@@ -18,6 +19,18 @@ fn is_capture(position: &Position, man: Man, m: Move) -> bool
     position.man(m.target).is_some() || is_en_passant(position, man, m)
 }
 
+/// Writes what a pawn becomes, or nothing.
+fn push_promotion(text: &mut ArrayString<8>, promotion: Option<Kind>)
+    requires { array_string_len text.old + 2 ≤ 8 }
+    ensures text { text.new.bytes ≡ text.old.bytes ++ becomes_text promotion }
+    ensures short { array_string_len text.new ≤ array_string_len text.old + 2 }
+{
+    if let Some(kind) = promotion {
+        text.push('=');
+        text.push(kind.letter() as char);
+    }
+}
+
 /// Writes a pawn's move. Its capture begins with the file that it leaves.
 fn push_pawn(text: &mut ArrayString<8>, position: &Position, man: Man, m: Move)
     requires { array_string_len text.old + 6 ≤ 8 }
@@ -25,7 +38,7 @@ fn push_pawn(text: &mut ArrayString<8>, position: &Position, man: Man, m: Move)
     ensures short { array_string_len text.new ≤ array_string_len text.old + 6 }
 {
     if is_capture(position, man, m) {
-        push_file(text, m.origin);
+        text.push(m.origin.file_letter() as char);
         text.push('x');
     }
     push_square(text, m.target);
@@ -51,7 +64,7 @@ fn push_piece(text: &mut ArrayString<8>, rays: &Rays, position: &Position, man: 
     ensures short { array_string_len text.new ≤ array_string_len text.old + 6 }
 {
     let moves = legal(rays, position);
-    push_letter(text, man.kind);
+    text.push(man.kind.letter() as char);
     push_disambiguation(
         text,
         rivals_among(moves.as_slice(), position, man, m),
