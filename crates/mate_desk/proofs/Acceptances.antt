@@ -1,5 +1,5 @@
 -- A record is accepted from a submitter.
-use Rattle.std.proofs.Common.{◌≡◌, ◌≢◌, ℕ, zero, suc, ◌+◌, ◌<◌, ◌≤◌, List, [], ◌∷◌, ◌++◌, length, map, take, drop, slice_get, Bool, true, false, ap, refl, sym, ◌∙◌, subst, arith, Some, ◌||◌, ◌&&◌, if◌then◌else◌, ◌==◌, length-append}
+use Rattle.std.proofs.Common.{◌≡◌, ℕ, zero, suc, ◌+◌, ◌<◌, ◌≤◌, List, [], ◌∷◌, ◌++◌, length, take, drop, Bool, true, false, ap, refl, sym, ◌∙◌, subst, arith, ◌||◌, if◌then◌else◌, ◌==◌, length-append}
 use Rattle.std.specs.List.{list_any}
 use Rattle.std.proofs.lemmas.Bool.Decides.{nat_tests}
 use Rattle.std.proofs.lemmas.List.{drop-append-le, take-append-le, length-drop}
@@ -8,8 +8,8 @@ use Rattle.chess_notation.specs.Records.{RecordValue, Reads}
 use Rattle.mate_desk.specs.Content.{Content, EntryValue, QueueValue, Phase, Waiting, is_out_with}
 use Rattle.mate_search.specs.Jobs.{Task}
 use Rattle.mate_desk.specs.Calls.{change_at, with_entry, has_out}
-use Rattle.mate_desk.specs.History.{Claim, Parcel, Answered, Noticed}
-use Rattle.mate_desk.specs.Headline.{AreForFirst, IsFor}
+use Rattle.mate_desk.specs.History.{Claim, Parcel}
+use Rattle.mate_desk.specs.Headline.{AreForFirst}
 use Rattle.mate_desk.specs.inside.Mirrors.{entry_at, entries_from, queue_with, AreClaimsBelow, AreRead, are_settled, Sound}
 use Rattle.mate_desk.proofs.PhaseChanges.{but, any_queues}
 

@@ -1,5 +1,5 @@
 -- Where a run begins, how its history grows, and that there is room for the jobs in hand.
-use Rattle.std.proofs.Common.{◌≡◌, ◌≢◌, ◌∙◌, ◌+◌, ◌*◌, ◌-◌, ◌<◌, ◌≤◌, ℕ, zero, suc, sym, ap, refl, subst, Some, None, Option, List, [], ◌∷◌, ◌++◌, arith, length, length-append, map, flat_map, slice_get, get_or, take, replicate, Bool, true, false, ◌||◌, ◌==◌, nat_lt, if◌then◌else◌, add-one}
+use Rattle.std.proofs.Common.{◌≡◌, ◌≢◌, ◌∙◌, ◌+◌, ◌*◌, ◌<◌, ◌≤◌, ℕ, zero, suc, sym, ap, refl, subst, Some, None, Option, List, [], ◌∷◌, ◌++◌, arith, length, length-append, map, flat_map, get_or, take, replicate, Bool, true, false, ◌||◌, ◌==◌, nat_lt, if◌then◌else◌, add-one}
 use Rattle.std.specs.List.{list_any}
 use Rattle.std.proofs.lemmas.List.{length-map}
 use Rattle.std.proofs.lemmas.Bool.Decides.{nat_tests}
@@ -9,7 +9,7 @@ use Rattle.mate_desk.specs.Content.{Content, EntryValue, QueueValue, entries, lo
 use Rattle.mate_desk.specs.Calls.{empty, has_out}
 use Rattle.mate_desk.specs.declared.steps_and_replies.Step.{Step}
 use Rattle.mate_desk.specs.declared.steps_and_replies.Reply.{Reply}
-use Rattle.mate_desk.specs.History.{History, past_onto, accepted, delivered, pending, phase}
+use Rattle.mate_desk.specs.History.{History, past_onto, pending, phase}
 use Rattle.mate_desk.specs.Replies.{from, AreReplies}
 use Rattle.mate_desk.specs.inside.Mirrors.{queue_of, AreApart, MirrorsBy}
 use Rattle.mate_desk.proofs.Hands.{AreFound, found_few, jobs_found, not_among}

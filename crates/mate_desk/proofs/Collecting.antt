@@ -14,11 +14,11 @@ use Rattle.mate_desk.specs.inside.Stepping.{found_reply}
 use Rattle.mate_desk.specs.declared.steps_and_replies.Reply.{Reply}
 use Rattle.mate_desk.specs.declared.steps_and_replies.Step.TheVariants as step
 use Rattle.mate_desk.specs.declared.steps_and_replies.Reply.TheVariants as reply
-use Rattle.mate_desk.proofs.Each.{change_from, get_out}
+use Rattle.mate_desk.proofs.Each.{change_from}
 use Rattle.mate_desk.proofs.Hands.{out_kept}
 use Rattle.mate_desk.proofs.Leaving.{and_fixed}
 use Rattle.mate_desk.proofs.Acceptances.{out_change}
-use Rattle.mate_desk.proofs.Submissions.{queue_known, queue_unknown}
+use Rattle.mate_desk.proofs.Submissions.{queue_known}
 use Rattle.mate_desk.proofs.Handovers.{pending_some, pending_none, read_at, sound_delivered, queues_delivered, out_collected}
 use Rattle.mate_desk.proofs.Steps.{stays_queue}
 

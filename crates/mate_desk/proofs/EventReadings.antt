@@ -1,5 +1,5 @@
 -- Whether something happened in a history, and what was said last.
-use Rattle.std.proofs.Common.{◌≡◌, ◌≢◌, ◌⊎◌, ◌↔◌, ◌+◌, ℕ, suc, ap, refl, sym, ◌∙◌, subst, arith, List, [], ◌∷◌, ◌++◌, filter, cond, not, Bool, true, false, ◌||◌, ◌&&◌, if◌then◌else◌, ◌==◌, inl, inr, Contains, count_by, add-one}
+use Rattle.std.proofs.Common.{◌≡◌, ◌≢◌, ◌⊎◌, ◌+◌, ℕ, ap, refl, sym, ◌∙◌, arith, [], ◌∷◌, ◌++◌, cond, Bool, true, false, ◌||◌, ◌&&◌, if◌then◌else◌, ◌==◌, inl, inr}
 use Rattle.std.specs.List.{list_any}
 use Rattle.std.proofs.lemmas.Bool.Decides.{nat_tests}
 use Rattle.std.proofs.lemmas.List.Recursion.{is_count_by}

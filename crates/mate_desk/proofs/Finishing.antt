@@ -1,8 +1,8 @@
 -- How many of the pending records are finished, as the calls change them.
-use Rattle.std.proofs.Common.{◌≡◌, ℕ, zero, suc, ◌+◌, ◌-◌, ◌<◌, ◌≤◌, List, [], ◌∷◌, ◌++◌, map, drop, slice_get, Bool, true, false, not, refl, arith, Option, None, Some, count_by, nat_lt, if◌then◌else◌}
+use Rattle.std.proofs.Common.{◌≡◌, ℕ, zero, suc, ◌+◌, ◌-◌, ◌<◌, ◌≤◌, List, [], ◌∷◌, map, slice_get, Bool, true, false, refl, arith, Option, None, Some, count_by, nat_lt, if◌then◌else◌}
 use Rattle.chess_notation.specs.Records.{RecordValue}
-use Rattle.mate_desk.specs.Content.{Content, EntryValue, QueueValue, Phase, Waiting, Finished, is_finished, is_out, is_ready, has_ticket}
-use Rattle.mate_desk.specs.Calls.{change_at, everywhere, in_queue, into_phase, with_entry, withdrawn, withdrawn_at, collected, collected_by, ready, ready_first, ready_of, after_submit, after_withdraw, after_collect}
+use Rattle.mate_desk.specs.Content.{Content, EntryValue, QueueValue, Phase, Waiting, Finished, is_finished, is_ready, has_ticket}
+use Rattle.mate_desk.specs.Calls.{change_at, everywhere, in_queue, into_phase, with_entry, withdrawn, withdrawn_at, collected, ready, ready_first, ready_of, after_submit, after_withdraw, after_collect}
 use Rattle.mate_desk.specs.Deliveries.{delivery}
 use Rattle.mate_desk.specs.Laws.{AreDistinct}
 use Rattle.mate_desk.specs.inside.Stepping.{answers, found_reply, is_done, count_done}

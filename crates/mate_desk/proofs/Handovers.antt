@@ -1,11 +1,11 @@
 -- The first pending record of a queue, and what becomes of the queue where it is collected.
-use Rattle.std.proofs.Common.{◌≡◌, ◌≢◌, ℕ, zero, suc, ◌+◌, ◌<◌, ◌≤◌, List, [], ◌∷◌, ◌++◌, length, map, take, drop, slice_get, Bool, true, false, not, ap, refl, sym, ◌∙◌, subst, arith, None, Some, Option, ◌||◌, ◌&&◌, if◌then◌else◌, ◌==◌, add-one, length-append}
+use Rattle.std.proofs.Common.{◌≡◌, ◌≢◌, ℕ, zero, suc, ◌+◌, ◌<◌, ◌≤◌, List, [], ◌∷◌, ◌++◌, length, map, take, drop, slice_get, Bool, true, false, not, ap, refl, sym, ◌∙◌, subst, arith, None, Some, ◌||◌, if◌then◌else◌, ◌==◌, add-one, length-append}
 use Rattle.std.specs.List.{list_any}
 use Rattle.std.proofs.lemmas.Bool.Decides.{nat_tests}
 use Rattle.chess_notation.specs.Records.{RecordValue, Reads}
 use Rattle.mate_search.specs.Jobs.{Task}
 use Rattle.mate_desk.specs.Content.{EntryValue, QueueValue, Phase, Waiting, Out, Finished, is_out, is_finished, is_ready, is_out_with}
-use Rattle.mate_desk.specs.Calls.{change_at, ready_first, collected, collected_by}
+use Rattle.mate_desk.specs.Calls.{change_at, collected, collected_by}
 use Rattle.mate_desk.specs.History.{History, Claim, Parcel, accepted, delivered, phase, withdrawn, is_notice}
 use Rattle.mate_desk.specs.Headline.{AreForFirst, IsFor}
 use Rattle.mate_desk.specs.Replies.{from}

@@ -1,8 +1,7 @@
 -- Lists that grow with a history, and what stands in them.
 use Rattle.std.specs.declared.alloc.Global.{Global}
-use Rattle.std.proofs.Common.{◌≡◌, ◌≢◌, ◌⊎◌, ◌↔◌, ◌+◌, ◌<◌, ◌≤◌, ℕ, Vec, zero, suc, ap, refl, sym, ◌∙◌, subst, arith, List, [], ◌∷◌, ◌++◌, length, length-append, slice_get, Option, None, Some, Bool, true, false, if◌then◌else◌, ◌==◌, inl, inr}
+use Rattle.std.proofs.Common.{◌≡◌, ◌⊎◌, ℕ, Vec, zero, suc, ap, refl, sym, ◌∙◌, subst, arith, List, [], ◌∷◌, ◌++◌, length, slice_get, Some, true, false, if◌then◌else◌, ◌==◌, inl, inr}
 use Rattle.std.proofs.lemmas.Bool.Decides.{nat_tests}
-use Rattle.chess_notation.specs.Records.{RecordValue}
 use Rattle.mate_desk.specs.declared.steps_and_replies.Step.{Step}
 use Rattle.mate_desk.specs.declared.steps_and_replies.Step.TheVariants as step
 use Rattle.mate_desk.specs.declared.steps_and_replies.Reply.{Reply}

@@ -1,10 +1,10 @@
 -- Jobs are taken into the hand, and leave it.
-use Rattle.std.proofs.Common.{◌≡◌, ◌≢◌, ℕ, ◌+◌, ◌≤◌, ◌==◌, List, [], ◌∷◌, ◌++◌, length, map, slice_get, Bool, true, false, ap, refl, sym, ◌∙◌, subst, arith, None, Some}
-use Rattle.std.specs.List.{remove, list_any}
+use Rattle.std.proofs.Common.{◌≡◌, ◌≢◌, ℕ, ◌≤◌, List, [], ◌∷◌, ◌++◌, length, map, slice_get, true, false, ap, refl, sym, ◌∙◌, subst, None, Some}
+use Rattle.std.specs.List.{remove}
 use Rattle.std.proofs.lemmas.List.{map-append}
 use Rattle.chess_notation.specs.Records.{RecordValue}
 use Rattle.mate_search.specs.Jobs.{Task}
-use Rattle.mate_desk.specs.Content.{Content, Phase, Waiting, Out, Finished, is_waiting, is_out, entries, lowest, has_ticket}
+use Rattle.mate_desk.specs.Content.{Content, Waiting, Out, Finished, is_waiting, is_out, entries, lowest, has_ticket}
 use Rattle.mate_desk.specs.Calls.{into_phase, in_queue, everywhere, has_out, after_close}
 use Rattle.mate_desk.specs.History.{History, accepted, delivered, phase, withdrawn, hand, count_accepted, without}
 use Rattle.mate_desk.specs.Replies.{take_reply, finish_reply, back_reply, IsReplyTo, AreReplies}

@@ -1,12 +1,12 @@
 -- How accepted records stand when a ticket comes into another phase.
-use Rattle.std.proofs.Common.{◌≡◌, ◌≢◌, ℕ, ◌+◌, List, [], ◌∷◌, ◌++◌, length, map, flat_map, take, drop, Bool, true, false, ap, refl, sym, ◌∙◌, subst, arith, ◌||◌, ◌&&◌, if◌then◌else◌, ◌==◌}
+use Rattle.std.proofs.Common.{◌≡◌, ◌≢◌, ℕ, ◌+◌, List, [], ◌∷◌, ◌++◌, length, map, flat_map, take, drop, Bool, true, false, ap, refl, sym, ◌∙◌, arith, ◌||◌, ◌&&◌, if◌then◌else◌, ◌==◌}
 use Rattle.std.specs.List.{list_any}
 use Rattle.std.proofs.lemmas.Bool.Decides.{nat_tests}
 use Rattle.std.proofs.lemmas.List.{map-append}
 use Rattle.std.proofs.lemmas.List.Folds.{list_any-append}
 use Rattle.chess_notation.specs.Records.{RecordValue}
 use Rattle.mate_search.specs.Jobs.{Task}
-use Rattle.mate_desk.specs.Content.{Content, EntryValue, QueueValue, Phase, Waiting, Out, Finished, is_waiting, is_out, is_finished, is_out_with, has_ticket, has_task}
+use Rattle.mate_desk.specs.Content.{Content, EntryValue, QueueValue, Phase, Waiting, Out, Finished, is_waiting, is_out, is_finished, is_out_with, has_ticket}
 use Rattle.mate_desk.specs.Calls.{into_phase, in_queue, everywhere, has_out}
 use Rattle.mate_desk.specs.History.{Claim, Parcel}
 use Rattle.mate_desk.specs.inside.Mirrors.{entry_at, entries_from, queue_with, are_settled, Sound}

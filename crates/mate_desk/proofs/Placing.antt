@@ -1,7 +1,6 @@
 -- That there is a place for each answer: how many places are left, and how many answers may still come.
 use Rattle.std.proofs.Common.{◌≡◌, ◌⊎◌, inl, inr, ℕ, zero, suc, ◌+◌, ◌<◌, ◌≤◌, List, [], ◌∷◌, length, drop, get_or, replicate, Bool, true, cond, count_by, ap, refl, ◌∙◌, arith, add-one}
 use Rattle.std.proofs.lemmas.List.Sums.{sum_by-cons}
-use Rattle.mate_desk.specs.Content.{QueueValue}
 use Rattle.mate_desk.specs.Calls.{empty}
 use Rattle.mate_desk.specs.declared.steps_and_replies.Step.{Step}
 use Rattle.mate_desk.specs.inside.Stepping.{collects, finishes, is_done, count_done}

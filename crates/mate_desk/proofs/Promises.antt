@@ -1,5 +1,5 @@
 -- A desk that is what its history says keeps what the headline promises.
-use Rattle.std.proofs.Common.{◌≡◌, ◌≢◌, ◌⊎◌, ◌∙◌, ◌+◌, ◌<◌, ◌≤◌, ℕ, zero, suc, sym, ap, refl, subst, Some, None, Option, List, [], ◌∷◌, arith, length, take, slice_get, Bool, true, false, ◌&&◌, ◌==◌, inl, inr, nat_le, nat_lt, if◌then◌else◌}
+use Rattle.std.proofs.Common.{◌≡◌, ◌∙◌, ◌+◌, ◌<◌, ◌≤◌, ℕ, zero, suc, sym, ap, refl, Some, None, Option, List, [], ◌∷◌, arith, length, take, slice_get, Bool, true, false, ◌==◌, inl, inr, nat_le, nat_lt, if◌then◌else◌}
 use Rattle.std.specs.List.{list_all}
 use Rattle.std.proofs.lemmas.Bool.Decides.{nat_tests}
 use Rattle.chess_notation.specs.Records.{RecordValue}
@@ -10,8 +10,8 @@ use Rattle.mate_desk.specs.declared.steps_and_replies.Step.{Step}
 use Rattle.mate_desk.specs.declared.steps_and_replies.Reply.{Reply}
 use Rattle.mate_desk.specs.declared.steps_and_replies.Step.TheVariants as step
 use Rattle.mate_desk.specs.declared.steps_and_replies.Reply.TheVariants as reply
-use Rattle.mate_desk.specs.History.{History, Event, past_onto, Claim, Parcel, accepted, delivered, count_accepted, closed, pending, phase, withdrawn, hand, is_ticket, is_notice}
-use Rattle.mate_desk.specs.Replies.{from, drained, AreReplies, IsReplyTo, IsSubmitReply, IsOwed, IsFirstOwed, IsCollectReplyBy, submit_reply, take_reply, finish_reply, back_reply, withdraw_reply}
+use Rattle.mate_desk.specs.History.{History, Event, past_onto, Claim, Parcel, accepted, delivered, closed, pending, phase, withdrawn, hand, is_ticket, is_notice}
+use Rattle.mate_desk.specs.Replies.{from, AreReplies, IsReplyTo, IsSubmitReply, IsOwed, IsFirstOwed, IsCollectReplyBy, submit_reply, take_reply, finish_reply, back_reply, withdraw_reply}
 use Rattle.mate_desk.specs.Headline.{DeliversInOrder, GivesNoticeOfWithdrawn, DeliversAllOnceDrained, AcceptsNoneAfterClose}
 use Rattle.mate_desk.specs.inside.Mirrors.{MirrorsBy, AreNoticesMarked, AtEachMoment}
 use Rattle.mate_desk.proofs.PhaseChanges.{both_of}

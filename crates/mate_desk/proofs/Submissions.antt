@@ -1,6 +1,6 @@
 -- A line is handed in.
 use Rattle.std.specs.declared.alloc.Global.{Global}
-use Rattle.std.proofs.Common.{◌≡◌, ◌≢◌, ◌⊎◌, ℕ, Vec, zero, suc, ◌+◌, ◌-◌, ◌^◌, ◌<◌, ◌≤◌, List, [], ◌∷◌, ◌++◌, length, length-drop, map, drop, slice_get, Bool, true, false, nat_le, ap, refl, sym, ◌∙◌, subst, arith, None, Some, Option, if◌then◌else◌, ◌==◌, inl, inr}
+use Rattle.std.proofs.Common.{◌≡◌, ◌≢◌, ◌⊎◌, ℕ, Vec, suc, ◌+◌, ◌-◌, ◌^◌, ◌<◌, ◌≤◌, List, [], ◌∷◌, ◌++◌, length, length-drop, map, drop, slice_get, Bool, true, false, nat_le, ap, refl, sym, ◌∙◌, subst, arith, None, Some, Option, if◌then◌else◌, ◌==◌, inl, inr}
 use Rattle.std.proofs.lemmas.Bool.Decides.{nat_tests}
 use Rattle.chess_notation.specs.Records.{RecordValue, Reads}
 use Rattle.chess_notation.specs.EpdFaults.{IsFaultOf}
@@ -11,10 +11,9 @@ use Rattle.mate_desk.specs.Content.{Content, QueueValue, Phase, Waiting, is_out_
 use Rattle.mate_desk.specs.Calls.{change_at, with_entry, after_submit, submit_refusal}
 use Rattle.mate_desk.specs.declared.refusals.SubmitRefusal.{SubmitRefusal}
 use Rattle.mate_desk.specs.declared.refusals.SubmitRefusal.TheVariants as refused
-use Rattle.mate_desk.specs.History.{History, Claim, Parcel, accepted, delivered, phase, withdrawn, hand, count_accepted, closed, pending}
-use Rattle.mate_desk.specs.Replies.{from, submit_reply, IsSubmitReply, IsReplyTo}
-use Rattle.mate_desk.specs.inside.Mirrors.{entries_from, queue_with, queue_of, Sound, MirrorsBy, Mirrors, Makes}
-use Rattle.mate_desk.specs.declared.steps_and_replies.Step.{Step}
+use Rattle.mate_desk.specs.History.{History, Claim, accepted, delivered, phase, withdrawn, count_accepted, closed, pending}
+use Rattle.mate_desk.specs.Replies.{from, submit_reply, IsSubmitReply}
+use Rattle.mate_desk.specs.inside.Mirrors.{entries_from, queue_of, Sound, MirrorsBy, Mirrors, Makes}
 use Rattle.mate_desk.specs.declared.steps_and_replies.Reply.{Reply}
 use Rattle.mate_desk.specs.declared.steps_and_replies.Step.TheVariants as step
 use Rattle.mate_desk.specs.declared.steps_and_replies.Reply.TheVariants as reply

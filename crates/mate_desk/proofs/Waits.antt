@@ -1,14 +1,13 @@
 -- What waits at a desk is what waits by its history.
-use Rattle.std.proofs.Common.{◌≡◌, ℕ, zero, suc, ◌+◌, List, [], ◌∷◌, ◌++◌, length, map, flat_map, take, drop, Bool, true, false, not, ap, refl, sym, ◌∙◌, subst, arith, None, Some, Option, nat_lt, ◌||◌, ◌&&◌, if◌then◌else◌, append_assoc}
-use Rattle.std.proofs.lemmas.Bool.Decides.{nat_tests}
+use Rattle.std.proofs.Common.{◌≡◌, ℕ, zero, suc, ◌+◌, List, [], ◌∷◌, ◌++◌, length, map, flat_map, take, drop, Bool, true, false, not, ap, refl, sym, ◌∙◌, subst, arith, None, Some, Option, nat_lt, ◌||◌, ◌&&◌, if◌then◌else◌}
 use Rattle.std.specs.List.{list_any}
 use Rattle.chess_notation.specs.Records.{RecordValue}
 use Rattle.mate_search.specs.Jobs.{Task}
-use Rattle.mate_desk.specs.Content.{Content, EntryValue, QueueValue, Phase, Waiting, Out, Finished, is_waiting, is_finished, is_out, is_out_with, waits, lower, lowest, entries, has_ticket}
+use Rattle.mate_desk.specs.Content.{Content, EntryValue, QueueValue, Phase, Waiting, Out, Finished, is_waiting, is_finished, is_out, is_out_with, waits, lower, lowest, entries}
 use Rattle.mate_desk.specs.Calls.{has_out}
 use Rattle.mate_desk.specs.History.{History, Claim, accepted, delivered, phase, withdrawn, count_accepted}
 use Rattle.mate_desk.specs.Replies.{from, waiting_among, waiting, least}
-use Rattle.mate_desk.specs.inside.Mirrors.{entry_at, entries_from, queue_of, are_settled, Sound, MirrorsBy}
+use Rattle.mate_desk.specs.inside.Mirrors.{entries_from, queue_of, are_settled, Sound, MirrorsBy}
 use Rattle.mate_desk.proofs.PhaseChanges.{both_of, any_out, any_queues}
 use Rattle.mate_desk.proofs.Each.{any_from}
 

@@ -1,12 +1,12 @@
 -- A record is withdrawn.
-use Rattle.std.proofs.Common.{◌≡◌, ◌≢◌, ℕ, zero, suc, ◌+◌, ◌-◌, ◌<◌, ◌≤◌, List, [], ◌∷◌, ◌++◌, length, map, take, drop, slice_get, Bool, true, false, not, ap, refl, sym, ◌∙◌, subst, arith, None, Some, Option, nat_lt, nat_le, ◌||◌, ◌&&◌, if◌then◌else◌, ◌==◌}
+use Rattle.std.proofs.Common.{◌≡◌, ◌≢◌, ℕ, zero, suc, ◌+◌, ◌-◌, ◌<◌, ◌≤◌, List, [], ◌∷◌, length, map, take, drop, slice_get, Bool, true, false, ap, refl, sym, ◌∙◌, subst, arith, None, Some, Option, nat_lt, nat_le, ◌||◌, ◌&&◌, if◌then◌else◌, ◌==◌}
 use Rattle.std.specs.List.{list_any}
 use Rattle.std.specs.Option.{option_map}
 use Rattle.std.proofs.lemmas.Bool.Decides.{nat_tests}
 use Rattle.chess_notation.specs.Records.{RecordValue}
 use Rattle.mate_search.specs.Jobs.{Task}
 use Rattle.mate_desk.specs.Content.{Content, EntryValue, QueueValue, Phase, is_out_with, is_finished}
-use Rattle.mate_desk.specs.Calls.{change_at, with_queue, withdrawn as mark, withdrawn_at, after_withdraw, withdraw_refusal, withdraw_refusal_of, withdraw_refusal_by}
+use Rattle.mate_desk.specs.Calls.{change_at, withdrawn as mark, withdrawn_at, after_withdraw, withdraw_refusal, withdraw_refusal_of, withdraw_refusal_by}
 use Rattle.mate_desk.specs.declared.refusals.WithdrawRefusal.{WithdrawRefusal}
 use Rattle.mate_desk.specs.declared.refusals.WithdrawRefusal.TheVariants as kept
 use Rattle.mate_desk.specs.History.{History, Claim, Parcel, accepted, delivered, phase, withdrawn, count_accepted, is_notice}

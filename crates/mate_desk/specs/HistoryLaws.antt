@@ -1,9 +1,9 @@
 -- What the readings of a history are meant to say.
-use Rattle.std.specs.Prelude.{◌≡◌, ◌↔◌, ℕ, Vec, true, false, List, [], ◌∷◌, ◌++◌, length, count_by, slice_get, Some, Contains, Bool, ◌==◌}
+use Rattle.std.specs.Prelude.{◌≡◌, ◌↔◌, ℕ, Vec, true, false, ◌∷◌, ◌++◌, length, count_by, slice_get, Some, Bool, ◌==◌}
 use Rattle.std.specs.List.{list_any}
 use Rattle.std.specs.declared.alloc.Global.{Global}
 use Rattle.chess_notation.specs.Records.{RecordValue}
-use Rattle.mate_desk.specs.Content.{Phase, Waiting, Out, Finished}
+use Rattle.mate_desk.specs.Content.{Out, Finished}
 use Rattle.mate_desk.specs.declared.steps_and_replies.Step.{Step}
 use Rattle.mate_desk.specs.declared.steps_and_replies.Step.TheVariants as step
 use Rattle.mate_desk.specs.declared.steps_and_replies.Reply.{Reply}

@@ -1,5 +1,5 @@
 -- Not for believing: the content of a desk, and the jobs in hand, are what the history says. No contract of a public call rests on it.
-use Rattle.std.specs.Prelude.{◌≡◌, ℕ, ◌+◌, ◌<◌, ◌≤◌, ◌==◌, Bool, true, false, ◌||◌, ◌&&◌, List, [], ◌∷◌, length, map, take, drop, slice_get, Some}
+use Rattle.std.specs.Prelude.{◌≡◌, ℕ, ◌+◌, ◌<◌, ◌≤◌, ◌==◌, Bool, true, false, ◌||◌, ◌&&◌, List, [], ◌∷◌, length, map, take, drop}
 use Rattle.std.specs.List.{list_any}
 use Rattle.chess_notation.specs.Records.{RecordValue, Reads}
 use Rattle.mate_search.specs.Jobs.{Task}

@@ -1,11 +1,10 @@
-use Rattle.std.proofs.Common.{◌≡◌, ◌≢◌, ◌⊎◌, ◌∙◌, ◌+◌, ◌*◌, ◌<◌, ◌≤◌, ap, sym, subst, inl, inr, refl, List, ◌∷◌, [], arith, length, take, get_or, rules, ℕ, length-append, vec_len, vec_capacity, None, true, false, min, nat_le, count_by}
+use Rattle.std.proofs.Common.{◌≡◌, ◌⊎◌, ◌∙◌, ◌+◌, ◌*◌, ◌<◌, ◌≤◌, ap, sym, subst, inl, inr, refl, List, ◌∷◌, [], arith, length, take, get_or, rules, ℕ, length-append, vec_len, vec_capacity, true, false, min, nat_le, count_by}
 use Rattle.std.proofs.Math.Nat.{min-eq_left, min-eq_right}
 use Rattle.std.proofs.lemmas.Bool.Decides.{nat_tests}
-use Rattle.std.proofs.lemmas.List.{get_or_default, take_all}
+use Rattle.std.proofs.lemmas.List.{take_all}
 use Rattle.mate_search.specs.Jobs.{Task}
 use Rattle.mate_desk.specs.Content.{Content}
 use Rattle.mate_desk.specs.declared.steps_and_replies.Step.{Step}
-use Rattle.mate_desk.specs.declared.steps_and_replies.Step.TheVariants.{Take}
 use Rattle.mate_desk.specs.History.{past, History}
 use Rattle.mate_desk.specs.Replies.{AreReplies}
 use Rattle.mate_desk.specs.Headline.{DeliversInOrder, GivesNoticeOfWithdrawn, DeliversAllOnceDrained, AfterEachPrefix}
@@ -14,7 +13,7 @@ use Rattle.mate_desk.proofs.Promises.{in_order, notices, all_delivered, none_aft
 use Rattle.mate_desk.proofs.Beginnings.{start, past_more, hand_fits}
 use Rattle.mate_desk.specs.Holding.{nothing}
 use Rattle.mate_desk.specs.inside.Stepping.{collects, finishes, count_done, answers}
-use Rattle.mate_desk.proofs.Placing.{HasPlaces, none_done, place_there, places_left}
+use Rattle.mate_desk.proofs.Placing.{none_done, place_there, places_left}
 use Rattle.mate_desk.proofs.runs.run.Goals as goal
 
 -- Room for the less of two is room for one of them.

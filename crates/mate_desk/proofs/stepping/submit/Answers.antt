@@ -1,4 +1,4 @@
-use Rattle.std.proofs.Common.{List, [], ℕ, ◌⊎◌, ◌≡◌, ◌≢◌, subst, arith}
+use Rattle.std.proofs.Common.{[], ◌⊎◌, ◌≡◌, ◌≢◌, subst, arith}
 use Rattle.chess_notation.specs.Records.{RecordValue, Reads}
 use Rattle.chess_notation.specs.EpdFaults.{IsFaultOf}
 use Rattle.chess_notation.specs.declared.epd_faults.EpdFault.TheVariants.{NoMemory}

@@ -1,4 +1,4 @@
-use Rattle.std.proofs.Common.{◌≡◌, ◌++◌, ◌∷◌, [], ap, ◌∙◌, refl, subst, List, ℕ}
+use Rattle.std.proofs.Common.{◌≡◌, ◌++◌, ◌∷◌, [], refl, subst, List, ℕ}
 use mathlib.Core.List.{IsPrefix}
 use Rattle.mate_search.specs.InputReplies.{answer_line}
 use Rattle.mate_desk.specs.declared.deliveries.Delivery.{Delivery}

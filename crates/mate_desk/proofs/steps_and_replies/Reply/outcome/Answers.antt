@@ -1,7 +1,7 @@
 use Rattle.std.proofs.Common.{◌∙◌, ap, sym, subst}
 use Rattle.chess_notation.specs.Records.{problem_of}
 use Rattle.mate_search.specs.inside.Truth.{truth}
-use Rattle.mate_desk.specs.Headline.{IsTrueOf, AnswersTruly}
+use Rattle.mate_desk.specs.Headline.{IsTrueOf}
 use Rattle.mate_desk.proofs.steps_and_replies.Reply.outcome.Goals as goal
 
 pub returns-in-Answer-clause-true_answer : goal.returns-in-Answer-clause-true_answer
