@@ -1,12 +1,25 @@
 //! The fourth pass of a turn: deliveries.
 
-ghost use Rattle.std.specs.Prelude.{◌≡◌, ◌<◌, ◌≤◌, length};
-ghost use Rattle.desk_room.specs.WindowRings.{letters_taken, letters_known, SameLine};
+ghost use Rattle.std.specs.Prelude.{◌≡◌, ◌<◌, ◌≤◌, true, length, is_some};
+ghost use Rattle.mate_desk.specs.Calls.{ready};
+ghost use Rattle.desk_room.specs.WindowRings.{letters_taken, letters_known, places_free, SameLine};
 ghost use Rattle.desk_room.specs.inside.Steps.{GaveOne};
 
 use crate::keepers::Keeper;
 use crate::window_ring_line::Line;
 use mate_desk::Desk;
+
+// Puts what is ready on the ring, which has a place. Only here is there room for a delivery, which is large: to ask costs little.
+fn put_ready(line: &mut Line, desk: &mut Desk, n: usize)
+    requires ready { is_some (ready desk.old n) ≡ true }
+    requires place { 0 < places_free line.old }
+    ensures gave { GaveOne n line.old line.new desk.old desk.new true }
+    ensures taken { letters_taken line.new ≡ letters_taken line.old }
+    ensures known { letters_known line.new ≡ letters_known line.old }
+    ensures line { SameLine line.old line.new }
+{
+    line.put(desk.deliver(n));
+}
 
 #[tactic(auto, using(crate::proofs::Telling::none_ready))]
 // Puts a delivery on the ring, where that has a place and one is ready.
@@ -20,7 +33,7 @@ fn give_delivery(line: &mut Line, desk: &mut Desk, n: usize) -> bool
     if !desk.is_ready(n) || line.is_full() {
         return false;
     }
-    line.put(desk.deliver(n));
+    put_ready(line, desk, n);
     true
 }
 
