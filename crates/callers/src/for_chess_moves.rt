@@ -1,6 +1,6 @@
 //! Callers of `chess_moves`, as docs/CALLING.md shows them.
 
-ghost use Rattle.std.specs.Prelude.{◌≡◌, ℕ, length, IfSome, Contains};
+ghost use Rattle.std.specs.Prelude.{◌≡◌, List, [], ◌∷◌, length, IfSome, IfNone};
 ghost use Rattle.chess_board.specs.MakeMove.{after_setup};
 ghost use Rattle.chess_board.specs.Moves.{Move};
 ghost use Rattle.chess_moves.specs.inside.Listing.{legal_moves};
@@ -17,11 +17,12 @@ pub fn mobility(rays: &Rays, position: &Position) -> usize
 
 /// The position after the first legal move; none where there is no legal move.
 pub fn after_first(rays: &Rays, position: &Position) -> Option<Position>
-    ensures { IfSome result (λ next. (m : Move) × Contains (legal_moves position.now) m × (next ≡ after_setup position.now m)) }
+    ensures made { IfSome result (λ next. (m : Move) × (others : List Move) × (legal_moves position.now ≡ m ∷ others) × (next ≡ after_setup position.now m)) }
+    ensures none { IfNone result (legal_moves position.now ≡ []) }
 {
     legal_listed();
-    for m in legal(rays, position).as_slice() {
-        return Some(after(position, *m));
+    match legal(rays, position).as_slice() {
+        [first, ..] => Some(after(position, *first)),
+        [] => None,
     }
-    None
 }

@@ -1,6 +1,7 @@
 //! Callers of `mate_desk`, as docs/CALLING.md shows them.
 
-ghost use Rattle.std.specs.Prelude.{◌≡◌, IfOk, IfSome};
+ghost use Rattle.std.specs.Prelude.{◌≡◌, IfOk, IfErr};
+ghost use Rattle.mate_desk.specs.declared.refusals.DeskFault.TheVariants.{NoMemory};
 
 use chess_moves::Rays;
 use chess_notation::Record;
@@ -8,27 +9,28 @@ use mate_desk::{Delivery, Desk, DeskFault};
 use mate_search::{Answer, Memo};
 use std::alloc::Global;
 
-/// Has one record answered at a desk of its own.
+/// Has one record answered at a desk of its own. It fails for want of memory alone.
 pub fn at_a_desk(
     alloc: Global,
     rays: &Rays,
     memo: &mut Memo,
     asked: Record,
-) -> Result<Option<Answer>, DeskFault>
-    ensures { IfOk result (λ found. IfSome found (λ answer. answer ≡ asked)) }
+) -> Result<Answer, DeskFault>
+    ensures answered { IfOk result (λ answer. answer ≡ asked) }
+    ensures no_memory { IfErr result (λ fault. fault ≡ NoMemory) }
 {
     let mut desk = Desk::new(alloc, 1, 1, 0)?;
     if desk.submit(0, asked).is_err() {
-        return Ok(None);
+        unreachable!()
     }
     let Some(job) = desk.take() else {
-        return Ok(None);
+        unreachable!()
     };
     if desk.finish(job.solve(rays, memo)).is_err() {
-        return Ok(None);
+        unreachable!()
     }
     match desk.collect(0) {
-        Ok(Some(Delivery::Answer(answer))) => Ok(Some(answer)),
-        _ => Ok(None),
+        Ok(Some(Delivery::Answer(answer))) => Ok(answer),
+        _ => unreachable!(),
     }
 }

@@ -1,6 +1,6 @@
 //! Callers of `square_sets`, as docs/CALLING.md shows them.
 
-ghost use Rattle.std.specs.Prelude.{◌≡◌, ℕ, ◌<◌, ◌==◌, not, ◌&&◌, ◌||◌, IfSome, IfNone};
+ghost use Rattle.std.specs.Prelude.{◌≡◌, ℕ, ◌-◌, ◌<◌, ◌==◌, not, ◌&&◌, ◌||◌, IfSome, IfNone};
 ghost use Rattle.square_sets.specs.BitScan.{IsLowest};
 ghost use Rattle.square_sets.specs.Members.{has};
 
@@ -23,7 +23,9 @@ pub fn moved(set: u64, origin: u8, target: u8) -> u64
 }
 
 /// The set as it is seen from the other side of the board.
-pub fn turned(set: u64) -> u64 {
+pub fn turned(set: u64) -> u64
+    ensures { (s : ℕ) → s < 64 → has result s ≡ has set (63 - s) }
+{
     let mut result = 0;
     for square in squares(set) {
         result = with(result, 63 - square);
