@@ -1,8 +1,9 @@
 //! Callers of `desk_room`, as docs/CALLING.md shows them.
 
-ghost use Rattle.std.specs.Prelude.{◌≡◌, [], ◌∷◌, ◌++◌, map, IfOk, IfSome};
+ghost use Rattle.std.specs.Prelude.{◌≡◌, ◌↔◌, ◌⊎◌, ◌<◌, [], ◌∷◌, ◌++◌, length, map, Err, IfOk, IfSome};
 ghost use Rattle.desk_room.specs.Serving.{AreReplies};
 ghost use Rattle.desk_room.specs.Windows.{collected};
+ghost use Rattle.desk_room.specs.declared.rooms.RoomFault.TheVariants as fault;
 
 use chess_moves::Rays;
 use chess_notation::Bound;
@@ -13,14 +14,15 @@ use std::alloc::Global;
 use std::sync::Wait;
 use std::thread::Threads;
 
-/// The replies to inputs, by four benches.
+/// The replies to 1 to 16 inputs, by four benches.
 pub fn on_threads<R: Threads + Wait + Sync>(
     rt: &R,
     alloc: Global,
     inputs: &[Vec<u8>],
     default: Bound,
 ) -> Result<Vec<Output>, RoomFault>
-    ensures { IfOk result (λ outputs. AreReplies default (map (λ input. input.items) inputs.now) outputs.items) }
+    ensures replies { IfOk result (λ outputs. AreReplies default (map (λ input. input.items) inputs.now) outputs.items) }
+    ensures bad_windows { (result ≡ Err fault.BadWindows) ↔ ((length inputs.now ≡ 0) ⊎ (16 < length inputs.now)) }
 {
     serve(rt, alloc, &Rays::new(), inputs, default, 4, &OpenGate)
 }
