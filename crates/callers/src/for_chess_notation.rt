@@ -4,7 +4,8 @@ ghost use Rattle.std.specs.Prelude.{◌≡◌, IfOk};
 ghost use Rattle.chess_notation.specs.Records.{RecordValue, Reads};
 
 use chess_moves::Rays;
-use chess_notation::{Bound, EpdFault, read_record};
+use chess_notation::{EpdFault, read_record};
+use chess_problems::Bound;
 use std::alloc::Global;
 
 /// Within how many moves a line asks for mate.

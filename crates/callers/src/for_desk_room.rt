@@ -6,10 +6,11 @@ ghost use Rattle.desk_room.specs.Windows.{collected};
 ghost use Rattle.desk_room.specs.declared.rooms.RoomFault.TheVariants as fault;
 
 use chess_moves::Rays;
-use chess_notation::Bound;
+use chess_problems::Bound;
 use desk_room::{Back, Bench, Keeper, OpenGate, RoomFault, Taken, Window, serve};
+use mate_answers::Output;
 use mate_desk::Delivery;
-use mate_search::{Memo, Output};
+use mate_search::Memo;
 use std::alloc::Global;
 use std::sync::Wait;
 use std::thread::Threads;

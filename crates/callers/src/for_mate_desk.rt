@@ -6,7 +6,8 @@ ghost use Rattle.mate_desk.specs.declared.refusals.DeskFault.TheVariants.{NoMemo
 use chess_moves::Rays;
 use chess_notation::Record;
 use mate_desk::{Delivery, Desk, DeskFault};
-use mate_search::{Answer, Memo};
+use mate_jobs::Answer;
+use mate_search::Memo;
 use std::alloc::Global;
 
 /// Has one record answered at a desk of its own. It fails for want of memory alone.

@@ -2,10 +2,14 @@
 //! lowest first. `tests/callers` holds the page and the files to one another.
 #![tactic(auto)]
 
+pub mod for_byte_streams;
 pub mod for_chess_board;
 pub mod for_chess_moves;
 pub mod for_chess_notation;
+pub mod for_chess_problems;
 pub mod for_desk_room;
+pub mod for_mate_answers;
 pub mod for_mate_desk;
+pub mod for_mate_jobs;
 pub mod for_mate_search;
 pub mod for_square_sets;

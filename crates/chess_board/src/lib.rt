@@ -42,10 +42,3 @@ pub use men::{Colour, Kind, Man, Rights, Wing};
 pub use moves::{Move, comes_before};
 pub use positions::{Position, is_same_position};
 pub use squares::{Square, push_square};
-
-#[cfg(test)]
-mod board_tests;
-#[cfg(test)]
-mod fen_tests;
-#[cfg(test)]
-mod move_tests;

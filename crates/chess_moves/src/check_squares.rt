@@ -18,7 +18,7 @@ use crate::ray_tables::Rays;
 use chess_board::{Kind, Man, Move, Position, is_castling, is_en_passant};
 
 /// For each kind, the squares from which a man of the side to move attacks the king of the other side.
-#[derive(Clone, Copy, Debug)]
+#[derive(Clone, Copy)]
 pub(crate) struct CheckSquares {
     pub pawn: u64,
     pub knight: u64,

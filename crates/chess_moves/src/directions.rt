@@ -7,7 +7,7 @@ ghost use Rattle.chess_moves.specs.inside.Leaps.{capture_of, step_of, double_of,
 use chess_board::Colour;
 
 /// The eight directions in which a queen goes; north is where White's pawns go.
-#[derive(Clone, Copy, Debug, PartialEq, Eq)]
+#[derive(Clone, Copy, PartialEq, Eq)]
 pub(crate) enum Direction {
     North,
     NorthEast,
@@ -35,7 +35,7 @@ impl Direction {
 
 /// Where a man goes that nothing in between can stop. A capture is what a pawn attacks, and a double step is one from its
 /// second rank.
-#[derive(Clone, Copy, Debug, PartialEq, Eq)]
+#[derive(Clone, Copy, PartialEq, Eq)]
 pub(crate) enum Leap {
     KnightLeap,
     KingStep,

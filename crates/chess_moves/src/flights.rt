@@ -22,7 +22,7 @@ use chess_board::{Colour, Kind, Man, Position, sound_after};
 
 /// The king of the side that is not to move, and its flights: the squares beside it that hold none of its own men and that nobody
 /// attacks once it is lifted off the board.
-#[derive(Clone, Copy, Debug)]
+#[derive(Clone, Copy)]
 pub(crate) struct Flights {
     pub king: u8,
     pub squares: u64,

@@ -10,7 +10,7 @@ ghost use Rattle.chess_moves.specs.inside.Forces.{StandFor};
 use chess_board::{Colour, Kind, Position};
 
 /// One side's men, as sets of squares: a queen stands in `diagonal` and in `straight`.
-#[derive(Clone, Copy, Debug)]
+#[derive(Clone, Copy)]
 pub(crate) struct Force {
     pub pawns: u64,
     pub knights: u64,

@@ -14,7 +14,7 @@ use crate::ray_tables::Rays;
 use chess_board::{Colour, Position};
 
 /// What the legality of each move asks about, mostly as sets of squares.
-#[derive(Clone, Copy, Debug)]
+#[derive(Clone, Copy)]
 pub(crate) struct LegalityInfo {
     /// The side to move.
     pub side: Colour,

@@ -44,14 +44,3 @@ pub use perft_count::perft;
 pub use ray_tables::{Rays, rays_in_order};
 pub use verdict_of_position::verdict;
 pub use verdicts::Verdict;
-
-#[cfg(test)]
-mod legal_move_tests;
-#[cfg(test)]
-mod perft_tests;
-#[cfg(test)]
-mod plain_rules_tests;
-#[cfg(test)]
-mod random_games;
-#[cfg(test)]
-mod test_positions;

@@ -23,7 +23,7 @@ use std::iter::FusedIterator;
 use std::marker::Model;
 
 /// The legal moves of a position that are still to come, in the order of moves. A contract sees the list of them.
-#[derive(Debug, Drop)]
+#[derive(Drop)]
 pub struct LegalMoves<'a> {
     rays: &'a Rays,
     position: &'a Position,
@@ -88,7 +88,7 @@ impl<'a> Iterator for LegalMoves<'a> {
 impl<'a> FusedIterator for LegalMoves<'a> {}
 
 /// One man's legal moves that are still to come.
-#[derive(Clone, Copy, Debug)]
+#[derive(Clone, Copy)]
 pub(crate) struct ManMoves {
     pub man: Man,
     pub origin: u8,

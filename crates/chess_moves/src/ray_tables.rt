@@ -121,7 +121,7 @@ fn one_set(a: &[u64; 64], b: &[u64; 64], c: &[u64; 64], d: &[u64; 64]) -> [u64; 
 
 /// For each square its eight rays, its diagonals, its file and rank, and where the leaps go from it: made once for a program, and
 /// passed by reference to each question about moves.
-#[derive(Clone, Debug, Drop)]
+#[derive(Clone, Drop)]
 pub struct Rays {
     rays: [[u64; 64]; 8],
     leaps: [[u64; 64]; 8],

@@ -8,10 +8,11 @@ use Rattle.chess_board.specs.Fens.{fields_text, position_text}
 use Rattle.chess_board.specs.Laws.{PrintedSpells}
 use Rattle.chess_board.specs.Moves.{Move}
 use Rattle.chess_moves.specs.Laws.{LegalListed}
-use Rattle.chess_notation.specs.declared.problems.Outcome.TheVariants.{Mate, NoMate}
+use Rattle.chess_problems.specs.declared.outcomes.Outcome.TheVariants.{Mate, NoMate}
 use Rattle.chess_notation.specs.Operations.{Operation, Entry, SpellsOperations, is_printable}
 use Rattle.chess_notation.specs.Records.{RecordValue, IsApart, IsWord, SpellsWords, field_words, SpellsRest, Reads, max_line}
-use Rattle.chess_notation.specs.Answers.{entries_text, answer_text, IsPlayable}
+use Rattle.chess_notation.specs.Answers.{entries_text, answer_text}
+use Rattle.chess_problems.specs.Outcomes.{IsPlayable}
 use Rattle.chess_notation.specs.RecordLaws.{AnswerReads}
 use Rattle.chess_notation.proofs.PlainBytes.{list_all-parts, list_all-both, visible_word}
 use Rattle.chess_notation.proofs.MergedOperations.{Each}

@@ -5,7 +5,7 @@ use Rattle.chess_board.specs.Moves.{Move}
 use Rattle.chess_board.specs.Legality.{is_legal}
 use Rattle.chess_moves.specs.inside.Listing.{legal_moves}
 use Rattle.chess_moves.specs.Laws.{LegalListed}
-use Rattle.chess_notation.specs.Answers.{AreLegal}
+use Rattle.chess_problems.specs.Outcomes.{AreLegal}
 
 listed_at : (p : Setup) (keys : List Move) (i : ℕ) (d : Move) → i < length keys → AreLegal p keys → Contains (legal_moves p) (get_or keys i d)
 listed_at p [] i d here legal = absurd (omega arith)

@@ -11,7 +11,8 @@ use Rattle.chess_notation.specs.Operations.{is_printable, AreWordBytes, HaveNoQu
 use Rattle.chess_notation.specs.Operations.Operand.{Text}
 use Rattle.chess_notation.specs.Opcodes.{comes_before}
 use Rattle.chess_notation.specs.Records.{dm_of}
-use Rattle.chess_notation.specs.Answers.{with_text, in_order, line_texts, keys_entry, line_entry, AreLegal}
+use Rattle.chess_notation.specs.Answers.{with_text, in_order, line_texts, keys_entry, line_entry}
+use Rattle.chess_problems.specs.Outcomes.{AreLegal}
 use Rattle.chess_notation.proofs.PlainBytes.{list_all-both, plain_word_bytes, plain_all_printable, digits_plain}
 use Rattle.chess_notation.proofs.Numerals.{decimal_digits, decimal_few, decimal_some}
 use Rattle.chess_notation.proofs.SanBytes.{IsPlainWord, san_plain}

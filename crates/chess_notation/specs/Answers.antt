@@ -1,15 +1,13 @@
 -- The text that answers a record: its four fields, then operations in ASCII order of opcode (PGN Specification, sections 16.2.4
 -- and 16.2.5). Own to this project: that there is no mate is said in `c0`.
-use Rattle.std.specs.Prelude.{ℕ, List, [], ◌∷◌, ◌++◌, codes, map, decimal, Contains, if◌then◌else◌}
+use Rattle.std.specs.Prelude.{ℕ, List, [], ◌∷◌, ◌++◌, codes, map, decimal, if◌then◌else◌}
 use Rattle.chess_board.specs.Characters.{char}
 use Rattle.chess_board.specs.Positions.{Setup}
 use Rattle.chess_board.specs.Fens.{position_text}
 use Rattle.chess_board.specs.Moves.{Move}
 use Rattle.chess_board.specs.MakeMove.{after_setup}
-use Rattle.chess_moves.specs.inside.Listing.{legal_moves}
-use Rattle.chess_moves.specs.Laws.{IsLine}
-use Rattle.chess_notation.specs.declared.problems.Outcome.{Outcome}
-use Rattle.chess_notation.specs.declared.problems.Outcome.TheVariants.{Mate, NoMate}
+use Rattle.chess_problems.specs.declared.outcomes.Outcome.{Outcome}
+use Rattle.chess_problems.specs.declared.outcomes.Outcome.TheVariants.{Mate, NoMate}
 use Rattle.chess_notation.specs.SanText.{san_text}
 use Rattle.chess_notation.specs.Operations.{Entry}
 use Rattle.chess_notation.specs.Opcodes.{comes_before, with_entry}
@@ -62,13 +60,3 @@ answer_entries r NoMate = with_entry (none_entry r.bound) r.rest
 
 unfoldable pub answer_text : RecordValue → Outcome → List ℕ
 answer_text r outcome = position_text r.position ++ entries_text (answer_entries r outcome)
-
--- Each of the moves is legal in the position.
-abbrev pub AreLegal : Setup → List Move → Type 0
-AreLegal p [] = Unit {0}
-AreLegal p (m ∷ ms) = Contains (legal_moves p) m × AreLegal p ms
-
--- The keys can be played in the position, and the moves of the line one after the other from it.
-unfoldable pub IsPlayable : Setup → Outcome → Type 0
-IsPlayable p (Mate dm keys pv) = AreLegal p keys.items × IsLine p pv.items
-IsPlayable p NoMate = Unit {0}

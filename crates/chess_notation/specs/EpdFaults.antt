@@ -14,7 +14,7 @@ use Rattle.chess_notation.specs.Quoting.{strings_fit}
 use Rattle.chess_notation.specs.Operations.{is_printable, is_opcode}
 use Rattle.chess_notation.specs.Opcodes.{same_text}
 use Rattle.chess_notation.specs.AvoidMoves.{is_name}
-use Rattle.chess_notation.specs.Problems.{max_bound}
+use Rattle.chess_problems.specs.Problems.{max_bound}
 use Rattle.chess_notation.specs.Records.{max_line}
 use Rattle.chess_notation.specs.RecordFields.{is_number, fourth_word, line_fields, cut_of}
 

@@ -1,7 +1,6 @@
 pub mod Disambiguation
 pub mod SanText
 pub mod SanLaws
-pub mod Problems
 pub mod Operations
 pub mod Opcodes
 pub mod AvoidMoves

@@ -1,11 +1,12 @@
 -- Lines and records: a line with a fault says no record, a line says one record at most, and an answer is a record again.
 use Rattle.std.specs.Prelude.{◌≡◌, ℕ, ◌≤◌, List, length}
-use Rattle.chess_notation.specs.declared.problems.Outcome.{Outcome}
-use Rattle.chess_notation.specs.declared.problems.Outcome.TheVariants.{Mate, NoMate}
-use Rattle.chess_notation.specs.Problems.{max_bound}
+use Rattle.chess_problems.specs.declared.outcomes.Outcome.{Outcome}
+use Rattle.chess_problems.specs.declared.outcomes.Outcome.TheVariants.{Mate, NoMate}
+use Rattle.chess_problems.specs.Problems.{max_bound}
 use Rattle.chess_notation.specs.Records.{RecordValue, Reads, max_line}
 use Rattle.chess_notation.specs.EpdFaults.{HasNoFault}
-use Rattle.chess_notation.specs.Answers.{answer_text, IsPlayable}
+use Rattle.chess_notation.specs.Answers.{answer_text}
+use Rattle.chess_problems.specs.Outcomes.{IsPlayable}
 
 -- A line that says a record has no fault.
 abbrev pub RecordsClear : Type 0

@@ -13,7 +13,7 @@ use Rattle.chess_notation.specs.Operations.{Operation, Entry, entry_of, SpellsOp
 use Rattle.chess_notation.specs.Operations.Operand.{Word}
 use Rattle.chess_notation.specs.Opcodes.{is_own, RisesByOpcode}
 use Rattle.chess_notation.specs.AvoidMoves.{is_name, named}
-use Rattle.chess_notation.specs.Problems.{ProblemValue, max_bound}
+use Rattle.chess_problems.specs.Problems.{ProblemValue, max_bound}
 
 -- The most bytes of a record's line.
 abbrev pub max_line : ℕ

@@ -7,16 +7,17 @@ ghost use Rattle.chess_notation.specs.Operations.{Entry};
 ghost use Rattle.chess_notation.specs.Opcodes.{IsBelow};
 ghost use Rattle.chess_notation.specs.SanText.{san_text};
 ghost use Rattle.chess_notation.specs.inside.Merging.{with_entries};
-ghost use Rattle.chess_notation.specs.Answers.{entry_text, entries_text, with_text, in_order, operand_words, line_texts, keys_entry, length_entry, line_entry, none_entry, AreLegal, IsPlayable, answer_text as answer_text_of};
+ghost use Rattle.chess_notation.specs.Answers.{entry_text, entries_text, with_text, in_order, operand_words, line_texts, keys_entry, length_entry, line_entry, none_entry, answer_text as answer_text_of};
+ghost use Rattle.chess_problems.specs.Outcomes.{AreLegal, IsPlayable};
 
-use crate::no_memory::NoMemory;
 use crate::opcodes::comes_before;
-use crate::problems::{Bound, Outcome};
 use crate::records::{Operation, Record};
 use crate::san_text::san;
 use arrayvec::ArrayString;
+use byte_streams::NoMemory;
 use chess_board::{Move, Position, after};
 use chess_moves::{Rays, legal_listed};
+use chess_problems::{Bound, Outcome};
 use std::alloc::{AllocError, Global};
 
 /// Adds an operation that the record keeps.
@@ -231,7 +232,7 @@ fn push_no_mate(alloc: Global, text: &mut String, record: &Record) -> Result<(),
 /// keeps and those of the outcome (PGN Specification, sections 16.2.4 and 16.2.5). For a mate these are `bm`, `dm` and `pv`,
 /// otherwise `c0`, which says that there is none within the bound. The outcome's moves are such as can be played, and only a
 /// growth that is refused is an error.
-#[tactic(auto, unfolding(crate::specs::Answers::answer_text, crate::specs::Answers::IsPlayable))]
+#[tactic(auto, unfolding(crate::specs::Answers::answer_text, chess_problems::specs::Outcomes::IsPlayable))]
 pub fn answer_text(
     alloc: Global,
     rays: &Rays,

@@ -11,13 +11,13 @@ ghost use Rattle.chess_notation.specs.AvoidMoves.{is_suffix as is_suffix_byte, w
 ghost use Rattle.chess_notation.specs.EpdFaults.{are_names as do_words_name};
 
 use crate::opcodes::is_same_text;
-use crate::problems::AvoidList;
 use crate::san_laws::bare_texts_apart;
 use crate::san_text::bare;
 use crate::words::{is_blank, word_at};
 use arrayvec::{ArrayString, ArrayVec};
 use chess_board::{Move, Position};
 use chess_moves::{Rays, legal, legal_listed, legal_rise};
+use chess_problems::AvoidList;
 
 /// A legal move and its text without the suffix.
 #[derive(Clone, Copy, Default)]

@@ -1,7 +1,7 @@
 //! The notations of chess: how a move is written (SAN), what a line of EPD asks, and how it is answered.
 //!
-//! Which moves are legal is `chess_moves`'s business, and solving is none of this crate's. To read: `specs/SanText.antt` and `san_text`,
-//! over `disambiguation`; `problems`; then `specs/Records.antt`, `records` and `record_reading`, over `epd_faults` (the
+//! Which moves are legal is `chess_moves`'s business, what a problem is `chess_problems`'s, and solving is none of this crate's. To
+//! read: `specs/SanText.antt` and `san_text`, over `disambiguation`; then `specs/Records.antt`, `records` and `record_reading`, over `epd_faults` (the
 //! faults of a line, in their order), `words`, `record_fields`, `segments` (operations cut at their semicolons), `quoting`, `opcodes`,
 //! `problem_operations` (what `dm` and `am` ask), `avoid_moves` and `operations`; at last `specs/Answers.antt` and `answers`. `san_laws` and
 //! `record_laws` say what holds of them. Only `read_record` and `answer_text` take memory.
@@ -11,11 +11,9 @@ mod answers;
 mod avoid_moves;
 mod disambiguation;
 mod epd_faults;
-mod no_memory;
 mod opcodes;
 mod operations;
 mod problem_operations;
-mod problems;
 mod quoting;
 mod record_fields;
 mod record_laws;
@@ -27,9 +25,9 @@ mod segments;
 mod words;
 
 pub use answers::answer_text;
+pub use byte_streams::NoMemory;
+pub use chess_problems::{AvoidList, Bound, Outcome, Problem, Variation};
 pub use epd_faults::EpdFault;
-pub use no_memory::NoMemory;
-pub use problems::{AvoidList, Bound, Outcome, Problem, Variation};
 pub use record_fields::are_digits;
 pub use record_laws::{answer_reads, records_clear, says_one};
 pub use record_reading::read_record;
@@ -37,12 +35,3 @@ pub use records::{Operation, Record};
 pub use san_laws::{bare_texts_apart, named_read, names_one, texts_apart, texts_short};
 pub use san_text::san;
 pub use words::is_blank;
-
-#[cfg(test)]
-mod answer_tests;
-#[cfg(test)]
-mod avoid_move_tests;
-#[cfg(test)]
-mod record_reading_tests;
-#[cfg(test)]
-mod san_tests;

@@ -9,10 +9,10 @@ ghost use Rattle.chess_notation.specs.EpdFaults.{is_bound_segment as is_bound_of
 ghost use Rattle.chess_notation.specs.inside.RecordReading.{bound_said, avoid_text_in};
 
 use crate::opcodes::is_same_text;
-use crate::problems::Bound;
 use crate::record_fields::is_number;
 use crate::segments::first_segment;
 use crate::words::{is_blank, word_at};
+use chess_problems::Bound;
 
 /// The number that digits spell, or 16 where it is larger.
 fn capped_value(digits: &[u8]) -> u8

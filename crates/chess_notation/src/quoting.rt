@@ -4,7 +4,7 @@ ghost use Rattle.std.specs.Prelude.{◌≡◌};
 ghost use Rattle.chess_notation.specs.Quoting.{next_mode as mode_after, strings_fit as do_strings_fit};
 
 /// What stands before a byte of an operation.
-#[derive(Clone, Copy, Debug)]
+#[derive(Clone, Copy)]
 pub(crate) enum Mode {
     /// A space.
     Gap,

@@ -13,11 +13,11 @@ use crate::avoid_moves::named_moves;
 use crate::epd_faults::{EpdFault, position_of};
 use crate::operations::operations_of;
 use crate::problem_operations::{Asked, asked_of};
-use crate::problems::{AvoidList, Bound};
 use crate::record_fields::operations_in;
 use crate::records::Record;
 use chess_board::{Position, spells_one};
 use chess_moves::{Rays, legal_listed, legal_rise};
+use chess_problems::{AvoidList, Bound};
 use std::alloc::Global;
 
 /// The record of operations that have none of the faults before `BadAvoid`, which ask for this in this position. Lines with one

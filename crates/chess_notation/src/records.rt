@@ -3,14 +3,14 @@
 ghost use Rattle.std.specs.Prelude.{◌≡◌};
 ghost use Rattle.chess_notation.specs.Records.{problem_of};
 
-use crate::problems::{AvoidList, Bound, Problem};
 use arrayvec::ArrayString;
 use chess_board::Position;
+use chess_problems::{AvoidList, Bound, Problem};
 use std::marker::Model;
 
 /// An operation (PGN Specification, section 16.2.4): its opcode, a letter and up to 14 letters, digits and underscores, and each
 /// operand after one space.
-#[derive(Debug, Drop)]
+#[derive(Drop)]
 pub struct Operation {
     pub opcode: ArrayString<15>,
     pub operands: String,
@@ -28,7 +28,7 @@ impl Model for Operation {
 /// What a line of EPD says (PGN Specification, section 16.2): the position, the bound within which mate is asked for, the first moves to avoid, and the operations that
 /// an answer copies. The moves rise by origin, then target, then promotion, each once. The operations rise by opcode, without
 /// repeats and without those that an answer writes itself: `bm`, `c0`, `dm` and `pv`.
-#[derive(Debug, Drop)]
+#[derive(Drop)]
 pub struct Record {
     pub position: Position,
     pub bound: Bound,

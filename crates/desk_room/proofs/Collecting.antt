@@ -2,7 +2,7 @@
 use Rattle.std.proofs.Common.{◌≡◌, ℕ, List, [], ◌∷◌, ◌++◌, Vec, Global, map, refl, ap, ◌∙◌, subst}
 use Rattle.std.proofs.lemmas.List.{map-append}
 use Rattle.chess_notation.specs.Records.{RecordValue}
-use Rattle.mate_search.specs.InputReplies.{answer_line}
+use Rattle.mate_answers.specs.InputReplies.{answer_line}
 use Rattle.mate_desk.specs.declared.deliveries.Delivery.TheVariants.{Answer}
 use Rattle.desk_room.specs.Letters.{records}
 use Rattle.desk_room.specs.Deliveries.{asked}

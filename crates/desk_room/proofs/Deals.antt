@@ -8,7 +8,7 @@ use mathlib.Core.Option.{some, some-ne-none, some-injective}
 use lib.ListN.{get_elem?}
 use Rattle.std.proofs.Math.ListN.{length-set}
 use Rattle.crossbeam_deque.specs.Tasks.{Pushes, Takes, Forks, FindsFew}
-use Rattle.mate_search.specs.Jobs.{Task}
+use Rattle.mate_jobs.specs.Jobs.{Task}
 use Rattle.desk_room.specs.declared.deque_rule.Order.{Order}
 use Rattle.desk_room.specs.declared.deque_rule.Order.TheVariants.{Solve, Stop}
 use Rattle.desk_room.specs.declared.deque_rule.View.{View}

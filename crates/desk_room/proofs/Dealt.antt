@@ -1,8 +1,7 @@
 -- What a clerk has dealt with, one step more.
 use Rattle.std.proofs.Common.{◌≡◌, ℕ, ◌+◌, ◌≤◌, List, [], ◌∷◌, ◌++◌, length, refl, ap, sym, ◌∙◌, subst, arith, append_assoc, append-nil, length-append}
 use Rattle.chess_notation.specs.Records.{RecordValue}
-use Rattle.mate_search.specs.InputReplies.{answer_line, without_cr, IsLineReply, IsReplyFrom}
-use Rattle.mate_search.proofs.InputReplies.{replies_next}
+use Rattle.mate_answers.specs.InputReplies.{answer_line, without_cr, IsLineReply, IsReplyFrom, RepliesGoOn}
 use Rattle.desk_room.specs.inside.Clerks.{woven, Deals}
 
 woven_snoc : (rs : List RecordValue) (ts : List (List ℕ)) (r : RecordValue) → length ts ≡ length rs → woven (rs ++ r ∷ []) (ts ++ [] ∷ []) ≡ woven rs ts ++ answer_line r
@@ -47,53 +46,53 @@ deal_answer default refused lines sent got a text b bs old = record {
       (old.replied (a ∷ rest) (is ∙ append_assoc got (a ∷ []) rest));
 }
 
-pub deal_record : (default refused : ℕ) (lines : List (List ℕ)) (line : List ℕ) (sent got : List RecordValue) (r : RecordValue) (text : List ℕ) (behind : List (List ℕ))
+pub deal_record : RepliesGoOn → (default refused : ℕ) (lines : List (List ℕ)) (line : List ℕ) (sent got : List RecordValue) (r : RecordValue) (text : List ℕ) (behind : List (List ℕ))
     → IsLineReply default (length lines + 1) (without_cr line) (answer_line r) 0
     → Deals default lines sent got text behind refused → Deals default (lines ++ line ∷ []) (sent ++ r ∷ []) got text (behind ++ [] ∷ []) refused
-deal_record default refused lines line sent got r text behind reply old = record {
+deal_record go_on default refused lines line sent got r text behind reply old = record {
   awaited = omega (arith, old.awaited, length-append behind ([] ∷ []), length-append sent (r ∷ []));
   replied = λ rest is.
       let ends = ends_so sent got rest r (omega (arith, old.awaited)) is in
       let few : length behind ≡ length ends.before = omega (arith, old.awaited, ap length ends.follows, length-append got ends.before) in
       let next : IsReplyFrom default 1 (lines ++ line ∷ []) ((text ++ woven ends.before behind) ++ answer_line r) (refused + 0) =
-      replies_next default (length lines + 1) lines line (text ++ woven ends.before behind) (answer_line r) refused 0 refl (old.replied ends.before ends.follows) reply in
+      go_on default (length lines + 1) lines line (text ++ woven ends.before behind) (answer_line r) refused 0 refl (old.replied ends.before ends.follows) reply in
       let is_text : (text ++ woven ends.before behind) ++ answer_line r ≡ text ++ woven rest (behind ++ [] ∷ []) =
       append_assoc text (woven ends.before behind) (answer_line r) ∙ ap (λ l. text ++ l) (sym (woven_snoc ends.before behind r few) ∙ ap (λ l. woven l (behind ++ [] ∷ [])) (sym ends.is)) in
       subst (λ t. IsReplyFrom default 1 (lines ++ line ∷ []) t refused) is_text (subst (λ n. IsReplyFrom default 1 (lines ++ line ∷ []) ((text ++ woven ends.before behind) ++ answer_line r) n) (omega arith) next);
 }
 
-pub deal_refusal : (default refused : ℕ) (lines : List (List ℕ)) (line here : List ℕ) (sent got : List RecordValue) (text : List ℕ)
+pub deal_refusal : RepliesGoOn → (default refused : ℕ) (lines : List (List ℕ)) (line here : List ℕ) (sent got : List RecordValue) (text : List ℕ)
     → IsLineReply default (length lines + 1) (without_cr line) here 1
     → Deals default lines sent got text [] refused → Deals default (lines ++ line ∷ []) sent got (text ++ here) [] (refused + 1)
-deal_refusal default refused lines line here sent got text reply old = record {
+deal_refusal go_on default refused lines line here sent got text reply old = record {
   awaited = old.awaited;
   replied = λ rest is.
       let before : IsReplyFrom default 1 lines text refused =
       subst (λ t. IsReplyFrom default 1 lines t refused) (ap (λ l. text ++ l) (woven_none rest) ∙ append-nil text) (old.replied rest is) in
       subst (λ t. IsReplyFrom default 1 (lines ++ line ∷ []) t (refused + 1)) (sym (ap (λ l. (text ++ here) ++ l) (woven_none rest) ∙ append-nil (text ++ here)))
-      (replies_next default (length lines + 1) lines line text here refused 1 refl before reply);
+      (go_on default (length lines + 1) lines line text here refused 1 refl before reply);
 }
 
-pub deal_refusal_behind : (default refused : ℕ) (lines : List (List ℕ)) (line here : List ℕ) (sent got : List RecordValue) (text b : List ℕ) (bs : List (List ℕ))
+pub deal_refusal_behind : RepliesGoOn → (default refused : ℕ) (lines : List (List ℕ)) (line here : List ℕ) (sent got : List RecordValue) (text b : List ℕ) (bs : List (List ℕ))
     → IsLineReply default (length lines + 1) (without_cr line) here 1
     → Deals default lines sent got text (bs ++ b ∷ []) refused → Deals default (lines ++ line ∷ []) sent got text (bs ++ (b ++ here) ∷ []) (refused + 1)
-deal_refusal_behind default refused lines line here sent got text b bs reply old = record {
+deal_refusal_behind go_on default refused lines line here sent got text b bs reply old = record {
   awaited = omega (arith, old.awaited, length-append bs (b ∷ []), length-append bs ((b ++ here) ∷ []));
   replied = λ rest is.
       let few : length rest ≡ length bs + 1 = omega (arith, old.awaited, length-append bs (b ∷ []), ap length is, length-append got rest) in
       subst (λ t. IsReplyFrom default 1 (lines ++ line ∷ []) t (refused + 1))
       (append_assoc text (woven rest (bs ++ b ∷ [])) here ∙ ap (λ l. text ++ l) (sym (woven_behind rest bs b here few)))
-      (replies_next default (length lines + 1) lines line (text ++ woven rest (bs ++ b ∷ [])) here refused 1 refl (old.replied rest is) reply);
+      (go_on default (length lines + 1) lines line (text ++ woven rest (bs ++ b ∷ [])) here refused 1 refl (old.replied rest is) reply);
 }
 
-pub deal_blank : (default refused : ℕ) (lines : List (List ℕ)) (line : List ℕ) (sent got : List RecordValue) (text : List ℕ) (behind : List (List ℕ))
+pub deal_blank : RepliesGoOn → (default refused : ℕ) (lines : List (List ℕ)) (line : List ℕ) (sent got : List RecordValue) (text : List ℕ) (behind : List (List ℕ))
     → IsLineReply default (length lines + 1) (without_cr line) [] 0
     → Deals default lines sent got text behind refused → Deals default (lines ++ line ∷ []) sent got text behind refused
-deal_blank default refused lines line sent got text behind reply old = record {
+deal_blank go_on default refused lines line sent got text behind reply old = record {
   awaited = old.awaited;
   replied = λ rest is.
       let next : IsReplyFrom default 1 (lines ++ line ∷ []) ((text ++ woven rest behind) ++ []) (refused + 0) =
-      replies_next default (length lines + 1) lines line (text ++ woven rest behind) [] refused 0 refl (old.replied rest is) reply in
+      go_on default (length lines + 1) lines line (text ++ woven rest behind) [] refused 0 refl (old.replied rest is) reply in
       subst (λ t. IsReplyFrom default 1 (lines ++ line ∷ []) t refused) (append-nil (text ++ woven rest behind))
       (subst (λ n. IsReplyFrom default 1 (lines ++ line ∷ []) ((text ++ woven rest behind) ++ []) n) (omega arith) next);
 }

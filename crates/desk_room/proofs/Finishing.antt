@@ -1,7 +1,7 @@
 -- Only what is heard solved becomes finished.
 use Rattle.std.proofs.Common.{◌≡◌, ◌<◌, inl, inr, ⊎_elim, true≢false, ℕ, zero, suc, ◌-◌, Bool, true, false, not, ◌||◌, nat_lt, if◌then◌else◌, List, [], ◌∷◌, ◌++◌, length, map, get_or, drop, Some, refl, sym, ap, ◌∙◌, subst, arith, append_assoc}
 use Rattle.std.specs.List.{list_any}
-use Rattle.mate_search.specs.Jobs.{Task}
+use Rattle.mate_jobs.specs.Jobs.{Task}
 use Rattle.chess_notation.specs.Records.{RecordValue}
 use Rattle.mate_desk.specs.Content.{QueueValue, EntryValue, Phase, Waiting, Out, Finished, is_out, is_finished, has_task, waits_as, is_out_with}
 use Rattle.mate_desk.specs.Calls.{change_at, into_phase, with_entry, withdrawn, withdrawn_at, ready_first}

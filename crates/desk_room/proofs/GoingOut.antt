@@ -1,6 +1,6 @@
 -- A job goes out, and one that was not ordered comes back at once.
 use Rattle.std.proofs.Common.{◌≡◌, ◌+◌, Bool, true, false, not, ◌&&◌, if◌then◌else◌, List, [], ◌∷◌, map, refl, sym, ap, ◌∙◌, arith, count_by}
-use Rattle.mate_search.specs.Jobs.{Task}
+use Rattle.mate_jobs.specs.Jobs.{Task}
 use Rattle.mate_desk.specs.Content.{Content, QueueValue, EntryValue, Phase, Waiting, Out, Finished, entries, is_waiting, waits, waits_as, has_task, is_out_with}
 use Rattle.mate_desk.specs.Calls.{in_queue, into_phase, after_take, after_return}
 use Rattle.desk_room.specs.Events.{one_if}

@@ -6,7 +6,7 @@ use Rattle.chess_notation.specs.Words.{is_blank}
 use Rattle.chess_notation.specs.EpdFaults.{IsFaultOf}
 use Rattle.chess_notation.specs.declared.epd_faults.EpdFault.{EpdFault}
 use Rattle.chess_notation.specs.declared.epd_faults.EpdFault.TheVariants.{NoMemory}
-use Rattle.mate_search.specs.InputReplies.{answer_line, fault_line, without_cr, lines_of, IsLineReply, IsReply, answered as is_answered, refused as is_refused}
+use Rattle.mate_answers.specs.InputReplies.{answer_line, fault_line, without_cr, lines_of, IsLineReply, IsReply, RepliesGoOn, answered as is_answered, refused as is_refused}
 use Rattle.desk_room.specs.Letters.{records}
 use Rattle.desk_room.specs.Deliveries.{asked}
 use Rattle.desk_room.specs.Windows.{letters_sent, collected, default_of, SameWindow}
@@ -46,38 +46,38 @@ dealt_same c w lines window got sent old =
     c.text.items c.text.items (items c.behind.items) (items c.behind.items) c.refused c.refused window.3 (ap records sent) (ap (map asked) got) refl refl refl old
 
 -- A record is sent, and nothing stands behind it yet.
-pub dealt_record : (c : Clerk) (w : Window) (behind : List (Vec ℕ Global)) (lines : List (List ℕ)) (whole line : List ℕ) (number : ℕ) (r : RecordValue) (none : Vec ℕ Global)
+pub dealt_record : RepliesGoOn → (c : Clerk) (w : Window) (behind : List (Vec ℕ Global)) (lines : List (List ℕ)) (whole line : List ℕ) (number : ℕ) (r : RecordValue) (none : Vec ℕ Global)
     → SameWindow c.window w → collected w ≡ collected c.window → letters_sent w ≡ letters_sent c.window ++ Record r ∷ []
     → behind ≡ c.behind.items ++ none ∷ [] → none.items ≡ []
     → without_cr whole ≡ line → is_blank line ≡ false → SaysOnly line (default_of c.window) r
     → HasDealt lines c → HasLists (lines ++ whole ∷ []) w c.text.items behind c.refused
-dealt_record c w behind lines whole line number r none window got sent more empty is blank says old =
+dealt_record go_on c w behind lines whole line number r none window got sent more empty is blank says old =
     let items : List (Vec ℕ Global) → List (List ℕ) = map (λ t. t.items) in
     let more' : items behind ≡ items c.behind.items ++ [] ∷ [] =
     ap items more ∙ (map-append (λ t. t.items) c.behind.items (none ∷ []) ∙ ap (λ l. items c.behind.items ++ l ∷ []) empty) in
     moved (default_of c.window) (default_of w) (lines ++ whole ∷ []) (records (letters_sent c.window) ++ r ∷ []) (records (letters_sent w))
     (map asked (collected c.window)) (map asked (collected w)) c.text.items c.text.items (items c.behind.items ++ [] ∷ []) (items behind) c.refused c.refused
     window.3 (ap records sent ∙ records_append (letters_sent c.window) (Record r ∷ [])) (ap (map asked) got) refl more' refl
-    (deal_record (default_of c.window) c.refused lines whole (records (letters_sent c.window)) (map asked (collected c.window)) r c.text.items (items c.behind.items)
+    (deal_record go_on (default_of c.window) c.refused lines whole (records (letters_sent c.window)) (map asked (collected c.window)) r c.text.items (items c.behind.items)
     (answered_line (default_of c.window) (length lines + 1) whole line r is blank says) old)
 
 -- A refusal is written where nothing is awaited.
-pub dealt_refusal : (c : Clerk) (text : List ℕ) (behind : List (Vec ℕ Global)) (lines : List (List ℕ)) (line here : List ℕ)
+pub dealt_refusal : RepliesGoOn → (c : Clerk) (text : List ℕ) (behind : List (Vec ℕ Global)) (lines : List (List ℕ)) (line here : List ℕ)
     → c.behind.items ≡ [] → behind ≡ [] → text ≡ c.text.items ++ here
     → IsLineReply (default_of c.window) (length lines + 1) (without_cr line) here 1 → HasDealt lines c → HasLists (lines ++ line ∷ []) c.window text behind (c.refused + 1)
-dealt_refusal c text behind lines line here none still more reply old =
+dealt_refusal go_on c text behind lines line here none still more reply old =
     let items : List (Vec ℕ Global) → List (List ℕ) = map (λ t. t.items) in
     moved (default_of c.window) (default_of c.window) (lines ++ line ∷ []) (records (letters_sent c.window)) (records (letters_sent c.window))
     (map asked (collected c.window)) (map asked (collected c.window)) (c.text.items ++ here) text [] (items behind) (c.refused + 1) (c.refused + 1)
     refl refl refl more (ap items still) refl
-    (deal_refusal (default_of c.window) c.refused lines line here (records (letters_sent c.window)) (map asked (collected c.window)) c.text.items reply
+    (deal_refusal go_on (default_of c.window) c.refused lines line here (records (letters_sent c.window)) (map asked (collected c.window)) c.text.items reply
     (subst (λ l. Deals (default_of c.window) lines (records (letters_sent c.window)) (map asked (collected c.window)) c.text.items l c.refused) (ap items none) old))
 
 -- A refusal is written behind the last answer that is awaited.
-pub dealt_refusal_behind : (c : Clerk) (texts front : List (Vec ℕ Global)) (behind after : Vec ℕ Global) (lines : List (List ℕ)) (line here : List ℕ)
+pub dealt_refusal_behind : RepliesGoOn → (c : Clerk) (texts front : List (Vec ℕ Global)) (behind after : Vec ℕ Global) (lines : List (List ℕ)) (line here : List ℕ)
     → c.behind.items ≡ front ++ behind ∷ [] → texts ≡ front ++ after ∷ [] → after.items ≡ behind.items ++ here
     → IsLineReply (default_of c.window) (length lines + 1) (without_cr line) here 1 → HasDealt lines c → HasLists (lines ++ line ∷ []) c.window c.text.items texts (c.refused + 1)
-dealt_refusal_behind c texts front behind after lines line here old_is new_is more reply old =
+dealt_refusal_behind go_on c texts front behind after lines line here old_is new_is more reply old =
     let items : List (Vec ℕ Global) → List (List ℕ) = map (λ t. t.items) in
     let was : items c.behind.items ≡ items front ++ behind.items ∷ [] = ap items old_is ∙ map-append (λ t. t.items) front (behind ∷ []) in
     let is : items texts ≡ items front ++ (behind.items ++ here) ∷ [] =
@@ -85,7 +85,7 @@ dealt_refusal_behind c texts front behind after lines line here old_is new_is mo
     moved (default_of c.window) (default_of c.window) (lines ++ line ∷ []) (records (letters_sent c.window)) (records (letters_sent c.window))
     (map asked (collected c.window)) (map asked (collected c.window)) c.text.items c.text.items (items front ++ (behind.items ++ here) ∷ []) (items texts) (c.refused + 1) (c.refused + 1)
     refl refl refl refl is refl
-    (deal_refusal_behind (default_of c.window) c.refused lines line here (records (letters_sent c.window)) (map asked (collected c.window)) c.text.items behind.items (items front) reply
+    (deal_refusal_behind go_on (default_of c.window) c.refused lines line here (records (letters_sent c.window)) (map asked (collected c.window)) c.text.items behind.items (items front) reply
     (subst (λ l. Deals (default_of c.window) lines (records (letters_sent c.window)) (map asked (collected c.window)) c.text.items l c.refused) was old))
 
 -- All lines are dealt with, nothing is awaited, and the window said farewell.

@@ -5,8 +5,8 @@ use Rattle.desk_room.specs.Keepers.{IsOf, SameRoom}
 use Rattle.desk_room.specs.inside.Clerks.{Reports}
 use Rattle.desk_room.specs.inside.Threads.{AllFresh, AllOf, AllReport, AllSettled, IsFreshWindow, IsSettled}
 use Rattle.desk_room.specs.Serving.{AreReplies}
-use Rattle.mate_search.specs.InputReplies.{IsReply}
-use Rattle.mate_search.specs.declared.input_replies.Output.{Output}
+use Rattle.mate_answers.specs.InputReplies.{IsReply}
+use Rattle.mate_answers.specs.declared.input_replies.Output.{Output}
 use Rattle.desk_room.specs.declared.windows.Window.{Window}
 use Rattle.desk_room.specs.declared.window_ring_line.Line.{Line}
 use Rattle.desk_room.specs.declared.keepers.Keeper.{Keeper}

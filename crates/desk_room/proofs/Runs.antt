@@ -1,6 +1,6 @@
 -- Runs of events, one after the other.
 use Rattle.std.proofs.Common.{◌≡◌, ℕ, ◌+◌, Bool, List, [], ◌∷◌, ◌++◌, refl, ap, subst, arith, length-append}
-use Rattle.mate_search.specs.Jobs.{Task}
+use Rattle.mate_jobs.specs.Jobs.{Task}
 use Rattle.mate_desk.specs.declared.deliveries.Delivery.{Delivery}
 use Rattle.desk_room.specs.Events.{RoomLists, Event, Takes, Gives, Orders, Hears, May, after, Leads, AllOf, tally, is_heard, is_taken, is_ordered, is_given, accepted_by, byes_by, withdrawn_by, solved_by, returned_by, strangers_by}
 use Rattle.desk_room.specs.Passes.{Taking, Giving, Ordering, Hearing}

@@ -1,7 +1,7 @@
 -- What the desk was told, and where that changes nothing.
 use Rattle.std.proofs.Common.{◌≡◌, ◌≤◌, ℕ, zero, suc, ◌+◌, ◌-◌, Bool, true, false, nat_lt, nat_le, if◌then◌else◌, List, [], ◌∷◌, length, slice_get, Option, Some, None, is_some, refl, sym, ap, ◌∙◌, arith}
 use Rattle.std.proofs.lemmas.Bool.Decides.{nat_tests}
-use Rattle.mate_search.specs.Jobs.{Task}
+use Rattle.mate_jobs.specs.Jobs.{Task}
 use Rattle.mate_desk.specs.Content.{Content, QueueValue, EntryValue, Phase, Waiting, Finished, entries, waits, lower, lowest, is_out_with}
 use Rattle.mate_desk.specs.Calls.{change_at, has_out, after_return, withdrawn, withdrawn_at, withdraw_refusal, withdraw_refusal_of, withdraw_refusal_by, after_withdraw}
 use Rattle.mate_desk.specs.declared.refusals.WithdrawRefusal.{WithdrawRefusal}

@@ -1,6 +1,6 @@
 -- The rule of the deque of orders: what the keeper put out, what waits there, and what the benches got (own to this project).
 use Rattle.std.specs.Prelude.{◌≡◌, ℕ, ◌+◌, ◌≤◌, true, false, List, [], ◌∷◌, ◌++◌, length, map, replicate, flat_map, All, Contains, IsPermutation}
-use Rattle.mate_search.specs.Jobs.{Task}
+use Rattle.mate_jobs.specs.Jobs.{Task}
 use Rattle.desk_room.specs.declared.deque_rule.Order.{Order}
 use Rattle.desk_room.specs.declared.deque_rule.Order.TheVariants.{Solve, Stop}
 use Rattle.desk_room.specs.declared.deque_rule.View.{View}

@@ -1,6 +1,6 @@
 -- What a keeper did at its rings and its deque, and the events by which that grows (own to this project).
 use Rattle.std.specs.Prelude.{◌≡◌, ℕ, ◌+◌, ◌<◌, Bool, true, false, if◌then◌else◌, List, [], ◌∷◌, ◌++◌, length, count_by, is_none, Some}
-use Rattle.mate_search.specs.Jobs.{Task}
+use Rattle.mate_jobs.specs.Jobs.{Task}
 use Rattle.mate_desk.specs.Content.{Content, Waiting, Finished, entries, lowest, waits_as, is_out_with}
 use Rattle.mate_desk.specs.Calls.{change_at, submit_refusal, after_submit, after_take, has_out, after_return, ready, after_collect, withdraw_refusal, after_withdraw}
 use Rattle.mate_desk.specs.Deliveries.{delivery}

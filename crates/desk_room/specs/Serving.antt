@@ -1,7 +1,7 @@
 -- What inputs are served (own to this project).
 use Rattle.std.specs.Prelude.{ℕ, List, [], ◌∷◌}
-use Rattle.mate_search.specs.InputReplies.{IsReply}
-use Rattle.mate_search.specs.declared.input_replies.Output.{Output}
+use Rattle.mate_answers.specs.InputReplies.{IsReply}
+use Rattle.mate_answers.specs.declared.input_replies.Output.{Output}
 
 -- Each output is the reply to the input of its place, with the number of its refusals.
 abbrev pub AreReplies : ℕ → List (List ℕ) → List Output → Type 0

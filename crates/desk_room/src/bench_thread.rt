@@ -10,7 +10,8 @@ use crate::letters::Back;
 use crate::solve_gates::Gate;
 use crate::waits::Waits;
 use chess_moves::Rays;
-use mate_search::{Job, Memo};
+use mate_jobs::Job;
+use mate_search::Memo;
 use std::alloc::Global;
 use std::sync::Wait;
 

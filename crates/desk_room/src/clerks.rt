@@ -1,7 +1,7 @@
 //! A clerk hands one input in at a window, and writes down the reply.
 
 ghost use Rattle.std.specs.Prelude.{◌≡◌, ◌++◌, false, IfOk};
-ghost use Rattle.mate_search.specs.InputReplies.{answer_line};
+ghost use Rattle.mate_answers.specs.InputReplies.{answer_line};
 ghost use Rattle.desk_room.specs.Windows.{is_gone};
 
 use crate::bells::{Bell, Why};
@@ -10,8 +10,9 @@ use crate::window_faults::WindowFault;
 use crate::windows::Window;
 use chess_moves::Rays;
 use chess_notation::{EpdFault, is_blank};
+use mate_answers::{Output, fault_text, first_line, replies_go_on, without_cr};
 use mate_desk::Delivery;
-use mate_search::{Answer, Output, fault_text, first_line, without_cr};
+use mate_jobs::Answer;
 use std::alloc::Global;
 use std::collections::VecDeque;
 use std::sync::Wait;
@@ -49,7 +50,7 @@ fn write_answer(
 impl Clerk {
     ghost use Rattle.std.specs.Prelude.{◌≡◌, ◌<◌, ◌≤◌, ◌+◌, ◌-◌, ◌^◌, ℕ, List, [], ◌∷◌, ◌++◌, OnOk, length, true, false};
     ghost use Rattle.chess_notation.specs.Words.{is_blank as is_blank_text};
-    ghost use Rattle.mate_search.specs.InputReplies.{without_cr as text_without_cr, lines_of, IsLineReply};
+    ghost use Rattle.mate_answers.specs.InputReplies.{without_cr as text_without_cr, lines_of, IsLineReply};
     ghost use Rattle.desk_room.specs.Windows.{letters_sent, collected, deliveries_known, places_known, default_of, SameWindow};
     ghost use Rattle.desk_room.specs.inside.Clerks.{Collects, HasDealt};
 
@@ -189,6 +190,8 @@ impl Clerk {
         ensures refused { self.new.refused ≤ self.old.refused + 1 }
         ensures dealt { OnOk result ((lines : List (List ℕ)) (line : List ℕ) → IsLineReply (default_of self.old.window) (length lines + 1) (text_without_cr line) refusal.now 1 → HasDealt lines self.old → HasDealt (lines ++ line ∷ []) self.new) }
     {
+        // That a line's reply follows those to the lines before it is this law.
+        replies_go_on();
         self.refused += 1;
         let Some(mut behind) = self.behind.pop_back() else {
             self.text.extend_from_slice(refusal)?;
@@ -209,6 +212,8 @@ impl Clerk {
         ensures few { self.new.refused ≤ self.old.refused + 1 }
         ensures dealt { OnOk result ((lines : List (List ℕ)) (whole : List ℕ) → length lines + 1 ≡ number → text_without_cr whole ≡ line.now → is_blank_text line.now ≡ false → HasDealt lines self.old → HasDealt (lines ++ whole ∷ []) self.new) }
     {
+        // That a line's reply follows those to the lines before it is this law.
+        replies_go_on();
         match self.window.submit(alloc, rays, line) {
             Ok(()) => {
                 if self.behind.push_back(Vec::new(alloc)).is_err() {
@@ -246,6 +251,8 @@ impl Clerk {
         ensures few { OnOk result (self.new.refused ≤ self.old.refused + 1) }
         ensures dealt { OnOk result ((lines : List (List ℕ)) → length lines + 1 ≡ number → HasDealt lines self.old → HasDealt (lines ++ line.now ∷ []) self.new) }
     {
+        // That a line's reply follows those to the lines before it is this law.
+        replies_go_on();
         let line = without_cr(line);
         if is_blank(line) {
             return Ok(());

@@ -7,7 +7,7 @@ ghost use Rattle.desk_room.specs.DequeRule.{stops};
 use crate::deque_rule::{Dealing, Hands, Order, Puts, View};
 use crate::deque_seat::Seat;
 use crossbeam_deque::Worker;
-use mate_search::Job;
+use mate_jobs::Job;
 use std::alloc::{AllocError, Global};
 
 /// What puts orders out, and hands out the seats at which they are taken.

@@ -7,11 +7,11 @@ ghost use Rattle.std.specs.Prelude.{◌≡◌, ◌++◌};
 ghost use Rattle.desk_room.specs.DequeRule.{keeper_view, bench_view};
 
 use crossbeam_deque::protocol::{Outcome, Protocol, Split};
-use mate_search::Job;
+use mate_jobs::Job;
 use std::collections::LinkedList;
 
 /// An order to a bench.
-#[derive(Debug, Drop)]
+#[derive(Drop)]
 pub enum Order {
     /// Solve this job.
     Solve(Job),

@@ -6,11 +6,11 @@ ghost use Rattle.desk_room.specs.DequeRule.{stops, bench_view};
 
 use crate::deque_rule::{Dealing, Order, Takes, View};
 use crossbeam_deque::{Pass, Steal, Stealer};
-use mate_search::Job;
+use mate_jobs::Job;
 use std::alloc::Global;
 
 /// What a bench finds to do.
-#[derive(Debug, Drop)]
+#[derive(Drop)]
 pub enum Taken {
     /// This job is to be solved, or to be given back.
     Job(Job),

@@ -1,10 +1,10 @@
 //! What goes over the rings.
 
 use chess_notation::Record;
-use mate_search::{Done, Job};
+use mate_jobs::{Done, Job};
 
 /// What a window sends the keeper.
-#[derive(Debug, Drop)]
+#[derive(Drop)]
 pub enum Letter {
     /// A record to be answered.
     Record(Record),
@@ -15,7 +15,7 @@ pub enum Letter {
 }
 
 /// What a bench gives back to the keeper.
-#[derive(Debug, Drop)]
+#[derive(Drop)]
 pub enum Back {
     /// A job that was solved.
     Solved(Done),

@@ -17,7 +17,7 @@ use crate::keepers::Keeper;
 use crate::window_ring_line::Line;
 use crate::window_rings::open_line;
 use crate::windows::Window;
-use chess_notation::Bound;
+use chess_problems::Bound;
 use mate_desk::Desk;
 use std::alloc::{AllocError, Global};
 use thiserror::Error;

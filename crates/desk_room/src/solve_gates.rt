@@ -2,7 +2,7 @@
 
 ghost use Rattle.std.specs.Prelude.{IsTrue};
 
-use mate_search::Ticket;
+use mate_jobs::Ticket;
 
 /// Is asked by a bench, counted from 0, that has taken a job: true to solve it, false to hand it back.
 pub trait Gate: Sync {
@@ -10,7 +10,7 @@ pub trait Gate: Sync {
 }
 
 /// The gate that lets each job pass.
-#[derive(Clone, Copy, Debug, Default)]
+#[derive(Clone, Copy, Default)]
 pub struct OpenGate;
 
 impl Gate for OpenGate {

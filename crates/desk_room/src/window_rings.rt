@@ -6,7 +6,7 @@ ghost use Rattle.desk_room.specs.WindowRings.{letters_taken, deliveries_put, pla
 
 use crate::window_ring_line::Line;
 use crate::windows::Window;
-use chess_notation::Bound;
+use chess_problems::Bound;
 use rtrb::RingBuffer;
 use std::alloc::{AllocError, Global};
 

@@ -1,7 +1,7 @@
 //! At one window: an input is handed in, its reply collected, and the window comes back with that, in a report.
 
 ghost use Rattle.std.specs.Prelude.{◌≡◌, [], OnOk};
-ghost use Rattle.mate_search.specs.InputReplies.{lines_of};
+ghost use Rattle.mate_answers.specs.InputReplies.{lines_of};
 ghost use Rattle.desk_room.specs.Letters.{records};
 ghost use Rattle.desk_room.specs.Windows.{letters_sent, collected, SameWindow};
 ghost use Rattle.desk_room.specs.inside.Clerks.{HasDealt, Reports};
@@ -11,7 +11,7 @@ use crate::clerks::Clerk;
 use crate::waits::Waits;
 use crate::windows::Window;
 use chess_moves::Rays;
-use mate_search::Output;
+use mate_answers::Output;
 use std::alloc::Global;
 use std::sync::Wait;
 

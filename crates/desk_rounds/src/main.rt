@@ -7,9 +7,11 @@
 #![tactic(auto)]
 
 use chess_moves::Rays;
-use chess_notation::{Bound, Record, read_record};
+use chess_notation::{Record, read_record};
+use chess_problems::Bound;
 use mate_desk::{Delivery, Desk};
-use mate_search::{Job, Memo, Ticket};
+use mate_jobs::{Job, Ticket};
+use mate_search::Memo;
 use std::alloc::Global;
 use std::env;
 use std::process::ExitCode;

@@ -6,7 +6,7 @@ use Rattle.std.proofs.lemmas.List.{drop-append-le, take-append-le, length-drop}
 use Rattle.std.proofs.lemmas.List.Folds.{list_any-append}
 use Rattle.chess_notation.specs.Records.{RecordValue, Reads}
 use Rattle.mate_desk.specs.Content.{Content, EntryValue, QueueValue, Phase, Waiting, is_out_with}
-use Rattle.mate_search.specs.Jobs.{Task}
+use Rattle.mate_jobs.specs.Jobs.{Task}
 use Rattle.mate_desk.specs.Calls.{change_at, with_entry, has_out}
 use Rattle.mate_desk.specs.History.{Claim, Parcel}
 use Rattle.mate_desk.specs.Headline.{AreForFirst}

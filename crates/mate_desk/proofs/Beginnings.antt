@@ -4,7 +4,7 @@ use Rattle.std.specs.List.{list_any}
 use Rattle.std.proofs.lemmas.List.{length-map}
 use Rattle.std.proofs.lemmas.Bool.Decides.{nat_tests}
 use Rattle.chess_notation.specs.Records.{RecordValue}
-use Rattle.mate_search.specs.Jobs.{Task}
+use Rattle.mate_jobs.specs.Jobs.{Task}
 use Rattle.mate_desk.specs.Content.{Content, EntryValue, QueueValue, entries, lowest, lower, waits, has_ticket, is_waiting, is_out}
 use Rattle.mate_desk.specs.Calls.{empty, has_out}
 use Rattle.mate_desk.specs.declared.steps_and_replies.Step.{Step}

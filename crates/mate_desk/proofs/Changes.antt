@@ -2,7 +2,7 @@
 use Rattle.std.proofs.Common.{◌≡◌, ◌≢◌, ℕ, zero, suc, ◌+◌, ◌<◌, ◌≤◌, List, [], ◌∷◌, ◌++◌, length, map, get_or, set, Bool, true, false, ◌&&◌, ap, refl, sym, ◌∙◌, arith, None, Some, slice_get}
 use Rattle.std.proofs.lemmas.Bool.Decides.{nat_tests}
 use Rattle.std.proofs.lemmas.Option.{slice_get-get_or}
-use Rattle.mate_search.specs.Jobs.{Task}
+use Rattle.mate_jobs.specs.Jobs.{Task}
 use Rattle.mate_desk.specs.Content.{EntryValue, QueueValue, Phase, is_out, waits, has_ticket, has_task, waits_as, is_out_with}
 use Rattle.mate_desk.specs.Calls.{change_at, into_phase, in_queue}
 use Rattle.mate_desk.specs.Laws.{Rises, AreBelow}

@@ -2,7 +2,7 @@
 use Rattle.std.proofs.Common.{◌≡◌, ℕ, zero, suc, ◌+◌, ◌<◌, ◌≤◌, List, [], ◌∷◌, ◌++◌, length, map, slice_get, Bool, true, false, ap, refl, sym, ◌∙◌, subst, arith, None, Some, Option, nat_lt, if◌then◌else◌, ◌==◌}
 use Rattle.std.proofs.lemmas.Bool.Decides.{nat_tests}
 use Rattle.chess_notation.specs.Records.{RecordValue, Reads}
-use Rattle.mate_search.specs.Jobs.{Task}
+use Rattle.mate_jobs.specs.Jobs.{Task}
 use Rattle.mate_desk.specs.Content.{Content, EntryValue, QueueValue, Phase, Waiting, Out, Finished, is_ready}
 use Rattle.mate_desk.specs.Calls.{change_at, ready_first, ready_of, ready, collected, after_collect}
 use Rattle.mate_desk.specs.Deliveries.{delivery}

@@ -2,9 +2,9 @@
 use Rattle.std.proofs.Common.{◌≡◌, ◌≢◌, ℕ, zero, suc, ◌≤◌, List, [], ◌∷◌, ◌++◌, length, map, filter, slice_get, true, false, not, ap, refl, sym, ◌∙◌, subst, arith, None, Some, cond, ◌||◌, ◌&&◌, ◌==◌, ◌+◌, Bool}
 use Rattle.std.specs.List.{list_any, remove}
 use Rattle.std.proofs.lemmas.Bool.Decides.{nat_tests}
-use Rattle.mate_search.specs.Jobs.{Task}
+use Rattle.mate_jobs.specs.Jobs.{Task}
 use Rattle.mate_desk.specs.Content.{Content, EntryValue, entries, has_ticket, is_out, is_out_with}
-use Rattle.mate_search.specs.Jobs.{is_same_problem}
+use Rattle.chess_problems.specs.SameProblems.{is_same_problem}
 use Rattle.chess_notation.specs.Records.{problem_of}
 use Rattle.mate_desk.specs.History.{without}
 use Rattle.mate_desk.specs.Calls.{has_out}

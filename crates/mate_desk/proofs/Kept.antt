@@ -2,7 +2,7 @@
 use Rattle.std.proofs.Common.{◌≡◌, ◌≢◌, ℕ, zero, suc, ◌+◌, ◌-◌, ◌<◌, ◌≤◌, nat_lt, nat_le, List, [], ◌∷◌, ◌++◌, length, set, Bool, true, false, not, ◌&&◌, ◌||◌, ap, refl, sym, ◌∙◌, subst, arith, Some, None, slice_get, length-set, sum_by}
 use Rattle.std.specs.List.{list_any}
 use Rattle.std.proofs.lemmas.Bool.Decides.{nat_tests}
-use Rattle.mate_search.specs.Jobs.{Task}
+use Rattle.mate_jobs.specs.Jobs.{Task}
 use Rattle.chess_notation.specs.Records.{problem_of}
 use Rattle.mate_desk.specs.Content.{EntryValue, QueueValue, Phase, Waiting, Out, Finished, is_out, is_waiting, is_finished, waits, waits_as, has_ticket, has_task, is_out_with, lowest}
 use Rattle.mate_desk.specs.Calls.{in_queue, into_phase, withdrawn, withdrawn_at, withdraw_refusal_of, change_at}

@@ -3,7 +3,7 @@ use Rattle.std.proofs.Common.{◌≡◌, ◌≢◌, ℕ, ◌≤◌, List, [], �
 use Rattle.std.specs.List.{remove}
 use Rattle.std.proofs.lemmas.List.{map-append}
 use Rattle.chess_notation.specs.Records.{RecordValue}
-use Rattle.mate_search.specs.Jobs.{Task}
+use Rattle.mate_jobs.specs.Jobs.{Task}
 use Rattle.mate_desk.specs.Content.{Content, Waiting, Out, Finished, is_waiting, is_out, entries, lowest, has_ticket}
 use Rattle.mate_desk.specs.Calls.{into_phase, in_queue, everywhere, has_out, after_close}
 use Rattle.mate_desk.specs.History.{History, accepted, delivered, phase, withdrawn, hand, count_accepted, without}

@@ -2,8 +2,8 @@
 use Rattle.std.proofs.Common.{◌≡◌, ℕ, zero, suc, ◌+◌, ◌<◌, ◌≤◌, List, [], ◌∷◌, ◌++◌, length, get_or, set, sum_by, swap_remove, Bool, true, false, cond, ap, refl, sym, ◌∙◌, subst, arith, Some, slice_get}
 use Rattle.std.proofs.lemmas.List.Sums.{sum_by-cons, sum_by-append, sum_by-set, sum_by-swap_remove}
 use Rattle.std.proofs.lemmas.Option.{slice_get-get_or}
-use Rattle.chess_notation.specs.Problems.{ProblemValue}
-use Rattle.mate_search.specs.Jobs.{Task}
+use Rattle.chess_problems.specs.Problems.{ProblemValue}
+use Rattle.mate_jobs.specs.Jobs.{Task}
 use Rattle.chess_notation.specs.Records.{problem_of}
 use Rattle.mate_desk.specs.Content.{EntryValue, is_finished, has_task}
 use Rattle.mate_desk.specs.inside.Keeping.{task_of, finished_by, AreSolved}

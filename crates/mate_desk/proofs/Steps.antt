@@ -2,7 +2,7 @@
 use Rattle.std.proofs.Common.{◌≡◌, ◌≢◌, ℕ, zero, suc, [], ◌∷◌, is_some, ◌<◌, ◌+◌, ◌≤◌, ◌==◌, nat_le, List, length, set, get_or, Bool, true, false, ap, refl, sym, ◌∙◌, subst, arith, None, Some, Option, slice_get, count_by, IfNone, IfSome, IfOk, IfErr, Result, Ok, Err}
 use Rattle.std.specs.List.{list_any}
 use Rattle.std.proofs.lemmas.Bool.Decides.{nat_tests}
-use Rattle.mate_search.specs.Jobs.{Task}
+use Rattle.mate_jobs.specs.Jobs.{Task}
 use Rattle.mate_desk.specs.Content.{Content, EntryValue, QueueValue, Phase, Waiting, Out, Finished, is_waiting, is_out, waits, has_ticket, waits_as, is_out_with, entries, lowest}
 use Rattle.mate_desk.specs.Calls.{with_queue, in_queue, everywhere, into_phase, has_out, after_take, after_return, submit_refusal, withdraw_refusal, withdraw_refusal_of, withdrawn_at, after_withdraw, change_at, ready, ready_of, ready_first, collected, collected_by, after_collect}
 use Rattle.mate_desk.specs.Laws.{AreKept}

@@ -6,7 +6,7 @@ use Rattle.chess_notation.specs.Records.{RecordValue, Reads}
 use Rattle.chess_notation.specs.EpdFaults.{IsFaultOf}
 use Rattle.chess_notation.specs.declared.epd_faults.EpdFault.{EpdFault}
 use Rattle.chess_notation.specs.declared.epd_faults.EpdFault.TheVariants.{NoMemory}
-use Rattle.mate_search.specs.Jobs.{Task}
+use Rattle.mate_jobs.specs.Jobs.{Task}
 use Rattle.mate_desk.specs.Content.{Content, QueueValue, Phase, Waiting, is_out_with}
 use Rattle.mate_desk.specs.Calls.{change_at, with_entry, after_submit, submit_refusal}
 use Rattle.mate_desk.specs.declared.refusals.SubmitRefusal.{SubmitRefusal}

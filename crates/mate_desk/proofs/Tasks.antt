@@ -1,7 +1,8 @@
 -- An entry and the job that it is given out as.
 use Rattle.std.proofs.Common.{◌≡◌, true, refl}
 use Rattle.chess_board.specs.Soundness.{IsSound}
-use Rattle.mate_search.specs.Jobs.{Task, SameProblemReads}
+use Rattle.mate_jobs.specs.Jobs.{Task}
+use Rattle.chess_problems.specs.SameProblems.{SameProblemReads}
 use Rattle.chess_notation.specs.Records.{problem_of}
 use Rattle.mate_desk.specs.Content.{EntryValue, has_task}
 use Rattle.mate_desk.proofs.Tests.{and_holds, same_number}

@@ -2,7 +2,7 @@
 use Rattle.std.proofs.Common.{◌≡◌, ℕ, zero, suc, ◌+◌, List, [], ◌∷◌, ◌++◌, length, map, flat_map, take, drop, Bool, true, false, not, ap, refl, sym, ◌∙◌, subst, arith, None, Some, Option, nat_lt, ◌||◌, ◌&&◌, if◌then◌else◌}
 use Rattle.std.specs.List.{list_any}
 use Rattle.chess_notation.specs.Records.{RecordValue}
-use Rattle.mate_search.specs.Jobs.{Task}
+use Rattle.mate_jobs.specs.Jobs.{Task}
 use Rattle.mate_desk.specs.Content.{Content, EntryValue, QueueValue, Phase, Waiting, Out, Finished, is_waiting, is_finished, is_out, is_out_with, waits, lower, lowest, entries}
 use Rattle.mate_desk.specs.Calls.{has_out}
 use Rattle.mate_desk.specs.History.{History, Claim, accepted, delivered, phase, withdrawn, count_accepted}

@@ -4,7 +4,7 @@ use Rattle.std.specs.List.{list_any}
 use Rattle.std.specs.Option.{option_map}
 use Rattle.std.proofs.lemmas.Bool.Decides.{nat_tests}
 use Rattle.chess_notation.specs.Records.{RecordValue}
-use Rattle.mate_search.specs.Jobs.{Task}
+use Rattle.mate_jobs.specs.Jobs.{Task}
 use Rattle.mate_desk.specs.Content.{Content, EntryValue, QueueValue, Phase, is_out_with, is_finished}
 use Rattle.mate_desk.specs.Calls.{change_at, withdrawn as mark, withdrawn_at, after_withdraw, withdraw_refusal, withdraw_refusal_of, withdraw_refusal_by}
 use Rattle.mate_desk.specs.declared.refusals.WithdrawRefusal.{WithdrawRefusal}

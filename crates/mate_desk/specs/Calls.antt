@@ -2,7 +2,7 @@
 use Rattle.std.specs.Prelude.{ℕ, zero, suc, ◌+◌, ◌-◌, ◌^◌, ◌==◌, nat_lt, nat_le, Bool, true, false, if◌then◌else◌, List, [], ◌∷◌, ◌++◌, length, map, drop, replicate, slice_get, Option, None, Some}
 use Rattle.std.specs.List.{list_any, list_all}
 use Rattle.chess_notation.specs.Records.{RecordValue}
-use Rattle.mate_search.specs.Jobs.{Task}
+use Rattle.mate_jobs.specs.Jobs.{Task}
 use Rattle.mate_desk.specs.Content.{Content, QueueValue, EntryValue, Phase, Waiting, Out, entries, is_ready, waits_as, is_out_with}
 use Rattle.mate_desk.specs.declared.refusals.SubmitRefusal.{SubmitRefusal}
 use Rattle.mate_desk.specs.declared.refusals.SubmitRefusal.TheVariants as submit

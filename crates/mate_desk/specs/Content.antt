@@ -1,7 +1,8 @@
 -- What a desk holds (own to this project).
 use Rattle.std.specs.Prelude.{ℕ, ◌==◌, nat_lt, Bool, true, false, not, ◌&&◌, if◌then◌else◌, List, [], ◌∷◌, flat_map, Option, None, Some}
 use Rattle.chess_notation.specs.Records.{RecordValue}
-use Rattle.mate_search.specs.Jobs.{Task, is_same_problem}
+use Rattle.mate_jobs.specs.Jobs.{Task}
+use Rattle.chess_problems.specs.SameProblems.{is_same_problem}
 use Rattle.chess_notation.specs.Records.{problem_of}
 
 -- A record waits, is out with a job, or is finished: then the outcome that is right for it is there.

@@ -1,7 +1,7 @@
 -- What a desk promises those who submit, whatever steps were made.
 use Rattle.std.specs.Prelude.{◌≡◌, ℕ, Bool, true, false, List, [], ◌∷◌, length, take, slice_get, Some}
 use Rattle.chess_board.specs.Moves.{Move}
-use Rattle.chess_notation.specs.declared.problems.Outcome.{Outcome}
+use Rattle.chess_problems.specs.declared.outcomes.Outcome.{Outcome}
 use Rattle.chess_notation.specs.Records.{RecordValue, Reads, problem_of}
 use Rattle.mate_search.specs.Laws.{AreFirstMoves, IsTold}
 use Rattle.mate_desk.specs.declared.steps_and_replies.Step.{Step}

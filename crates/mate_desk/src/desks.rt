@@ -13,7 +13,7 @@ use crate::lookups::{first_waiting, place_out};
 use crate::queues::Queue;
 use crate::refusals::{DeskFault, NoSuchSubmitter, Stranger, SubmitRefusal, WithdrawRefusal};
 use chess_notation::Record;
-use mate_search::{Done, Job, Ticket};
+use mate_jobs::{Done, Job, Ticket};
 use std::alloc::Global;
 use std::marker::Model;
 

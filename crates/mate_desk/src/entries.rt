@@ -8,8 +8,9 @@ ghost use Rattle.mate_desk.specs.inside.Keeping.{task_of};
 ghost use Rattle.mate_desk.specs.declared.deliveries.Delivery.TheVariants.{Answer, Notice};
 
 use crate::deliveries::Delivery;
-use chess_notation::{Problem, Record};
-use mate_search::{Done, Job, Ticket, asks, same_problem_reads};
+use chess_notation::Record;
+use chess_problems::{Problem, same_problem_reads};
+use mate_jobs::{Done, Job, Ticket, asks};
 use std::marker::Model;
 
 /// How far a record came.

@@ -2,13 +2,13 @@
 
 ghost use Rattle.std.specs.Prelude.{◌≡◌, ◌<◌, ◌+◌, IfOk, vec_len, vec_capacity};
 
-use mate_search::Answer;
+use mate_jobs::Answer;
 use std::alloc::{AllocError, Global};
 use std::marker::Model;
 
 /// An answer that stands outside the reply that holds it: its fixed room is more than a hundred times that of any other reply.
 /// Contracts see the answer alone.
-#[derive(Debug, Drop)]
+#[derive(Drop)]
 pub struct HeldAnswer {
     place: Vec<Answer>,
 }

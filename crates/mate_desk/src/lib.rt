@@ -35,18 +35,3 @@ pub use refusals::{DeskFault, NoSuchSubmitter, Stranger, SubmitRefusal, Withdraw
 pub use reply_texts::reply_text;
 pub use runs::{RunFault, run};
 pub use steps_and_replies::{Reply, Step};
-
-#[cfg(test)]
-mod limit_tests;
-#[cfg(test)]
-mod row_tests;
-#[cfg(test)]
-mod run_tests;
-#[cfg(test)]
-mod run_withdrawal_tests;
-#[cfg(test)]
-mod stranger_tests;
-#[cfg(test)]
-mod test_plain_desk;
-#[cfg(test)]
-mod walk_tests;

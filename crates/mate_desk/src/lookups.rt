@@ -6,8 +6,8 @@ ghost use Rattle.mate_desk.specs.Content.{QueueValue, lowest, is_out_with};
 ghost use Rattle.mate_desk.specs.inside.Keeping.{is_lower as is_lower_ticket, IsOutIn};
 
 use crate::queues::Queue;
-use chess_notation::Problem;
-use mate_search::Ticket;
+use chess_problems::Problem;
+use mate_jobs::Ticket;
 
 /// The submitter and the place of the record that is out with a job of that ticket and problem.
 pub(crate) fn place_out(

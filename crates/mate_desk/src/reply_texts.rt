@@ -6,7 +6,7 @@ ghost use Rattle.mate_desk.specs.ReplyTexts.{reply_text as text_of};
 use crate::steps_and_replies::Reply;
 use chess_moves::Rays;
 use chess_notation::NoMemory;
-use mate_search::Ticket;
+use mate_jobs::Ticket;
 use std::alloc::{AllocError, Global};
 
 /// One text behind another.

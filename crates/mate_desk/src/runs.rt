@@ -15,7 +15,7 @@ use crate::refusals::DeskFault;
 use crate::stepping::make;
 use crate::steps_and_replies::{Reply, Step};
 use chess_moves::Rays;
-use chess_notation::Bound;
+use chess_problems::Bound;
 use mate_search::Memo;
 use std::alloc::Global;
 use thiserror::Error;

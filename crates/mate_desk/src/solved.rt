@@ -1,14 +1,14 @@
 //! What was solved and is not collected yet.
 
 ghost use Rattle.std.specs.Prelude.{ℕ, ◌≡◌, ◌+◌, ◌≤◌, true, ◌<◌, length, vec_capacity, slice_get, sum_by, count_by, Some, IfSome, IfNone};
-ghost use Rattle.mate_search.specs.Jobs.{Task};
+ghost use Rattle.mate_jobs.specs.Jobs.{Task};
 ghost use Rattle.mate_desk.specs.Content.{is_ready, has_task};
 ghost use Rattle.mate_desk.specs.Deliveries.{delivery_of};
 ghost use Rattle.mate_desk.specs.inside.Keeping.{task_of, finished_by};
 
 use crate::deliveries::Delivery;
 use crate::entries::Entry;
-use mate_search::Done;
+use mate_jobs::Done;
 
 /// Where what was solved of a record stands.
 fn place_of(solved: &[Done], entry: &Entry) -> Option<usize>

@@ -1,7 +1,7 @@
 //! One step at a desk with the jobs in hand.
 
 ghost use Rattle.std.specs.Prelude.{ℕ, List, ◌≡◌, ◌<◌, ◌≤◌, ◌+◌, ◌-◌, ◌^◌, Some, true, cond, vec_len, vec_capacity};
-ghost use Rattle.mate_search.specs.Jobs.{Task};
+ghost use Rattle.mate_jobs.specs.Jobs.{Task};
 ghost use Rattle.mate_desk.specs.Content.{entries, lowest};
 ghost use Rattle.mate_desk.specs.inside.Mirrors.{Makes};
 ghost use Rattle.mate_desk.specs.inside.Stepping.{delivery_reply, found_reply, answers, collects, finishes, count_done};
@@ -12,8 +12,10 @@ use crate::desks::Desk;
 use crate::held_answers::{Place, hold};
 use crate::steps_and_replies::{Reply, Step};
 use chess_moves::Rays;
-use chess_notation::{Bound, read_record};
-use mate_search::{Job, Memo};
+use chess_notation::read_record;
+use chess_problems::Bound;
+use mate_jobs::Job;
+use mate_search::Memo;
 use std::alloc::Global;
 
 /// Makes one step. An answer is held in one of the places.

@@ -5,8 +5,10 @@ ghost use Rattle.mate_desk.specs.Headline.{AnswersTruly, is_answer};
 
 use crate::held_answers::HeldAnswer;
 use crate::refusals::{SubmitRefusal, WithdrawRefusal};
-use chess_notation::{EpdFault, Outcome};
-use mate_search::{Ticket, truth_reads};
+use chess_notation::EpdFault;
+use chess_problems::Outcome;
+use mate_jobs::Ticket;
+use mate_search::truth_reads;
 
 /// What is done with a desk. Submitters are numbered from 0.
 #[derive(Debug, PartialEq, Eq, Drop)]
@@ -31,7 +33,7 @@ pub enum Step {
 }
 
 /// What a step is answered.
-#[derive(Debug, Drop)]
+#[derive(Drop)]
 pub enum Reply {
     /// The record was accepted under this ticket.
     Ticket(Ticket),

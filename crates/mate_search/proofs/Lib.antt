@@ -5,11 +5,7 @@ pub mod Playing
 pub mod Playable
 pub mod Readings
 pub mod MoveOrder
-pub mod InputLines
-pub mod InputReplies
 pub mod Room
-pub mod KeptLines
 pub mod Known
 pub mod PrincipalVariations
 pub mod FirstMoves
-pub mod SameProblems

@@ -9,9 +9,9 @@ use Rattle.chess_moves.specs.inside.Listing.{legal_moves}
 use Rattle.chess_moves.specs.Laws.{IsLine, LegalListed}
 use Rattle.mate_search.specs.Wins.{leaves_lost}
 use Rattle.mate_search.specs.inside.Variation.{variation, least_key, longest_defence, defence}
-use Rattle.chess_notation.specs.Answers.{AreLegal, IsPlayable}
-use Rattle.chess_notation.specs.declared.problems.Outcome.{Outcome}
-use Rattle.chess_notation.specs.Problems.{ProblemValue}
+use Rattle.chess_problems.specs.Outcomes.{AreLegal, IsPlayable}
+use Rattle.chess_problems.specs.declared.outcomes.Outcome.{Outcome}
+use Rattle.chess_problems.specs.Problems.{ProblemValue}
 use Rattle.mate_search.specs.inside.Truth.{dist, first_moves, truth, truth_among}
 use Rattle.mate_search.proofs.Searches.{found_has}
 use Rattle.mate_search.proofs.FirstMoves.{first_moves_legal}

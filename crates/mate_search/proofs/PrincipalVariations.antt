@@ -5,6 +5,7 @@ use Rattle.chess_board.specs.Moves.{Move}
 use Rattle.chess_board.specs.MakeMove.{after_setup}
 use Rattle.chess_moves.specs.inside.Listing.{legal_moves}
 use Rattle.chess_moves.specs.Laws.{IsRising, LegalRise}
+use Rattle.chess_problems.specs.SameProblems.{SameMoveReads}
 use Rattle.mate_search.specs.Wins.{win, lost, leaves_lost, win_among}
 use Rattle.mate_search.specs.inside.Variation.{variation, least_key}
 use Rattle.mate_search.specs.PrincipalVariation.{IsKey, IsPrincipalVariation}
@@ -74,8 +75,8 @@ module _ (rise : LegalRise) where
         )
   ]) refl
 
-  pub truth_reads : TruthReads
+  pub truth_reads : SameMoveReads → TruthReads
   unfolding truth
-  truth_reads q =
-      let first = first_moves_are rise q in
+  truth_reads same q =
+      let first = first_moves_are same rise q in
       (first_moves q, first, among_told (first_moves q) q.position q.bound first.1)

@@ -10,8 +10,8 @@ use Rattle.chess_board.specs.MakeMove.{after_setup}
 use Rattle.chess_moves.specs.inside.Listing.{legal_moves}
 use Rattle.chess_moves.specs.Verdicts.{has_legal_move, is_mate}
 use Rattle.mate_search.specs.Wins.{win, leaves_lost}
-use Rattle.chess_notation.specs.declared.problems.Outcome.{Outcome}
-use Rattle.chess_notation.specs.declared.problems.Outcome.TheVariants.{Mate, NoMate}
+use Rattle.chess_problems.specs.declared.outcomes.Outcome.{Outcome}
+use Rattle.chess_problems.specs.declared.outcomes.Outcome.TheVariants.{Mate, NoMate}
 use Rattle.mate_search.specs.inside.Truth.{dist, truth_among}
 use Rattle.mate_search.specs.Laws.{WinReads, LostReads}
 use Rattle.mate_search.specs.inside.PartLaws.{KeysRead, DistReads, NoDistReads}

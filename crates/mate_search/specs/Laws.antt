@@ -6,11 +6,12 @@ use Rattle.chess_board.specs.MakeMove.{after_setup}
 use Rattle.chess_moves.specs.inside.Listing.{legal_moves}
 use Rattle.chess_moves.specs.Verdicts.{is_mate}
 use Rattle.chess_moves.specs.Laws.{IsRising}
-use Rattle.chess_notation.specs.declared.problems.Outcome.{Outcome}
-use Rattle.chess_notation.specs.declared.problems.Outcome.TheVariants.{Mate, NoMate}
+use Rattle.chess_problems.specs.declared.outcomes.Outcome.{Outcome}
+use Rattle.chess_problems.specs.declared.outcomes.Outcome.TheVariants.{Mate, NoMate}
 use Rattle.mate_search.specs.Wins.{win, lost}
 use Rattle.mate_search.specs.PrincipalVariation.{IsKey, IsPrincipalVariation}
-use Rattle.chess_notation.specs.Problems.{ProblemValue}
+use Rattle.chess_problems.specs.Problems.{ProblemValue}
+use Rattle.chess_problems.specs.Outcomes.{IsPlayable}
 use Rattle.mate_search.specs.inside.Truth.{truth}
 
 -- There is no mate within 0. One within n + 1 moves is a legal move that leaves the defender lost with n more.
@@ -49,6 +50,10 @@ AreFirstMoves q first = ((m : Move) → Contains first m ↔ (Contains (legal_mo
 -- This is told of a problem.
 abbrev pub TruthReads : Type 0
 TruthReads = (q : ProblemValue) → (first : List Move) × AreFirstMoves q first × IsTold first q.position q.bound (truth q)
+
+-- What is told of a problem can be played in its position.
+abbrev pub TruthPlayable : Type 0
+TruthPlayable = (q : ProblemValue) → IsPlayable q.position (truth q)
 
 -- the position that a line leads to
 abbrev pub after_line : Setup → List Move → Setup

@@ -2,8 +2,4 @@ pub mod Wins
 pub mod PrincipalVariation
 pub mod Memos
 pub mod Laws
-pub mod InputReplies
-pub mod Inputs
-pub mod Stops
-pub mod Jobs
 pub mod inside

@@ -2,4 +2,3 @@ pub mod Variation
 pub mod Truth
 pub mod PartLaws
 pub mod MemoEntries
-pub mod InputLines

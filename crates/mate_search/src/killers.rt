@@ -4,14 +4,14 @@ use chess_board::Move;
 
 /// Replies to be tried before all others: for each number of moves left to the attacker the two that refuted last. They say
 /// nothing about any position.
-#[derive(Clone, Copy, Debug)]
+#[derive(Clone, Copy)]
 pub(crate) struct Killers {
     /// By the number of moves left; no bound is above 15.
     pairs: [Pair; 16],
 }
 
 /// Two replies, the one that refuted last before the other.
-#[derive(Clone, Copy, Debug)]
+#[derive(Clone, Copy)]
 struct Pair {
     last: Option<Move>,
     earlier: Option<Move>,
@@ -42,32 +42,5 @@ impl Killers {
                 earlier: pair.last,
             };
         }
-    }
-}
-
-#[cfg(test)]
-mod tests {
-    use super::*;
-    use chess_board::Square;
-    use std::process::Abort;
-
-    #[test]
-    fn keeps_the_last_two_replies(rt: HostRuntime) {
-        let to = |number| Move {
-            origin: Square::numbered(0),
-            target: Square::numbered(number),
-            promotion: None,
-        };
-        let mut killers = Killers::none();
-        assert_eq!(rt; killers.two(1), (None, None));
-        killers.keep(1, to(8));
-        killers.keep(1, to(8));
-        assert_eq!(rt; killers.two(1), (Some(to(8)), None));
-        killers.keep(1, to(9));
-        killers.keep(2, to(10));
-        assert_eq!(rt; killers.two(1), (Some(to(9)), Some(to(8))));
-        killers.keep(1, to(8));
-        assert_eq!(rt; killers.two(1), (Some(to(8)), Some(to(9))));
-        assert_eq!(rt; killers.two(2), (Some(to(10)), None));
     }
 }

@@ -1,9 +1,10 @@
 //! Laws about the definitions. A function here does nothing, beyond citing a law of the rules: its contract is the law.
 
-ghost use Rattle.mate_search.specs.Laws.{WinReads, LostReads, WinGrows, TruthReads, LineMates};
+ghost use Rattle.mate_search.specs.Laws.{WinReads, LostReads, WinGrows, TruthReads, TruthPlayable, LineMates};
 ghost use Rattle.mate_search.specs.inside.PartLaws.{AmongAll, KeysRead, KeysRise, LineReads, DistReads, NoDistReads};
 
-use chess_moves::legal_rise;
+use chess_moves::{legal_listed, legal_rise};
+use chess_problems::same_move_reads;
 
 /// There is no mate within 0, and one within n + 1 is a legal move that leaves the defender lost with n more.
 pub fn win_reads()
@@ -59,7 +60,15 @@ pub fn no_dist_reads()
 pub fn truth_reads()
     ensures { TruthReads }
 {
+    same_move_reads();
     legal_rise();
+}
+
+/// What `solve` tells of a problem can be played: keys and line are legal moves.
+pub fn truth_playable()
+    ensures { TruthPlayable }
+{
+    legal_listed();
 }
 
 /// The line that `solve` tells of a mate in n moves has 2n - 1 moves, and ends in mate.

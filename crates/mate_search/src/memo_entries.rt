@@ -8,7 +8,7 @@ ghost use Rattle.mate_search.specs.inside.MemoEntries.{IsTrueOf};
 
 /// What is known of a position: the greatest number of moves within which there is no mate, and the least within which there is
 /// one, where such a number was found.
-#[derive(Clone, Copy, Debug, PartialEq, Eq)]
+#[derive(Clone, Copy, PartialEq, Eq)]
 pub(crate) struct Entry {
     pub none_within: u8,
     pub win_within: Option<u8>,
@@ -55,24 +55,5 @@ impl Entry {
                 win_within: Some(n),
             },
         }
-    }
-}
-
-#[cfg(test)]
-mod tests {
-    use super::*;
-    use std::process::Abort;
-
-    #[test]
-    fn serves_what_it_keeps(rt: HostRuntime) {
-        let none = Entry::nothing().with(3, false);
-        assert_eq!(rt; none.answer(2), Some(false));
-        assert_eq!(rt; none.answer(3), Some(false));
-        assert_eq!(rt; none.answer(4), None);
-        let both = none.with(7, true).with(5, true).with(6, true);
-        assert_eq!(rt; both.answer(3), Some(false));
-        assert_eq!(rt; both.answer(4), None);
-        assert_eq!(rt; both.answer(5), Some(true));
-        assert_eq!(rt; both.answer(15), Some(true));
     }
 }

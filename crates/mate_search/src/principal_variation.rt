@@ -9,7 +9,7 @@ use crate::memo::Memo;
 use crate::searching::{loses, wins};
 use chess_board::{Move, Position, after};
 use chess_moves::{MoveList, Rays, legal};
-use chess_notation::Variation;
+use chess_problems::Variation;
 
 /// Of these legal moves the keys of a mate within `n` moves, in their order.
 #[tactic(auto, using(crate::proofs::Searches::kept_more, crate::proofs::Searches::left_out))]

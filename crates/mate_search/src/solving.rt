@@ -4,12 +4,13 @@ ghost use Rattle.std.specs.Prelude.{◌≡◌, ◌<◌, ◌≤◌, true, All, le
 ghost use Rattle.chess_board.specs.Legality.{is_legal};
 ghost use Rattle.mate_search.specs.inside.Variation.{keys, variation};
 ghost use Rattle.chess_board.specs.Positions.{Setup};
-ghost use Rattle.mate_search.specs.inside.Truth.{dist, is_same_move as are_same_move, first_moves as moves_to_begin, truth, truth_among};
+ghost use Rattle.mate_search.specs.inside.Truth.{dist, first_moves as moves_to_begin, truth, truth_among};
+ghost use Rattle.chess_problems.specs.SameProblems.{is_same_move as are_same_move};
 ghost use Rattle.chess_moves.specs.inside.Listing.{legal_moves};
 ghost use Rattle.std.specs.List.{list_any};
 ghost use Rattle.mate_search.specs.inside.MemoEntries.{IsTrueOf};
-ghost use Rattle.chess_notation.specs.Answers.{IsPlayable};
-ghost use Rattle.chess_notation.specs.declared.problems.Outcome.TheVariants.{Mate};
+ghost use Rattle.chess_problems.specs.Outcomes.{IsPlayable};
+ghost use Rattle.chess_problems.specs.declared.outcomes.Outcome.TheVariants.{Mate};
 
 use crate::memo::Memo;
 use crate::memo_entries::Entry;
@@ -17,7 +18,7 @@ use crate::principal_variation::{keys_among, push_variation};
 use crate::searching::wins_among;
 use chess_board::{Move, Position};
 use chess_moves::{MoveList, Rays, legal, legal_listed};
-use chess_notation::{Bound, Outcome, Problem, Variation};
+use chess_problems::{Bound, Outcome, Problem, Variation, is_same_move};
 
 /// What there is to say of a problem: the least number of the attacker's moves within which it mates with none of the moves to avoid
 /// for its first, all keys in the order of moves, and one line of play; or that there is no mate within the bound. It never fails.
@@ -77,13 +78,6 @@ fn solve_rest(rays: &Rays, problem: &Problem, memo: &mut Memo) -> Outcome
     // That a memo keeps no more than it has room for is this call's clause.
     let _kept = memo.len();
     outcome
-}
-
-/// Whether two moves are one.
-pub(crate) fn is_same_move(m: Move, n: Move) -> bool
-    ensures { result ≡ are_same_move m n }
-{
-    m == n
 }
 
 /// Whether the move is one of these.

@@ -1,6 +1,6 @@
 //! The marks between which growths are refused, and why a call was not made.
 
-use chess_notation::Bound;
+use chess_problems::Bound;
 use std::alloc::{AllocError, Global};
 
 /// What else went wrong, by its name.

@@ -1,10 +1,10 @@
-//! Calls of `mate_search` on an input of records.
+//! Calls of `mate_answers` on an input of records.
 
 use crate::marks::{Stop, default, mark};
 use crate::of_search::memo_of;
 use chess_moves::Rays;
 use chess_notation::EpdFault;
-use mate_search::{answer_input, fault_text, solve_input};
+use mate_answers::{answer_input, fault_text, solve_input};
 use std::alloc::Global;
 
 /// Of this input the second line is refused.
@@ -55,12 +55,12 @@ pub(crate) fn tell_solve_input(alloc: Global, rays: &Rays) -> Result<String, Sto
 /// What was written where the answers end, or where they stop for want of memory.
 fn told(
     alloc: Global,
-    ended: Result<usize, mate_search::Stop>,
+    ended: Result<usize, byte_streams::Stop>,
     text: &[u8],
 ) -> Result<String, Stop> {
     match ended {
         Ok(refused) => shown(alloc, text, refused),
-        Err(mate_search::Stop::NoMemory) => in_one_line(alloc, "NoMemory", text),
+        Err(byte_streams::Stop::NoMemory) => in_one_line(alloc, "NoMemory", text),
         Err(_) => Err(Stop("stopped otherwise")),
     }
 }

@@ -1,9 +1,11 @@
-//! Calls of `mate_search` on one record, and the text of an outcome.
+//! Calls of `mate_search` and `mate_jobs` on one record, and the text of an outcome.
 
 use crate::marks::{Stop, default, mark};
 use chess_moves::Rays;
-use chess_notation::{NoMemory, Outcome, Record, answer_text, read_record};
-use mate_search::{Answer, Job, Memo, Ticket, solve};
+use chess_notation::{NoMemory, Record, answer_text, read_record};
+use chess_problems::Outcome;
+use mate_jobs::{Answer, Job, Ticket};
+use mate_search::{Memo, solve};
 use std::alloc::Global;
 
 /// A mate in three, on the way to which positions are kept in a memo.

@@ -8,7 +8,8 @@
 #![tactic(auto)]
 
 use chess_moves::Rays;
-use chess_notation::{Bound, EpdFault};
+use chess_notation::EpdFault;
+use chess_problems::Bound;
 use desk_room::{Back, Bench, Keeper, Room, Taken, Window, WindowFault, open_room};
 use mate_search::Memo;
 use std::alloc::Global;

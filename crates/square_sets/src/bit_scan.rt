@@ -28,7 +28,7 @@ pub fn without_lowest(set: u64) -> u64
 }
 
 /// The squares of a set, each once, rising. A contract sees the set of those that are still to come.
-#[derive(Debug, Drop)]
+#[derive(Drop)]
 pub struct SquareScan {
     left: u64,
 }
@@ -68,52 +68,3 @@ impl Iterator for SquareScan {
 }
 
 impl FusedIterator for SquareScan {}
-
-#[cfg(test)]
-mod tests {
-    use super::*;
-    use std::process::Abort;
-
-    #[test]
-    fn goes_from_a1_to_h8(rt: HostRuntime) {
-        // Nothing; a1; h8; a1, h1, a2 and h8; the long diagonal.
-        let rows: [(u64, &[u8]); 5] = [
-            (0, &[]),
-            (0x1, &[0]),
-            (0x8000_0000_0000_0000, &[63]),
-            (0x8000_0000_0000_0181, &[0, 7, 8, 63]),
-            (0x8040_2010_0804_0201, &[0, 9, 18, 27, 36, 45, 54, 63]),
-        ];
-        for (set, expected) in rows {
-            let mut left = squares(set);
-            for square in expected {
-                assert_eq!(rt; left.next(), Some(*square), "set {set:x}");
-            }
-            assert_eq!(rt; left.next(), None, "set {set:x}");
-            assert_eq!(rt; left.next(), None, "set {set:x}");
-        }
-    }
-
-    #[test]
-    fn goes_through_all_squares(rt: HostRuntime) {
-        let mut next = 0;
-        for square in squares(u64::MAX) {
-            assert_eq!(rt; square, next);
-            next += 1;
-        }
-        assert_eq!(rt; next, 64);
-    }
-
-    #[test]
-    fn takes_the_lowest_square(rt: HostRuntime) {
-        for (set, square, rest) in [
-            (0x1, 0, 0),
-            (0x8000_0000_0000_0000, 63, 0),
-            (0x8000_0000_0000_0180, 7, 0x8000_0000_0000_0100),
-            (u64::MAX, 0, u64::MAX - 1),
-        ] {
-            assert_eq!(rt; lowest(set), square, "set {set:x}");
-            assert_eq!(rt; without_lowest(set), rest, "set {set:x}");
-        }
-    }
-}

@@ -34,27 +34,3 @@ pub fn without(set: u64, square: u8) -> u64
 {
     set & !(1 << square)
 }
-
-#[cfg(test)]
-mod tests {
-    use super::*;
-    use std::process::Abort;
-
-    #[test]
-    fn puts_and_takes_squares(rt: HostRuntime) {
-        // a1, h1, a2, h8
-        for (square, set) in [(0, 0x1), (7, 0x80), (8, 0x100), (63, 0x8000_0000_0000_0000)] {
-            assert_eq!(rt; single(square), set, "square {square}");
-            assert_eq!(rt; with(0, square), set, "square {square}");
-            assert_eq!(rt; with(set, square), set, "square {square}");
-            assert_eq!(rt; without(set, square), 0, "square {square}");
-            assert_eq!(rt;
-                without(u64::MAX, square),
-                u64::MAX - set,
-                "square {square}"
-            );
-            assert!(rt; contains(set, square), "square {square}");
-            assert!(rt; !contains(u64::MAX - set, square), "square {square}");
-        }
-    }
-}

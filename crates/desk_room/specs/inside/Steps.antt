@@ -1,6 +1,6 @@
 -- Not for believing: what one step of a pass did. No contract of a public call rests on it.
 use Rattle.std.specs.Prelude.{◌≡◌, ◌≢◌, ◌<◌, ◌≤◌, ◌⊎◌, get_or, ℕ, ◌+◌, Bool, true, false, List, [], ◌∷◌, ◌++◌, length, count_by, Some, None}
-use Rattle.mate_search.specs.Jobs.{Task}
+use Rattle.mate_jobs.specs.Jobs.{Task}
 use Rattle.mate_desk.specs.Content.{Content, entries, lowest, waits, waits_as, is_out_with}
 use Rattle.mate_desk.specs.Calls.{ready, after_take, after_collect}
 use Rattle.mate_desk.specs.Deliveries.{delivery}

@@ -1,6 +1,6 @@
 -- Not for believing: how entries and queues are kept. No contract of a public call rests on it.
 use Rattle.std.specs.Prelude.{◌≡◌, ℕ, zero, suc, ◌<◌, nat_lt, Bool, true, false, List, [], ◌∷◌, slice_get, sum_by, cond, Option, None, Some}
-use Rattle.mate_search.specs.Jobs.{Task}
+use Rattle.mate_jobs.specs.Jobs.{Task}
 use Rattle.chess_notation.specs.Records.{problem_of}
 use Rattle.mate_desk.specs.Content.{Phase, Waiting, Out, Finished, EntryValue, QueueValue, waits, is_finished, is_out_with}
 use Rattle.mate_desk.specs.inside.PlaceBits.{has_place}

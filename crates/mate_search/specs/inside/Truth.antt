@@ -1,13 +1,14 @@
 -- Not for believing: what there is to say of a problem, as it is computed. It comes to `TruthReads`.
-use Rattle.std.specs.Prelude.{ℕ, zero, suc, ◌==◌, List, filter, Option, Some, None, Bool, not, ◌&&◌, if◌then◌else◌}
+use Rattle.std.specs.Prelude.{ℕ, zero, suc, List, filter, Option, Some, None, not, if◌then◌else◌}
 use Rattle.std.specs.List.{list_any}
 use Rattle.std.specs.Option.{option_map_or, option_or}
 use Rattle.chess_board.specs.Positions.{Setup}
-use Rattle.chess_board.specs.Moves.{Move, promotion_place}
+use Rattle.chess_board.specs.Moves.{Move}
 use Rattle.chess_moves.specs.inside.Listing.{legal_moves}
-use Rattle.chess_notation.specs.declared.problems.Outcome.{Outcome}
-use Rattle.chess_notation.specs.declared.problems.Outcome.TheVariants.{Mate, NoMate}
-use Rattle.chess_notation.specs.Problems.{ProblemValue}
+use Rattle.chess_problems.specs.declared.outcomes.Outcome.{Outcome}
+use Rattle.chess_problems.specs.declared.outcomes.Outcome.TheVariants.{Mate, NoMate}
+use Rattle.chess_problems.specs.Problems.{ProblemValue}
+use Rattle.chess_problems.specs.SameProblems.{is_same_move}
 use Rattle.mate_search.specs.Wins.{win_among}
 use Rattle.mate_search.specs.inside.Variation.{keys, variation}
 
@@ -20,9 +21,6 @@ dist first p (suc b) = option_or (dist first p b) (if win_among first (suc b) p 
 -- is one of these. An EPD record has them as dm, bm and pv (PGN Specification, section 16.2.5).
 unfoldable pub truth_among : List Move → Setup → ℕ → Outcome
 truth_among first p b = option_map_or (λ n. Mate n (record { items = keys first p n }) (record { items = variation first p n })) (dist first p b) NoMate
-
-abbrev pub is_same_move : Move → Move → Bool
-is_same_move m n = (m.origin == n.origin) && (m.target == n.target) && (promotion_place m.promotion == promotion_place n.promotion)
 
 -- the moves that the attacker may begin with: the legal ones that are not to be avoided
 unfoldable pub first_moves : ProblemValue → List Move

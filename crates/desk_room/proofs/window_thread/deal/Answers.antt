@@ -1,4 +1,4 @@
-use Rattle.mate_search.specs.InputReplies.{lines_of}
+use Rattle.mate_answers.specs.InputReplies.{lines_of}
 use Rattle.desk_room.proofs.Handed.{on_ok}
 use Rattle.desk_room.proofs.window_thread.deal.Goals as goal
 

@@ -1,5 +1,5 @@
 use Rattle.std.proofs.Common.{arith}
-use Rattle.mate_search.specs.Jobs.{Task}
+use Rattle.mate_jobs.specs.Jobs.{Task}
 use Rattle.mate_desk.specs.Content.{is_out_with}
 use Rattle.mate_desk.proofs.Changes.{got}
 use Rattle.mate_desk.proofs.Joined.{any_more}

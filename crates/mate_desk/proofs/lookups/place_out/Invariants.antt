@@ -1,6 +1,6 @@
 use Rattle.std.proofs.Common.{◌≡◌, take, false}
 use Rattle.std.specs.List.{list_any}
-use Rattle.mate_search.specs.Jobs.{Task}
+use Rattle.mate_jobs.specs.Jobs.{Task}
 use Rattle.mate_desk.specs.Content.{is_out_with}
 use Rattle.mate_desk.proofs.Joined.{joined}
 use Rattle.mate_desk.proofs.lookups.place_out.Given as goal

@@ -1,5 +1,5 @@
 use Rattle.std.proofs.Common.{◌∙◌, ap, sym}
-use Rattle.mate_search.specs.Jobs.{Task}
+use Rattle.mate_jobs.specs.Jobs.{Task}
 use Rattle.mate_desk.proofs.OwnJobs.{own_read, taken_out}
 use Rattle.mate_desk.proofs.solved.deliver.Goals as goal
 

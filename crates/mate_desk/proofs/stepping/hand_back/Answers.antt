@@ -1,6 +1,6 @@
 use Rattle.std.proofs.Common.{refl, ◌≡◌, true, false, ◌∙◌, sym, ap, Some, List, arith, slice_get}
 use Rattle.std.proofs.lemmas.Option.{slice_get-get_or}
-use Rattle.mate_search.specs.Jobs.{Task}
+use Rattle.mate_jobs.specs.Jobs.{Task}
 use Rattle.mate_desk.specs.Content.{Waiting, has_ticket}
 use Rattle.mate_desk.specs.Calls.{into_phase, everywhere, has_out}
 use Rattle.mate_desk.proofs.Leaving.{handed_back, none_handed_back}

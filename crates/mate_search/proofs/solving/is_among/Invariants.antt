@@ -1,6 +1,6 @@
 use Rattle.std.proofs.Common.{◌≡◌, false, take}
 use Rattle.std.specs.List.{list_any}
-use Rattle.mate_search.specs.inside.Truth.{is_same_move}
+use Rattle.chess_problems.specs.SameProblems.{is_same_move}
 use Rattle.mate_search.proofs.solving.is_among.Given as goal
 
 abbrev pub invariant-loop-n : goal.invariant-loop-n

@@ -1,5 +1,5 @@
 use Rattle.std.proofs.Common.{◌≡◌, ◌-◌, true, false, sym, ◌∙◌, subst, arith}
-use Rattle.chess_notation.specs.declared.problems.Outcome.{Outcome}
+use Rattle.chess_problems.specs.declared.outcomes.Outcome.{Outcome}
 use Rattle.mate_search.specs.Wins.{win}
 use Rattle.mate_search.proofs.Readings.{IsTimeTold, time_told}
 use Rattle.mate_search.proofs.solving.learned.Goals as goal

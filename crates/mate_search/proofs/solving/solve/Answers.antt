@@ -1,5 +1,5 @@
 use Rattle.std.proofs.Common.{◌==◌, length, ap, sym, ◌∙◌}
-use Rattle.chess_notation.specs.Problems.{ProblemValue}
+use Rattle.chess_problems.specs.Problems.{ProblemValue}
 use Rattle.chess_moves.specs.inside.Listing.{legal_moves}
 use Rattle.mate_search.specs.inside.Truth.{truth_among}
 use Rattle.mate_search.proofs.Playable.{told_playable}

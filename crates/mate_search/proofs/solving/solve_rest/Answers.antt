@@ -1,5 +1,5 @@
 use Rattle.std.proofs.Common.{ap}
-use Rattle.chess_notation.specs.Problems.{ProblemValue}
+use Rattle.chess_problems.specs.Problems.{ProblemValue}
 use Rattle.mate_search.proofs.FirstMoves.{first_moves_each}
 use Rattle.mate_search.proofs.solving.solve_rest.Goals as goal
 

@@ -1,6 +1,6 @@
 use Rattle.std.proofs.Common.{◌≡◌, true, false, map, rules, sym}
 use Rattle.chess_notation.specs.Words.{is_blank}
-use Rattle.mate_search.specs.InputReplies.{without_cr, skipped}
+use Rattle.mate_answers.specs.InputReplies.{without_cr, skipped}
 use Rattle.desk_room.specs.Letters.{records}
 use Rattle.desk_room.specs.Deliveries.{asked}
 use Rattle.desk_room.specs.Windows.{letters_sent, collected, default_of}
@@ -12,7 +12,7 @@ pub returns-then-is_blank-clause-dealt : goal.returns-then-is_blank-clause-dealt
 returns-then-is_blank-clause-dealt g c lines at old =
     let clerk = c.args.self.now in
     let blank : is_blank (without_cr c.args.line.now) ≡ true = search rules in
-    deal_blank (default_of clerk.window) clerk.refused lines c.args.line.now (records (letters_sent clerk.window)) (map asked (collected clerk.window)) clerk.text.items (map (λ t. t.items) clerk.behind.items)
+    deal_blank c.replies_go_on.ensures (default_of clerk.window) clerk.refused lines c.args.line.now (records (letters_sent clerk.window)) (map asked (collected clerk.window)) clerk.text.items (map (λ t. t.items) clerk.behind.items)
     (skipped blank) old
 
 pub returns-clause-dealt : goal.returns-clause-dealt

@@ -4,9 +4,9 @@ use Rattle.desk_room.proofs.clerks.Clerk.refuse.Goals as goal
 
 pub returns-in_default-clause-dealt : goal.returns-in_default-clause-dealt
 returns-in_default-clause-dealt c lines line reply old =
-    dealt_refusal c.args.self.now c.extend_from_slice.new.self.items c.pop_back.new.self.items lines line c.args.refusal.now (search rules) (search rules) c.in_ok-extend_from_slice.ensures.items reply old
+    dealt_refusal c.replies_go_on.ensures c.args.self.now c.extend_from_slice.new.self.items c.pop_back.new.self.items lines line c.args.refusal.now (search rules) (search rules) c.in_ok-extend_from_slice.ensures.items reply old
 
 pub returns-clause-dealt : goal.returns-clause-dealt
 returns-clause-dealt c lines line reply old =
-    dealt_refusal_behind c.args.self.now c.push_back.new.self.items c.pop_back.new.self.items c.in-Some.behind c.extend_from_slice-2.new.self lines line c.args.refusal.now c.in-Some.ensures.items (search rules)
+    dealt_refusal_behind c.replies_go_on.ensures c.args.self.now c.push_back.new.self.items c.pop_back.new.self.items c.in-Some.behind c.extend_from_slice-2.new.self lines line c.args.refusal.now c.in-Some.ensures.items (search rules)
     c.in_ok-extend_from_slice-2.ensures.items reply old

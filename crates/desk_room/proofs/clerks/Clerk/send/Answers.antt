@@ -1,6 +1,6 @@
 use Rattle.std.proofs.Common.{◌≡◌, ◌≢◌, ◌+◌, ◌∙◌, ap, sym, length, rules, subst, ℕ}
 use Rattle.chess_notation.specs.declared.epd_faults.EpdFault.TheVariants.{NoMemory}
-use Rattle.mate_search.specs.InputReplies.{fault_line, IsLineReply, without_cr}
+use Rattle.mate_answers.specs.InputReplies.{fault_line, IsLineReply, without_cr}
 use Rattle.desk_room.specs.Windows.{default_of}
 use Rattle.desk_room.specs.WindowFaults.{RefusesLine}
 use Rattle.desk_room.proofs.Handed.{on_ok, dealt_record, dealt_same, refused_line}
@@ -9,7 +9,7 @@ use Rattle.desk_room.proofs.clerks.Clerk.send.Goals as goal
 pub returns-else-is_err-clause-dealt : goal.returns-else-is_err-clause-dealt
 returns-else-is_err-clause-dealt c lines whole at is blank old =
     let sent = c.in-Ok.ensures.sent in
-    dealt_record c.args.self.now c.submit.new.self c.push_back.new.self.items lines whole c.args.line.now c.args.number sent.0 c.new.result c.submit.ensures.window c.submit.ensures.collected sent.2
+    dealt_record c.replies_go_on.ensures c.args.self.now c.submit.new.self c.push_back.new.self.items lines whole c.args.line.now c.args.number sent.0 c.new.result c.submit.ensures.window c.submit.ensures.collected sent.2
     (search rules) c.new.ensures.items is blank sent.1 old
 
 pub returns-in_ok-refusal-in-Err-BadRecord-clause-dealt : goal.returns-in_ok-refusal-in-Err-BadRecord-clause-dealt

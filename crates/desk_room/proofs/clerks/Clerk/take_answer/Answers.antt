@@ -1,6 +1,6 @@
 use Rattle.std.proofs.Common.{◌≡◌, ◌++◌, ◌∷◌, [], refl, subst, List, ℕ}
 use mathlib.Core.List.{IsPrefix}
-use Rattle.mate_search.specs.InputReplies.{answer_line}
+use Rattle.mate_answers.specs.InputReplies.{answer_line}
 use Rattle.mate_desk.specs.declared.deliveries.Delivery.{Delivery}
 use Rattle.mate_desk.specs.declared.deliveries.Delivery.TheVariants.{Answer}
 use Rattle.desk_room.specs.Windows.{deliveries_known}

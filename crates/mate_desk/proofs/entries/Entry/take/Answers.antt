@@ -1,7 +1,7 @@
 use Rattle.std.proofs.Common.{◌≡◌, ◌∙◌, subst, ap}
 use Rattle.chess_board.specs.Soundness.{IsSound}
-use Rattle.chess_notation.specs.Problems.{ProblemValue}
-use Rattle.mate_search.specs.Jobs.{Task}
+use Rattle.chess_problems.specs.Problems.{ProblemValue}
+use Rattle.mate_jobs.specs.Jobs.{Task}
 use Rattle.chess_notation.specs.Records.{problem_of}
 use Rattle.mate_desk.specs.Content.{EntryValue}
 use Rattle.mate_desk.proofs.Tasks.{own_task}

@@ -1,7 +1,7 @@
 use Rattle.std.proofs.Common.{◌≡◌, ◌∙◌, ℕ, sym, ap, false, arith, List, Some, None, slice_get, rules}
 use Rattle.std.specs.List.{list_any}
 use Rattle.std.proofs.lemmas.List.Sorted.{IsPartitionPoint-from_clause}
-use Rattle.mate_search.specs.Jobs.{Task}
+use Rattle.mate_jobs.specs.Jobs.{Task}
 use Rattle.mate_desk.specs.Content.{EntryValue, QueueValue, is_out_with}
 use Rattle.mate_desk.proofs.Changes.{got, got_one, got_past}
 use Rattle.mate_desk.proofs.Seeking.{is_before, parted, none_out}

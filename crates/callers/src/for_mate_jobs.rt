@@ -1,0 +1,16 @@
+//! A caller of `mate_jobs`, as docs/CALLING.md shows it.
+
+ghost use Rattle.std.specs.Prelude.{◌≡◌};
+
+use chess_moves::Rays;
+use chess_notation::Record;
+use mate_jobs::{Answer, Job, Ticket};
+use mate_search::Memo;
+
+/// The answer to a record, which is right by its type.
+pub fn answer_to(asked: Record, rays: &Rays, memo: &mut Memo) -> Answer
+    ensures { result ≡ asked }
+{
+    let job = Job::new(Ticket(0), asked.problem());
+    job.solve(rays, memo).into_answer(asked)
+}

@@ -1,0 +1,2 @@
+pub mod SameMoves
+pub mod SameProblems

@@ -1,0 +1,124 @@
+//! Words that ask for nothing, and those that ask for the help or the version.
+
+use crate::test_shelves::{ALWAYS, run, shelf_of};
+use commands::command;
+use std::test::Fail;
+
+/// Whether the text holds the words.
+fn holds(text: &[u8], words: &str) -> bool {
+    match str::from_utf8(text) {
+        Ok(text) => text.contains(words),
+        Err(_) => false,
+    }
+}
+
+#[test]
+fn misused_words_end_with_two(rt: HostRuntime) -> Result<(), Fail> {
+    let alloc = rt.alloc();
+    let rows = [
+        ("", "requires a subcommand"),
+        ("look", "required arguments were not provided"),
+        ("look --", "required arguments were not provided"),
+        ("look a b", "unexpected argument 'b'"),
+        ("look -- -abc d", "unexpected argument 'd'"),
+        ("watch a", "unrecognized subcommand 'watch'"),
+        ("help", "unrecognized subcommand 'help'"),
+        ("--fen", "unexpected argument '--fen'"),
+        ("-abc look", "unexpected argument '-a'"),
+        ("moves", "required arguments were not provided"),
+        ("perft a", "required arguments were not provided"),
+        ("perft a 7", "7 is not in 0..=6"),
+        ("perft a x", "invalid value 'x'"),
+        ("perft a 1 2", "unexpected argument '2'"),
+        ("solve", "required arguments were not provided"),
+        ("solve --bound 2", "required arguments were not provided"),
+        ("solve --bound 0 a", "0 is not in 1..=15"),
+        ("solve --bound 16 a", "16 is not in 1..=15"),
+        ("solve --bound x a", "invalid value 'x'"),
+        ("solve -abc", "unexpected argument '-a'"),
+        ("serve", "required arguments were not provided"),
+        ("serve a", "required arguments were not provided"),
+        ("serve --workers 1", "required arguments were not provided"),
+        ("serve --workers 0 a", "0 is not in 1..=16"),
+        ("serve --workers 17 a", "17 is not in 1..=16"),
+        ("serve --workers x a", "invalid value 'x'"),
+        ("serve --workers 1 --bound 0 a", "0 is not in 1..=15"),
+        ("serve --workers 1 --bound 16 a", "16 is not in 1..=15"),
+        ("serve --workers 1 -abc", "unexpected argument '-a'"),
+    ];
+    for (line, text) in rows {
+        let mut words = Vec::new(alloc);
+        for word in line.split(' ') {
+            if !word.is_empty() {
+                words.push(word)?;
+            }
+        }
+        let heard = run(&rt, words.as_slice(), ALWAYS, ALWAYS)?;
+        assert_eq!(rt; heard.status, 2, "{line}");
+        assert_eq!(rt; heard.out.as_slice(), b"".as_slice(), "{line}");
+        assert!(rt; holds(heard.err.as_slice(), text), "{line}");
+        let unheard = run(&rt, words.as_slice(), ALWAYS, 0)?;
+        assert_eq!(rt; unheard.status, 2, "{line}");
+    }
+    Ok(())
+}
+
+#[test]
+fn no_name_is_misuse_too(rt: HostRuntime) -> Result<(), Fail> {
+    let alloc = rt.alloc();
+    let words: Vec<String> = Vec::new(alloc);
+    let mut out = Vec::new(alloc);
+    let mut err = Vec::new(alloc);
+    let shelf = shelf_of(&[]);
+    let status = command(&rt, alloc, words.as_slice(), &shelf, &mut out, &mut err);
+    assert_eq!(rt; status, 2);
+    assert_eq!(rt; out.as_slice(), b"".as_slice());
+    Ok(())
+}
+
+#[test]
+fn help_and_version_go_to_out(rt: HostRuntime) -> Result<(), Fail> {
+    let alloc = rt.alloc();
+    let rows = [
+        ("--help", "Solves direct-mate chess problems."),
+        ("--help", "matedesk solve problems.epd"),
+        ("--help", "the Forsyth-Edwards Notation of a position"),
+        ("--help", "matedesk look \"rnbqkbnr/"),
+        ("-h", "look"),
+        ("look --help", "Forsyth-Edwards Notation"),
+        ("look -h", "Usage: matedesk look <FEN>"),
+        (
+            "solve --help",
+            "7k/8/5K2/8/8/8/8/R7 w - - bm Kf7 Kg6; dm 2; pv Kg6 Kg8 Ra8#;",
+        ),
+        ("solve --help", "[default: 3]"),
+        ("solve -h", "Usage: matedesk solve [OPTIONS] <FILE>..."),
+        ("--help", "matedesk serve --workers 4 problems.epd"),
+        ("serve --help", "[default: 3]"),
+        (
+            "serve --help",
+            "7k/8/5K2/8/8/8/8/R7 w - - bm Kf7 Kg6; dm 2; pv Kg6 Kg8 Ra8#;",
+        ),
+        (
+            "serve -h",
+            "Usage: matedesk serve [OPTIONS] --workers <N> <FILE>...",
+        ),
+        ("moves --help", "matedesk moves \"8/8"),
+        ("perft --help", "How many moves a line has, 0 to 6"),
+        ("--version", "matedesk 0."),
+        ("-V", "matedesk 0."),
+    ];
+    for (line, text) in rows {
+        let mut words = Vec::new(alloc);
+        for word in line.split(' ') {
+            words.push(word)?;
+        }
+        let heard = run(&rt, words.as_slice(), ALWAYS, 0)?;
+        assert_eq!(rt; heard.status, 0, "{line}");
+        assert!(rt; holds(heard.out.as_slice(), text), "{line}");
+        let unheard = run(&rt, words.as_slice(), 0, ALWAYS)?;
+        assert_eq!(rt; unheard.status, 4, "{line}");
+        assert_eq!(rt; unheard.err.as_slice(), b"".as_slice(), "{line}");
+    }
+    Ok(())
+}

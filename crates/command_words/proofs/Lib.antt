@@ -1,0 +1,3 @@
+mod Escapes
+mod Numbers
+mod Parsed

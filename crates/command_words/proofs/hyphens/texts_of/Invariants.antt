@@ -1,0 +1,6 @@
+use Rattle.std.specs.Prelude.{◌≡◌, map, take}
+use Rattle.std.specs.String.{string_bytes}
+use Rattle.command_words.proofs.hyphens.texts_of.Given as goal
+
+abbrev pub invariant-loop-word : goal.invariant-loop-word
+invariant-loop-word l = map (λ s. s.now) l.texts.items ≡ map string_bytes (take l.word-index l.words)

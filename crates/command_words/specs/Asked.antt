@@ -1,0 +1,111 @@
+-- What the words of a command line ask for.
+use Rattle.std.specs.Prelude.{ℕ, Bool, List, [], ◌∷◌, Option, None, Some, true, false, codes, option_map, option_and_then, if◌then◌else◌}
+use Rattle.std.specs.List.{list_all, list_any}
+use Rattle.std.specs.Option.{option_map_or}
+use Rattle.std.specs.Str.{bytes_eq}
+use Rattle.clap.specs.Words.{App, Kinds, Row, Text, all_of, fault_of, first_of, one_of, subcommand_of, subcommand_rows_of}
+use Rattle.clap.specs.Walk.{byte_or_zero}
+use Rattle.clap.specs.declared.error.kind.ErrorKind.{ErrorKind}
+use Rattle.clap.specs.declared.error.kind.ErrorKind.TheVariants.{DisplayHelp, DisplayVersion}
+use Rattle.clap.specs.declared.parser.matches.ArgMatches.{ArgMatches}
+use Rattle.chess_problems.specs.Problems.{bound_of}
+use Rattle.command_words.specs.CommandLine.{desk_app}
+use Rattle.command_words.specs.Limits.{depth_of}
+use Rattle.command_words.specs.Hyphens.{escaped}
+use Rattle.command_words.specs.Limits.{workers_of}
+
+-- a command with its arguments
+pub data Asked : Type 0 where
+  look : Text → Asked
+  moves : Text → Asked
+  perft : Text → ℕ → Asked
+  solve : ℕ → List Text → Asked
+  serve : ℕ → ℕ → List Text → Asked
+  replay : Text → Asked
+
+-- the number that a word stands for, which `clap` has read; none above the depths that are counted
+abbrev pub depth_in : List Row → Option ℕ
+depth_in rows = depth_of (option_map_or byte_or_zero (one_of (codes "DEPTH") rows) 0)
+
+-- the number of `--bound` in the same way; none outside the bounds of a problem
+abbrev pub bound_in : List Row → Option ℕ
+bound_in rows = bound_of (option_map_or byte_or_zero (one_of (codes "B") rows) 0)
+
+-- the number of `--workers` in the same way; none outside the numbers of workers
+abbrev pub workers_in : List Row → Option ℕ
+workers_in rows = workers_of (option_map_or byte_or_zero (one_of (codes "N") rows) 0)
+
+-- what the arguments of `serve` ask for
+abbrev pub serve_in : List Row → Option Asked
+serve_in rows = option_and_then (λ workers. option_and_then (λ bound. option_map (λ names. serve workers bound names) (all_of (codes "FILE") rows)) (bound_in rows)) (workers_in rows)
+
+-- what the arguments of a command ask for, by its name
+unfoldable pub asked_by : Text → List Row → Option Asked
+asked_by name rows =
+    if bytes_eq name (codes "look") then option_map look (first_of (codes "FEN") rows)
+    else if bytes_eq name (codes "moves") then option_map moves (first_of (codes "FEN") rows)
+    else if bytes_eq name (codes "perft") then option_and_then (λ depth. option_map (λ fen. perft fen depth) (first_of (codes "FEN") rows)) (depth_in rows)
+    else if bytes_eq name (codes "solve") then option_and_then (λ bound. option_map (λ names. solve bound names) (all_of (codes "FILE") rows)) (bound_in rows)
+    else if bytes_eq name (codes "serve") then serve_in rows
+    else if bytes_eq name (codes "replay") then option_map replay (first_of (codes "SCRIPT") rows)
+    else None
+
+-- asks for `serve`, the one command that starts threads
+abbrev pub is_serve : Asked → Bool
+is_serve (serve workers bound names) = true
+is_serve _ = false
+
+abbrev pub asks_serve : Option Asked → Bool
+asks_serve None = false
+asks_serve (Some asks) = is_serve asks
+
+-- what the matches of a whole command line ask for
+abbrev pub asked_of : ArgMatches → Option Asked
+asked_of m = option_and_then (λ p. asked_by p.0 p.1) (subcommand_rows_of m)
+
+abbrev pub unless_faulty : Kinds → Option Asked → Option Asked
+unless_faulty [] asks = asks
+unless_faulty (fault ∷ faults) asks = None
+
+-- what the words ask for of a command line; a request for help is a fault to `clap`
+abbrev pub asked_in : App → List Text → Option Asked
+asked_in a words = unless_faulty (fault_of a words) (option_and_then (λ p. asked_by p.0 p.1) (subcommand_of a words))
+
+-- a kind that is no mistake but a request for help or for the version
+abbrev pub is_display : ErrorKind → Bool
+is_display DisplayHelp = true
+is_display DisplayVersion = true
+is_display _ = false
+
+-- Where `clap` may answer words with one of several kinds, some of these, or all of them.
+abbrev pub may_display_in : App → List Text → Bool
+may_display_in a words = list_any is_display (fault_of a words)
+
+abbrev pub all_display : Kinds → Bool
+all_display [] = false
+all_display (kind ∷ kinds) = list_all is_display (kind ∷ kinds)
+
+abbrev pub asks_display_in : App → List Text → Bool
+asks_display_in a words = all_display (fault_of a words)
+
+-- these of the program's own command line, whose words stand as `clap` is given them
+unfoldable pub asked_exactly : List Text → Option Asked
+asked_exactly words = asked_in desk_app words
+
+unfoldable pub may_display_exactly : List Text → Bool
+may_display_exactly words = may_display_in desk_app words
+
+unfoldable pub asks_display_exactly : List Text → Bool
+asks_display_exactly words = asks_display_in desk_app words
+
+-- what the words ask for; none where they are at fault, or ask for help or the version
+abbrev pub asked : List Text → Option Asked
+asked words = asked_exactly (escaped words)
+
+-- whether the words may be taken to ask for help or the version
+abbrev pub may_display : List Text → Bool
+may_display words = may_display_exactly (escaped words)
+
+-- whether they ask for nothing else
+abbrev pub asks_display : List Text → Bool
+asks_display words = asks_display_exactly (escaped words)

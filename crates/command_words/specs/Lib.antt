@@ -1,0 +1,5 @@
+pub mod Asked
+pub mod CommandLine
+pub mod Limits
+pub mod Hyphens
+pub mod Request

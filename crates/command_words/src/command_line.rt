@@ -1,0 +1,172 @@
+//! The command line, as `clap` is told of it.
+
+ghost use Rattle.std.specs.Prelude.{◌≡◌, IfOk, codes, false};
+ghost use Rattle.clap.specs.Words.{app_of, rule_of, with_rule, with_subcommand};
+ghost use Rattle.command_words.specs.CommandLine.{IsLocal, bare_app, bound_rule, depth_rule, desk_app, files_rule, look_app, moves_app, perft_app, replay_app, serve_app, solve_app, wanted, with_file_apps, with_fen_apps, workers_rule};
+
+use crate::help::{
+    ABOUT, ABOUT_BOUND, ABOUT_DEPTH, ABOUT_FEN, ABOUT_FILE, ABOUT_LOOK, ABOUT_MOVES, ABOUT_PERFT,
+    ABOUT_REPLAY, ABOUT_SCRIPT, ABOUT_SERVE, ABOUT_SOLVE, ABOUT_WORKERS, AFTER_HELP, AFTER_LOOK,
+    AFTER_MOVES, AFTER_PERFT, AFTER_REPLAY, AFTER_SERVE, AFTER_SOLVE, VERSION,
+};
+use clap::{Arg, Command, value_parser};
+use std::alloc::{AllocError, Global};
+
+/// A positional that has to be given.
+fn wanted_arg<'a>(alloc: Global, id: &'a str, help: &'a str) -> Arg<'a>
+    ensures rule { rule_of result ≡ wanted id.entry.now }
+    ensures local { result.global ≡ false }
+{
+    Arg::new(alloc, id).required(true).help(help)
+}
+
+/// The number of moves of `perft`, 0 to 6.
+fn depth_arg<'a>(alloc: Global) -> Arg<'a>
+    ensures rule { rule_of result ≡ depth_rule }
+    ensures local { result.global ≡ false }
+{
+    wanted_arg(alloc, "DEPTH", ABOUT_DEPTH).value_parser(value_parser!(u8).range(0..7))
+}
+
+/// The bound of problems that don't say theirs, 1 to 15.
+fn bound_arg<'a>(alloc: Global) -> Arg<'a>
+    ensures rule { rule_of result ≡ bound_rule }
+    ensures local { result.global ≡ false }
+{
+    Arg::new(alloc, "B")
+        .long("bound")
+        .value_parser(value_parser!(u8).range(1..16))
+        .default_value("3")
+        .help(ABOUT_BOUND)
+}
+
+/// The number of workers, 1 to 16.
+fn workers_arg<'a>(alloc: Global) -> Arg<'a>
+    ensures rule { rule_of result ≡ workers_rule }
+    ensures local { result.global ≡ false }
+{
+    wanted_arg(alloc, "N", ABOUT_WORKERS)
+        .long("workers")
+        .value_parser(value_parser!(u8).range(1..17))
+}
+
+/// The names of files, one or more.
+fn files_arg<'a>(alloc: Global) -> Arg<'a>
+    ensures rule { rule_of result ≡ files_rule }
+    ensures local { result.global ≡ false }
+{
+    wanted_arg(alloc, "FILE", ABOUT_FILE).num_args(1..)
+}
+
+/// `Command::arg`, by what a parse reads of its result.
+fn with_arg<'a>(command: Command<'a>, arg: Arg<'a>) -> Result<Command<'a>, AllocError>
+    requires local { arg.global ≡ false }
+    ensures app { IfOk result (λ c. app_of c ≡ with_rule (app_of command.entry) (rule_of arg.entry)) }
+    ensures local { IfOk result (λ c. IsLocal command.entry → IsLocal c) }
+{
+    command.arg(arg)
+}
+
+/// `Command::subcommand`, by what a parse reads of its result.
+fn with_command<'a>(command: Command<'a>, sub: Command<'a>) -> Result<Command<'a>, AllocError>
+    requires local { IsLocal sub }
+    ensures { IfOk result (λ c. app_of c ≡ with_subcommand (app_of command.entry) (app_of sub.entry).top) }
+{
+    command.subcommand(sub)
+}
+
+fn solve_command<'a>(alloc: Global) -> Result<Command<'a>, AllocError>
+    ensures { IfOk result (λ c. (app_of c ≡ solve_app) × IsLocal c) }
+{
+    let command = Command::new(alloc, "solve")
+        .about(ABOUT_SOLVE)
+        .after_help(AFTER_SOLVE);
+    let command = with_arg(command, bound_arg(alloc))?;
+    with_arg(command, files_arg(alloc))
+}
+
+fn serve_command<'a>(alloc: Global) -> Result<Command<'a>, AllocError>
+    ensures { IfOk result (λ c. (app_of c ≡ serve_app) × IsLocal c) }
+{
+    let command = Command::new(alloc, "serve")
+        .about(ABOUT_SERVE)
+        .after_help(AFTER_SERVE);
+    let command = with_arg(command, workers_arg(alloc))?;
+    let command = with_arg(command, bound_arg(alloc))?;
+    with_arg(command, files_arg(alloc))
+}
+
+fn replay_command<'a>(alloc: Global) -> Result<Command<'a>, AllocError>
+    ensures { IfOk result (λ c. (app_of c ≡ replay_app) × IsLocal c) }
+{
+    let command = Command::new(alloc, "replay")
+        .about(ABOUT_REPLAY)
+        .after_help(AFTER_REPLAY);
+    with_arg(command, wanted_arg(alloc, "SCRIPT", ABOUT_SCRIPT))
+}
+
+fn look_command<'a>(alloc: Global) -> Result<Command<'a>, AllocError>
+    ensures { IfOk result (λ c. (app_of c ≡ look_app) × IsLocal c) }
+{
+    let command = Command::new(alloc, "look")
+        .about(ABOUT_LOOK)
+        .after_help(AFTER_LOOK);
+    with_arg(command, wanted_arg(alloc, "FEN", ABOUT_FEN))
+}
+
+fn moves_command<'a>(alloc: Global) -> Result<Command<'a>, AllocError>
+    ensures { IfOk result (λ c. (app_of c ≡ moves_app) × IsLocal c) }
+{
+    let command = Command::new(alloc, "moves")
+        .about(ABOUT_MOVES)
+        .after_help(AFTER_MOVES);
+    with_arg(command, wanted_arg(alloc, "FEN", ABOUT_FEN))
+}
+
+fn perft_command<'a>(alloc: Global) -> Result<Command<'a>, AllocError>
+    ensures { IfOk result (λ c. (app_of c ≡ perft_app) × IsLocal c) }
+{
+    let command = Command::new(alloc, "perft")
+        .about(ABOUT_PERFT)
+        .after_help(AFTER_PERFT);
+    let command = with_arg(command, wanted_arg(alloc, "FEN", ABOUT_FEN))?;
+    with_arg(command, depth_arg(alloc))
+}
+
+/// The program with its own options and no command yet.
+fn bare_command<'a>(alloc: Global) -> Command<'a>
+    ensures { (app_of result ≡ bare_app) × IsLocal result }
+{
+    Command::new(alloc, "matedesk")
+        .version(VERSION)
+        .about(ABOUT)
+        .after_help(AFTER_HELP)
+        .subcommand_required(true)
+        .disable_help_subcommand(true)
+}
+
+/// Adds the commands over one FEN.
+fn with_fen_commands<'a>(alloc: Global, command: Command<'a>) -> Result<Command<'a>, AllocError>
+    ensures { IfOk result (λ c. app_of c ≡ with_fen_apps (app_of command.entry)) }
+{
+    let command = with_command(command, look_command(alloc)?)?;
+    let command = with_command(command, moves_command(alloc)?)?;
+    with_command(command, perft_command(alloc)?)
+}
+
+/// Adds the commands over files.
+fn with_file_commands<'a>(alloc: Global, command: Command<'a>) -> Result<Command<'a>, AllocError>
+    ensures { IfOk result (λ c. app_of c ≡ with_file_apps (app_of command.entry)) }
+{
+    let command = with_command(command, solve_command(alloc)?)?;
+    let command = with_command(command, serve_command(alloc)?)?;
+    with_command(command, replay_command(alloc)?)
+}
+
+/// The whole command line.
+pub fn desk_command<'a>(alloc: Global) -> Result<Command<'a>, AllocError>
+    ensures { IfOk result (λ c. app_of c ≡ desk_app) }
+{
+    let command = with_file_commands(alloc, bare_command(alloc))?;
+    with_fen_commands(alloc, command)
+}

@@ -1,0 +1,15 @@
+//! The words of a command line: what they ask for.
+//!
+//! What a word means is settled here, and what is answered is not. Read `specs/Asked.antt` first; then `request` (words to a request)
+//! over `command_line` (what `clap` is told), `limits` and `hyphens` (the words as it is given them), and `help` (what it prints).
+#![tactic(auto)]
+
+mod command_line;
+mod help;
+mod hyphens;
+mod limits;
+mod request;
+
+pub use hyphens::escaped;
+pub use limits::{Depth, Workers};
+pub use request::{Request, parse, request_of};

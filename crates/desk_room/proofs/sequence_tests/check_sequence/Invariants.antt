@@ -1,5 +1,0 @@
-use Rattle.desk_room.specs.Keepers.{IsOf}
-use Rattle.desk_room.proofs.sequence_tests.check_sequence.Given as goal
-
-abbrev pub invariant-loop-place : goal.invariant-loop-place
-invariant-loop-place g l = IsOf l.window l.keeper

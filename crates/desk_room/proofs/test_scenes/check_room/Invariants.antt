@@ -1,5 +1,0 @@
-use Rattle.desk_room.specs.Keepers.{IsOf}
-use Rattle.desk_room.proofs.test_scenes.check_room.Given as goal
-
-abbrev pub invariant-loop-number : goal.invariant-loop-number
-invariant-loop-number g l = IsOf l.window l.keeper

@@ -1,8 +1,0 @@
-use Rattle.desk_room.specs.Keepers.{IsOf}
-use Rattle.desk_room.proofs.test_scenes.check_two_windows.Given as goal
-
-abbrev pub invariant-loop-number : goal.invariant-loop-number
-invariant-loop-number g l = record {
-  first : IsOf l.first l.keeper;
-  second : IsOf l.second l.keeper;
-}

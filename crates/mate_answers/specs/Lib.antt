@@ -1,0 +1,2 @@
+pub mod InputReplies
+pub mod inside

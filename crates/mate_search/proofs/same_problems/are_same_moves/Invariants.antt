@@ -1,9 +1,0 @@
-use Rattle.std.proofs.Common.{◌≡◌, length}
-use Rattle.mate_search.specs.Jobs.{are_same_moves}
-use Rattle.mate_search.proofs.same_problems.are_same_moves.Given as goal
-
-abbrev pub invariant-loop-left : goal.invariant-loop-left
-invariant-loop-left l = are_same_moves l.left l.right ≡ are_same_moves l.first l.second
-
-abbrev pub decreases-loop-left : goal.decreases-loop-left
-decreases-loop-left l = length l.left

@@ -1,0 +1,12 @@
+mod HeldFiles
+mod Shown
+mod Parts
+mod SolvedFiles
+mod Unopened
+mod WrittenOutputs
+mod Cuts
+mod DeskLaws
+mod NumberLaws
+mod OneScript
+mod ScriptLaws
+mod StepLaws

@@ -1,0 +1,32 @@
+//! The commands of the program `matedesk` that start no thread: `look`, `moves` and `perft` over a position, `solve` over files of problems,
+//! `replay` over a script; and what all commands share, files by their names, what is shown, messages, and the status at the end.
+//!
+//! What the words of a command line ask for is the business of `command_words`, and what is answered that of the crates of chess and of the
+//! desk. To read: `sources` (a `Source` is the files that a command may read) and `files` (those of the system), `writing`, `status`; then
+//! `fen_commands`; `solving`, and `outputs`, which were made elsewhere; and `replaying`, over `scripts` (a text to a script),
+//! `script_lines` (its lines), `script_desk` and `script_steps` (what a line says), `script_words`.
+#![tactic(auto)]
+
+mod fen_commands;
+mod files;
+mod outputs;
+mod replaying;
+mod script_desk;
+mod script_lines;
+mod script_steps;
+mod script_words;
+mod scripts;
+mod solving;
+mod sources;
+mod status;
+mod writing;
+
+pub use fen_commands::{FenCommand, show_fen};
+pub use files::{FileSystem, Reading, Stream};
+pub use outputs::put_outputs;
+pub use replaying::replay;
+pub use scripts::{Script, ScriptFault, read_script};
+pub use solving::{new_memo, solve, solves_none};
+pub use sources::{Source, SourceFault, holds_reads, read_file, read_files, whole};
+pub use status::{ANSWERED, MISUSED, NO_THREAD, no_memory, status_of};
+pub use writing::{complain, complain_faulty, complain_unreadable, push_line, show};

@@ -1,0 +1,44 @@
+//! Writing: what is shown on the output, and messages on the error output.
+
+ghost use Rattle.std.specs.Prelude.{◌≡◌, ◌++◌, IfErr, IfOk, OnErr, false, true};
+ghost use Rattle.std.specs.Io.KnownBytes.{Appends};
+ghost use Rattle.byte_streams.specs.Stops.{AppendsPart, is_of_output};
+ghost use Rattle.plain_commands.specs.Writing.{line};
+
+use byte_streams::{Stop, put};
+use std::alloc::AllocError;
+use std::io::Write;
+
+/// Adds a line to a text.
+pub fn push_line(text: &mut Vec<u8>, words: &str) -> Result<(), AllocError>
+    ensures { IfOk result (λ _. text.new.items ≡ text.old.items ++ line words.now) }
+{
+    text.extend_from_slice(words.as_bytes())?;
+    text.push(b'\n')?;
+    Ok(())
+}
+
+/// Writes the whole text that is shown. Nothing is refused then.
+pub fn show<O: Write>(out: &mut O, text: &[u8]) -> Result<bool, Stop>
+    ensures ok { IfOk result (λ refused. (refused ≡ false) × Appends (O.contents out.old) (O.contents out.new) text.now) }
+    ensures err { IfErr result (λ stop. is_of_output stop ≡ true) }
+    ensures part { OnErr result (AppendsPart (O.contents out.old) (O.contents out.new) text.now) }
+{
+    put(out, text)?;
+    Ok(false)
+}
+
+/// A message for whoever reads the standard error. That it can't be written changes nothing.
+pub fn complain<E: Write>(err: &mut E, message: &str) {
+    let _ = writeln!(err, "matedesk: {message}");
+}
+
+/// Says which file can't be read. That it can't be written changes nothing.
+pub fn complain_unreadable<E: Write>(err: &mut E, name: &str) {
+    let _ = writeln!(err, "matedesk: cannot read {name}");
+}
+
+/// Says which line of a script is at fault. That it can't be written changes nothing.
+pub fn complain_faulty<E: Write>(err: &mut E, number: usize) {
+    let _ = writeln!(err, "matedesk: script line {number}");
+}

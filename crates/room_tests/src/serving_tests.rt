@@ -1,0 +1,253 @@
+//! Inputs served by threads.
+
+use crate::test_scenes::{A, ANSWER_A, ANSWER_B, B};
+use chess_moves::Rays;
+use chess_problems::Bound;
+use desk_room::{Gate, OpenGate, RoomFault, serve};
+use mate_answers::{Output, solve_input};
+use mate_jobs::Ticket;
+use mate_search::Memo;
+use std::alloc::{AllocError, Global};
+use std::process::Abort;
+use std::sync::Wait;
+use std::sync::atomic::{AtomicBool, AtomicU64, Ordering};
+use std::test::Fail;
+use std::thread;
+use std::thread::Threads;
+
+/// An input of these lines, each with a newline.
+fn input_of(alloc: Global, lines: &[&str]) -> Result<Vec<u8>, AllocError> {
+    let mut input = Vec::new(alloc);
+    for line in lines {
+        input.extend_from_slice(line.as_bytes())?;
+        input.extend_from_slice(b"\n")?;
+    }
+    Ok(input)
+}
+
+/// As many inputs, each of these lines.
+pub(crate) fn inputs_of(alloc: Global, count: usize, lines: &[&str]) -> Result<Vec<Vec<u8>>, Fail> {
+    let mut inputs = Vec::new(alloc);
+    for _ in 0..count {
+        inputs.push(input_of(alloc, lines)?)?;
+    }
+    Ok(inputs)
+}
+
+/// Refuses where these inputs are not served with replies of these lines, and so many refusals each.
+pub(crate) fn check_served<R: Abort + Threads + Wait + Sync, G: Gate>(
+    rt: &R,
+    alloc: Global,
+    inputs: &[Vec<u8>],
+    benches: usize,
+    gate: &G,
+    replies: &[&[&str]],
+    refused: usize,
+) -> Result<(), Fail> {
+    let default = Bound::new(3).ok_or("bound")?;
+    let outputs = serve(rt, alloc, &Rays::new(), inputs, default, benches, gate)?;
+    assert_eq!(rt; outputs.len(), replies.len());
+    for (output, lines) in outputs.iter().zip(replies) {
+        assert_eq!(rt; output.text.as_slice(), input_of(alloc, lines)?.as_slice());
+        assert_eq!(rt; output.refused, refused);
+    }
+    Ok(())
+}
+
+/// Holds ticket 0 until ticket 1 has been asked about. It gives up at last.
+#[derive(Drop)]
+struct HoldsFirst {
+    asked: AtomicBool,
+    gave_up: AtomicBool,
+}
+
+impl Gate for HoldsFirst {
+    fn pass(&self, _bench: usize, ticket: Ticket) -> bool {
+        if ticket.0 != 0 {
+            self.asked.store(true, Ordering::SeqCst);
+            return true;
+        }
+        for _ in 0..1_000_000u32 {
+            if self.asked.load(Ordering::SeqCst) {
+                return true;
+            }
+            thread::yield_now();
+        }
+        self.gave_up.store(true, Ordering::SeqCst);
+        true
+    }
+}
+
+#[test]
+fn benches_work_side_by_side(rt: HostRuntime) -> Result<(), Fail> {
+    let alloc = rt.alloc();
+    let gate = HoldsFirst {
+        asked: AtomicBool::new(false),
+        gave_up: AtomicBool::new(false),
+    };
+    let inputs = inputs_of(alloc, 1, &[A, B])?;
+    check_served(
+        &rt,
+        alloc,
+        inputs.as_slice(),
+        2,
+        &gate,
+        &[&[ANSWER_A, ANSWER_B]],
+        0,
+    )?;
+    assert!(rt; !gate.gave_up.load(Ordering::SeqCst));
+    Ok(())
+}
+
+/// Hands each job back the first time that it comes. It knows the tickets by their number, which must be below 64.
+#[derive(Drop)]
+struct HandsBackOnce {
+    came: AtomicU64,
+    handed_back: AtomicU64,
+}
+
+impl Gate for HandsBackOnce {
+    fn pass(&self, _bench: usize, ticket: Ticket) -> bool {
+        let bit = 1 << (ticket.0 % 64);
+        if self.came.fetch_or(bit, Ordering::SeqCst) & bit != 0 {
+            return true;
+        }
+        self.handed_back.fetch_add(1, Ordering::SeqCst);
+        false
+    }
+}
+
+#[test]
+fn jobs_that_are_handed_back_are_solved_later(rt: HostRuntime) -> Result<(), Fail> {
+    let alloc = rt.alloc();
+    let gate = HandsBackOnce {
+        came: AtomicU64::new(0),
+        handed_back: AtomicU64::new(0),
+    };
+    let inputs = inputs_of(alloc, 1, &[A, A, A, A, A])?;
+    check_served(
+        &rt,
+        alloc,
+        inputs.as_slice(),
+        1,
+        &gate,
+        &[&[ANSWER_A, ANSWER_A, ANSWER_A, ANSWER_A, ANSWER_A]],
+        0,
+    )?;
+    assert_eq!(rt; gate.handed_back.load(Ordering::SeqCst), 5);
+    Ok(())
+}
+
+#[test]
+fn each_input_has_its_output(rt: HostRuntime) -> Result<(), Fail> {
+    let alloc = rt.alloc();
+    let mut inputs = inputs_of(alloc, 1, &[A])?;
+    inputs.push(input_of(alloc, &[B])?)?;
+    check_served(
+        &rt,
+        alloc,
+        inputs.as_slice(),
+        2,
+        &OpenGate,
+        &[&[ANSWER_A], &[ANSWER_B]],
+        0,
+    )
+}
+
+#[test]
+fn refusals_stand_where_their_lines_stand(rt: HostRuntime) -> Result<(), Fail> {
+    let alloc = rt.alloc();
+    let lines = ["?", A, "  ", B, "8/8/8/8/8/8/8/8 w - -", "?", A, "\r"];
+    let inputs = inputs_of(alloc, 3, &lines)?;
+    let reply: [&str; 6] = [
+        "# line 1: Fen FieldCount",
+        ANSWER_A,
+        ANSWER_B,
+        "# line 5: Fen BadKings",
+        "# line 6: Fen FieldCount",
+        ANSWER_A,
+    ];
+    check_served(
+        &rt,
+        alloc,
+        inputs.as_slice(),
+        3,
+        &OpenGate,
+        &[&reply, &reply, &reply],
+        3,
+    )
+}
+
+#[test]
+fn more_records_than_rings_have_places_are_served(rt: HostRuntime) -> Result<(), Fail> {
+    let alloc = rt.alloc();
+    let mut lines = Vec::new(alloc);
+    for number in 0..100usize {
+        lines.push(if number % 3 == 1 {
+            B
+        } else if number % 7 == 2 {
+            ""
+        } else {
+            A
+        })?;
+    }
+    let inputs = inputs_of(alloc, 4, lines.as_slice())?;
+    let rays = Rays::new();
+    let default = Bound::new(3).ok_or("bound")?;
+    let mut memo = Memo::new(alloc, 16)?;
+    let outputs = serve(&rt, alloc, &rays, inputs.as_slice(), default, 3, &OpenGate)?;
+    assert_eq!(rt; outputs.len(), 4);
+    for (output, input) in outputs.iter().zip(inputs.as_slice()) {
+        let wanted: Output = solve_input(alloc, &rays, input.as_slice(), default, &mut memo)?;
+        assert_eq!(rt; output.text.as_slice(), wanted.text.as_slice());
+        assert_eq!(rt; output.refused, wanted.refused);
+    }
+    Ok(())
+}
+
+#[test]
+fn as_many_empty_inputs_as_there_may_be_are_served(rt: HostRuntime) -> Result<(), Fail> {
+    let alloc = rt.alloc();
+    let inputs = inputs_of(alloc, 16, &[])?;
+    let replies: [&[&str]; 16] = [&[]; 16];
+    check_served(&rt, alloc, inputs.as_slice(), 16, &OpenGate, &replies, 0)
+}
+
+/// Refuses where so many inputs on so many benches are not refused by this name.
+fn check_fault<R: Abort + Threads + Wait + Sync>(
+    rt: &R,
+    alloc: Global,
+    inputs: usize,
+    benches: usize,
+    name: &str,
+) -> Result<(), Fail> {
+    let inputs = inputs_of(alloc, inputs, &[A])?;
+    let default = Bound::new(3).ok_or("bound")?;
+    match serve(
+        rt,
+        alloc,
+        &Rays::new(),
+        inputs.as_slice(),
+        default,
+        benches,
+        &OpenGate,
+    ) {
+        Ok(_) => Err("it was served".into()),
+        Err(fault) => {
+            assert_eq!(rt; fault.code(), name);
+            Ok(())
+        }
+    }
+}
+
+#[test]
+fn too_few_or_too_many_ends_are_refused(rt: HostRuntime) -> Result<(), Fail> {
+    let alloc = rt.alloc();
+    check_fault(&rt, alloc, 0, 1, "BadWindows")?;
+    check_fault(&rt, alloc, 17, 1, "BadWindows")?;
+    check_fault(&rt, alloc, 0, 0, "BadWindows")?;
+    check_fault(&rt, alloc, 1, 0, "BadBenches")?;
+    check_fault(&rt, alloc, 16, 17, "BadBenches")?;
+    assert_eq!(rt; RoomFault::NoThread.code(), "NoThread");
+    Ok(())
+}

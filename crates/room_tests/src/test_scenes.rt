@@ -1,0 +1,268 @@
+//! Calls on the ends of a room on one thread, told with their replies.
+
+ghost use Rattle.std.specs.Prelude.{IfOk};
+ghost use Rattle.desk_room.specs.Windows.{SameWindow};
+ghost use Rattle.desk_room.specs.Keepers.{IsOf, SameRoom};
+
+use crate::test_crews::Crew;
+use chess_moves::Rays;
+use chess_notation::Record;
+use chess_problems::Bound;
+use desk_room::{Bench, Keeper, Room, Turn, Window, open_room};
+use mate_desk::Delivery;
+use mate_jobs::Ticket;
+use std::alloc::Global;
+use std::fmt::Display;
+use std::process::Abort;
+use std::test::Fail;
+
+/// Two lines, and their answers.
+pub(crate) const A: &str = "6k1/5ppp/8/8/8/8/8/R3K3 w Q - dm 1;";
+
+pub(crate) const ANSWER_A: &str = "6k1/5ppp/8/8/8/8/8/R3K3 w Q - bm Ra8#; dm 1; pv Ra8#;";
+
+pub(crate) const B: &str = "7k/8/5K2/8/8/8/8/R7 w - - dm 2;";
+
+pub(crate) const ANSWER_B: &str = "7k/8/5K2/8/8/8/8/R7 w - - bm Kf7 Kg6; dm 2; pv Kg6 Kg8 Ra8#;";
+
+/// A call of a window, of the keeper, or of a bench by its number. A job is named by its ticket.
+#[derive(Clone, Copy)]
+pub(crate) enum Call {
+    Submit(&'static str),
+    Withdraw(u64),
+    Bye,
+    Collect,
+    Settle,
+    Turn,
+    Byes,
+    Drained,
+    Close,
+    SendHome,
+    Take(usize),
+    Solve(usize, u64),
+    Return(usize, u64),
+    /// A job of this ticket is made up, and given back.
+    MakeUp(usize, u64),
+    /// The last bench is dropped.
+    Leave,
+}
+
+fn default() -> Result<Bound, Fail> {
+    Ok(Bound::new(3).ok_or("bound")?)
+}
+
+fn told<E: Display + Drop>(alloc: Global, answered: Result<(), E>) -> Result<String, Fail> {
+    match answered {
+        Ok(()) => Ok(format!(in alloc; "ok")?),
+        Err(fault) => Ok(format!(in alloc; "refused {fault}")?),
+    }
+}
+
+fn noticed(alloc: Global, ticket: Ticket, record: &Record) -> Result<String, Fail> {
+    let position = record.position.text();
+    Ok(format!(in alloc;
+        "notice {} of {} dm {};",
+        ticket.0,
+        position.as_str(),
+        record.bound.get()
+    )?)
+}
+
+fn delivered(alloc: Global, rays: &Rays, delivery: Delivery) -> Result<String, Fail> {
+    match delivery {
+        Delivery::Answer(answer) => Ok(answer.text(alloc, rays)?),
+        Delivery::Notice(ticket, record) => noticed(alloc, ticket, &record),
+    }
+}
+
+fn collect(alloc: Global, rays: &Rays, window: &mut Window) -> Result<String, Fail>
+    ensures { SameWindow window.old window.new }
+{
+    match window.collect() {
+        Some(delivery) => delivered(alloc, rays, delivery),
+        None => Ok(format!(in alloc; "none")?),
+    }
+}
+
+/// What a turn did, without the counts that are 0.
+fn turned(alloc: Global, turn: Turn) -> Result<String, Fail> {
+    let mut told = format!(in alloc; "turned")?;
+    for (name, count) in [
+        ("accepted", turn.accepted),
+        ("byes", turn.byes),
+        ("withdrawn", turn.withdrawn),
+        ("ordered", turn.ordered),
+        ("solved", turn.solved),
+        ("returned", turn.returned),
+        ("strangers", turn.strangers),
+        ("delivered", turn.delivered),
+    ] {
+        if count > 0 {
+            told = format!(in alloc; "{told} {name} {count}")?;
+        }
+    }
+    Ok(told)
+}
+
+/// A call of the keeper alone.
+#[tactic(auto, using(crate::proofs::Rooms::room_same, crate::proofs::Rooms::room_then))]
+fn reply_of_keeper(alloc: Global, keeper: &mut Keeper, call: Call) -> Result<String, Fail>
+    ensures { SameRoom keeper.old keeper.new }
+{
+    match call {
+        Call::Turn => turned(alloc, keeper.turn()),
+        Call::SendHome => Ok(format!(in alloc; "owed {}", keeper.send_home())?),
+        Call::Close => {
+            keeper.close();
+            Ok(format!(in alloc; "closed")?)
+        }
+        Call::Byes => Ok(format!(in alloc; "byes {}", keeper.byes())?),
+        _ => Ok(format!(in alloc; "drained {}", keeper.is_drained())?),
+    }
+}
+
+/// A call of a bench.
+fn reply_of_bench(alloc: Global, crew: &mut Crew, call: Call) -> Result<String, Fail> {
+    match call {
+        Call::Take(i) => crew.take(alloc, i),
+        Call::Solve(i, ticket) => crew.solve(alloc, i, ticket),
+        Call::Return(i, ticket) => crew.hand_back(alloc, i, ticket),
+        Call::MakeUp(i, ticket) => crew.make_up(alloc, i, ticket, A),
+        _ => crew.leave(alloc),
+    }
+}
+
+/// A call of the window, of the keeper or of a bench.
+#[tactic(auto, using(crate::proofs::Rooms::of_then, crate::proofs::Rooms::of_window, crate::proofs::Rooms::room_same, crate::proofs::Rooms::room_then))]
+fn reply(
+    alloc: Global,
+    keeper: &mut Keeper,
+    window: &mut Window,
+    crew: &mut Crew,
+    call: Call,
+) -> Result<String, Fail>
+    requires { IsOf window.old keeper.old }
+    ensures of { IsOf window.new keeper.new }
+    ensures room { SameRoom keeper.old keeper.new }
+{
+    match call {
+        Call::Submit(line) => told(alloc, window.submit(alloc, &crew.rays, line.as_bytes())),
+        Call::Withdraw(n) => told(alloc, window.withdraw(n)),
+        Call::Bye => told(alloc, window.bye()),
+        Call::Collect => collect(alloc, &crew.rays, window),
+        Call::Settle => {
+            let settled = keeper.settle(window);
+            Ok(format!(in alloc; "left {} uncollected {}", settled.left, settled.uncollected)?)
+        }
+        Call::Turn | Call::Byes | Call::Drained | Call::Close | Call::SendHome => {
+            reply_of_keeper(alloc, keeper, call)
+        }
+        _ => reply_of_bench(alloc, crew, call),
+    }
+}
+
+/// The ends of a room of one window.
+pub(crate) fn ends_of_one(
+    alloc: Global,
+    benches: usize,
+    ring: usize,
+) -> Result<(Keeper, Window, Vec<Bench>), Fail>
+    ensures { IfOk result (λ ends. IsOf ends.1 ends.0) }
+{
+    let Room {
+        keeper,
+        mut windows,
+        benches,
+    } = open_room(alloc, 1, benches, ring, default()?)?;
+    let Some(window) = windows.pop() else {
+        return Err("no window".into());
+    };
+    Ok((keeper, window, benches))
+}
+
+/// Refuses where a room of one window, so many benches and rings of so many places replies otherwise.
+pub(crate) fn check_room(
+    rt: &impl Abort,
+    alloc: Global,
+    benches: usize,
+    ring: usize,
+    calls: &[(Call, &str)],
+) -> Result<(), Fail> {
+    let (mut keeper, mut window, benches) = ends_of_one(alloc, benches, ring)?;
+    let mut crew = Crew::new(alloc, benches)?;
+    for (number, (call, wanted)) in calls.iter().enumerate() {
+        let found = reply(alloc, &mut keeper, &mut window, &mut crew, *call)?;
+        assert_eq!(rt; found.as_str(), *wanted, "call {number}");
+    }
+    Ok(())
+}
+
+/// The ends of a room of two windows.
+pub(crate) fn ends_of_two(
+    alloc: Global,
+    benches: usize,
+    ring: usize,
+) -> Result<(Keeper, Window, Window, Vec<Bench>), Fail>
+    ensures first { IfOk result (λ ends. IsOf ends.1 ends.0) }
+    ensures second { IfOk result (λ ends. IsOf ends.2 ends.0) }
+{
+    let Room {
+        keeper,
+        mut windows,
+        benches,
+    } = open_room(alloc, 2, benches, ring, default()?)?;
+    let Some(second) = windows.pop() else {
+        return Err("no window".into());
+    };
+    let Some(first) = windows.pop() else {
+        return Err("one window".into());
+    };
+    Ok((keeper, first, second, benches))
+}
+
+/// A call of the window of this number, of the keeper or of a bench, where there are two windows.
+fn reply_of_two(
+    alloc: Global,
+    keeper: &mut Keeper,
+    first: &mut Window,
+    second: &mut Window,
+    crew: &mut Crew,
+    number: usize,
+    call: Call,
+) -> Result<String, Fail>
+    requires first { IsOf first.old keeper.old }
+    requires second { IsOf second.old keeper.old }
+    ensures first { IsOf first.new keeper.new }
+    ensures second { IsOf second.new keeper.new }
+{
+    match number {
+        0 => reply(alloc, keeper, first, crew, call),
+        _ => reply(alloc, keeper, second, crew, call),
+    }
+}
+
+/// Refuses where a room of two windows, so many benches and rings of so many places replies otherwise. With each call goes the number
+/// of a window.
+pub(crate) fn check_two_windows(
+    rt: &impl Abort,
+    alloc: Global,
+    benches: usize,
+    ring: usize,
+    calls: &[(usize, Call, &str)],
+) -> Result<(), Fail> {
+    let (mut keeper, mut first, mut second, benches) = ends_of_two(alloc, benches, ring)?;
+    let mut crew = Crew::new(alloc, benches)?;
+    for (number, (at, call, wanted)) in calls.iter().enumerate() {
+        let found = reply_of_two(
+            alloc,
+            &mut keeper,
+            &mut first,
+            &mut second,
+            &mut crew,
+            *at,
+            *call,
+        )?;
+        assert_eq!(rt; found.as_str(), *wanted, "call {number}");
+    }
+    Ok(())
+}

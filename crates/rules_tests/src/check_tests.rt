@@ -1,0 +1,85 @@
+//! The moves that give check, and those that mate, in known positions.
+
+use crate::test_positions::position_of;
+use chess_moves::{Rays, checks, has_mating_move};
+use std::test::Fail;
+
+#[test]
+fn lists_each_check(rt: HostRuntime) -> Result<(), Fail> {
+    let table: [(&str, &[&str]); 8] = [
+        // The queen itself, on each of its lines.
+        (
+            "7k/8/6K1/8/8/8/8/5Q2 w - - 0 1",
+            &["f1a1", "f1h1", "f1h3", "f1f6", "f1f8"],
+        ),
+        // A pawn of Black's.
+        ("7k/8/8/8/8/3p4/8/4K3 b - - 0 1", &["d3d2"]),
+        // The knight opens the file with each move; two of them attack the king as well.
+        (
+            "4k3/8/8/8/4N3/8/8/K3R3 w - - 0 1",
+            &[
+                "e4d2", "e4f2", "e4c3", "e4g3", "e4c5", "e4g5", "e4d6", "e4f6",
+            ],
+        ),
+        // The king opens the file where it leaves it.
+        (
+            "4k3/8/8/8/4K3/8/8/4R3 w - - 0 1",
+            &["e4d3", "e4f3", "e4d4", "e4f4", "e4d5", "e4f5"],
+        ),
+        // The rook of a castling king.
+        ("5k2/8/8/8/8/8/8/4K2R w K - 0 1", &["e1g1", "h1f1", "h1h8"]),
+        // What the pawn becomes, and not the pawn.
+        ("4k3/1P6/8/8/8/8/8/7K w - - 0 1", &["b7b8r", "b7b8q"]),
+        // The rank is open once both pawns left it.
+        ("8/8/8/k2pP2R/8/8/8/7K w - d6 0 1", &["e5d6"]),
+        ("4k3/8/8/8/8/8/8/4K3 w - - 0 1", &[]),
+    ];
+    let rays = Rays::new();
+    for (text, expected) in table {
+        let list = checks(&rays, &position_of(text)?);
+        assert_eq!(rt; list.len(), expected.len(), "{text}");
+        for (m, expected) in list.as_slice().iter().zip(expected) {
+            assert_eq!(rt; m.text().as_str(), *expected, "{text}");
+        }
+    }
+    Ok(())
+}
+
+#[test]
+fn tells_whether_a_move_mates(rt: HostRuntime) -> Result<(), Fail> {
+    let table = [
+        // The back rank; and where the king may step off it.
+        ("6k1/5ppp/8/8/8/8/8/R5K1 w - - 0 1", true),
+        ("7k/8/5K2/8/8/8/8/R7 w - - 0 1", false),
+        // Smothered, and where the knight can be taken.
+        ("6rk/6pp/7N/8/8/8/8/6K1 w - - 0 1", true),
+        ("6rk/6pp/7N/8/8/1b6/8/6K1 w - - 0 1", false),
+        // The king opens the rank, the pawn the diagonal.
+        ("k1K4R/p7/8/8/8/8/8/8 w - - 0 1", true),
+        ("k7/p7/8/8/4P3/8/8/1R2K2B w - - 0 1", true),
+        // Castling alone mates.
+        ("8/8/8/8/7p/8/7Q/2k1K2R w K - 0 1", true),
+        ("8/8/8/8/7p/8/7Q/2k1K2R w - - 0 1", false),
+        // The capture en passant alone mates.
+        ("7k/5K2/8/6pP/8/7R/8/8 w - g6 0 1", true),
+        ("7k/5K2/8/6pP/8/7R/8/8 w - - 0 1", false),
+        ("1K6/3k4/4R3/2pP2N1/3R4/p7/8/8 w - c6 0 1", true),
+        // The promotion to a knight alone mates; to a queen or a rook.
+        ("7R/1P1k4/8/4Q3/8/2p5/8/5K2 w - - 0 1", true),
+        ("6R1/2P1k1K1/8/2N5/8/8/8/8 w - - 0 1", true),
+        ("k7/2P5/K7/8/8/8/8/8 w - - 0 1", true),
+        ("6bk/5P1p/7P/8/8/8/8/6K1 w - - 0 1", false),
+        // The man that gives check is guarded.
+        ("7k/R7/5N2/8/8/8/8/K7 w - - 0 1", true),
+        ("7k/R7/8/8/8/8/8/K7 w - - 0 1", false),
+        ("4rk2/5p2/6R1/8/2B5/8/8/K4R2 w - - 0 1", true),
+        // No check.
+        ("8/8/8/8/8/5k2/5p2/5K2 w - - 0 1", false),
+    ];
+    let rays = Rays::new();
+    for (text, expected) in table {
+        let position = position_of(text)?;
+        assert_eq!(rt; has_mating_move(&rays, &position), expected, "{text}");
+    }
+    Ok(())
+}
