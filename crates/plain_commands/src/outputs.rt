@@ -1,4 +1,4 @@
-//! Outputs, written.
+//! Outputs that were made elsewhere, written one after the other.
 
 ghost use Rattle.std.specs.Prelude.{◌≡◌, IfErr, IfOk, OnErr, flat_map, nat_lt, true};
 ghost use Rattle.std.specs.List.{sum_by};
