@@ -16,7 +16,7 @@ use std::alloc::Global;
 use std::sync::Wait;
 
 /// How many entries a bench's memo has.
-const ENTRIES: usize = 4096;
+const ENTRIES: usize = 16_384;
 
 /// Waits until the bench's ring has a place, unless the bell is rung first. It answers whether it has one.
 fn await_place<R: Wait>(rt: &R, bench: &mut Bench, bell: &Bell) -> bool

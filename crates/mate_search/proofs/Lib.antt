@@ -1,6 +1,7 @@
 pub mod Searches
 pub mod Wins
 pub mod Least
+pub mod Keys
 pub mod Playing
 pub mod Playable
 pub mod Readings

@@ -117,15 +117,15 @@ impl Memo {
         let _ = self.cache.put(*position, entry);
     }
 
-    /// The two replies that refuted last with `k` moves left to the attacker.
-    pub(crate) fn killers(&self, k: u8) -> (Option<Move>, Option<Move>) {
-        self.killers.two(k)
+    /// The two replies that refuted last with one move left to the attacker.
+    pub(crate) fn killers(&self) -> (Option<Move>, Option<Move>) {
+        self.killers.two()
     }
 
-    /// Keeps a reply that refuted with `k` moves left to the attacker.
-    pub(crate) fn keep_refutation(&mut self, k: u8, reply: Move)
+    /// Keeps a reply that refuted with one move left to the attacker.
+    pub(crate) fn keep_refutation(&mut self, reply: Move)
         ensures { self.new ≡ self.old }
     {
-        self.killers.keep(k, reply);
+        self.killers.keep(reply);
     }
 }

@@ -1,14 +1,14 @@
 //! Whether the side to move mates, or is mated, within so many moves of the attacker.
 
-ghost use Rattle.std.specs.Prelude.{◌≡◌, ◌<◌, ◌≤◌, ◌-◌, true, false, All, IfSome, None};
-ghost use Rattle.std.specs.List.{list_any};
-ghost use Rattle.chess_board.specs.Legality.{is_legal as may_be_played};
+ghost use Rattle.std.specs.Prelude.{◌≡◌, ◌<◌, ◌≤◌, ◌-◌, true, false, IfSome, None};
 ghost use Rattle.chess_moves.specs.Verdicts.{is_mate};
-ghost use Rattle.mate_search.specs.Wins.{win, lost, leaves_lost};
+ghost use Rattle.mate_search.specs.Wins.{win, lost};
 
 use crate::memo::Memo;
 use chess_board::{Move, Position, after};
-use chess_moves::{Rays, Verdict, has_mating_move, is_legal, legal_listed, legal_moves, verdict};
+use chess_moves::{
+    Rays, Verdict, checks, has_mating_move, is_legal, legal_listed, legal_moves, verdict,
+};
 
 /// Whether the attacker, to move, mates within `n` moves. A position one move from the end is not worth keeping.
 #[tactic(auto, using(crate::proofs::Wins::win_none))]
@@ -98,29 +98,8 @@ fn wins_by_some(rays: &Rays, position: &Position, n: u8, memo: &mut Memo) -> boo
     false
 }
 
-/// Whether the attacker mates within `n` moves, the first of which is one of these.
-pub(crate) fn wins_among(
-    rays: &Rays,
-    position: &Position,
-    first: &[Move],
-    n: u8,
-    memo: &mut Memo,
-) -> bool
-    requires some { 0 < n }
-    requires legal { All (λ m. may_be_played position.now m ≡ true) first.now }
-    ensures found { result ≡ list_any (leaves_lost (n - 1) position.now) first.now }
-    ensures room { memo.new.room ≡ memo.old.room }
-{
-    for m in first {
-        if loses(rays, &after(position, *m), n - 1, memo) {
-            return true;
-        }
-    }
-    false
-}
-
-/// Whether the defender, to move, is mated, or the attacker mates within `k` moves whatever the reply. First the memo is asked
-/// about all replies, then those are tried that refuted elsewhere.
+/// Whether the defender, to move, is mated, or the attacker mates within `k` moves whatever the reply. First those replies are tried
+/// that are likely to refute: one move from the end the two that refuted last, before that what the memo knows, checks, and captures.
 #[tactic(auto, using(crate::proofs::Wins::lost_none))]
 #[cycle(search)]
 pub(crate) fn loses(rays: &Rays, position: &Position, k: u8, memo: &mut Memo) -> bool
@@ -130,15 +109,24 @@ pub(crate) fn loses(rays: &Rays, position: &Position, k: u8, memo: &mut Memo) ->
     if k == 0 {
         return is_mated(rays, position);
     }
-    if k > 1 && is_known_refuted(rays, position, k, memo) {
-        return false;
-    }
-    let (last, earlier) = memo.killers(k);
-    if refutes(rays, position, last, k, memo) {
-        return false;
-    }
-    if refutes(rays, position, earlier, k, memo) {
-        return false;
+    if k == 1 {
+        let (last, earlier) = memo.killers();
+        if refutes(rays, position, last, k, memo) {
+            return false;
+        }
+        if refutes(rays, position, earlier, k, memo) {
+            return false;
+        }
+    } else {
+        if is_known_refuted(rays, position, k, memo) {
+            return false;
+        }
+        if is_refuted_by_check(rays, position, k, memo) {
+            return false;
+        }
+        if is_refuted_by_capture(rays, position, k, memo) {
+            return false;
+        }
     }
     loses_each(rays, position, k, memo)
 }
@@ -151,7 +139,36 @@ fn is_known_refuted(rays: &Rays, position: &Position, k: u8, memo: &mut Memo) ->
 {
     for r in legal_moves(rays, position) {
         if memo.entry(&after(position, r)).answer(k) == Some(false) {
-            memo.keep_refutation(k, r);
+            return true;
+        }
+    }
+    false
+}
+
+/// Whether a reply that checks refutes: the attacker does not mate within `k` moves after it.
+#[tactic(auto, using(crate::proofs::Wins::checks_legal))]
+#[cycle(search)]
+fn is_refuted_by_check(rays: &Rays, position: &Position, k: u8, memo: &mut Memo) -> bool
+    ensures refuted { result ≡ true → lost k position.now ≡ false }
+    ensures room { memo.new.room ≡ memo.old.room }
+{
+    let replies = checks(rays, position);
+    for r in replies.as_slice() {
+        if !wins(rays, &after(position, *r), k, memo) {
+            return true;
+        }
+    }
+    false
+}
+
+/// Whether a reply that takes a man on its target refutes: the attacker does not mate within `k` moves after it.
+#[cycle(search)]
+fn is_refuted_by_capture(rays: &Rays, position: &Position, k: u8, memo: &mut Memo) -> bool
+    ensures refuted { result ≡ true → lost k position.now ≡ false }
+    ensures room { memo.new.room ≡ memo.old.room }
+{
+    for r in legal_moves(rays, position) {
+        if position.man(r.target).is_some() && !wins(rays, &after(position, r), k, memo) {
             return true;
         }
     }
@@ -173,7 +190,7 @@ fn refutes(rays: &Rays, position: &Position, reply: Option<Move>, k: u8, memo: &
     if !is_legal(rays, position, r) || wins(rays, &after(position, r), k, memo) {
         return false;
     }
-    memo.keep_refutation(k, r);
+    memo.keep_refutation(r);
     true
 }
 
@@ -187,7 +204,9 @@ fn loses_each(rays: &Rays, position: &Position, k: u8, memo: &mut Memo) -> bool
     for r in legal_moves(rays, position) {
         moves = true;
         if !wins(rays, &after(position, r), k, memo) {
-            memo.keep_refutation(k, r);
+            if k == 1 {
+                memo.keep_refutation(r);
+            }
             return false;
         }
     }

@@ -2,7 +2,7 @@
 
 ghost use Rattle.std.specs.Prelude.{◌≡◌, ◌<◌, ◌≤◌, true, All, length, None};
 ghost use Rattle.chess_board.specs.Legality.{is_legal};
-ghost use Rattle.mate_search.specs.inside.Variation.{keys, variation};
+ghost use Rattle.mate_search.specs.inside.Variation.{variation};
 ghost use Rattle.chess_board.specs.Positions.{Setup};
 ghost use Rattle.mate_search.specs.inside.Truth.{dist, first_moves as moves_to_begin, truth, truth_among};
 ghost use Rattle.chess_problems.specs.SameProblems.{is_same_move as are_same_move};
@@ -15,7 +15,6 @@ ghost use Rattle.chess_problems.specs.declared.outcomes.Outcome.TheVariants.{Mat
 use crate::memo::Memo;
 use crate::memo_entries::Entry;
 use crate::principal_variation::{keys_among, push_variation};
-use crate::searching::wins_among;
 use chess_board::{Move, Position};
 use chess_moves::{MoveList, Rays, legal, legal_listed};
 use chess_problems::{Bound, Outcome, Problem, Variation, is_same_move};
@@ -116,9 +115,9 @@ fn learned(known: Entry, outcome: &Outcome, bound: Bound) -> Entry
     }
 }
 
-/// What there is to say where the attacker's first move is one of these, with none of which it mates within `none` moves: tries
-/// one move more, two, and so on up to the bound.
-#[tactic(auto, unfolding(crate::specs::inside::Truth::truth_among), using(crate::proofs::Least::dist_found, crate::proofs::Least::dist_none_more, crate::proofs::Least::dist_fewer, crate::proofs::Wins::win_among_step))]
+/// What there is to say where the attacker's first move is one of these, with none of which it mates within `none` moves: looks for
+/// keys of a mate in one move more, two, and so on up to the bound.
+#[tactic(auto, unfolding(crate::specs::inside::Truth::truth_among), using(crate::proofs::Keys::dist_by_key, crate::proofs::Keys::dist_no_key, crate::proofs::Least::dist_fewer, crate::proofs::Keys::keys_legal, crate::proofs::Keys::variation_of_keys))]
 fn solve_among(
     rays: &Rays,
     position: &Position,
@@ -134,30 +133,26 @@ fn solve_among(
     ensures room { memo.new.room ≡ memo.old.room }
 {
     for k in none..bound.get() {
-        if wins_among(rays, position, first, k + 1, memo) {
-            return mate_among(rays, position, first, k + 1, memo);
+        let keys = keys_among(rays, position, first, k + 1, memo);
+        if !keys.is_empty() {
+            return mate_by(rays, position, keys, k + 1, memo);
         }
     }
     Outcome::NoMate
 }
 
-/// The outcome where `n` is the least number of moves.
-fn mate_among(rays: &Rays, position: &Position, first: &[Move], n: u8, memo: &mut Memo) -> Outcome
+/// The outcome where `n` is the least number of moves, and these are the keys.
+fn mate_by(rays: &Rays, position: &Position, keys: MoveList, n: u8, memo: &mut Memo) -> Outcome
     requires some { 0 < n }
     requires bounded { n ≤ 15 }
-    requires few { length first.now ≤ 1024 }
-    requires legal { All (λ m. is_legal position.now m ≡ true) first.now }
-    ensures mate { result ≡ Mate n (record { items = keys first.now position.now n }) (record { items = variation first.now position.now n }) }
+    requires legal { All (λ m. is_legal position.now m ≡ true) keys.items }
+    ensures mate { result ≡ Mate n (record { items = keys.items }) (record { items = variation keys.items position.now n }) }
     ensures room { memo.new.room ≡ memo.old.room }
 {
     let Some(dm) = Bound::new(n) else {
         unreachable!();
     };
     let mut pv = Variation::new();
-    push_variation(rays, position, first, n, memo, &mut pv);
-    Outcome::Mate {
-        dm,
-        keys: keys_among(rays, position, first, n, memo),
-        pv,
-    }
+    push_variation(rays, position, keys.as_slice(), n, memo, &mut pv);
+    Outcome::Mate { dm, keys, pv }
 }

@@ -19,7 +19,7 @@ use std::alloc::Global;
 use std::io::Write;
 
 /// How many positions the memo of a run keeps.
-const MEMO_ENTRIES: usize = 16_384;
+const MEMO_ENTRIES: usize = 65_536;
 
 /// The memo of a run. Its size is one that a memo may have.
 pub fn new_memo(alloc: Global) -> Result<Memo, Stop>

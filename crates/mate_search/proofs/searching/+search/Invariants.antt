@@ -26,6 +26,12 @@ decreases-loses l = 8 * l.k + 7
 abbrev pub decreases-loses_each : goal.decreases-loses_each
 decreases-loses_each l = 8 * l.k + 5
 
+abbrev pub decreases-is_refuted_by_check : goal.decreases-is_refuted_by_check
+decreases-is_refuted_by_check l = 8 * l.k + 4
+
+abbrev pub decreases-is_refuted_by_capture : goal.decreases-is_refuted_by_capture
+decreases-is_refuted_by_capture l = 8 * l.k + 4
+
 abbrev pub decreases-refutes : goal.decreases-refutes
 decreases-refutes l = 8 * l.k + 4
 
@@ -50,5 +56,20 @@ invariant-loses_each-loop-r l = record {
   all : list_all (λ r. win l.k (after_setup l.position r)) l.r-iterator ≡ list_all (λ r. win l.k (after_setup l.position r)) (legal_moves l.position);
   some : (l.moves || nat_lt 0 (length l.r-iterator)) ≡ has_legal_move l.position;
   legal : list_all (is_legal l.position) l.r-iterator ≡ true;
+  room : l.memo.room ≡ l.fn.memo.room;
+}
+
+-- the replies to come are among the legal moves
+abbrev pub invariant-is_refuted_by_capture-loop-r : goal.invariant-is_refuted_by_capture-loop-r
+invariant-is_refuted_by_capture-loop-r l = record {
+  all : list_all (λ r. win l.k (after_setup l.position r)) (legal_moves l.position) ≡ true → list_all (λ r. win l.k (after_setup l.position r)) l.r-iterator ≡ true;
+  some : nat_lt 0 (length l.r-iterator) ≡ true → has_legal_move l.position ≡ true;
+  legal : list_all (is_legal l.position) l.r-iterator ≡ true;
+  room : l.memo.room ≡ l.fn.memo.room;
+}
+
+-- whatever was tried, only the memo has changed
+abbrev pub invariant-is_refuted_by_check-loop-r : goal.invariant-is_refuted_by_check-loop-r
+invariant-is_refuted_by_check-loop-r l = record {
   room : l.memo.room ≡ l.fn.memo.room;
 }
