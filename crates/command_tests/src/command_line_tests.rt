@@ -1,7 +1,7 @@
-//! Words that ask for nothing, and those that ask for the help or the version.
+//! Words that ask for nothing, those that ask for the help or the version, and those that ask for `serve`.
 
-use crate::test_shelves::{ALWAYS, run, shelf_of};
-use commands::command;
+use crate::test_shelves::{ALWAYS, run, shelf_of, words_of};
+use plain_commands::plain_command;
 use std::test::Fail;
 
 /// Whether the text holds the words.
@@ -70,8 +70,8 @@ fn no_name_is_misuse_too(rt: HostRuntime) -> Result<(), Fail> {
     let mut out = Vec::new(alloc);
     let mut err = Vec::new(alloc);
     let shelf = shelf_of(&[]);
-    let status = command(&rt, alloc, words.as_slice(), &shelf, &mut out, &mut err);
-    assert_eq!(rt; status, 2);
+    let status = plain_command(alloc, words.as_slice(), &shelf, &mut out, &mut err);
+    assert_eq!(rt; status, Some(2));
     assert_eq!(rt; out.as_slice(), b"".as_slice());
     Ok(())
 }
@@ -119,6 +119,36 @@ fn help_and_version_go_to_out(rt: HostRuntime) -> Result<(), Fail> {
         let unheard = run(&rt, words.as_slice(), 0, ALWAYS)?;
         assert_eq!(rt; unheard.status, 4, "{line}");
         assert_eq!(rt; unheard.err.as_slice(), b"".as_slice(), "{line}");
+    }
+    Ok(())
+}
+
+#[test]
+fn a_plain_command_leaves_serve_alone(rt: HostRuntime) -> Result<(), Fail> {
+    let alloc = rt.alloc();
+    let mates = "7k/8/5K2/8/8/8/8/R7 w - - bm Kf7 Kg6; dm 2; pv Kg6 Kg8 Ra8#;\n";
+    let rows = [
+        ("serve --workers 2 two", None, ""),
+        ("serve --workers 2 none", None, ""),
+        ("serve --workers 17 two", Some(2), ""),
+        ("serve two", Some(2), ""),
+        ("solve two", Some(0), mates),
+        ("solve none", Some(4), ""),
+        ("look 8/8", Some(1), ""),
+    ];
+    for (line, status, text) in rows {
+        let mut words = Vec::new(alloc);
+        for word in line.split(' ') {
+            words.push(word)?;
+        }
+        let words = words_of(alloc, words.as_slice())?;
+        let shelf = shelf_of(&[("two", "7k/8/5K2/8/8/8/8/R7 w - - dm 2;\n")]);
+        let mut out = Vec::new(alloc);
+        let mut err = Vec::new(alloc);
+        let ended = plain_command(alloc, words.as_slice(), &shelf, &mut out, &mut err);
+        assert_eq!(rt; ended, status, "{line}");
+        assert_eq!(rt; out.as_slice(), text.as_bytes(), "{line}");
+        assert_eq!(rt; err.is_empty(), matches!(status, None | Some(0)), "{line}");
     }
     Ok(())
 }

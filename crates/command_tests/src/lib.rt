@@ -1,5 +1,5 @@
-//! Tests of the program's commands, by the public calls of `commands` and of the crates that it stands on. The files and writers that
-//! they use stand in `test_shelves`.
+//! Tests of the commands that start no thread, by the public calls of `plain_commands` and of the crates that it stands on. The files and
+//! writers that they use stand in `test_shelves`. What runs `serve` is tested in the program `matedesk`.
 #![tactic(auto)]
 
 #[cfg(test)]
@@ -11,10 +11,6 @@ mod output_tests;
 #[cfg(test)]
 mod script_tests;
 #[cfg(test)]
-mod serve_tests;
-#[cfg(test)]
 mod solve_tests;
 #[cfg(test)]
 mod test_shelves;
-#[cfg(test)]
-mod worked_tests;

@@ -3,7 +3,7 @@
 use crate::fen_command_tests::{MATED, START};
 use crate::solve_tests::LINES;
 use crate::test_shelves::{ALWAYS, Failing, run, run_with, shelf_of, words_of};
-use commands::command;
+use plain_commands::plain_command;
 use std::io;
 use std::test::Fail;
 
@@ -66,8 +66,8 @@ fn an_output_that_breaks_off_holds_a_first_part(rt: HostRuntime) -> Result<(), F
                 };
                 let mut err = Vec::new(alloc);
                 let shelf = shelf_of(files.as_slice());
-                let status = command(&rt, alloc, all.as_slice(), &shelf, &mut out, &mut err);
-                assert_eq!(rt; status, 4, "{calls}");
+                let status = plain_command(alloc, all.as_slice(), &shelf, &mut out, &mut err);
+                assert_eq!(rt; status, Some(4), "{calls}");
                 assert_eq!(rt; out.text.len(), calls, "{calls}");
                 assert!(rt;
                     whole.out.as_slice().starts_with(out.text.as_slice()),

@@ -1,15 +1,12 @@
-//! Files and writers to be tested with, and calls of the program with these.
+//! Files and writers to be tested with, and calls of `plain_command` with these.
 
 ghost use Rattle.std.specs.Prelude.{None, ⊤};
 
-use commands::command;
-use plain_commands::{Reading, Source, SourceFault, whole};
+use plain_commands::{Reading, Source, SourceFault, plain_command, whole};
 use std::alloc::Global;
 use std::io;
 use std::io::{Read, Write};
-use std::sync::Wait;
 use std::test::Fail;
-use std::thread::Threads;
 
 /// More calls than any command makes, and more bytes than any text here has.
 pub const ALWAYS: usize = 10_000;
@@ -134,8 +131,8 @@ pub fn words_of(alloc: Global, words: &[&str]) -> Result<Vec<String>, Fail> {
     Ok(all)
 }
 
-/// Runs the words after the program's name where there is no file, with writers that take so many calls.
-pub fn run<R: Threads + Wait + Sync + AllocGlobal>(
+/// Runs the words after the program's name, which do not ask for `serve`, where there is no file, with writers that take so many calls.
+pub fn run<R: AllocGlobal>(
     rt: &R,
     words: &[&str],
     outs: usize,
@@ -144,8 +141,9 @@ pub fn run<R: Threads + Wait + Sync + AllocGlobal>(
     run_with(rt, &shelf_of(&[]), words, outs, errs)
 }
 
-/// Runs the words after the program's name where there are such files, with writers that take so many calls.
-pub fn run_with<R: Threads + Wait + Sync + AllocGlobal>(
+/// Runs the words after the program's name, which do not ask for `serve`, where there are such files, with writers that take so many
+/// calls.
+pub fn run_with<R: AllocGlobal>(
     rt: &R,
     shelf: &Shelf,
     words: &[&str],
@@ -166,9 +164,9 @@ pub fn run_with<R: Threads + Wait + Sync + AllocGlobal>(
         fault: io::ErrorKind::BrokenPipe,
         text: Vec::new(alloc),
     };
-    let status = command(rt, alloc, all.as_slice(), shelf, &mut out, &mut err);
+    let status = plain_command(alloc, all.as_slice(), shelf, &mut out, &mut err);
     Ok(Ending {
-        status,
+        status: status.ok_or("serve")?,
         out: out.text,
         err: err.text,
     })

@@ -1,7 +1,19 @@
-//! The program `matedesk`: it has `commands` answer the words that it was called with, from the files and to the outputs of the system.
+//! The program `matedesk`: it answers the words that it was called with, from the files and to the outputs of the system.
+//!
+//! Read `answering` first, where the contract of `command` is the program's, then `serving`. Threads are started by `serve` alone. What a
+//! word means is the business of `command_words`, and what all other commands answer that of `plain_commands`.
 #![tactic(auto)]
 
-use commands::command;
+mod answering;
+#[cfg(test)]
+mod serve_tests;
+mod serving;
+#[cfg(test)]
+mod test_shelves;
+#[cfg(test)]
+mod worked_tests;
+
+use answering::command;
 use plain_commands::{FileSystem, MISUSED, complain, no_memory};
 use std::alloc::Global;
 use std::process::ExitCode;

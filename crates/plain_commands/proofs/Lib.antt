@@ -10,3 +10,4 @@ mod NumberLaws
 mod OneScript
 mod ScriptLaws
 mod StepLaws
+mod Endings

@@ -6,3 +6,5 @@ pub mod Solved
 pub mod Scripts
 pub mod Replayed
 pub mod inside
+pub mod Served
+pub mod Command

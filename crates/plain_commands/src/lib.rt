@@ -2,11 +2,13 @@
 //! `replay` over a script; and what all commands share, files by their names, what is shown, messages, and the status at the end.
 //!
 //! What the words of a command line ask for is the business of `command_words`, and what is answered that of the crates of chess and of the
-//! desk. To read: `sources` (a `Source` is the files that a command may read) and `files` (those of the system), `writing`, `status`; then
-//! `fen_commands`; `solving`, and `outputs`, which were made elsewhere; and `replaying`, over `scripts` (a text to a script),
-//! `script_lines` (its lines), `script_desk` and `script_steps` (what a line says), `script_words`.
+//! desk. To read: `answering`, where the contract of `plain_command` says how each command ends; `sources` (a `Source` is the files that a
+//! command may read) and `files` (those of the system), `writing`, `status`; then `fen_commands`; `solving`, and `outputs`, which were made
+//! elsewhere; and `replaying`, over `scripts` (a text to a script), `script_lines` (its lines), `script_desk` and `script_steps` (what a
+//! line says), `script_words`.
 #![tactic(auto)]
 
+mod answering;
 mod fen_commands;
 mod files;
 mod outputs;
@@ -21,6 +23,7 @@ mod sources;
 mod status;
 mod writing;
 
+pub use answering::{ends_by_status, plain_command};
 pub use fen_commands::{FenCommand, show_fen};
 pub use files::{FileSystem, Reading, Stream};
 pub use outputs::put_outputs;

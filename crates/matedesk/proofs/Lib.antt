@@ -1,0 +1,2 @@
+mod ServedFiles
+mod Worked

@@ -1,0 +1,64 @@
+//! The program: words in, text and a status out.
+
+ghost use Rattle.std.specs.Prelude.{◌≡◌, ◌⊎◌, None, map, true, false};
+ghost use Rattle.std.specs.String.{string_bytes};
+ghost use Rattle.command_words.specs.Asked.{asked, asks_display, asks_serve, may_display};
+ghost use Rattle.plain_commands.specs.Command.{Ends};
+
+use crate::serving::serve;
+use command_words::{Request, escaped, parse, request_of};
+use plain_commands::{Source, no_memory, plain_command};
+use std::alloc::Global;
+use std::io::Write;
+use std::sync::Wait;
+use std::thread::Threads;
+
+/// Answers words that ask for `serve`. That they were parsed before shows that they are no fault: what is refused now is memory.
+fn serve_command<R: Threads + Wait + Sync, S: Source, O: Write, E: Write>(
+    rt: &R,
+    alloc: Global,
+    words: &[String],
+    source: &S,
+    out: &mut O,
+    err: &mut E,
+) -> u8
+    requires serve { asks_serve (asked (map string_bytes words.now)) ≡ true }
+    ensures ends { Ends (S.holds source.now) (S.refuses source.now) (asked (map string_bytes words.now)) result (O.contents out.old) (O.contents out.new) }
+    ensures no_misuse { result ≡ 2 → asks_display (map string_bytes words.now) ≡ false }
+{
+    let Ok(texts) = escaped(alloc, words) else {
+        return no_memory(err);
+    };
+    let Ok(matches) = parse(alloc, texts.as_slice()) else {
+        return no_memory(err);
+    };
+    let request = request_of(&matches);
+    match &request {
+        Some(Request::Serve(workers, bound, names)) => {
+            serve(rt, alloc, *workers, *bound, names, source, out, err)
+        }
+        _ => unreachable!(),
+    }
+}
+
+/// The program: answers what the words ask for, of which the first is the program's own name. It reads files from `source`. Only
+/// `serve` starts threads, and waits for them.
+///
+/// A fault of `err` is passed over and changes no status.
+pub fn command<R: Threads + Wait + Sync, S: Source, O: Write, E: Write>(
+    rt: &R,
+    alloc: Global,
+    words: &[String],
+    source: &S,
+    out: &mut O,
+    err: &mut E,
+) -> u8
+    ensures ends { Ends (S.holds source.now) (S.refuses source.now) (asked (map string_bytes words.now)) result (O.contents out.old) (O.contents out.new) }
+    ensures display { (result ≡ 0) ⊎ (result ≡ 4) → asked (map string_bytes words.now) ≡ None → may_display (map string_bytes words.now) ≡ true }
+    ensures no_misuse { result ≡ 2 → asks_display (map string_bytes words.now) ≡ false }
+{
+    match plain_command(alloc, words, source, out, err) {
+        Some(status) => status,
+        None => serve_command(rt, alloc, words, source, out, err),
+    }
+}

@@ -1,0 +1,101 @@
+-- How a command ends, and the program with it.
+use Rattle.std.proofs.Common.{◌≡◌, ◌≢◌, ◌⊎◌, ◌≤◌, Bool, true, false, ℕ, List, [], Option, None, Some, Result, Ok, Err, IfErr, IfOk, inl, inr, sym, subst, arith}
+use Rattle.std.proofs.KnownBytes.{Appends-kept, Appends-nil}
+use Rattle.std.specs.Io.KnownBytes.{Keeps}
+use Rattle.clap.specs.Words.{Text}
+use Rattle.byte_streams.specs.declared.stops.Stop.{Stop}
+use Rattle.byte_streams.specs.declared.stops.Stop.TheVariants as stop
+use Rattle.command_words.specs.Asked.{Asked, look, moves, perft, solve, serve, replay}
+use Rattle.plain_commands.specs.Status.{status_of}
+use Rattle.plain_commands.specs.Writing.{Gains}
+use Rattle.plain_commands.specs.Solved.{SolvesNone}
+use Rattle.plain_commands.specs.Command.{Ends, EndsByStatus, Shows, Stops, StopsBy}
+
+-- Where memory gives out at once, nothing is written.
+stops_unread : SolvesNone → (holds : Text → Option (List ℕ)) (refuses : Text → Type 0) (asks : Option Asked) (old new : Option (List ℕ)) → Keeps old new → StopsBy holds refuses asks stop.NoMemory old new
+stops_unread none holds refuses None old new kept = kept
+stops_unread none holds refuses (Some (look fen)) old new kept = kept
+stops_unread none holds refuses (Some (moves fen)) old new kept = kept
+stops_unread none holds refuses (Some (perft fen depth)) old new kept = kept
+stops_unread none holds refuses (Some (solve bound names)) old new kept =
+    record { gained = []; shows = none holds bound names; appends = Appends-kept old old new [] (Appends-nil old) kept }
+stops_unread none holds refuses (Some (serve workers bound names)) old new kept = kept
+stops_unread none holds refuses (Some (replay name)) old new kept = kept
+
+no_reader : (holds : Text → Option (List ℕ)) (refuses : Text → Type 0) (a : Asked) (old new : Option (List ℕ)) → Stops holds refuses a stop.NoReader old new → Stops holds refuses a stop.Unwritable old new
+no_reader holds refuses (look fen) old new stops = stops
+no_reader holds refuses (moves fen) old new stops = stops
+no_reader holds refuses (perft fen depth) old new stops = stops
+no_reader holds refuses (solve bound names) old new stops = stops
+no_reader holds refuses (serve workers bound names) old new stops = stops
+no_reader holds refuses (replay name) old new stops = stops
+
+ends_here : (holds : Text → Option (List ℕ)) (refuses : Text → Type 0) (a : Asked) (r : Result Bool Stop) (old new : Option (List ℕ)) → IfOk r (λ refused. Gains (Shows holds a refused) old new)
+    → IfErr r (λ s. Stops holds refuses a s old new) → Ends holds refuses (Some a) (status_of r) old new
+ends_here holds refuses a (Ok false) old new ok err = record {
+  answered = λ is. ok;
+  refused = λ is. absurd (omega (arith, is));
+  misused = λ is. absurd (omega (arith, is));
+  no_memory = λ is. absurd (omega (arith, is));
+  no_access = λ is. absurd (omega (arith, is));
+  bounded = omega arith;
+}
+ends_here holds refuses a (Ok true) old new ok err = record {
+  answered = λ is. absurd (omega (arith, is));
+  refused = λ is. ok;
+  misused = λ is. absurd (omega (arith, is));
+  no_memory = λ is. absurd (omega (arith, is));
+  no_access = λ is. absurd (omega (arith, is));
+  bounded = omega arith;
+}
+ends_here holds refuses a (Err stop.NoMemory) old new ok err = record {
+  answered = λ is. absurd (omega (arith, is));
+  refused = λ is. absurd (omega (arith, is));
+  misused = λ is. absurd (omega (arith, is));
+  no_memory = λ is. err;
+  no_access = λ is. absurd (omega (arith, is));
+  bounded = omega arith;
+}
+ends_here holds refuses a (Err stop.Unreadable) old new ok err = record {
+  answered = λ is. absurd (omega (arith, is));
+  refused = λ is. absurd (omega (arith, is));
+  misused = λ is. absurd (omega (arith, is));
+  no_memory = λ is. absurd (omega (arith, is));
+  no_access = λ is. inl err;
+  bounded = omega arith;
+}
+ends_here holds refuses a (Err stop.Unwritable) old new ok err = record {
+  answered = λ is. absurd (omega (arith, is));
+  refused = λ is. absurd (omega (arith, is));
+  misused = λ is. absurd (omega (arith, is));
+  no_memory = λ is. absurd (omega (arith, is));
+  no_access = λ is. inr err;
+  bounded = omega arith;
+}
+ends_here holds refuses a (Err stop.NoReader) old new ok err = record {
+  answered = λ is. absurd (omega (arith, is));
+  refused = λ is. absurd (omega (arith, is));
+  misused = λ is. absurd (omega (arith, is));
+  no_memory = λ is. absurd (omega (arith, is));
+  no_access = λ is. inr (no_reader holds refuses a old new err);
+  bounded = omega arith;
+}
+
+pub ends_by : (holds : Text → Option (List ℕ)) (refuses : Text → Type 0) (a : Asked) (r : Result Bool Stop) (status : ℕ) (old new : Option (List ℕ)) → status ≡ status_of r
+    → IfOk r (λ refused. Gains (Shows holds a refused) old new) → IfErr r (λ s. Stops holds refuses a s old new) → Ends holds refuses (Some a) status old new
+ends_by holds refuses a r status old new is ok err = subst (λ n. Ends holds refuses (Some a) n old new) (sym is) (ends_here holds refuses a r old new ok err)
+
+pub ends_by_status : (holds : Text → Option (List ℕ)) (refuses : Text → Type 0) → EndsByStatus holds refuses
+ends_by_status holds refuses = ends_by holds refuses
+
+-- The words ask for nothing, or memory gave out before that was known.
+pub ends_unasked : SolvesNone → (holds : Text → Option (List ℕ)) (refuses : Text → Type 0) (asks : Option Asked) (status : ℕ) (old new : Option (List ℕ)) → status ≢ 1 → status ≤ 4
+    → (status ≢ 3 → asks ≡ None) → ((status ≡ 2) ⊎ (status ≡ 3) → Keeps old new) → Ends holds refuses asks status old new
+ends_unasked none holds refuses asks status old new not_refused within unasked kept = record {
+  answered = λ is. rw (unasked (λ other. absurd (omega (arith, is, other)))) tt;
+  refused = λ is. absurd (not_refused is);
+  misused = λ is. (rw (unasked (λ other. absurd (omega (arith, is, other)))) tt, kept (inl is));
+  no_memory = λ is. stops_unread none holds refuses asks old new (kept (inr is));
+  no_access = λ is. rw (unasked (λ other. absurd (omega (arith, is, other)))) tt;
+  bounded = within;
+}

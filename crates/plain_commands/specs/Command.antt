@@ -1,0 +1,68 @@
+-- How a command ends, and the program with it.
+use Rattle.std.specs.Prelude.{◌≡◌, ◌≤◌, ◌⊎◌, ℕ, Bool, List, Option, None, Some, Result, IfErr, IfOk, IfSome, IsSomeAnd, true, false, ⊤}
+use Rattle.std.specs.Io.KnownBytes.{Keeps}
+use Rattle.clap.specs.Words.{Text}
+use Rattle.byte_streams.specs.declared.stops.Stop.{Stop}
+use Rattle.byte_streams.specs.declared.stops.Stop.TheVariants.{NoMemory, Unreadable, Unwritable, NoReader}
+use Rattle.plain_commands.specs.Sources.{SomeRefused}
+use Rattle.plain_commands.specs.Status.{status_of}
+use Rattle.plain_commands.specs.Writing.{Gains, GainsPart}
+use Rattle.command_words.specs.Asked.{Asked, look, moves, perft, solve, serve, replay}
+use Rattle.plain_commands.specs.FenCommands.{ShowsFen, StopsOverFen, look_text, moves_text, perft_text}
+use Rattle.plain_commands.specs.Replayed.{ReplaysFile, StopsReplaying}
+use Rattle.plain_commands.specs.Solved.{Solves, StopsSolving}
+use Rattle.plain_commands.specs.Served.{HaveNoWindows, Serves}
+
+-- what a command shows where names hold such inputs, and whether anything that it was given is refused
+abbrev pub Shows : (Text → Option (List ℕ)) → Asked → Bool → List ℕ → Type 0
+Shows holds (look fen) refused text = ShowsFen look_text fen refused text
+Shows holds (moves fen) refused text = ShowsFen moves_text fen refused text
+Shows holds (perft fen depth) refused text = ShowsFen (perft_text depth) fen refused text
+Shows holds (solve bound names) refused text = Solves holds bound names refused text
+Shows holds (serve workers bound names) refused text = Serves holds bound names refused text
+Shows holds (replay name) refused text = ReplaysFile (holds name) refused text
+
+-- What the output gained where `serve` stops: nothing where memory gives out, no thread is to be had or a file can't be read, which
+-- may be refused; and where a write breaks off, a first part of the replies to all files.
+abbrev pub StopsServing : (Text → Option (List ℕ)) → (Text → Type 0) → ℕ → List Text → Stop → (old new : Option (List ℕ)) → Type 0
+StopsServing holds refuses bound names NoMemory old new = Keeps old new
+StopsServing holds refuses bound names Unreadable old new = SomeRefused refuses names × Keeps old new
+StopsServing holds refuses bound names Unwritable old new = GainsPart (λ text. (refused : Bool) × Serves holds bound names refused text) old new
+StopsServing holds refuses bound names NoReader old new = GainsPart (λ text. (refused : Bool) × Serves holds bound names refused text) old new
+
+abbrev pub Stops : (Text → Option (List ℕ)) → (Text → Type 0) → Asked → Stop → (old new : Option (List ℕ)) → Type 0
+Stops holds refuses (solve bound names) stop old new = StopsSolving holds refuses bound names stop old new
+Stops holds refuses (serve workers bound names) stop old new = StopsServing holds refuses bound names stop old new
+Stops holds refuses (replay name) stop old new = StopsReplaying (holds name) (refuses name) stop old new
+Stops holds refuses asks stop old new = StopsOverFen (Shows holds asks false) stop old new
+
+-- The program stops where a command does.
+abbrev pub StopsBy : (Text → Option (List ℕ)) → (Text → Type 0) → Option Asked → Stop → (old new : Option (List ℕ)) → Type 0
+StopsBy holds refuses None stop old new = Keeps old new
+StopsBy holds refuses (Some asks) stop old new = Stops holds refuses asks stop old new
+
+-- The words ask for nothing, or for `serve` with more files than there are windows for.
+abbrev pub AsksInVain : Option Asked → Type 0
+AsksInVain None = ⊤
+AsksInVain (Some (serve workers bound names)) = HaveNoWindows names
+AsksInVain (Some asks) = ⊥
+
+-- How the program ends, by what the words ask for, what names hold, and which names may be refused. Help and the version are
+-- shown where the words ask for nothing.
+pub record Ends (holds : Text → Option (List ℕ)) (refuses : Text → Type 0) (asks : Option Asked) (status : ℕ) (old new : Option (List ℕ)) : Type 0 where
+  -- 0: what was asked for is shown, and nothing was refused
+  pub answered : status ≡ 0 → IfSome asks (λ a. Gains (Shows holds a false) old new)
+  -- 1: the same, and something was refused
+  pub refused : status ≡ 1 → IsSomeAnd asks (λ a. Gains (Shows holds a true) old new)
+  -- 2: the words ask for nothing, or for too many files to be served
+  pub misused : status ≡ 2 → AsksInVain asks × Keeps old new
+  -- 3: memory gave out, or no thread was to be had
+  pub no_memory : status ≡ 3 → StopsBy holds refuses asks NoMemory old new
+  -- 4: a file can't be read, or the output can't be written
+  pub no_access : status ≡ 4 → IfSome asks (λ a. Stops holds refuses a Unreadable old new ⊎ Stops holds refuses a Unwritable old new)
+  pub bounded : status ≤ 4
+
+-- Whatever a command has shown, or where it stopped, with the status of that it ends so.
+abbrev pub EndsByStatus : (Text → Option (List ℕ)) → (Text → Type 0) → Type 0
+EndsByStatus holds refuses = (a : Asked) (r : Result Bool Stop) (status : ℕ) (old new : Option (List ℕ)) → status ≡ status_of r
+    → IfOk r (λ refused. Gains (Shows holds a refused) old new) → IfErr r (λ stop. Stops holds refuses a stop old new) → Ends holds refuses (Some a) status old new

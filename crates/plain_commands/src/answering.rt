@@ -1,0 +1,143 @@
+//! The words of a command line in, text and a status out, but for `serve`.
+
+ghost use Rattle.std.specs.Prelude.{◌≡◌, ◌≢◌, ◌⊎◌, ◌≤◌, None, IfErr, IfNone, IfOk, IfSome, IsNone, IsSome, map, option_map, true, false};
+ghost use Rattle.std.specs.String.{string_bytes};
+ghost use Rattle.clap.specs.Words.{kind_of};
+ghost use Rattle.command_words.specs.Asked.{asked, asks_display, asks_serve, is_display, is_serve, may_display};
+ghost use Rattle.command_words.specs.Request.{plan_of};
+ghost use Rattle.plain_commands.specs.Writing.{Gains};
+ghost use Rattle.plain_commands.specs.Command.{Ends, EndsByStatus, Shows, Stops};
+
+use crate::fen_commands::{FenCommand, show_fen};
+use crate::replaying::replay;
+use crate::solving::{solve, solves_none};
+use crate::sources::Source;
+use crate::status::{ANSWERED, MISUSED, no_memory, status_of};
+use byte_streams::{Stop, stop_of_output};
+use clap::Error;
+use clap::error::ErrorKind;
+use command_words::{Request, escaped, parse, request_of};
+use std::alloc::Global;
+use std::io::Write;
+
+/// Whether a request is one for threads.
+fn is_serve(request: &Request) -> bool
+    ensures { result ≡ is_serve (plan_of request.now) }
+{
+    matches!(request, Request::Serve(..))
+}
+
+/// Answers a request other than `serve`; gives whether anything was refused.
+fn answer<S: Source, O: Write, E: Write>(
+    alloc: Global,
+    request: &Request,
+    source: &S,
+    out: &mut O,
+    err: &mut E,
+) -> Result<bool, Stop>
+    requires plain { is_serve (plan_of request.now) ≡ false }
+    ensures ok { IfOk result (λ refused. Gains (Shows (S.holds source.now) (plan_of request.now) refused) (O.contents out.old) (O.contents out.new)) }
+    ensures err { IfErr result (λ stop. Stops (S.holds source.now) (S.refuses source.now) (plan_of request.now) stop (O.contents out.old) (O.contents out.new)) }
+{
+    match request {
+        Request::Look(fen) => show_fen(alloc, FenCommand::Look, fen, out, err),
+        Request::Moves(fen) => show_fen(alloc, FenCommand::Moves, fen, out, err),
+        Request::Perft(fen, depth) => show_fen(alloc, FenCommand::Perft(*depth), fen, out, err),
+        Request::Solve(bound, names) => solve(alloc, *bound, names, source, out, err),
+        Request::Serve(..) => unreachable!(),
+        Request::Replay(name) => replay(alloc, name, source, out, err),
+    }
+}
+
+/// Answers what the words ask for, unless that is `serve`. Matches that ask for nothing are a misuse like any other.
+fn run<S: Source, O: Write, E: Write>(
+    alloc: Global,
+    request: &Option<Request>,
+    source: &S,
+    out: &mut O,
+    err: &mut E,
+) -> Option<u8>
+    ensures ends { IfSome result (λ status. Ends (S.holds source.now) (S.refuses source.now) (option_map plan_of request.now) status (O.contents out.old) (O.contents out.new)) }
+    ensures asked { IfSome result (λ status. status ≢ 2 → IsSome (option_map plan_of request.now)) }
+    ensures serve { IfNone result (asks_serve (option_map plan_of request.now) ≡ true) }
+    ensures plain { asks_serve (option_map plan_of request.now) ≡ true → IsNone result }
+    ensures kept { IfNone result ((out.new ≡ out.old) × (err.new ≡ err.old)) }
+{
+    let Some(request) = request else {
+        return Some(MISUSED);
+    };
+    if is_serve(request) {
+        return None;
+    }
+    let ended = answer(alloc, request, source, out, err);
+    Some(status_of(ended, err))
+}
+
+/// Prints the help or the version.
+fn display<O: Write, E: Write>(error: &Error, out: &mut O, err: &mut E) -> u8
+    ensures { (result ≡ 0) ⊎ (result ≡ 4) }
+{
+    match write!(out, "{error}") {
+        Ok(()) => ANSWERED,
+        Err(fault) => status_of(Err(stop_of_output(&fault)), err),
+    }
+}
+
+/// Says what is wrong with the words. That it can't be written changes nothing.
+fn misuse<E: Write>(error: &Error, err: &mut E) -> u8
+    ensures { result ≡ 2 }
+{
+    let _ = write!(err, "{error}");
+    MISUSED
+}
+
+/// Prints what `clap` answers in place of matches, and gives the status.
+fn usage<O: Write, E: Write>(error: &Error, out: &mut O, err: &mut E) -> u8
+    ensures memory { kind_of error.now ≡ ErrorKind.OutOfMemory → result ≡ 3 }
+    ensures display { (result ≡ 0) ⊎ (result ≡ 4) → is_display (kind_of error.now) ≡ true }
+    ensures no_misuse { is_display (kind_of error.now) ≡ true → result ≢ 2 }
+    ensures no_refusal { result ≢ 1 }
+    ensures kept { (result ≡ 2) ⊎ (result ≡ 3) → out.new ≡ out.old }
+    ensures bounded { result ≤ 4 }
+{
+    match error.kind() {
+        ErrorKind::OutOfMemory => no_memory(err),
+        ErrorKind::DisplayHelp | ErrorKind::DisplayVersion => display(error, out, err),
+        _ => misuse(error, err),
+    }
+}
+
+/// Answers what the words ask for, of which the first is the program's own name, unless that is `serve`, which starts threads: then
+/// nothing is written, and the answer is none. It reads files from `source`.
+///
+/// A fault of `err` is passed over and changes no status.
+pub fn plain_command<S: Source, O: Write, E: Write>(
+    alloc: Global,
+    words: &[String],
+    source: &S,
+    out: &mut O,
+    err: &mut E,
+) -> Option<u8>
+    ensures ends { IfSome result (λ status. Ends (S.holds source.now) (S.refuses source.now) (asked (map string_bytes words.now)) status (O.contents out.old) (O.contents out.new)) }
+    ensures display { IfSome result (λ status. (status ≡ 0) ⊎ (status ≡ 4) → asked (map string_bytes words.now) ≡ None → may_display (map string_bytes words.now) ≡ true) }
+    ensures no_misuse { IfSome result (λ status. status ≡ 2 → asks_display (map string_bytes words.now) ≡ false) }
+    ensures serve { IfNone result (asks_serve (asked (map string_bytes words.now)) ≡ true) }
+    ensures plain { asks_serve (asked (map string_bytes words.now)) ≡ true → IfSome result (λ status. status ≡ 3) }
+    ensures kept { IfNone result ((out.new ≡ out.old) × (err.new ≡ err.old)) }
+{
+    // What a `solve` has written for which memory is refused here.
+    solves_none();
+    let Ok(texts) = escaped(alloc, words) else {
+        return Some(no_memory(err));
+    };
+    match parse(alloc, texts.as_slice()) {
+        Ok(matches) => run(alloc, &request_of(&matches), source, out, err),
+        Err(error) => Some(usage(&error, out, err)),
+    }
+}
+
+/// How a command that ended with a status of `status_of` has ended. It does nothing: its contract is the law.
+#[tactic(auto, using(crate::proofs::Endings::ends_by_status))]
+pub fn ends_by_status<S: Source>(source: &S)
+    ensures { EndsByStatus (S.holds source.now) (S.refuses source.now) }
+{}
