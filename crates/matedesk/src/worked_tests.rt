@@ -3,9 +3,9 @@
 ghost use Rattle.std.specs.Prelude.{◌≡◌, IfOk, IfSome, List, ℕ, ◌∷◌, [], codes, map};
 ghost use Rattle.std.specs.String.{string_bytes};
 
+use crate::answering::command;
 use chess_board::spells_one;
 use chess_notation::records_clear;
-use crate::answering::command;
 use plain_commands::{Source, SourceFault, whole};
 use std::alloc::{AllocError, Global};
 use std::sync::Wait;
