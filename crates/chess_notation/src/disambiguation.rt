@@ -3,11 +3,11 @@
 ghost use Rattle.std.specs.Prelude.{◌≡◌, ◌==◌, ◌+◌, ◌++◌, [], ◌≤◌, true, if◌then◌else◌};
 ghost use Rattle.arrayvec.specs.ArrayString.{array_string_len};
 ghost use Rattle.chess_board.specs.Squares.{file_of, rank_of};
-ghost use Rattle.chess_moves.specs.inside.Listing.{legal_moves};
 ghost use Rattle.chess_notation.specs.Disambiguation.{is_such as is_such_in, is_rival as is_rival_in, some_rival, origin_text};
 
 use arrayvec::ArrayString;
 use chess_board::{Man, Move, Position, Square, push_square};
+use chess_moves::{Rays, legal_moves};
 
 /// Where the rivals of a man stand.
 #[derive(Clone, Copy)]
@@ -37,9 +37,9 @@ fn is_rival(position: &Position, man: Man, m: Move, n: Move) -> bool
     n.target == m.target && n.origin != m.origin && is_such(man, position.man(n.origin))
 }
 
-/// The rivals of the man that moves, where these are the legal moves.
-pub(crate) fn rivals_among(moves: &[Move], position: &Position, man: Man, m: Move) -> Rivals
-    requires { moves.now ≡ legal_moves position.now }
+/// The rivals of the man that moves. No list of the legal moves is made.
+#[tactic(auto, unfolding(crate::specs::Disambiguation::some_rival))]
+pub(crate) fn rivals_of(rays: &Rays, position: &Position, man: Man, m: Move) -> Rivals
     ensures some { result.some ≡ some_rival position.now man m (λ n. true) }
     ensures on_file { result.on_file ≡ some_rival position.now man m (λ n. file_of n.origin == file_of m.origin) }
     ensures on_rank { result.on_rank ≡ some_rival position.now man m (λ n. rank_of n.origin == rank_of m.origin) }
@@ -49,8 +49,8 @@ pub(crate) fn rivals_among(moves: &[Move], position: &Position, man: Man, m: Mov
         on_file: false,
         on_rank: false,
     };
-    for n in moves {
-        if is_rival(position, man, m, *n) {
+    for n in legal_moves(rays, position) {
+        if is_rival(position, man, m, n) {
             rivals.some = true;
             rivals.on_file |= n.origin.file() == m.origin.file();
             rivals.on_rank |= n.origin.rank() == m.origin.rank();

@@ -5,12 +5,12 @@ ghost use Rattle.arrayvec.specs.ArrayString.{array_string_len};
 ghost use Rattle.chess_board.specs.Legality.{is_legal};
 ghost use Rattle.chess_notation.specs.SanText.{is_capture as is_capture_in, becomes_text, pawn_text, piece_text, wing_text, bare_text, suffix_text, san_text};
 
-use crate::disambiguation::{push_disambiguation, rivals_among};
+use crate::disambiguation::{push_disambiguation, rivals_of};
 use arrayvec::ArrayString;
 use chess_board::{
     Kind, Man, Move, Position, Wing, after, is_castling, is_en_passant, push_square, wing_of,
 };
-use chess_moves::{Rays, Verdict, legal, verdict};
+use chess_moves::{Rays, Verdict, verdict};
 
 /// Whether the move captures: a man on its target, or a pawn en passant.
 fn is_capture(position: &Position, man: Man, m: Move) -> bool
@@ -63,13 +63,8 @@ fn push_piece(text: &mut ArrayString<8>, rays: &Rays, position: &Position, man: 
     ensures text { text.new.bytes ≡ text.old.bytes ++ piece_text position.now man m }
     ensures short { array_string_len text.new ≤ array_string_len text.old + 6 }
 {
-    let moves = legal(rays, position);
     text.push(man.kind.letter() as char);
-    push_disambiguation(
-        text,
-        rivals_among(moves.as_slice(), position, man, m),
-        m.origin,
-    );
+    push_disambiguation(text, rivals_of(rays, position, man, m), m.origin);
     if is_capture(position, man, m) {
         text.push('x');
     }
