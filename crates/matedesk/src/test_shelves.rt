@@ -3,7 +3,7 @@
 ghost use Rattle.std.specs.Prelude.{None, ⊤};
 
 use crate::answering::command;
-use plain_commands::{Source, SourceFault, whole};
+use plain_commands::{Reading, Source, SourceFault, whole};
 use std::alloc::Global;
 use std::io;
 use std::io::Write;
@@ -43,16 +43,18 @@ pub struct Shelf {
 }
 
 impl Source for Shelf {
-    type File = &'static [u8];
+    type File = Reading<&'static [u8]>;
 
     ghost holds = { λ _ _. None };
 
     ghost refuses = { λ _ _. ⊤ };
 
-    fn open(&self, _alloc: Global, name: &str) -> Result<&'static [u8], SourceFault> {
+    fn open(&self, _alloc: Global, name: &str) -> Result<Self::File, SourceFault> {
         for (known, text) in self.files {
             if *known == name {
-                return Ok(text.as_bytes());
+                return Ok(Reading {
+                    reader: text.as_bytes(),
+                });
             }
         }
         Err(SourceFault::Unreadable)
