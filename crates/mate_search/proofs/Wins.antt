@@ -3,13 +3,12 @@ use Rattle.std.proofs.Common.{◌≡◌, ℕ, zero, suc, ◌-◌, ◌<◌, Bool,
 use Rattle.std.specs.Prelude.{nat_lt, length, Contains}
 use Rattle.std.proofs.lemmas.Bool.{lt-ltb, false_from_ne_true}
 use Rattle.std.specs.List.{All, list_any, list_all}
-use Rattle.std.proofs.lemmas.List.Elements.{All-contains_itself, All-filter, filter_passes}
+use Rattle.std.proofs.lemmas.List.Elements.{filter_passes}
 use Rattle.chess_board.specs.Positions.{Setup}
 use Rattle.chess_board.specs.Moves.{Move}
 use Rattle.chess_board.specs.MakeMove.{after_setup}
 use Rattle.chess_board.specs.Legality.{is_legal}
 use Rattle.chess_board.specs.Attacks.{is_in_check}
-use Rattle.chess_moves.specs.GivesCheck.{checking_moves, gives_check}
 use Rattle.chess_moves.specs.Laws.{LegalListed}
 use Rattle.chess_moves.specs.inside.Listing.{legal_moves, moves_below}
 use Rattle.chess_moves.specs.Verdicts.{has_legal_move, is_mate, has_mating_move}
@@ -85,9 +84,10 @@ win_one p =
     any_same f g [] h = refl
     any_same f g (x ∷ xs) h = rw (h x, any_same f g xs h)
 
--- One reply of the list after which the attacker does not win refutes.
-pub refuted_by_listed : (k : ℕ) (q : Setup) (r : Move) → Contains (legal_moves q) r → win k (after_setup q r) ≡ false → lost k q ≡ false
-refuted_by_listed k q r there fails =
+-- One legal reply after which the attacker does not win refutes.
+pub refuted_by : LegalListed → (k : ℕ) (q : Setup) (r : Move) → r.origin < 64 → r.target < 64 → is_legal q r ≡ true → win k (after_setup q r) ≡ false → lost k q ≡ false
+refuted_by listed k q r from to legal fails =
+    let there : Contains (legal_moves q) r = (listed q r).1 (from, to, legal) in
     let some : has_legal_move q ≡ true = found (legal_moves q) there in
     let all : list_all (λ s. win k (after_setup q s)) (legal_moves q) ≡ false = false_from_ne_true _ (λ e.
     let won = all_contains (λ s. win k (after_setup q s)) (legal_moves q) r e there in cc) in
@@ -99,16 +99,3 @@ refuted_by_listed k q r there fails =
     no_mate : (b : Bool) → ((b && not true) || (true && false)) ≡ false
     no_mate true = refl
     no_mate false = refl
-
--- So does one legal reply, since it is one of the list.
-pub refuted_by : LegalListed → (k : ℕ) (q : Setup) (r : Move) → r.origin < 64 → r.target < 64 → is_legal q r ≡ true → win k (after_setup q r) ≡ false → lost k q ≡ false
-refuted_by listed k q r from to legal fails = refuted_by_listed k q r ((listed q r).1 (from, to, legal)) fails
-
--- Each reply that checks is legal, and one of the list.
-pub checks_legal : (q : Setup) → All (λ m. is_legal q m ≡ true) (checking_moves q)
-unfolding checking_moves
-checks_legal q = All-filter (gives_check q) (λ m. is_legal q m ≡ true) (legal_moves q) (legal_each q)
-
-pub checks_listed : (q : Setup) → All (Contains (legal_moves q)) (checking_moves q)
-unfolding checking_moves
-checks_listed q = All-filter (gives_check q) (Contains (legal_moves q)) (legal_moves q) (All-contains_itself (legal_moves q))

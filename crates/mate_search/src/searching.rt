@@ -7,7 +7,7 @@ ghost use Rattle.mate_search.specs.Wins.{win, lost};
 use crate::memo::Memo;
 use chess_board::{Move, Position, after};
 use chess_moves::{
-    Rays, Verdict, checks, has_mating_move, is_legal, legal_listed, legal_moves, verdict,
+    Rays, Verdict, attacked, has_mating_move, is_legal, legal_listed, legal_moves, verdict,
 };
 
 /// Whether the attacker, to move, mates within `n` moves. A position one move from the end is not worth keeping.
@@ -29,6 +29,12 @@ fn is_mated(rays: &Rays, position: &Position) -> bool
     ensures { result ≡ is_mate position.now }
 {
     verdict(rays, position) == Verdict::Mate
+}
+
+/// Whether the side to move is in check, as the ray tables tell it. Only the order of replies goes by it.
+fn in_check(rays: &Rays, position: &Position) -> bool {
+    let side = position.side();
+    attacked(rays, position, position.king(side), side.other())
 }
 
 /// Whether a legal move mates.
@@ -145,16 +151,15 @@ fn is_known_refuted(rays: &Rays, position: &Position, k: u8, memo: &mut Memo) ->
     false
 }
 
-/// Whether a reply that checks refutes: the attacker does not mate within `k` moves after it.
-#[tactic(auto, using(crate::proofs::Wins::checks_legal))]
+/// Whether a reply that checks refutes: the attacker does not mate within `k` moves after it. No list is kept while it searches.
 #[cycle(search)]
 fn is_refuted_by_check(rays: &Rays, position: &Position, k: u8, memo: &mut Memo) -> bool
     ensures refuted { result ≡ true → lost k position.now ≡ false }
     ensures room { memo.new.room ≡ memo.old.room }
 {
-    let replies = checks(rays, position);
-    for r in replies.as_slice() {
-        if !wins(rays, &after(position, *r), k, memo) {
+    for r in legal_moves(rays, position) {
+        let next = after(position, r);
+        if in_check(rays, &next) && !wins(rays, &next, k, memo) {
             return true;
         }
     }

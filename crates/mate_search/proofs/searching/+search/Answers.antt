@@ -1,10 +1,7 @@
-use Rattle.std.proofs.Common.{◌≡◌, refl, sym, ap, subst, ◌∙◌, arith}
-use Rattle.std.specs.List.{All, Contains}
-use Rattle.std.proofs.lemmas.List.Elements.{All-get_or}
-use Rattle.chess_moves.specs.GivesCheck.{checking_moves}
+use Rattle.std.proofs.Common.{◌≡◌, refl, sym, ap, ◌∙◌, arith}
 use Rattle.chess_moves.specs.inside.Listing.{legal_moves}
 use Rattle.mate_search.specs.Wins.{win}
-use Rattle.mate_search.proofs.Wins.{all_legal, checks_listed, refuted_by, refuted_by_listed}
+use Rattle.mate_search.proofs.Wins.{all_legal, refuted_by}
 use Rattle.mate_search.proofs.Known.{win_within_more, no_win_within_fewer}
 use Rattle.mate_search.proofs.searching.+search.Goals as goal
 
@@ -38,11 +35,7 @@ is_refuted_by_capture-loop-r-init t c =
     let moves : c.into_iter-r-iterator.result ≡ legal_moves c.args.position.now = c.into_iter-r-iterator.ensures.into_iter_gives ∙ c.legal_moves-r-items.ensures.moves in
     record { all = rw moves (λ e. e); some = rw moves (λ e. e); legal = rw moves (all_legal c.args.position.now); room = refl }
 
-pub is_refuted_by_check-returns-then-not-wins-clause-refuted : goal.is_refuted_by_check-returns-then-not-wins-clause-refuted
-is_refuted_by_check-returns-then-not-wins-clause-refuted t c = λ e.
-    let position = c.args.position.now in
-    let items : c.as_slice-r-items.result.now ≡ checking_moves position = c.as_slice-r-items.ensures.value ∙ c.checks-replies.ensures in
-    let listed : All (Contains (legal_moves position)) c.as_slice-r-items.result.now = subst (All (Contains (legal_moves position))) (sym items) (checks_listed position) in
-    let at = All-get_or (Contains (legal_moves position)) c.as_slice-r-items.result.now c.loop-r.r-index c.r-item.result c.loop-r-test.true listed in
-    refuted_by_listed c.args.k position c.r-item.result (subst (Contains (legal_moves position)) (sym c.r-item.is) at)
-    (ap (win c.args.k) (sym c.after.ensures) ∙ sym c.wins.ensures.found ∙ c.if-not-wins.true)
+pub is_refuted_by_check-loop-r-init : goal.is_refuted_by_check-loop-r-init
+is_refuted_by_check-loop-r-init t c =
+    let moves : c.into_iter-r-iterator.result ≡ legal_moves c.args.position.now = c.into_iter-r-iterator.ensures.into_iter_gives ∙ c.legal_moves-r-items.ensures.moves in
+    record { all = rw moves (λ e. e); some = rw moves (λ e. e); legal = rw moves (all_legal c.args.position.now); room = refl }

@@ -68,8 +68,11 @@ invariant-is_refuted_by_capture-loop-r l = record {
   room : l.memo.room ≡ l.fn.memo.room;
 }
 
--- whatever was tried, only the memo has changed
+-- the same of those that are asked whether they check
 abbrev pub invariant-is_refuted_by_check-loop-r : goal.invariant-is_refuted_by_check-loop-r
 invariant-is_refuted_by_check-loop-r l = record {
+  all : list_all (λ r. win l.k (after_setup l.position r)) (legal_moves l.position) ≡ true → list_all (λ r. win l.k (after_setup l.position r)) l.r-iterator ≡ true;
+  some : nat_lt 0 (length l.r-iterator) ≡ true → has_legal_move l.position ≡ true;
+  legal : list_all (is_legal l.position) l.r-iterator ≡ true;
   room : l.memo.room ≡ l.fn.memo.room;
 }
