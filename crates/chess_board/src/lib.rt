@@ -4,9 +4,9 @@
 //! squares, the side to move, the castling rights, the en passant target) and not in how it is kept. Lists of legal moves
 //! are none of this crate's business.
 //!
-//! To read: `squares`, `men`, `boards`, `attacks`, `soundness`, `positions`; then `placement`, `fields` and `fens`, the text of a
-//! position field by field; then `moves`, `castling` and `en_passant`, `pseudo_legal`, `make_move` and `legality`. No call takes
-//! memory.
+//! To read: `squares`, `men`, `boards`, `attacks`, `setups`, `soundness`, `positions`; then `placement`, `fields` and `fens`, the text
+//! of a position field by field, over `cuts` and `faults`; then `moves`, `castling` and `en_passant`, `pseudo_legal`, `make_move` and
+//! `legality`. No call takes memory.
 #![tactic(auto)]
 
 mod attacks;
