@@ -1,4 +1,4 @@
-//! Tests of problems, read, solved and answered: of `chess_notation` and `mate_search`, by their public calls alone.
+//! Tests of problems, read, solved and answered: of the crates from `chess_problems` to `mate_answers`, by their public calls alone.
 #![tactic(auto)]
 
 #[cfg(test)]
