@@ -1,4 +1,4 @@
-//! A call of `byte_streams`, as docs/CALLING.md shows it.
+//! A call of `byte_streams`.
 
 ghost use Rattle.std.specs.Prelude.{◌≡◌, true, false};
 ghost use Rattle.std.specs.Io.KnownBytes.{Appends};

@@ -1,4 +1,4 @@
-//! Callers of `chess_board`, as docs/CALLING.md shows them.
+//! Callers of `chess_board`.
 
 ghost use Rattle.std.specs.Prelude.{◌≡◌, IfErr, IfOk};
 ghost use Rattle.chess_board.specs.Attacks.{is_in_check};

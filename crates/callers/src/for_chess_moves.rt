@@ -1,4 +1,4 @@
-//! Callers of `chess_moves`, as docs/CALLING.md shows them.
+//! Callers of `chess_moves`.
 
 ghost use Rattle.std.specs.Prelude.{◌≡◌, List, [], ◌∷◌, length, IfSome, IfNone};
 ghost use Rattle.chess_board.specs.MakeMove.{after_setup};

@@ -1,4 +1,4 @@
-//! Callers of `chess_notation`, as docs/CALLING.md shows them.
+//! Callers of `chess_notation`.
 
 ghost use Rattle.std.specs.Prelude.{◌≡◌, IfOk};
 ghost use Rattle.chess_notation.specs.Records.{RecordValue, Reads};

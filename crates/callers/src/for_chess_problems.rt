@@ -1,4 +1,4 @@
-//! A caller of `chess_problems`, as docs/CALLING.md shows it.
+//! A caller of `chess_problems`.
 
 ghost use Rattle.std.specs.Prelude.{◌≡◌, ◌≤◌, [], IfNone, IfSome};
 ghost use Rattle.chess_problems.specs.Problems.{max_bound};

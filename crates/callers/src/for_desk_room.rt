@@ -1,4 +1,4 @@
-//! Callers of `desk_room`, as docs/CALLING.md shows them.
+//! Callers of `desk_room`.
 
 ghost use Rattle.std.specs.Prelude.{◌≡◌, ◌↔◌, ◌⊎◌, ◌<◌, [], ◌∷◌, ◌++◌, length, map, Err, IfOk, IfSome};
 ghost use Rattle.desk_room.specs.Serving.{AreReplies};

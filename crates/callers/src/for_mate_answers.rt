@@ -1,4 +1,4 @@
-//! A caller of `mate_answers`, as docs/CALLING.md shows it.
+//! A caller of `mate_answers`.
 
 ghost use Rattle.std.specs.Prelude.{◌≡◌, ◌==◌, ℕ, List, IfOk};
 ghost use Rattle.mate_answers.specs.InputReplies.{IsReply};

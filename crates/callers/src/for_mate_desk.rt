@@ -1,4 +1,4 @@
-//! Callers of `mate_desk`, as docs/CALLING.md shows them.
+//! Callers of `mate_desk`.
 
 ghost use Rattle.std.specs.Prelude.{◌≡◌, IfOk, IfErr};
 ghost use Rattle.mate_desk.specs.declared.refusals.DeskFault.TheVariants.{NoMemory};

@@ -1,4 +1,4 @@
-//! A caller of `mate_jobs`, as docs/CALLING.md shows it.
+//! A caller of `mate_jobs`.
 
 ghost use Rattle.std.specs.Prelude.{◌≡◌};
 

@@ -1,4 +1,4 @@
-//! Callers of `mate_search`, as docs/CALLING.md shows them.
+//! Callers of `mate_search`.
 
 ghost use Rattle.std.specs.Prelude.{◌≡◌, IfOk, string_bytes};
 ghost use Rattle.chess_notation.specs.Answers.{answer_text as answer_text_of};

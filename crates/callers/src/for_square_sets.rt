@@ -1,4 +1,4 @@
-//! Callers of `square_sets`, as docs/CALLING.md shows them.
+//! Callers of `square_sets`.
 
 ghost use Rattle.std.specs.Prelude.{◌≡◌, ℕ, ◌-◌, ◌<◌, ◌==◌, not, ◌&&◌, ◌||◌, IfSome, IfNone};
 ghost use Rattle.square_sets.specs.BitScan.{IsLowest};

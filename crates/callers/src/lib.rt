@@ -1,5 +1,5 @@
-//! What docs/CALLING.md shows, so that each caller of that page is proved as it stands there: a file for each crate that is called,
-//! lowest first. `tests/callers` holds the page and the files to one another.
+//! The callers that docs/CALLING.md names, to be proved with all other crates: a file for each crate that is called, lowest first.
+//! `tests/callers` holds the page and the files to one another.
 #![tactic(auto)]
 
 pub mod for_byte_streams;
