@@ -1,5 +1,5 @@
 -- The squares of a colour's men that attack a square, by sets.
-use Rattle.std.proofs.Common.{◌≡◌, ℕ, ◌^◌, eqb, ◌<◌, Bool, true, false, not, ◌&&◌, ◌||◌, List, Option, None, Some, is_some, refl, sym, ap, ◌∙◌, w64}
+use Rattle.std.proofs.Common.{◌≡◌, ℕ, ◌^◌, ◌<◌, Bool, true, false, not, ◌&&◌, ◌||◌, List, Option, None, Some, is_some, refl, ap, ◌∙◌, w64}
 use Rattle.std.specs.Int.{bit_not}
 use Rattle.std.specs.Int.RustNames.{bit_and, bit_or}
 use Rattle.square_sets.specs.Members.{has}
@@ -15,17 +15,13 @@ use Rattle.chess_moves.specs.declared.directions.Direction.{Direction}
 use Rattle.chess_moves.specs.declared.directions.Direction.TheVariants.{North, NorthEast, East, SouthEast, South, SouthWest, West, NorthWest}
 use Rattle.chess_moves.specs.declared.directions.Leap.TheVariants.{KnightLeap, KingStep}
 use Rattle.chess_moves.specs.declared.forces.Force.{Force}
-use Rattle.chess_moves.specs.inside.Directions.{toward, opposite, is_blocked, reaches, reaches_as_bishop, reaches_as_rook, sights, sights_as_bishop, sights_as_rook}
+use Rattle.chess_moves.specs.inside.Directions.{toward, opposite, reaches, reaches_as_bishop, reaches_as_rook}
 use Rattle.chess_moves.specs.inside.Leaps.{leaps, capture_of, capture_back}
 use Rattle.chess_moves.specs.inside.Hits.{is_taken, hits_as, place_hits, hits_from}
 use Rattle.chess_moves.specs.inside.Forces.{is_knight_kind, StandFor, is_one, is_diagonal_kind, is_straight_kind}
-use Rattle.std.proofs.Math.Bool.{and-false}
-use Rattle.chess_moves.proofs.SetBits.{has_or, has_less, has_none}
+use Rattle.chess_moves.proofs.SetBits.{has_or, has_less}
 use Rattle.chess_moves.proofs.SetParts.{part}
-use Rattle.chess_moves.proofs.Connectives.{and_when}
-use Rattle.chess_moves.proofs.AnyLemmas.{any_same, any_none, any_at}
-use Rattle.chess_moves.proofs.SharedSquares.{meets_is}
-use Rattle.chess_board.specs.Squares.{any_below}
+use Rattle.chess_moves.proofs.AnyLemmas.{any_same}
 use Rattle.chess_moves.proofs.Geometry.{toward_back, knight_back, king_back, capture_mirrored}
 use Rattle.chess_moves.proofs.Slides.{blocked_back}
 
@@ -132,37 +128,6 @@ pub straight_same : (p q : ℕ → Bool) → ((s : ℕ) → s < 64 → p s ≡ q
 unfolding reaches_as_rook
 straight_same p q h a b = rw (reaches_same p q h North a b, reaches_same p q h East a b, reaches_same p q h South a b, reaches_same p q h West a b)
 
--- and on which sliders there are
-sights_same : (p q u v : ℕ → Bool) → ((s : ℕ) → s < 64 → p s ≡ q s) → ((s : ℕ) → s < 64 → u s ≡ v s) → (d : Direction) (a b : ℕ) → sights p u d a b ≡ sights q v d a b
-sights_same p q u v h g d a b =
-    ap (λ (x : Bool). x && reaches p d a b) (any_same (λ s. u s && toward d a s) (λ s. v s && toward d a s) 64 (λ s l. ap (λ (x : Bool). x && toward d a s) (g s l)))
-    ∙ ap (λ (x : Bool). any_below 64 (λ s. v s && toward d a s) && x) (reaches_same p q h d a b)
-
-pub slant_sights_same : (p q u v : ℕ → Bool) → ((s : ℕ) → s < 64 → p s ≡ q s) → ((s : ℕ) → s < 64 → u s ≡ v s) → (a b : ℕ) → sights_as_bishop p u a b ≡ sights_as_bishop q v a b
-unfolding sights_as_bishop
-slant_sights_same p q u v h g a b = let e = sights_same p q u v h g in rw (e NorthEast a b, e SouthEast a b, e SouthWest a b, e NorthWest a b)
-
-pub straight_sights_same : (p q u v : ℕ → Bool) → ((s : ℕ) → s < 64 → p s ≡ q s) → ((s : ℕ) → s < 64 → u s ≡ v s) → (a b : ℕ) → sights_as_rook p u a b ≡ sights_as_rook q v a b
-unfolding sights_as_rook
-straight_sights_same p q u v h g a b = let e = sights_same p q u v h g in rw (e North a b, e East a b, e South a b, e West a b)
-
--- no slider on the ray: nothing is seen towards one
-pub no_sight : (sliders ray : ℕ) (taken : ℕ → Bool) (square : ℕ) (d : Direction) → bit_and sliders ray < 2 ^ 64 → ((t : ℕ) → t < 64 → has ray t ≡ toward d square t)
-    → bit_and sliders ray ≡ 0 → (t : ℕ) → has 0 t ≡ sights taken (has sliders) d square t
-no_sight sliders ray taken square d fits rule none t =
-    let never : any_below 64 (λ s. has sliders s && toward d square s) ≡ false = any_none (λ s. has sliders s && toward d square s) 64 (λ s l.
-    sym (part sliders ray s (has sliders s) (toward d square s) refl (rule s l)) ∙ has_none (bit_and sliders ray) s none) in
-    has_none 0 t refl ∙ rw never refl
-
--- a slider on the ray: what is seen is what is reached
-pub some_sight : (sliders ray : ℕ) (taken : ℕ → Bool) (square : ℕ) (d : Direction) → bit_and sliders ray < 2 ^ 64 → ((t : ℕ) → t < 64 → has ray t ≡ toward d square t)
-    → not (eqb (bit_and sliders ray) 0) ≡ true → (t : ℕ) → reaches taken d square t ≡ sights taken (has sliders) d square t
-some_sight sliders ray taken square d fits rule some t =
-    let there : any_below 64 (λ s. has sliders s && toward d square s) ≡ true =
-    any_same (λ s. has sliders s && toward d square s) (λ s. has sliders s && has ray s) 64 (λ s l. ap (λ (x : Bool). has sliders s && x) (sym (rule s l)))
-    ∙ sym (meets_is sliders ray fits) ∙ some in
-    rw there refl
-
 -- what a man of a kind attacks, by what pawns, knights, bishops, rooks and kings do
 by_kind : Kind → Bool → Bool → Bool → Bool → Bool → Bool
 by_kind Pawn p n sl st k = p
@@ -237,26 +202,3 @@ attackers_are occupied force by men square l1 l2 d r l3 stands sets h1 h2 h3 h4 
   where
     and_both : (x y p q : Bool) → x ≡ p → y ≡ q → (x && y) ≡ (p && q)
     and_both x y p q ex ey = rw (ex, ey)
-
--- A slider is seen towards sliders exactly where it is reached.
-seen_itself : (sliders taken : ℕ → Bool) (d : Direction) (square t : ℕ) → t < 64 → sliders t ≡ true → sights taken sliders d square t ≡ reaches taken d square t
-seen_itself sliders taken d square t l on = (elim (toward d square t) as (λ b. toward d square t ≡ b → sights taken sliders d square t ≡ (b && not (is_blocked taken d square t))) [
-  | true ↦ λ e. let some : any_below 64 (λ s. sliders s && toward d square s) ≡ true = any_at (λ s. sliders s && toward d square s) 64 t l (rw (on, e) refl) in rw (some, e) refl
-  | false ↦ λ e. rw e (and-false (any_below 64 (λ s. sliders s && toward d square s)))
-]) refl
-
-pub slants_towards : (sliders sight occupied square t : ℕ) → t < 64 → has sight t ≡ sights_as_bishop (has occupied) (has sliders) square t
-    → has (bit_and sliders sight) t ≡ (has sliders t && reaches_as_bishop (has occupied) square t)
-unfolding sights_as_bishop reaches_as_bishop
-slants_towards sliders sight occupied square t l e =
-    part sliders sight t _ _ refl e
-    ∙ and_when (has sliders t) _ _ (λ on. let s = λ (d : Direction). seen_itself (has sliders) (has occupied) d square t l on in
-    rw (s NorthEast, s SouthEast, s SouthWest, s NorthWest) refl)
-
-pub straight_towards : (sliders sight occupied square t : ℕ) → t < 64 → has sight t ≡ sights_as_rook (has occupied) (has sliders) square t
-    → has (bit_and sliders sight) t ≡ (has sliders t && reaches_as_rook (has occupied) square t)
-unfolding sights_as_rook reaches_as_rook
-straight_towards sliders sight occupied square t l e =
-    part sliders sight t _ _ refl e
-    ∙ and_when (has sliders t) _ _ (λ on. let s = λ (d : Direction). seen_itself (has sliders) (has occupied) d square t l on in
-    rw (s North, s East, s South, s West) refl)

@@ -1,13 +1,11 @@
 -- What lies on no line with a square is not seen from it, whatever stands between.
-use Rattle.std.proofs.Common.{◌≡◌, ℕ, ◌<◌, Bool, true, false, not, ◌&&◌, ◌||◌, refl, sym, ◌∙◌}
+use Rattle.std.proofs.Common.{◌≡◌, ℕ, Bool, true, false, not, ◌&&◌, ◌||◌, refl, sym, ◌∙◌}
 use Rattle.std.proofs.lemmas.Bool.{and_left}
 use Rattle.std.specs.Int.RustNames.{bit_and}
 use Rattle.square_sets.specs.Members.{has}
-use Rattle.chess_board.specs.Squares.{any_below}
 use Rattle.chess_moves.specs.declared.directions.Direction.{Direction}
 use Rattle.chess_moves.specs.declared.directions.Direction.TheVariants.{North, NorthEast, East, SouthEast, South, SouthWest, West, NorthWest}
-use Rattle.chess_moves.specs.inside.Directions.{toward, is_blocked, reaches, reaches_as_bishop, reaches_as_rook, is_on_diagonal, is_on_straight, sights_as_bishop, sights_as_rook}
-use Rattle.chess_moves.proofs.AnyLemmas.{any_none}
+use Rattle.chess_moves.specs.inside.Directions.{toward, is_blocked, reaches, reaches_as_bishop, reaches_as_rook, is_on_diagonal, is_on_straight}
 use Rattle.chess_moves.proofs.SetParts.{part}
 use Rattle.chess_moves.proofs.AttackSets.{slants_back, straight_back}
 use Rattle.chess_moves.proofs.Removed.{four_none}
@@ -59,35 +57,3 @@ some_near sliders lines attacks t on seen rule off e =
     both true true seen off = refl
     both true false seen off = sym (off refl)
     both false on seen off = refl
-
--- and nothing is seen towards any
-parts_none : (x p q r s : Bool) → (x && (p || q || r || s)) ≡ false → ((x && p) ≡ false) × ((x && q) ≡ false) × ((x && r) ≡ false) × ((x && s) ≡ false)
-parts_none true p q r s h = four_none p q r s h
-parts_none false p q r s h = (refl, refl, refl, refl)
-
-apart : (sliders lines s : ℕ) (on : Bool) → has lines s ≡ on → bit_and sliders lines ≡ 0 → (has sliders s && on) ≡ false
-apart sliders lines s on rule none = sym (part sliders lines s (has sliders s) on refl rule) ∙ has_none (bit_and sliders lines) s none
-
-pub no_slant_sight : (sliders lines square : ℕ) (taken : ℕ → Bool) → ((s : ℕ) → s < 64 → has lines s ≡ is_on_diagonal square s) → bit_and sliders lines ≡ 0
-    → (t : ℕ) → has 0 t ≡ sights_as_bishop taken (has sliders) square t
-unfolding is_on_diagonal sights_as_bishop
-no_slant_sight sliders lines square taken rule none t =
-    let no = λ (s : ℕ) (l : s < 64). parts_none (has sliders s) (toward NorthEast square s) (toward SouthEast square s) (toward SouthWest square s) (toward NorthWest square s)
-    (apart sliders lines s _ (rule s l) none) in
-    let a : any_below 64 (λ s. has sliders s && toward NorthEast square s) ≡ false = any_none (λ s. has sliders s && toward NorthEast square s) 64 (λ s l. (no s l).0) in
-    let b : any_below 64 (λ s. has sliders s && toward SouthEast square s) ≡ false = any_none (λ s. has sliders s && toward SouthEast square s) 64 (λ s l. (no s l).1) in
-    let c : any_below 64 (λ s. has sliders s && toward SouthWest square s) ≡ false = any_none (λ s. has sliders s && toward SouthWest square s) 64 (λ s l. (no s l).2) in
-    let d : any_below 64 (λ s. has sliders s && toward NorthWest square s) ≡ false = any_none (λ s. has sliders s && toward NorthWest square s) 64 (λ s l. (no s l).3) in
-    has_none 0 t refl ∙ rw (a, b, c, d) refl
-
-pub no_straight_sight : (sliders lines square : ℕ) (taken : ℕ → Bool) → ((s : ℕ) → s < 64 → has lines s ≡ is_on_straight square s) → bit_and sliders lines ≡ 0
-    → (t : ℕ) → has 0 t ≡ sights_as_rook taken (has sliders) square t
-unfolding is_on_straight sights_as_rook
-no_straight_sight sliders lines square taken rule none t =
-    let no = λ (s : ℕ) (l : s < 64). parts_none (has sliders s) (toward North square s) (toward East square s) (toward South square s) (toward West square s)
-    (apart sliders lines s _ (rule s l) none) in
-    let a : any_below 64 (λ s. has sliders s && toward North square s) ≡ false = any_none (λ s. has sliders s && toward North square s) 64 (λ s l. (no s l).0) in
-    let b : any_below 64 (λ s. has sliders s && toward East square s) ≡ false = any_none (λ s. has sliders s && toward East square s) 64 (λ s l. (no s l).1) in
-    let c : any_below 64 (λ s. has sliders s && toward South square s) ≡ false = any_none (λ s. has sliders s && toward South square s) 64 (λ s l. (no s l).2) in
-    let d : any_below 64 (λ s. has sliders s && toward West square s) ≡ false = any_none (λ s. has sliders s && toward West square s) 64 (λ s l. (no s l).3) in
-    has_none 0 t refl ∙ rw (a, b, c, d) refl

@@ -59,3 +59,4 @@ pub mod Narrowed
 pub mod AttackedSets
 pub mod EmptyLines
 pub mod FlightSquares
+pub mod SliderSights

@@ -7,17 +7,17 @@ use Rattle.chess_board.specs.declared.men.Kind.TheVariants.{Pawn, Knight, Bishop
 use Rattle.chess_board.specs.declared.men.Man.{Man}
 use Rattle.chess_board.specs.Men.{is_colour, is_of}
 use Rattle.chess_board.specs.Positions.{man_at}
-use Rattle.chess_board.specs.Squares.{any_below}
 use Rattle.chess_moves.specs.declared.directions.Direction.{Direction}
 use Rattle.chess_moves.specs.declared.directions.Direction.TheVariants.{North, NorthEast, East, SouthEast, South, SouthWest, West, NorthWest}
-use Rattle.chess_moves.specs.inside.Directions.{reaches, is_blocked, toward, opposite, reaches_as_bishop, reaches_as_rook, sights, sights_as_bishop, sights_as_rook}
+use Rattle.chess_moves.specs.inside.Directions.{reaches, is_blocked, toward, opposite, stands_between, is_on_diagonal, is_on_straight, reaches_as_bishop, reaches_as_rook}
 use Rattle.chess_moves.specs.inside.Forces.{is_one, is_diagonal_kind, is_straight_kind}
+use Rattle.chess_moves.specs.inside.SliderLines.{IsAlone}
 use Rattle.chess_moves.specs.inside.Hits.{is_taken, hits_as, place_hits, hits_from}
-use Rattle.chess_moves.proofs.Slides.{blocker_of, blocked_at, reached_before}
+use Rattle.std.proofs.Math.Bool.{or-true}
+use Rattle.chess_moves.proofs.Compass.{between_from, between_in}
+use Rattle.chess_moves.proofs.Slides.{Blocker, blocker_of, blocked_at, reached_before}
 use Rattle.chess_moves.proofs.Geometry.{toward_back}
-use Rattle.chess_moves.proofs.AnyLemmas.{any_at}
-use Rattle.chess_moves.proofs.AttackSets.{reaches_back}
-use Rattle.chess_moves.proofs.Connectives.{same_tests}
+use Rattle.chess_moves.proofs.Connectives.{same_tests, and_when}
 
 -- what is not reached in a direction, and lies there, is blocked
 hidden_by : (taken : ℕ → Bool) (d : Direction) (o k : ℕ) → reaches taken d o k ≡ false → toward d o k ≡ true → is_blocked taken d o k ≡ true
@@ -51,33 +51,46 @@ reached_same taken after o h d a k hidden =
     same_tests (reaches after d a k) (reaches taken d a k)
     (reached_before taken after d a k o h.stays (hidden_by taken d o k hidden)) (reached_more taken after h.fewer d a k)
 
--- So does one towards which the king sees, but no slider of that kind lies there.
-reached_unseen : (taken after slides : ℕ → Bool) (o : ℕ) → Leaves taken after o → (d : Direction) (a k : ℕ) → a < 64 → slides a ≡ true
-    → sights taken slides (opposite d) k o ≡ false → reaches after d a k ≡ reaches taken d a k
-reached_unseen taken after slides o h d a k l slider unseen = (elim (toward d a k) as (λ b. toward d a k ≡ b → reaches after d a k ≡ reaches taken d a k) [
-  | false ↦ λ e. rw e refl
-  | true ↦ λ e.
-      let there : (slides a && toward (opposite d) k a) ≡ true = and_from (slides a) (toward (opposite d) k a) slider (toward_back d a k ∙ e) in
-      let some : any_below 64 (λ s. slides s && toward (opposite d) k s) ≡ true = any_at (λ s. slides s && toward (opposite d) k s) 64 a l there in
-      let hidden : reaches taken (opposite d) k o ≡ false = rw some at unseen in
-      reached_same taken after o h d a k (sym (reaches_back taken d o k) ∙ hidden)
-]) refl
+-- So it is where the man that goes does not stand alone between the two.
+reached_apart : (taken after : ℕ → Bool) (o : ℕ) → Leaves taken after o → (d : Direction) (a k : ℕ)
+    → (toward d a k ≡ true → IsAlone taken k a o → ⊥) → reaches after d a k ≡ reaches taken d a k
+reached_apart taken after o h d a k apart =
+    same_tests (reaches after d a k) (reaches taken d a k) (λ r.
+    let x = and_parts (toward d a k) (not (is_blocked after d a k)) r in
+    let clear = not-true (is_blocked after d a k) x.1 in
+    and_from (toward d a k) (not (is_blocked taken d a k)) x.0
+    (not_from_false (is_blocked taken d a k) (false_from_ne_true (is_blocked taken d a k) (λ e.
+    let s = blocker_of taken d a k e in
+    (elim (eqb s.square o) as (λ b. eqb s.square o ≡ b → ⊥) [
+      | true ↦ λ t. apart x.0 (alone s x.0 clear (eqb-true s.square o t))
+      | false ↦ λ f. let hit = blocked_at after d a k s.square s.on_board s.behind s.before (h.stays s.square s.on_board (eqb-false s.square o f) s.is_taken) in cc
+    ]) refl))))
+    (reached_more taken after h.fewer d a k)
+  where
+    alone : (s : Blocker taken d a k) → toward d a k ≡ true → is_blocked after d a k ≡ false → s.square ≡ o → IsAlone taken k a o
+    alone s line clear same = record {
+      between = between_from (opposite d) k a o (and_from (toward (opposite d) k o) (toward (opposite d) o a)
+          (toward_back d o k ∙ ap (λ q. toward d q k) (sym same) ∙ s.before) (toward_back d a o ∙ ap (λ q. toward d a q) (sym same) ∙ s.behind));
+      there = ap taken (sym same) ∙ s.is_taken;
+      others = λ q l ne. false_from_ne_true (stands_between k a q && taken q) (λ y.
+          let z = and_parts (stands_between k a q) (taken q) y in
+          let v = and_parts (toward (opposite d) k q) (toward (opposite d) q a) (between_in (opposite d) k a q (toward_back d a k ∙ line) z.0) in
+          let hit = blocked_at after d a k q l (sym (toward_back d a q) ∙ v.1) (sym (toward_back d q k) ∙ v.0) (h.stays q l ne z.1) in cc);
+    }
 
-slants_unseen : (taken after slides : ℕ → Bool) (o : ℕ) → Leaves taken after o → (a k : ℕ) → a < 64 → slides a ≡ true
-    → sights_as_bishop taken slides k o ≡ false → reaches_as_bishop after a k ≡ reaches_as_bishop taken a k
-unfolding reaches_as_bishop sights_as_bishop
-slants_unseen taken after slides o h a k l slider unseen =
-    let none = four_none (sights taken slides NorthEast k o) (sights taken slides SouthEast k o) (sights taken slides SouthWest k o) (sights taken slides NorthWest k o) unseen in
-    let r = λ (d : Direction) (e : sights taken slides (opposite d) k o ≡ false). reached_unseen taken after slides o h d a k l slider e in
-    rw (r NorthEast none.2, r SouthEast none.3, r SouthWest none.0, r NorthWest none.1)
+slants_apart : (taken after : ℕ → Bool) (o : ℕ) → Leaves taken after o → (a k : ℕ)
+    → (is_on_diagonal k a ≡ true → IsAlone taken k a o → ⊥) → reaches_as_bishop after a k ≡ reaches_as_bishop taken a k
+unfolding reaches_as_bishop is_on_diagonal
+slants_apart taken after o h a k apart =
+    let r = λ (d : Direction) (line : toward (opposite d) k a ≡ true → is_on_diagonal k a ≡ true). reached_apart taken after o h d a k (λ e. apart (line (toward_back d a k ∙ e))) in
+    rw (r NorthEast (λ e. simp (e, or-true)), r SouthEast (λ e. simp (e, or-true)), r SouthWest (λ e. rw e refl), r NorthWest (λ e. simp (e, or-true)))
 
-straight_unseen : (taken after slides : ℕ → Bool) (o : ℕ) → Leaves taken after o → (a k : ℕ) → a < 64 → slides a ≡ true
-    → sights_as_rook taken slides k o ≡ false → reaches_as_rook after a k ≡ reaches_as_rook taken a k
-unfolding reaches_as_rook sights_as_rook
-straight_unseen taken after slides o h a k l slider unseen =
-    let none = four_none (sights taken slides North k o) (sights taken slides East k o) (sights taken slides South k o) (sights taken slides West k o) unseen in
-    let r = λ (d : Direction) (e : sights taken slides (opposite d) k o ≡ false). reached_unseen taken after slides o h d a k l slider e in
-    rw (r North none.2, r East none.3, r South none.0, r West none.1)
+straight_apart : (taken after : ℕ → Bool) (o : ℕ) → Leaves taken after o → (a k : ℕ)
+    → (is_on_straight k a ≡ true → IsAlone taken k a o → ⊥) → reaches_as_rook after a k ≡ reaches_as_rook taken a k
+unfolding reaches_as_rook is_on_straight
+straight_apart taken after o h a k apart =
+    let r = λ (d : Direction) (line : toward (opposite d) k a ≡ true → is_on_straight k a ≡ true). reached_apart taken after o h d a k (λ e. apart (line (toward_back d a k ∙ e))) in
+    rw (r North (λ e. simp (e, or-true)), r East (λ e. simp (e, or-true)), r South (λ e. rw e refl), r West (λ e. simp (e, or-true)))
 
 slants_left : (taken after : ℕ → Bool) (o : ℕ) → Leaves taken after o → (a k : ℕ)
     → reaches_as_bishop taken o k ≡ false → reaches_as_bishop after a k ≡ reaches_as_bishop taken a k
@@ -109,38 +122,34 @@ pub place_left : (taken after : ℕ → Bool) (o : ℕ) → Leaves taken after o
 place_left taken after o h by None a k hs hg = refl
 place_left taken after o h by (Some man) a k hs hg = ap (λ x. is_colour by man.colour && x) (attacks_left taken after o h by man.kind a k hs hg)
 
-attacks_unseen : (taken after slants lines : ℕ → Bool) (o : ℕ) → Leaves taken after o → (c : Colour) (kind : Kind) (a k : ℕ) → a < 64
-    → (is_diagonal_kind kind ≡ true → slants a ≡ true) → (is_straight_kind kind ≡ true → lines a ≡ true)
-    → sights_as_bishop taken slants k o ≡ false → sights_as_rook taken lines k o ≡ false → hits_as after c kind a k ≡ hits_as taken c kind a k
-attacks_unseen taken after slants lines o h c Pawn a k l ds gs hs hg = refl
-attacks_unseen taken after slants lines o h c Knight a k l ds gs hs hg = refl
-attacks_unseen taken after slants lines o h c Bishop a k l ds gs hs hg = slants_unseen taken after slants o h a k l (ds refl) hs
-attacks_unseen taken after slants lines o h c Rook a k l ds gs hs hg = straight_unseen taken after lines o h a k l (gs refl) hg
-attacks_unseen taken after slants lines o h c Queen a k l ds gs hs hg = rw (slants_unseen taken after slants o h a k l (ds refl) hs, straight_unseen taken after lines o h a k l (gs refl) hg)
-attacks_unseen taken after slants lines o h c King a k l ds gs hs hg = refl
+attacks_apart : (taken after : ℕ → Bool) (o : ℕ) → Leaves taken after o → (c : Colour) (kind : Kind) (a k : ℕ)
+    → (is_diagonal_kind kind ≡ true → is_on_diagonal k a ≡ true → IsAlone taken k a o → ⊥)
+    → (is_straight_kind kind ≡ true → is_on_straight k a ≡ true → IsAlone taken k a o → ⊥) → hits_as after c kind a k ≡ hits_as taken c kind a k
+attacks_apart taken after o h c Pawn a k ds gs = refl
+attacks_apart taken after o h c Knight a k ds gs = refl
+attacks_apart taken after o h c Bishop a k ds gs = slants_apart taken after o h a k (ds refl)
+attacks_apart taken after o h c Rook a k ds gs = straight_apart taken after o h a k (gs refl)
+attacks_apart taken after o h c Queen a k ds gs = rw (slants_apart taken after o h a k (ds refl), straight_apart taken after o h a k (gs refl))
+attacks_apart taken after o h c King a k ds gs = refl
 
-place_unseen : (men : List (Option Man)) (taken after : ℕ → Bool) (o : ℕ) → Leaves taken after o → (by : Colour) (a k : ℕ) → a < 64
-    → sights_as_bishop taken (λ s. is_one by is_diagonal_kind (man_at men s)) k o ≡ false → sights_as_rook taken (λ s. is_one by is_straight_kind (man_at men s)) k o ≡ false
-    → place_hits after by (man_at men a) a k ≡ place_hits taken by (man_at men a) a k
-place_unseen men taken after o h by a k l hs hg = (elim (man_at men a) as (λ place. man_at men a ≡ place → place_hits after by place a k ≡ place_hits taken by place a k) [
-  | None ↦ λ e. refl
-  | Some man ↦ λ e. (elim (is_colour by man.colour) as (λ b. is_colour by man.colour ≡ b → (b && hits_as after by man.kind a k) ≡ (b && hits_as taken by man.kind a k)) [
-    | false ↦ λ x. refl
-    | true ↦ λ x. attacks_unseen taken after (λ s. is_one by is_diagonal_kind (man_at men s)) (λ s. is_one by is_straight_kind (man_at men s)) o h by man.kind a k l (λ y. rw (e, x, y) refl) (λ y. rw (e, x, y) refl) hs hg
-  ]) refl
-]) refl
+place_apart : (taken after : ℕ → Bool) (o : ℕ) → Leaves taken after o → (by : Colour) (place : Option Man) (a k : ℕ)
+    → (is_one by is_diagonal_kind place ≡ true → is_on_diagonal k a ≡ true → IsAlone taken k a o → ⊥)
+    → (is_one by is_straight_kind place ≡ true → is_on_straight k a ≡ true → IsAlone taken k a o → ⊥) → place_hits after by place a k ≡ place_hits taken by place a k
+place_apart taken after o h by None a k ds gs = refl
+place_apart taken after o h by (Some man) a k ds gs = and_when (is_colour by man.colour) (hits_as after by man.kind a k) (hits_as taken by man.kind a k) (λ own.
+    attacks_apart taken after o h by man.kind a k (λ x. ds (and_from (is_colour by man.colour) (is_diagonal_kind man.kind) own x)) (λ x. gs (and_from (is_colour by man.colour) (is_straight_kind man.kind) own x)))
 
 no_attack : (taken : ℕ → Bool) (by : Colour) (place : Option Man) (a k : ℕ) → is_of by place ≡ false → place_hits taken by place a k ≡ false
 no_attack taken by None a k h = refl
 no_attack taken by (Some man) a k h = ap (λ x. x && hits_as taken by man.kind a k) h
 
--- A man goes that the king does not see towards a slider: each attack on the king stays, and no other comes.
+-- A man goes that stands alone between the king and no slider: each attack on the king stays, and no other comes.
 pub attacks_removed : (men : List (Option Man)) (king origin : ℕ) (by : Colour) (a : ℕ) → length men ≡ 64 → origin < 64 → a < 64
     → is_of by (man_at men origin) ≡ false
-    → sights_as_bishop (λ s. is_taken men s) (λ s. is_one by is_diagonal_kind (man_at men s)) king origin ≡ false
-    → sights_as_rook (λ s. is_taken men s) (λ s. is_one by is_straight_kind (man_at men s)) king origin ≡ false
+    → (is_one by is_diagonal_kind (man_at men a) ≡ true → is_on_diagonal king a ≡ true → IsAlone (λ s. is_taken men s) king a origin → ⊥)
+    → (is_one by is_straight_kind (man_at men a) ≡ true → is_on_straight king a ≡ true → IsAlone (λ s. is_taken men s) king a origin → ⊥)
     → hits_from (set men origin None) by a king ≡ hits_from men by a king
-attacks_removed men king origin by a len on l own hs hg =
+attacks_removed men king origin by a len on l own ds gs =
     let taken : ℕ → Bool = λ s. is_taken men s in
     let after : ℕ → Bool = λ s. is_taken (set men origin None) s in
     let within : origin < length men = omega arith in
@@ -162,7 +171,7 @@ attacks_removed men king origin by a len on l own hs hg =
           ap (λ p. place_hits after by p a king) here ∙ sym (no_attack taken by (man_at men a) a king there)
       | false ↦ λ e.
           ap (λ p. place_hits after by p a king) (others a (eqb-false a origin e))
-          ∙ place_unseen men taken after origin leaves by a king l hs hg
+          ∙ place_apart taken after origin leaves by (man_at men a) a king ds gs
     ]) refl
   where
     others : (s : ℕ) → s ≢ origin → man_at (set men origin None) s ≡ man_at men s

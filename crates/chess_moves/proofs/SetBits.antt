@@ -1,5 +1,5 @@
 -- The squares of a set that is made from others, by bits.
-use Rattle.std.proofs.Common.{◌≡◌, ℕ, zero, suc, ◌-◌, ◌^◌, ◌<◌, min, max, not, ◌&&◌, ◌||◌, false, eqb, refl, arith, w64}
+use Rattle.std.proofs.Common.{◌≡◌, ℕ, ◌-◌, ◌^◌, ◌<◌, min, max, not, ◌&&◌, ◌||◌, false, eqb, arith, w64}
 use Rattle.std.specs.Int.{bit_at, bit_not}
 use Rattle.std.specs.Int.RustNames.{bit_and, bit_or}
 use Rattle.std.proofs.lemmas.Bool.Decides.{nat_tests}

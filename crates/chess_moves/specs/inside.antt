@@ -10,3 +10,4 @@ pub mod MoveGeneration
 pub mod CheckSquares
 pub mod Flights
 pub mod Shifts
+pub mod SliderLines

@@ -1,15 +1,15 @@
-//! Attackers: the men that attack a square, whether one does, and what a square sees towards sliders.
+//! Attackers: the men that attack a square, and whether one does.
 
 ghost use Rattle.std.specs.Prelude.{◌≡◌, ℕ, ◌<◌, ◌&&◌, List, Option, is_some};
 ghost use Rattle.square_sets.specs.Members.{has};
 ghost use Rattle.chess_board.specs.declared.men.Man.{Man as ManValue};
 ghost use Rattle.chess_board.specs.Attacks.{is_attacked};
 ghost use Rattle.chess_board.specs.Sets.{IsSetOf};
-ghost use Rattle.chess_moves.specs.inside.Directions.{reaches_as_bishop, reaches_as_rook, sights, sights_as_bishop, sights_as_rook};
+ghost use Rattle.chess_moves.specs.inside.Directions.{reaches_as_bishop, reaches_as_rook};
 ghost use Rattle.chess_moves.specs.inside.Hits.{hits_from, is_hit};
 ghost use Rattle.chess_moves.specs.inside.Forces.{StandFor};
 
-use crate::directions::{Direction, Leap};
+use crate::directions::Leap;
 use crate::forces::{Force, force_of};
 use crate::ray_tables::Rays;
 use chess_board::{Colour, Position, Square};
@@ -21,45 +21,6 @@ pub fn attacked(rays: &Rays, position: &Position, square: Square, by: Colour) ->
 {
     let force = force_of(position, by);
     is_hit_over(rays, position.occupied(), &force, by, square.index() as u8)
-}
-
-/// What a square sees along a ray with one of these sliders on it, however far; nothing along another.
-fn sight_along(rays: &Rays, occupied: u64, sliders: u64, square: u8, direction: Direction) -> u64
-    requires { square < 64 }
-    ensures { (t : ℕ) → t < 64 → has result t ≡ sights (has occupied) (has sliders) direction square t }
-{
-    if sliders & rays.ray(square, direction) == 0 {
-        return 0;
-    }
-    rays.ray_attacks(square, direction, occupied)
-}
-
-/// What a square sees on its diagonals with one of these sliders on them.
-pub(crate) fn diagonal_sight(rays: &Rays, occupied: u64, sliders: u64, square: u8) -> u64
-    requires { square < 64 }
-    ensures { (t : ℕ) → t < 64 → has result t ≡ sights_as_bishop (has occupied) (has sliders) square t }
-{
-    if sliders & rays.diagonals(square) == 0 {
-        return 0;
-    }
-    sight_along(rays, occupied, sliders, square, Direction::NorthEast)
-        | sight_along(rays, occupied, sliders, square, Direction::SouthEast)
-        | sight_along(rays, occupied, sliders, square, Direction::SouthWest)
-        | sight_along(rays, occupied, sliders, square, Direction::NorthWest)
-}
-
-/// What a square sees on its rank and its file towards one of these sliders.
-pub(crate) fn straight_sight(rays: &Rays, occupied: u64, sliders: u64, square: u8) -> u64
-    requires { square < 64 }
-    ensures { (t : ℕ) → t < 64 → has result t ≡ sights_as_rook (has occupied) (has sliders) square t }
-{
-    if sliders & rays.straights(square) == 0 {
-        return 0;
-    }
-    sight_along(rays, occupied, sliders, square, Direction::North)
-        | sight_along(rays, occupied, sliders, square, Direction::East)
-        | sight_along(rays, occupied, sliders, square, Direction::South)
-        | sight_along(rays, occupied, sliders, square, Direction::West)
 }
 
 /// The sliders that see a square as bishops do. Where none of them stands on its diagonals nothing is scanned.
@@ -99,9 +60,9 @@ pub(crate) fn attackers(rays: &Rays, occupied: u64, force: &Force, by: Colour, s
         | force.king & rays.leap(square, Leap::KingStep)
 }
 
-/// The squares from which men of a colour attack a square, where it is known what the square sees on its diagonals, and on its rank
-/// and its file, towards their sliders.
-pub(crate) fn attackers_seen(
+/// The squares from which men of a colour attack a square, where it is known which of their sliders see it on its diagonals, and on
+/// its rank and its file.
+pub(crate) fn attackers_with(
     rays: &Rays,
     force: &Force,
     by: Colour,
@@ -111,14 +72,14 @@ pub(crate) fn attackers_seen(
 ) -> u64
     requires { square < 64 }
     ensures { (men : List (Option ManValue)) (occupied : ℕ) → IsSetOf occupied is_some men → StandFor force.now by men
-        → ((t : ℕ) → t < 64 → has diagonal t ≡ sights_as_bishop (has occupied) (has force.now.diagonal) square t)
-        → ((t : ℕ) → t < 64 → has straight t ≡ sights_as_rook (has occupied) (has force.now.straight) square t)
+        → ((t : ℕ) → t < 64 → has diagonal t ≡ (has force.now.diagonal t && reaches_as_bishop (has occupied) square t))
+        → ((t : ℕ) → t < 64 → has straight t ≡ (has force.now.straight t && reaches_as_rook (has occupied) square t))
         → (s : ℕ) → s < 64 → has result s ≡ hits_from men by s square }
 {
     force.pawns & rays.leap(square, Leap::capture_back(by))
         | force.knights & rays.leap(square, Leap::KnightLeap)
-        | force.diagonal & diagonal
-        | force.straight & straight
+        | diagonal
+        | straight
         | force.king & rays.leap(square, Leap::KingStep)
 }
 

@@ -8,11 +8,11 @@ ghost use Rattle.chess_board.specs.Men.{is_colour, is_of, other_side};
 ghost use Rattle.chess_board.specs.Positions.{Setup, man_at, moved};
 ghost use Rattle.chess_board.specs.Sets.{IsSetOf};
 ghost use Rattle.chess_moves.specs.inside.LegalityInfo.{IsLegalityInfoOf, gets_through};
-ghost use Rattle.chess_moves.specs.inside.Directions.{sights_as_bishop, sights_as_rook};
+ghost use Rattle.chess_moves.specs.inside.Directions.{reaches_as_bishop, reaches_as_rook};
 ghost use Rattle.chess_moves.specs.inside.Forces.{StandFor};
 ghost use Rattle.chess_moves.specs.inside.Hits.{hits_from, is_hit};
 
-use crate::attackers::{attackers, attackers_seen, is_hit_over};
+use crate::attackers::{attackers, attackers_with, is_hit_over};
 use crate::forces::{Force, without};
 use crate::legality_info::LegalityInfo;
 use crate::ray_tables::Rays;
@@ -42,7 +42,7 @@ fn capture_or_block(rays: &Rays, attackers: u64, king: u8) -> u64
 }
 
 /// The check mask: the squares on which a man other than the king answers the checks that there are, all squares where there is
-/// none. What the king sees towards the sliders is known.
+/// none. Which sliders give check is known.
 pub(crate) fn check_mask(
     rays: &Rays,
     force: &Force,
@@ -53,11 +53,11 @@ pub(crate) fn check_mask(
 ) -> u64
     requires { king < 64 }
     ensures { (men : List (Option ManValue)) (occupied : ℕ) → IsSetOf occupied is_some men → StandFor force.now by men
-        → ((t : ℕ) → t < 64 → has diagonal t ≡ sights_as_bishop (has occupied) (has force.now.diagonal) king t)
-        → ((t : ℕ) → t < 64 → has straight t ≡ sights_as_rook (has occupied) (has force.now.straight) king t)
+        → ((t : ℕ) → t < 64 → has diagonal t ≡ (has force.now.diagonal t && reaches_as_bishop (has occupied) king t))
+        → ((t : ℕ) → t < 64 → has straight t ≡ (has force.now.straight t && reaches_as_rook (has occupied) king t))
         → (t : ℕ) → t < 64 → has result t ≡ not (some_square (λ a. hits_from men by a king && gets_through a king t)) }
 {
-    let checkers = attackers_seen(rays, force, by, king, diagonal, straight);
+    let checkers = attackers_with(rays, force, by, king, diagonal, straight);
     capture_or_block(rays, checkers, king)
 }
 
@@ -74,8 +74,8 @@ fn check_and_pin_mask(rays: &Rays, info: &LegalityInfo, origin: u8) -> u64
     capture_or_block(rays, through, info.king)
 }
 
-/// The squares to which a man other than the king may go from its origin so that the king is safe afterwards. One that stands on no
-/// square on which it can be pinned need only answer the checks that there are.
+/// The squares to which a man other than the king may go from its origin so that the king is safe afterwards. One that holds back no
+/// slider need only answer the checks that there are.
 pub(crate) fn legal_mask(rays: &Rays, info: &LegalityInfo, origin: u8) -> u64
     requires { (info.now.king < 64) × (origin < 64) }
     ensures { (p : Setup) (man : ManValue) → IsLegalityInfoOf info.now p

@@ -7,10 +7,10 @@ ghost use Rattle.chess_board.specs.Men.{other_side};
 ghost use Rattle.chess_board.specs.Attacks.{is_attacked};
 ghost use Rattle.chess_moves.specs.inside.LegalityInfo.{IsLegalityInfoOf};
 
-use crate::attackers::{diagonal_sight, straight_sight};
 use crate::checks_and_pins::check_mask;
 use crate::forces::{Force, all_of, force_of};
 use crate::ray_tables::Rays;
+use crate::slider_lines::{diagonal_lines, straight_lines};
 use chess_board::{Colour, Position};
 
 /// What the legality of each move asks about, mostly as sets of squares.
@@ -26,7 +26,7 @@ pub(crate) struct LegalityInfo {
     pub enemy: Force,
     /// The square of the king of the side to move.
     pub king: u8,
-    /// What the king sees on its lines with a slider of the other side: only men on these squares can be pinned.
+    /// Where a man stands alone between the king and a slider of the other side: only men on these squares can be pinned.
     pub pin_squares: u64,
     /// The squares on which a man other than the king answers the checks that there are: all where there is none.
     pub check_mask: u64,
@@ -41,16 +41,16 @@ pub(crate) fn legality_info_of(rays: &Rays, position: &Position) -> LegalityInfo
     let enemy = force_of(position, by);
     let occupied = position.occupied();
     let king = position.king(side).index() as u8;
-    let diagonal = diagonal_sight(rays, occupied, enemy.diagonal, king);
-    let straight = straight_sight(rays, occupied, enemy.straight, king);
+    let diagonal = diagonal_lines(rays, occupied, enemy.diagonal, king);
+    let straight = straight_lines(rays, occupied, enemy.straight, king);
     LegalityInfo {
         side,
         occupied,
         own: all_of(&force_of(position, side)),
         enemy,
         king,
-        pin_squares: diagonal | straight,
-        check_mask: check_mask(rays, &enemy, by, king, diagonal, straight),
+        pin_squares: diagonal.held | straight.held,
+        check_mask: check_mask(rays, &enemy, by, king, diagonal.clear, straight.clear),
     }
 }
 

@@ -9,7 +9,7 @@ ghost use Rattle.chess_moves.specs.inside.MoveGeneration.{moves_of_men, HaveOwnM
 
 use crate::attackers::attacked;
 use crate::legal_targets::{king_can_move, targets_from};
-use crate::legality_info::{LegalityInfo, is_checked, legality_info_of};
+use crate::legality_info::{LegalityInfo, legality_info_of};
 use crate::move_generation::legal_moves;
 use crate::promotions::{count_ways, own_man};
 use crate::ray_tables::Rays;
@@ -39,14 +39,15 @@ pub(crate) fn in_check(rays: &Rays, position: &Position) -> bool
     attacked(rays, position, position.king(side), side.other())
 }
 
-/// Whether the side to move is mated, told in the order that refutes soonest: no check, a move of the king, a move of another man.
-pub(crate) fn is_mated(rays: &Rays, position: &Position) -> bool
+/// Whether the side to move is mated (FIDE Laws of Chess, article 5.1.1), told in the order that refutes soonest: no check, a move of
+/// the king, a move of another man.
+pub fn is_mated(rays: &Rays, position: &Position) -> bool
     ensures { result ≡ is_mate position.now }
 {
-    let info = legality_info_of(rays, position);
-    if !is_checked(&info) {
+    if !in_check(rays, position) {
         return false;
     }
+    let info = legality_info_of(rays, position);
     if king_can_move(rays, position, &info) {
         return false;
     }

@@ -3,6 +3,7 @@
 ghost use Rattle.std.specs.Prelude.{◌≡◌, ◌+◌, ◌*◌, ◌<◌, ◌≤◌, ◌++◌, true, All, IfSome, Contains, length};
 ghost use Rattle.arrayvec.specs.ArrayVec.{array_vec_len};
 ghost use Rattle.chess_board.specs.Legality.{is_legal};
+ghost use Rattle.chess_moves.specs.inside.Listing.{legal_moves};
 ghost use Rattle.mate_search.specs.inside.Variation.{keys, least_key, longest_defence, variation};
 
 use crate::memo::Memo;
@@ -75,7 +76,7 @@ fn longest_defence(rays: &Rays, position: &Position, j: u8, memo: &mut Memo) -> 
 }
 
 /// Appends the principal variation to a mate within `n` moves, the first of which is one of these.
-#[tactic(auto, using(crate::proofs::Wins::legal_each))]
+#[cycle(variation)]
 pub(crate) fn push_variation(
     rays: &Rays,
     position: &Position,
@@ -98,8 +99,27 @@ pub(crate) fn push_variation(
         let q = after(position, m);
         if let Some(r) = longest_defence(rays, &q, n - 2, memo) {
             out.push(r);
-            let next = after(&q, r);
-            push_variation(rays, &next, legal(rays, &next).as_slice(), n - 1, memo, out);
+            push_next(rays, &after(&q, r), n - 1, memo, out);
         }
     }
+}
+
+/// The same, where the first move is any legal one. Only here a list of moves takes room, so that a mate in one needs none.
+#[tactic(auto, using(crate::proofs::Wins::legal_each))]
+#[inline(never)]
+#[cycle(variation)]
+fn push_next(rays: &Rays, position: &Position, n: u8, memo: &mut Memo, out: &mut Variation)
+    requires some { 0 < n }
+    requires room { array_vec_len out.old + 2 * n ≤ 30 }
+    ensures variation { out.new.items ≡ out.old.items ++ variation (legal_moves position.now) position.now n }
+    ensures room { memo.new.room ≡ memo.old.room }
+{
+    push_variation(
+        rays,
+        position,
+        legal(rays, position).as_slice(),
+        n,
+        memo,
+        out,
+    );
 }

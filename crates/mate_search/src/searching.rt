@@ -1,14 +1,11 @@
 //! Whether the side to move mates, or is mated, within so many moves of the attacker.
 
 ghost use Rattle.std.specs.Prelude.{◌≡◌, ◌<◌, ◌≤◌, ◌-◌, true, false, IfSome, None};
-ghost use Rattle.chess_moves.specs.Verdicts.{is_mate};
 ghost use Rattle.mate_search.specs.Wins.{win, lost};
 
 use crate::memo::Memo;
 use chess_board::{Move, Position, after};
-use chess_moves::{
-    Rays, Verdict, attacked, has_mating_move, is_legal, legal_listed, legal_moves, verdict,
-};
+use chess_moves::{Rays, attacked, has_mating_move, is_legal, is_mated, legal_listed, legal_moves};
 
 /// Whether the attacker, to move, mates within `n` moves. A position one move from the end is not worth keeping.
 #[tactic(auto, using(crate::proofs::Wins::win_none))]
@@ -22,13 +19,6 @@ pub(crate) fn wins(rays: &Rays, position: &Position, n: u8, memo: &mut Memo) -> 
         1 => mates(rays, position),
         _ => wins_longer(rays, position, n, memo),
     }
-}
-
-/// Whether the side to move is mated.
-fn is_mated(rays: &Rays, position: &Position) -> bool
-    ensures { result ≡ is_mate position.now }
-{
-    verdict(rays, position) == Verdict::Mate
 }
 
 /// Whether the side to move is in check, as the ray tables tell it. Only the order of replies goes by it.

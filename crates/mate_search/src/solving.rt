@@ -58,7 +58,9 @@ fn solve_all(rays: &Rays, position: &Position, bound: Bound, memo: &mut Memo) ->
     outcome
 }
 
-/// Where moves are to be avoided: what is found of the position so is not what a memo keeps, so it is not asked about it.
+/// Where moves are to be avoided: what is found of the position so is not what a memo keeps, so it is not asked about it. Its list of
+/// moves takes room only where it is called.
+#[inline(never)]
 #[tactic(auto, unfolding(crate::specs::inside::Truth::dist, crate::specs::inside::Truth::truth))]
 fn solve_rest(rays: &Rays, problem: &Problem, memo: &mut Memo) -> Outcome
     ensures truth { result ≡ truth problem.now }

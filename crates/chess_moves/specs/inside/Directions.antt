@@ -91,18 +91,6 @@ reaches_as_bishop taken a b = reaches taken NorthEast a b || reaches taken South
 unfoldable pub reaches_as_rook : (ℕ → Bool) → ℕ → ℕ → Bool
 reaches_as_rook taken a b = reaches taken North a b || reaches taken East a b || reaches taken South a b || reaches taken West a b
 
--- Square b is reached from a in a direction in which one of the sliders lies, however far.
-abbrev pub sights : (ℕ → Bool) → (ℕ → Bool) → Direction → ℕ → ℕ → Bool
-sights taken sliders d a b = some_square (λ s. sliders s && toward d a s) && reaches taken d a b
-
--- the same as a bishop goes
-unfoldable pub sights_as_bishop : (ℕ → Bool) → (ℕ → Bool) → ℕ → ℕ → Bool
-sights_as_bishop taken sliders a b = sights taken sliders NorthEast a b || sights taken sliders SouthEast a b || sights taken sliders SouthWest a b || sights taken sliders NorthWest a b
-
--- the same as a rook goes
-unfoldable pub sights_as_rook : (ℕ → Bool) → (ℕ → Bool) → ℕ → ℕ → Bool
-sights_as_rook taken sliders a b = sights taken sliders North a b || sights taken sliders East a b || sights taken sliders South a b || sights taken sliders West a b
-
 -- Square s stands strictly between a and b on one line.
 unfoldable pub stands_between : ℕ → ℕ → ℕ → Bool
 stands_between a b s =

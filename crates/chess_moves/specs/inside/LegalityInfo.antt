@@ -1,5 +1,5 @@
 -- Not for believing: the legality information of a position: what is the same for all its moves, as sets of squares.
-use Rattle.std.specs.Prelude.{◌≡◌, ℕ, ◌<◌, Bool, not, ◌&&◌, ◌||◌, ◌==◌, is_some}
+use Rattle.std.specs.Prelude.{◌≡◌, ℕ, ◌<◌, Bool, false, not, ◌&&◌, ◌||◌, ◌==◌, None, is_some, slice_set}
 use Rattle.square_sets.specs.Members.{has}
 use Rattle.chess_board.specs.declared.men.Kind.TheVariants.{King}
 use Rattle.chess_board.specs.Squares.{some_square}
@@ -8,7 +8,7 @@ use Rattle.chess_board.specs.Positions.{Setup, man_at}
 use Rattle.chess_board.specs.Sets.{IsSetOf}
 use Rattle.chess_board.specs.Soundness.{IsSound}
 use Rattle.chess_moves.specs.declared.legality_info.LegalityInfo.{LegalityInfo}
-use Rattle.chess_moves.specs.inside.Directions.{stands_between, sights_as_bishop, sights_as_rook}
+use Rattle.chess_moves.specs.inside.Directions.{stands_between}
 use Rattle.chess_moves.specs.inside.Hits.{hits_from}
 use Rattle.chess_moves.specs.inside.Forces.{StandFor}
 
@@ -27,8 +27,8 @@ pub record IsLegalityInfoOf (info : LegalityInfo) (p : Setup) : Type 0 where
   pub enemy : StandFor info.enemy (other_side p.side) p.men
   pub on_board : info.king < 64
   pub king : man_at p.men info.king ≡ man_of p.side King
-  -- what the king sees towards the enemy's sliders
-  pub pin_squares : (t : ℕ) → t < 64 → has info.pin_squares t
-      ≡ (sights_as_bishop (has info.occupied) (has info.enemy.diagonal) info.king t || sights_as_rook (has info.occupied) (has info.enemy.straight) info.king t)
+  -- a man that goes from a square outside of these opens no attack on the king
+  pub pin_squares : (o a : ℕ) → o < 64 → a < 64 → has info.pin_squares o ≡ false → is_of (other_side p.side) (man_at p.men o) ≡ false
+      → hits_from (slice_set p.men o None) (other_side p.side) a info.king ≡ hits_from p.men (other_side p.side) a info.king
   pub check_mask : (t : ℕ) → t < 64 → has info.check_mask t ≡ is_in_check_mask p info.king t
   pub sound : IsSound p

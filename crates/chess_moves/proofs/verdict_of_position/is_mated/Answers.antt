@@ -2,15 +2,13 @@ use Rattle.std.proofs.Common.{◌≡◌, true, false, refl, sym, ◌∙◌, arit
 use Rattle.std.proofs.Math.Bool.{and-false}
 use Rattle.chess_board.specs.Attacks.{is_in_check}
 use Rattle.chess_moves.specs.Verdicts.{has_legal_move}
-use Rattle.chess_moves.proofs.OneKing.{in_check_is}
 use Rattle.chess_moves.proofs.Mates.{king_moves, others_are_own, moves_apart, mate_by}
 use Rattle.chess_moves.proofs.verdict_of_position.is_mated.Goals as goal
 
-pub returns-then-not-is_checked : goal.returns-then-not-is_checked
-returns-then-not-is_checked c =
+pub returns-then-not-in_check : goal.returns-then-not-in_check
+returns-then-not-in_check c =
     let p = c.args.position.now in
-    let h = c.legality_info_of-info.ensures in
-    let none : is_in_check p.men p.side ≡ false = in_check_is p c.legality_info_of-info.result.king h.sound h.on_board h.king ∙ sym (c.is_checked.ensures p h) ∙ c.if-not-is_checked.true in
+    let none : is_in_check p.men p.side ≡ false = sym c.in_check.ensures ∙ c.if-not-in_check.true in
     sym (mate_by p false (has_legal_move p) none refl)
 
 pub returns-then-king_can_move : goal.returns-then-king_can_move
@@ -25,7 +23,7 @@ pub returns : goal.returns
 returns c =
     let p = c.args.position.now in
     let h = c.legality_info_of-info.ensures in
-    let check : is_in_check p.men p.side ≡ true = in_check_is p c.legality_info_of-info.result.king h.sound h.on_board h.king ∙ sym (c.is_checked.ensures p h) ∙ c.if-not-is_checked.false in
+    let check : is_in_check p.men p.side ≡ true = sym c.in_check.ensures ∙ c.if-not-in_check.false in
     let apart = moves_apart c.legality_info_of-info.result p c.single-king.result h (omega arith) c.single-king.ensures in
     let others : has_legal_move p ≡ c.can_move.result = (rw (sym c.king_can_move.ensures ∙ c.if-king_can_move.false) at apart) ∙ sym c.can_move.ensures in
     sym (mate_by p true c.can_move.result check others)
