@@ -10,7 +10,6 @@ ghost use Rattle.chess_moves.specs.inside.Listing.{legal_moves};
 ghost use Rattle.std.specs.List.{list_any};
 ghost use Rattle.mate_search.specs.inside.MemoEntries.{IsTrueOf};
 ghost use Rattle.chess_problems.specs.Outcomes.{IsPlayable};
-ghost use Rattle.chess_problems.specs.declared.outcomes.Outcome.TheVariants.{Mate};
 
 use crate::memo::Memo;
 use crate::memo_entries::Entry;
@@ -137,24 +136,31 @@ fn solve_among(
     for k in none..bound.get() {
         let keys = keys_among(rays, position, first, k + 1, memo);
         if !keys.is_empty() {
-            return mate_by(rays, position, keys, k + 1, memo);
+            let Some(dm) = Bound::new(k + 1) else {
+                unreachable!();
+            };
+            let pv = line_of_play(rays, position, keys.as_slice(), k + 1, memo);
+            return Outcome::Mate { dm, keys, pv };
         }
     }
     Outcome::NoMate
 }
 
-/// The outcome where `n` is the least number of moves, and these are the keys.
-fn mate_by(rays: &Rays, position: &Position, keys: MoveList, n: u8, memo: &mut Memo) -> Outcome
+/// The line of play of a mate within `n` moves, the first of which is one of these.
+fn line_of_play(
+    rays: &Rays,
+    position: &Position,
+    keys: &[Move],
+    n: u8,
+    memo: &mut Memo,
+) -> Variation
     requires some { 0 < n }
     requires bounded { n ≤ 15 }
-    requires legal { All (λ m. is_legal position.now m ≡ true) keys.items }
-    ensures mate { result ≡ Mate n (record { items = keys.items }) (record { items = variation keys.items position.now n }) }
+    requires legal { All (λ m. is_legal position.now m ≡ true) keys.now }
+    ensures line { result.items ≡ variation keys.now position.now n }
     ensures room { memo.new.room ≡ memo.old.room }
 {
-    let Some(dm) = Bound::new(n) else {
-        unreachable!();
-    };
     let mut pv = Variation::new();
-    push_variation(rays, position, keys.as_slice(), n, memo, &mut pv);
-    Outcome::Mate { dm, keys, pv }
+    push_variation(rays, position, keys, n, memo, &mut pv);
+    pv
 }
