@@ -1,8 +1,10 @@
 -- What the words of a command line ask for.
-use Rattle.std.specs.Prelude.{ℕ, Bool, List, [], ◌∷◌, Option, None, Some, true, false, codes, option_map, option_and_then, if◌then◌else◌}
+use Rattle.std.specs.Prelude.{ℕ, ◌^◌, ◌&&◌, Bool, List, [], ◌∷◌, Option, None, Some, true, false, codes, length, nat_lt, option_map, option_and_then, if◌then◌else◌}
 use Rattle.std.specs.List.{list_all, list_any}
 use Rattle.std.specs.Option.{option_map_or}
+use Rattle.std.specs.Char.{digit_value}
 use Rattle.std.specs.Str.{bytes_eq}
+use Rattle.std.specs.Str.Parse.{digits_value, without_leading_plus}
 use Rattle.clap.specs.Words.{App, Kinds, Row, Text, all_of, fault_of, first_of, one_of, subcommand_of, subcommand_rows_of}
 use Rattle.clap.specs.Walk.{byte_or_zero}
 use Rattle.clap.specs.declared.error.kind.ErrorKind.{ErrorKind}
@@ -12,15 +14,15 @@ use Rattle.chess_problems.specs.Problems.{bound_of}
 use Rattle.command_words.specs.CommandLine.{desk_app}
 use Rattle.command_words.specs.Limits.{depth_of}
 use Rattle.command_words.specs.Hyphens.{escaped}
-use Rattle.command_words.specs.Limits.{workers_of}
+use Rattle.command_words.specs.Limits.{memo_size_of, workers_of}
 
 -- a command with its arguments
 pub data Asked : Type 0 where
   look : Text → Asked
   moves : Text → Asked
   perft : Text → ℕ → Asked
-  solve : ℕ → List Text → Asked
-  serve : ℕ → ℕ → List Text → Asked
+  solve : ℕ → ℕ → List Text → Asked
+  serve : ℕ → ℕ → ℕ → List Text → Asked
   replay : Text → Asked
 
 -- the number that a word stands for, which `clap` has read; none above the depths that are counted
@@ -35,9 +37,26 @@ bound_in rows = bound_of (option_map_or byte_or_zero (one_of (codes "B") rows) 0
 abbrev pub workers_in : List Row → Option ℕ
 workers_in rows = workers_of (option_map_or byte_or_zero (one_of (codes "N") rows) 0)
 
+-- the number that a word stands for, which `clap` has read, where it may be larger than a byte
+abbrev pub number_or_zero : Text → ℕ
+number_or_zero text =
+    let digits = without_leading_plus text in
+    if nat_lt 0 (length digits) && list_all (λ d. nat_lt (digit_value d) 10) digits && nat_lt (digits_value 10 digits) (2 ^ 32) then digits_value 10 digits
+    else 0
+
+-- the number of `--memo`; none outside the numbers of entries of a memo
+abbrev pub memo_size_in : List Row → Option ℕ
+memo_size_in rows = memo_size_of (option_map_or number_or_zero (one_of (codes "M") rows) 0)
+
+-- what the arguments of `solve` ask for
+abbrev pub solve_in : List Row → Option Asked
+solve_in rows = option_and_then (λ bound. option_and_then (λ memo. option_map (λ names. solve bound memo names) (all_of (codes "FILE") rows)) (memo_size_in rows)) (bound_in rows)
+
 -- what the arguments of `serve` ask for
 abbrev pub serve_in : List Row → Option Asked
-serve_in rows = option_and_then (λ workers. option_and_then (λ bound. option_map (λ names. serve workers bound names) (all_of (codes "FILE") rows)) (bound_in rows)) (workers_in rows)
+serve_in rows =
+    option_and_then (λ workers. option_and_then (λ bound. option_and_then (λ memo. option_map (λ names. serve workers bound memo names) (all_of (codes "FILE") rows))
+    (memo_size_in rows)) (bound_in rows)) (workers_in rows)
 
 -- what the arguments of a command ask for, by its name
 unfoldable pub asked_by : Text → List Row → Option Asked
@@ -45,14 +64,14 @@ asked_by name rows =
     if bytes_eq name (codes "look") then option_map look (first_of (codes "FEN") rows)
     else if bytes_eq name (codes "moves") then option_map moves (first_of (codes "FEN") rows)
     else if bytes_eq name (codes "perft") then option_and_then (λ depth. option_map (λ fen. perft fen depth) (first_of (codes "FEN") rows)) (depth_in rows)
-    else if bytes_eq name (codes "solve") then option_and_then (λ bound. option_map (λ names. solve bound names) (all_of (codes "FILE") rows)) (bound_in rows)
+    else if bytes_eq name (codes "solve") then solve_in rows
     else if bytes_eq name (codes "serve") then serve_in rows
     else if bytes_eq name (codes "replay") then option_map replay (first_of (codes "SCRIPT") rows)
     else None
 
 -- asks for `serve`, the one command that starts threads
 abbrev pub is_serve : Asked → Bool
-is_serve (serve workers bound names) = true
+is_serve (serve workers bound memo names) = true
 is_serve _ = false
 
 abbrev pub asks_serve : Option Asked → Bool

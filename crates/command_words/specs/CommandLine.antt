@@ -29,15 +29,27 @@ workers_rule = record (wanted (codes "N")) {
   parser = Some (parser.Signed (pos 1) (pos 16));
 }
 
+-- an option that reads a number from 1 to 65,536, and is such a one where it isn't given
+abbrev pub memo_rule : Text → Rule
+memo_rule default = record (new_rule (codes "M")) {
+  long = Some (codes "memo");
+  parser = Some (parser.Signed (pos 1) (pos 65536));
+  defaults = default ∷ [];
+}
+
 -- one name or more
 abbrev pub files_rule : Rule
 files_rule = record (wanted (codes "FILE")) { range = Some (record { start_inclusive = 1; end_inclusive = usize_max }) }
 
+-- with the options of `solve` and of `serve`: the bound, and the number of entries of a memo
+abbrev pub with_solving_options : App → Text → App
+with_solving_options a default = with_rule (with_rule a bound_rule) (memo_rule default)
+
 abbrev pub solve_app : App
-solve_app = with_rule (with_rule (new_app (codes "solve")) bound_rule) files_rule
+solve_app = with_rule (with_solving_options (new_app (codes "solve")) (codes "65536")) files_rule
 
 abbrev pub serve_app : App
-serve_app = with_rule (with_rule (with_rule (new_app (codes "serve")) workers_rule) bound_rule) files_rule
+serve_app = with_rule (with_solving_options (with_rule (new_app (codes "serve")) workers_rule) (codes "16384")) files_rule
 
 abbrev pub look_app : App
 look_app = with_rule (new_app (codes "look")) (wanted (codes "FEN"))

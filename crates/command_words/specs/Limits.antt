@@ -1,4 +1,4 @@
--- The numbers that the command line bounds: the depth of `perft`, and the workers of `serve`.
+-- The numbers that the command line bounds: the depth of `perft`, the workers of `serve`, and the entries of a memo.
 use Rattle.std.specs.Prelude.{ℕ, Option, Some, None, ◌&&◌, nat_le, if◌then◌else◌}
 
 abbrev pub max_depth : ℕ
@@ -14,3 +14,10 @@ max_workers = 16
 -- the number of workers, where the number is one
 abbrev pub workers_of : ℕ → Option ℕ
 workers_of n = if nat_le 1 n && nat_le n max_workers then Some n else None
+
+abbrev pub max_memo_entries : ℕ
+max_memo_entries = 65536
+
+-- the number of entries of a memo, where the number is one
+abbrev pub memo_size_of : ℕ → Option ℕ
+memo_size_of n = if nat_le 1 n && nat_le n max_memo_entries then Some n else None

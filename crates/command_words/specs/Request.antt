@@ -8,6 +8,6 @@ abbrev pub plan_of : Request → Asked
 plan_of (Look fen) = look fen.now
 plan_of (Moves fen) = moves fen.now
 plan_of (Perft fen depth) = perft fen.now depth
-plan_of (Solve bound names) = solve bound (map (λ s. s.now) names.now)
-plan_of (Serve workers bound names) = serve workers bound (map (λ s. s.now) names.now)
+plan_of (Solve bound memo names) = solve bound memo (map (λ s. s.now) names.now)
+plan_of (Serve workers bound memo names) = serve workers bound memo (map (λ s. s.now) names.now)
 plan_of (Replay name) = replay name.now

@@ -2,12 +2,13 @@
 
 ghost use Rattle.std.specs.Prelude.{◌≡◌, IfOk, codes, false};
 ghost use Rattle.clap.specs.Words.{app_of, rule_of, with_rule, with_subcommand};
-ghost use Rattle.command_words.specs.CommandLine.{IsLocal, bare_app, bound_rule, depth_rule, desk_app, files_rule, look_app, moves_app, perft_app, replay_app, serve_app, solve_app, wanted, with_file_apps, with_fen_apps, workers_rule};
+ghost use Rattle.command_words.specs.CommandLine.{IsLocal, bare_app, bound_rule, depth_rule, desk_app, files_rule, look_app, memo_rule, moves_app, perft_app, replay_app, serve_app, solve_app, wanted, with_file_apps, with_fen_apps, with_solving_options, workers_rule};
 
 use crate::help::{
-    ABOUT, ABOUT_BOUND, ABOUT_DEPTH, ABOUT_FEN, ABOUT_FILE, ABOUT_LOOK, ABOUT_MOVES, ABOUT_PERFT,
-    ABOUT_REPLAY, ABOUT_SCRIPT, ABOUT_SERVE, ABOUT_SOLVE, ABOUT_WORKERS, AFTER_HELP, AFTER_LOOK,
-    AFTER_MOVES, AFTER_PERFT, AFTER_REPLAY, AFTER_SERVE, AFTER_SOLVE, VERSION,
+    ABOUT, ABOUT_BOUND, ABOUT_DEPTH, ABOUT_FEN, ABOUT_FILE, ABOUT_LOOK, ABOUT_MEMO, ABOUT_MEMOS,
+    ABOUT_MOVES, ABOUT_PERFT, ABOUT_REPLAY, ABOUT_SCRIPT, ABOUT_SERVE, ABOUT_SOLVE, ABOUT_WORKERS,
+    AFTER_HELP, AFTER_LOOK, AFTER_MOVES, AFTER_PERFT, AFTER_REPLAY, AFTER_SERVE, AFTER_SOLVE,
+    VERSION,
 };
 use clap::{Arg, Command, value_parser};
 use std::alloc::{AllocError, Global};
@@ -50,6 +51,18 @@ fn workers_arg<'a>(alloc: Global) -> Arg<'a>
         .value_parser(value_parser!(u8).range(1..17))
 }
 
+/// The number of entries of a memo, 1 to 65,536.
+fn memo_arg<'a>(alloc: Global, default: &'a str, help: &'a str) -> Arg<'a>
+    ensures rule { rule_of result ≡ memo_rule default.entry.now }
+    ensures local { result.global ≡ false }
+{
+    Arg::new(alloc, "M")
+        .long("memo")
+        .value_parser(value_parser!(u32).range(1..65_537))
+        .default_value(default)
+        .help(help)
+}
+
 /// The names of files, one or more.
 fn files_arg<'a>(alloc: Global) -> Arg<'a>
     ensures rule { rule_of result ≡ files_rule }
@@ -75,13 +88,27 @@ fn with_command<'a>(command: Command<'a>, sub: Command<'a>) -> Result<Command<'a
     command.subcommand(sub)
 }
 
+/// Adds what may be given to `solve` and to `serve`: the bound, and the number of entries of a memo.
+fn with_solving_options<'a>(
+    alloc: Global,
+    command: Command<'a>,
+    default: &'a str,
+    help: &'a str,
+) -> Result<Command<'a>, AllocError>
+    requires local { IsLocal command }
+    ensures { IfOk result (λ c. (app_of c ≡ with_solving_options (app_of command.entry) default.entry.now) × IsLocal c) }
+{
+    let command = with_arg(command, bound_arg(alloc))?;
+    with_arg(command, memo_arg(alloc, default, help))
+}
+
 fn solve_command<'a>(alloc: Global) -> Result<Command<'a>, AllocError>
     ensures { IfOk result (λ c. (app_of c ≡ solve_app) × IsLocal c) }
 {
     let command = Command::new(alloc, "solve")
         .about(ABOUT_SOLVE)
         .after_help(AFTER_SOLVE);
-    let command = with_arg(command, bound_arg(alloc))?;
+    let command = with_solving_options(alloc, command, "65536", ABOUT_MEMO)?;
     with_arg(command, files_arg(alloc))
 }
 
@@ -92,7 +119,7 @@ fn serve_command<'a>(alloc: Global) -> Result<Command<'a>, AllocError>
         .about(ABOUT_SERVE)
         .after_help(AFTER_SERVE);
     let command = with_arg(command, workers_arg(alloc))?;
-    let command = with_arg(command, bound_arg(alloc))?;
+    let command = with_solving_options(alloc, command, "16384", ABOUT_MEMOS)?;
     with_arg(command, files_arg(alloc))
 }
 

@@ -59,6 +59,9 @@ bound N, the answer says `c0 \"no mate in N\"`. A line that is no record is answ
 `# line K: CODE`: K is its number in its file, and CODE names its fault. A bound of
 many moves may take longer than one can wait, and the lines behind it wait too.
 
+What was found of positions is kept in a memo with room for M of them, so that it need not
+be found again. No answer depends on M: more room mostly takes less time and more memory.
+
 To look for a second solution, name the author's key as a move to avoid (`am`), with
 others behind it if need be. It is left out at the first move alone:
   8/8/3p1p2/1N2p3/4kNQ1/5n2/2K3B1/8 w - - am Bh1; dm 2;
@@ -83,7 +86,8 @@ pub const ABOUT_SERVE: &str =
 pub const AFTER_SERVE: &str =
     "The answers are those of `solve`, in the same order: `matedesk solve --help` says what a
 record is and what an answer says. N workers solve the records of all files, so that many
-problems are answered sooner, also those of one file; one hard problem is not.
+problems are answered sooner, also those of one file; one hard problem is not. Each worker
+has a memo of its own.
 
 All files are read to their ends before the first problem is looked at, and the answers are
 written when the last is found. To be answered line by line, use `solve`.
@@ -167,6 +171,12 @@ pub const ABOUT_SCRIPT: &str = "A file with a desk and its steps; `-` is standar
 
 /// The option `--bound` in one line.
 pub const ABOUT_BOUND: &str = "Within how many moves a record without `dm` asks for mate, 1 to 15";
+
+/// The option `--memo` of `solve` in one line.
+pub const ABOUT_MEMO: &str = "How many positions the memo has room for, 1 to 65536";
+
+/// The option `--memo` of `serve` in one line.
+pub const ABOUT_MEMOS: &str = "How many positions each worker's memo has room for, 1 to 65536";
 
 /// The argument FILE in one line.
 pub const ABOUT_FILE: &str = "Files of records, each answered in its place; `-` is standard input";

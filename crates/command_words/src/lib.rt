@@ -11,5 +11,5 @@ mod limits;
 mod request;
 
 pub use hyphens::escaped;
-pub use limits::{Depth, Workers};
+pub use limits::{Depth, MemoSize, Workers};
 pub use request::{Request, parse, request_of};

@@ -4,11 +4,11 @@ ghost use Rattle.std.specs.Prelude.{◌≡◌, ◌≢◌, None, IfOk, IfErr, map
 ghost use Rattle.std.specs.Option.{option_map_or};
 ghost use Rattle.clap.specs.Walk.{byte_or_zero};
 ghost use Rattle.clap.specs.Words.{all_of, first_of, found_of, kind_of, one_of, rows_of};
-ghost use Rattle.command_words.specs.Asked.{asked_by, asked_exactly, bound_in, depth_in, workers_in, serve_in, asked_of, asks_display_exactly, is_display, may_display_exactly};
+ghost use Rattle.command_words.specs.Asked.{asked_by, asked_exactly, bound_in, depth_in, memo_size_in, number_or_zero, workers_in, serve_in, solve_in, asked_of, asks_display_exactly, is_display, may_display_exactly};
 ghost use Rattle.command_words.specs.Request.{plan_of};
 
 use crate::command_line::desk_command;
-use crate::limits::{Depth, Workers};
+use crate::limits::{Depth, MemoSize, Workers};
 use chess_problems::Bound;
 use clap::error::ErrorKind;
 use clap::{ArgMatches, Error};
@@ -23,10 +23,11 @@ pub enum Request<'m, 'a> {
     Moves(&'a str),
     /// Count the lines of so many legal moves from a FEN.
     Perft(&'a str, Depth),
-    /// Answer the records of files, in order; the bound is for records that say none.
-    Solve(Bound, &'m [&'a str]),
-    /// Answer the records of files by so many workers, all files at once; the bound is for records that say none.
-    Serve(Workers, Bound, &'m [&'a str]),
+    /// Answer the records of files, in order, over a memo of such a size; the bound is for records that say none.
+    Solve(Bound, MemoSize, &'m [&'a str]),
+    /// Answer the records of files by so many workers, each over a memo of such a size, all files at once; the bound is for records
+    /// that say none.
+    Serve(Workers, Bound, MemoSize, &'m [&'a str]),
     /// Run the script of a file at a desk.
     Replay(&'a str),
 }
@@ -52,6 +53,13 @@ fn number_in(matches: &ArgMatches, id: &str) -> u8
     matches.get_one::<u8>(id).unwrap_or(0)
 }
 
+/// The number of an option that a byte may not hold.
+fn large_number_in(matches: &ArgMatches, id: &str) -> u32
+    ensures { result ≡ option_map_or number_or_zero (one_of id.now (rows_of (found_of matches.now))) 0 }
+{
+    matches.get_one::<u32>(id).unwrap_or(0)
+}
+
 /// The depth of `perft`. `clap` has kept it to its range.
 fn depth_in(matches: &ArgMatches) -> Option<Depth>
     ensures { result ≡ depth_in (rows_of (found_of matches.now)) }
@@ -73,13 +81,30 @@ fn workers_in(matches: &ArgMatches) -> Option<Workers>
     Workers::new(number_in(matches, "N"))
 }
 
+/// The size of the memo of `solve`, or of each worker of `serve`. `clap` has kept it to its range.
+fn memo_size_in(matches: &ArgMatches) -> Option<MemoSize>
+    ensures { result ≡ memo_size_in (rows_of (found_of matches.now)) }
+{
+    MemoSize::new(large_number_in(matches, "M"))
+}
+
+/// What the arguments of `solve` ask for.
+fn solve_in<'m, 'a>(matches: &'m ArgMatches<'a>) -> Option<Request<'m, 'a>>
+    ensures { option_map plan_of result ≡ solve_in (rows_of (found_of matches.now)) }
+{
+    let bound = bound_in(matches)?;
+    let memo = memo_size_in(matches)?;
+    names_in(matches, "FILE").map(|names| Request::Solve(bound, memo, names))
+}
+
 /// What the arguments of `serve` ask for.
 fn serve_in<'m, 'a>(matches: &'m ArgMatches<'a>) -> Option<Request<'m, 'a>>
     ensures { option_map plan_of result ≡ serve_in (rows_of (found_of matches.now)) }
 {
     let workers = workers_in(matches)?;
     let bound = bound_in(matches)?;
-    names_in(matches, "FILE").map(|names| Request::Serve(workers, bound, names))
+    let memo = memo_size_in(matches)?;
+    names_in(matches, "FILE").map(|names| Request::Serve(workers, bound, memo, names))
 }
 
 /// What the arguments of a command ask for, by its name.
@@ -95,8 +120,7 @@ fn request_by<'m, 'a>(name: &str, matches: &'m ArgMatches<'a>) -> Option<Request
         let depth = depth_in(matches)?;
         text_in(matches, "FEN").map(|fen| Request::Perft(fen, depth))
     } else if name == "solve" {
-        let bound = bound_in(matches)?;
-        names_in(matches, "FILE").map(|names| Request::Solve(bound, names))
+        solve_in(matches)
     } else if name == "serve" {
         serve_in(matches)
     } else if name == "replay" {

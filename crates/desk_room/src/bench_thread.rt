@@ -15,9 +15,6 @@ use mate_search::Memo;
 use std::alloc::Global;
 use std::sync::Wait;
 
-/// How many entries a bench's memo has.
-const ENTRIES: usize = 16_384;
-
 /// Waits until the bench's ring has a place, unless the bell is rung first. It answers whether it has one.
 fn await_place<R: Wait>(rt: &R, bench: &mut Bench, bell: &Bell) -> bool
     ensures { result ≡ true → 0 < places_known bench.new }
@@ -53,17 +50,19 @@ fn deal_with<G: Gate>(
     }
 }
 
-/// Takes orders until the bench is sent home, or the bell is rung. The bench is known to the gate by its number.
+/// Takes orders until the bench is sent home, or the bell is rung. The bench is known to the gate by its number, and has a memo of so
+/// many entries.
 pub(crate) fn work<R: Wait, G: Gate>(
     rt: &R,
     alloc: Global,
     rays: &Rays,
     mut bench: Bench,
     number: usize,
+    entries: usize,
     gate: &G,
     bell: &Bell,
 ) {
-    let Ok(mut memo) = Memo::new(alloc, ENTRIES) else {
+    let Ok(mut memo) = Memo::new(alloc, entries) else {
         bell.ring(Why::NoMemory);
         return;
     };

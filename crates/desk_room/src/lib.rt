@@ -48,7 +48,7 @@ pub use deque_seat::Taken;
 pub use keepers::Keeper;
 pub use letters::{Back, Letter};
 pub use rooms::{Room, RoomFault, open_room};
-pub use serving::serve;
+pub use serving::{serve, serve_with_memo};
 pub use settling::Settled;
 pub use solve_gates::{Gate, OpenGate};
 pub use turns::Turn;

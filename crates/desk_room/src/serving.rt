@@ -25,6 +25,9 @@ use std::sync::Wait;
 use std::thread;
 use std::thread::{Promise, Threads};
 
+/// How many entries the memo of each bench has where none are asked for.
+const ENTRIES: usize = 16_384;
+
 /// How many places each ring has.
 const RING: usize = 8;
 
@@ -44,6 +47,7 @@ fn run_ends<R: Threads + Wait + Sync, G: Gate>(
     windows: Vec<Window>,
     inputs: &[Vec<u8>],
     benches: Vec<Bench>,
+    entries: usize,
     gate: &G,
     bell: &Bell,
 ) -> Result<Vec<Report>, AllocError>
@@ -60,7 +64,7 @@ fn run_ends<R: Threads + Wait + Sync, G: Gate>(
         {
             let working = move ||
                 requires { IsSync R.row × IsSync G.row }
-            { work_all(rt, alloc, rays, benches, gate, bell) };
+            { work_all(rt, alloc, rays, benches, entries, gate, bell) };
             match scope.spawn_with(Worked, working) {
                 Ok(child) => {
                     let reports = attend_all(rt, alloc, rays, windows, inputs, bell);
@@ -84,6 +88,7 @@ fn run<R: Threads + Wait + Sync, G: Gate>(
     rays: &Rays,
     room: Room,
     inputs: &[Vec<u8>],
+    entries: usize,
     gate: &G,
     bell: &Bell,
 ) -> (Keeper, Result<Vec<Report>, AllocError>)
@@ -111,7 +116,9 @@ fn run<R: Threads + Wait + Sync, G: Gate>(
             { keep(rt, keeper, most, bell) };
             match scope.spawn_with(promise, keeping) {
                 Ok(child) => {
-                    let reports = run_ends(rt, alloc, rays, windows, inputs, benches, gate, bell);
+                    let reports = run_ends(
+                        rt, alloc, rays, windows, inputs, benches, entries, gate, bell,
+                    );
                     if reports.is_err() {
                         bell.ring(Why::NoMemory);
                     }
@@ -119,7 +126,9 @@ fn run<R: Threads + Wait + Sync, G: Gate>(
                 }
                 Err(refused) => {
                     bell.ring(Why::NoThread);
-                    let reports = run_ends(rt, alloc, rays, windows, inputs, benches, gate, bell);
+                    let reports = run_ends(
+                        rt, alloc, rays, windows, inputs, benches, entries, gate, bell,
+                    );
                     ((refused.value)(), reports)
                 }
             }
@@ -165,6 +174,39 @@ fn settle_all(
     }
 }
 
+/// The reply to each input, as `serve` gives it, by benches whose memos have so many entries each, 1 to 65,536.
+pub fn serve_with_memo<R: Threads + Wait + Sync, G: Gate>(
+    rt: &R,
+    alloc: Global,
+    rays: &Rays,
+    inputs: &[Vec<u8>],
+    default: Bound,
+    benches: usize,
+    entries: usize,
+    gate: &G,
+) -> Result<Vec<Output>, RoomFault>
+    requires { (1 ≤ entries) × (entries ≤ 65536) }
+    ensures replies { IfOk result (λ outputs. AreReplies default (map (λ input. input.items) inputs.now) outputs.items) }
+    ensures bad_windows { (result ≡ Err fault.BadWindows) ↔ ((length inputs.now ≡ 0) ⊎ (16 < length inputs.now)) }
+    ensures bad_benches { (result ≡ Err fault.BadBenches) ↔ (((1 ≤ length inputs.now) × (length inputs.now ≤ 16)) × ((benches ≡ 0) ⊎ (16 < benches))) }
+    ensures good_ring { result ≢ Err fault.BadRing }
+{
+    let room = open_room(alloc, inputs.len(), benches, RING, default)?;
+    let bell = Bell::new();
+    let (mut keeper, reports) = run(rt, alloc, rays, room, inputs, entries, gate, &bell);
+    let Ok(reports) = reports else {
+        return Err(RoomFault::NoMemory);
+    };
+    match settle_all(alloc, &mut keeper, reports) {
+        Ok(Some(outputs)) => Ok(outputs),
+        Ok(None) => match bell.rung() {
+            Some(Why::NoThread) => Err(RoomFault::NoThread),
+            _ => Err(RoomFault::NoMemory),
+        },
+        Err(_) => Err(RoomFault::NoMemory),
+    }
+}
+
 /// The reply to each input, as `solve_input` gives it: by a thread for each of 1 to 16 inputs, a thread for each of 1 to 16 benches,
 /// and a keeper. A line that asks for no bound is read with the default one.
 ///
@@ -183,18 +225,5 @@ pub fn serve<R: Threads + Wait + Sync, G: Gate>(
     ensures bad_benches { (result ≡ Err fault.BadBenches) ↔ (((1 ≤ length inputs.now) × (length inputs.now ≤ 16)) × ((benches ≡ 0) ⊎ (16 < benches))) }
     ensures good_ring { result ≢ Err fault.BadRing }
 {
-    let room = open_room(alloc, inputs.len(), benches, RING, default)?;
-    let bell = Bell::new();
-    let (mut keeper, reports) = run(rt, alloc, rays, room, inputs, gate, &bell);
-    let Ok(reports) = reports else {
-        return Err(RoomFault::NoMemory);
-    };
-    match settle_all(alloc, &mut keeper, reports) {
-        Ok(Some(outputs)) => Ok(outputs),
-        Ok(None) => match bell.rung() {
-            Some(Why::NoThread) => Err(RoomFault::NoThread),
-            _ => Err(RoomFault::NoMemory),
-        },
-        Err(_) => Err(RoomFault::NoMemory),
-    }
+    serve_with_memo(rt, alloc, rays, inputs, default, benches, ENTRIES, gate)
 }

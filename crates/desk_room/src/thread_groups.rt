@@ -112,6 +112,7 @@ pub(crate) fn work_all<R: Threads + Wait + Sync, G: Gate>(
     alloc: Global,
     rays: &Rays,
     mut benches: Vec<Bench>,
+    entries: usize,
     gate: &G,
     bell: &Bell,
 ) {
@@ -120,7 +121,7 @@ pub(crate) fn work_all<R: Threads + Wait + Sync, G: Gate>(
     };
     let number = benches.len();
     if number == 0 {
-        work(rt, alloc, rays, bench, number, gate, bell);
+        work(rt, alloc, rays, bench, number, entries, gate, bell);
         return;
     }
     thread::scope(
@@ -131,10 +132,10 @@ pub(crate) fn work_all<R: Threads + Wait + Sync, G: Gate>(
         {
             let others = move ||
                 requires { IsSync R.row × IsSync G.row }
-            { work_all(rt, alloc, rays, benches, gate, bell) };
+            { work_all(rt, alloc, rays, benches, entries, gate, bell) };
             match scope.spawn_with(Worked, others) {
                 Ok(child) => {
-                    work(rt, alloc, rays, bench, number, gate, bell);
+                    work(rt, alloc, rays, bench, number, entries, gate, bell);
                     child.join(rt);
                 }
                 Err(refused) => {

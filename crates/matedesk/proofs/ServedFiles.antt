@@ -71,17 +71,17 @@ stops_served holds refuses bound names inputs outputs (Err stop.NoReader) old ne
     record { whole = flat_map (λ o. o.text.items) outputs; shows = (nat_lt 0 (sum_by (λ o. o.refused) outputs), serves holds bound names inputs outputs _ held same many are refl); appends = part }
 
 -- The files were read and served.
-pub ends_served : (holds : Text → Option (List ℕ)) (refuses : Text → Type 0) → EndsByStatus holds refuses → (workers bound : ℕ) (names : List Text) (files : List (Vec ℕ Global)) (outputs written : List Output) (r : Result Bool Stop) (status : ℕ)
+pub ends_served : (holds : Text → Option (List ℕ)) (refuses : Text → Type 0) → EndsByStatus holds refuses → (workers bound memo : ℕ) (names : List Text) (files : List (Vec ℕ Global)) (outputs written : List Output) (r : Result Bool Stop) (status : ℕ)
     (old new : Option (List ℕ)) → status ≡ status_of r → written ≡ outputs → Holds holds names (map (λ f. f.items) files) → length files ≡ length names → ¬ ((length files ≡ 0) ⊎ (16 < length files))
     → AreReplies bound (map (λ f. f.items) files) outputs → IfOk r (λ refused. (refused ≡ nat_lt 0 (sum_by (λ o. o.refused) written)) × Appends old new (flat_map (λ o. o.text.items) written))
-    → IfErr r (λ s. is_of_output s ≡ true) → OnErr r (AppendsPart old new (flat_map (λ o. o.text.items) written)) → Ends holds refuses (Some (serve workers bound names)) status old new
-ends_served holds refuses ends_by workers bound names files outputs written r status old new is same held count many are ok output part =
+    → IfErr r (λ s. is_of_output s ≡ true) → OnErr r (AppendsPart old new (flat_map (λ o. o.text.items) written)) → Ends holds refuses (Some (serve workers bound memo names)) status old new
+ends_served holds refuses ends_by workers bound memo names files outputs written r status old new is same held count many are ok output part =
     let inputs = map (λ (f : Vec ℕ Global). f.items) files in
     let counted : length inputs ≡ length files = length-map files (λ f. f.items) in
     let all : length inputs ≡ length names = counted ∙ count in
     let here : ¬ ((length inputs ≡ 0) ⊎ (16 < length inputs)) = subst (λ n. ¬ ((n ≡ 0) ⊎ (16 < n))) (sym counted) many in
     let replies = subst (AreReplies bound inputs) (sym same) are in
-    ends_by (serve workers bound names) r status old new is (gains_served holds bound names inputs written r old new held all here replies ok)
+    ends_by (serve workers bound memo names) r status old new is (gains_served holds bound names inputs written r old new held all here replies ok)
     (stops_served holds refuses bound names inputs written r old new held all here replies output part)
 
 -- ---- what `serve` of the room answers
@@ -95,9 +95,9 @@ no_benches n some few (inr more) = absurd (omega (arith, few, more))
 
 -- ---- where nothing is shown
 
-in_vain : (holds : Text → Option (List ℕ)) (refuses : Text → Type 0) (workers bound : ℕ) (names : List Text) (old : Option (List ℕ)) → HaveNoWindows names
-    → Ends holds refuses (Some (serve workers bound names)) 2 old old
-in_vain holds refuses workers bound names old many = record {
+in_vain : (holds : Text → Option (List ℕ)) (refuses : Text → Type 0) (workers bound memo : ℕ) (names : List Text) (old : Option (List ℕ)) → HaveNoWindows names
+    → Ends holds refuses (Some (serve workers bound memo names)) 2 old old
+in_vain holds refuses workers bound memo names old many = record {
   answered = λ is. absurd (omega (arith, is));
   refused = λ is. absurd (omega (arith, is));
   misused = λ is. (many, Keeps-refl old);
@@ -106,9 +106,9 @@ in_vain holds refuses workers bound names old many = record {
   bounded = omega arith;
 }
 
-given_out : (holds : Text → Option (List ℕ)) (refuses : Text → Type 0) (workers bound : ℕ) (names : List Text) (old : Option (List ℕ))
-    → Ends holds refuses (Some (serve workers bound names)) 3 old old
-given_out holds refuses workers bound names old = record {
+given_out : (holds : Text → Option (List ℕ)) (refuses : Text → Type 0) (workers bound memo : ℕ) (names : List Text) (old : Option (List ℕ))
+    → Ends holds refuses (Some (serve workers bound memo names)) 3 old old
+given_out holds refuses workers bound memo names old = record {
   answered = λ is. absurd (omega (arith, is));
   refused = λ is. absurd (omega (arith, is));
   misused = λ is. absurd (omega (arith, is));
@@ -117,18 +117,18 @@ given_out holds refuses workers bound names old = record {
   bounded = omega arith;
 }
 
-unserved_by : (holds : Text → Option (List ℕ)) (refuses : Text → Type 0) (workers bound : ℕ) (names : List Text) (f : RoomFault) (old : Option (List ℕ)) → (f ≡ fault.BadWindows → HaveNoWindows names)
-    → f ≢ fault.BadBenches → f ≢ fault.BadRing → Ends holds refuses (Some (serve workers bound names)) (unserved_status f) old old
-unserved_by holds refuses workers bound names fault.BadWindows old windows benches ring = in_vain holds refuses workers bound names old (windows refl)
-unserved_by holds refuses workers bound names fault.BadBenches old windows benches ring = absurd (benches refl)
-unserved_by holds refuses workers bound names fault.BadRing old windows benches ring = absurd (ring refl)
-unserved_by holds refuses workers bound names fault.NoMemory old windows benches ring = given_out holds refuses workers bound names old
-unserved_by holds refuses workers bound names fault.NoThread old windows benches ring = given_out holds refuses workers bound names old
+unserved_by : (holds : Text → Option (List ℕ)) (refuses : Text → Type 0) (workers bound memo : ℕ) (names : List Text) (f : RoomFault) (old : Option (List ℕ)) → (f ≡ fault.BadWindows → HaveNoWindows names)
+    → f ≢ fault.BadBenches → f ≢ fault.BadRing → Ends holds refuses (Some (serve workers bound memo names)) (unserved_status f) old old
+unserved_by holds refuses workers bound memo names fault.BadWindows old windows benches ring = in_vain holds refuses workers bound memo names old (windows refl)
+unserved_by holds refuses workers bound memo names fault.BadBenches old windows benches ring = absurd (benches refl)
+unserved_by holds refuses workers bound memo names fault.BadRing old windows benches ring = absurd (ring refl)
+unserved_by holds refuses workers bound memo names fault.NoMemory old windows benches ring = given_out holds refuses workers bound memo names old
+unserved_by holds refuses workers bound memo names fault.NoThread old windows benches ring = given_out holds refuses workers bound memo names old
 
 -- The files were read, and not served.
-pub ends_unserved : (holds : Text → Option (List ℕ)) (refuses : Text → Type 0) (workers bound : ℕ) (names : List Text) (files : List (Vec ℕ Global)) (f : RoomFault) (status : ℕ) (old : Option (List ℕ))
+pub ends_unserved : (holds : Text → Option (List ℕ)) (refuses : Text → Type 0) (workers bound memo : ℕ) (names : List Text) (files : List (Vec ℕ Global)) (f : RoomFault) (status : ℕ) (old : Option (List ℕ))
     → status ≡ unserved_status f → length files ≡ length names → (f ≡ fault.BadWindows → (length files ≡ 0) ⊎ (16 < length files)) → f ≢ fault.BadBenches → f ≢ fault.BadRing
-    → Ends holds refuses (Some (serve workers bound names)) status old old
-ends_unserved holds refuses workers bound names files f status old is counted windows benches ring =
+    → Ends holds refuses (Some (serve workers bound memo names)) status old old
+ends_unserved holds refuses workers bound memo names files f status old is counted windows benches ring =
     let many : f ≡ fault.BadWindows → HaveNoWindows names = λ bad. subst (λ n. (n ≡ 0) ⊎ (16 < n)) counted (windows bad) in
-    subst (λ n. Ends holds refuses (Some (serve workers bound names)) n old old) (sym is) (unserved_by holds refuses workers bound names f old many benches ring)
+    subst (λ n. Ends holds refuses (Some (serve workers bound memo names)) n old old) (sym is) (unserved_by holds refuses workers bound memo names f old many benches ring)

@@ -30,11 +30,11 @@ pub asked_look : asked (codes "matedesk" ∷ codes "look" ∷ codes "k7/8/8/8/8/
 unfolding clap_on_literals asked_by asked_exactly escaped
 asked_look = refl
 
-pub asked_solve : asked (codes "matedesk" ∷ codes "solve" ∷ codes "one" ∷ codes "two" ∷ []) ≡ Some (solve 3 (codes "one" ∷ codes "two" ∷ []))
+pub asked_solve : asked (codes "matedesk" ∷ codes "solve" ∷ codes "one" ∷ codes "two" ∷ []) ≡ Some (solve 3 65536 (codes "one" ∷ codes "two" ∷ []))
 unfolding clap_on_literals asked_by asked_exactly escaped
 asked_solve = refl
 
-pub asked_serve : asked (codes "matedesk" ∷ codes "serve" ∷ codes "--workers" ∷ codes "2" ∷ codes "one" ∷ codes "two" ∷ []) ≡ Some (serve 2 3 (codes "one" ∷ codes "two" ∷ []))
+pub asked_serve : asked (codes "matedesk" ∷ codes "serve" ∷ codes "--workers" ∷ codes "2" ∷ codes "one" ∷ codes "two" ∷ []) ≡ Some (serve 2 3 16384 (codes "one" ∷ codes "two" ∷ []))
 unfolding clap_on_literals asked_by asked_exactly escaped
 asked_serve = refl
 

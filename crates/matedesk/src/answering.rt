@@ -34,9 +34,9 @@ fn serve_command<R: Threads + Wait + Sync, S: Source, O: Write, E: Write>(
     };
     let request = request_of(&matches);
     match &request {
-        Some(Request::Serve(workers, bound, names)) => {
-            serve(rt, alloc, *workers, *bound, names, source, out, err)
-        }
+        Some(Request::Serve(workers, bound, memo, names)) => serve(
+            rt, alloc, *workers, *bound, *memo, names, source, out, err,
+        ),
         _ => unreachable!(),
     }
 }

@@ -7,7 +7,7 @@ ghost use Rattle.matedesk.specs.Serving.{unserved_status};
 
 use chess_moves::Rays;
 use chess_problems::Bound;
-use command_words::Workers;
+use command_words::{MemoSize, Workers};
 use desk_room::{OpenGate, RoomFault};
 use plain_commands::{
     MISUSED, NO_THREAD, Source, complain, ends_by_status, no_memory, put_outputs, read_files,
@@ -32,19 +32,20 @@ fn unserved<E: Write>(fault: RoomFault, err: &mut E) -> u8
     }
 }
 
-/// Answers each line of each file as `solve` does, on threads: one for each file and one for each worker. All files are read before
-/// any thread is started, and all answers made before any of them is written.
+/// Answers each line of each file as `solve` does, on threads: one for each file and one for each worker, which has a memo of such a
+/// size. All files are read before any thread is started, and all answers made before any of them is written.
 pub fn serve<R: Threads + Wait + Sync, S: Source, O: Write, E: Write>(
     rt: &R,
     alloc: Global,
     workers: Workers,
     bound: Bound,
+    memo: MemoSize,
     names: &[&str],
     source: &S,
     out: &mut O,
     err: &mut E,
 ) -> u8
-    ensures { Ends (S.holds source.now) (S.refuses source.now) (Some (serve_asked workers bound (map (λ s. s.now) names.now))) result (O.contents out.old) (O.contents out.new) }
+    ensures { Ends (S.holds source.now) (S.refuses source.now) (Some (serve_asked workers bound memo (map (λ s. s.now) names.now))) result (O.contents out.old) (O.contents out.new) }
 {
     // How it ends with the status of what was written.
     ends_by_status(source);
@@ -54,13 +55,14 @@ pub fn serve<R: Threads + Wait + Sync, S: Source, O: Write, E: Write>(
     };
     let rays = Rays::new();
     let benches = workers.get() as usize;
-    match desk_room::serve(
+    match desk_room::serve_with_memo(
         rt,
         alloc,
         &rays,
         files.as_slice(),
         bound,
         benches,
+        memo.get() as usize,
         &OpenGate,
     ) {
         Ok(outputs) => status_of(put_outputs(out, outputs.as_slice()), err),

@@ -17,17 +17,17 @@ stops_unread none holds refuses None old new kept = kept
 stops_unread none holds refuses (Some (look fen)) old new kept = kept
 stops_unread none holds refuses (Some (moves fen)) old new kept = kept
 stops_unread none holds refuses (Some (perft fen depth)) old new kept = kept
-stops_unread none holds refuses (Some (solve bound names)) old new kept =
+stops_unread none holds refuses (Some (solve bound memo names)) old new kept =
     record { gained = []; shows = none holds bound names; appends = Appends-kept old old new [] (Appends-nil old) kept }
-stops_unread none holds refuses (Some (serve workers bound names)) old new kept = kept
+stops_unread none holds refuses (Some (serve workers bound memo names)) old new kept = kept
 stops_unread none holds refuses (Some (replay name)) old new kept = kept
 
 no_reader : (holds : Text → Option (List ℕ)) (refuses : Text → Type 0) (a : Asked) (old new : Option (List ℕ)) → Stops holds refuses a stop.NoReader old new → Stops holds refuses a stop.Unwritable old new
 no_reader holds refuses (look fen) old new stops = stops
 no_reader holds refuses (moves fen) old new stops = stops
 no_reader holds refuses (perft fen depth) old new stops = stops
-no_reader holds refuses (solve bound names) old new stops = stops
-no_reader holds refuses (serve workers bound names) old new stops = stops
+no_reader holds refuses (solve bound memo names) old new stops = stops
+no_reader holds refuses (serve workers bound memo names) old new stops = stops
 no_reader holds refuses (replay name) old new stops = stops
 
 ends_here : (holds : Text → Option (List ℕ)) (refuses : Text → Type 0) (a : Asked) (r : Result Bool Stop) (old new : Option (List ℕ)) → IfOk r (λ refused. Gains (Shows holds a refused) old new)

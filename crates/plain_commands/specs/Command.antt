@@ -13,13 +13,14 @@ use Rattle.plain_commands.specs.Replayed.{ReplaysFile, StopsReplaying}
 use Rattle.plain_commands.specs.Solved.{Solves, StopsSolving}
 use Rattle.plain_commands.specs.Served.{HaveNoWindows, Serves}
 
--- what a command shows where names hold such inputs, and whether anything that it was given is refused
+-- What a command shows where names hold such inputs, and whether anything that it was given is refused. The size of a memo and the
+-- number of workers change nothing of it.
 abbrev pub Shows : (Text → Option (List ℕ)) → Asked → Bool → List ℕ → Type 0
 Shows holds (look fen) refused text = ShowsFen look_text fen refused text
 Shows holds (moves fen) refused text = ShowsFen moves_text fen refused text
 Shows holds (perft fen depth) refused text = ShowsFen (perft_text depth) fen refused text
-Shows holds (solve bound names) refused text = Solves holds bound names refused text
-Shows holds (serve workers bound names) refused text = Serves holds bound names refused text
+Shows holds (solve bound memo names) refused text = Solves holds bound names refused text
+Shows holds (serve workers bound memo names) refused text = Serves holds bound names refused text
 Shows holds (replay name) refused text = ReplaysFile (holds name) refused text
 
 -- What the output gained where `serve` stops: nothing where memory gives out, no thread is to be had or a file can't be read, which
@@ -31,8 +32,8 @@ StopsServing holds refuses bound names Unwritable old new = GainsPart (λ text. 
 StopsServing holds refuses bound names NoReader old new = GainsPart (λ text. (refused : Bool) × Serves holds bound names refused text) old new
 
 abbrev pub Stops : (Text → Option (List ℕ)) → (Text → Type 0) → Asked → Stop → (old new : Option (List ℕ)) → Type 0
-Stops holds refuses (solve bound names) stop old new = StopsSolving holds refuses bound names stop old new
-Stops holds refuses (serve workers bound names) stop old new = StopsServing holds refuses bound names stop old new
+Stops holds refuses (solve bound memo names) stop old new = StopsSolving holds refuses bound names stop old new
+Stops holds refuses (serve workers bound memo names) stop old new = StopsServing holds refuses bound names stop old new
 Stops holds refuses (replay name) stop old new = StopsReplaying (holds name) (refuses name) stop old new
 Stops holds refuses asks stop old new = StopsOverFen (Shows holds asks false) stop old new
 
@@ -44,7 +45,7 @@ StopsBy holds refuses (Some asks) stop old new = Stops holds refuses asks stop o
 -- The words ask for nothing, or for `serve` with more files than there are windows for.
 abbrev pub AsksInVain : Option Asked → Type 0
 AsksInVain None = ⊤
-AsksInVain (Some (serve workers bound names)) = HaveNoWindows names
+AsksInVain (Some (serve workers bound memo names)) = HaveNoWindows names
 AsksInVain (Some asks) = ⊥
 
 -- How the program ends, by what the words ask for, what names hold, and which names may be refused. Help and the version are

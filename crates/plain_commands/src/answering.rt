@@ -43,7 +43,9 @@ fn answer<S: Source, O: Write, E: Write>(
         Request::Look(fen) => show_fen(alloc, FenCommand::Look, fen, out, err),
         Request::Moves(fen) => show_fen(alloc, FenCommand::Moves, fen, out, err),
         Request::Perft(fen, depth) => show_fen(alloc, FenCommand::Perft(*depth), fen, out, err),
-        Request::Solve(bound, names) => solve(alloc, *bound, names, source, out, err),
+        Request::Solve(bound, memo, names) => {
+            solve(alloc, *bound, *memo, names, source, out, err)
+        }
         Request::Serve(..) => unreachable!(),
         Request::Replay(name) => replay(alloc, name, source, out, err),
     }

@@ -16,6 +16,9 @@ use mate_desk::{Reply, RunFault, reply_text, run};
 use std::alloc::Global;
 use std::io::Write;
 
+/// How many entries the memo of a script has.
+const MEMO_ENTRIES: usize = 65_536;
+
 /// The script that a text is; none where a line is at fault, whose number is said on `err`.
 fn script_in<E: Write>(alloc: Global, text: &[u8], err: &mut E) -> Result<Option<Script>, Stop>
     ensures script { IfOk result (λ found. IfSome found (λ script. IsScript text.now (script_value script))) }
@@ -52,7 +55,7 @@ fn run_text<E: Write>(alloc: Global, script: &Script, err: &mut E) -> Result<Opt
     ensures err { IfErr result (λ stop. stop ≡ Stop.NoMemory) }
 {
     let rays = Rays::new();
-    let mut memo = new_memo(alloc)?;
+    let mut memo = new_memo(alloc, MEMO_ENTRIES)?;
     let steps = script.steps.as_slice();
     match run(
         alloc,

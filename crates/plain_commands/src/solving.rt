@@ -1,6 +1,6 @@
 //! The command `solve`.
 
-ghost use Rattle.std.specs.Prelude.{◌≡◌, ℕ, List, IfErr, IfOk, map, nat_lt};
+ghost use Rattle.std.specs.Prelude.{◌≡◌, ◌≤◌, ℕ, List, IfErr, IfOk, map, nat_lt};
 ghost use Rattle.std.specs.Io.KnownBytes.{Appends};
 ghost use Rattle.byte_streams.specs.Inputs.{MayBe};
 ghost use Rattle.mate_answers.specs.InputReplies.{IsReply, IsReplyToFirst};
@@ -13,19 +13,19 @@ use crate::writing::complain_unreadable;
 use byte_streams::Stop;
 use chess_moves::Rays;
 use chess_problems::Bound;
+use command_words::MemoSize;
 use mate_answers::answer_input;
 use mate_search::{Memo, MemoFault};
 use std::alloc::Global;
 use std::io::Write;
 
-/// How many positions the memo of a run keeps.
-const MEMO_ENTRIES: usize = 65_536;
-
-/// The memo of a run. Its size is one that a memo may have.
-pub fn new_memo(alloc: Global) -> Result<Memo, Stop>
-    ensures { IfErr result (λ stop. stop ≡ Stop.NoMemory) }
+/// An empty memo with room for so many entries, 1 to 65,536.
+pub fn new_memo(alloc: Global, entries: usize) -> Result<Memo, Stop>
+    requires { (1 ≤ entries) × (entries ≤ 65536) }
+    ensures room { IfOk result (λ memo. memo.room ≡ entries) }
+    ensures err { IfErr result (λ stop. stop ≡ Stop.NoMemory) }
 {
-    match Memo::new(alloc, MEMO_ENTRIES) {
+    match Memo::new(alloc, entries) {
         Ok(memo) => Ok(memo),
         Err(MemoFault::NoMemory) => Err(Stop::NoMemory),
         Err(MemoFault::BadSize) => unreachable!(),
@@ -52,11 +52,12 @@ fn solve_file<S: Source, O: Write>(
     answer_input(alloc, rays, file, bound, memo, out)
 }
 
-/// Answers each line of each file in order, and opens a file only after the answers to those before were written; gives
-/// whether a line was refused. A file that can't be read is named on `err`.
+/// Answers each line of each file in order, over one memo of such a size, and opens a file only after the answers to those before
+/// were written; gives whether a line was refused. A file that can't be read is named on `err`.
 pub fn solve<S: Source, O: Write, E: Write>(
     alloc: Global,
     bound: Bound,
+    size: MemoSize,
     names: &[&str],
     source: &S,
     out: &mut O,
@@ -68,7 +69,7 @@ pub fn solve<S: Source, O: Write, E: Write>(
     // How the files that are solved so far go on with the next.
     holds_reads();
     let rays = Rays::new();
-    let mut memo = new_memo(alloc)?;
+    let mut memo = new_memo(alloc, size.get() as usize)?;
     let mut refused = false;
     for name in names {
         match solve_file(alloc, &rays, bound, name, source, &mut memo, out) {

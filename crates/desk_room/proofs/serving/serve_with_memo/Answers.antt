@@ -1,7 +1,7 @@
 use Rattle.std.proofs.Common.{map, rules}
 use Rattle.desk_room.specs.inside.Threads.{AllReport, AllSettled}
 use Rattle.desk_room.proofs.Joined.{all_of, are_replies, of_ok, opened_fresh}
-use Rattle.desk_room.proofs.serving.serve.Goals as goal
+use Rattle.desk_room.proofs.serving.serve_with_memo.Goals as goal
 
 pub run-keeper-requires-clause-fresh : goal.run-keeper-requires-clause-fresh
 run-keeper-requires-clause-fresh g c κs within = opened_fresh 8 c.args.default 0 c.in_ok-room.room.windows.items c.in_ok-room.room.keeper.lines.items c.in_ok-room.ensures.opened
