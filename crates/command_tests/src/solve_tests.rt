@@ -30,6 +30,8 @@ fn solve_answers_each_line_of_each_file(rt: HostRuntime) -> Result<(), Fail> {
         ("empty", ""),
     ];
     let mates = "7k/8/5K2/8/8/8/8/R7 w - - bm Kf7 Kg6; dm 2; pv Kg6 Kg8 Ra8#;\n";
+    let both =
+        "7k/8/5K2/8/8/8/8/R7 w - - bm Kf7 Kg6; dm 2; pv Kg6 Kg8 Ra8#;\n7k/8/5K2/8/8/8/8/R7 w - - bm Kf7 Kg6; dm 2; pv Kg6 Kg8 Ra8#;\n";
     let none = "7k/8/5K2/8/8/8/8/R7 w - - c0 \"no mate in 1\";\n";
     let back_rank =
         "# line 3: Fen BadKings\n6k1/5ppp/8/8/8/8/8/R3K3 w Q - bm Ra8#; dm 1; pv Ra8#;\n";
@@ -40,6 +42,10 @@ fn solve_answers_each_line_of_each_file(rt: HostRuntime) -> Result<(), Fail> {
         ("solve --bound 1 plain", ALWAYS, 0, none),
         ("solve plain --bound 1", ALWAYS, 0, none),
         ("solve --bound 1 two", ALWAYS, 0, mates),
+        ("solve --memo 1 two plain", ALWAYS, 0, both),
+        ("solve two --memo 16384 plain", ALWAYS, 0, both),
+        ("solve two plain --memo 65536", ALWAYS, 0, both),
+        ("solve --memo 1 --bound 1 plain", ALWAYS, 0, none),
         ("solve four", ALWAYS, 1, back_rank),
         ("solve four empty", ALWAYS, 1, back_rank),
         ("solve bad bad", ALWAYS, 1, twice),
