@@ -1,5 +1,5 @@
 -- After a move each right that is left has its king and its rook at home.
-use Rattle.std.proofs.Common.{◌≡◌, ◌≢◌, ◌⊎◌, ℕ, true, false, not, ◌&&◌, eqb, refl, sym, ap, ◌∙◌, inl, inr, arith}
+use Rattle.std.proofs.Common.{◌≡◌, ◌≢◌, ◌⊎◌, ◌||◌, ℕ, Bool, true, false, not, ◌&&◌, eqb, refl, sym, ap, ◌∙◌, inl, inr, arith}
 use Rattle.std.proofs.lemmas.Bool.{and_parts, or_parts, and_from, eqb-false, not-true}
 use Rattle.chess_board.specs.declared.men.Colour.{Colour}
 use Rattle.chess_board.specs.declared.men.Colour.TheVariants.{White, Black}
@@ -14,6 +14,7 @@ use Rattle.chess_board.specs.Men.{has_right_of}
 use Rattle.chess_board.specs.inside.KindTests.{is_king_of, is_rook_of}
 use Rattle.chess_board.specs.Soundness.{IsSound, has_men_of_right, has_men_of_rights}
 use Rattle.chess_board.specs.MakeMove.{becomes, men_after}
+use Rattle.chess_board.specs.inside.Homes.{is_home}
 use Rattle.chess_board.specs.Castling.{king_home, rook_home, king_goal, rook, touches, right_after, rights_after}
 use Rattle.chess_board.specs.EnPassant.{captured_pawn}
 use Rattle.chess_board.proofs.MenMoved.{moved_other, cleared_other}
@@ -116,3 +117,31 @@ rights_kept p colour kind m sound sh =
     let c = right_kept p colour kind m sound sh Black KingSide in
     let d = right_kept p colour kind m sound sh Black QueenSide in
     and_from _ _ (and_from _ _ (and_from _ _ a b) c) d
+
+-- A move that touches no home square loses no right.
+unhomed : (s : ℕ) → is_home s ≡ false
+    → (eqb s 0 ≡ false) × (eqb s 4 ≡ false) × (eqb s 7 ≡ false) × (eqb s 56 ≡ false) × (eqb s 60 ≡ false) × (eqb s 63 ≡ false)
+unhomed s away =
+    let e = or_parts (eqb s 0 || eqb s 4 || eqb s 7 || eqb s 56 || eqb s 60) (eqb s 63) away in
+    let d = or_parts (eqb s 0 || eqb s 4 || eqb s 7 || eqb s 56) (eqb s 60) e.0 in
+    let c = or_parts (eqb s 0 || eqb s 4 || eqb s 7) (eqb s 56) d.0 in
+    let b = or_parts (eqb s 0 || eqb s 4) (eqb s 7) c.0 in
+    let a = or_parts (eqb s 0) (eqb s 4) b.0 in
+    (a.0, a.1, b.1, c.1, d.1, e.1)
+
+pub rights_kept_away : (rights : Rights) (m : Move) → (is_home m.origin || is_home m.target) ≡ false → rights ≡ rights_after rights m
+rights_kept_away rights m away =
+    let far = or_parts (is_home m.origin) (is_home m.target) away in
+    let a = unhomed m.origin far.0 in
+    let b = unhomed m.target far.1 in
+    rw (a.0, a.1, a.2, a.3, a.4, a.5, b.0, b.1, b.2, b.3, b.4, b.5)
+    (λ i. record {
+      white_king_side = and_two rights.white_king_side i;
+      white_queen_side = and_two rights.white_queen_side i;
+      black_king_side = and_two rights.black_king_side i;
+      black_queen_side = and_two rights.black_queen_side i;
+    })
+  where
+    and_two : (x : Bool) → x ≡ (x && true && true)
+    and_two true = refl
+    and_two false = refl

@@ -3,3 +3,4 @@ pub mod Boards
 pub mod Hashing
 pub mod Walks
 pub mod RankReading
+pub mod Homes

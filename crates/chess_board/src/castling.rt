@@ -1,7 +1,8 @@
 //! Castling: where king and rook stand before and after it, when it is allowed, and how a right to it is lost (FIDE Laws of Chess,
 //! article 3.8).
 
-ghost use Rattle.std.specs.Prelude.{◌≡◌};
+ghost use Rattle.std.specs.Prelude.{◌≡◌, ◌||◌};
+ghost use Rattle.chess_board.specs.inside.Homes.{is_home};
 ghost use Rattle.chess_board.specs.Castling.{king_home, rook_home, king_goal, castles_to, castles, is_castling, wing_of, castled, touches, right_after, rights_after};
 
 use crate::attacks::is_clear;
@@ -112,14 +113,33 @@ fn right_after(rights: Rights, m: Move, colour: Colour, wing: Wing) -> bool
         && !touches(m, rook_home(colour, wing))
 }
 
-/// The castling rights that are left after a move.
+/// Whether a king or a rook stands on the square before it castles.
+fn is_home(square: Square) -> bool
+    ensures { result ≡ is_home square }
+{
+    matches!(square.index(), 0 | 4 | 7 | 56 | 60 | 63)
+}
+
+/// Whether a move leaves or reaches such a square.
+fn touches_home(m: Move) -> bool
+    ensures { result ≡ (is_home m.origin || is_home m.target) }
+{
+    is_home(m.origin) || is_home(m.target)
+}
+
+/// The castling rights that are left after a move. Most moves touch no home square, and no right is lost then.
+#[tactic(auto, using(crate::proofs::AfterRights::rights_kept_away))]
 pub(crate) fn rights_after(rights: Rights, m: Move) -> Rights
     ensures { result ≡ rights_after rights m }
 {
-    Rights {
-        white_king_side: right_after(rights, m, Colour::White, Wing::KingSide),
-        white_queen_side: right_after(rights, m, Colour::White, Wing::QueenSide),
-        black_king_side: right_after(rights, m, Colour::Black, Wing::KingSide),
-        black_queen_side: right_after(rights, m, Colour::Black, Wing::QueenSide),
+    if touches_home(m) {
+        Rights {
+            white_king_side: right_after(rights, m, Colour::White, Wing::KingSide),
+            white_queen_side: right_after(rights, m, Colour::White, Wing::QueenSide),
+            black_king_side: right_after(rights, m, Colour::Black, Wing::KingSide),
+            black_queen_side: right_after(rights, m, Colour::Black, Wing::QueenSide),
+        }
+    } else {
+        rights
     }
 }
