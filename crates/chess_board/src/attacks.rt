@@ -24,7 +24,7 @@ fn is_bishop_line(a: Square, b: Square) -> bool
 }
 
 /// Whether b is so many ranks in front of a, as the colour's pawns go.
-pub(crate) fn is_forward(colour: Colour, steps: u8, a: Square, b: Square) -> bool
+fn is_forward(colour: Colour, steps: u8, a: Square, b: Square) -> bool
     requires { steps < 8 }
     ensures { result ≡ forward colour steps a b }
 {
@@ -51,7 +51,7 @@ fn toward(from: u8, to: u8, steps: u8) -> u8
 }
 
 /// Whether no man stands strictly between two squares in line: walks from a to b.
-pub(crate) fn is_clear(men: &Board, a: Square, b: Square) -> bool
+fn is_clear(men: &Board, a: Square, b: Square) -> bool
     requires { (rook_line a b || bishop_line a b) ≡ true }
     ensures { result ≡ clear men.now a b }
 {
@@ -67,7 +67,7 @@ pub(crate) fn is_clear(men: &Board, a: Square, b: Square) -> bool
 }
 
 /// Whether a man on a attacks b.
-pub(crate) fn attacks_as(men: &Board, man: Man, a: Square, b: Square) -> bool
+fn attacks_as(men: &Board, man: Man, a: Square, b: Square) -> bool
     ensures { result ≡ attacks men.now man.colour man.kind a b }
 {
     match man.kind {
@@ -95,7 +95,7 @@ fn attacks_from(men: &Board, by: Colour, from: Square, square: Square) -> bool
 }
 
 /// Whether some man of the colour attacks the square.
-pub(crate) fn is_attacked_by(men: &Board, square: Square, by: Colour) -> bool
+fn is_attacked_by(men: &Board, square: Square, by: Colour) -> bool
     ensures { result ≡ is_attacked men.now square by }
 {
     for number in 0..64 {

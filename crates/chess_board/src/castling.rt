@@ -1,15 +1,12 @@
-//! Castling: where king and rook stand before and after it, when it is allowed, and how a right to it is lost (FIDE Laws of Chess,
-//! article 3.8).
+//! Castling: where king and rook stand before and after it, and how a right to it is lost (FIDE Laws of Chess, article 3.8).
 
 ghost use Rattle.std.specs.Prelude.{◌≡◌, ◌||◌};
 ghost use Rattle.chess_board.specs.inside.Homes.{is_home};
-ghost use Rattle.chess_board.specs.Castling.{king_home, rook_home, king_goal, castles_to, castles, is_castling, wing_of, castled, touches, right_after, rights_after};
+ghost use Rattle.chess_board.specs.Castling.{king_home, rook_home, king_goal, is_castling, wing_of, castled, touches, right_after, rights_after};
 
-use crate::attacks::is_clear;
 use crate::boards::Board;
 use crate::men::{Colour, Kind, Man, Rights, Wing};
 use crate::moves::Move;
-use crate::positions::Position;
 use crate::squares::{Square, crossed, file_gap_of};
 
 /// Where the king stands before it castles: e1 or e8 (FIDE Laws of Chess, article 2.3).
@@ -44,28 +41,6 @@ pub fn king_goal(colour: Colour, wing: Wing) -> Square
         (Colour::Black, Wing::KingSide) => Square::numbered(62),
         (Colour::Black, Wing::QueenSide) => Square::numbered(58),
     }
-}
-
-/// Whether the king may castle on a wing: the right, a clear way to the rook, and no attack on the square on which the king
-/// stands, the one that it crosses and the one that it reaches (article 3.8.2).
-fn castles_to(position: &Position, colour: Colour, wing: Wing, a: Square, b: Square) -> bool
-    ensures { result ≡ castles_to position.now colour wing a b }
-{
-    position.has_right(colour, wing)
-        && a == king_home(colour)
-        && b == king_goal(colour, wing)
-        && is_clear(position.board(), a, rook_home(colour, wing))
-        && !position.is_attacked(a, colour.other())
-        && !position.is_attacked(crossed(a, b), colour.other())
-        && !position.is_attacked(b, colour.other())
-}
-
-/// Whether the king may castle on one of the wings.
-pub(crate) fn castles(position: &Position, colour: Colour, a: Square, b: Square) -> bool
-    ensures { result ≡ castles position.now colour a b }
-{
-    castles_to(position, colour, Wing::KingSide, a, b)
-        || castles_to(position, colour, Wing::QueenSide, a, b)
 }
 
 /// Whether a move is castling: its king goes two files (FIDE Laws of Chess, article 3.8.2). Of a legal move no other king does so.

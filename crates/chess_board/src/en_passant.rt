@@ -1,10 +1,8 @@
 //! Capture en passant: its target, and the pawn that is captured (FIDE Laws of Chess, article 3.7).
 
 ghost use Rattle.std.specs.Prelude.{◌≡◌};
-ghost use Rattle.chess_board.specs.declared.men.Kind.TheVariants as kind;
-ghost use Rattle.chess_board.specs.EnPassant.{target_after, is_square, takes_en_passant, is_en_passant, captured_pawn};
+ghost use Rattle.chess_board.specs.EnPassant.{target_after, is_square, is_en_passant, captured_pawn};
 
-use crate::attacks::attacks_as;
 use crate::men::{Kind, Man};
 use crate::moves::Move;
 use crate::positions::Position;
@@ -29,14 +27,6 @@ fn is_square(target: &Option<Square>, square: Square) -> bool
         Some(target) => *target == square,
         None => false,
     }
-}
-
-/// Whether a pawn may capture en passant.
-pub(crate) fn takes_en_passant(position: &Position, man: Man, a: Square, b: Square) -> bool
-    requires { man.kind ≡ kind.Pawn }
-    ensures { result ≡ takes_en_passant position.now man.colour a b }
-{
-    attacks_as(position.board(), man, a, b) && is_square(&position.ep_target(), b)
 }
 
 /// Whether a man's move is a capture en passant: a pawn goes to the target (FIDE Laws of Chess, article 3.7). Of a legal move it can

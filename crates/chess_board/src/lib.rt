@@ -1,12 +1,12 @@
-//! Squares, men, sound positions, attack, FEN, and moves: which are legal, and the position after one.
+//! Squares, men, sound positions, attack, FEN, moves, and the position after one.
 //!
 //! A `Position` is always sound: its type keeps it. What it is to a caller stands in `specs/Positions.antt` (the men on 64
-//! squares, the side to move, the castling rights, the en passant target) and not in how it is kept. Lists of legal moves
-//! are none of this crate's business.
+//! squares, the side to move, the castling rights, the en passant target) and not in how it is kept. Which moves are legal
+//! is defined here, in `specs/Legality.antt`, since `after` asks for it; to tell them is none of this crate's business.
 //!
 //! To read: `squares`, `men`, `boards`, `attacks`, `setups`, `soundness`, `positions`; then `placement`, `fields` and `fens`, the text
-//! of a position field by field, over `cuts` and `faults`; then `moves`, `castling` and `en_passant`, `pseudo_legal`, `make_move` and
-//! `legality`. No call takes memory.
+//! of a position field by field, over `cuts` and `faults`; then `moves`, `castling`, `en_passant` and `make_move`. No call takes
+//! memory.
 #![tactic(auto)]
 
 mod attacks;
@@ -18,13 +18,11 @@ mod faults;
 mod fens;
 mod fields;
 mod laws;
-mod legality;
 mod make_move;
 mod men;
 mod moves;
 mod placement;
 mod positions;
-mod pseudo_legal;
 mod setups;
 mod soundness;
 mod squares;
@@ -36,9 +34,8 @@ pub use fens::{Fen, read_fen, read_fields, reads_back};
 pub use laws::{
     attacked_reads, clear_reads, equal_reads, legal_reads, printed_spells, sound_after, spells_one,
 };
-pub use legality::is_legal;
 pub use make_move::after;
 pub use men::{Colour, Kind, Man, Rights, Wing};
 pub use moves::{Move, comes_before};
-pub use positions::{Position, is_same_position};
+pub use positions::Position;
 pub use squares::{Square, push_square};

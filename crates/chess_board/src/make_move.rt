@@ -25,8 +25,8 @@ fn becomes(man: Man, promotion: Option<Kind>) -> Man
     }
 }
 
-/// The men after a man's move, on a plain board: nobody asks here whether they are sound.
-pub(crate) fn men_after(position: &Position, man: Man, m: Move) -> Board
+/// The men after a man's move.
+fn men_after(position: &Position, man: Man, m: Move) -> Board
     ensures { result ≡ men_after position.now man m }
 {
     let men = position.board();

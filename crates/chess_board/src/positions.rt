@@ -1,16 +1,16 @@
 //! Sound positions.
 
-ghost use Rattle.std.specs.Prelude.{◌≡◌, ◌<◌, ◌↔◌, is_some, IsTrue, IfOk, OnOk, IfErr, IfSome};
+ghost use Rattle.std.specs.Prelude.{◌≡◌, ◌<◌, is_some, IfOk, OnOk, IfErr, IfSome};
 ghost use Rattle.chess_board.specs.declared.men.Kind.TheVariants as kind;
 ghost use Rattle.chess_board.specs.Positions.{man_at};
 ghost use Rattle.chess_board.specs.Men.{has_right_of, is_man, man_of};
 ghost use Rattle.chess_board.specs.Sets.{IsSetOf};
 ghost use Rattle.chess_board.specs.inside.Hashing.{state_word};
-ghost use Rattle.chess_board.specs.Attacks.{is_attacked, is_in_check};
+ghost use Rattle.chess_board.specs.Attacks.{is_in_check};
 ghost use Rattle.chess_board.specs.Soundness.{IsSound};
 ghost use Rattle.chess_board.specs.Faults.{IsFirst, IsUnsoundBy, position_faults};
 
-use crate::attacks::{is_attacked_by, is_king_in_check};
+use crate::attacks::is_king_in_check;
 use crate::boards::Board;
 use crate::faults::FenFault;
 use crate::men::{Colour, Kind, Man, Rights, Wing};
@@ -148,14 +148,6 @@ impl Position {
         self.board.king(colour)
     }
 
-    /// Whether some man of the colour attacks the square, whoever stands there, and whether or not that man may move (FIDE Laws of
-    /// Chess, articles 3.1.2 and 3.1.3).
-    pub fn is_attacked(&self, square: Square, by: Colour) -> bool
-        ensures { result ≡ is_attacked self.now.men square by }
-    {
-        is_attacked_by(&self.board, square, by)
-    }
-
     /// Whether the side to move is in check: its king is attacked (FIDE Laws of Chess, article 3.9.1).
     pub fn in_check(&self) -> bool
         ensures { result ≡ is_in_check self.now.men self.now.side }
@@ -178,16 +170,6 @@ fn state_word(side: Colour, rights: Rights, target: &Option<Square>) -> u64
         + 8 * u64::from(rights.black_king_side)
         + 16 * u64::from(rights.black_queen_side)
         + 32 * passed
-}
-
-/// Whether two positions are one: `==` by what contracts see.
-pub fn is_same_position(a: &Position, b: &Position) -> bool
-    ensures { IsTrue result ↔ (a.now ≡ b.now) }
-{
-    // A part of each is read, so that the proof knows both to be sound.
-    let _ = &a.board;
-    let _ = &b.board;
-    *a == *b
 }
 
 /// The position with these parts, or the first fault that makes them unsound.

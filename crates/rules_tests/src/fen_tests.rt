@@ -1,9 +1,7 @@
 //! FEN in tables: what is read and printed, what is refused, and which of two faults is answered.
 
 use crate::test_positions::INITIAL;
-use chess_board::{
-    Colour, FenFault, Kind, Man, Position, Square, Wing, is_same_position, read_fen, reads_back,
-};
+use chess_board::{Colour, FenFault, Kind, Man, Position, Square, Wing, read_fen, reads_back};
 use std::hash::{DefaultHasher, Hash, Hasher};
 use std::test::Fail;
 
@@ -67,9 +65,6 @@ fn shows_the_parts_of_a_position(rt: HostRuntime) -> Result<(), Fail> {
         kind: Kind::Rook,
     };
     assert_eq!(rt; position.man(h1), Some(rook));
-    let h7 = Square::at(7, 6).ok_or("h7")?;
-    assert!(rt; position.is_attacked(h7, Colour::White));
-    assert!(rt; position.is_attacked(h7, Colour::Black));
     Ok(())
 }
 
@@ -106,7 +101,7 @@ fn tells_positions_apart(rt: HostRuntime) -> Result<(), Fail> {
     let text = "4k3/8/8/3p4/8/8/8/4K2R w K - 0 1";
     let position = read_fen(text.as_bytes())?.position;
     let same = read_fen(b"4k3/8/8/3p4/8/8/8/4K2R w K - 7 9")?.position;
-    assert!(rt; is_same_position(&position, &same));
+    assert!(rt; position == same);
     assert_eq!(rt; hash_of(&position), hash_of(&same));
     for text in [
         "4k3/8/8/8/8/8/8/4K2R w K - 0 1",
@@ -122,7 +117,7 @@ fn tells_positions_apart(rt: HostRuntime) -> Result<(), Fail> {
         "4k3/8/8/3p4/8/8/8/4K2R w K d6 0 1",
     ] {
         let other = read_fen(text.as_bytes())?.position;
-        assert!(rt; !is_same_position(&position, &other), "{text}");
+        assert!(rt; position != other, "{text}");
         assert!(rt; hash_of(&position) != hash_of(&other), "{text}");
     }
     Ok(())

@@ -1,5 +1,5 @@
 //! Tests of the rules: of `square_sets`, `chess_board` and `chess_moves`, by their public calls alone. What tests share stands in
-//! `test_positions`, and the plain rules in `plain_rules_tests`.
+//! `test_positions`.
 #![tactic(auto)]
 
 #[cfg(test)]
@@ -14,10 +14,6 @@ mod move_tests;
 mod perft_tests;
 #[cfg(test)]
 mod placement_tests;
-#[cfg(test)]
-mod plain_rules_tests;
-#[cfg(test)]
-mod random_games;
 #[cfg(test)]
 mod set_tests;
 #[cfg(test)]

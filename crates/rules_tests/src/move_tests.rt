@@ -1,9 +1,8 @@
 //! Moves in tables: how they are written and compared, which are legal, and the position after one; and positions read from
 //! four fields.
 
-use chess_board::{
-    FenFault, Kind, Move, Square, after, comes_before, is_legal, read_fen, read_fields,
-};
+use chess_board::{FenFault, Kind, Move, Square, after, comes_before, read_fen, read_fields};
+use chess_moves::{Rays, is_legal};
 use std::test::Fail;
 
 /// The square of a letter and a digit.
@@ -131,10 +130,11 @@ fn makes_moves(rt: HostRuntime) -> Result<(), Fail> {
             "4k3/8/8/8/8/8/8/K1q5 w - -",
         ),
     ];
+    let rays = Rays::new();
     for (text, chosen, result) in table {
         let position = read_fen(text.as_bytes())?.position;
         let m = move_of(chosen).ok_or("no move")?;
-        if is_legal(&position, m) {
+        if is_legal(&rays, &position, m) {
             assert_eq!(rt;
                 after(&position, m).text().as_str(),
                 result,
@@ -185,10 +185,11 @@ fn tells_legal_moves(rt: HostRuntime) -> Result<(), Fail> {
         ("4k3/8/8/8/8/8/4P3/4K3 w - - 0 1", "a1a2", false),
         ("4k3/8/8/8/8/8/4P3/4K3 w - - 0 1", "e1e1", false),
     ];
+    let rays = Rays::new();
     for (text, tried, legal) in table {
         let position = read_fen(text.as_bytes())?.position;
         let m = move_of(tried).ok_or("no move")?;
-        assert_eq!(rt; is_legal(&position, m), legal, "{text} {tried}");
+        assert_eq!(rt; is_legal(&rays, &position, m), legal, "{text} {tried}");
     }
     Ok(())
 }
