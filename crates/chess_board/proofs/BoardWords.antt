@@ -1,6 +1,10 @@
 -- The words of a board and the men that they show.
-use Rattle.std.proofs.Common.{◌≡◌, ℕ, zero, suc, ◌+◌, ◌<◌, ◌≤◌, ltb, Bool, true, false, cond, ◌&&◌, ◌||◌, List, Option, None, Some, is_some, length, get_or, set, replicate, length-set, count_by, refl, sym, ap, subst, ◌∙◌, arith}
-use Rattle.std.proofs.lemmas.Bool.{lt-ltb}
+use Rattle.std.proofs.Common.{◌≡◌, ℕ, zero, suc, ◌+◌, ◌<◌, ◌≤◌, ltb, eqb, not, Bool, true, false, cond, ◌&&◌, ◌||◌, ◌^◌, List, [], ◌∷◌, Option, None, Some, is_some, length, get_or, set, replicate, length-set, count_by, refl, sym, ap, subst, ◌∙◌, arith}
+use Rattle.std.proofs.lemmas.Bool.{lt-ltb, eqb-true}
+use Rattle.std.specs.Prelude.{slice_index}
+use denote.Enum.Declared.{tag_of}
+use Rattle.chess_board.specs.contracts.men.Colour.{the_type as colour_type}
+use Rattle.chess_board.specs.contracts.men.Kind.{the_type as kind_type}
 use Rattle.std.proofs.lemmas.List.{ext_get_or, length-replicate, get_or-replicate}
 use Rattle.std.proofs.lemmas.Nat.Bits.{bit_at-zero}
 use Rattle.square_sets.specs.Members.{has}
@@ -12,12 +16,12 @@ use Rattle.chess_board.specs.declared.men.Kind.TheVariants.{Pawn, Knight, Bishop
 use Rattle.chess_board.specs.declared.boards.Board.TheInside.{Inside}
 use Rattle.chess_board.specs.Positions.{man_at}
 use Rattle.std.specs.Int.RustNames.{bit_and, bit_or}
-use Rattle.chess_board.specs.Men.{man_of, is_colour, is_of, is_man}
+use Rattle.chess_board.specs.Men.{man_of, is_colour, is_kind, is_of, is_man}
 use Rattle.chess_board.specs.inside.KindTests.{is_king_kind, is_king_of}
 use Rattle.chess_board.specs.Sets.{IsSetOf}
-use Rattle.chess_board.specs.inside.Boards.{is_of_kind, word_of, kind_by, place_by, place_at, listed, men_of, AreWordsOf, AreTheirWords}
+use Rattle.chess_board.specs.inside.Boards.{is_of_kind, colour_words, kind_words, words_of, word_of, kind_by, place_by, place_at, listed, men_of, AreWordsOf, AreTheirWords}
 use Rattle.chess_board.proofs.Counting.{count_by_none}
-use Rattle.chess_board.proofs.MenSets.{IsSetOf-word_of, word_of-IsSetOf, word_of-set, IsChanged, has-bit_or, IsSetOf-bit_and, IsSetOf-bit_or}
+use Rattle.chess_board.proofs.MenSets.{IsSetOf-word_of, word_of-IsSetOf, word_of-set, word_of-fits, IsChanged-without, IsSetOf-bit_and, IsSetOf-bit_or}
 
 length-listed : {X : Type 0} (f : ℕ → X) (i n : ℕ) → length (listed f i n) ≡ n
 unfolding listed
@@ -56,19 +60,26 @@ unfolding by_tests
 by_tests-place None = refl
 by_tests-place (Some man) = by_colour man.colour man.kind
 
+-- words of men are those of the board
+words_are : (men : List (Option Man)) (b : Inside) → AreWordsOf men b → words_of men ≡ b
+words_are men b h = λ i. record { by_colour = h.colours i; by_kind = h.kinds i }
+
 -- the words of men, read at a square
 pub place_at-AreWordsOf : (men : List (Option Man)) (b : Inside) (square : ℕ) → AreWordsOf men b → square < 64
     → place_at b square ≡ man_at men square
 unfolding by_tests
 place_at-AreWordsOf men b square h inside =
-    let white = IsSetOf-word_of (is_of White) men b.white h.squares h.white square inside in
-    let black = IsSetOf-word_of (is_of Black) men b.black h.squares h.black square inside in
-    let pawns = IsSetOf-word_of (is_of_kind Pawn) men b.pawns h.squares h.pawns square inside in
-    let knights = IsSetOf-word_of (is_of_kind Knight) men b.knights h.squares h.knights square inside in
-    let bishops = IsSetOf-word_of (is_of_kind Bishop) men b.bishops h.squares h.bishops square inside in
-    let rooks = IsSetOf-word_of (is_of_kind Rook) men b.rooks h.squares h.rooks square inside in
-    let queens = IsSetOf-word_of (is_of_kind Queen) men b.queens h.squares h.queens square inside in
-    rw (white, black, pawns, knights, bishops, rooks, queens) (by_tests-place (man_at men square))
+    subst (λ w. place_at w square ≡ man_at men square) (words_are men b h)
+    (let set = λ (test : Option Man → Bool). IsSetOf-word_of test men (word_of test men) h.squares refl square inside in
+    rw (
+      set (is_of White),
+      set (is_of Black),
+      set (is_of_kind Pawn),
+      set (is_of_kind Knight),
+      set (is_of_kind Bishop),
+      set (is_of_kind Rook),
+      set (is_of_kind Queen),
+    ) (by_tests-place (man_at men square)))
 
 pub men_of-AreWordsOf : (men : List (Option Man)) (b : Inside) → AreWordsOf men b → men_of b ≡ men
 unfolding men_of
@@ -95,10 +106,33 @@ occupied_test (Some man) = by_one man.colour
     by_one White = refl
     by_one Black = refl
 
-pub IsSetOf-occupied : (men : List (Option Man)) (b : Inside) → AreWordsOf men b → IsSetOf (bit_or b.white b.black) is_some men
-IsSetOf-occupied men b h =
-    IsSetOf-bit_or b.white b.black (is_of White) (is_of Black) is_some men occupied_test
-    (IsSetOf-word_of (is_of White) men b.white h.squares h.white) (IsSetOf-word_of (is_of Black) men b.black h.squares h.black)
+pub IsSetOf-occupied : (men : List (Option Man)) (white black : ℕ) → IsSetOf white (is_of White) men → IsSetOf black (is_of Black) men
+    → IsSetOf (bit_or white black) is_some men
+IsSetOf-occupied men white black = IsSetOf-bit_or white black (is_of White) (is_of Black) is_some men occupied_test
+
+-- the set of a side, and that of a kind, by its number
+pub IsSetOf-side : (men : List (Option Man)) (b : Inside) (colour : Colour) → AreWordsOf men b
+    → IsSetOf (slice_index b.by_colour (tag_of colour_type colour)) (is_of colour) men
+IsSetOf-side men b colour h = subst (λ w. IsSetOf (slice_index w.by_colour (tag_of colour_type colour)) (is_of colour) men) (words_are men b h) (own colour)
+  where
+    own : (c : Colour) → IsSetOf (slice_index (colour_words men) (tag_of colour_type c)) (is_of c) men
+    own White = IsSetOf-word_of (is_of White) men (word_of (is_of White) men) h.squares refl
+    own Black = IsSetOf-word_of (is_of Black) men (word_of (is_of Black) men) h.squares refl
+
+pub IsSetOf-kind : (men : List (Option Man)) (b : Inside) (k : Kind) → AreWordsOf men b
+    → IsSetOf (slice_index b.by_kind (tag_of kind_type k)) (is_of_kind k) men
+IsSetOf-kind men b k h = subst (λ w. IsSetOf (slice_index w.by_kind (tag_of kind_type k)) (is_of_kind k) men) (words_are men b h) (own k)
+  where
+    set : (x : Kind) → IsSetOf (word_of (is_of_kind x) men) (is_of_kind x) men
+    set x = IsSetOf-word_of (is_of_kind x) men (word_of (is_of_kind x) men) h.squares refl
+
+    own : (x : Kind) → IsSetOf (slice_index (kind_words men) (tag_of kind_type x)) (is_of_kind x) men
+    own Pawn = set Pawn
+    own Knight = set Knight
+    own Bishop = set Bishop
+    own Rook = set Rook
+    own Queen = set Queen
+    own King = set King
 
 man_test : (colour : Colour) (asked : Kind) (place : Option Man) → (is_of colour place && is_of_kind asked place) ≡ is_man colour asked place
 man_test colour asked None = refl
@@ -110,59 +144,174 @@ IsSetOf-is_man men side kinds colour asked =
     IsSetOf-bit_and side kinds (is_of colour) (is_of_kind asked) (is_man colour asked) men (man_test colour asked)
 
 -- the man on a square
-none_by : (white black : Bool) (asked : Kind) → (white || black) ≡ false → place_by white black asked ≡ None
-none_by true black asked e = cc
-none_by false true asked e = cc
-none_by false false asked e = refl
+pub man_at-free : (men : List (Option Man)) (taken square : ℕ) → IsSetOf taken is_some men → square < 64 → has taken square ≡ false
+    → man_at men square ≡ None
+man_at-free men taken square is inside free = nobody (man_at men square) (sym (is square inside) ∙ free)
+  where
+    nobody : (place : Option Man) → is_some place ≡ false → place ≡ None
+    nobody None e = refl
+    nobody (Some man) e = cc
 
-some_by : (white black : Bool) (asked : Kind) → (white || black) ≡ true → place_by white black asked ≡ man_of (cond white White Black) asked
-some_by true black asked e = refl
-some_by false true asked e = refl
-some_by false false asked e = cc
-
-pub man_at-free : (men : List (Option Man)) (b : Inside) (square : ℕ) → AreWordsOf men b → square < 64
-    → has (bit_or b.white b.black) square ≡ false → man_at men square ≡ None
-man_at-free men b square h inside free =
-    sym (place_at-AreWordsOf men b square h inside)
-    ∙ none_by (has b.white square) (has b.black square) _ (sym (has-bit_or b.white b.black square) ∙ free)
-
-pub man_at-taken : (men : List (Option Man)) (b : Inside) (square : ℕ) (colour : Colour) (k : Kind) → AreWordsOf men b → square < 64
-    → has (bit_or b.white b.black) square ≡ true → colour ≡ cond (has b.white square) White Black
-    → k ≡ kind_by (has b.pawns square) (has b.knights square) (has b.bishops square) (has b.rooks square) (has b.queens square)
+-- a man is told by the tests of its colour and its kind
+pub man_at-taken : (men : List (Option Man)) (square : ℕ) (colour : Colour) (k : Kind) → is_some (man_at men square) ≡ true
+    → colour ≡ cond (is_of White (man_at men square)) White Black
+    → k ≡ kind_by (is_of_kind Pawn (man_at men square)) (is_of_kind Knight (man_at men square)) (is_of_kind Bishop (man_at men square))
+    (is_of_kind Rook (man_at men square)) (is_of_kind Queen (man_at men square))
     → man_at men square ≡ man_of colour k
-man_at-taken men b square colour k h inside taken of_colour of_kind =
-    sym (place_at-AreWordsOf men b square h inside)
-    ∙ some_by (has b.white square) (has b.black square) _ (sym (has-bit_or b.white b.black square) ∙ taken)
-    ∙ sym (ap (λ x. man_of x k) of_colour ∙ ap (man_of (cond (has b.white square) White Black)) of_kind)
+man_at-taken men square colour k taken of_colour of_kind =
+    told (man_at men square) taken ∙ sym (ap (λ x. man_of x k) of_colour
+    ∙ ap (man_of (cond (is_of White (man_at men square)) White Black)) of_kind)
+  where
+    told : (place : Option Man) → is_some place ≡ true → place ≡ man_of (cond (is_of White place) White Black)
+        (kind_by (is_of_kind Pawn place) (is_of_kind Knight place) (is_of_kind Bishop place) (is_of_kind Rook place) (is_of_kind Queen place))
+    told None e = cc
+    told (Some man) e = by_parts man.colour man.kind
+      where
+        by_parts : (c : Colour) (x : Kind) → man_of c x ≡ man_of (cond (is_colour White c) White Black)
+            (kind_by (is_kind Pawn x) (is_kind Knight x) (is_kind Bishop x) (is_kind Rook x) (is_kind Queen x))
+        by_parts White Pawn = refl
+        by_parts White Knight = refl
+        by_parts White Bishop = refl
+        by_parts White Rook = refl
+        by_parts White Queen = refl
+        by_parts White King = refl
+        by_parts Black Pawn = refl
+        by_parts Black Knight = refl
+        by_parts Black Bishop = refl
+        by_parts Black Rook = refl
+        by_parts Black Queen = refl
+        by_parts Black King = refl
 
--- one square changed
-pub record AreChanged (old new : Inside) (square : ℕ) (place : Option Man) : Type 0 where
-  pub white : IsChanged old.white new.white square (is_of White place)
-  pub black : IsChanged old.black new.black square (is_of Black place)
-  pub pawns : IsChanged old.pawns new.pawns square (is_of_kind Pawn place)
-  pub knights : IsChanged old.knights new.knights square (is_of_kind Knight place)
-  pub bishops : IsChanged old.bishops new.bishops square (is_of_kind Bishop place)
-  pub rooks : IsChanged old.rooks new.rooks square (is_of_kind Rook place)
-  pub queens : IsChanged old.queens new.queens square (is_of_kind Queen place)
-  pub kings : IsChanged old.kings new.kings square (is_of_kind King place)
+-- one square cleared
+pub word_of-cleared : (test : Option Man → Bool) (men : List (Option Man)) (old new square at : ℕ) → test None ≡ false → length men ≡ 64 → square < 64
+    → at ≡ square → word_of test men ≡ old → new < 2 ^ 64 → ((s : ℕ) → s < 64 → has new s ≡ (not (eqb s at) && has old s))
+    → word_of test (set men square None) ≡ new
+word_of-cleared test men old new square at fails long on here same small cleared =
+    word_of-set test men old new square None long on same
+    (let changed = IsChanged-without old new square at here small cleared in rw fails changed)
 
-pub AreWordsOf-set : (men : List (Option Man)) (old new : Inside) (square : ℕ) (place : Option Man) → square < 64 → AreWordsOf men old
-    → AreChanged old new square place → AreWordsOf (set men square place) new
-AreWordsOf-set men old new square place on h changed = record {
-  squares = length-set men square place ∙ h.squares;
-  white = word_of-set (is_of White) men old.white new.white square place h.squares on h.white changed.white;
-  black = word_of-set (is_of Black) men old.black new.black square place h.squares on h.black changed.black;
-  pawns = word_of-set (is_of_kind Pawn) men old.pawns new.pawns square place h.squares on h.pawns changed.pawns;
-  knights = word_of-set (is_of_kind Knight) men old.knights new.knights square place h.squares on h.knights changed.knights;
-  bishops = word_of-set (is_of_kind Bishop) men old.bishops new.bishops square place h.squares on h.bishops changed.bishops;
-  rooks = word_of-set (is_of_kind Rook) men old.rooks new.rooks square place h.squares on h.rooks changed.rooks;
-  queens = word_of-set (is_of_kind Queen) men old.queens new.queens square place h.squares on h.queens changed.queens;
-  kings = word_of-set (is_of_kind King) men old.kings new.kings square place h.squares on h.kings changed.kings;
-}
+-- a man put on an empty square: the words of the tests that it passes have the square, and the others are as they were
+module _ (men : List (Option Man)) (square at : ℕ) (man : Man) (long : length men ≡ 64) (on : square < 64) (here : at ≡ square)
+    (free : man_at men square ≡ None) where
+  pub word_with : (test : Option Man → Bool) (new : ℕ) → test (Some man) ≡ true → new < 2 ^ 64
+      → ((s : ℕ) → s < 64 → has new s ≡ (eqb s at || has (word_of test men) s)) → word_of test (set men square (Some man)) ≡ new
+  word_with test new passes small changed =
+      word_of-set test men (word_of test men) new square (Some man) long on refl
+      (small, (λ s inside. changed s inside ∙ rw (here, passes) (either (eqb s square) (has (word_of test men) s))))
+    where
+      either : (b c : Bool) → (b || c) ≡ cond b true c
+      either true c = refl
+      either false c = refl
+
+  pub word_still : (test : Option Man → Bool) → test None ≡ false → test (Some man) ≡ false → word_of test (set men square (Some man)) ≡ word_of test men
+  word_still test none fails =
+      word_of-set test men (word_of test men) (word_of test men) square (Some man) long on refl (
+        word_of-fits test men long,
+        (λ s inside. (elim (eqb s square) as (λ b. eqb s square ≡ b → has (word_of test men) s ≡ cond b (test (Some man)) (has (word_of test men) s)) [
+          | true ↦ λ e.
+              let it = eqb-true s square e in
+              rw it (IsSetOf-word_of test men (word_of test men) long refl square on ∙ rw (free, fails) none)
+          | false ↦ λ e. refl
+        ]) refl),
+      )
+
+-- the words of the colours, and of the kinds, once a man is put on an empty square
+module _ (men : List (Option Man)) (square at : ℕ) (long : length men ≡ 64) (on : square < 64) (here : at ≡ square) (free : man_at men square ≡ None) where
+  colours_with : (c : Colour) (k : Kind) (new : ℕ) → new < 2 ^ 64
+      → ((s : ℕ) → s < 64 → has new s ≡ (eqb s at || has (slice_index (colour_words men) (tag_of colour_type c)) s))
+      → colour_words (set men square (man_of c k)) ≡ set (colour_words men) (tag_of colour_type c) new
+  colours_with White k new small changed = λ i.
+      word_with men square at (record { colour = White; kind = k }) long on here free (is_of White) new refl small changed i
+      ∷ word_still men square at (record { colour = White; kind = k }) long on here free (is_of Black) refl refl i
+      ∷ []
+  colours_with Black k new small changed = λ i.
+      word_still men square at (record { colour = Black; kind = k }) long on here free (is_of White) refl refl i
+      ∷ word_with men square at (record { colour = Black; kind = k }) long on here free (is_of Black) new refl small changed i
+      ∷ []
+
+  kinds_with : (c : Colour) (k : Kind) (new : ℕ) → new < 2 ^ 64
+      → ((s : ℕ) → s < 64 → has new s ≡ (eqb s at || has (slice_index (kind_words men) (tag_of kind_type k)) s))
+      → kind_words (set men square (man_of c k)) ≡ set (kind_words men) (tag_of kind_type k) new
+  kinds_with c Pawn new small changed = λ i.
+      word_with men square at (record { colour = c; kind = Pawn }) long on here free (is_of_kind Pawn) new refl small changed i
+      ∷ word_still men square at (record { colour = c; kind = Pawn }) long on here free (is_of_kind Knight) refl refl i
+      ∷ word_still men square at (record { colour = c; kind = Pawn }) long on here free (is_of_kind Bishop) refl refl i
+      ∷ word_still men square at (record { colour = c; kind = Pawn }) long on here free (is_of_kind Rook) refl refl i
+      ∷ word_still men square at (record { colour = c; kind = Pawn }) long on here free (is_of_kind Queen) refl refl i
+      ∷ word_still men square at (record { colour = c; kind = Pawn }) long on here free (is_of_kind King) refl refl i
+      ∷ []
+  kinds_with c Knight new small changed = λ i.
+      word_still men square at (record { colour = c; kind = Knight }) long on here free (is_of_kind Pawn) refl refl i
+      ∷ word_with men square at (record { colour = c; kind = Knight }) long on here free (is_of_kind Knight) new refl small changed i
+      ∷ word_still men square at (record { colour = c; kind = Knight }) long on here free (is_of_kind Bishop) refl refl i
+      ∷ word_still men square at (record { colour = c; kind = Knight }) long on here free (is_of_kind Rook) refl refl i
+      ∷ word_still men square at (record { colour = c; kind = Knight }) long on here free (is_of_kind Queen) refl refl i
+      ∷ word_still men square at (record { colour = c; kind = Knight }) long on here free (is_of_kind King) refl refl i
+      ∷ []
+  kinds_with c Bishop new small changed = λ i.
+      word_still men square at (record { colour = c; kind = Bishop }) long on here free (is_of_kind Pawn) refl refl i
+      ∷ word_still men square at (record { colour = c; kind = Bishop }) long on here free (is_of_kind Knight) refl refl i
+      ∷ word_with men square at (record { colour = c; kind = Bishop }) long on here free (is_of_kind Bishop) new refl small changed i
+      ∷ word_still men square at (record { colour = c; kind = Bishop }) long on here free (is_of_kind Rook) refl refl i
+      ∷ word_still men square at (record { colour = c; kind = Bishop }) long on here free (is_of_kind Queen) refl refl i
+      ∷ word_still men square at (record { colour = c; kind = Bishop }) long on here free (is_of_kind King) refl refl i
+      ∷ []
+  kinds_with c Rook new small changed = λ i.
+      word_still men square at (record { colour = c; kind = Rook }) long on here free (is_of_kind Pawn) refl refl i
+      ∷ word_still men square at (record { colour = c; kind = Rook }) long on here free (is_of_kind Knight) refl refl i
+      ∷ word_still men square at (record { colour = c; kind = Rook }) long on here free (is_of_kind Bishop) refl refl i
+      ∷ word_with men square at (record { colour = c; kind = Rook }) long on here free (is_of_kind Rook) new refl small changed i
+      ∷ word_still men square at (record { colour = c; kind = Rook }) long on here free (is_of_kind Queen) refl refl i
+      ∷ word_still men square at (record { colour = c; kind = Rook }) long on here free (is_of_kind King) refl refl i
+      ∷ []
+  kinds_with c Queen new small changed = λ i.
+      word_still men square at (record { colour = c; kind = Queen }) long on here free (is_of_kind Pawn) refl refl i
+      ∷ word_still men square at (record { colour = c; kind = Queen }) long on here free (is_of_kind Knight) refl refl i
+      ∷ word_still men square at (record { colour = c; kind = Queen }) long on here free (is_of_kind Bishop) refl refl i
+      ∷ word_still men square at (record { colour = c; kind = Queen }) long on here free (is_of_kind Rook) refl refl i
+      ∷ word_with men square at (record { colour = c; kind = Queen }) long on here free (is_of_kind Queen) new refl small changed i
+      ∷ word_still men square at (record { colour = c; kind = Queen }) long on here free (is_of_kind King) refl refl i
+      ∷ []
+  kinds_with c King new small changed = λ i.
+      word_still men square at (record { colour = c; kind = King }) long on here free (is_of_kind Pawn) refl refl i
+      ∷ word_still men square at (record { colour = c; kind = King }) long on here free (is_of_kind Knight) refl refl i
+      ∷ word_still men square at (record { colour = c; kind = King }) long on here free (is_of_kind Bishop) refl refl i
+      ∷ word_still men square at (record { colour = c; kind = King }) long on here free (is_of_kind Rook) refl refl i
+      ∷ word_still men square at (record { colour = c; kind = King }) long on here free (is_of_kind Queen) refl refl i
+      ∷ word_with men square at (record { colour = c; kind = King }) long on here free (is_of_kind King) new refl small changed i
+      ∷ []
+
+pub AreWordsOf-with : (men : List (Option Man)) (b : Inside) (square at : ℕ) (man : Man) (colour_word kind_word : ℕ) → AreWordsOf men b → square < 64
+    → at ≡ square → man_at men square ≡ None → colour_word < 2 ^ 64
+    → ((s : ℕ) → s < 64 → has colour_word s ≡ (eqb s at || has (slice_index b.by_colour (tag_of colour_type man.colour)) s)) → kind_word < 2 ^ 64
+    → ((s : ℕ) → s < 64 → has kind_word s ≡ (eqb s at || has (slice_index b.by_kind (tag_of kind_type man.kind)) s))
+    → AreWordsOf (set men square (Some man)) (record {
+      by_colour = set b.by_colour (tag_of colour_type man.colour) colour_word;
+      by_kind = set b.by_kind (tag_of kind_type man.kind) kind_word;
+    })
+AreWordsOf-with men b square at man colour_word kind_word h on here free colour_fits of_colour kind_fits of_kind =
+    let c = man.colour in
+    let k = man.kind in record {
+      squares = length-set men square (Some man) ∙ h.squares;
+      colours =
+          colours_with men square at h.squares on here free c k colour_word colour_fits
+          (subst (λ (w : List ℕ). (s : ℕ) → s < 64 → has colour_word s ≡ (eqb s at || has (slice_index w (tag_of colour_type c)) s)) (sym h.colours) of_colour)
+          ∙ ap (λ (w : List ℕ). set w (tag_of colour_type c) colour_word) h.colours;
+      kinds =
+          kinds_with men square at h.squares on here free c k kind_word kind_fits
+          (subst (λ (w : List ℕ). (s : ℕ) → s < 64 → has kind_word s ≡ (eqb s at || has (slice_index w (tag_of kind_type k)) s)) (sym h.kinds) of_kind)
+          ∙ ap (λ (w : List ℕ). set w (tag_of kind_type k) kind_word) h.kinds;
+    }
+
+-- what is written twice is written once
+pub set_twice : (l : List (Option Man)) (i : ℕ) (x y : Option Man) → set (set l i x) i y ≡ set l i y
+set_twice [] i x y = refl
+set_twice (z ∷ l) zero x y = refl
+set_twice (z ∷ l) (suc i) x y = ap (λ m. z ∷ m) (set_twice l i x y)
 
 -- no man at all
 abbrev pub no_words : Inside
-no_words = record { white = 0; black = 0; pawns = 0; knights = 0; bishops = 0; rooks = 0; queens = 0; kings = 0 }
+no_words = record { by_colour = 0 ∷ 0 ∷ []; by_kind = 0 ∷ 0 ∷ 0 ∷ 0 ∷ 0 ∷ 0 ∷ [] }
 
 word_of-empty : (test : Option Man → Bool) → test None ≡ false → word_of test (replicate 64 None) ≡ 0
 word_of-empty test fails =
@@ -175,14 +324,10 @@ word_of-empty test fails =
 pub AreWordsOf-empty : AreWordsOf (replicate 64 None) no_words
 AreWordsOf-empty = record {
   squares = length-replicate {A = Option Man} 64 None;
-  white = word_of-empty (is_of White) refl;
-  black = word_of-empty (is_of Black) refl;
-  pawns = word_of-empty (is_of_kind Pawn) refl;
-  knights = word_of-empty (is_of_kind Knight) refl;
-  bishops = word_of-empty (is_of_kind Bishop) refl;
-  rooks = word_of-empty (is_of_kind Rook) refl;
-  queens = word_of-empty (is_of_kind Queen) refl;
-  kings = word_of-empty (is_of_kind King) refl;
+  colours = λ i. word_of-empty (is_of White) refl i ∷ word_of-empty (is_of Black) refl i ∷ [];
+  kinds = λ i.
+      word_of-empty (is_of_kind Pawn) refl i ∷ word_of-empty (is_of_kind Knight) refl i ∷ word_of-empty (is_of_kind Bishop) refl i
+      ∷ word_of-empty (is_of_kind Rook) refl i ∷ word_of-empty (is_of_kind Queen) refl i ∷ word_of-empty (is_of_kind King) refl i ∷ [];
 }
 
 -- the square of the one king
@@ -206,9 +351,9 @@ king_place colour (Some man) e = by_man colour man.colour man.kind e
     by_man Black Black Rook e = cc
     by_man Black Black Queen e = cc
 
-has_king : (men : List (Option Man)) (kings : ℕ) (colour : Colour) → length men ≡ 64 → IsSetOf kings (is_man colour King) men
+pub some_king : (men : List (Option Man)) (kings : ℕ) (colour : Colour) → length men ≡ 64 → IsSetOf kings (is_man colour King) men
     → count_by (is_king_of colour) men ≡ 1 → 0 < kings
-has_king men zero colour long is one =
+some_king men zero colour long is one =
     let none : count_by (is_king_of colour) men ≡ 0 =
     count_by_none (is_king_of colour) men None (λ k inside. let bit = bit_at-zero k in king_test (man_at men k) ∙ sym (is k (omega arith)) ∙ rw bit) in
     absurd (omega arith)
@@ -216,18 +361,11 @@ has_king men zero colour long is one =
     king_test : (place : Option Man) → is_king_of colour place ≡ is_man colour King place
     king_test None = refl
     king_test (Some man) = refl
-has_king men (suc kings) colour long is one = omega arith
+some_king men (suc kings) colour long is one = omega arith
 
--- Among the squares of a side's men and those of the kings is one, and that side's king stands there.
-module _ (men : List (Option Man)) (b : Inside) (side : ℕ) (colour : Colour) (h : AreWordsOf men b) (of_side : IsSetOf side (is_of colour) men) where
-  own : IsSetOf (bit_and side b.kings) (is_man colour King) men
-  own = IsSetOf-is_man men side b.kings colour King of_side (IsSetOf-word_of (is_of_kind King) men b.kings h.squares h.kings)
-
-  pub some_king : count_by (is_king_of colour) men ≡ 1 → 0 < bit_and side b.kings
-  some_king one = has_king men (bit_and side b.kings) colour h.squares own one
-
-  pub king_there : (s : ℕ) → s < 64 → has (bit_and side b.kings) s ≡ true → man_at men s ≡ man_of colour King
-  king_there s on there = king_place colour (man_at men s) (sym (own s on) ∙ there)
+pub king_there : (men : List (Option Man)) (kings : ℕ) (colour : Colour) (s : ℕ) → IsSetOf kings (is_man colour King) men → s < 64
+    → has kings s ≡ true → man_at men s ≡ man_of colour King
+king_there men kings colour s is on there = king_place colour (man_at men s) (sym (is s on) ∙ there)
 
 -- a board filled square by square up to n
 pub same_men-filled : (v w : List (Option Man)) (n : ℕ) → 64 ≤ n → length v ≡ 64 → length w ≡ 64

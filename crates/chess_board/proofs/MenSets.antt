@@ -67,6 +67,9 @@ word_of-lt test (place ∷ places) =
       | false ↦ omega (arith, p, word_of-lt test places)
     ]
 
+pub word_of-fits : (test : Option Man → Bool) (men : List (Option Man)) → length men ≡ 64 → word_of test men < 2 ^ 64
+word_of-fits test men long = rw long at (word_of-lt test men)
+
 pub IsSetOf-word_of : (test : Option Man → Bool) (men : List (Option Man)) (word : ℕ) → length men ≡ 64 → word_of test men ≡ word
     → IsSetOf word test men
 IsSetOf-word_of test men word long same square inside = ap (λ (w : ℕ). has w square) (sym same) ∙ has-word_of test men square (omega arith)

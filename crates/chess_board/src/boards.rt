@@ -17,14 +17,10 @@ use std::marker::Model;
 /// The men on the 64 squares, seen as a list of them from a1 to h8.
 #[derive(Clone, Copy, Debug, PartialEq, Eq)]
 pub(crate) struct Board {
-    white: u64,
-    black: u64,
-    pawns: u64,
-    knights: u64,
-    bishops: u64,
-    rooks: u64,
-    queens: u64,
-    kings: u64,
+    /// White's men and Black's.
+    by_colour: [u64; 2],
+    /// The men of each kind, from pawns to kings.
+    by_kind: [u64; 6],
 }
 
 impl Model for Board {
@@ -64,14 +60,8 @@ impl Board {
         ensures empty { (square : ℕ) → square < 64 → man_at result square ≡ None }
     {
         Board {
-            white: 0,
-            black: 0,
-            pawns: 0,
-            knights: 0,
-            bishops: 0,
-            rooks: 0,
-            queens: 0,
-            kings: 0,
+            by_colour: [0; 2],
+            by_kind: [0; 6],
         }
     }
 
@@ -80,7 +70,7 @@ impl Board {
         ensures { result ≡ self.now }
     {
         // A part of the board is read, so that the proof knows what its type keeps.
-        let _ = &self.white;
+        let _ = &self.by_kind;
         let mut places = [None; 64];
         for number in 0..64 {
             places[number as usize] = self.man(Square::numbered(number));
@@ -94,10 +84,10 @@ impl Board {
         ensures squares { length self.now ≡ 64 }
     {
         let index = square.index() as u8;
-        if !square_sets::contains(self.white | self.black, index) {
+        if !square_sets::contains(self.occupied(), index) {
             return None;
         }
-        let colour = if square_sets::contains(self.white, index) {
+        let colour = if square_sets::contains(self.side(Colour::White), index) {
             Colour::White
         } else {
             Colour::Black
@@ -105,11 +95,11 @@ impl Board {
         Some(Man {
             colour,
             kind: kind_at(
-                self.pawns,
-                self.knights,
-                self.bishops,
-                self.rooks,
-                self.queens,
+                self.kind(Kind::Pawn),
+                self.kind(Kind::Knight),
+                self.kind(Kind::Bishop),
+                self.kind(Kind::Rook),
+                self.kind(Kind::Queen),
                 index,
             ),
         })
@@ -120,15 +110,21 @@ impl Board {
         ensures { result ≡ slice_set self.now square None }
     {
         let index = square.index() as u8;
+        let [white, black] = self.by_colour;
+        let [pawns, knights, bishops, rooks, queens, kings] = self.by_kind;
         Board {
-            white: square_sets::without(self.white, index),
-            black: square_sets::without(self.black, index),
-            pawns: square_sets::without(self.pawns, index),
-            knights: square_sets::without(self.knights, index),
-            bishops: square_sets::without(self.bishops, index),
-            rooks: square_sets::without(self.rooks, index),
-            queens: square_sets::without(self.queens, index),
-            kings: square_sets::without(self.kings, index),
+            by_colour: [
+                square_sets::without(white, index),
+                square_sets::without(black, index),
+            ],
+            by_kind: [
+                square_sets::without(pawns, index),
+                square_sets::without(knights, index),
+                square_sets::without(bishops, index),
+                square_sets::without(rooks, index),
+                square_sets::without(queens, index),
+                square_sets::without(kings, index),
+            ],
         }
     }
 
@@ -137,16 +133,14 @@ impl Board {
         ensures { result ≡ slice_set self.now square (Some man) }
     {
         let index = square.index() as u8;
-        Board {
-            white: set_where(man.colour == Colour::White, self.white, index),
-            black: set_where(man.colour == Colour::Black, self.black, index),
-            pawns: set_where(man.kind == Kind::Pawn, self.pawns, index),
-            knights: set_where(man.kind == Kind::Knight, self.knights, index),
-            bishops: set_where(man.kind == Kind::Bishop, self.bishops, index),
-            rooks: set_where(man.kind == Kind::Rook, self.rooks, index),
-            queens: set_where(man.kind == Kind::Queen, self.queens, index),
-            kings: set_where(man.kind == Kind::King, self.kings, index),
-        }
+        let others = self.without(square);
+        let mut by_colour = others.by_colour;
+        let mut by_kind = others.by_kind;
+        let colour = man.colour as usize;
+        let kind = man.kind as usize;
+        by_colour[colour] = square_sets::with(by_colour[colour], index);
+        by_kind[kind] = square_sets::with(by_kind[kind], index);
+        Board { by_colour, by_kind }
     }
 
     /// The board once a man went from one square to another, where it takes the place of what stood there.
@@ -161,7 +155,9 @@ impl Board {
         ensures occupied { IsSetOf result is_some self.now }
         ensures squares { length self.now ≡ 64 }
     {
-        self.white | self.black
+        // A part of the board is read, so that the proof knows what its type keeps.
+        let _ = &self.by_kind;
+        self.side(Colour::White) | self.side(Colour::Black)
     }
 
     /// The squares of a side's men of one kind.
@@ -175,24 +171,14 @@ impl Board {
     fn side(&self, colour: Colour) -> u64
         ensures { IsSetOf result (is_of colour) self.now }
     {
-        match colour {
-            Colour::White => self.white,
-            Colour::Black => self.black,
-        }
+        self.by_colour[colour as usize]
     }
 
     /// The squares of both sides' men of one kind.
     fn kind(&self, kind: Kind) -> u64
         ensures { IsSetOf result (is_of_kind kind) self.now }
     {
-        match kind {
-            Kind::Pawn => self.pawns,
-            Kind::Knight => self.knights,
-            Kind::Bishop => self.bishops,
-            Kind::Rook => self.rooks,
-            Kind::Queen => self.queens,
-            Kind::King => self.kings,
-        }
+        self.by_kind[kind as usize]
     }
 
     /// The square of a side's one king.
@@ -201,7 +187,9 @@ impl Board {
         ensures king { man_at self.now result ≡ man_of colour kind.King }
         ensures on_board { result < 64 }
     {
-        let kings = self.side(colour) & self.kings;
+        // A part of the board is read, so that the proof knows what its type keeps.
+        let _ = &self.by_kind;
+        let kings = self.side(colour) & self.kind(Kind::King);
         Square::numbered(square_sets::lowest(kings))
     }
 }
@@ -216,10 +204,11 @@ impl Hash for Board {
     ghost respects_eq = { Prim.search (hashing, rules) };
 
     fn hash<H: Hasher>(&self, state: &mut H) {
-        state.write_u64(self.white);
-        state.write_u64(self.pawns | self.bishops | self.queens);
-        state.write_u64(self.knights | self.bishops | self.kings);
-        state.write_u64(self.rooks | self.queens | self.kings);
+        let [pawns, knights, bishops, rooks, queens, kings] = self.by_kind;
+        state.write_u64(self.by_colour[0]);
+        state.write_u64(pawns | bishops | queens);
+        state.write_u64(knights | bishops | kings);
+        state.write_u64(rooks | queens | kings);
     }
 }
 
@@ -240,18 +229,5 @@ fn kind_at(pawns: u64, knights: u64, bishops: u64, rooks: u64, queens: u64, inde
         Kind::Queen
     } else {
         Kind::King
-    }
-}
-
-/// A set with a square where `member` holds, and otherwise without it.
-fn set_where(member: bool, set: u64, index: u8) -> u64
-    requires { index < 64 }
-    ensures { (square : ℕ) → square < 64 → has result square ≡ (if square == index then member else has set square) }
-{
-    let others = square_sets::without(set, index);
-    if member {
-        square_sets::with(others, index)
-    } else {
-        others
     }
 }

@@ -1,5 +1,5 @@
 -- Not for believing: a board of men in eight words: each is the set of the squares on which the men of one colour, or of one kind, stand.
-use Rattle.std.specs.Prelude.{◌≡◌, ℕ, zero, suc, ◌+◌, ◌*◌, List, [], ◌∷◌, length, Option, Some, None, Bool, false, if◌then◌else◌}
+use Rattle.std.specs.Prelude.{◌≡◌, ℕ, zero, suc, ◌+◌, ◌*◌, List, [], ◌∷◌, length, Option, Some, None, Bool, false, if◌then◌else◌, slice_index}
 use Rattle.square_sets.specs.Members.{has}
 use Rattle.chess_board.specs.declared.men.Man.{Man}
 use Rattle.chess_board.specs.declared.men.Colour.TheVariants.{White, Black}
@@ -27,11 +27,22 @@ kind_by pawn knight bishop rook queen =
 abbrev pub place_by : Bool → Bool → Kind → Option Man
 place_by white black kind = if white then man_of White kind else (if black then man_of Black kind else None)
 
+-- the words of the men of each colour
+abbrev pub colour_words : List (Option Man) → List ℕ
+colour_words men = word_of (is_of White) men ∷ word_of (is_of Black) men ∷ []
+
+-- the words of the men of each kind
+abbrev pub kind_words : List (Option Man) → List ℕ
+kind_words men =
+    word_of (is_of_kind Pawn) men ∷ word_of (is_of_kind Knight) men ∷ word_of (is_of_kind Bishop) men ∷ word_of (is_of_kind Rook) men
+    ∷ word_of (is_of_kind Queen) men ∷ word_of (is_of_kind King) men ∷ []
+
 -- what stands on a square, by the words
 abbrev pub place_at : Inside → ℕ → Option Man
 place_at b square =
-    place_by (has b.white square) (has b.black square)
-    (kind_by (has b.pawns square) (has b.knights square) (has b.bishops square) (has b.rooks square) (has b.queens square))
+    place_by (has (slice_index b.by_colour 0) square) (has (slice_index b.by_colour 1) square)
+    (kind_by (has (slice_index b.by_kind 0) square) (has (slice_index b.by_kind 1) square) (has (slice_index b.by_kind 2) square)
+    (has (slice_index b.by_kind 3) square) (has (slice_index b.by_kind 4) square))
 
 -- f at n numbers from i on
 unfoldable pub listed : {X : Type 0} → (ℕ → X) → ℕ → ℕ → List X
@@ -45,39 +56,15 @@ men_of b = listed (place_at b) 0 64
 -- The words are those of these men.
 pub record AreWordsOf (men : List (Option Man)) (b : Inside) : Type 0 where
   pub squares : length men ≡ 64
-  pub white : word_of (is_of White) men ≡ b.white
-  pub black : word_of (is_of Black) men ≡ b.black
-  pub pawns : word_of (is_of_kind Pawn) men ≡ b.pawns
-  pub knights : word_of (is_of_kind Knight) men ≡ b.knights
-  pub bishops : word_of (is_of_kind Bishop) men ≡ b.bishops
-  pub rooks : word_of (is_of_kind Rook) men ≡ b.rooks
-  pub queens : word_of (is_of_kind Queen) men ≡ b.queens
-  pub kings : word_of (is_of_kind King) men ≡ b.kings
+  pub colours : colour_words men ≡ b.by_colour
+  pub kinds : kind_words men ≡ b.by_kind
 
 -- Words that show the men they were made of: what every `Board` keeps.
 abbrev pub AreTheirWords : Inside → Type 0
 AreTheirWords b = AreWordsOf (men_of b) b
 
 abbrev pub words_of : List (Option Man) → Inside
-words_of men = record {
-  white = word_of (is_of White) men;
-  black = word_of (is_of Black) men;
-  pawns = word_of (is_of_kind Pawn) men;
-  knights = word_of (is_of_kind Knight) men;
-  bishops = word_of (is_of_kind Bishop) men;
-  rooks = word_of (is_of_kind Rook) men;
-  queens = word_of (is_of_kind Queen) men;
-  kings = word_of (is_of_kind King) men;
-}
+words_of men = record { by_colour = colour_words men; by_kind = kind_words men }
 
 pub words_of-men_of : (b : Inside) → AreTheirWords b → words_of (men_of b) ≡ b
-words_of-men_of b h = λ i. record {
-  white = h.white i;
-  black = h.black i;
-  pawns = h.pawns i;
-  knights = h.knights i;
-  bishops = h.bishops i;
-  rooks = h.rooks i;
-  queens = h.queens i;
-  kings = h.kings i;
-}
+words_of-men_of b h = λ i. record { by_colour = h.colours i; by_kind = h.kinds i }
