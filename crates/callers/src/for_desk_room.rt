@@ -2,7 +2,7 @@
 
 ghost use Rattle.std.specs.Prelude.{◌≡◌, ◌↔◌, ◌⊎◌, ◌<◌, [], ◌∷◌, ◌++◌, length, map, Err, IfOk, IfSome};
 ghost use Rattle.desk_room.specs.Serving.{AreReplies};
-ghost use Rattle.desk_room.specs.Windows.{collected};
+ghost use Rattle.room_ends.specs.Windows.{collected};
 ghost use Rattle.desk_room.specs.declared.rooms.RoomFault.TheVariants as fault;
 
 use chess_moves::Rays;

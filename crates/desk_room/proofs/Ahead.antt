@@ -7,10 +7,10 @@ use Rattle.mate_desk.specs.Content.{Content, QueueValue, Waiting}
 use Rattle.mate_desk.specs.Calls.{change_at, submit_refusal_by, with_entry, withdrawn, withdrawn_at}
 use Rattle.mate_desk.specs.declared.refusals.SubmitRefusal.TheVariants as refusal
 use Rattle.desk_room.specs.Events.{taking, accepts}
-use Rattle.desk_room.specs.WindowRings.{letters_taken, letters_known}
+use Rattle.room_ends.specs.WindowRings.{letters_taken, letters_known}
 use Rattle.desk_room.specs.Keepers.{known, IsRead, Ahead, OthersRead}
-use Rattle.desk_room.specs.declared.letters.Letter.{Letter}
-use Rattle.desk_room.specs.declared.letters.Letter.TheVariants.{Record, Withdrawal, Farewell}
+use Rattle.room_ends.specs.declared.letters.Letter.{Letter}
+use Rattle.room_ends.specs.declared.letters.Letter.TheVariants.{Record, Withdrawal, Farewell}
 use Rattle.desk_room.specs.declared.keepers.Keeper.{Keeper}
 use Rattle.desk_room.proofs.Places.{nil_append, is_or_not, below_or, at_other, at_same, at_old, change_length}
 

@@ -3,13 +3,13 @@ use Rattle.std.proofs.Common.{◌≡◌, ℕ, List, [], ◌∷◌, ◌++◌, Vec
 use Rattle.std.proofs.lemmas.List.{map-append}
 use Rattle.chess_notation.specs.Records.{RecordValue}
 use Rattle.mate_answers.specs.InputReplies.{answer_line}
-use Rattle.mate_desk.specs.declared.deliveries.Delivery.TheVariants.{Answer}
-use Rattle.desk_room.specs.Letters.{records}
+use Rattle.mate_jobs.specs.declared.deliveries.Delivery.TheVariants.{Answer}
+use Rattle.room_ends.specs.Letters.{records}
 use Rattle.desk_room.specs.Deliveries.{asked}
-use Rattle.desk_room.specs.Windows.{letters_sent, collected, default_of, SameWindow}
+use Rattle.room_ends.specs.Windows.{letters_sent, collected, default_of, SameWindow}
 use Rattle.desk_room.specs.inside.Clerks.{Collects, Deals}
 use Rattle.desk_room.specs.declared.clerks.Clerk.{Clerk}
-use Rattle.desk_room.specs.declared.windows.Window.{Window}
+use Rattle.room_ends.specs.declared.windows.Window.{Window}
 use Rattle.desk_room.proofs.Dealt.{deal_answer}
 use Rattle.desk_room.proofs.RingEnds.{same_window}
 

@@ -5,12 +5,12 @@ use Rattle.mate_desk.specs.Content.{Content, QueueValue, EntryValue, Phase, Wait
 use Rattle.mate_desk.specs.Calls.{change_at, in_queue, into_phase, with_entry, withdrawn_at, submit_refusal, submit_refusal_by, ready_first, collected, collected_by}
 use Rattle.mate_desk.specs.Deliveries.{delivery}
 use Rattle.mate_desk.specs.declared.refusals.SubmitRefusal.TheVariants as refusal
-use Rattle.mate_desk.specs.declared.deliveries.Delivery.{Delivery}
+use Rattle.mate_jobs.specs.declared.deliveries.Delivery.{Delivery}
 use Rattle.desk_room.specs.Events.{RoomLists, Event, Takes, Gives, Orders, Hears, May, after, one_more, accepts, is_heard, is_taken, is_ordered, is_given}
 use Rattle.desk_room.specs.Passes.{Taking, Giving, Ordering, Hearing}
 use Rattle.desk_room.specs.Turns.{IsFilled, pending_at, room_at}
-use Rattle.desk_room.specs.declared.letters.Letter.TheVariants.{Record, Withdrawal, Farewell}
-use Rattle.desk_room.specs.declared.letters.Back.TheVariants.{Solved, Returned}
+use Rattle.room_ends.specs.declared.letters.Letter.TheVariants.{Record, Withdrawal, Farewell}
+use Rattle.room_ends.specs.declared.letters.Back.TheVariants.{Solved, Returned}
 use Rattle.desk_room.proofs.Places.{map_length}
 use Rattle.desk_room.proofs.Counting.{count_in, count_all, count_entries}
 use Rattle.desk_room.proofs.Queues.{ready_at, pending_map, gone, first_is, collected_is, ready_fewer}

@@ -6,15 +6,15 @@ use Rattle.chess_notation.specs.Records.{RecordValue}
 use Rattle.mate_desk.specs.Content.{QueueValue, EntryValue, Phase, Waiting, Out, Finished, is_out, is_finished, has_task, waits_as, is_out_with}
 use Rattle.mate_desk.specs.Calls.{change_at, into_phase, with_entry, withdrawn, withdrawn_at, ready_first}
 use Rattle.mate_desk.specs.Deliveries.{delivery}
-use Rattle.mate_desk.specs.declared.deliveries.Delivery.{Delivery}
-use Rattle.mate_desk.specs.declared.deliveries.Delivery.TheVariants.{Answer, Notice}
+use Rattle.mate_jobs.specs.declared.deliveries.Delivery.{Delivery}
+use Rattle.mate_jobs.specs.declared.deliveries.Delivery.TheVariants.{Answer, Notice}
 use Rattle.desk_room.specs.Deliveries.{is_answer}
 use Rattle.desk_room.specs.Events.{RoomLists, Event, Takes, Gives, Orders, Hears, after, one_more, Leads, AllOf, is_heard, is_taken, is_ordered, is_given}
 use Rattle.desk_room.specs.Turns.{Turned, gained, pending_at, solves, MayBeFinished, AreFinishedBy}
 use Rattle.desk_room.specs.declared.turns.Turn.{Turn}
-use Rattle.desk_room.specs.declared.letters.Letter.TheVariants.{Record, Withdrawal, Farewell}
-use Rattle.desk_room.specs.declared.letters.Back.{Back}
-use Rattle.desk_room.specs.declared.letters.Back.TheVariants.{Solved, Returned}
+use Rattle.room_ends.specs.declared.letters.Letter.TheVariants.{Record, Withdrawal, Farewell}
+use Rattle.room_ends.specs.declared.letters.Back.{Back}
+use Rattle.room_ends.specs.declared.letters.Back.TheVariants.{Solved, Returned}
 use Rattle.desk_room.proofs.Places.{nil_append, drop_all}
 use Rattle.desk_room.proofs.Tests.{and_both, or_left, or_right, not_true}
 use Rattle.desk_room.proofs.Queues.{ready_at, pending_map, gone, first_is, collected_is}

@@ -5,17 +5,17 @@ use Rattle.mate_desk.specs.Content.{QueueValue, EntryValue, Phase, Waiting, Out,
 use Rattle.mate_desk.specs.Calls.{change_at, into_phase, has_out, with_entry, withdrawn, withdrawn_at, withdraw_refusal_of, withdraw_refusal_by, ready_first}
 use Rattle.mate_desk.specs.Deliveries.{delivery, delivery_of}
 use Rattle.mate_desk.specs.declared.refusals.WithdrawRefusal.TheVariants as refusal
-use Rattle.mate_desk.specs.declared.deliveries.Delivery.{Delivery}
-use Rattle.mate_desk.specs.declared.deliveries.Delivery.TheVariants.{Answer, Notice}
-use Rattle.desk_room.specs.Letters.{records, farewells}
+use Rattle.mate_jobs.specs.declared.deliveries.Delivery.{Delivery}
+use Rattle.mate_jobs.specs.declared.deliveries.Delivery.TheVariants.{Answer, Notice}
+use Rattle.room_ends.specs.Letters.{records, farewells}
 use Rattle.desk_room.specs.Events.{RoomLists, Event, Takes, Gives, Orders, Hears, May, after, one_more, one_if, tally, is_heard, is_taken, is_ordered, is_given, accepted_by, byes_by, withdrawn_by, solved_by, returned_by, strangers_by}
 use Rattle.desk_room.specs.Kept.{is_withdrawn}
 use Rattle.desk_room.specs.Turns.{Turned, AreGains, total, notices, withdrawals, pending_at}
 use Rattle.desk_room.specs.declared.turns.Turn.{Turn}
-use Rattle.desk_room.specs.declared.letters.Letter.TheVariants.{Record, Withdrawal, Farewell}
-use Rattle.desk_room.specs.declared.letters.Back.{Back}
-use Rattle.desk_room.specs.declared.letters.Back.TheVariants.{Solved, Returned}
-use Rattle.desk_room.specs.declared.deque_rule.Order.TheVariants.{Solve}
+use Rattle.room_ends.specs.declared.letters.Letter.TheVariants.{Record, Withdrawal, Farewell}
+use Rattle.room_ends.specs.declared.letters.Back.{Back}
+use Rattle.room_ends.specs.declared.letters.Back.TheVariants.{Solved, Returned}
+use Rattle.room_ends.specs.declared.deque_rule.Order.TheVariants.{Solve}
 use Rattle.desk_room.proofs.LetterCounts.{records_append, farewells_count}
 use Rattle.desk_room.proofs.Places.{change_past}
 use Rattle.desk_room.proofs.Counting.{count_in, count_all, count_entries, count_same, count_change, count_snoc}

@@ -7,14 +7,14 @@ use Rattle.chess_notation.specs.EpdFaults.{IsFaultOf}
 use Rattle.chess_notation.specs.declared.epd_faults.EpdFault.{EpdFault}
 use Rattle.chess_notation.specs.declared.epd_faults.EpdFault.TheVariants.{NoMemory}
 use Rattle.mate_answers.specs.InputReplies.{answer_line, fault_line, without_cr, lines_of, IsLineReply, IsReply, RepliesGoOn, answered as is_answered, refused as is_refused}
-use Rattle.desk_room.specs.Letters.{records}
+use Rattle.room_ends.specs.Letters.{records}
 use Rattle.desk_room.specs.Deliveries.{asked}
-use Rattle.desk_room.specs.Windows.{letters_sent, collected, default_of, SameWindow}
-use Rattle.desk_room.specs.WindowFaults.{SaysOnly, SaysRecord}
+use Rattle.room_ends.specs.Windows.{letters_sent, collected, default_of, SameWindow}
+use Rattle.room_ends.specs.WindowFaults.{SaysOnly, SaysRecord}
 use Rattle.desk_room.specs.inside.Clerks.{Deals, HasDealt, Reports}
-use Rattle.desk_room.specs.declared.letters.Letter.TheVariants.{Record}
+use Rattle.room_ends.specs.declared.letters.Letter.TheVariants.{Record}
 use Rattle.desk_room.specs.declared.clerks.Clerk.{Clerk}
-use Rattle.desk_room.specs.declared.windows.Window.{Window}
+use Rattle.room_ends.specs.declared.windows.Window.{Window}
 use Rattle.desk_room.proofs.LetterCounts.{records_append}
 use Rattle.desk_room.proofs.Collecting.{moved, window_then}
 use Rattle.desk_room.proofs.Dealt.{deal_record, deal_refusal, deal_refusal_behind, dealt_whole}

@@ -1,8 +1,8 @@
 -- What runs of events leave as it was, and what they add.
 use Rattle.std.proofs.Common.{◌≡◌, true≢false, ℕ, ◌+◌, Bool, true, List, [], ◌∷◌, length, refl, sym, ap, ◌∙◌, arith}
 use Rattle.desk_room.specs.Events.{RoomLists, Event, Takes, Gives, Orders, Hears, May, after, Leads, AllOf, tally, is_heard, is_taken, is_ordered, is_given}
-use Rattle.desk_room.specs.declared.letters.Letter.TheVariants.{Record, Withdrawal, Farewell}
-use Rattle.desk_room.specs.declared.letters.Back.TheVariants.{Solved, Returned}
+use Rattle.room_ends.specs.declared.letters.Letter.TheVariants.{Record, Withdrawal, Farewell}
+use Rattle.room_ends.specs.declared.letters.Back.TheVariants.{Solved, Returned}
 
 -- What each event of a kind leaves, their run leaves.
 pub run_same : {X : Type 0} (f : RoomLists → X) (kind : Event → Bool) → ((e : Event) (s : RoomLists) → kind e ≡ true → May e s → f (after e s) ≡ f s) → (es : List Event) (s t : RoomLists) → AllOf kind es → Leads es s t → f t ≡ f s

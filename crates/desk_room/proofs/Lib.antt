@@ -14,7 +14,6 @@ pub mod Finishing
 pub mod Filling
 pub mod LetterCounts
 pub mod RingEnds
-pub mod Deals
 pub mod Telling
 pub mod Ahead
 pub mod Listening

@@ -1,9 +1,9 @@
 -- The back rings: what was heard and is known only grows, and where all that was known was heard nothing is known.
 use Rattle.std.proofs.Common.{◌≡◌, ◌<◌, ◌≤◌, ⊎_elim, ℕ, zero, suc, ◌+◌, List, [], ◌∷◌, length, map, get_or, refl, sym, ◌∙◌, subst, arith}
-use Rattle.desk_room.specs.Benches.{heard, back_known}
+use Rattle.room_ends.specs.Benches.{heard, back_known}
 use Rattle.desk_room.specs.Keepers.{backs_known, BacksAhead}
 use Rattle.desk_room.specs.inside.Steps.{Untouched}
-use Rattle.desk_room.specs.declared.back_ring_ear.Ear.{Ear}
+use Rattle.room_ends.specs.declared.back_ring_ear.Ear.{Ear}
 use Rattle.desk_room.specs.declared.keepers.Keeper.{Keeper}
 use Rattle.desk_room.proofs.Places.{below_or, below_or_past}
 use Rattle.desk_room.proofs.Ahead.{Longer, prefix_same, prefix_then}

@@ -1,11 +1,11 @@
 -- A window of a room that was opened is of that room, and stays so.
 use Rattle.std.proofs.Common.{◌≡◌, ℕ, ◌+◌, List, [], ◌∷◌, ◌++◌, length, slice_get, Some, refl, ap, ◌∙◌, subst, arith}
-use Rattle.desk_room.specs.Windows.{number_of, SameWindow}
-use Rattle.desk_room.specs.WindowRings.{AreEnds}
+use Rattle.room_ends.specs.Windows.{number_of, SameWindow}
+use Rattle.room_ends.specs.WindowRings.{AreEnds}
 use Rattle.desk_room.specs.Keepers.{IsOf, SameRoom}
-use Rattle.desk_room.specs.Opening.{AreOpened}
-use Rattle.desk_room.specs.declared.windows.Window.{Window}
-use Rattle.desk_room.specs.declared.window_ring_line.Line.{Line}
+use Rattle.room_ends.specs.Opening.{AreOpened}
+use Rattle.room_ends.specs.declared.windows.Window.{Window}
+use Rattle.room_ends.specs.declared.window_ring_line.Line.{Line}
 use Rattle.desk_room.specs.declared.keepers.Keeper.{Keeper}
 use Rattle.desk_room.proofs.RingEnds.{same_line, ends_stay}
 

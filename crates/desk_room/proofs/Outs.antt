@@ -5,15 +5,15 @@ use Rattle.mate_jobs.specs.Jobs.{Task}
 use Rattle.mate_desk.specs.Content.{Content, QueueValue, EntryValue, Phase, Waiting, Out, Finished, is_out, is_finished, has_ticket, has_task, waits_as, is_out_with}
 use Rattle.mate_desk.specs.Calls.{change_at, in_queue, into_phase, with_entry, withdrawn, withdrawn_at, ready_first}
 use Rattle.mate_desk.specs.Deliveries.{delivery}
-use Rattle.mate_desk.specs.declared.deliveries.Delivery.{Delivery}
+use Rattle.mate_jobs.specs.declared.deliveries.Delivery.{Delivery}
 use Rattle.desk_room.specs.Events.{RoomLists, Event, Takes, Gives, Orders, Hears, May, after, one_more, one_if, hearing, job_of, Leads, AllOf, is_heard, is_taken, is_ordered, is_given}
 use Rattle.desk_room.specs.Turns.{Turned, gained, pending_at, is_out_under, outs, is_named, still_out, times_ordered}
 use Rattle.desk_room.specs.declared.turns.Turn.{Turn}
-use Rattle.desk_room.specs.declared.letters.Letter.TheVariants.{Record, Withdrawal, Farewell}
-use Rattle.desk_room.specs.declared.letters.Back.{Back}
-use Rattle.desk_room.specs.declared.letters.Back.TheVariants.{Solved, Returned}
-use Rattle.desk_room.specs.declared.deque_rule.Order.{Order}
-use Rattle.desk_room.specs.declared.deque_rule.Order.TheVariants.{Solve, Stop}
+use Rattle.room_ends.specs.declared.letters.Letter.TheVariants.{Record, Withdrawal, Farewell}
+use Rattle.room_ends.specs.declared.letters.Back.{Back}
+use Rattle.room_ends.specs.declared.letters.Back.TheVariants.{Solved, Returned}
+use Rattle.room_ends.specs.declared.deque_rule.Order.{Order}
+use Rattle.room_ends.specs.declared.deque_rule.Order.TheVariants.{Solve, Stop}
 use Rattle.desk_room.proofs.Places.{nil_append, drop_all}
 use Rattle.desk_room.proofs.Tests.{and_both, same_is}
 use Rattle.desk_room.proofs.Counting.{count_in, count_all, count_entries, count_same, count_more, count_change, count_snoc}

@@ -4,16 +4,16 @@ use Rattle.std.proofs.lemmas.List.{map-append}
 use Rattle.mate_desk.specs.Content.{QueueValue, EntryValue, Phase}
 use Rattle.mate_desk.specs.Calls.{change_at, in_queue, into_phase, with_entry, withdrawn, withdrawn_at, ready_first}
 use Rattle.mate_desk.specs.Deliveries.{delivery, delivery_of}
-use Rattle.mate_desk.specs.declared.deliveries.Delivery.{Delivery}
-use Rattle.mate_desk.specs.declared.deliveries.Delivery.TheVariants.{Answer, Notice}
-use Rattle.desk_room.specs.Letters.{records}
+use Rattle.mate_jobs.specs.declared.deliveries.Delivery.{Delivery}
+use Rattle.mate_jobs.specs.declared.deliveries.Delivery.TheVariants.{Answer, Notice}
+use Rattle.room_ends.specs.Letters.{records}
 use Rattle.desk_room.specs.Deliveries.{asked}
 use Rattle.desk_room.specs.Events.{RoomLists, Event, Takes, Gives, Orders, Hears, May, after, one_more, Leads}
 use Rattle.desk_room.specs.Kept.{asked_of, owed, AreOwed}
 use Rattle.desk_room.specs.Turns.{pending_at}
-use Rattle.desk_room.specs.declared.letters.Letter.{Letter}
-use Rattle.desk_room.specs.declared.letters.Letter.TheVariants.{Record, Withdrawal, Farewell}
-use Rattle.desk_room.specs.declared.letters.Back.TheVariants.{Solved, Returned}
+use Rattle.room_ends.specs.declared.letters.Letter.{Letter}
+use Rattle.room_ends.specs.declared.letters.Letter.TheVariants.{Record, Withdrawal, Farewell}
+use Rattle.room_ends.specs.declared.letters.Back.TheVariants.{Solved, Returned}
 use Rattle.desk_room.proofs.LetterCounts.{records_append}
 use Rattle.desk_room.proofs.Places.{nil_append, head_is, tail_is, cons_is, change_id}
 use Rattle.desk_room.proofs.Queues.{ready_at, gone, first_is, collected_is}

@@ -3,7 +3,7 @@ use Rattle.std.proofs.Common.{◌≡◌, ◌≢◌, ℕ, zero, suc, ◌+◌, tru
 use Rattle.mate_desk.specs.Content.{QueueValue, EntryValue, is_ready}
 use Rattle.mate_desk.specs.Calls.{change_at, in_queue, ready_first, ready_of, collected, collected_by}
 use Rattle.mate_desk.specs.Deliveries.{delivery, delivery_of}
-use Rattle.mate_desk.specs.declared.deliveries.Delivery.{Delivery}
+use Rattle.mate_jobs.specs.declared.deliveries.Delivery.{Delivery}
 use Rattle.desk_room.specs.Turns.{pending_at}
 
 pub ready_at : (n : ℕ) (qs : List QueueValue) → ready_of (slice_get qs n) ≡ ready_first (pending_at n qs)

@@ -1,11 +1,11 @@
 -- Runs of events, one after the other.
 use Rattle.std.proofs.Common.{◌≡◌, ℕ, ◌+◌, Bool, List, [], ◌∷◌, ◌++◌, refl, ap, subst, arith, length-append}
 use Rattle.mate_jobs.specs.Jobs.{Task}
-use Rattle.mate_desk.specs.declared.deliveries.Delivery.{Delivery}
+use Rattle.mate_jobs.specs.declared.deliveries.Delivery.{Delivery}
 use Rattle.desk_room.specs.Events.{RoomLists, Event, Takes, Gives, Orders, Hears, May, after, Leads, AllOf, tally, is_heard, is_taken, is_ordered, is_given, accepted_by, byes_by, withdrawn_by, solved_by, returned_by, strangers_by}
 use Rattle.desk_room.specs.Passes.{Taking, Giving, Ordering, Hearing}
-use Rattle.desk_room.specs.declared.letters.Letter.{Letter}
-use Rattle.desk_room.specs.declared.letters.Back.{Back}
+use Rattle.room_ends.specs.declared.letters.Letter.{Letter}
+use Rattle.room_ends.specs.declared.letters.Back.{Back}
 
 pub leads_then : (es fs : List Event) (s t u : RoomLists) → Leads es s t → Leads fs t u → Leads (es ++ fs) s u
 leads_then [] fs s t u r q = subst (λ (v : RoomLists). Leads fs v u) r q

@@ -3,11 +3,11 @@ use Rattle.std.proofs.Common.{◌≡◌, ◌≢◌, ◌<◌, ◌⊎◌, inl, inr
 use Rattle.mate_desk.specs.Content.{Content, QueueValue}
 use Rattle.mate_desk.specs.Calls.{change_at, ready, ready_of, ready_first, collected, pending_of}
 use Rattle.mate_desk.specs.Deliveries.{delivery}
-use Rattle.desk_room.specs.WindowRings.{deliveries_put, places_free}
+use Rattle.room_ends.specs.WindowRings.{deliveries_put, places_free}
 use Rattle.desk_room.specs.Keepers.{IsServed, OthersServed}
 use Rattle.desk_room.specs.inside.Steps.{GaveOne}
 use Rattle.desk_room.specs.Turns.{pending_at}
-use Rattle.desk_room.specs.declared.window_ring_line.Line.{Line}
+use Rattle.room_ends.specs.declared.window_ring_line.Line.{Line}
 use Rattle.desk_room.specs.declared.keepers.Keeper.{Keeper}
 use Rattle.desk_room.proofs.Places.{below_or, at_same}
 use Rattle.desk_room.proofs.Fewness.{one_longer, as_long}

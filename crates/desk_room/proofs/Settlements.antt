@@ -4,13 +4,13 @@ use Rattle.std.proofs.lemmas.Bool.Decides.{nat_tests}
 use Rattle.std.specs.List.{list_all}
 use Rattle.mate_desk.specs.Content.{Content, QueueValue, EntryValue}
 use Rattle.mate_desk.specs.Calls.{is_drained}
-use Rattle.mate_desk.specs.declared.deliveries.Delivery.{Delivery}
-use Rattle.desk_room.specs.Letters.{records}
+use Rattle.mate_jobs.specs.declared.deliveries.Delivery.{Delivery}
+use Rattle.room_ends.specs.Letters.{records}
 use Rattle.desk_room.specs.Deliveries.{asked}
 use Rattle.desk_room.specs.Kept.{asked_of, owed, EachIsMarked}
 use Rattle.desk_room.specs.Withdrawals.{marks, are_notices_marked}
 use Rattle.desk_room.specs.Turns.{pending_at}
-use Rattle.desk_room.specs.declared.letters.Letter.{Letter}
+use Rattle.room_ends.specs.declared.letters.Letter.{Letter}
 use Rattle.desk_room.proofs.Places.{nil_append, head_is, tail_is, at_same}
 use Rattle.desk_room.proofs.Tests.{and_both}
 use Rattle.desk_room.proofs.LetterCounts.{records_append}

@@ -1,12 +1,12 @@
 -- The windows of a room stay those that they were.
 use Rattle.std.proofs.lemmas.List.Sums.{sum_by-cons, count_by_more_yes, count_by_more_no}
-use Rattle.desk_room.specs.Letters.{farewells}
-use Rattle.std.proofs.Common.{take, Bool, true, false, if◌then◌else◌, count_by, sum_by, cond, nat_lt, ◌+◌, ◌≡◌, ◌≢◌, ◌<◌, ◌⊎◌, inl, inr, ℕ, zero, suc, List, [], ◌∷◌, length, map, set, get_or, slice_get, Some, refl, sym, ap, ◌∙◌, subst, arith}
-use Rattle.desk_room.specs.Windows.{number_of}
-use Rattle.desk_room.specs.WindowRings.{letters_taken, SameLine, AreEnds}
+use Rattle.room_ends.specs.Letters.{farewells}
+use Rattle.std.proofs.Common.{take, Bool, true, false, if◌then◌else◌, count_by, cond, nat_lt, ◌+◌, ◌≡◌, ◌≢◌, ◌<◌, ◌⊎◌, inl, inr, ℕ, zero, suc, List, [], ◌∷◌, length, map, set, get_or, slice_get, Some, refl, sym, ap, ◌∙◌, subst, arith}
+use Rattle.room_ends.specs.Windows.{number_of}
+use Rattle.room_ends.specs.WindowRings.{letters_taken, has_farewell, SameLine, AreEnds}
 use Rattle.desk_room.specs.Keepers.{windows_gone, IsOf, SameRoom, Stays}
-use Rattle.desk_room.specs.declared.windows.Window.{Window}
-use Rattle.desk_room.specs.declared.window_ring_line.Line.{Line}
+use Rattle.room_ends.specs.declared.windows.Window.{Window}
+use Rattle.room_ends.specs.declared.window_ring_line.Line.{Line}
 use Rattle.desk_room.specs.declared.keepers.Keeper.{Keeper}
 use Rattle.desk_room.proofs.Places.{is_or_not}
 use Rattle.desk_room.proofs.RingEnds.{same_window, ends_stay}
@@ -51,14 +51,13 @@ room_set k m n l x h e s q = λ w p. pick w p (is_or_not (number_of w) n)
         (x, ap (λ ls. slice_get ls (number_of w)) q ∙ (ap (slice_get (set k.lines.items n x)) i ∙ got_same n k.lines.items x h), ends_stay w w l x (subst (λ y. AreEnds w y) own p.2) (same_window w) s)
     pick w p (inr i) = (p.0, ap (λ ls. slice_get ls (number_of w)) q ∙ (got_other n (number_of w) k.lines.items x i ∙ p.1), p.2)
 
--- as many lines say that a window is gone as have a farewell among the letters taken
-pub gone_counted : (ls : List Line) → count_by (λ l. l.gone) ls ≡ windows_gone (map letters_taken ls)
+-- as many windows are gone as have a farewell among the letters taken
+pub gone_counted : (ls : List Line) → count_by has_farewell ls ≡ windows_gone (map letters_taken ls)
 gone_counted [] = refl
 gone_counted (l ∷ ls) =
-    sum_by-cons (λ x. cond x.gone 1 0) l ls
-    ∙ (ap (λ b. cond b 1 0 + sum_by (λ x. cond x.gone 1 0) ls) l.said
-    ∙ (ap (λ n. cond (nat_lt 0 (farewells (letters_taken l))) 1 0 + n) (gone_counted ls)
-    ∙ sym (sum_by-cons (λ x. cond (nat_lt 0 (farewells x)) 1 0) (letters_taken l) (map letters_taken ls))))
+    sum_by-cons (λ x. cond (has_farewell x) 1 0) l ls
+    ∙ (ap (λ n. cond (has_farewell l) 1 0 + n) (gone_counted ls)
+    ∙ sym (sum_by-cons (λ x. cond (nat_lt 0 (farewells x)) 1 0) (letters_taken l) (map letters_taken ls)))
 
 pub got_inside : {A : Type 0} (n : ℕ) (xs : List A) (x : A) → slice_get xs n ≡ Some x → n < length xs
 got_inside n [] x g = absurd (cc)
@@ -69,9 +68,9 @@ pub stays_lines : (k m : Keeper) → m.lines ≡ k.lines → length m.ears.items
 stays_lines k m e f g = record { windows = ap (λ v. length v.items) e; benches = f; ring = g; room = room_lines k m e }
 
 -- one line more was counted
-pub gone_more : (ls : List Line) (n : ℕ) (l : Line) (k : ℕ) → n < length ls → l ≡ get_or ls n l → k ≡ count_by (λ (x : Line). x.gone) (take n ls) → count_by (λ (x : Line). x.gone) (take (n + 1) ls) ≡ (if l.gone then k + 1 else k)
-gone_more ls n l k h e c = by_mark l.gone refl
+pub gone_more : (ls : List Line) (n : ℕ) (l : Line) (k : ℕ) → n < length ls → l ≡ get_or ls n l → k ≡ count_by has_farewell (take n ls) → count_by has_farewell (take (n + 1) ls) ≡ (if has_farewell l then k + 1 else k)
+gone_more ls n l k h e c = by_mark (has_farewell l) refl
   where
-    by_mark : (b : Bool) → l.gone ≡ b → count_by (λ (x : Line). x.gone) (take (n + 1) ls) ≡ (if b then k + 1 else k)
-    by_mark true p = count_by_more_yes (λ (x : Line). x.gone) ls n l h (ap (λ (x : Line). x.gone) (sym e) ∙ p) ∙ ap (λ i. i + 1) (sym c)
-    by_mark false p = count_by_more_no (λ (x : Line). x.gone) ls n l h (ap (λ (x : Line). x.gone) (sym e) ∙ p) ∙ sym c
+    by_mark : (b : Bool) → has_farewell l ≡ b → count_by has_farewell (take (n + 1) ls) ≡ (if b then k + 1 else k)
+    by_mark true p = count_by_more_yes has_farewell ls n l h (ap has_farewell (sym e) ∙ p) ∙ ap (λ i. i + 1) (sym c)
+    by_mark false p = count_by_more_no has_farewell ls n l h (ap has_farewell (sym e) ∙ p) ∙ sym c

@@ -1,25 +1,25 @@
 -- Each step of the keeper is an event over its lists.
-use Rattle.std.proofs.Common.{◌≡◌, ◌<◌, ℕ, zero, suc, Bool, true, false, if◌then◌else◌, List, [], ◌∷◌, ◌++◌, length, map, set, get_or, replicate, refl, sym, ap, ◌∙◌, subst, arith, length-set}
+use Rattle.std.proofs.Common.{◌+◌, ◌≡◌, ◌<◌, ℕ, zero, suc, Bool, true, false, if◌then◌else◌, List, [], ◌∷◌, ◌++◌, length, map, set, get_or, replicate, refl, sym, ap, ◌∙◌, subst, arith, length-set}
 use Rattle.mate_jobs.specs.Jobs.{Task}
 use Rattle.mate_desk.specs.Content.{Content, QueueValue, EntryValue, Waiting, Out, Finished, waits_as, is_out_with}
 use Rattle.mate_desk.specs.Calls.{change_at, in_queue, into_phase, with_entry, withdrawn_at, collected, after_take, after_collect}
-use Rattle.mate_desk.specs.declared.deliveries.Delivery.{Delivery}
-use Rattle.desk_room.specs.DequeRule.{stops}
-use Rattle.desk_room.specs.Benches.{heard}
-use Rattle.desk_room.specs.WindowRings.{letters_taken, deliveries_put}
+use Rattle.mate_jobs.specs.declared.deliveries.Delivery.{Delivery}
+use Rattle.room_ends.specs.DequeRule.{stops}
+use Rattle.room_ends.specs.Benches.{heard}
+use Rattle.room_ends.specs.WindowRings.{letters_taken, deliveries_put}
 use Rattle.desk_room.specs.Events.{RoomLists, Takes, Gives, Orders, Hears, May, after, one_more, taking, hearing}
 use Rattle.desk_room.specs.Kept.{room_of, AreOwed, AreMarked}
 use Rattle.desk_room.specs.Passes.{Taking, Giving, Hearing}
 use Rattle.desk_room.specs.inside.Steps.{HeardOne, TookOne, OrderedOne, GaveOne, Trying}
 use Rattle.desk_room.specs.Turns.{waiting}
-use Rattle.desk_room.specs.declared.letters.Letter.{Letter}
-use Rattle.desk_room.specs.declared.letters.Letter.TheVariants.{Record, Withdrawal, Farewell}
-use Rattle.desk_room.specs.declared.letters.Back.{Back}
-use Rattle.desk_room.specs.declared.letters.Back.TheVariants.{Solved, Returned}
-use Rattle.desk_room.specs.declared.deque_rule.Order.{Order}
-use Rattle.desk_room.specs.declared.deque_rule.Order.TheVariants.{Solve}
-use Rattle.desk_room.specs.declared.back_ring_ear.Ear.{Ear}
-use Rattle.desk_room.specs.declared.window_ring_line.Line.{Line}
+use Rattle.room_ends.specs.declared.letters.Letter.{Letter}
+use Rattle.room_ends.specs.declared.letters.Letter.TheVariants.{Record, Withdrawal, Farewell}
+use Rattle.room_ends.specs.declared.letters.Back.{Back}
+use Rattle.room_ends.specs.declared.letters.Back.TheVariants.{Solved, Returned}
+use Rattle.room_ends.specs.declared.deque_rule.Order.{Order}
+use Rattle.room_ends.specs.declared.deque_rule.Order.TheVariants.{Solve, Stop}
+use Rattle.room_ends.specs.declared.back_ring_ear.Ear.{Ear}
+use Rattle.room_ends.specs.declared.window_ring_line.Line.{Line}
 use Rattle.desk_room.specs.declared.back_pass.Heard.{Heard}
 use Rattle.desk_room.specs.declared.letter_pass.Took.{Took}
 use Rattle.desk_room.specs.declared.order_pass.Tried.{Tried}
@@ -30,7 +30,6 @@ use Rattle.desk_room.proofs.Owing.{owed_after, owed_run}
 use Rattle.desk_room.proofs.Marking.{marked_step, marked_same, marked_runs}
 use Rattle.desk_room.proofs.Filling.{room_withdrawn, room_collected}
 use Rattle.desk_room.proofs.GoingOut.{waiting_less}
-use Rattle.desk_room.proofs.Deals.{stops_append}
 
 -- the lists of these parts
 abbrev pub of : List Line → List Ear → List Order → Content → RoomLists
@@ -107,8 +106,13 @@ ordered_marked Ordered ts ps hs old new c d g o = marked_step (Orders g.0) (with
 ordered_marked Refused ts ps hs old new c d g o = marked_same _ _ (ordered_none ts ps hs old new c d g.0 g.1) o
 ordered_marked NoneWaits ts ps hs old new c d g o = marked_same _ _ (ordered_none ts ps hs old new c d g.0 g.1) o
 
+stops_before : (xs : List Order) (job : Task) → stops (xs ++ Solve job ∷ []) ≡ stops xs
+stops_before [] job = refl
+stops_before (Solve j ∷ xs) job = stops_before xs job
+stops_before (Stop ∷ xs) job = ap (λ n. n + 1) (stops_before xs job)
+
 pub ordered_stops : (p : Tried) (old new : List Order) (c d : Content) → OrderedOne old new c d p → stops new ≡ stops old
-ordered_stops Ordered old new c d g = omega (arith, ap stops g.4, stops_append old (Solve g.0 ∷ []))
+ordered_stops Ordered old new c d g = ap stops g.4 ∙ stops_before old g.0
 ordered_stops Refused old new c d g = ap stops g.0
 ordered_stops NoneWaits old new c d g = ap stops g.0
 

@@ -7,8 +7,8 @@ use Rattle.mate_desk.specs.Calls.{change_at, has_out, after_return, withdrawn, w
 use Rattle.mate_desk.specs.declared.refusals.WithdrawRefusal.{WithdrawRefusal}
 use Rattle.mate_desk.specs.declared.refusals.WithdrawRefusal.TheVariants as refusal
 use Rattle.desk_room.specs.Events.{one_if, job_of, hearing, solved_in, returned_in, stranger_in}
-use Rattle.desk_room.specs.declared.letters.Back.{Back}
-use Rattle.desk_room.specs.declared.letters.Back.TheVariants.{Solved, Returned}
+use Rattle.room_ends.specs.declared.letters.Back.{Back}
+use Rattle.room_ends.specs.declared.letters.Back.TheVariants.{Solved, Returned}
 use Rattle.desk_room.specs.Turns.{waiting}
 use Rattle.desk_room.proofs.Places.{change_past}
 use Rattle.desk_room.proofs.Counting.{count_in, count_is, none_counted}

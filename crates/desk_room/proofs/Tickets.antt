@@ -5,13 +5,13 @@ use Rattle.std.proofs.Math.Logic.{∥∥₁_elim}
 use Rattle.std.specs.Coded.{Coded-set, coded_ℕ}
 use Rattle.mate_desk.specs.Content.{Content, QueueValue}
 use Rattle.mate_desk.specs.Laws.{AreOrdered}
-use Rattle.mate_desk.specs.declared.deliveries.Delivery.{Delivery}
-use Rattle.desk_room.specs.Letters.{records}
+use Rattle.mate_jobs.specs.declared.deliveries.Delivery.{Delivery}
+use Rattle.room_ends.specs.Letters.{records}
 use Rattle.desk_room.specs.Deliveries.{asked}
 use Rattle.desk_room.specs.Events.{accepts}
 use Rattle.desk_room.specs.Kept.{asked_of, room_of, owed, EachIsMarked}
 use Rattle.desk_room.specs.Turns.{pending_at}
-use Rattle.desk_room.specs.declared.letters.Letter.{Letter}
+use Rattle.room_ends.specs.declared.letters.Letter.{Letter}
 use Rattle.desk_room.proofs.Places.{map_length, head_is, tail_is}
 use Rattle.desk_room.proofs.Ahead.{accepted_open}
 

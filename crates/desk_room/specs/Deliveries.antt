@@ -1,8 +1,8 @@
 -- What was delivered, and for which record.
 use Rattle.std.specs.Prelude.{Bool, true, false}
 use Rattle.chess_notation.specs.Records.{RecordValue}
-use Rattle.mate_desk.specs.declared.deliveries.Delivery.{Delivery}
-use Rattle.mate_desk.specs.declared.deliveries.Delivery.TheVariants.{Answer, Notice}
+use Rattle.mate_jobs.specs.declared.deliveries.Delivery.{Delivery}
+use Rattle.mate_jobs.specs.declared.deliveries.Delivery.TheVariants.{Answer, Notice}
 
 -- the record that it is for: the one that was answered, or that the notice names
 abbrev pub asked : Delivery → RecordValue

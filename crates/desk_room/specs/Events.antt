@@ -4,14 +4,14 @@ use Rattle.mate_jobs.specs.Jobs.{Task}
 use Rattle.mate_desk.specs.Content.{Content, Waiting, Finished, entries, lowest, waits_as, is_out_with}
 use Rattle.mate_desk.specs.Calls.{change_at, submit_refusal, after_submit, after_take, has_out, after_return, ready, after_collect, withdraw_refusal, after_withdraw}
 use Rattle.mate_desk.specs.Deliveries.{delivery}
-use Rattle.mate_desk.specs.declared.deliveries.Delivery.{Delivery}
-use Rattle.desk_room.specs.Letters.{records, farewells}
-use Rattle.desk_room.specs.declared.letters.Letter.{Letter}
-use Rattle.desk_room.specs.declared.letters.Letter.TheVariants.{Record, Withdrawal, Farewell}
-use Rattle.desk_room.specs.declared.letters.Back.{Back}
-use Rattle.desk_room.specs.declared.letters.Back.TheVariants.{Solved, Returned}
-use Rattle.desk_room.specs.declared.deque_rule.Order.{Order}
-use Rattle.desk_room.specs.declared.deque_rule.Order.TheVariants.{Solve}
+use Rattle.mate_jobs.specs.declared.deliveries.Delivery.{Delivery}
+use Rattle.room_ends.specs.Letters.{records, farewells}
+use Rattle.room_ends.specs.declared.letters.Letter.{Letter}
+use Rattle.room_ends.specs.declared.letters.Letter.TheVariants.{Record, Withdrawal, Farewell}
+use Rattle.room_ends.specs.declared.letters.Back.{Back}
+use Rattle.room_ends.specs.declared.letters.Back.TheVariants.{Solved, Returned}
+use Rattle.room_ends.specs.declared.deque_rule.Order.{Order}
+use Rattle.room_ends.specs.declared.deque_rule.Order.TheVariants.{Solve}
 
 -- For each window the letters taken off its ring and the deliveries put on its ring, for each bench what was taken off its back ring,
 -- the orders put out, and what the desk holds.

@@ -2,17 +2,17 @@
 use Rattle.std.specs.Prelude.{◌≡◌, ◌≢◌, ◌⊎◌, ℕ, nat_lt, Bool, false, List, [], ◌++◌, length, map, get_or, count_by, slice_get, Some, None}
 use mathlib.Core.List.{IsPrefix}
 use Rattle.mate_desk.specs.Calls.{ready}
-use Rattle.desk_room.specs.Letters.{farewells}
+use Rattle.room_ends.specs.Letters.{farewells}
 use Rattle.desk_room.specs.Events.{RoomLists, accepts}
-use Rattle.desk_room.specs.WindowRings.{letters_taken, letters_known, deliveries_put, places_free, AreEnds}
-use Rattle.desk_room.specs.Windows.{number_of}
-use Rattle.desk_room.specs.Benches.{heard, back_known}
-use Rattle.desk_room.specs.Orders.{orders, places}
-use Rattle.desk_room.specs.declared.letters.Letter.{Letter}
-use Rattle.desk_room.specs.declared.letters.Back.{Back}
-use Rattle.desk_room.specs.declared.windows.Window.{Window}
-use Rattle.desk_room.specs.declared.window_ring_line.Line.{Line}
-use Rattle.desk_room.specs.declared.back_ring_ear.Ear.{Ear}
+use Rattle.room_ends.specs.WindowRings.{letters_taken, letters_known, deliveries_put, places_free, AreEnds}
+use Rattle.room_ends.specs.Windows.{number_of}
+use Rattle.room_ends.specs.Benches.{heard, back_known}
+use Rattle.room_ends.specs.Orders.{orders, places}
+use Rattle.room_ends.specs.declared.letters.Letter.{Letter}
+use Rattle.room_ends.specs.declared.letters.Back.{Back}
+use Rattle.room_ends.specs.declared.windows.Window.{Window}
+use Rattle.room_ends.specs.declared.window_ring_line.Line.{Line}
+use Rattle.room_ends.specs.declared.back_ring_ear.Ear.{Ear}
 use Rattle.desk_room.specs.declared.keepers.Keeper.{Keeper}
 
 -- its ends of each window's two rings, and of each bench's back ring

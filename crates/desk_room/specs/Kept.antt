@@ -2,12 +2,12 @@
 use Rattle.std.specs.Prelude.{◌≡◌, ℕ, ◌+◌, Bool, true, List, [], ◌∷◌, ◌++◌, length, map, drop}
 use Rattle.chess_notation.specs.Records.{RecordValue}
 use Rattle.mate_desk.specs.Content.{EntryValue, QueueValue}
-use Rattle.mate_desk.specs.declared.deliveries.Delivery.{Delivery}
-use Rattle.desk_room.specs.Letters.{records}
+use Rattle.mate_jobs.specs.declared.deliveries.Delivery.{Delivery}
+use Rattle.room_ends.specs.Letters.{records}
 use Rattle.desk_room.specs.Deliveries.{asked}
 use Rattle.desk_room.specs.Withdrawals.{marks, are_notices_marked}
 use Rattle.desk_room.specs.Events.{RoomLists}
-use Rattle.desk_room.specs.declared.letters.Letter.{Letter}
+use Rattle.room_ends.specs.declared.letters.Letter.{Letter}
 
 abbrev pub asked_of : EntryValue → RecordValue
 asked_of e = e.asked

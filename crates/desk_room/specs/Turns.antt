@@ -2,16 +2,16 @@
 use Rattle.std.specs.Prelude.{◌≡◌, ◌≤◌, ◌⊎◌, ℕ, zero, suc, ◌+◌, ◌^◌, ◌-◌, ◌==◌, Bool, true, false, not, ◌&&◌, if◌then◌else◌, List, [], ◌∷◌, ◌++◌, length, drop, get_or, count_by}
 use Rattle.std.specs.List.{list_any}
 use Rattle.mate_desk.specs.Content.{Content, EntryValue, QueueValue, entries, has_ticket, has_task, is_out, is_finished, waits}
-use Rattle.mate_desk.specs.declared.deliveries.Delivery.{Delivery}
-use Rattle.desk_room.specs.Letters.{records, farewells}
+use Rattle.mate_jobs.specs.declared.deliveries.Delivery.{Delivery}
+use Rattle.room_ends.specs.Letters.{records, farewells}
 use Rattle.desk_room.specs.Deliveries.{is_answer}
 use Rattle.desk_room.specs.Events.{RoomLists, job_of}
 use Rattle.desk_room.specs.Kept.{is_withdrawn}
 use Rattle.desk_room.specs.Passes.{Hearing, Taking, Ordering, Giving}
-use Rattle.desk_room.specs.declared.letters.Back.{Back}
-use Rattle.desk_room.specs.declared.letters.Back.TheVariants.{Solved, Returned}
-use Rattle.desk_room.specs.declared.deque_rule.Order.{Order}
-use Rattle.desk_room.specs.declared.deque_rule.Order.TheVariants.{Solve, Stop}
+use Rattle.room_ends.specs.declared.letters.Back.{Back}
+use Rattle.room_ends.specs.declared.letters.Back.TheVariants.{Solved, Returned}
+use Rattle.room_ends.specs.declared.deque_rule.Order.{Order}
+use Rattle.room_ends.specs.declared.deque_rule.Order.TheVariants.{Solve, Stop}
 use Rattle.desk_room.specs.declared.turns.Turn.{Turn}
 
 -- the four passes, one after the other

@@ -1,9 +1,9 @@
 -- Which records a window withdrew, by its letters.
 use Rattle.std.specs.Prelude.{ℕ, zero, suc, Bool, true, false, ◌&&◌, ◌||◌, List, [], ◌∷◌, ◌++◌}
-use Rattle.mate_desk.specs.declared.deliveries.Delivery.{Delivery}
+use Rattle.mate_jobs.specs.declared.deliveries.Delivery.{Delivery}
 use Rattle.desk_room.specs.Deliveries.{is_answer}
-use Rattle.desk_room.specs.declared.letters.Letter.{Letter}
-use Rattle.desk_room.specs.declared.letters.Letter.TheVariants.{Record, Withdrawal, Farewell}
+use Rattle.room_ends.specs.declared.letters.Letter.{Letter}
+use Rattle.room_ends.specs.declared.letters.Letter.TheVariants.{Record, Withdrawal, Farewell}
 
 -- the n-th of these marked; nothing where there is no n-th
 abbrev pub mark : ℕ → List Bool → List Bool

@@ -1,13 +1,12 @@
 //! The first pass of a turn: what the benches gave back.
 
 ghost use Rattle.std.specs.Prelude.{◌≡◌, ◌<◌, ◌+◌, length};
-ghost use Rattle.desk_room.specs.Benches.{back_known, SameEar};
+ghost use Rattle.room_ends.specs.Benches.{back_known, SameEar};
 ghost use Rattle.desk_room.specs.inside.Steps.{HeardOne};
 
-use crate::back_ring_ear::Ear;
 use crate::keepers::Keeper;
-use crate::letters::Back;
 use mate_desk::Desk;
+use room_ends::{Back, Ear};
 
 /// What came of jobs that came back.
 #[derive(Clone, Copy, Drop)]

@@ -1,17 +1,15 @@
 //! A bench at work.
 
 ghost use Rattle.std.specs.Prelude.{◌≡◌, ◌<◌, true};
-ghost use Rattle.desk_room.specs.Benches.{places_known};
+ghost use Rattle.room_ends.specs.Benches.{places_known};
 
 use crate::bells::{Bell, Why};
-use crate::benches::Bench;
-use crate::deque_seat::Taken;
-use crate::letters::Back;
 use crate::solve_gates::Gate;
 use crate::waits::Waits;
 use chess_moves::Rays;
 use mate_jobs::Job;
 use mate_search::Memo;
+use room_ends::{Back, Bench, Taken};
 use std::alloc::Global;
 use std::sync::Wait;
 

@@ -2,17 +2,15 @@
 
 ghost use Rattle.std.specs.Prelude.{◌≡◌, ◌++◌, false, IfOk};
 ghost use Rattle.mate_answers.specs.InputReplies.{answer_line};
-ghost use Rattle.desk_room.specs.Windows.{is_gone};
+ghost use Rattle.room_ends.specs.Windows.{is_gone};
 
 use crate::bells::{Bell, Why};
 use crate::waits::Waits;
-use crate::window_faults::WindowFault;
-use crate::windows::Window;
 use chess_moves::Rays;
 use chess_notation::{EpdFault, is_blank};
 use mate_answers::{Output, fault_text, first_line, replies_go_on, without_cr};
-use mate_desk::Delivery;
-use mate_jobs::Answer;
+use mate_jobs::{Answer, Delivery};
+use room_ends::{Window, WindowFault};
 use std::alloc::Global;
 use std::collections::VecDeque;
 use std::sync::Wait;
@@ -51,7 +49,7 @@ impl Clerk {
     ghost use Rattle.std.specs.Prelude.{◌≡◌, ◌<◌, ◌≤◌, ◌+◌, ◌-◌, ◌^◌, ℕ, List, [], ◌∷◌, ◌++◌, OnOk, length, true, false};
     ghost use Rattle.chess_notation.specs.Words.{is_blank as is_blank_text};
     ghost use Rattle.mate_answers.specs.InputReplies.{without_cr as text_without_cr, lines_of, IsLineReply};
-    ghost use Rattle.desk_room.specs.Windows.{letters_sent, collected, deliveries_known, places_known, default_of, SameWindow};
+    ghost use Rattle.room_ends.specs.Windows.{letters_sent, collected, deliveries_known, places_known, default_of, SameWindow};
     ghost use Rattle.desk_room.specs.inside.Clerks.{Collects, HasDealt};
 
     /// A clerk at a window by which nothing went yet.

@@ -2,12 +2,12 @@
 
 ghost use Rattle.std.specs.Prelude.{◌≡◌, ◌<◌, ◌≤◌, true, length, is_some};
 ghost use Rattle.mate_desk.specs.Calls.{ready};
-ghost use Rattle.desk_room.specs.WindowRings.{letters_taken, letters_known, places_free, SameLine};
+ghost use Rattle.room_ends.specs.WindowRings.{letters_taken, letters_known, places_free, SameLine};
 ghost use Rattle.desk_room.specs.inside.Steps.{GaveOne};
 
 use crate::keepers::Keeper;
-use crate::window_ring_line::Line;
 use mate_desk::Desk;
+use room_ends::Line;
 
 // Puts what is ready on the ring, which has a place. Only here is there room for a delivery, which is large: to ask costs little.
 fn put_ready(line: &mut Line, desk: &mut Desk, n: usize)

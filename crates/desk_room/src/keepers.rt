@@ -1,17 +1,15 @@
 //! The keeper.
 
 ghost use Rattle.std.specs.Prelude.{◌≡◌, ◌≤◌, ◌<◌, true, false, length, map, replicate, count_by};
-ghost use Rattle.desk_room.specs.Letters.{records};
-ghost use Rattle.desk_room.specs.DequeRule.{stops};
-ghost use Rattle.desk_room.specs.Orders.{orders, passes};
-ghost use Rattle.desk_room.specs.WindowRings.{letters_taken, deliveries_put, ring_of as line_ring};
-ghost use Rattle.desk_room.specs.Benches.{ear_ring};
+ghost use Rattle.room_ends.specs.Letters.{records};
+ghost use Rattle.room_ends.specs.DequeRule.{stops};
+ghost use Rattle.room_ends.specs.Orders.{orders, passes};
+ghost use Rattle.room_ends.specs.WindowRings.{letters_taken, deliveries_put, ring_of as line_ring, has_farewell};
+ghost use Rattle.room_ends.specs.Benches.{ear_ring};
 ghost use Rattle.desk_room.specs.Kept.{owed, room_of, EachIsMarked};
 
-use crate::back_ring_ear::Ear;
-use crate::deque_dealer::Dealer;
-use crate::window_ring_line::Line;
 use mate_desk::Desk;
+use room_ends::{Dealer, Ear, Line};
 
 /// The keeper of a room's desk. It alone calls the desk: between turns letters and jobs wait in the rings.
 #[derive(Drop)]
@@ -41,11 +39,11 @@ pub struct Keeper {
 #[tactic(auto, using(crate::proofs::Staying::gone_more))]
 // How many windows said farewell.
 fn count_gone(lines: &[Line]) -> usize
-    ensures { result ≡ count_by (λ line. line.gone) lines.now }
+    ensures { result ≡ count_by has_farewell lines.now }
 {
     let mut gone = 0;
     for line in lines {
-        if line.gone {
+        if line.is_gone() {
             gone += 1;
         }
     }
@@ -55,10 +53,10 @@ fn count_gone(lines: &[Line]) -> usize
 impl Keeper {
     ghost use Rattle.std.specs.Prelude.{◌≡◌, ◌≤◌, ◌⊎◌, ℕ, ◌+◌, ◌++◌, length, true, replicate};
     ghost use Rattle.mate_desk.specs.Calls.{after_close, is_drained as is_drained_content};
-    ghost use Rattle.desk_room.specs.DequeRule.{stops};
+    ghost use Rattle.room_ends.specs.DequeRule.{stops};
     ghost use Rattle.desk_room.specs.Kept.{AreOwed, AreMarked};
     ghost use Rattle.desk_room.specs.Keepers.{lists, known, backs_known, benches_of, order_places, is_home, windows_gone, Stays, SameRoom};
-    ghost use Rattle.desk_room.specs.declared.deque_rule.Order.TheVariants.{Stop};
+    ghost use Rattle.room_ends.specs.declared.deque_rule.Order.TheVariants.{Stop};
 
     /// What was taken of each window is what was delivered to it and then what it has pending, and withdrawals are marked so. It
     /// does nothing: its contract is the law.

@@ -1,15 +1,14 @@
 //! The second pass of a turn: the windows' letters.
 
 ghost use Rattle.std.specs.Prelude.{◌≡◌, ◌<◌, ◌≤◌, ◌-◌, ◌^◌, true, length};
-ghost use Rattle.desk_room.specs.Letters.{records};
+ghost use Rattle.room_ends.specs.Letters.{records};
 ghost use Rattle.desk_room.specs.Events.{accepts};
-ghost use Rattle.desk_room.specs.WindowRings.{letters_taken, letters_known, deliveries_put, places_free, SameLine};
+ghost use Rattle.room_ends.specs.WindowRings.{letters_taken, letters_known, deliveries_put, places_free, SameLine};
 ghost use Rattle.desk_room.specs.inside.Steps.{TookOne};
 
 use crate::keepers::Keeper;
-use crate::letters::Letter;
-use crate::window_ring_line::Line;
 use mate_desk::Desk;
+use room_ends::{Letter, Line};
 
 /// What came of letters.
 #[derive(Clone, Copy, Drop)]
@@ -52,7 +51,7 @@ fn take_letter(line: &mut Line, desk: &mut Desk, n: usize) -> Took
 
 impl Keeper {
     ghost use Rattle.std.specs.Prelude.{◌≡◌, ◌≢◌, ◌<◌, ◌≤◌, ◌+◌, ◌*◌, ◌-◌, ◌^◌, ℕ, true, [], length, get_or};
-    ghost use Rattle.desk_room.specs.Letters.{records};
+    ghost use Rattle.room_ends.specs.Letters.{records};
     ghost use Rattle.desk_room.specs.Events.{accepts};
     ghost use Rattle.desk_room.specs.Keepers.{lists, known, ring_of, windows_of, IsRead, Ahead, OthersRead, SameRoom};
     ghost use Rattle.desk_room.specs.Passes.{Taking};

@@ -1,14 +1,14 @@
 //! The third pass of a turn: orders.
 
 ghost use Rattle.std.specs.Prelude.{◌≡◌, ◌≤◌, length};
-ghost use Rattle.desk_room.specs.DequeRule.{stops};
-ghost use Rattle.desk_room.specs.Orders.{orders, passes, places};
+ghost use Rattle.room_ends.specs.DequeRule.{stops};
+ghost use Rattle.room_ends.specs.Orders.{orders, passes, places};
 ghost use Rattle.desk_room.specs.inside.Steps.{OrderedOne};
 ghost use Rattle.desk_room.specs.declared.order_pass.Tried.TheVariants.{Refused};
 
-use crate::deque_dealer::Dealer;
 use crate::keepers::Keeper;
 use mate_desk::Desk;
+use room_ends::Dealer;
 
 /// What came of trying to order a job.
 #[derive(Clone, Copy, Drop)]
@@ -44,7 +44,7 @@ fn order_job(desk: &mut Desk, dealer: &mut Dealer) -> Tried
 
 impl Keeper {
     ghost use Rattle.std.specs.Prelude.{◌≡◌, ◌<◌, ◌≤◌, ◌+◌, ◌⊎◌, true, false, length};
-    ghost use Rattle.desk_room.specs.Orders.{orders, places};
+    ghost use Rattle.room_ends.specs.Orders.{orders, places};
     ghost use Rattle.desk_room.specs.Keepers.{lists};
     ghost use Rattle.desk_room.specs.Turns.{waiting};
     ghost use Rattle.desk_room.specs.inside.Steps.{Trying};

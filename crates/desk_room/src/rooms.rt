@@ -1,24 +1,16 @@
 //! Rooms.
 
-ghost use Rattle.std.specs.Prelude.{◌≡◌, ◌≢◌, ◌↔◌, ◌⊎◌, ◌<◌, ◌≤◌, [], codes, length, replicate, map, IfOk, Err, false};
+ghost use Rattle.std.specs.Prelude.{◌≡◌, ◌≢◌, ◌↔◌, ◌⊎◌, ◌<◌, ◌≤◌, [], codes, length, replicate, IfOk, Err, false};
 ghost use Rattle.mate_desk.specs.Calls.{empty};
-ghost use Rattle.desk_room.specs.Benches.{heard, ear_ring};
-ghost use Rattle.desk_room.specs.WindowRings.{letters_taken, deliveries_put, ring_of as line_ring};
-ghost use Rattle.desk_room.specs.Orders.{orders, passes};
 ghost use Rattle.desk_room.specs.Keepers.{lists, lines_of, ears_of, ring_of, is_home};
-ghost use Rattle.desk_room.specs.Opening.{AreOpened, AreIdle, room_fault_name};
+ghost use Rattle.desk_room.specs.RoomFaults.{room_fault_name};
+ghost use Rattle.room_ends.specs.Opening.{AreOpened, AreIdle};
 ghost use Rattle.desk_room.specs.declared.rooms.RoomFault.TheVariants as fault;
 
-use crate::back_ring_ear::Ear;
-use crate::back_rings::open_bench;
-use crate::benches::Bench;
-use crate::deque_dealer::Dealer;
 use crate::keepers::Keeper;
-use crate::window_ring_line::Line;
-use crate::window_rings::open_line;
-use crate::windows::Window;
 use chess_problems::Bound;
 use mate_desk::Desk;
+use room_ends::{Bench, Dealer, Window, open_benches, open_windows};
 use std::alloc::{AllocError, Global};
 use thiserror::Error;
 
@@ -139,59 +131,4 @@ fn open(
         windows: window_ends,
         benches: bench_ends,
     })
-}
-
-/// So many windows, numbered from 0, and the keeper's ends of each.
-#[tactic(auto, using(crate::proofs::Openings::opened_snoc, crate::proofs::Openings::fresh_snoc, crate::proofs::Openings::rings_snoc))]
-fn open_windows(
-    alloc: Global,
-    windows: usize,
-    ring: usize,
-    default: Bound,
-) -> Result<(Vec<Window>, Vec<Line>), AllocError>
-    requires { ring ≤ 64 }
-    ensures windows { IfOk result (λ ends. length ends.0.items ≡ windows) }
-    ensures lines { IfOk result (λ ends. length ends.1.items ≡ windows) }
-    ensures opened { IfOk result (λ ends. AreOpened ring default 0 ends.0.items ends.1.items) }
-    ensures taken { IfOk result (λ ends. map letters_taken ends.1.items ≡ replicate windows []) }
-    ensures put { IfOk result (λ ends. map deliveries_put ends.1.items ≡ replicate windows []) }
-    ensures rings { IfOk result (λ ends. map line_ring ends.1.items ≡ replicate windows ring) }
-{
-    let mut ends = Vec::with_capacity(alloc, windows)?;
-    let mut lines = Vec::with_capacity(alloc, windows)?;
-    for number in 0..windows {
-        let (window, line) = open_line(alloc, number, ring, default)?;
-        ends.push_reserved(window);
-        lines.push_reserved(line);
-    }
-    Ok((ends, lines))
-}
-
-/// So many benches, which take the dealer's orders, and the keeper's end of each one's back ring.
-#[tactic(auto, using(crate::proofs::Openings::idle_snoc, crate::proofs::Openings::fresh_snoc, crate::proofs::Openings::rings_snoc))]
-fn open_benches(
-    alloc: Global,
-    benches: usize,
-    ring: usize,
-    dealer: &mut Dealer,
-) -> Result<(Vec<Bench>, Vec<Ear>), AllocError>
-    requires ring { ring ≤ 64 }
-    requires few { benches ≤ 16 }
-    requires passes { passes dealer.old ≡ 0 }
-    ensures benches { IfOk result (λ ends. length ends.0.items ≡ benches) }
-    ensures ears { IfOk result (λ ends. length ends.1.items ≡ benches) }
-    ensures idle { IfOk result (λ ends. AreIdle ring ends.0.items ends.1.items) }
-    ensures heard { IfOk result (λ ends. map heard ends.1.items ≡ replicate benches []) }
-    ensures rings { IfOk result (λ ends. map ear_ring ends.1.items ≡ replicate benches ring) }
-    ensures passes { IfOk result (λ _. passes dealer.new ≡ benches) }
-    ensures orders { orders dealer.new ≡ orders dealer.old }
-{
-    let mut ends = Vec::with_capacity(alloc, benches)?;
-    let mut ears = Vec::with_capacity(alloc, benches)?;
-    for _ in 0..benches {
-        let (bench, ear) = open_bench(alloc, ring, dealer.seat()?)?;
-        ends.push_reserved(bench);
-        ears.push_reserved(ear);
-    }
-    Ok((ends, ears))
 }

@@ -8,17 +8,16 @@ ghost use Rattle.desk_room.specs.Keepers.{IsOf, SameRoom};
 ghost use Rattle.desk_room.specs.declared.rooms.RoomFault.TheVariants as fault;
 
 use crate::bells::{Bell, Why};
-use crate::benches::Bench;
 use crate::keeper_thread::keep;
 use crate::keepers::Keeper;
 use crate::rooms::{Room, RoomFault, open_room};
 use crate::solve_gates::Gate;
 use crate::thread_groups::{Worked, attend_all, work_all};
 use crate::window_thread::Report;
-use crate::windows::Window;
 use chess_moves::Rays;
 use chess_problems::Bound;
 use mate_answers::Output;
+use room_ends::{Bench, Window};
 use std::alloc::{AllocError, Global};
 use std::snapshot::Snapshot;
 use std::sync::Wait;

@@ -7,11 +7,10 @@ ghost use Rattle.desk_room.specs.inside.Clerks.{Reports};
 
 use crate::bells::{Bell, Why};
 use crate::bench_thread::work;
-use crate::benches::Bench;
 use crate::solve_gates::Gate;
 use crate::window_thread::{Report, attend};
-use crate::windows::Window;
 use chess_moves::Rays;
+use room_ends::{Bench, Window};
 use std::alloc::{AllocError, Global};
 use std::snapshot::Snapshot;
 use std::sync::Wait;

@@ -2,16 +2,16 @@
 
 ghost use Rattle.std.specs.Prelude.{◌≡◌, [], OnOk};
 ghost use Rattle.mate_answers.specs.InputReplies.{lines_of};
-ghost use Rattle.desk_room.specs.Letters.{records};
-ghost use Rattle.desk_room.specs.Windows.{letters_sent, collected, SameWindow};
+ghost use Rattle.room_ends.specs.Letters.{records};
+ghost use Rattle.room_ends.specs.Windows.{letters_sent, collected, SameWindow};
 ghost use Rattle.desk_room.specs.inside.Clerks.{HasDealt, Reports};
 
 use crate::bells::{Bell, Why};
 use crate::clerks::Clerk;
 use crate::waits::Waits;
-use crate::windows::Window;
 use chess_moves::Rays;
 use mate_answers::Output;
+use room_ends::Window;
 use std::alloc::Global;
 use std::sync::Wait;
 

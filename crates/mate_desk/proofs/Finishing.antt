@@ -6,8 +6,8 @@ use Rattle.mate_desk.specs.Calls.{change_at, everywhere, in_queue, into_phase, w
 use Rattle.mate_desk.specs.Deliveries.{delivery}
 use Rattle.mate_desk.specs.Laws.{AreDistinct}
 use Rattle.mate_desk.specs.inside.Stepping.{answers, found_reply, is_done, count_done}
-use Rattle.mate_desk.specs.declared.deliveries.Delivery.{Delivery}
-use Rattle.mate_desk.specs.declared.deliveries.Delivery.TheVariants.{Answer, Notice}
+use Rattle.mate_jobs.specs.declared.deliveries.Delivery.{Delivery}
+use Rattle.mate_jobs.specs.declared.deliveries.Delivery.TheVariants.{Answer, Notice}
 use Rattle.mate_desk.proofs.Distinct.{one_if, count_cons, count_append, count_joined}
 use Rattle.mate_desk.proofs.Joined.{joined}
 

@@ -1,8 +1,8 @@
 -- What is delivered for a pending record.
 use Rattle.std.specs.Prelude.{if◌then◌else◌, Option, None, Some}
 use Rattle.mate_desk.specs.Content.{EntryValue}
-use Rattle.mate_desk.specs.declared.deliveries.Delivery.{Delivery}
-use Rattle.mate_desk.specs.declared.deliveries.Delivery.TheVariants.{Answer, Notice}
+use Rattle.mate_jobs.specs.declared.deliveries.Delivery.{Delivery}
+use Rattle.mate_jobs.specs.declared.deliveries.Delivery.TheVariants.{Answer, Notice}
 
 -- the notice of a withdrawn record, with its ticket, and else the answer to it
 abbrev pub delivery_of : EntryValue → Delivery

@@ -8,12 +8,11 @@ ghost use Rattle.mate_desk.specs.Laws.{AreKept};
 ghost use Rattle.mate_desk.specs.Refusals.{AreServed, IsRoom};
 ghost use Rattle.mate_desk.specs.declared.refusals.DeskFault.TheVariants as fault;
 
-use crate::deliveries::Delivery;
 use crate::lookups::{first_waiting, place_out};
 use crate::queues::Queue;
 use crate::refusals::{DeskFault, NoSuchSubmitter, Stranger, SubmitRefusal, WithdrawRefusal};
 use chess_notation::Record;
-use mate_jobs::{Done, Job, Ticket};
+use mate_jobs::{Delivery, Done, Job, Ticket};
 use std::alloc::Global;
 use std::marker::Model;
 

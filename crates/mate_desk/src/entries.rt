@@ -5,12 +5,11 @@ ghost use Rattle.chess_notation.specs.Records.{problem_of};
 ghost use Rattle.mate_desk.specs.Content.{waits, is_ready, is_finished, is_out_with, has_task, Waiting as waiting, Out as out, Finished as finished};
 ghost use Rattle.mate_desk.specs.Calls.{withdrawn as withdrawn_entry};
 ghost use Rattle.mate_desk.specs.inside.Keeping.{task_of};
-ghost use Rattle.mate_desk.specs.declared.deliveries.Delivery.TheVariants.{Answer, Notice};
+ghost use Rattle.mate_jobs.specs.declared.deliveries.Delivery.TheVariants.{Answer, Notice};
 
-use crate::deliveries::Delivery;
 use chess_notation::Record;
 use chess_problems::{Problem, same_problem_reads};
-use mate_jobs::{Done, Job, Ticket, asks};
+use mate_jobs::{Delivery, Done, Job, Ticket, asks};
 use std::marker::Model;
 
 /// How far a record came.

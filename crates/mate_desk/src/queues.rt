@@ -8,14 +8,13 @@ ghost use Rattle.mate_desk.specs.Deliveries.{delivery};
 ghost use Rattle.mate_desk.specs.Laws.{AreBelow};
 ghost use Rattle.mate_desk.specs.inside.Keeping.{IsOutAt};
 
-use crate::deliveries::Delivery;
 use crate::entries::Entry;
 use crate::place_bits::{first_place, lower_places, with_place, without_place};
 use crate::refusals::WithdrawRefusal;
 use crate::solved::deliver;
 use chess_notation::Record;
 use chess_problems::Problem;
-use mate_jobs::{Done, Job, Ticket};
+use mate_jobs::{Delivery, Done, Job, Ticket};
 use std::alloc::{AllocError, Global};
 use std::collections::VecDeque;
 use std::marker::Model;

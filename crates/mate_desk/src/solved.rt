@@ -6,9 +6,8 @@ ghost use Rattle.mate_desk.specs.Content.{is_ready, has_task};
 ghost use Rattle.mate_desk.specs.Deliveries.{delivery_of};
 ghost use Rattle.mate_desk.specs.inside.Keeping.{task_of, finished_by};
 
-use crate::deliveries::Delivery;
 use crate::entries::Entry;
-use mate_jobs::Done;
+use mate_jobs::{Delivery, Done};
 
 /// Where what was solved of a record stands.
 fn place_of(solved: &[Done], entry: &Entry) -> Option<usize>

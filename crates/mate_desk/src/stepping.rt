@@ -7,14 +7,13 @@ ghost use Rattle.mate_desk.specs.inside.Mirrors.{Makes};
 ghost use Rattle.mate_desk.specs.inside.Stepping.{delivery_reply, found_reply, answers, collects, finishes, count_done};
 ghost use Rattle.mate_desk.specs.declared.steps_and_replies.Step.TheVariants as step;
 
-use crate::deliveries::Delivery;
 use crate::desks::Desk;
 use crate::held_answers::{Place, hold};
 use crate::steps_and_replies::{Reply, Step};
 use chess_moves::Rays;
 use chess_notation::read_record;
 use chess_problems::Bound;
-use mate_jobs::Job;
+use mate_jobs::{Delivery, Job};
 use mate_search::Memo;
 use std::alloc::Global;
 

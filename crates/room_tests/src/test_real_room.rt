@@ -1,6 +1,6 @@
 //! Calls on the ends of a room of one window and one bench.
 
-ghost use Rattle.desk_room.specs.Windows.{SameWindow};
+ghost use Rattle.room_ends.specs.Windows.{SameWindow};
 ghost use Rattle.desk_room.specs.Keepers.{IsOf, SameRoom};
 
 use crate::test_calls::{Call, Reply};

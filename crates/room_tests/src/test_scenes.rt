@@ -1,7 +1,7 @@
 //! Calls on the ends of a room on one thread, told with their replies.
 
 ghost use Rattle.std.specs.Prelude.{IfOk};
-ghost use Rattle.desk_room.specs.Windows.{SameWindow};
+ghost use Rattle.room_ends.specs.Windows.{SameWindow};
 ghost use Rattle.desk_room.specs.Keepers.{IsOf, SameRoom};
 
 use crate::test_crews::Crew;

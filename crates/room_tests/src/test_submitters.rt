@@ -1,7 +1,7 @@
 //! A window on a thread of its own, which sends records and looks at what it collects for them.
 
 ghost use Rattle.std.specs.Prelude.{◌≡◌};
-ghost use Rattle.desk_room.specs.Windows.{SameWindow};
+ghost use Rattle.room_ends.specs.Windows.{SameWindow};
 
 use crate::test_manners::{Manner, Pace, is_third};
 use crate::test_scenes::{A, ANSWER_A, ANSWER_B, B};

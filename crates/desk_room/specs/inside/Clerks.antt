@@ -3,10 +3,10 @@ use Rattle.std.specs.Prelude.{◌≡◌, ℕ, ◌+◌, List, [], ◌∷◌, ◌+
 use Rattle.chess_notation.specs.Records.{RecordValue}
 use Rattle.mate_answers.specs.InputReplies.{answer_line, lines_of, IsReply, IsReplyFrom}
 use Rattle.mate_answers.specs.declared.input_replies.Output.{Output}
-use Rattle.desk_room.specs.Letters.{records}
+use Rattle.room_ends.specs.Letters.{records}
 use Rattle.desk_room.specs.Deliveries.{asked}
-use Rattle.desk_room.specs.Windows.{letters_sent, collected, default_of, SameWindow}
-use Rattle.desk_room.specs.declared.windows.Window.{Window}
+use Rattle.room_ends.specs.Windows.{letters_sent, collected, default_of, SameWindow}
+use Rattle.room_ends.specs.declared.windows.Window.{Window}
 use Rattle.desk_room.specs.declared.clerks.Clerk.{Clerk}
 use Rattle.desk_room.specs.declared.window_thread.Report.{Report}
 

@@ -4,19 +4,19 @@ use Rattle.mate_jobs.specs.Jobs.{Task}
 use Rattle.mate_desk.specs.Content.{Content, entries, lowest, waits, waits_as, is_out_with}
 use Rattle.mate_desk.specs.Calls.{ready, after_take, after_collect}
 use Rattle.mate_desk.specs.Deliveries.{delivery}
-use Rattle.mate_desk.specs.declared.deliveries.Delivery.{Delivery}
-use Rattle.desk_room.specs.Letters.{records, farewells}
+use Rattle.mate_jobs.specs.declared.deliveries.Delivery.{Delivery}
+use Rattle.room_ends.specs.Letters.{records, farewells}
 use Rattle.desk_room.specs.Passes.{Ordering}
 use Rattle.desk_room.specs.Turns.{waiting}
 use Rattle.desk_room.specs.Events.{RoomLists, hearing, taking, withdrawn_in, solved_in, returned_in, stranger_in}
-use Rattle.desk_room.specs.Benches.{heard, back_known}
-use Rattle.desk_room.specs.WindowRings.{letters_taken, letters_known, deliveries_put, places_free}
-use Rattle.desk_room.specs.declared.letters.Letter.{Letter}
-use Rattle.desk_room.specs.declared.letters.Back.{Back}
-use Rattle.desk_room.specs.declared.deque_rule.Order.{Order}
-use Rattle.desk_room.specs.declared.deque_rule.Order.TheVariants.{Solve}
-use Rattle.desk_room.specs.declared.back_ring_ear.Ear.{Ear}
-use Rattle.desk_room.specs.declared.window_ring_line.Line.{Line}
+use Rattle.room_ends.specs.Benches.{heard, back_known}
+use Rattle.room_ends.specs.WindowRings.{letters_taken, letters_known, deliveries_put, places_free}
+use Rattle.room_ends.specs.declared.letters.Letter.{Letter}
+use Rattle.room_ends.specs.declared.letters.Back.{Back}
+use Rattle.room_ends.specs.declared.deque_rule.Order.{Order}
+use Rattle.room_ends.specs.declared.deque_rule.Order.TheVariants.{Solve}
+use Rattle.room_ends.specs.declared.back_ring_ear.Ear.{Ear}
+use Rattle.room_ends.specs.declared.window_ring_line.Line.{Line}
 use Rattle.desk_room.specs.declared.back_pass.Heard.{Heard}
 use Rattle.desk_room.specs.declared.letter_pass.Took.{Took}
 use Rattle.desk_room.specs.declared.order_pass.Tried.{Tried}

@@ -1,7 +1,7 @@
 use Rattle.std.proofs.Common.{sym, ap, ◌∙◌, [], ◌∷◌, ◌++◌}
-use Rattle.desk_room.specs.Benches.{heard, back_known}
-use Rattle.desk_room.specs.declared.letters.Back.{Back}
-use Rattle.desk_room.specs.declared.letters.Back.TheVariants.{Solved, Returned}
+use Rattle.room_ends.specs.Benches.{heard, back_known}
+use Rattle.room_ends.specs.declared.letters.Back.{Back}
+use Rattle.room_ends.specs.declared.letters.Back.TheVariants.{Solved, Returned}
 use Rattle.desk_room.proofs.Telling.{is_stranger}
 use Rattle.desk_room.proofs.back_pass.hear_back.Goals as goal
 

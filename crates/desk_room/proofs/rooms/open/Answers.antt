@@ -1,7 +1,7 @@
 use Rattle.std.proofs.Common.{sym, ap, ◌∙◌, length, map, replicate}
 use Rattle.mate_desk.specs.Content.{Content}
-use Rattle.desk_room.specs.DequeRule.{stops}
-use Rattle.desk_room.specs.WindowRings.{letters_taken, deliveries_put}
+use Rattle.room_ends.specs.DequeRule.{stops}
+use Rattle.room_ends.specs.WindowRings.{letters_taken, deliveries_put}
 use Rattle.desk_room.proofs.Openings.{owed_fresh, marked_fresh, rooms_fresh, queues_fresh}
 use Rattle.desk_room.proofs.rooms.open.Goals as goal
 

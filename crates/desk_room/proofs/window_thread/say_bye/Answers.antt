@@ -1,7 +1,7 @@
 use Rattle.std.proofs.Common.{[], ◌∷◌, ap, ◌∙◌, append-nil}
-use Rattle.desk_room.specs.Letters.{records}
-use Rattle.desk_room.specs.Windows.{letters_sent}
-use Rattle.desk_room.specs.declared.letters.Letter.TheVariants.{Farewell}
+use Rattle.room_ends.specs.Letters.{records}
+use Rattle.room_ends.specs.Windows.{letters_sent}
+use Rattle.room_ends.specs.declared.letters.Letter.TheVariants.{Farewell}
 use Rattle.desk_room.proofs.LetterCounts.{records_append}
 use Rattle.desk_room.proofs.window_thread.say_bye.Goals as goal
 

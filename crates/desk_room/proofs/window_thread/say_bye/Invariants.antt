@@ -1,5 +1,5 @@
 use Rattle.std.proofs.Common.{◌≡◌}
-use Rattle.desk_room.specs.Windows.{letters_sent, collected, SameWindow}
+use Rattle.room_ends.specs.Windows.{letters_sent, collected, SameWindow}
 use Rattle.desk_room.proofs.window_thread.say_bye.Given as goal
 
 abbrev pub invariant-loop : goal.invariant-loop

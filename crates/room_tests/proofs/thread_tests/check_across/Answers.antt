@@ -1,5 +1,5 @@
 use Rattle.std.proofs.Common.{subst}
-use Rattle.desk_room.specs.Windows.{SameWindow}
+use Rattle.room_ends.specs.Windows.{SameWindow}
 use Rattle.room_tests.proofs.Rooms.{of_then, of_window}
 use Rattle.room_tests.proofs.thread_tests.check_across.Goals as goal
 

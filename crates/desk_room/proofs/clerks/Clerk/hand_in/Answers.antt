@@ -1,9 +1,9 @@
 use Rattle.std.proofs.Common.{◌≡◌, true, false, map, rules, sym}
 use Rattle.chess_notation.specs.Words.{is_blank}
 use Rattle.mate_answers.specs.InputReplies.{without_cr, skipped}
-use Rattle.desk_room.specs.Letters.{records}
+use Rattle.room_ends.specs.Letters.{records}
 use Rattle.desk_room.specs.Deliveries.{asked}
-use Rattle.desk_room.specs.Windows.{letters_sent, collected, default_of}
+use Rattle.room_ends.specs.Windows.{letters_sent, collected, default_of}
 use Rattle.desk_room.proofs.Dealt.{deal_blank}
 use Rattle.desk_room.proofs.Handed.{on_ok}
 use Rattle.desk_room.proofs.clerks.Clerk.hand_in.Goals as goal

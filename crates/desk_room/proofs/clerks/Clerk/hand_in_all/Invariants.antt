@@ -1,5 +1,5 @@
 use Rattle.std.proofs.Common.{◌<◌}
-use Rattle.desk_room.specs.Windows.{SameWindow}
+use Rattle.room_ends.specs.Windows.{SameWindow}
 use Rattle.desk_room.specs.inside.Clerks.{IsAt}
 use Rattle.desk_room.proofs.clerks.Clerk.hand_in_all.Given as goal
 

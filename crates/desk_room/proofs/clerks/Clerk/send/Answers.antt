@@ -1,8 +1,8 @@
 use Rattle.std.proofs.Common.{◌≡◌, ◌≢◌, ◌+◌, ◌∙◌, ap, sym, length, rules, subst, ℕ}
 use Rattle.chess_notation.specs.declared.epd_faults.EpdFault.TheVariants.{NoMemory}
 use Rattle.mate_answers.specs.InputReplies.{fault_line, IsLineReply, without_cr}
-use Rattle.desk_room.specs.Windows.{default_of}
-use Rattle.desk_room.specs.WindowFaults.{RefusesLine}
+use Rattle.room_ends.specs.Windows.{default_of}
+use Rattle.room_ends.specs.WindowFaults.{RefusesLine}
 use Rattle.desk_room.proofs.Handed.{on_ok, dealt_record, dealt_same, refused_line}
 use Rattle.desk_room.proofs.clerks.Clerk.send.Goals as goal
 

@@ -1,9 +1,9 @@
 use Rattle.std.proofs.Common.{◌≡◌, ◌++◌, ◌∷◌, [], refl, subst, List, ℕ}
 use mathlib.Core.List.{IsPrefix}
 use Rattle.mate_answers.specs.InputReplies.{answer_line}
-use Rattle.mate_desk.specs.declared.deliveries.Delivery.{Delivery}
-use Rattle.mate_desk.specs.declared.deliveries.Delivery.TheVariants.{Answer}
-use Rattle.desk_room.specs.Windows.{deliveries_known}
+use Rattle.mate_jobs.specs.declared.deliveries.Delivery.{Delivery}
+use Rattle.mate_jobs.specs.declared.deliveries.Delivery.TheVariants.{Answer}
+use Rattle.room_ends.specs.Windows.{deliveries_known}
 use Rattle.desk_room.proofs.Collecting.{collects_one}
 use Rattle.desk_room.proofs.clerks.Clerk.take_answer.Goals as goal
 

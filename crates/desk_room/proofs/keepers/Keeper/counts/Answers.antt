@@ -1,5 +1,5 @@
 use Rattle.std.proofs.Common.{arith, map}
-use Rattle.desk_room.specs.WindowRings.{letters_taken, deliveries_put}
+use Rattle.room_ends.specs.WindowRings.{letters_taken, deliveries_put}
 use Rattle.desk_room.proofs.Places.{map_length}
 use Rattle.desk_room.proofs.Tickets.{few_records}
 use Rattle.desk_room.proofs.keepers.Keeper.counts.Goals as goal

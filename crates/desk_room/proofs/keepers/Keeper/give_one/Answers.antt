@@ -1,6 +1,6 @@
 use Rattle.std.proofs.Common.{arith, refl, ◌∙◌, inl, inr, ⊎_elim, length-set}
-use Rattle.desk_room.specs.Orders.{orders}
-use Rattle.desk_room.specs.WindowRings.{letters_known, deliveries_put, places_free, ring_of}
+use Rattle.room_ends.specs.Orders.{orders}
+use Rattle.room_ends.specs.WindowRings.{letters_known, deliveries_put, places_free, ring_of}
 use Rattle.desk_room.specs.Keepers.{OthersServed}
 use Rattle.desk_room.proofs.Places.{at_other, map_same}
 use Rattle.desk_room.proofs.Stepping.{gave_step, gave_owed, gave_marked, rooms_given, queues_by_rooms, rooms_still, rings_set}

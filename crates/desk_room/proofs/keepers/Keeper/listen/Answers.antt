@@ -1,6 +1,6 @@
 use Rattle.std.proofs.Common.{arith, sym, ap, ◌∙◌, length, length-set, []}
-use Rattle.desk_room.specs.Orders.{orders}
-use Rattle.desk_room.specs.Benches.{heard, back_known, ear_ring}
+use Rattle.room_ends.specs.Orders.{orders}
+use Rattle.room_ends.specs.Benches.{heard, back_known, ear_ring}
 use Rattle.desk_room.specs.Keepers.{BacksAhead}
 use Rattle.desk_room.proofs.Places.{at_same}
 use Rattle.desk_room.proofs.Stepping.{ears_same, rings_set, ring_at}

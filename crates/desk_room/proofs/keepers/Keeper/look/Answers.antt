@@ -1,6 +1,6 @@
 use Rattle.std.proofs.Common.{arith, sym, ap, refl, ◌∙◌, subst, inl, inr, ⊎_elim, length, length-set, []}
-use Rattle.desk_room.specs.Orders.{orders}
-use Rattle.desk_room.specs.WindowRings.{letters_taken, letters_known, ring_of}
+use Rattle.room_ends.specs.Orders.{orders}
+use Rattle.room_ends.specs.WindowRings.{letters_taken, letters_known, ring_of}
 use Rattle.desk_room.specs.Kept.{AreOwed}
 use Rattle.desk_room.specs.Keepers.{Ahead, OthersRead}
 use Rattle.desk_room.proofs.Places.{at_other, at_same}

@@ -1,5 +1,5 @@
 use Rattle.std.proofs.Common.{◌≡◌, ◌≤◌, ◌+◌, false}
-use Rattle.desk_room.specs.Orders.{places}
+use Rattle.room_ends.specs.Orders.{places}
 use Rattle.desk_room.specs.Turns.{waiting}
 use Rattle.desk_room.specs.Keepers.{lists}
 use Rattle.desk_room.specs.Passes.{Ordering}

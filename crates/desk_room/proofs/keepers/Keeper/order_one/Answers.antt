@@ -1,7 +1,7 @@
 use Rattle.std.proofs.Common.{arith, sym, ◌∙◌, map, true≢false}
-use Rattle.desk_room.specs.Orders.{orders}
-use Rattle.desk_room.specs.Benches.{heard}
-use Rattle.desk_room.specs.WindowRings.{letters_taken, deliveries_put}
+use Rattle.room_ends.specs.Orders.{orders}
+use Rattle.room_ends.specs.Benches.{heard}
+use Rattle.room_ends.specs.WindowRings.{letters_taken, deliveries_put}
 use Rattle.desk_room.proofs.Stepping.{ordered_tried, ordered_owed, ordered_marked, ordered_stops, rooms_ordered, queues_by_rooms, rooms_still}
 use Rattle.desk_room.proofs.keepers.Keeper.order_one.Goals as goal
 

@@ -1,7 +1,7 @@
 use Rattle.std.proofs.Common.{arith, ap, refl, ◌∙◌, inl, inr, ⊎_elim, length, length-set, []}
-use Rattle.desk_room.specs.Letters.{records}
-use Rattle.desk_room.specs.Orders.{orders}
-use Rattle.desk_room.specs.WindowRings.{letters_taken, letters_known, ring_of}
+use Rattle.room_ends.specs.Letters.{records}
+use Rattle.room_ends.specs.Orders.{orders}
+use Rattle.room_ends.specs.WindowRings.{letters_taken, letters_known, ring_of}
 use Rattle.desk_room.specs.Keepers.{Ahead, OthersRead}
 use Rattle.desk_room.proofs.Places.{at_other, at_same, at_old}
 use Rattle.desk_room.proofs.Stepping.{took_step, took_owed, took_marked, took_rooms, queues_by_rooms, rooms_still, rings_set}

@@ -1,6 +1,6 @@
 use Rattle.std.proofs.Common.{arith, true, ◌≡◌, ◌<◌, ◌≤◌, inl, inr, ⊎_elim, sym, ap, ◌∙◌, subst, length, map, get_or, []}
-use Rattle.desk_room.specs.WindowRings.{letters_known}
-use Rattle.desk_room.specs.Orders.{orders, places}
+use Rattle.room_ends.specs.WindowRings.{letters_known}
+use Rattle.room_ends.specs.Orders.{orders, places}
 use Rattle.desk_room.specs.Turns.{waiting, GainFew}
 use Rattle.desk_room.specs.Keepers.{lists, known}
 use Rattle.desk_room.proofs.Ahead.{ahead_then, ahead_lines, ahead_equal}
@@ -10,7 +10,7 @@ use Rattle.desk_room.proofs.Finishing.{turned_finished}
 use Rattle.desk_room.proofs.Outs.{turned_out}
 use Rattle.desk_room.proofs.Closing.{turned_none, turned_orders, turned_benches, turned_few}
 use Rattle.desk_room.proofs.Places.{map_length}
-use Rattle.desk_room.specs.Benches.{heard, back_known}
+use Rattle.room_ends.specs.Benches.{heard, back_known}
 use Rattle.desk_room.proofs.Listening.{backs_then, backs_ears}
 use Rattle.desk_room.proofs.Staying.{room_then, room_lines}
 use Rattle.desk_room.proofs.keepers.Keeper.turn.Goals as goal

@@ -1,4 +1,4 @@
-use Rattle.desk_room.specs.Windows.{SameWindow}
+use Rattle.room_ends.specs.Windows.{SameWindow}
 use Rattle.room_tests.proofs.test_submitters.Submitter.hand_in.Given as goal
 
 abbrev pub invariant-loop : goal.invariant-loop

@@ -1,0 +1,4 @@
+pub mod LetterCounts
+pub mod FirstTaken
+pub mod Deals
+pub mod Openings

@@ -1,0 +1,41 @@
+-- One more end of a room that is opened.
+use Rattle.std.proofs.Common.{◌≡◌, ℕ, zero, suc, ◌+◌, List, [], ◌∷◌, ◌++◌, length, map, replicate, refl, ap, ◌∙◌, arith}
+use Rattle.std.proofs.lemmas.List.{map-append}
+use Rattle.room_ends.specs.Opening.{IsFresh, AreOpened, IsIdle, AreIdle}
+use Rattle.room_ends.specs.declared.windows.Window.{Window}
+use Rattle.room_ends.specs.declared.window_ring_line.Line.{Line}
+use Rattle.room_ends.specs.declared.benches.Bench.{Bench}
+use Rattle.room_ends.specs.declared.back_ring_ear.Ear.{Ear}
+
+snoc_replicate : {A : Type 0} (n : ℕ) (a : A) → replicate n a ++ a ∷ [] ≡ a ∷ replicate n a
+snoc_replicate zero a = refl
+snoc_replicate (suc n) a = ap (λ l. a ∷ l) (snoc_replicate n a)
+
+all_snoc : {A B : Type 0} (f : A → B) (b : B) (xs : List A) (x : A) (n k : ℕ) → map f xs ≡ replicate n b → f x ≡ b → k ≡ n + 1 → map f (xs ++ x ∷ []) ≡ replicate k b
+all_snoc f b xs x n k e h s =
+    let t : suc n ≡ k = omega (arith, s) in
+    map-append f xs (x ∷ []) ∙ (ap (λ l. l ++ f x ∷ []) e ∙ (ap (λ c. replicate n b ++ c ∷ []) h ∙ (snoc_replicate n b ∙ ap (λ j. replicate j b) t)))
+
+pub fresh_snoc : {A B : Type 0} (f : A → List B) (xs : List A) (x : A) (n : ℕ) → map f xs ≡ replicate n [] → f x ≡ [] → map f (xs ++ x ∷ []) ≡ replicate (n + 1) []
+fresh_snoc f xs x n e h = all_snoc f [] xs x n (n + 1) e h refl
+
+pub rings_snoc : {A : Type 0} (f : A → ℕ) (ring : ℕ) (xs : List A) (x : A) (n : ℕ) → map f xs ≡ replicate n ring → f x ≡ ring → map f (xs ++ x ∷ []) ≡ replicate (n + 1) ring
+rings_snoc f ring xs x n e h = all_snoc f ring xs x n (n + 1) e h refl
+
+pub opened_snoc : (ring bound n : ℕ) (ws : List Window) (ls : List Line) (w : Window) (l : Line) → AreOpened ring bound n ws ls → IsFresh ring bound (n + length ws) w l → AreOpened ring bound n (ws ++ w ∷ []) (ls ++ l ∷ [])
+opened_snoc ring bound n [] [] w l all one = (numbered n (n + 0) one (omega arith), tt)
+  where
+    numbered : (n m : ℕ) → IsFresh ring bound m w l → m ≡ n → IsFresh ring bound n w l
+    numbered n m f e = record { number = f.number ∙ e; default = f.default; sent = f.sent; collected = f.collected; places = f.places; free = f.free; answers = f.answers; ends = f.ends }
+opened_snoc ring bound n [] (m ∷ ms) w l all one = absurd all
+opened_snoc ring bound n (v ∷ vs) [] w l all one = absurd all
+opened_snoc ring bound n (v ∷ vs) (m ∷ ms) w l all one = (all.0, opened_snoc ring bound (n + 1) vs ms w l all.1 (numbered (n + 1 + length vs) (n + length (v ∷ vs)) one (omega arith)))
+  where
+    numbered : (n m : ℕ) → IsFresh ring bound m w l → m ≡ n → IsFresh ring bound n w l
+    numbered n m f e = record { number = f.number ∙ e; default = f.default; sent = f.sent; collected = f.collected; places = f.places; free = f.free; answers = f.answers; ends = f.ends }
+
+pub idle_snoc : (ring : ℕ) (bs : List Bench) (es : List Ear) (b : Bench) (e : Ear) → AreIdle ring bs es → IsIdle ring b e → AreIdle ring (bs ++ b ∷ []) (es ++ e ∷ [])
+idle_snoc ring [] [] b e all one = (one, tt)
+idle_snoc ring [] (x ∷ es) b e all one = absurd all
+idle_snoc ring (x ∷ bs) [] b e all one = absurd all
+idle_snoc ring (x ∷ bs) (y ∷ es) b e all one = (all.0, idle_snoc ring bs es b e all.1 one)

@@ -1,0 +1,73 @@
+//! Benches, where jobs are solved.
+
+ghost use Rattle.std.specs.Prelude.{◌+◌, ◌≤◌, length};
+ghost use Rattle.rtrb.specs.Ring.{sent, known_free, producer_capacity};
+
+use crate::deque_seat::{Seat, Taken};
+use crate::letters::Back;
+use rtrb::{Producer, PushError};
+
+/// A solver's end of a room: it takes orders, and gives back what came of them. It may go to a thread of its own, and no call
+/// waits.
+#[derive(Drop)]
+pub struct Bench {
+    pub(crate) seat: Seat,
+    pub(crate) back: Producer<Back>,
+    ghost places: { producer_capacity back ≤ known_free back + length (sent back) },
+}
+
+impl Bench {
+    ghost use Rattle.std.specs.Prelude.{◌≡◌, ◌<◌, ◌⊎◌, [], ◌∷◌, ◌++◌, length, IsOk, OnOk, IfErr, OnErr, true};
+    ghost use Rattle.room_ends.specs.DequeRule.{stops, WasEmpty};
+    ghost use Rattle.room_ends.specs.Orders.{taken_order};
+    ghost use Rattle.room_ends.specs.Benches.{got, known_taken, given, places_known, bench_ring, SameBench};
+    ghost use Rattle.room_ends.specs.declared.deque_seat.Taken.TheVariants.{Stop, Nothing};
+
+    /// Tries to take the next order. Once it has answered `Stop` it always does, and takes nothing more.
+    pub fn take(&mut self) -> Taken
+        ensures taken { stops (got self.old) ≡ 0 → got self.new ≡ got self.old ++ taken_order result }
+        ensures nothing { result ≡ Nothing → (known_taken self.old < known_taken self.new) ⊎ WasEmpty (got self.old) }
+        ensures stopped { 0 < stops (got self.old) → (result ≡ Stop) × (got self.new ≡ got self.old) }
+        ensures given { given self.new ≡ given self.old }
+        ensures places { places_known self.new ≡ places_known self.old }
+        ensures ends { SameBench self.old self.new }
+    {
+        self.seat.take()
+    }
+
+    /// Gives a job back, solved or not. A refused value is handed back: the keeper has yet to hear `ring` earlier ones, where the
+    /// room was opened with rings of `ring` places.
+    pub fn back(&mut self, back: Back) -> Result<(), Back>
+        ensures given { OnOk result (given self.new ≡ given self.old ++ back ∷ []) }
+        ensures refused { IfErr result (λ value. value ≡ back) }
+        ensures unchanged { OnErr result (given self.new ≡ given self.old) }
+        ensures full { OnErr result (places_known self.new ≡ 0) }
+        ensures succeeds { 0 < places_known self.old → IsOk result }
+        ensures first { length (given self.old) < bench_ring self.old → IsOk result }
+        ensures got { got self.new ≡ got self.old }
+        ensures taken { known_taken self.new ≡ known_taken self.old }
+        ensures ends { SameBench self.old self.new }
+    {
+        match self.back.push(back) {
+            Ok(()) => Ok(()),
+            Err(PushError::Full(value)) => Err(value),
+        }
+    }
+
+    /// Whether a place of the back ring is known to be free.
+    pub fn has_place(&mut self) -> bool
+        ensures place { result ≡ true → 0 < places_known self.new }
+    {
+        !self.back.is_full()
+    }
+
+    /// Gives a job back, solved or not, where a place of the back ring is known to be free.
+    pub fn give(&mut self, back: Back)
+        requires { 0 < places_known self.old }
+        ensures given { given self.new ≡ given self.old ++ back ∷ [] }
+        ensures got { got self.new ≡ got self.old }
+        ensures ends { SameBench self.old self.new }
+    {
+        self.back.push_reserved(back);
+    }
+}
