@@ -2,7 +2,7 @@
 use Rattle.std.proofs.Common.{◌≡◌, ℕ, ◌+◌, List, [], ◌∷◌, ◌++◌, Result, Ok, IfOk, refl, sym, ◌∙◌, subst, append_assoc}
 use Rattle.room_ends.specs.Opening.{AreOpened}
 use Rattle.desk_room.specs.Keepers.{IsOf, SameRoom}
-use Rattle.desk_room.specs.inside.Clerks.{Reports}
+use Rattle.desk_room.specs.inside.Submitters.{Reports}
 use Rattle.desk_room.specs.inside.Threads.{AllFresh, AllOf, AllReport, AllSettled, IsFreshWindow, IsSettled}
 use Rattle.desk_room.specs.Serving.{AreReplies}
 use Rattle.mate_answers.specs.InputReplies.{IsReply}
@@ -10,7 +10,7 @@ use Rattle.mate_answers.specs.declared.input_replies.Output.{Output}
 use Rattle.room_ends.specs.declared.windows.Window.{Window}
 use Rattle.room_ends.specs.declared.window_ring_line.Line.{Line}
 use Rattle.desk_room.specs.declared.keepers.Keeper.{Keeper}
-use Rattle.desk_room.specs.declared.window_thread.Report.{Report}
+use Rattle.desk_room.specs.declared.serving.window_thread.Report.{Report}
 use Rattle.desk_room.proofs.Opened.{of_then, of_window, opened_of}
 
 reports_snoc : (ws : List Window) (inputs : List (List ℕ)) (rs : List Report) (w : Window) (input : List ℕ) (r : Report)

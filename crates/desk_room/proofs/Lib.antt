@@ -26,7 +26,7 @@ pub mod Closing
 pub mod Openings
 pub mod Fewness
 pub mod Opened
-pub mod Dealt
+pub mod Progress
 pub mod Collecting
 pub mod Handed
 pub mod Joined

@@ -64,7 +64,7 @@ got_inside n [] x g = absurd (cc)
 got_inside zero (y ∷ xs) x g = omega arith
 got_inside (suc n) (y ∷ xs) x g = omega (arith, got_inside n xs x g)
 
-pub stays_lines : (k m : Keeper) → m.lines ≡ k.lines → length m.ears.items ≡ length k.ears.items → m.ring ≡ k.ring → Stays k m
+pub stays_lines : (k m : Keeper) → m.lines ≡ k.lines → length m.receivers.items ≡ length k.receivers.items → m.ring ≡ k.ring → Stays k m
 stays_lines k m e f g = record { windows = ap (λ v. length v.items) e; benches = f; ring = g; room = room_lines k m e }
 
 -- one line more was counted

@@ -18,12 +18,12 @@ use Rattle.room_ends.specs.declared.letters.Back.{Back}
 use Rattle.room_ends.specs.declared.letters.Back.TheVariants.{Solved, Returned}
 use Rattle.room_ends.specs.declared.deque_rule.Order.{Order}
 use Rattle.room_ends.specs.declared.deque_rule.Order.TheVariants.{Solve, Stop}
-use Rattle.room_ends.specs.declared.back_ring_ear.Ear.{Ear}
+use Rattle.room_ends.specs.declared.back_receiver.BackReceiver.{BackReceiver}
 use Rattle.room_ends.specs.declared.window_ring_line.Line.{Line}
-use Rattle.desk_room.specs.declared.back_pass.Heard.{Heard}
-use Rattle.desk_room.specs.declared.letter_pass.Took.{Took}
-use Rattle.desk_room.specs.declared.order_pass.Tried.{Tried}
-use Rattle.desk_room.specs.declared.order_pass.Tried.TheVariants.{Ordered, Refused, NoneWaits}
+use Rattle.desk_room.specs.declared.turns.back_pass.Heard.{Heard}
+use Rattle.desk_room.specs.declared.turns.letter_pass.Took.{Took}
+use Rattle.desk_room.specs.declared.turns.order_pass.Tried.{Tried}
+use Rattle.desk_room.specs.declared.turns.order_pass.Tried.TheVariants.{Ordered, Refused, NoneWaits}
 use Rattle.desk_room.proofs.Places.{map_change, map_same, map_length, head_is, tail_is}
 use Rattle.desk_room.proofs.Runs.{taking_one, hearing_one, ordering_one, giving_one, giving_same}
 use Rattle.desk_room.proofs.Owing.{owed_after, owed_run}
@@ -32,7 +32,7 @@ use Rattle.desk_room.proofs.Filling.{room_withdrawn, room_collected}
 use Rattle.desk_room.proofs.GoingOut.{waiting_less}
 
 -- the lists of these parts
-abbrev pub of : List Line → List Ear → List Order → Content → RoomLists
+abbrev pub of : List Line → List BackReceiver → List Order → Content → RoomLists
 of ls es os c = record { taken = map letters_taken ls; put = map deliveries_put ls; heard = map heard es; orders = os; content = c }
 
 abbrev with : List (List Letter) → List (List Delivery) → List (List Back) → List Order → Content → RoomLists
@@ -43,45 +43,45 @@ with_is ts us ps qs hs os c d e f g =
     ap (λ (x : List (List Letter)). with x ps hs os c) e ∙ (ap (λ (x : List (List Delivery)). with us x hs os c) f ∙ ap (λ (x : Content). with us qs hs os x) g)
 
 -- nothing taken or put at the n-th line
-pub of_same : (ls : List Line) (n : ℕ) (l m : Line) (es : List Ear) (os : List Order) (c : Content) → n < length ls → l ≡ get_or ls n l → letters_taken m ≡ letters_taken l → deliveries_put m ≡ deliveries_put l → of (set ls n m) es os c ≡ of ls es os c
+pub of_same : (ls : List Line) (n : ℕ) (l m : Line) (es : List BackReceiver) (os : List Order) (c : Content) → n < length ls → l ≡ get_or ls n l → letters_taken m ≡ letters_taken l → deliveries_put m ≡ deliveries_put l → of (set ls n m) es os c ≡ of ls es os c
 of_same ls n l m es os c h e t p = with_is _ _ _ _ (map heard es) os c c (map_same letters_taken ls n l m h e t) (map_same deliveries_put ls n l m h e p) refl
 
 -- nothing heard at the b-th ring
-pub ears_same : (ls : List Line) (es : List Ear) (b : ℕ) (l m : Ear) (os : List Order) (c : Content) → b < length es → l ≡ get_or es b l → heard m ≡ heard l → of ls (set es b m) os c ≡ of ls es os c
-ears_same ls es b l m os c h e t = ap (λ hs. with (map letters_taken ls) (map deliveries_put ls) hs os c) (map_same heard es b l m h e t)
+pub receivers_same : (ls : List Line) (es : List BackReceiver) (b : ℕ) (l m : BackReceiver) (os : List Order) (c : Content) → b < length es → l ≡ get_or es b l → heard m ≡ heard l → of ls (set es b m) os c ≡ of ls es os c
+receivers_same ls es b l m os c h e t = ap (λ hs. with (map letters_taken ls) (map deliveries_put ls) hs os c) (map_same heard es b l m h e t)
 
 -- a letter taken
-took_event : (ls : List Line) (n : ℕ) (l m : Line) (es : List Ear) (os : List Order) (c d : Content) (k : Took) → n < length ls → l ≡ get_or ls n l → (t : TookOne n l m c d k) → deliveries_put m ≡ deliveries_put l → of (set ls n m) es os d ≡ after (Takes n t.letter) (of ls es os c)
+took_event : (ls : List Line) (n : ℕ) (l m : Line) (es : List BackReceiver) (os : List Order) (c d : Content) (k : Took) → n < length ls → l ≡ get_or ls n l → (t : TookOne n l m c d k) → deliveries_put m ≡ deliveries_put l → of (set ls n m) es os d ≡ after (Takes n t.letter) (of ls es os c)
 took_event ls n l m es os c d k h e t p = with_is _ _ _ _ (map heard es) os d (taking n t.letter c) (map_change letters_taken (one_more t.letter) ls n l m h e t.taken) (map_same deliveries_put ls n l m h e p) t.content
 
-may_take : (ls : List Line) (n : ℕ) (x : Letter) (es : List Ear) (os : List Order) (c : Content) → n < length ls → Rattle.desk_room.specs.Events.accepts c n ≡ true → May (Takes n x) (of ls es os c)
+may_take : (ls : List Line) (n : ℕ) (x : Letter) (es : List BackReceiver) (os : List Order) (c : Content) → n < length ls → Rattle.desk_room.specs.Events.accepts c n ≡ true → May (Takes n x) (of ls es os c)
 may_take ls n x es os c h a = (omega (arith, h, map_length letters_taken ls), a)
 
-pub took_step : (ls : List Line) (n : ℕ) (l m : Line) (es : List Ear) (os : List Order) (c d : Content) (k : Took) → n < length ls → l ≡ get_or ls n l → Rattle.desk_room.specs.Events.accepts c n ≡ true → TookOne n l m c d k → deliveries_put m ≡ deliveries_put l → Taking (of ls es os c) (of (set ls n m) es os d) k.accepted k.byes k.withdrawn
+pub took_step : (ls : List Line) (n : ℕ) (l m : Line) (es : List BackReceiver) (os : List Order) (c d : Content) (k : Took) → n < length ls → l ≡ get_or ls n l → Rattle.desk_room.specs.Events.accepts c n ≡ true → TookOne n l m c d k → deliveries_put m ≡ deliveries_put l → Taking (of ls es os c) (of (set ls n m) es os d) k.accepted k.byes k.withdrawn
 took_step ls n l m es os c d k h e a t p = taking_one _ _ n t.letter _ _ _ (may_take ls n t.letter es os c h a) (took_event ls n l m es os c d k h e t p) t.accepted t.byes t.withdrawn
 
-pub took_owed : (ls : List Line) (n : ℕ) (l m : Line) (es : List Ear) (os : List Order) (c d : Content) (k : Took) → n < length ls → l ≡ get_or ls n l → Rattle.desk_room.specs.Events.accepts c n ≡ true → TookOne n l m c d k → deliveries_put m ≡ deliveries_put l → AreOwed (of ls es os c) → AreOwed (of (set ls n m) es os d)
+pub took_owed : (ls : List Line) (n : ℕ) (l m : Line) (es : List BackReceiver) (os : List Order) (c d : Content) (k : Took) → n < length ls → l ≡ get_or ls n l → Rattle.desk_room.specs.Events.accepts c n ≡ true → TookOne n l m c d k → deliveries_put m ≡ deliveries_put l → AreOwed (of ls es os c) → AreOwed (of (set ls n m) es os d)
 took_owed ls n l m es os c d k h e a t p o = subst AreOwed (sym (took_event ls n l m es os c d k h e t p)) (owed_after (Takes n t.letter) (of ls es os c) (may_take ls n t.letter es os c h a) o)
 
-pub took_marked : (ls : List Line) (n : ℕ) (l m : Line) (es : List Ear) (os : List Order) (c d : Content) (k : Took) → n < length ls → l ≡ get_or ls n l → Rattle.desk_room.specs.Events.accepts c n ≡ true → TookOne n l m c d k → deliveries_put m ≡ deliveries_put l → ∥ AreMarked (of ls es os c) ∥₁ → ∥ AreMarked (of (set ls n m) es os d) ∥₁
+pub took_marked : (ls : List Line) (n : ℕ) (l m : Line) (es : List BackReceiver) (os : List Order) (c d : Content) (k : Took) → n < length ls → l ≡ get_or ls n l → Rattle.desk_room.specs.Events.accepts c n ≡ true → TookOne n l m c d k → deliveries_put m ≡ deliveries_put l → ∥ AreMarked (of ls es os c) ∥₁ → ∥ AreMarked (of (set ls n m) es os d) ∥₁
 took_marked ls n l m es os c d k h e a t p o = marked_step (Takes n t.letter) (of ls es os c) _ (may_take ls n t.letter es os c h a) (took_event ls n l m es os c d k h e t p) o
 
 -- a job heard
-heard_event : (ls : List Line) (es : List Ear) (b : ℕ) (l m : Ear) (os : List Order) (c d : Content) (k : Heard) → b < length es → l ≡ get_or es b l → (t : HeardOne l m c d k) → of ls (set es b m) os d ≡ after (Hears b t.back) (of ls es os c)
+heard_event : (ls : List Line) (es : List BackReceiver) (b : ℕ) (l m : BackReceiver) (os : List Order) (c d : Content) (k : Heard) → b < length es → l ≡ get_or es b l → (t : HeardOne l m c d k) → of ls (set es b m) os d ≡ after (Hears b t.back) (of ls es os c)
 heard_event ls es b l m os c d k h e t =
     ap (λ hs. with (map letters_taken ls) (map deliveries_put ls) hs os d) (map_change heard (one_more t.back) es b l m h e t.heard)
     ∙ ap (λ (x : Content). with (map letters_taken ls) (map deliveries_put ls) (change_at b (one_more t.back) (map heard es)) os x) t.content
 
-may_hear : (ls : List Line) (es : List Ear) (b : ℕ) (x : Back) (os : List Order) (c : Content) → b < length es → May (Hears b x) (of ls es os c)
+may_hear : (ls : List Line) (es : List BackReceiver) (b : ℕ) (x : Back) (os : List Order) (c : Content) → b < length es → May (Hears b x) (of ls es os c)
 may_hear ls es b x os c h = omega (arith, map_length heard es)
 
-pub heard_step : (ls : List Line) (es : List Ear) (b : ℕ) (l m : Ear) (os : List Order) (c d : Content) (k : Heard) → b < length es → l ≡ get_or es b l → HeardOne l m c d k → Hearing (of ls es os c) (of ls (set es b m) os d) k.solved k.returned k.strangers
+pub heard_step : (ls : List Line) (es : List BackReceiver) (b : ℕ) (l m : BackReceiver) (os : List Order) (c d : Content) (k : Heard) → b < length es → l ≡ get_or es b l → HeardOne l m c d k → Hearing (of ls es os c) (of ls (set es b m) os d) k.solved k.returned k.strangers
 heard_step ls es b l m os c d k h e t = hearing_one _ _ b t.back _ _ _ (may_hear ls es b t.back os c h) (heard_event ls es b l m os c d k h e t) t.solved t.returned t.strangers
 
-pub heard_owed : (ls : List Line) (es : List Ear) (b : ℕ) (l m : Ear) (os : List Order) (c d : Content) (k : Heard) → b < length es → l ≡ get_or es b l → HeardOne l m c d k → AreOwed (of ls es os c) → AreOwed (of ls (set es b m) os d)
+pub heard_owed : (ls : List Line) (es : List BackReceiver) (b : ℕ) (l m : BackReceiver) (os : List Order) (c d : Content) (k : Heard) → b < length es → l ≡ get_or es b l → HeardOne l m c d k → AreOwed (of ls es os c) → AreOwed (of ls (set es b m) os d)
 heard_owed ls es b l m os c d k h e t o = subst AreOwed (sym (heard_event ls es b l m os c d k h e t)) (owed_after (Hears b t.back) (of ls es os c) (may_hear ls es b t.back os c h) o)
 
-pub heard_marked : (ls : List Line) (es : List Ear) (b : ℕ) (l m : Ear) (os : List Order) (c d : Content) (k : Heard) → b < length es → l ≡ get_or es b l → HeardOne l m c d k → ∥ AreMarked (of ls es os c) ∥₁ → ∥ AreMarked (of ls (set es b m) os d) ∥₁
+pub heard_marked : (ls : List Line) (es : List BackReceiver) (b : ℕ) (l m : BackReceiver) (os : List Order) (c d : Content) (k : Heard) → b < length es → l ≡ get_or es b l → HeardOne l m c d k → ∥ AreMarked (of ls es os c) ∥₁ → ∥ AreMarked (of ls (set es b m) os d) ∥₁
 heard_marked ls es b l m os c d k h e t o = marked_step (Hears b t.back) (of ls es os c) _ (may_hear ls es b t.back os c h) (heard_event ls es b l m os c d k h e t) o
 
 -- a job ordered
@@ -117,17 +117,17 @@ ordered_stops Refused old new c d g = ap stops g.0
 ordered_stops NoneWaits old new c d g = ap stops g.0
 
 -- a delivery given
-given_event : (ls : List Line) (n : ℕ) (l m : Line) (x : Delivery) (es : List Ear) (os : List Order) (c d : Content) → n < length ls → l ≡ get_or ls n l → deliveries_put m ≡ deliveries_put l ++ x ∷ [] → letters_taken m ≡ letters_taken l → d ≡ after_collect c n → of (set ls n m) es os d ≡ after (Gives n x) (of ls es os c)
+given_event : (ls : List Line) (n : ℕ) (l m : Line) (x : Delivery) (es : List BackReceiver) (os : List Order) (c d : Content) → n < length ls → l ≡ get_or ls n l → deliveries_put m ≡ deliveries_put l ++ x ∷ [] → letters_taken m ≡ letters_taken l → d ≡ after_collect c n → of (set ls n m) es os d ≡ after (Gives n x) (of ls es os c)
 given_event ls n l m x es os c d h e p t g = with_is _ _ _ _ (map heard es) os d (after_collect c n) (map_same letters_taken ls n l m h e t) (map_change deliveries_put (one_more x) ls n l m h e p) g
 
-pub gave_step : (b : Bool) (ls : List Line) (n : ℕ) (l m : Line) (es : List Ear) (os : List Order) (c d : Content) → n < length ls → l ≡ get_or ls n l → letters_taken m ≡ letters_taken l → GaveOne n l m c d b → Giving (of ls es os c) (of (set ls n m) es os d) (if b then 1 else 0)
+pub gave_step : (b : Bool) (ls : List Line) (n : ℕ) (l m : Line) (es : List BackReceiver) (os : List Order) (c d : Content) → n < length ls → l ≡ get_or ls n l → letters_taken m ≡ letters_taken l → GaveOne n l m c d b → Giving (of ls es os c) (of (set ls n m) es os d) (if b then 1 else 0)
 gave_step true ls n l m es os c d h e t g = giving_one _ _ n g.0 (omega (arith, h, map_length deliveries_put ls), g.1) (given_event ls n l m g.0 es os c d h e g.2 t g.3)
 gave_step false ls n l m es os c d h e t g = giving_same _ _ (with_is _ _ _ _ (map heard es) os d c (map_same letters_taken ls n l m h e t) (map_same deliveries_put ls n l m h e g.0) g.1)
 
-pub gave_owed : (b : Bool) (ls : List Line) (n : ℕ) (l m : Line) (es : List Ear) (os : List Order) (c d : Content) → n < length ls → l ≡ get_or ls n l → letters_taken m ≡ letters_taken l → GaveOne n l m c d b → AreOwed (of ls es os c) → AreOwed (of (set ls n m) es os d)
+pub gave_owed : (b : Bool) (ls : List Line) (n : ℕ) (l m : Line) (es : List BackReceiver) (os : List Order) (c d : Content) → n < length ls → l ≡ get_or ls n l → letters_taken m ≡ letters_taken l → GaveOne n l m c d b → AreOwed (of ls es os c) → AreOwed (of (set ls n m) es os d)
 gave_owed b ls n l m es os c d h e t g o = let s = gave_step b ls n l m es os c d h e t g in owed_run s.events _ _ s.leads o
 
-pub gave_marked : (b : Bool) (ls : List Line) (n : ℕ) (l m : Line) (es : List Ear) (os : List Order) (c d : Content) → n < length ls → l ≡ get_or ls n l → letters_taken m ≡ letters_taken l → GaveOne n l m c d b → ∥ AreMarked (of ls es os c) ∥₁ → ∥ AreMarked (of (set ls n m) es os d) ∥₁
+pub gave_marked : (b : Bool) (ls : List Line) (n : ℕ) (l m : Line) (es : List BackReceiver) (os : List Order) (c d : Content) → n < length ls → l ≡ get_or ls n l → letters_taken m ≡ letters_taken l → GaveOne n l m c d b → ∥ AreMarked (of ls es os c) ∥₁ → ∥ AreMarked (of (set ls n m) es os d) ∥₁
 gave_marked b ls n l m es os c d h e t g o = let s = gave_step b ls n l m es os c d h e t g in marked_runs s.events _ _ s.leads o
 
 -- The rooms of the queues stay, and how many they are.
@@ -169,10 +169,10 @@ rooms_still c d ring e k = e ∙ (k ∙ ap (λ n. replicate n ring) (sym (queues
 pub took_rooms : (n : ℕ) (l m : Line) (c d : Content) (k : Took) → TookOne n l m c d k → map room_of d.queues ≡ map room_of c.queues
 took_rooms n l m c d k t = ap (λ (x : Content). map room_of x.queues) t.content ∙ rooms_taken n t.letter c
 
-pub heard_rooms : (l m : Ear) (c d : Content) (k : Heard) → HeardOne l m c d k → map room_of d.queues ≡ map room_of c.queues
+pub heard_rooms : (l m : BackReceiver) (c d : Content) (k : Heard) → HeardOne l m c d k → map room_of d.queues ≡ map room_of c.queues
 heard_rooms l m c d k t = ap (λ (x : Content). map room_of x.queues) t.content ∙ rooms_heard t.back c
 
--- of lines or ears, which all have rings of one size
+-- of lines or receivers, which all have rings of one size
 pub rings_set : {A : Type 0} (f : A → ℕ) (xs : List A) (n : ℕ) (x y : A) (ring : ℕ) → n < length xs → x ≡ get_or xs n x → f y ≡ f x → map f xs ≡ replicate (length xs) ring → map f (set xs n y) ≡ replicate (length (set xs n y)) ring
 rings_set f xs n x y ring h e s k = map_same f xs n x y h e s ∙ (k ∙ ap (λ j. replicate j ring) (sym (length-set xs n y)))
 

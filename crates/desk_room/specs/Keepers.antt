@@ -12,33 +12,33 @@ use Rattle.room_ends.specs.declared.letters.Letter.{Letter}
 use Rattle.room_ends.specs.declared.letters.Back.{Back}
 use Rattle.room_ends.specs.declared.windows.Window.{Window}
 use Rattle.room_ends.specs.declared.window_ring_line.Line.{Line}
-use Rattle.room_ends.specs.declared.back_ring_ear.Ear.{Ear}
+use Rattle.room_ends.specs.declared.back_receiver.BackReceiver.{BackReceiver}
 use Rattle.desk_room.specs.declared.keepers.Keeper.{Keeper}
 
 -- its ends of each window's two rings, and of each bench's back ring
 abbrev pub lines_of : Keeper → List Line
 lines_of k = k.lines.items
 
-abbrev pub ears_of : Keeper → List Ear
-ears_of k = k.ears.items
+abbrev pub receivers_of : Keeper → List BackReceiver
+receivers_of k = k.receivers.items
 
 -- its lists, and what its desk holds
 abbrev pub lists : Keeper → RoomLists
-lists k = record { taken = map letters_taken k.lines.items; put = map deliveries_put k.lines.items; heard = map heard k.ears.items; orders = orders k.dealer; content = k.desk }
+lists k = record { taken = map letters_taken k.lines.items; put = map deliveries_put k.lines.items; heard = map heard k.receivers.items; orders = orders k.producer; content = k.desk }
 
 -- how many windows and benches it has, and how many places each of their rings has
 abbrev pub windows_of : Keeper → ℕ
 windows_of k = length k.lines.items
 
 abbrev pub benches_of : Keeper → ℕ
-benches_of k = length k.ears.items
+benches_of k = length k.receivers.items
 
 abbrev pub ring_of : Keeper → ℕ
 ring_of k = k.ring
 
 -- how many places its deque of orders has
 abbrev pub order_places : Keeper → ℕ
-order_places k = places k.dealer
+order_places k = places k.producer
 
 -- It has begun to send the benches home.
 abbrev pub is_home : Keeper → Bool
@@ -54,7 +54,7 @@ free k = map places_free k.lines.items
 
 -- what it knows to lie in the back rings
 abbrev pub backs_known : Keeper → List (List Back)
-backs_known k = map back_known k.ears.items
+backs_known k = map back_known k.receivers.items
 
 -- how many windows said farewell, by their letters
 abbrev pub windows_gone : List (List Letter) → ℕ

@@ -1,3 +1,3 @@
 pub mod Steps
-pub mod Clerks
+pub mod Submitters
 pub mod Threads

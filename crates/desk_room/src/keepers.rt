@@ -5,35 +5,35 @@ ghost use Rattle.room_ends.specs.Letters.{records};
 ghost use Rattle.room_ends.specs.DequeRule.{stops};
 ghost use Rattle.room_ends.specs.Orders.{orders, passes};
 ghost use Rattle.room_ends.specs.WindowRings.{letters_taken, deliveries_put, ring_of as line_ring, has_farewell};
-ghost use Rattle.room_ends.specs.Benches.{ear_ring};
+ghost use Rattle.room_ends.specs.Benches.{receiver_ring};
 ghost use Rattle.desk_room.specs.Kept.{owed, room_of, EachIsMarked};
 
 use mate_desk::Desk;
-use room_ends::{Dealer, Ear, Line};
+use room_ends::{BackReceiver, Line, OrderProducer};
 
 /// The keeper of a room's desk. It alone calls the desk: between turns letters and jobs wait in the rings.
 #[derive(Drop)]
 pub struct Keeper {
     pub(crate) lines: Vec<Line>,
-    pub(crate) ears: Vec<Ear>,
+    pub(crate) receivers: Vec<BackReceiver>,
     pub(crate) desk: Desk,
-    pub(crate) dealer: Dealer,
+    pub(crate) producer: OrderProducer,
     pub(crate) ring: usize,
     // Stops were asked for, so that nothing more is ordered.
     pub(crate) is_home: bool,
     ghost windows: { length desk.queues ≡ length lines.items },
     ghost few_windows: { length lines.items ≤ 16 },
-    ghost few_benches: { length ears.items ≤ 16 },
+    ghost few_benches: { length receivers.items ≤ 16 },
     ghost small: { ring ≤ 64 },
     ghost line_rings: { map line_ring lines.items ≡ replicate (length lines.items) ring },
-    ghost ear_rings: { map ear_ring ears.items ≡ replicate (length ears.items) ring },
+    ghost receiver_rings: { map receiver_ring receivers.items ≡ replicate (length receivers.items) ring },
     ghost rooms: { map room_of desk.queues ≡ replicate (length desk.queues) ring },
     ghost kept: { map records (map letters_taken lines.items) ≡ owed (map deliveries_put lines.items) desk.queues },
     ghost marked: { ∥ EachIsMarked (map letters_taken lines.items) (map deliveries_put lines.items) desk.queues ∥₁ },
-    ghost seats: { passes dealer ≡ length ears.items },
-    ghost a_bench: { 0 < length ears.items },
-    ghost working: { is_home ≡ false → stops (orders dealer) ≡ 0 },
-    ghost sent_home: { is_home ≡ true → 0 < length (orders dealer) },
+    ghost stealers: { passes producer ≡ length receivers.items },
+    ghost a_bench: { 0 < length receivers.items },
+    ghost working: { is_home ≡ false → stops (orders producer) ≡ 0 },
+    ghost sent_home: { is_home ≡ true → 0 < length (orders producer) },
 }
 
 #[tactic(auto, using(crate::proofs::Staying::gone_more))]
@@ -114,6 +114,6 @@ impl Keeper {
         ensures stays { Stays self.old self.new }
     {
         self.is_home = true;
-        self.dealer.send_home()
+        self.producer.send_home()
     }
 }

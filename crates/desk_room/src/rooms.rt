@@ -2,7 +2,7 @@
 
 ghost use Rattle.std.specs.Prelude.{◌≡◌, ◌≢◌, ◌↔◌, ◌⊎◌, ◌<◌, ◌≤◌, [], codes, length, replicate, IfOk, Err, false};
 ghost use Rattle.mate_desk.specs.Calls.{empty};
-ghost use Rattle.desk_room.specs.Keepers.{lists, lines_of, ears_of, ring_of, is_home};
+ghost use Rattle.desk_room.specs.Keepers.{lists, lines_of, receivers_of, ring_of, is_home};
 ghost use Rattle.desk_room.specs.RoomFaults.{room_fault_name};
 ghost use Rattle.room_ends.specs.Opening.{AreOpened, AreIdle};
 ghost use Rattle.desk_room.specs.declared.rooms.RoomFault.TheVariants as fault;
@@ -10,7 +10,7 @@ ghost use Rattle.desk_room.specs.declared.rooms.RoomFault.TheVariants as fault;
 use crate::keepers::Keeper;
 use chess_problems::Bound;
 use mate_desk::Desk;
-use room_ends::{Bench, Dealer, Window, open_benches, open_windows};
+use room_ends::{Bench, OrderProducer, Window, open_benches, open_windows};
 use std::alloc::{AllocError, Global};
 use thiserror::Error;
 
@@ -69,7 +69,7 @@ pub fn open_room(
     ensures windows { IfOk result (λ room. length room.windows.items ≡ windows) }
     ensures benches { IfOk result (λ room. length room.benches.items ≡ benches) }
     ensures opened { IfOk result (λ room. AreOpened ring default 0 room.windows.items (lines_of room.keeper)) }
-    ensures idle { IfOk result (λ room. AreIdle ring room.benches.items (ears_of room.keeper)) }
+    ensures idle { IfOk result (λ room. AreIdle ring room.benches.items (receivers_of room.keeper)) }
     ensures lists { IfOk result (λ room. lists room.keeper ≡ record { taken = replicate windows []; put = replicate windows []; heard = replicate benches []; orders = []; content = empty windows ring 0 }) }
     ensures ring { IfOk result (λ room. ring_of room.keeper ≡ ring) }
     ensures here { IfOk result (λ room. is_home room.keeper ≡ false) }
@@ -107,22 +107,22 @@ fn open(
     ensures windows { IfOk result (λ room. length room.windows.items ≡ windows) }
     ensures benches { IfOk result (λ room. length room.benches.items ≡ benches) }
     ensures opened { IfOk result (λ room. AreOpened ring default 0 room.windows.items (lines_of room.keeper)) }
-    ensures idle { IfOk result (λ room. AreIdle ring room.benches.items (ears_of room.keeper)) }
+    ensures idle { IfOk result (λ room. AreIdle ring room.benches.items (receivers_of room.keeper)) }
     ensures lists { IfOk result (λ room. lists room.keeper ≡ record { taken = replicate windows []; put = replicate windows []; heard = replicate benches []; orders = []; content = empty windows ring 0 }) }
     ensures ring { IfOk result (λ room. ring_of room.keeper ≡ ring) }
     ensures here { IfOk result (λ room. is_home room.keeper ≡ false) }
 {
     let (window_ends, lines) = open_windows(alloc, windows, ring, default)?;
-    let mut dealer = Dealer::new(alloc)?;
-    let (bench_ends, ears) = open_benches(alloc, benches, ring, &mut dealer)?;
+    let mut producer = OrderProducer::new(alloc)?;
+    let (bench_ends, receivers) = open_benches(alloc, benches, ring, &mut producer)?;
     let Ok(desk) = Desk::new(alloc, windows, ring, 0) else {
         return Err(AllocError);
     };
     let keeper = Keeper {
         lines,
-        ears,
+        receivers,
         desk,
-        dealer,
+        producer,
         ring,
         is_home: false,
     };

@@ -1,4 +1,7 @@
 //! Inputs served by threads.
+//!
+//! To read: `solve_gates`; `stop_signal` and `backoff`, how the threads end and wait; `submitters`, one at each window; what each thread does,
+//! `window_thread`, `bench_thread` and `keeper_thread`; and `thread_groups`.
 
 ghost use Rattle.std.specs.Prelude.{◌≡◌, ◌≢◌, ◌↔◌, ◌⊎◌, ◌<◌, ◌≤◌, length, map, vec_len, IfOk, IfSome, Err};
 ghost use Rattle.std.specs.Thread.{IsSync};
@@ -7,17 +10,26 @@ ghost use Rattle.desk_room.specs.inside.Threads.{AllFresh, AllOf, AllReport, All
 ghost use Rattle.desk_room.specs.Keepers.{IsOf, SameRoom};
 ghost use Rattle.desk_room.specs.declared.rooms.RoomFault.TheVariants as fault;
 
-use crate::bells::{Bell, Why};
-use crate::keeper_thread::keep;
+mod backoff;
+mod bench_thread;
+mod keeper_thread;
+mod solve_gates;
+mod stop_signal;
+mod submitters;
+mod thread_groups;
+mod window_thread;
+
 use crate::keepers::Keeper;
 use crate::rooms::{Room, RoomFault, open_room};
-use crate::solve_gates::Gate;
-use crate::thread_groups::{Worked, attend_all, work_all};
-use crate::window_thread::Report;
+use crate::serving::keeper_thread::run_keeper;
+use crate::serving::stop_signal::{StopReason, StopSignal};
+use crate::serving::thread_groups::{BenchesDone, run_benches, run_windows};
+use crate::serving::window_thread::Report;
 use chess_moves::Rays;
 use chess_problems::Bound;
 use mate_answers::Output;
 use room_ends::{Bench, Window};
+pub use solve_gates::{Gate, OpenGate};
 use std::alloc::{AllocError, Global};
 use std::snapshot::Snapshot;
 use std::sync::Wait;
@@ -48,7 +60,7 @@ fn run_ends<R: Threads + Wait + Sync, G: Gate>(
     benches: Vec<Bench>,
     entries: usize,
     gate: &G,
-    bell: &Bell,
+    stop: &StopSignal,
 ) -> Result<Vec<Report>, AllocError>
     requires as_many { vec_len windows ≡ length inputs.now }
     requires fresh { AllFresh windows.items }
@@ -63,17 +75,17 @@ fn run_ends<R: Threads + Wait + Sync, G: Gate>(
         {
             let working = move ||
                 requires { IsSync R.row × IsSync G.row }
-            { work_all(rt, alloc, rays, benches, entries, gate, bell) };
-            match scope.spawn_with(Worked, working) {
+            { run_benches(rt, alloc, rays, benches, entries, gate, stop) };
+            match scope.spawn_with(BenchesDone, working) {
                 Ok(child) => {
-                    let reports = attend_all(rt, alloc, rays, windows, inputs, bell);
+                    let reports = run_windows(rt, alloc, rays, windows, inputs, stop);
                     child.join(rt);
                     reports
                 }
                 Err(refused) => {
-                    bell.ring(Why::NoThread);
+                    stop.send(StopReason::NoThread);
                     (refused.value)();
-                    attend_all(rt, alloc, rays, windows, inputs, bell)
+                    run_windows(rt, alloc, rays, windows, inputs, stop)
                 }
             }
         },
@@ -89,7 +101,7 @@ fn run<R: Threads + Wait + Sync, G: Gate>(
     inputs: &[Vec<u8>],
     entries: usize,
     gate: &G,
-    bell: &Bell,
+    stop: &StopSignal,
 ) -> (Keeper, Result<Vec<Report>, AllocError>)
     requires as_many { vec_len room.windows ≡ length inputs.now }
     requires fresh { AllFresh room.windows.items }
@@ -112,21 +124,21 @@ fn run<R: Threads + Wait + Sync, G: Gate>(
             let promise = KeeperOf(Snapshot::of(&keeper));
             let keeping = move || -> Keeper
                 ensures { SameRoom keeper result }
-            { keep(rt, keeper, most, bell) };
+            { run_keeper(rt, keeper, most, stop) };
             match scope.spawn_with(promise, keeping) {
                 Ok(child) => {
                     let reports = run_ends(
-                        rt, alloc, rays, windows, inputs, benches, entries, gate, bell,
+                        rt, alloc, rays, windows, inputs, benches, entries, gate, stop,
                     );
                     if reports.is_err() {
-                        bell.ring(Why::NoMemory);
+                        stop.send(StopReason::NoMemory);
                     }
                     (child.join(rt), reports)
                 }
                 Err(refused) => {
-                    bell.ring(Why::NoThread);
+                    stop.send(StopReason::NoThread);
                     let reports = run_ends(
-                        rt, alloc, rays, windows, inputs, benches, entries, gate, bell,
+                        rt, alloc, rays, windows, inputs, benches, entries, gate, stop,
                     );
                     ((refused.value)(), reports)
                 }
@@ -191,15 +203,15 @@ pub fn serve_with_memo<R: Threads + Wait + Sync, G: Gate>(
     ensures good_ring { result ≢ Err fault.BadRing }
 {
     let room = open_room(alloc, inputs.len(), benches, RING, default)?;
-    let bell = Bell::new();
-    let (mut keeper, reports) = run(rt, alloc, rays, room, inputs, entries, gate, &bell);
+    let stop = StopSignal::new();
+    let (mut keeper, reports) = run(rt, alloc, rays, room, inputs, entries, gate, &stop);
     let Ok(reports) = reports else {
         return Err(RoomFault::NoMemory);
     };
     match settle_all(alloc, &mut keeper, reports) {
         Ok(Some(outputs)) => Ok(outputs),
-        Ok(None) => match bell.rung() {
-            Some(Why::NoThread) => Err(RoomFault::NoThread),
+        Ok(None) => match stop.reason() {
+            Some(StopReason::NoThread) => Err(RoomFault::NoThread),
             _ => Err(RoomFault::NoMemory),
         },
         Err(_) => Err(RoomFault::NoMemory),

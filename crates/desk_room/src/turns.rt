@@ -1,5 +1,10 @@
 //! A turn.
 
+mod back_pass;
+mod delivery_pass;
+mod letter_pass;
+mod order_pass;
+
 use crate::keepers::Keeper;
 
 /// What a turn of the keeper did.

@@ -1,4 +1,4 @@
 pub mod LetterCounts
 pub mod FirstTaken
-pub mod Deals
+pub mod DequeSteps
 pub mod Openings

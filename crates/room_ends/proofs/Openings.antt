@@ -5,7 +5,7 @@ use Rattle.room_ends.specs.Opening.{IsFresh, AreOpened, IsIdle, AreIdle}
 use Rattle.room_ends.specs.declared.windows.Window.{Window}
 use Rattle.room_ends.specs.declared.window_ring_line.Line.{Line}
 use Rattle.room_ends.specs.declared.benches.Bench.{Bench}
-use Rattle.room_ends.specs.declared.back_ring_ear.Ear.{Ear}
+use Rattle.room_ends.specs.declared.back_receiver.BackReceiver.{BackReceiver}
 
 snoc_replicate : {A : Type 0} (n : ℕ) (a : A) → replicate n a ++ a ∷ [] ≡ a ∷ replicate n a
 snoc_replicate zero a = refl
@@ -34,7 +34,7 @@ opened_snoc ring bound n (v ∷ vs) (m ∷ ms) w l all one = (all.0, opened_snoc
     numbered : (n m : ℕ) → IsFresh ring bound m w l → m ≡ n → IsFresh ring bound n w l
     numbered n m f e = record { number = f.number ∙ e; default = f.default; sent = f.sent; collected = f.collected; places = f.places; free = f.free; answers = f.answers; ends = f.ends }
 
-pub idle_snoc : (ring : ℕ) (bs : List Bench) (es : List Ear) (b : Bench) (e : Ear) → AreIdle ring bs es → IsIdle ring b e → AreIdle ring (bs ++ b ∷ []) (es ++ e ∷ [])
+pub idle_snoc : (ring : ℕ) (bs : List Bench) (es : List BackReceiver) (b : Bench) (e : BackReceiver) → AreIdle ring bs es → IsIdle ring b e → AreIdle ring (bs ++ b ∷ []) (es ++ e ∷ [])
 idle_snoc ring [] [] b e all one = (one, tt)
 idle_snoc ring [] (x ∷ es) b e all one = absurd all
 idle_snoc ring (x ∷ bs) [] b e all one = absurd all

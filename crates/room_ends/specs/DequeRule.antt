@@ -22,7 +22,7 @@ got_by benches = flat_map (λ bench. bench.got) benches
 -- The orders put out are a first part, and then what waits in the deque. The benches got exactly that first part, each order as
 -- often as it stands there. At most as many stops were put out as passes were handed to benches, no job stands behind a stop, and
 -- no bench got more than one stop.
-pub record Dealt (waiting : List Order) (keeper : View) (benches : List View) : Type 0 where
+pub record Distributed (waiting : List Order) (keeper : View) (benches : List View) : Type 0 where
   pub keeps : keeper.keeps ≡ true
   pub passes : keeper.passes ≡ length benches
   pub first : List Order
@@ -35,7 +35,7 @@ pub record Dealt (waiting : List Order) (keeper : View) (benches : List View) : 
 -- the rule: the keeper has the first pass, and the benches have the others
 abbrev pub Ruled : List Order → List View → Type 0
 Ruled waiting [] = ⊥
-Ruled waiting (keeper ∷ benches) = Dealt waiting keeper benches
+Ruled waiting (keeper ∷ benches) = Distributed waiting keeper benches
 
 -- what the keeper knows that handed out so many passes and put out these orders
 abbrev pub keeper_view : ℕ → List Order → View
@@ -47,4 +47,4 @@ bench_view got = record { keeps = false; passes = 0; orders = []; got = got }
 
 -- at one moment nothing waited in the deque, when a bench had got these orders
 abbrev pub WasEmpty : List Order → Type 0
-WasEmpty got = (keeper : View) × (benches : List View) × Dealt [] keeper benches × Contains benches (bench_view got)
+WasEmpty got = (keeper : View) × (benches : List View) × Distributed [] keeper benches × Contains benches (bench_view got)

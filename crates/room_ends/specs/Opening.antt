@@ -6,7 +6,7 @@ use Rattle.room_ends.specs.Benches.{got, given, bench_ring, AreEnds as AreBackEn
 use Rattle.room_ends.specs.declared.windows.Window.{Window}
 use Rattle.room_ends.specs.declared.window_ring_line.Line.{Line}
 use Rattle.room_ends.specs.declared.benches.Bench.{Bench}
-use Rattle.room_ends.specs.declared.back_ring_ear.Ear.{Ear}
+use Rattle.room_ends.specs.declared.back_receiver.BackReceiver.{BackReceiver}
 
 -- A window of this number, by which nothing went yet, and the keeper's ends of its two rings, each with so many places, all free.
 pub record IsFresh (ring bound n : ℕ) (w : Window) (l : Line) : Type 0 where
@@ -26,13 +26,13 @@ AreOpened ring bound n (w ∷ ws) (l ∷ ls) = IsFresh ring bound n w l × AreOp
 AreOpened ring bound n _ _ = ⊥
 
 -- A bench that got and gave nothing yet, and the keeper's end of its back ring, which has so many places.
-pub record IsIdle (ring : ℕ) (bench : Bench) (ear : Ear) : Type 0 where
+pub record IsIdle (ring : ℕ) (bench : Bench) (receiver : BackReceiver) : Type 0 where
   pub got : got bench ≡ []
   pub given : given bench ≡ []
   pub places : bench_ring bench ≡ ring
-  pub ends : AreBackEnds bench ear
+  pub ends : AreBackEnds bench receiver
 
-abbrev pub AreIdle : ℕ → List Bench → List Ear → Type 0
+abbrev pub AreIdle : ℕ → List Bench → List BackReceiver → Type 0
 AreIdle ring [] [] = Unit {0}
 AreIdle ring (b ∷ bs) (e ∷ es) = IsIdle ring b e × AreIdle ring bs es
 AreIdle ring _ _ = ⊥

@@ -3,15 +3,15 @@
 ghost use Rattle.std.specs.Prelude.{◌+◌, ◌≤◌, length};
 ghost use Rattle.rtrb.specs.Ring.{sent, known_free, producer_capacity};
 
-use crate::deque_seat::{Seat, Taken};
 use crate::letters::Back;
+use crate::order_stealer::{OrderStealer, Taken};
 use rtrb::{Producer, PushError};
 
 /// A solver's end of a room: it takes orders, and gives back what came of them. It may go to a thread of its own, and no call
 /// waits.
 #[derive(Drop)]
 pub struct Bench {
-    pub(crate) seat: Seat,
+    pub(crate) stealer: OrderStealer,
     pub(crate) back: Producer<Back>,
     ghost places: { producer_capacity back ≤ known_free back + length (sent back) },
 }
@@ -21,7 +21,7 @@ impl Bench {
     ghost use Rattle.room_ends.specs.DequeRule.{stops, WasEmpty};
     ghost use Rattle.room_ends.specs.Orders.{taken_order};
     ghost use Rattle.room_ends.specs.Benches.{got, known_taken, given, places_known, bench_ring, SameBench};
-    ghost use Rattle.room_ends.specs.declared.deque_seat.Taken.TheVariants.{Stop, Nothing};
+    ghost use Rattle.room_ends.specs.declared.order_stealer.Taken.TheVariants.{Stop, Nothing};
 
     /// Tries to take the next order. Once it has answered `Stop` it always does, and takes nothing more.
     pub fn take(&mut self) -> Taken
@@ -32,7 +32,7 @@ impl Bench {
         ensures places { places_known self.new ≡ places_known self.old }
         ensures ends { SameBench self.old self.new }
     {
-        self.seat.take()
+        self.stealer.take()
     }
 
     /// Gives a job back, solved or not. A refused value is handed back: the keeper has yet to hear `ring` earlier ones, where the

@@ -29,9 +29,9 @@ pub struct View {
 }
 
 /// The rule of the deque of orders.
-pub struct Dealing;
+pub struct OrderRule;
 
-impl Protocol<Order, View> for Dealing {
+impl Protocol<Order, View> for OrderRule {
     ghost use Rattle.std.specs.Prelude.{[]};
     ghost use Rattle.room_ends.specs.DequeRule.{keeper_view, bench_view, Ruled};
 

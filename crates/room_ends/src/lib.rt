@@ -6,30 +6,30 @@
 //!
 //! To read: `letters` (what goes over the rings); `windows`, with `window_faults`, and `window_ring_line`, the keeper's ends of a
 //! window's two rings; `window_rings` makes both, and `settling` says what is left in them. Then `deque_rule`, orders and the rule of
-//! their deque; `deque_dealer`, its end at the keeper, and `deque_seat`, its ends at the `benches`; `back_ring_ear`, the keeper's ends
-//! of the `back_rings`.
+//! their deque; `order_producer`, its end at the keeper, and `order_stealer`, its ends at the `benches`; `back_receiver`, the keeper's
+//! ends of the `back_rings`.
 #![tactic(auto)]
 
-mod back_ring_ear;
+mod back_receiver;
 mod back_rings;
 mod benches;
-mod deque_dealer;
 mod deque_rule;
-mod deque_seat;
 mod letters;
+mod order_producer;
+mod order_stealer;
 mod settling;
 mod window_faults;
 mod window_ring_line;
 mod window_rings;
 mod windows;
 
-pub use back_ring_ear::Ear;
+pub use back_receiver::BackReceiver;
 pub use back_rings::open_benches;
 pub use benches::Bench;
-pub use deque_dealer::Dealer;
 pub use deque_rule::Order;
-pub use deque_seat::Taken;
 pub use letters::{Back, Letter};
+pub use order_producer::OrderProducer;
+pub use order_stealer::Taken;
 pub use settling::Settled;
 pub use window_faults::{ByeFault, WindowFault, WithdrawFault};
 pub use window_ring_line::Line;

@@ -15,15 +15,15 @@ use Rattle.room_ends.specs.declared.letters.Letter.{Letter}
 use Rattle.room_ends.specs.declared.letters.Back.{Back}
 use Rattle.room_ends.specs.declared.deque_rule.Order.{Order}
 use Rattle.room_ends.specs.declared.deque_rule.Order.TheVariants.{Solve}
-use Rattle.room_ends.specs.declared.back_ring_ear.Ear.{Ear}
+use Rattle.room_ends.specs.declared.back_receiver.BackReceiver.{BackReceiver}
 use Rattle.room_ends.specs.declared.window_ring_line.Line.{Line}
-use Rattle.desk_room.specs.declared.back_pass.Heard.{Heard}
-use Rattle.desk_room.specs.declared.letter_pass.Took.{Took}
-use Rattle.desk_room.specs.declared.order_pass.Tried.{Tried}
-use Rattle.desk_room.specs.declared.order_pass.Tried.TheVariants.{Ordered, Refused, NoneWaits}
+use Rattle.desk_room.specs.declared.turns.back_pass.Heard.{Heard}
+use Rattle.desk_room.specs.declared.turns.letter_pass.Took.{Took}
+use Rattle.desk_room.specs.declared.turns.order_pass.Tried.{Tried}
+use Rattle.desk_room.specs.declared.turns.order_pass.Tried.TheVariants.{Ordered, Refused, NoneWaits}
 
 -- Something was heard, and the desk was told of it.
-pub record HeardOne (old new : Ear) (c d : Content) (counts : Heard) : Type 0 where
+pub record HeardOne (old new : BackReceiver) (c d : Content) (counts : Heard) : Type 0 where
   pub back : Back
   pub known : back_known old ≡ back ∷ back_known new
   pub heard : heard new ≡ heard old ++ back ∷ []

@@ -4,10 +4,10 @@ use Rattle.mate_answers.specs.InputReplies.{IsReply}
 use Rattle.mate_answers.specs.declared.input_replies.Output.{Output}
 use Rattle.room_ends.specs.Windows.{letters_sent, collected, default_of}
 use Rattle.desk_room.specs.Keepers.{IsOf}
-use Rattle.desk_room.specs.inside.Clerks.{IsReplyIf, Reports}
+use Rattle.desk_room.specs.inside.Submitters.{IsReplyIf, Reports}
 use Rattle.desk_room.specs.declared.keepers.Keeper.{Keeper}
 use Rattle.room_ends.specs.declared.windows.Window.{Window}
-use Rattle.desk_room.specs.declared.window_thread.Report.{Report}
+use Rattle.desk_room.specs.declared.serving.window_thread.Report.{Report}
 
 -- A window by which nothing went yet.
 abbrev pub IsFreshWindow : Window → Type 0

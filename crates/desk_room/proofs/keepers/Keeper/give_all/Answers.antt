@@ -18,7 +18,7 @@ loop-n-preserved c =
       known = e.known ∙ i.known;
       size = e.size ∙ i.size;
       room = room_then _ _ _ i.room e.room;
-      ears = e.ears ∙ i.ears;
+      receivers = e.receivers ∙ i.receivers;
       ring = e.ring ∙ i.ring;
       home = e.home ∙ i.home;
     }

@@ -15,7 +15,7 @@ invariant-loop-given l = record {
   known : known l.self ≡ known l.fn.self;
   size : length l.self.lines.items ≡ length l.fn.self.lines.items;
   room : SameRoom l.fn.self l.self;
-  ears : l.self.ears ≡ l.fn.self.ears;
+  receivers : l.self.receivers ≡ l.fn.self.receivers;
   ring : l.self.ring ≡ l.fn.self.ring;
   home : l.self.is_home ≡ l.fn.self.is_home;
 }

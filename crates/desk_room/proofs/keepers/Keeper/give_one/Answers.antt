@@ -28,17 +28,17 @@ invariant_of-self-clause-rooms c =
 pub invariant_of-self-clause-kept : goal.invariant_of-self-clause-kept
 invariant_of-self-clause-kept c =
     let k = c.args.self.now in
-    gave_owed c.give_delivery.result k.lines.items c.args.n c.index_mut.result.now c.give_delivery.new.line k.ears.items (orders k.dealer) k.desk c.give_delivery.new.desk c.requires c.index_mut.ensures.value c.give_delivery.ensures.taken c.give_delivery.ensures.gave k.kept
+    gave_owed c.give_delivery.result k.lines.items c.args.n c.index_mut.result.now c.give_delivery.new.line k.receivers.items (orders k.producer) k.desk c.give_delivery.new.desk c.requires c.index_mut.ensures.value c.give_delivery.ensures.taken c.give_delivery.ensures.gave k.kept
 
 pub invariant_of-self-clause-marked : goal.invariant_of-self-clause-marked
 invariant_of-self-clause-marked c =
     let k = c.args.self.now in
-    gave_marked c.give_delivery.result k.lines.items c.args.n c.index_mut.result.now c.give_delivery.new.line k.ears.items (orders k.dealer) k.desk c.give_delivery.new.desk c.requires c.index_mut.ensures.value c.give_delivery.ensures.taken c.give_delivery.ensures.gave k.marked
+    gave_marked c.give_delivery.result k.lines.items c.args.n c.index_mut.result.now c.give_delivery.new.line k.receivers.items (orders k.producer) k.desk c.give_delivery.new.desk c.requires c.index_mut.ensures.value c.give_delivery.ensures.taken c.give_delivery.ensures.gave k.marked
 
 pub returns-clause-step : goal.returns-clause-step
 returns-clause-step c =
     let k = c.args.self.now in
-    gave_step c.give_delivery.result k.lines.items c.args.n c.index_mut.result.now c.give_delivery.new.line k.ears.items (orders k.dealer) k.desk c.give_delivery.new.desk c.requires c.index_mut.ensures.value c.give_delivery.ensures.taken c.give_delivery.ensures.gave
+    gave_step c.give_delivery.result k.lines.items c.args.n c.index_mut.result.now c.give_delivery.new.line k.receivers.items (orders k.producer) k.desk c.give_delivery.new.desk c.requires c.index_mut.ensures.value c.give_delivery.ensures.taken c.give_delivery.ensures.gave
 
 pub returns-clause-stuck : goal.returns-clause-stuck
 returns-clause-stuck c = gave_stuck c.give_delivery.result c.args.self.now.lines.items c.args.n c.index_mut.result.now c.give_delivery.new.line c.args.self.now.desk c.give_delivery.new.desk c.requires c.give_delivery.ensures.gave

@@ -11,9 +11,9 @@ invariant-loop-b l = record {
   gained : GainBefore l.b l.fn.self.ring (lists l.fn.self).heard (lists l.self).heard;
   listened : (i : ℕ) → i < l.b → get_or (backs_known l.self) i [] ≡ [];
   ahead : BacksAhead l.fn.self l.self;
-  dealer : l.self.dealer ≡ l.fn.self.dealer;
+  producer : l.self.producer ≡ l.fn.self.producer;
   lines : l.self.lines ≡ l.fn.self.lines;
-  size : length l.self.ears.items ≡ length l.fn.self.ears.items;
+  size : length l.self.receivers.items ≡ length l.fn.self.receivers.items;
   ring : l.self.ring ≡ l.fn.self.ring;
   home : l.self.is_home ≡ l.fn.self.is_home;
 }

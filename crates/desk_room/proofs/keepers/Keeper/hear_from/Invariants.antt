@@ -13,9 +13,9 @@ invariant-loop l = record {
   known : length (get_or (backs_known l.self) l.b []) + l.counter ≡ l.lying;
   ahead : BacksAhead l.fn.self l.self;
   untouched : Untouched l.b (backs_known l.fn.self) (backs_known l.self);
-  dealer : l.self.dealer ≡ l.fn.self.dealer;
+  producer : l.self.producer ≡ l.fn.self.producer;
   lines : l.self.lines ≡ l.fn.self.lines;
-  size : length l.self.ears.items ≡ length l.fn.self.ears.items;
+  size : length l.self.receivers.items ≡ length l.fn.self.receivers.items;
   ring : l.self.ring ≡ l.fn.self.ring;
   home : l.self.is_home ≡ l.fn.self.is_home;
 }

@@ -1,39 +1,39 @@
 use Rattle.std.proofs.Common.{arith, sym, ap, ◌∙◌, length, length-set, []}
 use Rattle.room_ends.specs.Orders.{orders}
-use Rattle.room_ends.specs.Benches.{heard, back_known, ear_ring}
+use Rattle.room_ends.specs.Benches.{heard, back_known, receiver_ring}
 use Rattle.desk_room.specs.Keepers.{BacksAhead}
 use Rattle.desk_room.proofs.Places.{at_same}
-use Rattle.desk_room.proofs.Stepping.{ears_same, rings_set, ring_at}
+use Rattle.desk_room.proofs.Stepping.{receivers_same, rings_set, ring_at}
 use Rattle.desk_room.proofs.Ahead.{ahead_at, ahead_looked}
 use Rattle.desk_room.proofs.Fewness.{untouched_set}
 use Rattle.desk_room.proofs.keepers.Keeper.listen.Goals as goal
 
 pub invariant_of-self-clause-few_benches : goal.invariant_of-self-clause-few_benches
-invariant_of-self-clause-few_benches c = let k = c.args.self.now in omega (arith, k.few_benches, length-set k.ears.items c.args.b c.listen.new.self)
+invariant_of-self-clause-few_benches c = let k = c.args.self.now in omega (arith, k.few_benches, length-set k.receivers.items c.args.b c.listen.new.self)
 
-pub invariant_of-self-clause-ear_rings : goal.invariant_of-self-clause-ear_rings
-invariant_of-self-clause-ear_rings c = let k = c.args.self.now in rings_set ear_ring k.ears.items c.args.b c.index_mut.result.now c.listen.new.self k.ring c.requires c.index_mut.ensures.value c.listen.ensures.ring.1 k.ear_rings
+pub invariant_of-self-clause-receiver_rings : goal.invariant_of-self-clause-receiver_rings
+invariant_of-self-clause-receiver_rings c = let k = c.args.self.now in rings_set receiver_ring k.receivers.items c.args.b c.index_mut.result.now c.listen.new.self k.ring c.requires c.index_mut.ensures.value c.listen.ensures.ring.1 k.receiver_rings
 
 pub returns-clause-same : goal.returns-clause-same
-returns-clause-same c = let k = c.args.self.now in ears_same k.lines.items k.ears.items c.args.b c.index_mut.result.now c.listen.new.self (orders k.dealer) k.desk c.requires c.index_mut.ensures.value c.listen.ensures.heard
+returns-clause-same c = let k = c.args.self.now in receivers_same k.lines.items k.receivers.items c.args.b c.index_mut.result.now c.listen.new.self (orders k.producer) k.desk c.requires c.index_mut.ensures.value c.listen.ensures.heard
 
 pub returns-clause-known : goal.returns-clause-known
-returns-clause-known c = omega (arith, ap length (at_same back_known c.args.self.now.ears.items c.args.b c.listen.new.self [] c.requires), c.listen.ensures.known)
+returns-clause-known c = omega (arith, ap length (at_same back_known c.args.self.now.receivers.items c.args.b c.listen.new.self [] c.requires), c.listen.ensures.known)
 
 pub returns-clause-few : goal.returns-clause-few
 returns-clause-few c =
     let k = c.args.self.now in
-    omega (arith, c.listen.ensures.few, c.listen.ensures.ring.1, ring_at ear_ring k.ears.items c.args.b c.index_mut.result.now k.ring c.requires c.index_mut.ensures.value k.ear_rings)
+    omega (arith, c.listen.ensures.few, c.listen.ensures.ring.1, ring_at receiver_ring k.receivers.items c.args.b c.index_mut.result.now k.ring c.requires c.index_mut.ensures.value k.receiver_rings)
 
-pub invariant_of-self-clause-seats : goal.invariant_of-self-clause-seats
-invariant_of-self-clause-seats c = let k = c.args.self.now in k.seats ∙ sym (length-set k.ears.items c.args.b c.listen.new.self)
+pub invariant_of-self-clause-stealers : goal.invariant_of-self-clause-stealers
+invariant_of-self-clause-stealers c = let k = c.args.self.now in k.stealers ∙ sym (length-set k.receivers.items c.args.b c.listen.new.self)
 
 pub invariant_of-self-clause-a_bench : goal.invariant_of-self-clause-a_bench
-invariant_of-self-clause-a_bench c = let k = c.args.self.now in omega (arith, k.a_bench, length-set k.ears.items c.args.b c.listen.new.self)
+invariant_of-self-clause-a_bench c = let k = c.args.self.now in omega (arith, k.a_bench, length-set k.receivers.items c.args.b c.listen.new.self)
 
 pub returns-clause-ahead : goal.returns-clause-ahead
 unfolding BacksAhead
-returns-clause-ahead c = ahead_at heard back_known c.args.self.now.ears.items c.args.b c.index_mut.result.now c.listen.new.self c.requires c.index_mut.ensures.value (ahead_looked _ _ _ _ c.listen.ensures.more c.listen.ensures.heard)
+returns-clause-ahead c = ahead_at heard back_known c.args.self.now.receivers.items c.args.b c.index_mut.result.now c.listen.new.self c.requires c.index_mut.ensures.value (ahead_looked _ _ _ _ c.listen.ensures.more c.listen.ensures.heard)
 
 pub returns-clause-untouched : goal.returns-clause-untouched
-returns-clause-untouched c = untouched_set back_known c.args.self.now.ears.items c.args.b c.listen.new.self
+returns-clause-untouched c = untouched_set back_known c.args.self.now.receivers.items c.args.b c.listen.new.self

@@ -19,17 +19,17 @@ invariant_of-self-clause-line_rings c = let k = c.args.self.now in rings_set rin
 pub invariant_of-self-clause-kept : goal.invariant_of-self-clause-kept
 invariant_of-self-clause-kept c =
     let k = c.args.self.now in
-    subst AreOwed (sym (of_same k.lines.items c.args.n c.index_mut.result.now c.look.new.self k.ears.items (orders k.dealer) k.desk c.requires c.index_mut.ensures.value c.look.ensures.taken c.look.ensures.put)) k.kept
+    subst AreOwed (sym (of_same k.lines.items c.args.n c.index_mut.result.now c.look.new.self k.receivers.items (orders k.producer) k.desk c.requires c.index_mut.ensures.value c.look.ensures.taken c.look.ensures.put)) k.kept
 
 pub invariant_of-self-clause-marked : goal.invariant_of-self-clause-marked
 invariant_of-self-clause-marked c =
     let k = c.args.self.now in
-    marked_same _ _ (of_same k.lines.items c.args.n c.index_mut.result.now c.look.new.self k.ears.items (orders k.dealer) k.desk c.requires c.index_mut.ensures.value c.look.ensures.taken c.look.ensures.put) k.marked
+    marked_same _ _ (of_same k.lines.items c.args.n c.index_mut.result.now c.look.new.self k.receivers.items (orders k.producer) k.desk c.requires c.index_mut.ensures.value c.look.ensures.taken c.look.ensures.put) k.marked
 
 pub returns-clause-same : goal.returns-clause-same
 returns-clause-same c =
     let k = c.args.self.now in
-    of_same k.lines.items c.args.n c.index_mut.result.now c.look.new.self k.ears.items (orders k.dealer) k.desk c.requires c.index_mut.ensures.value c.look.ensures.taken c.look.ensures.put
+    of_same k.lines.items c.args.n c.index_mut.result.now c.look.new.self k.receivers.items (orders k.producer) k.desk c.requires c.index_mut.ensures.value c.look.ensures.taken c.look.ensures.put
 
 pub returns-clause-known : goal.returns-clause-known
 returns-clause-known c = omega (arith, ap length (at_same letters_known c.args.self.now.lines.items c.args.n c.look.new.self [] c.requires), c.look.ensures.count)

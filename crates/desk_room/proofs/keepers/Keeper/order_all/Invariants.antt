@@ -9,8 +9,8 @@ abbrev pub invariant-loop-ordered : goal.invariant-loop-ordered
 invariant-loop-ordered l = record {
   ordered : Ordering (lists l.fn.self) (lists l.self) l.ordered;
   fewer : waiting l.self.desk + l.ordered ≡ l.waiting;
-  places : places l.fn.self.dealer ≤ places l.self.dealer;
-  ears : l.self.ears ≡ l.fn.self.ears;
+  places : places l.fn.self.producer ≤ places l.self.producer;
+  receivers : l.self.receivers ≡ l.fn.self.receivers;
   lines : l.self.lines ≡ l.fn.self.lines;
   ring : l.self.ring ≡ l.fn.self.ring;
   before : l.fn.self.is_home ≡ false;

@@ -38,17 +38,17 @@ invariant_of-self-clause-line_rings c =
 pub invariant_of-self-clause-kept : goal.invariant_of-self-clause-kept
 invariant_of-self-clause-kept c =
     let k = c.args.self.now in
-    subst AreOwed (sym (of_same k.lines.items c.number.result c.index_mut.result.now c.settle.new.self k.ears.items (orders k.dealer) k.desk (got_inside c.number.result k.lines.items c.requires.0 (ap (slice_get c.args.self.now.lines.items) c.number.ensures ∙ c.requires.1)) c.index_mut.ensures.value c.settle.ensures.taken c.settle.ensures.put)) k.kept
+    subst AreOwed (sym (of_same k.lines.items c.number.result c.index_mut.result.now c.settle.new.self k.receivers.items (orders k.producer) k.desk (got_inside c.number.result k.lines.items c.requires.0 (ap (slice_get c.args.self.now.lines.items) c.number.ensures ∙ c.requires.1)) c.index_mut.ensures.value c.settle.ensures.taken c.settle.ensures.put)) k.kept
 
 pub invariant_of-self-clause-marked : goal.invariant_of-self-clause-marked
 invariant_of-self-clause-marked c =
     let k = c.args.self.now in
-    marked_same _ _ (of_same k.lines.items c.number.result c.index_mut.result.now c.settle.new.self k.ears.items (orders k.dealer) k.desk (got_inside c.number.result k.lines.items c.requires.0 (ap (slice_get c.args.self.now.lines.items) c.number.ensures ∙ c.requires.1)) c.index_mut.ensures.value c.settle.ensures.taken c.settle.ensures.put) k.marked
+    marked_same _ _ (of_same k.lines.items c.number.result c.index_mut.result.now c.settle.new.self k.receivers.items (orders k.producer) k.desk (got_inside c.number.result k.lines.items c.requires.0 (ap (slice_get c.args.self.now.lines.items) c.number.ensures ∙ c.requires.1)) c.index_mut.ensures.value c.settle.ensures.taken c.settle.ensures.put) k.marked
 
 pub returns-clause-lists : goal.returns-clause-lists
 returns-clause-lists c =
     let k = c.args.self.now in
-    of_same k.lines.items c.number.result c.index_mut.result.now c.settle.new.self k.ears.items (orders k.dealer) k.desk (got_inside c.number.result k.lines.items c.requires.0 (ap (slice_get c.args.self.now.lines.items) c.number.ensures ∙ c.requires.1)) c.index_mut.ensures.value c.settle.ensures.taken c.settle.ensures.put
+    of_same k.lines.items c.number.result c.index_mut.result.now c.settle.new.self k.receivers.items (orders k.producer) k.desk (got_inside c.number.result k.lines.items c.requires.0 (ap (slice_get c.args.self.now.lines.items) c.number.ensures ∙ c.requires.1)) c.index_mut.ensures.value c.settle.ensures.taken c.settle.ensures.put
 
 pub returns-clause-ahead : goal.returns-clause-ahead
 unfolding Ahead
@@ -80,7 +80,7 @@ returns-clause-settled c =
     let inside = got_inside c.number.result k.lines.items c.requires.0 (ap (slice_get c.args.self.now.lines.items) c.number.ensures ∙ c.requires.1) in
     let lines : List Line = set k.lines.items c.number.result c.settle.new.self in
     settled_at (number_of c.settle.new.window) (map letters_taken lines) (map deliveries_put lines) k.desk.queues (letters_sent c.settle.new.window) _ (collected c.settle.new.window ++ deliveries_known c.settle.new.window)
-    (omega (arith, inside, (c.settle.ensures.window.2 ∙ sym c.number.ensures), map_length letters_taken lines, length-set k.lines.items c.number.result c.settle.new.self)) (subst AreOwed (sym (of_same k.lines.items c.number.result c.index_mut.result.now c.settle.new.self k.ears.items (orders k.dealer) k.desk inside c.index_mut.ensures.value c.settle.ensures.taken c.settle.ensures.put)) k.kept) (returns-clause-letters c) (returns-clause-deliveries c)
+    (omega (arith, inside, (c.settle.ensures.window.2 ∙ sym c.number.ensures), map_length letters_taken lines, length-set k.lines.items c.number.result c.settle.new.self)) (subst AreOwed (sym (of_same k.lines.items c.number.result c.index_mut.result.now c.settle.new.self k.receivers.items (orders k.producer) k.desk inside c.index_mut.ensures.value c.settle.ensures.taken c.settle.ensures.put)) k.kept) (returns-clause-letters c) (returns-clause-deliveries c)
 
 pub returns-clause-drained : goal.returns-clause-drained
 returns-clause-drained c = λ d. drained_at (number_of c.settle.new.window) c.args.self.now.desk (letters_sent c.settle.new.window) (get_or (map letters_known (set c.args.self.now.lines.items c.number.result c.settle.new.self)) (number_of c.settle.new.window) []) (collected c.settle.new.window ++ deliveries_known c.settle.new.window) d (returns-clause-settled c)
@@ -91,7 +91,7 @@ returns-clause-notices c =
     let lines : List Line = set k.lines.items c.number.result c.settle.new.self in
     let n = number_of c.settle.new.window in
     let inside = got_inside c.number.result k.lines.items c.requires.0 (ap (slice_get c.args.self.now.lines.items) c.number.ensures ∙ c.requires.1) in
-    ∥∥₁_elim (marked_same _ _ (of_same k.lines.items c.number.result c.index_mut.result.now c.settle.new.self k.ears.items (orders k.dealer) k.desk inside c.index_mut.ensures.value c.settle.ensures.taken c.settle.ensures.put) k.marked) (Coded-set coded_bool _ _) (λ a. ap (λ ds. are_notices_marked ds (marks (get_or (map letters_taken lines) n []))) (sym (returns-clause-deliveries c)) ∙ marked_notices n (map letters_taken lines) (map deliveries_put lines) k.desk.queues a)
+    ∥∥₁_elim (marked_same _ _ (of_same k.lines.items c.number.result c.index_mut.result.now c.settle.new.self k.receivers.items (orders k.producer) k.desk inside c.index_mut.ensures.value c.settle.ensures.taken c.settle.ensures.put) k.marked) (Coded-set coded_bool _ _) (λ a. ap (λ ds. are_notices_marked ds (marks (get_or (map letters_taken lines) n []))) (sym (returns-clause-deliveries c)) ∙ marked_notices n (map letters_taken lines) (map deliveries_put lines) k.desk.queues a)
 
 pub returns-clause-of : goal.returns-clause-of
 returns-clause-of c =

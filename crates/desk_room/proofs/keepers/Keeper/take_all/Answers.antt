@@ -20,8 +20,8 @@ loop-n-preserved c =
       ahead = ahead_then _ _ _ i.ahead e.ahead;
       size = e.size ∙ i.size;
       room = room_then _ _ _ i.room e.room;
-      ears = e.ears ∙ i.ears;
-      dealer = e.dealer ∙ i.dealer;
+      receivers = e.receivers ∙ i.receivers;
+      producer = e.producer ∙ i.producer;
       ring = e.ring ∙ i.ring;
       home = e.home ∙ i.home;
     }

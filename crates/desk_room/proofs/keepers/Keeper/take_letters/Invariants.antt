@@ -17,8 +17,8 @@ invariant-loop l = record {
   others : OthersRead l.n l.fn.self l.self;
   size : length l.self.lines.items ≡ length l.fn.self.lines.items;
   room : SameRoom l.fn.self l.self;
-  ears : l.self.ears ≡ l.fn.self.ears;
-  dealer : l.self.dealer ≡ l.fn.self.dealer;
+  receivers : l.self.receivers ≡ l.fn.self.receivers;
+  producer : l.self.producer ≡ l.fn.self.producer;
   ring : l.self.ring ≡ l.fn.self.ring;
   home : l.self.is_home ≡ l.fn.self.is_home;
 }

@@ -34,17 +34,17 @@ invariant_of-self-clause-rooms c =
 pub invariant_of-self-clause-kept : goal.invariant_of-self-clause-kept
 invariant_of-self-clause-kept c =
     let k = c.args.self.now in
-    took_owed k.lines.items c.args.n c.index_mut.result.now c.take_letter.new.line k.ears.items (orders k.dealer) k.desk c.take_letter.new.desk c.take_letter.result c.requires.window c.index_mut.ensures.value c.requires.accepts c.take_letter.ensures.took c.take_letter.ensures.put k.kept
+    took_owed k.lines.items c.args.n c.index_mut.result.now c.take_letter.new.line k.receivers.items (orders k.producer) k.desk c.take_letter.new.desk c.take_letter.result c.requires.window c.index_mut.ensures.value c.requires.accepts c.take_letter.ensures.took c.take_letter.ensures.put k.kept
 
 pub invariant_of-self-clause-marked : goal.invariant_of-self-clause-marked
 invariant_of-self-clause-marked c =
     let k = c.args.self.now in
-    took_marked k.lines.items c.args.n c.index_mut.result.now c.take_letter.new.line k.ears.items (orders k.dealer) k.desk c.take_letter.new.desk c.take_letter.result c.requires.window c.index_mut.ensures.value c.requires.accepts c.take_letter.ensures.took c.take_letter.ensures.put k.marked
+    took_marked k.lines.items c.args.n c.index_mut.result.now c.take_letter.new.line k.receivers.items (orders k.producer) k.desk c.take_letter.new.desk c.take_letter.result c.requires.window c.index_mut.ensures.value c.requires.accepts c.take_letter.ensures.took c.take_letter.ensures.put k.marked
 
 pub returns-clause-step : goal.returns-clause-step
 returns-clause-step c =
     let k = c.args.self.now in
-    took_step k.lines.items c.args.n c.index_mut.result.now c.take_letter.new.line k.ears.items (orders k.dealer) k.desk c.take_letter.new.desk c.take_letter.result c.requires.window c.index_mut.ensures.value c.requires.accepts c.take_letter.ensures.took c.take_letter.ensures.put
+    took_step k.lines.items c.args.n c.index_mut.result.now c.take_letter.new.line k.receivers.items (orders k.producer) k.desk c.take_letter.new.desk c.take_letter.result c.requires.window c.index_mut.ensures.value c.requires.accepts c.take_letter.ensures.took c.take_letter.ensures.put
 
 pub returns-clause-known : goal.returns-clause-known
 returns-clause-known c =

@@ -48,25 +48,25 @@ returns-clause-none_once_home c = λ h. turned_orders _ _ _ (returns-clause-pass
 pub returns-clause-waits : goal.returns-clause-waits
 returns-clause-waits c =
     let g = c.give_all-delivered.ensures.gave in
-    let same : c.take_all-took.new.self.dealer ≡ c.args.self.now.dealer = c.take_all-took.ensures.dealer ∙ c.hear_all-heard.ensures.dealer in
+    let same : c.take_all-took.new.self.producer ≡ c.args.self.now.producer = c.take_all-took.ensures.producer ∙ c.hear_all-heard.ensures.producer in
     ⊎_elim (λ (w : waiting c.order_all-ordered.new.self.desk ≡ 0). inl (giving_waiting _ _ _ g ∙ w))
     (⊎_elim (λ (h : c.order_all-ordered.new.self.is_home ≡ true). inr (inl (c.give_all-delivered.ensures.home ∙ h)))
-    (λ (o : places c.take_all-took.new.self.dealer ≤ length (orders c.order_all-ordered.new.self.dealer)). inr (inr (omega (arith, o, ap places same, ap length (giving_orders _ _ _ g)))))) c.order_all-ordered.ensures.waits
+    (λ (o : places c.take_all-took.new.self.producer ≤ length (orders c.order_all-ordered.new.self.producer)). inr (inr (omega (arith, o, ap places same, ap length (giving_orders _ _ _ g)))))) c.order_all-ordered.ensures.waits
 
 pub returns-clause-not_the_first : goal.returns-clause-not_the_first
 returns-clause-not_the_first c =
     let g = c.give_all-delivered.ensures.gave in
     ⊎_elim (λ (w : waiting c.order_all-ordered.new.self.desk ≡ 0). inl (giving_waiting _ _ _ g ∙ w))
-    (λ (o : 0 < length (orders c.order_all-ordered.new.self.dealer)). inr (omega (arith, o, ap length (giving_orders _ _ _ g)))) c.order_all-ordered.ensures.not_the_first
+    (λ (o : 0 < length (orders c.order_all-ordered.new.self.producer)). inr (omega (arith, o, ap length (giving_orders _ _ _ g)))) c.order_all-ordered.ensures.not_the_first
 
 pub returns-clause-listened : goal.returns-clause-listened
 returns-clause-listened c =
-    let same : c.give_all-delivered.new.self.ears ≡ c.hear_all-heard.new.self.ears = c.give_all-delivered.ensures.ears ∙ (c.order_all-ordered.ensures.ears ∙ c.take_all-took.ensures.ears) in
+    let same : c.give_all-delivered.new.self.receivers ≡ c.hear_all-heard.new.self.receivers = c.give_all-delivered.ensures.receivers ∙ (c.order_all-ordered.ensures.receivers ∙ c.take_all-took.ensures.receivers) in
     λ b. ap (λ v. get_or (map back_known v.items) b []) same ∙ c.hear_all-heard.ensures.listened b
 
 pub returns-clause-backs_ahead : goal.returns-clause-backs_ahead
 returns-clause-backs_ahead c =
-    let same : c.give_all-delivered.new.self.ears ≡ c.hear_all-heard.new.self.ears = c.give_all-delivered.ensures.ears ∙ (c.order_all-ordered.ensures.ears ∙ c.take_all-took.ensures.ears) in
+    let same : c.give_all-delivered.new.self.receivers ≡ c.hear_all-heard.new.self.receivers = c.give_all-delivered.ensures.receivers ∙ (c.order_all-ordered.ensures.receivers ∙ c.take_all-took.ensures.receivers) in
     backs_then _ _ _ c.hear_all-heard.ensures.ahead (backs_ears c.hear_all-heard.new.self c.give_all-delivered.new.self same)
 
 pub returns-clause-ahead : goal.returns-clause-ahead
@@ -92,7 +92,7 @@ returns-clause-stays c =
     let g = c.give_all-delivered in
     record {
       windows = g.ensures.size ∙ (ap (λ v. length v.items) o.ensures.lines ∙ (t.ensures.size ∙ ap (λ v. length v.items) h.ensures.lines));
-      benches = sym (map_length heard g.new.self.ears.items) ∙ (turned_benches _ _ _ (returns-clause-passes c) ∙ map_length heard c.args.self.now.ears.items);
+      benches = sym (map_length heard g.new.self.receivers.items) ∙ (turned_benches _ _ _ (returns-clause-passes c) ∙ map_length heard c.args.self.now.receivers.items);
       ring = g.ensures.ring ∙ (o.ensures.ring ∙ (t.ensures.ring ∙ h.ensures.ring));
       room = room_then _ _ _ (room_lines c.args.self.now h.new.self h.ensures.lines) (room_then _ _ _ t.ensures.room (room_then _ _ _ (room_lines t.new.self o.new.self o.ensures.lines) g.ensures.room));
     }

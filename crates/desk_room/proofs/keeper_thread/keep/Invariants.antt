@@ -1,5 +1,0 @@
-use Rattle.desk_room.specs.Keepers.{SameRoom}
-use Rattle.desk_room.proofs.keeper_thread.keep.Given as goal
-
-abbrev pub invariant-loop : goal.invariant-loop
-invariant-loop g l = SameRoom l.fn.keeper l.keeper

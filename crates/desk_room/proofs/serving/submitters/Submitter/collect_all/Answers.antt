@@ -1,0 +1,8 @@
+use Rattle.desk_room.proofs.Collecting.{collects_then}
+use Rattle.desk_room.proofs.serving.submitters.Submitter.collect_all.Goals as goal
+
+pub loop-preserved-then-branch : goal.loop-preserved-then-branch
+loop-preserved-then-branch g c = collects_then c.args.self.now c.loop.self c.collect.new.self c.loop.invariant c.in_ok-collect.ensures.collects
+
+pub loop-preserved : goal.loop-preserved
+loop-preserved g c = collects_then c.args.self.now c.loop.self c.collect.new.self c.loop.invariant c.in_ok-collect.ensures.collects

@@ -1,0 +1,5 @@
+use Rattle.desk_room.specs.inside.Submitters.{Collects}
+use Rattle.desk_room.proofs.serving.submitters.Submitter.make_room.Given as goal
+
+abbrev pub invariant-loop : goal.invariant-loop
+invariant-loop g l = Collects l.fn.self l.self

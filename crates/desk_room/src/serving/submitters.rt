@@ -1,0 +1,295 @@
+//! A submitter hands one input in at a window, and writes down the reply.
+
+ghost use Rattle.std.specs.Prelude.{◌≡◌, ◌++◌, false, IfOk};
+ghost use Rattle.mate_answers.specs.InputReplies.{answer_line};
+ghost use Rattle.room_ends.specs.Windows.{is_gone};
+
+use crate::serving::backoff::Backoff;
+use crate::serving::stop_signal::{StopReason, StopSignal};
+use chess_moves::Rays;
+use chess_notation::{EpdFault, is_blank};
+use mate_answers::{Output, fault_text, first_line, replies_go_on, without_cr};
+use mate_jobs::{Answer, Delivery};
+use room_ends::{Window, WindowFault};
+use std::alloc::Global;
+use std::collections::VecDeque;
+use std::sync::Wait;
+
+/// What hands one input in at a window, line by line, and writes down the reply.
+#[derive(Drop)]
+pub(crate) struct Submitter {
+    pub(crate) window: Window,
+    // The first part of the reply.
+    pub(crate) text: Vec<u8>,
+    // For each record that was sent and is not answered yet, in order, the replies to the lines behind it up to the next record.
+    pub(crate) pending_replies: VecDeque<Vec<u8>>,
+    // How many lines are refused.
+    pub(crate) refused: usize,
+    ghost here: { is_gone window ≡ false },
+}
+
+/// Writes an answer, and the replies that stand behind it.
+fn write_answer(
+    alloc: Global,
+    rays: &Rays,
+    answer: &Answer,
+    replies: &[u8],
+    text: &mut Vec<u8>,
+) -> Result<(), StopReason>
+    ensures { IfOk result (λ _. text.new.items ≡ text.old.items ++ (answer_line answer.now ++ replies.now)) }
+{
+    let answered = answer.text(alloc, rays)?;
+    text.extend_from_slice(answered.as_bytes())?;
+    text.extend_from_slice(b"\n")?;
+    text.extend_from_slice(replies)?;
+    Ok(())
+}
+
+impl Submitter {
+    ghost use Rattle.std.specs.Prelude.{◌≡◌, ◌<◌, ◌≤◌, ◌+◌, ◌-◌, ◌^◌, ℕ, List, [], ◌∷◌, ◌++◌, OnOk, length, true, false};
+    ghost use Rattle.chess_notation.specs.Words.{is_blank as is_blank_text};
+    ghost use Rattle.mate_answers.specs.InputReplies.{without_cr as text_without_cr, lines_of, IsLineReply};
+    ghost use Rattle.room_ends.specs.Windows.{letters_sent, collected, deliveries_known, places_known, default_of, SameWindow};
+    ghost use Rattle.desk_room.specs.inside.Submitters.{Collects, HasHandled};
+
+    /// A submitter at a window by which nothing went yet.
+    pub(crate) fn new(alloc: Global, window: Window) -> Submitter
+        requires sent { letters_sent window ≡ [] }
+        requires collected { collected window ≡ [] }
+        ensures window { result.window ≡ window }
+        ensures none { result.refused ≡ 0 }
+        ensures handled { HasHandled [] result }
+    {
+        Submitter {
+            window,
+            text: Vec::new(alloc),
+            pending_replies: VecDeque::new(alloc),
+            refused: 0,
+        }
+    }
+
+    /// Takes the next answer, which is awaited and has come, and writes it.
+    fn take_answer(&mut self, alloc: Global, rays: &Rays) -> Result<(), StopReason>
+        requires awaited { 0 < length self.old.pending_replies.items }
+        requires known { 0 < length (deliveries_known self.old.window) }
+        ensures window { SameWindow self.old.window self.new.window }
+        ensures collects { OnOk result (Collects self.old self.new) }
+    {
+        let Delivery::Answer(answer) = self.window.first_known() else {
+            // No submitter withdraws, so that no notice comes.
+            return Err(StopReason::NoThread);
+        };
+        let Some(replies) = self.pending_replies.pop_front() else {
+            unreachable!()
+        };
+        write_answer(alloc, rays, answer, replies.as_slice(), &mut self.text)?;
+        self.window.collect_seen();
+        Ok(())
+    }
+
+    #[tactic(auto, using(crate::proofs::RingEnds::same_window, crate::proofs::Collecting::collects_same))]
+    /// Whether an answer is awaited and has come. Nothing large is touched, so that looking often costs little.
+    fn has_answer(&mut self) -> bool
+        ensures window { SameWindow self.old.window self.new.window }
+        ensures awaited { result ≡ true → 0 < length self.new.pending_replies.items }
+        ensures known { result ≡ true → 0 < length (deliveries_known self.new.window) }
+        ensures collects { Collects self.old self.new }
+    {
+        if self.pending_replies.is_empty() {
+            return false;
+        }
+        self.window.has_delivery()
+    }
+
+    #[tactic(auto, using(crate::proofs::Collecting::window_then))]
+    /// Takes the next answer, where one is awaited and has come. It answers whether it did.
+    fn collect(&mut self, alloc: Global, rays: &Rays) -> Result<bool, StopReason>
+        ensures window { SameWindow self.old.window self.new.window }
+        ensures collects { OnOk result (Collects self.old self.new) }
+    {
+        if !self.has_answer() {
+            return Ok(false);
+        }
+        self.take_answer(alloc, rays)?;
+        Ok(true)
+    }
+
+    /// Whether the record ring has a place.
+    fn has_place(&mut self) -> bool
+        ensures place { result ≡ true → 0 < places_known self.new.window }
+        ensures collects { Collects self.old self.new }
+    {
+        self.window.has_place()
+    }
+
+    #[tactic(auto, using(crate::proofs::Collecting::collects_same, crate::proofs::Collecting::window_then))]
+    /// Takes answers as they come, until the record ring has a place.
+    fn make_room<R: Wait>(
+        &mut self,
+        rt: &R,
+        alloc: Global,
+        rays: &Rays,
+        stop: &StopSignal,
+    ) -> Result<(), StopReason>
+        ensures window { SameWindow self.old.window self.new.window }
+        ensures place { OnOk result (0 < places_known self.new.window) }
+        ensures collects { OnOk result (Collects self.old self.new) }
+    {
+        let mut backoff = Backoff::new();
+        for _ in rt.forever() {
+            if let Some(reason) = stop.reason() {
+                return Err(reason);
+            }
+            if self.collect(alloc, rays)? {
+                backoff.reset();
+            } else if self.has_place() {
+                return Ok(());
+            } else {
+                backoff.wait(rt, stop);
+            }
+        }
+        unreachable!()
+    }
+
+    #[tactic(auto, using(crate::proofs::Collecting::collects_same, crate::proofs::Collecting::window_then))]
+    /// Takes answers as they come, until none is awaited.
+    pub(crate) fn collect_all<R: Wait>(
+        &mut self,
+        rt: &R,
+        alloc: Global,
+        rays: &Rays,
+        stop: &StopSignal,
+    ) -> Result<(), StopReason>
+        ensures window { SameWindow self.old.window self.new.window }
+        ensures none { OnOk result (self.new.pending_replies.items ≡ []) }
+        ensures collects { OnOk result (Collects self.old self.new) }
+    {
+        let mut backoff = Backoff::new();
+        for _ in rt.forever() {
+            if self.pending_replies.is_empty() {
+                return Ok(());
+            }
+            if let Some(reason) = stop.reason() {
+                return Err(reason);
+            }
+            if self.collect(alloc, rays)? {
+                backoff.reset();
+            } else {
+                backoff.wait(rt, stop);
+            }
+        }
+        unreachable!()
+    }
+
+    /// Writes that a line is refused, behind the answers that are awaited.
+    fn refuse(&mut self, refusal: &[u8]) -> Result<(), StopReason>
+        requires { self.old.refused < 2 ^ 64 - 1 }
+        ensures window { self.new.window ≡ self.old.window }
+        ensures refused { self.new.refused ≤ self.old.refused + 1 }
+        ensures handled { OnOk result ((lines : List (List ℕ)) (line : List ℕ) → IsLineReply (default_of self.old.window) (length lines + 1) (text_without_cr line) refusal.now 1 → HasHandled lines self.old → HasHandled (lines ++ line ∷ []) self.new) }
+    {
+        // That a line's reply follows those to the lines before it is this law.
+        replies_go_on();
+        self.refused += 1;
+        let Some(mut replies) = self.pending_replies.pop_back() else {
+            self.text.extend_from_slice(refusal)?;
+            return Ok(());
+        };
+        replies.extend_from_slice(refusal)?;
+        if self.pending_replies.push_back(replies).is_err() {
+            return Err(StopReason::NoMemory);
+        }
+        Ok(())
+    }
+
+    /// Sends the record that a line says, or writes why the line says none.
+    fn send(
+        &mut self,
+        alloc: Global,
+        rays: &Rays,
+        number: usize,
+        line: &[u8],
+    ) -> Result<(), StopReason>
+        requires place { 0 < places_known self.old.window }
+        requires few { self.old.refused < number }
+        ensures window { SameWindow self.old.window self.new.window }
+        ensures few { self.new.refused ≤ self.old.refused + 1 }
+        ensures handled { OnOk result ((lines : List (List ℕ)) (whole : List ℕ) → length lines + 1 ≡ number → text_without_cr whole ≡ line.now → is_blank_text line.now ≡ false → HasHandled lines self.old → HasHandled (lines ++ whole ∷ []) self.new) }
+    {
+        // That a line's reply follows those to the lines before it is this law.
+        replies_go_on();
+        match self.window.submit(alloc, rays, line) {
+            Ok(()) => {
+                if self.pending_replies.push_back(Vec::new(alloc)).is_err() {
+                    return Err(StopReason::NoMemory);
+                }
+                Ok(())
+            }
+            Err(WindowFault::BadRecord(fault)) => {
+                if fault == EpdFault::NoMemory {
+                    return Err(StopReason::NoMemory);
+                }
+                let refusal = fault_text(alloc, number, fault)?;
+                self.refuse(refusal.as_slice())
+            }
+            // No input has so many records.
+            Err(WindowFault::Exhausted) => Err(StopReason::NoMemory),
+            Err(WindowFault::Gone) => unreachable!(),
+            Err(WindowFault::Busy) => unreachable!(),
+        }
+    }
+
+    #[tactic(auto, using(crate::proofs::Collecting::window_then))]
+    /// Hands in a line, by its number in the input.
+    fn hand_in<R: Wait>(
+        &mut self,
+        rt: &R,
+        alloc: Global,
+        rays: &Rays,
+        stop: &StopSignal,
+        number: usize,
+        line: &[u8],
+    ) -> Result<(), StopReason>
+        requires few { self.old.refused < number }
+        ensures window { SameWindow self.old.window self.new.window }
+        ensures few { OnOk result (self.new.refused ≤ self.old.refused + 1) }
+        ensures handled { OnOk result ((lines : List (List ℕ)) → length lines + 1 ≡ number → HasHandled lines self.old → HasHandled (lines ++ line.now ∷ []) self.new) }
+    {
+        // That a line's reply follows those to the lines before it is this law.
+        replies_go_on();
+        let line = without_cr(line);
+        if is_blank(line) {
+            return Ok(());
+        }
+        self.make_room(rt, alloc, rays, stop)?;
+        self.send(alloc, rays, number, line)
+    }
+
+    #[tactic(auto, using(crate::proofs::RingEnds::same_window, crate::proofs::Collecting::window_then))]
+    /// Hands in all lines of an input.
+    pub(crate) fn hand_in_all<R: Wait>(
+        &mut self,
+        rt: &R,
+        alloc: Global,
+        rays: &Rays,
+        stop: &StopSignal,
+        input: &[u8],
+    ) -> Result<(), StopReason>
+        requires none { self.old.refused ≡ 0 }
+        requires handled { HasHandled [] self.old }
+        ensures window { SameWindow self.old.window self.new.window }
+        ensures handled { OnOk result (HasHandled (lines_of input.now) self.new) }
+    {
+        let mut rest = input;
+        for number in 1..usize::MAX {
+            match first_line(rest) {
+                Some((line, more)) => {
+                    self.hand_in(rt, alloc, rays, stop, number, line)?;
+                    rest = more;
+                }
+                None => return self.hand_in(rt, alloc, rays, stop, number, rest),
+            }
+        }
+        Err(StopReason::NoMemory)
+    }
+}

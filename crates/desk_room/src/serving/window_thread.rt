@@ -1,0 +1,101 @@
+//! At one window: an input is handed in, its reply collected, and the window comes back with that, in a report.
+
+ghost use Rattle.std.specs.Prelude.{◌≡◌, [], OnOk};
+ghost use Rattle.mate_answers.specs.InputReplies.{lines_of};
+ghost use Rattle.room_ends.specs.Letters.{records};
+ghost use Rattle.room_ends.specs.Windows.{letters_sent, collected, SameWindow};
+ghost use Rattle.desk_room.specs.inside.Submitters.{HasHandled, Reports};
+
+use crate::serving::backoff::Backoff;
+use crate::serving::stop_signal::{StopReason, StopSignal};
+use crate::serving::submitters::Submitter;
+use chess_moves::Rays;
+use mate_answers::Output;
+use room_ends::Window;
+use std::alloc::Global;
+use std::sync::Wait;
+
+/// A window at which an input was handed in, and the reply, where it is whole.
+#[derive(Drop)]
+pub(crate) struct Report {
+    pub(crate) window: Window,
+    pub(crate) reply: Option<Output>,
+}
+
+#[tactic(auto, using(crate::proofs::RingEnds::same_window, crate::proofs::Collecting::window_then))]
+/// Says farewell, once the record ring has a place for it.
+fn say_bye<R: Wait>(rt: &R, window: &mut Window, stop: &StopSignal)
+    ensures window { SameWindow window.old window.new }
+    ensures records { records (letters_sent window.new) ≡ records (letters_sent window.old) }
+    ensures collected { collected window.new ≡ collected window.old }
+{
+    let mut backoff = Backoff::new();
+    for _ in rt.forever() {
+        if let Ok(()) = window.bye() {
+            return;
+        }
+        if stop.reason().is_some() {
+            return;
+        }
+        backoff.wait(rt, stop);
+    }
+}
+
+#[tactic(auto, using(crate::proofs::Collecting::window_then))]
+/// Has a submitter hand in all of an input and collect each answer.
+fn drive<R: Wait>(
+    rt: &R,
+    alloc: Global,
+    rays: &Rays,
+    submitter: &mut Submitter,
+    input: &[u8],
+    stop: &StopSignal,
+) -> Result<(), StopReason>
+    requires none { submitter.old.refused ≡ 0 }
+    requires handled { HasHandled [] submitter.old }
+    ensures window { SameWindow submitter.old.window submitter.new.window }
+    ensures none { OnOk result (submitter.new.pending_replies.items ≡ []) }
+    ensures handled { OnOk result (HasHandled (lines_of input.now) submitter.new) }
+{
+    submitter.hand_in_all(rt, alloc, rays, stop, input)?;
+    submitter.collect_all(rt, alloc, rays, stop)
+}
+
+/// Hands an input in at a window and collects the reply to it, unless the stop signal comes first.
+pub(crate) fn run_window<R: Wait>(
+    rt: &R,
+    alloc: Global,
+    rays: &Rays,
+    window: Window,
+    input: &[u8],
+    stop: &StopSignal,
+) -> Report
+    requires sent { letters_sent window ≡ [] }
+    requires collected { collected window ≡ [] }
+    ensures { Reports window input.now result }
+{
+    let mut submitter = Submitter::new(alloc, window);
+    let ended = drive(rt, alloc, rays, &mut submitter, input, stop);
+    let Submitter {
+        mut window,
+        text,
+        refused,
+        ..
+    } = submitter;
+    match ended {
+        Ok(()) => {
+            say_bye(rt, &mut window, stop);
+            Report {
+                window,
+                reply: Some(Output { text, refused }),
+            }
+        }
+        Err(reason) => {
+            stop.send(reason);
+            Report {
+                window,
+                reply: None,
+            }
+        }
+    }
+}

@@ -1,6 +1,0 @@
-use Rattle.std.proofs.Common.{rules}
-use Rattle.room_ends.proofs.Deals.{puts_job}
-use Rattle.room_ends.proofs.deque_dealer.Dealer.order.Goals as goal
-
-pub push_as-requires-clause-pushes : goal.push_as-requires-clause-pushes
-push_as-requires-clause-pushes c = puts_job _ _ _ (search rules) (search rules)
