@@ -12,4 +12,5 @@ pub mod for_mate_answers;
 pub mod for_mate_desk;
 pub mod for_mate_jobs;
 pub mod for_mate_search;
+pub mod for_room_ends;
 pub mod for_square_sets;
