@@ -95,7 +95,7 @@ fn attacks_from(men: &Board, by: Colour, from: Square, square: Square) -> bool
 }
 
 /// Whether some man of the colour attacks the square.
-fn is_attacked_by(men: &Board, square: Square, by: Colour) -> bool
+pub(crate) fn is_attacked_by(men: &Board, square: Square, by: Colour) -> bool
     ensures { result ≡ is_attacked men.now square by }
 {
     for number in 0..64 {

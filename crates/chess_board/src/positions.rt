@@ -6,11 +6,11 @@ ghost use Rattle.chess_board.specs.Positions.{man_at};
 ghost use Rattle.chess_board.specs.Men.{has_right_of, is_man, man_of};
 ghost use Rattle.chess_board.specs.Sets.{IsSetOf};
 ghost use Rattle.chess_board.specs.inside.Hashing.{state_word};
-ghost use Rattle.chess_board.specs.Attacks.{is_in_check};
+ghost use Rattle.chess_board.specs.Attacks.{is_attacked, is_in_check};
 ghost use Rattle.chess_board.specs.Soundness.{IsSound};
 ghost use Rattle.chess_board.specs.Faults.{IsFirst, IsUnsoundBy, position_faults};
 
-use crate::attacks::is_king_in_check;
+use crate::attacks::{is_attacked_by, is_king_in_check};
 use crate::boards::Board;
 use crate::faults::FenFault;
 use crate::men::{Colour, Kind, Man, Rights, Wing};
@@ -146,6 +146,14 @@ impl Position {
         ensures on_board { result < 64 }
     {
         self.board.king(colour)
+    }
+
+    /// Whether some man of the colour attacks the square, whoever stands there, and whether or not that man may move (FIDE Laws of
+    /// Chess, articles 3.1.2 and 3.1.3).
+    pub fn is_attacked(&self, square: Square, by: Colour) -> bool
+        ensures { result ≡ is_attacked self.now.men square by }
+    {
+        is_attacked_by(&self.board, square, by)
     }
 
     /// Whether the side to move is in check: its king is attacked (FIDE Laws of Chess, article 3.9.1).

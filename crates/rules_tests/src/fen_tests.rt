@@ -65,6 +65,9 @@ fn shows_the_parts_of_a_position(rt: HostRuntime) -> Result<(), Fail> {
         kind: Kind::Rook,
     };
     assert_eq!(rt; position.man(h1), Some(rook));
+    let h7 = Square::at(7, 6).ok_or("h7")?;
+    assert!(rt; position.is_attacked(h7, Colour::White));
+    assert!(rt; position.is_attacked(h7, Colour::Black));
     Ok(())
 }
 
