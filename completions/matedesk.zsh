@@ -1,0 +1,44 @@
+#compdef matedesk
+# Completions of matedesk for zsh: commands, options, the values of --bound, --workers and DEPTH, and files. A FEN has none.
+
+_matedesk() {
+    local curcontext=$curcontext state line
+    local -a commands help
+    typeset -A opt_args
+    commands=(
+        'solve:solve the problems of files'
+        'serve:solve the problems of files on threads'
+        'replay:run a script of steps at a desk'
+        'look:show a FEN in canonical form'
+        'moves:list the legal moves of a FEN'
+        'perft:count the lines of legal moves from a FEN'
+    )
+    help=('(- *)'{-h,--help}'[print help]')
+
+    _arguments -C $help '(- *)'{-V,--version}'[print version]' '1: :->command' '*:: :->words'
+    case $state in
+    command) _describe command commands ;;
+    words)
+        case $words[1] in
+        solve)
+            _arguments $help \
+                '--bound=[moves within which a record without dm asks for mate]:bound:(1 2 3 4 5 6 7 8 9 10 11 12 13 14 15)' \
+                '--memo=[positions that are remembered]:positions: ' \
+                '*:file of records:_files'
+            ;;
+        serve)
+            _arguments $help \
+                '--workers=[threads that solve]:workers:(1 2 3 4 5 6 7 8 9 10 11 12 13 14 15 16)' \
+                '--bound=[moves within which a record without dm asks for mate]:bound:(1 2 3 4 5 6 7 8 9 10 11 12 13 14 15)' \
+                '--memo=[positions that each worker remembers]:positions: ' \
+                '*:file of records:_files'
+            ;;
+        replay) _arguments $help '1:script:_files' ;;
+        look | moves) _arguments $help '1:FEN: ' ;;
+        perft) _arguments $help '1:FEN: ' '2:depth:(0 1 2 3 4 5 6)' ;;
+        esac
+        ;;
+    esac
+}
+
+_matedesk "$@"
