@@ -1,6 +1,6 @@
 //! The legal moves of a position, those that give check, its verdict, and the count of the lines of play.
 //!
-//! A position and a single move's legality are `chess_board`'s business; here stand all the legal moves together. The list is
+//! A position is `chess_board`'s business; here stand all the legal moves together. The list is
 //! exact: each legal move once, in the order of moves. Each call takes the `Rays`, which are made once for the program. No move is
 //! found by making it: sets of squares tell where each man may go.
 //!
