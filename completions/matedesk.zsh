@@ -1,5 +1,5 @@
 #compdef matedesk
-# Completions of matedesk for zsh: commands, options, the values of --bound, --workers and DEPTH, and files. A FEN has none.
+# Completions of matedesk for zsh: commands, options, the values of --bound, --workers and DEPTH, codes, and files. A FEN has none.
 
 _matedesk() {
     local curcontext=$curcontext state line
@@ -7,11 +7,14 @@ _matedesk() {
     typeset -A opt_args
     commands=(
         'solve:solve the problems of files'
+        'verify:hold the problems of files against their claims'
         'serve:solve the problems of files on threads'
         'replay:run a script of steps at a desk'
         'look:show a FEN in canonical form'
+        'play:make moves from a FEN'
         'moves:list the legal moves of a FEN'
         'perft:count the lines of legal moves from a FEN'
+        'explain:say what a fault means'
     )
     help=('(- *)'{-h,--help}'[print help]')
 
@@ -20,7 +23,7 @@ _matedesk() {
     command) _describe command commands ;;
     words)
         case $words[1] in
-        solve)
+        solve | verify)
             _arguments $help \
                 '--bound=[moves within which a record without dm asks for mate]:bound:(1 2 3 4 5 6 7 8 9 10 11 12 13 14 15)' \
                 '--memo=[positions that are remembered]:positions: ' \
@@ -34,8 +37,11 @@ _matedesk() {
                 '*:file of records:_files'
             ;;
         replay) _arguments $help '1:script:_files' ;;
-        look | moves) _arguments $help '1:FEN: ' ;;
-        perft) _arguments $help '1:FEN: ' '2:depth:(0 1 2 3 4 5 6)' ;;
+        look) _arguments $help '--board[draw the board too]' '--flip[draw it as Black sees it]' '1:FEN: ' ;;
+        play) _arguments $help '1:FEN: ' '*:move: ' ;;
+        moves) _arguments $help '--coordinates[write moves by their coordinates]' '--fen[write the FEN after each move]' '1:FEN: ' ;;
+        perft) _arguments $help '--divide[count the lines behind each first move too]' '1:FEN: ' '2:depth:(0 1 2 3 4 5 6)' ;;
+        explain) _arguments $help '1:code:{compadd -- ${(f)"$(matedesk explain 2>/dev/null | cut -d : -f 1)"}}' ;;
         esac
         ;;
     esac

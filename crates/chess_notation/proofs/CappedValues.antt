@@ -2,6 +2,7 @@
 use Rattle.std.proofs.Common.{◌≡◌, ℕ, suc, ◌+◌, ◌-◌, ◌*◌, ◌<◌, min, List, [], ◌∷◌, length, ap, sym, ◌∙◌, arith, add-one, drop, drop-cons, get_or}
 use Rattle.std.specs.Prelude.{fold}
 use Rattle.chess_board.specs.Fields.{digits_value}
+use Rattle.chess_problems.specs.Problems.{bound_of}
 
 -- the value of digits behind a number
 abbrev pub value_behind : ℕ → List ℕ → ℕ
@@ -16,3 +17,7 @@ pub value_more : (digits : List ℕ) (n i b m : ℕ) → i < length digits → b
 value_more digits n i b m here at next so_far =
     let split : drop i digits ≡ b ∷ drop (suc i) digits = drop-cons digits i 0 here ∙ ap (λ x. x ∷ drop (suc i) digits) (sym at) in
     rw add-one (value_behind-capped m (10 * n + (b - 48)) (drop (suc i) digits) next ∙ ap (λ t. min (value_behind n t) 16) (sym split) ∙ so_far)
+
+-- A number that is capped is a bound where it is one without.
+pub bound_capped : (n : ℕ) → bound_of (min n 16) ≡ bound_of n
+bound_capped n = grind arith

@@ -4,7 +4,9 @@ pub mod AvoidMoveAnswers
 pub mod BareTexts
 pub mod CappedValues
 pub mod CastlingTexts
+pub mod ClaimedMoves
 pub mod ClearFields
+pub mod CoordinateTexts
 pub mod CounterWords
 pub mod Drops
 pub mod EntryMembers
@@ -41,6 +43,7 @@ pub mod Rivals
 pub mod SameMoves
 pub mod SanBytes
 pub mod ShownBounds
+pub mod ShownClaims
 pub mod ShownAvoided
 pub mod ShownOperations
 pub mod ShownRest
@@ -50,5 +53,6 @@ pub mod TextLengths
 pub mod TextSuffixes
 pub mod TextOrder
 pub mod TextPlaces
+pub mod ToldMoves
 pub mod WordSplits
 pub mod WordLists

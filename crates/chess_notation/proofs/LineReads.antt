@@ -56,7 +56,7 @@ no_fault_reads listed line default p clear spelt sound names =
     }
 
 -- What is read of a line that says a record.
-segments_are : (line : List ℕ) (default : ℕ) (r : RecordValue) → (h : Reads line default r) → AreSegments (cut_of line) h.operations
+pub segments_are : (line : List ℕ) (default : ℕ) (r : RecordValue) → (h : Reads line default r) → AreSegments (cut_of line) h.operations
 unfolding cut_of operations_in
 segments_are line default r h =
     let there = (spelled_fields line h.fields h.tail h.words).tail_is in

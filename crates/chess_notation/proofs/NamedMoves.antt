@@ -34,7 +34,7 @@ abbrev pub text_of : Named → List ℕ
 text_of n = n.text.bytes
 
 -- Each text is that of its move.
-abbrev AreTexts : Setup → List Named → Type 0
+abbrev pub AreTexts : Setup → List Named → Type 0
 AreTexts p ns = map text_of ns ≡ map (bare_text p) (map move_of ns)
 
 first_text : (p : Setup) (n : Named) (ns : List Named) → AreTexts p (n ∷ ns) → text_of n ≡ bare_text p n.m
@@ -43,14 +43,14 @@ first_text p n ns h = cc
 other_texts : (p : Setup) (n : Named) (ns : List Named) → AreTexts p (n ∷ ns) → AreTexts p ns
 other_texts p n ns h = cc
 
-any_named : (p : Setup) (word : List ℕ) (ns : List Named) → AreTexts p ns
+pub any_named : (p : Setup) (word : List ℕ) (ns : List Named) → AreTexts p ns
     → list_any (λ n. same_text (without_suffix word) (text_of n)) ns ≡ list_any (names p word) (map move_of ns)
 any_named p word [] h = refl
 any_named p word (n ∷ ns) h =
     let text : text_of n ≡ bare_text p n.m = first_text p n ns h in
     rw (text, any_named p word ns (other_texts p n ns h)) refl
 
-legal_texts : (p : Setup) (ns : List Named) → map move_of ns ≡ legal_moves p → map text_of ns ≡ map (bare_text p) (legal_moves p) → AreTexts p ns
+pub legal_texts : (p : Setup) (ns : List Named) → map move_of ns ≡ legal_moves p → map text_of ns ≡ map (bare_text p) (legal_moves p) → AreTexts p ns
 legal_texts p ns moves texts = texts ∙ sym (ap (map (bare_text p)) moves)
 
 -- Each word names a move of the list where each names a legal move.

@@ -36,7 +36,7 @@ unmarked-man_text p (Some man) m = by_kind (is_pawn_kind man.kind) (is_castling 
   by_kind false true = unmarked-wing_text (wing_of m.origin m.target)
   by_kind false false = unmarked-piece_text p man m
 
-unmarked-bare_text : (p : Setup) (m : Move) → unmarked (bare_text p m) ≡ bare_text p m
+pub unmarked-bare_text : (p : Setup) (m : Move) → unmarked (bare_text p m) ≡ bare_text p m
 unfolding bare_text
 unmarked-bare_text p m = unmarked-man_text p (man_at p.men m.origin) m
 

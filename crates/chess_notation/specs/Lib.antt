@@ -4,6 +4,8 @@ pub mod SanLaws
 pub mod Operations
 pub mod Opcodes
 pub mod AvoidMoves
+pub mod MoveReading
+pub mod Claims
 pub mod Records
 pub mod Words
 pub mod Segments

@@ -36,3 +36,8 @@ AreKept (entry ∷ entries) = (is_own entry.opcode ≡ false) × AreKept entries
 abbrev pub with_entry : Entry → List Entry → List Entry
 with_entry entry [] = entry ∷ []
 with_entry entry (next ∷ entries) = if comes_before entry.opcode next.opcode then entry ∷ next ∷ entries else next ∷ with_entry entry entries
+
+-- the operands of the first entry with the opcode, or nothing
+abbrev pub operands_under : List ℕ → List Entry → List ℕ
+operands_under opcode [] = []
+operands_under opcode (entry ∷ entries) = if same_text opcode entry.opcode then entry.operands else operands_under opcode entries

@@ -6,6 +6,7 @@ use Rattle.chess_problems.specs.Problems.{max_bound}
 use Rattle.chess_notation.specs.Records.{RecordValue, Reads, max_line}
 use Rattle.chess_notation.specs.EpdFaults.{HasNoFault}
 use Rattle.chess_notation.specs.Answers.{answer_text}
+use Rattle.chess_notation.specs.Claims.{AreOperandsOfKeys, claim_words}
 use Rattle.chess_problems.specs.Outcomes.{IsPlayable}
 
 -- A line that says a record has no fault.
@@ -31,3 +32,7 @@ HasLength NoMate = Unit {0}
 abbrev pub AnswerReads : Type 0
 AnswerReads = (line : List ℕ) (asked default : ℕ) (r : RecordValue) (outcome : Outcome) → Reads line asked r → IsPlayable r.position outcome
     → HasLength outcome → length (answer_text r outcome) ≤ max_line → Reads (answer_text r outcome) default (answered r outcome default)
+
+-- What the line of a record claims are the operands of its `bm`.
+abbrev pub ClaimsRead : Type 0
+ClaimsRead = (line : List ℕ) (default : ℕ) (r : RecordValue) → (reads : Reads line default r) → AreOperandsOfKeys reads.operations (claim_words line)

@@ -121,6 +121,22 @@ fn key_texts(
     Ok(texts)
 }
 
+/// Moves of one position as `bm` lists them: in SAN and in ASCII order, each after one space.
+pub fn listed_text(
+    alloc: Global,
+    rays: &Rays,
+    position: &Position,
+    moves: &[Move],
+) -> Result<String, NoMemory>
+    requires { AreLegal position.now moves.now }
+    ensures { IfOk result (λ text. string_bytes text ≡ operand_words (in_order (map (san_text position.now) moves.now))) }
+{
+    let texts = key_texts(alloc, rays, position, moves)?;
+    let mut text = String::new(alloc);
+    push_words(&mut text, texts.as_slice())?;
+    Ok(text)
+}
+
 /// Adds `bm`, the keys.
 fn push_keys(
     alloc: Global,

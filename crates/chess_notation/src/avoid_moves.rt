@@ -21,9 +21,9 @@ use chess_problems::AvoidList;
 
 /// A legal move and its text without the suffix.
 #[derive(Clone, Copy, Default)]
-struct Named {
-    m: Move,
-    text: ArrayString<8>,
+pub(crate) struct Named {
+    pub(crate) m: Move,
+    pub(crate) text: ArrayString<8>,
 }
 
 /// Whether a byte is `+` or `#`.
@@ -35,7 +35,7 @@ fn is_suffix(byte: u8) -> bool
 
 /// A word without one suffix at its end.
 #[tactic(auto, unfolding(crate::specs::AvoidMoves::without_suffix))]
-fn without_suffix(word: &[u8]) -> &[u8]
+pub(crate) fn without_suffix(word: &[u8]) -> &[u8]
     ensures { result.now ≡ text_without_suffix word.now }
 {
     if !word.is_empty() && is_suffix(word[word.len() - 1]) {
@@ -46,7 +46,7 @@ fn without_suffix(word: &[u8]) -> &[u8]
 }
 
 /// The legal moves with their texts.
-fn legal_names(rays: &Rays, position: &Position) -> ArrayVec<Named, 1024>
+pub(crate) fn legal_names(rays: &Rays, position: &Position) -> ArrayVec<Named, 1024>
     ensures moves { map (λ n. n.m) result.items ≡ legal_moves position.now }
     ensures texts { map (λ n. n.text.bytes) result.items ≡ map (bare_text position.now) (legal_moves position.now) }
 {
@@ -61,7 +61,7 @@ fn legal_names(rays: &Rays, position: &Position) -> ArrayVec<Named, 1024>
 }
 
 /// Whether the word names one of these moves.
-fn is_name(word: &[u8], names: &[Named]) -> bool
+pub(crate) fn is_name(word: &[u8], names: &[Named]) -> bool
     ensures { result ≡ list_any (λ n. same_text (text_without_suffix word.now) n.text.bytes) names.now }
 {
     let bare = without_suffix(word);
@@ -99,7 +99,7 @@ fn are_names(words: &[u8], names: &[Named]) -> bool
 
 /// Whether a word names the move with this text.
 #[tactic(auto, using(crate::proofs::WordLists::words_next, crate::proofs::WordLists::words_none, crate::proofs::WordLists::behind_shorter))]
-fn have_name(words: &[u8], text: &[u8]) -> bool
+pub(crate) fn have_name(words: &[u8], text: &[u8]) -> bool
     ensures { result ≡ list_any (λ word. same_text (text_without_suffix word) text.now) (words_in words.now) }
 {
     let mut rest = words;

@@ -1,16 +1,19 @@
 //! The notations of chess: how a move is written (SAN), what a line of EPD asks, and how it is answered.
 //!
 //! Which moves are legal is `chess_moves`'s business, what a problem is `chess_problems`'s, and solving is none of this crate's. To
-//! read: `specs/SanText.antt` and `san_text`, over `disambiguation`; then `specs/Records.antt`, `records` and `record_reading`, over `epd_faults` (the
-//! faults of a line, in their order), `words`, `record_fields`, `segments` (operations cut at their semicolons), `quoting`, `opcodes`,
-//! `problem_operations` (what `dm` and `am` ask), `avoid_moves` and `operations`; at last `specs/Answers.antt` and `answers`. `san_laws` and
-//! `record_laws` say what holds of them. Only `read_record` and `answer_text` take memory.
+//! read: `specs/SanText.antt` and `san_text`, over `disambiguation`, and `move_reading`, a word that names a move; then `specs/Records.antt`,
+//! `records` and `record_reading`, over `epd_faults` (the faults of a line, in their order), `words`, `record_fields`, `segments` (operations
+//! cut at their semicolons), `quoting`, `opcodes`, `problem_operations` (what `dm` and `am` ask), `avoid_moves`, `claims` (what `bm` says) and
+//! `operations`; at last `specs/Answers.antt` and `answers`. `san_laws` and `record_laws` say what holds of them. Only `read_record`,
+//! `claims_text`, `listed_text` and `answer_text` take memory.
 #![tactic(auto)]
 
 mod answers;
 mod avoid_moves;
+mod claims;
 mod disambiguation;
 mod epd_faults;
+mod move_reading;
 mod opcodes;
 mod operations;
 mod problem_operations;
@@ -24,14 +27,19 @@ mod san_text;
 mod segments;
 mod words;
 
-pub use answers::answer_text;
+pub use answers::{answer_text, listed_text};
 pub use byte_streams::NoMemory;
 pub use chess_problems::{AvoidList, Bound, Outcome, Problem, Variation};
+pub use claims::{ClaimFault, bound_claimed, claimed_moves, claims_text};
 pub use epd_faults::EpdFault;
+pub use move_reading::read_move;
+pub use operations::kept_operands;
 pub use record_fields::are_digits;
-pub use record_laws::{answer_reads, records_clear, says_one};
+pub use record_laws::{answer_reads, claims_read, records_clear, says_one};
 pub use record_reading::read_record;
 pub use records::{Operation, Record};
-pub use san_laws::{bare_texts_apart, named_read, names_one, texts_apart, texts_short};
+pub use san_laws::{
+    bare_texts_apart, named_read, names_one, tells_one, texts_apart, texts_read, texts_short,
+};
 pub use san_text::san;
 pub use words::is_blank;

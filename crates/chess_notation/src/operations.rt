@@ -6,12 +6,12 @@ ghost use Rattle.chess_notation.specs.Words.{word_at as word_of_text};
 ghost use Rattle.chess_notation.specs.Segments.{segments_of};
 ghost use Rattle.chess_notation.specs.Quoting.{squeezed_from};
 ghost use Rattle.chess_notation.specs.Operations.{Entry, is_opcode, is_printable};
-ghost use Rattle.chess_notation.specs.Opcodes.{is_own as is_own_opcode, with_entry};
+ghost use Rattle.chess_notation.specs.Opcodes.{is_own as is_own_opcode, operands_under, with_entry};
 ghost use Rattle.chess_notation.specs.RecordFields.{entry_in};
 ghost use Rattle.chess_notation.specs.EpdFaults.{has_opcode};
 ghost use Rattle.chess_notation.specs.inside.RecordReading.{rest_of};
 
-use crate::opcodes::{comes_before, is_own};
+use crate::opcodes::{comes_before, is_own, is_same_text};
 use crate::quoting::Mode;
 use crate::records::Operation;
 use crate::segments::first_segment;
@@ -150,4 +150,16 @@ pub(crate) fn operations_of(alloc: Global, text: &[u8]) -> Result<Vec<Operation>
         rest = back;
     }
     Ok(operations)
+}
+
+/// The operands of the operation with that opcode, each after one space; nothing where there is none.
+pub fn kept_operands<'a>(operations: &'a [Operation], opcode: &[u8]) -> &'a [u8]
+    ensures { result.now ≡ operands_under opcode.now operations.now }
+{
+    for operation in operations {
+        if is_same_text(opcode, operation.opcode.as_str().as_bytes()) {
+            return operation.operands.as_bytes();
+        }
+    }
+    &[]
 }

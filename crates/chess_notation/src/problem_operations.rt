@@ -15,7 +15,7 @@ use crate::words::{is_blank, word_at};
 use chess_problems::Bound;
 
 /// The number that digits spell, or 16 where it is larger.
-fn capped_value(digits: &[u8]) -> u8
+pub(crate) fn capped_value(digits: &[u8]) -> u8
     ensures { result ≡ min (digits_value digits.now) 16 }
 {
     let mut value = 0u8;

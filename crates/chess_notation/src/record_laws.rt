@@ -1,6 +1,6 @@
 //! What holds of lines and records. Each function here does nothing: its contract is the law.
 
-ghost use Rattle.chess_notation.specs.RecordLaws.{AnswerReads, RecordsClear, SaysOne};
+ghost use Rattle.chess_notation.specs.RecordLaws.{AnswerReads, ClaimsRead, RecordsClear, SaysOne};
 
 use chess_board::{printed_spells, spells_one};
 use chess_moves::legal_listed;
@@ -27,3 +27,8 @@ pub fn answer_reads()
     printed_spells();
     legal_listed();
 }
+
+/// What the line of a record claims of its keys are the operands of `bm`, a string as so many quotation marks; nothing without `bm`.
+pub fn claims_read()
+    ensures { ClaimsRead }
+{}

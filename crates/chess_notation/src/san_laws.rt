@@ -1,6 +1,6 @@
 //! What the texts of moves tell, however they are made.
 
-ghost use Rattle.chess_notation.specs.SanLaws.{TextsApart, BareTextsApart, TextsShort, NamesOne, NamedRead};
+ghost use Rattle.chess_notation.specs.SanLaws.{TextsApart, BareTextsApart, TextsShort, NamesOne, NamedRead, TellsOne, TextsRead};
 
 use chess_moves::{legal_listed, legal_rise};
 
@@ -35,4 +35,19 @@ pub fn named_read()
     ensures { NamedRead }
 {
     legal_rise();
+}
+
+/// A word tells one legal move at most, be it by SAN or by coordinates.
+pub fn tells_one()
+    ensures { TellsOne }
+{
+    legal_listed();
+    names_one();
+}
+
+/// A legal move is named by its text, with its suffix or without it, and by its coordinates.
+pub fn texts_read()
+    ensures { TextsRead }
+{
+    tells_one();
 }

@@ -10,7 +10,7 @@ fn ends_segment(is_inside: bool, byte: u8) -> bool
 }
 
 /// Whether a string is open behind the byte.
-fn inside_after(is_inside: bool, byte: u8) -> bool
+pub(crate) fn inside_after(is_inside: bool, byte: u8) -> bool
     ensures { result ≡ is_inside_after is_inside byte }
 {
     if byte == b'"' { !is_inside } else { is_inside }

@@ -20,13 +20,19 @@ fn misused_words_end_with_two(rt: HostRuntime) -> Result<(), Fail> {
         ("look", "required arguments were not provided"),
         ("look --", "required arguments were not provided"),
         ("look a b", "unexpected argument 'b'"),
+        ("look --flip a", "matedesk: --flip goes with --board"),
+        ("look --board", "required arguments were not provided"),
+        ("look --board --board a", "cannot be used multiple times"),
         ("look -- -abc d", "unexpected argument 'd'"),
         ("watch a", "unrecognized subcommand 'watch'"),
         ("help", "unrecognized subcommand 'help'"),
         ("--fen", "unexpected argument '--fen'"),
         ("-abc look", "unexpected argument '-a'"),
         ("moves", "required arguments were not provided"),
+        ("play", "required arguments were not provided"),
+        ("play a --fen", "unexpected argument '--fen'"),
         ("perft a", "required arguments were not provided"),
+        ("perft --divide a", "required arguments were not provided"),
         ("perft a 7", "7 is not in 0..=6"),
         ("perft a x", "invalid value 'x'"),
         ("perft a 1 2", "unexpected argument '2'"),
@@ -62,6 +68,7 @@ fn misused_words_end_with_two(rt: HostRuntime) -> Result<(), Fail> {
         ("serve --memo 1 a", "required arguments were not provided"),
         ("replay --memo 1 a", "unexpected argument '--memo'"),
         ("serve --workers 1 -abc", "unexpected argument '-a'"),
+        ("explain a b", "unexpected argument 'b'"),
     ];
     for (line, text) in rows {
         let mut words = Vec::new(alloc);
@@ -103,7 +110,9 @@ fn help_and_version_go_to_out(rt: HostRuntime) -> Result<(), Fail> {
         ("--help", "matedesk look \"rnbqkbnr/"),
         ("-h", "look"),
         ("look --help", "Forsyth-Edwards Notation"),
-        ("look -h", "Usage: matedesk look <FEN>"),
+        ("look -h", "Usage: matedesk look [OPTIONS] <FEN>"),
+        ("play -h", "Usage: matedesk play <FEN> [MOVE]..."),
+        ("explain -h", "Usage: matedesk explain [CODE]"),
         (
             "solve --help",
             "7k/8/5K2/8/8/8/8/R7 w - - bm Kf7 Kg6; dm 2; pv Kg6 Kg8 Ra8#;",

@@ -31,6 +31,8 @@ fn a_refused_fen_is_named_on_err(rt: HostRuntime) -> Result<(), Fail> {
         ["look", "-V"],
         ["look", "--version"],
         ["look", "--help-me"],
+        ["look", "--fen"],
+        ["play", "-abc"],
     ];
     for words in rows {
         let fen = words[1];
@@ -99,6 +101,114 @@ fn moves_and_perft_show_what_is_legal(rt: HostRuntime) -> Result<(), Fail> {
         assert_eq!(rt; ended.status, 0, "{text}");
         assert_eq!(rt; ended.out.as_slice(), text.as_bytes());
         assert_eq!(rt; ended.err.as_slice(), b"".as_slice(), "{text}");
+    }
+    Ok(())
+}
+
+#[test]
+fn options_stand_on_either_side_of_a_fen(rt: HostRuntime) -> Result<(), Fail> {
+    let cornered = "7k/8/5K2/8/8/8/8/6R1 b - - 0 1";
+    let checked = "7k/8/5K2/8/8/8/8/7R b - - 0 1";
+    let all = "Kh7\th8h7\t8/7k/5K2/8/8/8/8/6R1 w - - 1 2\n";
+    let rows = [
+        (["moves", "--coordinates", cornered, ""], "h8h7\n"),
+        (["moves", cornered, "--coordinates", ""], "h8h7\n"),
+        (["moves", "--fen", "--coordinates", cornered], all),
+        (["moves", "--fen", cornered, "--coordinates"], all),
+        (["moves", "--fen", MATED, ""], "mate\n"),
+        (["perft", "--divide", checked, "2"], "h8g8: 20\n20\n"),
+        (["perft", "--divide", checked, "0"], "1\n"),
+    ];
+    for (words, text) in rows {
+        let given = if words[3].is_empty() { 3 } else { 4 };
+        let ended = run(&rt, &words[..given], ALWAYS, ALWAYS)?;
+        assert_eq!(rt; ended.status, 0, "{text}");
+        assert_eq!(rt; ended.out.as_slice(), text.as_bytes());
+        assert_eq!(rt; ended.err.as_slice(), b"".as_slice(), "{text}");
+    }
+    Ok(())
+}
+
+#[test]
+fn a_hyphened_fen_stands_behind_options(rt: HostRuntime) -> Result<(), Fail> {
+    let rows = [
+        ["moves", "--fen", "--coordinates", "-abc"],
+        ["moves", "--fen", "--board", ""],
+        ["look", "--board", "--flip", "--"],
+        ["look", "--board", "--flip", "-V"],
+        ["perft", "--divide", "-abc", "1"],
+        ["play", "-abc", "e4", "--help"],
+    ];
+    let message = b"matedesk: FieldCount\n".as_slice();
+    for words in rows {
+        let given = if words[3].is_empty() { 3 } else { 4 };
+        let ended = run(&rt, &words[..given], ALWAYS, ALWAYS)?;
+        let is_end = words[3] == "--";
+        assert_eq!(rt; ended.status, if is_end { 2 } else { 1 }, "{}", words[2]);
+        assert_eq!(rt; ended.err.as_slice() == message, !is_end, "{}", words[2]);
+    }
+    Ok(())
+}
+
+#[test]
+fn play_shows_the_position_reached_or_refuses_a_move(rt: HostRuntime) -> Result<(), Fail> {
+    let alloc = rt.alloc();
+    let rows = [
+        (
+            ["f3", "e5", "g4", "Qh4"],
+            "rnb1kbnr/pppp1ppp/8/4p3/6Pq/5P2/PPPPP2P/RNBQKBNR w KQkq - 1 3\nmate\n",
+            "",
+        ),
+        (
+            ["f2f3", "e7e5", "g2g4", "d8e7"],
+            "rnb1kbnr/ppppqppp/8/4p3/6P1/5P2/PPPPP2P/RNBQKBNR w KQkq - 1 3\nno check\n",
+            "",
+        ),
+        (
+            ["f3", "e5", "g4", "Qh5"],
+            "",
+            "matedesk: move 4: NoSuchMove\n",
+        ),
+        (
+            ["f3", "Ke7", "g5", "Qh4"],
+            "",
+            "matedesk: move 2: NoSuchMove\n",
+        ),
+    ];
+    for (moves, text, message) in rows {
+        let words = ["play", START, moves[0], moves[1], moves[2], moves[3]];
+        let ended = run(&rt, words.as_slice(), ALWAYS, ALWAYS)?;
+        assert_eq!(rt;
+            ended.status,
+            if text.is_empty() { 1 } else { 0 },
+            "{message}"
+        );
+        assert_eq!(rt; ended.out.as_slice(), text.as_bytes());
+        assert_eq!(rt; ended.err.as_slice(), message.as_bytes());
+    }
+    let given = run(&rt, &["play", START], ALWAYS, ALWAYS)?;
+    let want = format!(in alloc; "{START}\nno check\n")?;
+    assert_eq!(rt; given.out.as_slice(), want.as_bytes());
+    Ok(())
+}
+
+#[test]
+fn a_board_is_seen_from_either_side(rt: HostRuntime) -> Result<(), Fail> {
+    let alloc = rt.alloc();
+    let fen = "7k/8/5K2/8/8/8/8/6R1 b - - 0 1";
+    let white =
+        "8  . . . . . . . k\n7  . . . . . . . .\n6  . . . . . K . .\n5  . . . . . . . .\n4  . . . . . . . .\n3  . . . . . . . .\n2  . . . . . . . .\n1  . . . . . . R .\n   a b c d e f g h\n";
+    let black =
+        "1  . R . . . . . .\n2  . . . . . . . .\n3  . . . . . . . .\n4  . . . . . . . .\n5  . . . . . . . .\n6  . . K . . . . .\n7  . . . . . . . .\n8  k . . . . . . .\n   h g f e d c b a\n";
+    for (words, board) in [
+        (["look", "--board", fen, ""], white),
+        (["look", fen, "--flip", "--board"], black),
+    ] {
+        let given = if words[3].is_empty() { 3 } else { 4 };
+        let ended = run(&rt, &words[..given], ALWAYS, ALWAYS)?;
+        let want = format!(in alloc; "{fen}\nno check\n{board}Black to move\n")?;
+        assert_eq!(rt; ended.status, 0);
+        assert_eq!(rt; ended.out.as_slice(), want.as_bytes());
     }
     Ok(())
 }

@@ -5,6 +5,8 @@
 #[cfg(test)]
 mod command_line_tests;
 #[cfg(test)]
+mod explain_tests;
+#[cfg(test)]
 mod fen_command_tests;
 #[cfg(test)]
 mod output_tests;

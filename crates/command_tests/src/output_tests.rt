@@ -23,6 +23,10 @@ fn a_faulty_out_ends_with_four_and_a_faulty_err_is_passed_over(
         ("moves", START, 0, ALWAYS, 4),
         ("moves", START, ALWAYS, 0, 0),
         ("moves", "8/8", 0, 0, 1),
+        ("play", START, 0, ALWAYS, 4),
+        ("play", "8/8", 0, 0, 1),
+        ("explain", "BadKings", 0, ALWAYS, 4),
+        ("explain", "BadKing", 0, 0, 1),
     ];
     for (name, fen, outs, errs, status) in rows {
         let ended = run(&rt, &[name, fen], outs, errs)?;
@@ -46,6 +50,8 @@ fn an_output_that_breaks_off_holds_a_first_part(rt: HostRuntime) -> Result<(), F
         ["solve", "lines"],
         ["look", START],
         ["moves", MATED],
+        ["play", START],
+        ["explain", "BadKings"],
         ["solve", "--help"],
     ] {
         let whole = run_with(

@@ -1,5 +1,5 @@
 -- What the words of a command line ask for.
-use Rattle.std.specs.Prelude.{ℕ, ◌^◌, ◌&&◌, Bool, List, [], ◌∷◌, Option, None, Some, true, false, codes, length, nat_lt, option_map, option_and_then, if◌then◌else◌}
+use Rattle.std.specs.Prelude.{ℕ, ◌^◌, ◌&&◌, Bool, List, [], ◌∷◌, Option, None, Some, true, false, codes, length, nat_lt, option_map, option_and_then, unwrap_or, if◌then◌else◌}
 use Rattle.std.specs.List.{list_all, list_any}
 use Rattle.std.specs.Option.{option_map_or}
 use Rattle.std.specs.Char.{digit_value}
@@ -10,20 +10,29 @@ use Rattle.clap.specs.Walk.{byte_or_zero}
 use Rattle.clap.specs.declared.error.kind.ErrorKind.{ErrorKind}
 use Rattle.clap.specs.declared.error.kind.ErrorKind.TheVariants.{DisplayHelp, DisplayVersion}
 use Rattle.clap.specs.declared.parser.matches.ArgMatches.{ArgMatches}
+use Rattle.chess_board.specs.declared.men.Colour.{Colour}
+use Rattle.chess_board.specs.declared.men.Colour.TheVariants.{White, Black}
 use Rattle.chess_problems.specs.Problems.{bound_of}
 use Rattle.command_words.specs.CommandLine.{desk_app}
 use Rattle.command_words.specs.Limits.{depth_of}
 use Rattle.command_words.specs.Hyphens.{escaped}
 use Rattle.command_words.specs.Limits.{memo_size_of, workers_of}
+use Rattle.command_words.specs.declared.request.MoveForm.{MoveForm}
+use Rattle.command_words.specs.declared.request.MoveForm.TheVariants.{San, Coordinates, SanFen, SanCoordinatesFen}
 
 -- a command with its arguments
 pub data Asked : Type 0 where
   look : Text → Asked
-  moves : Text → Asked
+  board : Text → Colour → Asked
+  play : Text → List Text → Asked
+  moves : MoveForm → Text → Asked
   perft : Text → ℕ → Asked
+  divide : Text → ℕ → Asked
   solve : ℕ → ℕ → List Text → Asked
+  verify : ℕ → ℕ → List Text → Asked
   serve : ℕ → ℕ → ℕ → List Text → Asked
   replay : Text → Asked
+  explain : Option Text → Asked
 
 -- the number that a word stands for, which `clap` has read; none above the depths that are counted
 abbrev pub depth_in : List Row → Option ℕ
@@ -48,9 +57,52 @@ number_or_zero text =
 abbrev pub memo_size_in : List Row → Option ℕ
 memo_size_in rows = memo_size_of (option_map_or number_or_zero (one_of (codes "M") rows) 0)
 
+-- an option without a value is given: `clap` has the value `true` for it then, and else `false`
+abbrev pub is_given : Text → List Row → Bool
+is_given id rows = option_map_or (λ value. bytes_eq value (codes "true")) (first_of id rows) false
+
+-- from which side the board is seen
+abbrev pub side_in : List Row → Colour
+side_in rows = if is_given (codes "flip") rows then Black else White
+
+abbrev pub look_at : List Row → Text → Option Asked
+look_at rows fen =
+    if is_given (codes "board") rows then Some (board fen (side_in rows))
+    else if is_given (codes "flip") rows then None
+    else Some (look fen)
+
+-- what the arguments of `look` ask for; nothing where a board is to be turned that isn't asked for
+abbrev pub look_in : List Row → Option Asked
+look_in rows = option_and_then (look_at rows) (first_of (codes "FEN") rows)
+
+-- what the arguments of `play` ask for
+abbrev pub play_in : List Row → Option Asked
+play_in rows = option_map (λ fen. play fen (unwrap_or (all_of (codes "MOVE") rows) [])) (first_of (codes "FEN") rows)
+
+-- how the moves are written that `moves` lists
+abbrev pub form_in : List Row → MoveForm
+form_in rows =
+    if is_given (codes "coordinates") rows then (if is_given (codes "fen") rows then SanCoordinatesFen else Coordinates)
+    else (if is_given (codes "fen") rows then SanFen else San)
+
+-- what the arguments of `moves` ask for
+abbrev pub moves_in : List Row → Option Asked
+moves_in rows = option_map (moves (form_in rows)) (first_of (codes "FEN") rows)
+
+abbrev pub perft_at : List Row → ℕ → Text → Asked
+perft_at rows depth fen = if is_given (codes "divide") rows then divide fen depth else perft fen depth
+
+-- what the arguments of `perft` ask for
+abbrev pub perft_in : List Row → Option Asked
+perft_in rows = option_and_then (λ depth. option_map (perft_at rows depth) (first_of (codes "FEN") rows)) (depth_in rows)
+
 -- what the arguments of `solve` ask for
 abbrev pub solve_in : List Row → Option Asked
 solve_in rows = option_and_then (λ bound. option_and_then (λ memo. option_map (λ names. solve bound memo names) (all_of (codes "FILE") rows)) (memo_size_in rows)) (bound_in rows)
+
+-- what the arguments of `verify` ask for
+abbrev pub verify_in : List Row → Option Asked
+verify_in rows = option_and_then (λ bound. option_and_then (λ memo. option_map (λ names. verify bound memo names) (all_of (codes "FILE") rows)) (memo_size_in rows)) (bound_in rows)
 
 -- what the arguments of `serve` ask for
 abbrev pub serve_in : List Row → Option Asked
@@ -61,12 +113,15 @@ serve_in rows =
 -- what the arguments of a command ask for, by its name
 unfoldable pub asked_by : Text → List Row → Option Asked
 asked_by name rows =
-    if bytes_eq name (codes "look") then option_map look (first_of (codes "FEN") rows)
-    else if bytes_eq name (codes "moves") then option_map moves (first_of (codes "FEN") rows)
-    else if bytes_eq name (codes "perft") then option_and_then (λ depth. option_map (λ fen. perft fen depth) (first_of (codes "FEN") rows)) (depth_in rows)
+    if bytes_eq name (codes "look") then look_in rows
+    else if bytes_eq name (codes "play") then play_in rows
+    else if bytes_eq name (codes "moves") then moves_in rows
+    else if bytes_eq name (codes "perft") then perft_in rows
     else if bytes_eq name (codes "solve") then solve_in rows
+    else if bytes_eq name (codes "verify") then verify_in rows
     else if bytes_eq name (codes "serve") then serve_in rows
     else if bytes_eq name (codes "replay") then option_map replay (first_of (codes "SCRIPT") rows)
+    else if bytes_eq name (codes "explain") then Some (explain (first_of (codes "CODE") rows))
     else None
 
 -- asks for `serve`, the one command that starts threads

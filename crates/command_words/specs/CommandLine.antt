@@ -2,6 +2,7 @@
 use Rattle.std.specs.Prelude.{◌≡◌, [], ◌∷◌, Some, true, false, codes, pos}
 use Rattle.clap.specs.Lexer.{usize_max}
 use Rattle.clap.specs.Words.{App, Rule, Text, new_app, new_rule, with_rule, with_subcommand}
+use Rattle.clap.specs.declared.builder.action.ArgAction.TheVariants.{SetTrue}
 use Rattle.clap.specs.declared.builder.value_parser.ValueParser.TheVariants as parser
 use Rattle.clap.specs.declared.builder.command.Command.{Command}
 use Rattle.clap.specs.declared.builder.command.Command.TheViews.{out-Command as fields_of}
@@ -37,28 +38,45 @@ memo_rule default = record (new_rule (codes "M")) {
   defaults = default ∷ [];
 }
 
+-- an option without a value
+abbrev pub flag_rule : Text → Rule
+flag_rule name = record (new_rule name) { long = Some name; action = Some SetTrue }
+
+-- no move, or one or more
+abbrev pub moves_rule : Rule
+moves_rule = record (new_rule (codes "MOVE")) { range = Some (record { start_inclusive = 0; end_inclusive = usize_max }) }
+
 -- one name or more
 abbrev pub files_rule : Rule
 files_rule = record (wanted (codes "FILE")) { range = Some (record { start_inclusive = 1; end_inclusive = usize_max }) }
 
--- with the options of `solve` and of `serve`: the bound, and the number of entries of a memo
+-- with the options of `solve`, `verify` and `serve`: the bound, and the number of entries of a memo
 abbrev pub with_solving_options : App → Text → App
 with_solving_options a default = with_rule (with_rule a bound_rule) (memo_rule default)
 
 abbrev pub solve_app : App
 solve_app = with_rule (with_solving_options (new_app (codes "solve")) (codes "65536")) files_rule
 
+abbrev pub verify_app : App
+verify_app = with_rule (with_solving_options (new_app (codes "verify")) (codes "65536")) files_rule
+
 abbrev pub serve_app : App
 serve_app = with_rule (with_solving_options (with_rule (new_app (codes "serve")) workers_rule) (codes "16384")) files_rule
 
 abbrev pub look_app : App
-look_app = with_rule (new_app (codes "look")) (wanted (codes "FEN"))
+look_app = with_rule (with_rule (with_rule (new_app (codes "look")) (flag_rule (codes "board"))) (flag_rule (codes "flip"))) (wanted (codes "FEN"))
+
+abbrev pub play_app : App
+play_app = with_rule (with_rule (new_app (codes "play")) (wanted (codes "FEN"))) moves_rule
 
 abbrev pub moves_app : App
-moves_app = with_rule (new_app (codes "moves")) (wanted (codes "FEN"))
+moves_app = with_rule (with_rule (with_rule (new_app (codes "moves")) (flag_rule (codes "coordinates"))) (flag_rule (codes "fen"))) (wanted (codes "FEN"))
 
 abbrev pub perft_app : App
-perft_app = with_rule (with_rule (new_app (codes "perft")) (wanted (codes "FEN"))) depth_rule
+perft_app = with_rule (with_rule (with_rule (new_app (codes "perft")) (flag_rule (codes "divide"))) (wanted (codes "FEN"))) depth_rule
+
+abbrev pub explain_app : App
+explain_app = with_rule (new_app (codes "explain")) (new_rule (codes "CODE"))
 
 abbrev pub replay_app : App
 replay_app = with_rule (new_app (codes "replay")) (wanted (codes "SCRIPT"))
@@ -73,17 +91,25 @@ bare_app = record (new_app (codes "matedesk")) {
   };
 }
 
--- with the commands over one FEN
+-- with the commands that show a position or its moves
 abbrev pub with_fen_apps : App → App
-with_fen_apps a = with_subcommand (with_subcommand (with_subcommand a look_app.top) moves_app.top) perft_app.top
+with_fen_apps a = with_subcommand (with_subcommand (with_subcommand a look_app.top) play_app.top) moves_app.top
 
--- with the commands over files
-abbrev pub with_file_apps : App → App
-with_file_apps a = with_subcommand (with_subcommand (with_subcommand a solve_app.top) serve_app.top) replay_app.top
+-- with the command that counts lines, and the one that explains faults
+abbrev pub with_other_apps : App → App
+with_other_apps a = with_subcommand (with_subcommand a perft_app.top) explain_app.top
+
+-- with the commands that answer the records of files one after the other
+abbrev pub with_problem_apps : App → App
+with_problem_apps a = with_subcommand (with_subcommand a solve_app.top) verify_app.top
+
+-- with those on threads, and at a desk
+abbrev pub with_desk_apps : App → App
+with_desk_apps a = with_subcommand (with_subcommand a serve_app.top) replay_app.top
 
 -- the whole command line
 abbrev pub desk_app : App
-desk_app = with_fen_apps (with_file_apps bare_app)
+desk_app = with_other_apps (with_fen_apps (with_desk_apps (with_problem_apps bare_app)))
 
 -- no argument of the command is global
 abbrev pub IsLocal : Command → Type 0

@@ -1,16 +1,18 @@
 //! The command line, as `clap` is told of it.
 
 ghost use Rattle.std.specs.Prelude.{◌≡◌, IfOk, codes, false};
-ghost use Rattle.clap.specs.Words.{app_of, rule_of, with_rule, with_subcommand};
-ghost use Rattle.command_words.specs.CommandLine.{IsLocal, bare_app, bound_rule, depth_rule, desk_app, files_rule, look_app, memo_rule, moves_app, perft_app, replay_app, serve_app, solve_app, wanted, with_file_apps, with_fen_apps, with_solving_options, workers_rule};
+ghost use Rattle.clap.specs.Words.{app_of, new_rule, rule_of, with_rule, with_subcommand};
+ghost use Rattle.command_words.specs.CommandLine.{IsLocal, bare_app, bound_rule, depth_rule, desk_app, explain_app, files_rule, flag_rule, look_app, memo_rule, moves_app, moves_rule, perft_app, play_app, replay_app, serve_app, solve_app, verify_app, wanted, with_desk_apps, with_fen_apps, with_other_apps, with_problem_apps, with_solving_options, workers_rule};
 
 use crate::help::{
-    ABOUT, ABOUT_BOUND, ABOUT_DEPTH, ABOUT_FEN, ABOUT_FILE, ABOUT_LOOK, ABOUT_MEMO, ABOUT_MEMOS,
-    ABOUT_MOVES, ABOUT_PERFT, ABOUT_REPLAY, ABOUT_SCRIPT, ABOUT_SERVE, ABOUT_SOLVE, ABOUT_WORKERS,
-    AFTER_HELP, AFTER_LOOK, AFTER_MOVES, AFTER_PERFT, AFTER_REPLAY, AFTER_SERVE, AFTER_SOLVE,
+    ABOUT, ABOUT_BOARD, ABOUT_BOUND, ABOUT_CODE, ABOUT_COORDINATES, ABOUT_DEPTH, ABOUT_DIVIDE,
+    ABOUT_EXPLAIN, ABOUT_FEN, ABOUT_FENS, ABOUT_FILE, ABOUT_FLIP, ABOUT_LOOK, ABOUT_MEMO,
+    ABOUT_MEMOS, ABOUT_MOVE, ABOUT_MOVES, ABOUT_PERFT, ABOUT_PLAY, ABOUT_REPLAY, ABOUT_SCRIPT,
+    ABOUT_SERVE, ABOUT_SOLVE, ABOUT_VERIFY, ABOUT_WORKERS, AFTER_EXPLAIN, AFTER_HELP, AFTER_LOOK,
+    AFTER_MOVES, AFTER_PERFT, AFTER_PLAY, AFTER_REPLAY, AFTER_SERVE, AFTER_SOLVE, AFTER_VERIFY,
     VERSION,
 };
-use clap::{Arg, Command, value_parser};
+use clap::{Arg, ArgAction, Command, value_parser};
 use std::alloc::{AllocError, Global};
 
 /// A positional that has to be given.
@@ -63,6 +65,33 @@ fn memo_arg<'a>(alloc: Global, default: &'a str, help: &'a str) -> Arg<'a>
         .help(help)
 }
 
+/// An option without a value, by its long name.
+fn flag_arg<'a>(alloc: Global, name: &'a str, help: &'a str) -> Arg<'a>
+    ensures rule { rule_of result ≡ flag_rule name.entry.now }
+    ensures local { result.global ≡ false }
+{
+    Arg::new(alloc, name)
+        .long(name)
+        .action(ArgAction::SetTrue)
+        .help(help)
+}
+
+/// The moves of `play`, none or more.
+fn moves_arg<'a>(alloc: Global) -> Arg<'a>
+    ensures rule { rule_of result ≡ moves_rule }
+    ensures local { result.global ≡ false }
+{
+    Arg::new(alloc, "MOVE").num_args(0..).help(ABOUT_MOVE)
+}
+
+/// The code of a fault, which need not be given.
+fn code_arg<'a>(alloc: Global) -> Arg<'a>
+    ensures rule { rule_of result ≡ new_rule (codes "CODE") }
+    ensures local { result.global ≡ false }
+{
+    Arg::new(alloc, "CODE").help(ABOUT_CODE)
+}
+
 /// The names of files, one or more.
 fn files_arg<'a>(alloc: Global) -> Arg<'a>
     ensures rule { rule_of result ≡ files_rule }
@@ -88,7 +117,7 @@ fn with_command<'a>(command: Command<'a>, sub: Command<'a>) -> Result<Command<'a
     command.subcommand(sub)
 }
 
-/// Adds what may be given to `solve` and to `serve`: the bound, and the number of entries of a memo.
+/// Adds what may be given to `solve`, `verify` and `serve`: the bound, and the number of entries of a memo.
 fn with_solving_options<'a>(
     alloc: Global,
     command: Command<'a>,
@@ -102,12 +131,37 @@ fn with_solving_options<'a>(
     with_arg(command, memo_arg(alloc, default, help))
 }
 
+/// Adds two arguments.
+fn with_args<'a>(
+    command: Command<'a>,
+    first: Arg<'a>,
+    second: Arg<'a>,
+) -> Result<Command<'a>, AllocError>
+    requires local { IsLocal command }
+    requires first_local { first.global ≡ false }
+    requires second_local { second.global ≡ false }
+    ensures { IfOk result (λ c. (app_of c ≡ with_rule (with_rule (app_of command.entry) (rule_of first.entry)) (rule_of second.entry)) × IsLocal c) }
+{
+    let command = with_arg(command, first)?;
+    with_arg(command, second)
+}
+
 fn solve_command<'a>(alloc: Global) -> Result<Command<'a>, AllocError>
     ensures { IfOk result (λ c. (app_of c ≡ solve_app) × IsLocal c) }
 {
     let command = Command::new(alloc, "solve")
         .about(ABOUT_SOLVE)
         .after_help(AFTER_SOLVE);
+    let command = with_solving_options(alloc, command, "65536", ABOUT_MEMO)?;
+    with_arg(command, files_arg(alloc))
+}
+
+fn verify_command<'a>(alloc: Global) -> Result<Command<'a>, AllocError>
+    ensures { IfOk result (λ c. (app_of c ≡ verify_app) × IsLocal c) }
+{
+    let command = Command::new(alloc, "verify")
+        .about(ABOUT_VERIFY)
+        .after_help(AFTER_VERIFY);
     let command = with_solving_options(alloc, command, "65536", ABOUT_MEMO)?;
     with_arg(command, files_arg(alloc))
 }
@@ -138,7 +192,20 @@ fn look_command<'a>(alloc: Global) -> Result<Command<'a>, AllocError>
     let command = Command::new(alloc, "look")
         .about(ABOUT_LOOK)
         .after_help(AFTER_LOOK);
+    let board = flag_arg(alloc, "board", ABOUT_BOARD);
+    let flip = flag_arg(alloc, "flip", ABOUT_FLIP);
+    let command = with_args(command, board, flip)?;
     with_arg(command, wanted_arg(alloc, "FEN", ABOUT_FEN))
+}
+
+fn play_command<'a>(alloc: Global) -> Result<Command<'a>, AllocError>
+    ensures { IfOk result (λ c. (app_of c ≡ play_app) × IsLocal c) }
+{
+    let command = Command::new(alloc, "play")
+        .about(ABOUT_PLAY)
+        .after_help(AFTER_PLAY);
+    let fen = wanted_arg(alloc, "FEN", ABOUT_FEN);
+    with_args(command, fen, moves_arg(alloc))
 }
 
 fn moves_command<'a>(alloc: Global) -> Result<Command<'a>, AllocError>
@@ -147,6 +214,9 @@ fn moves_command<'a>(alloc: Global) -> Result<Command<'a>, AllocError>
     let command = Command::new(alloc, "moves")
         .about(ABOUT_MOVES)
         .after_help(AFTER_MOVES);
+    let coordinates = flag_arg(alloc, "coordinates", ABOUT_COORDINATES);
+    let fen = flag_arg(alloc, "fen", ABOUT_FENS);
+    let command = with_args(command, coordinates, fen)?;
     with_arg(command, wanted_arg(alloc, "FEN", ABOUT_FEN))
 }
 
@@ -156,8 +226,19 @@ fn perft_command<'a>(alloc: Global) -> Result<Command<'a>, AllocError>
     let command = Command::new(alloc, "perft")
         .about(ABOUT_PERFT)
         .after_help(AFTER_PERFT);
-    let command = with_arg(command, wanted_arg(alloc, "FEN", ABOUT_FEN))?;
+    let divide = flag_arg(alloc, "divide", ABOUT_DIVIDE);
+    let fen = wanted_arg(alloc, "FEN", ABOUT_FEN);
+    let command = with_args(command, divide, fen)?;
     with_arg(command, depth_arg(alloc))
+}
+
+fn explain_command<'a>(alloc: Global) -> Result<Command<'a>, AllocError>
+    ensures { IfOk result (λ c. (app_of c ≡ explain_app) × IsLocal c) }
+{
+    let command = Command::new(alloc, "explain")
+        .about(ABOUT_EXPLAIN)
+        .after_help(AFTER_EXPLAIN);
+    with_arg(command, code_arg(alloc))
 }
 
 /// The program with its own options and no command yet.
@@ -172,20 +253,35 @@ fn bare_command<'a>(alloc: Global) -> Command<'a>
         .disable_help_subcommand(true)
 }
 
-/// Adds the commands over one FEN.
+/// Adds the commands that show a position or its moves.
 fn with_fen_commands<'a>(alloc: Global, command: Command<'a>) -> Result<Command<'a>, AllocError>
     ensures { IfOk result (λ c. app_of c ≡ with_fen_apps (app_of command.entry)) }
 {
     let command = with_command(command, look_command(alloc)?)?;
-    let command = with_command(command, moves_command(alloc)?)?;
-    with_command(command, perft_command(alloc)?)
+    let command = with_command(command, play_command(alloc)?)?;
+    with_command(command, moves_command(alloc)?)
 }
 
-/// Adds the commands over files.
-fn with_file_commands<'a>(alloc: Global, command: Command<'a>) -> Result<Command<'a>, AllocError>
-    ensures { IfOk result (λ c. app_of c ≡ with_file_apps (app_of command.entry)) }
+/// Adds the command that counts lines, and the one that explains faults.
+fn with_other_commands<'a>(alloc: Global, command: Command<'a>) -> Result<Command<'a>, AllocError>
+    ensures { IfOk result (λ c. app_of c ≡ with_other_apps (app_of command.entry)) }
+{
+    let command = with_command(command, perft_command(alloc)?)?;
+    with_command(command, explain_command(alloc)?)
+}
+
+/// Adds the commands that answer the records of files one after the other.
+fn with_problem_commands<'a>(alloc: Global, command: Command<'a>) -> Result<Command<'a>, AllocError>
+    ensures { IfOk result (λ c. app_of c ≡ with_problem_apps (app_of command.entry)) }
 {
     let command = with_command(command, solve_command(alloc)?)?;
+    with_command(command, verify_command(alloc)?)
+}
+
+/// Adds those on threads, and at a desk.
+fn with_desk_commands<'a>(alloc: Global, command: Command<'a>) -> Result<Command<'a>, AllocError>
+    ensures { IfOk result (λ c. app_of c ≡ with_desk_apps (app_of command.entry)) }
+{
     let command = with_command(command, serve_command(alloc)?)?;
     with_command(command, replay_command(alloc)?)
 }
@@ -194,6 +290,8 @@ fn with_file_commands<'a>(alloc: Global, command: Command<'a>) -> Result<Command
 pub fn desk_command<'a>(alloc: Global) -> Result<Command<'a>, AllocError>
     ensures { IfOk result (λ c. app_of c ≡ desk_app) }
 {
-    let command = with_file_commands(alloc, bare_command(alloc))?;
-    with_fen_commands(alloc, command)
+    let command = with_problem_commands(alloc, bare_command(alloc))?;
+    let command = with_desk_commands(alloc, command)?;
+    let command = with_fen_commands(alloc, command)?;
+    with_other_commands(alloc, command)
 }

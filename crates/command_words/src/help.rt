@@ -9,7 +9,7 @@ pub const ABOUT: &str =
 
 /// What stands below the list of commands: what a record and a FEN are, an example of each command, and the statuses.
 pub const AFTER_HELP: &str =
-    "A FILE of `solve` or `serve` has a problem on each line, as a record in Extended Position
+    "A FILE of `solve`, `verify` or `serve` has a problem on each line, as a record in Extended Position
 Description: `matedesk solve --help` says what that is.
 
 FEN, the Forsyth-Edwards Notation of a position, is six fields with a space between
@@ -18,15 +18,18 @@ number), given as ONE argument in quotes.
 
 Examples:
   matedesk solve problems.epd
+  matedesk verify problems.epd
   matedesk serve --workers 4 problems.epd
   matedesk replay small.script
   matedesk look \"rnbqkbnr/pppppppp/8/8/8/8/PPPPPPPP/RNBQKBNR w KQkq - 0 1\"
+  matedesk play \"rnbqkbnr/pppppppp/8/8/8/8/PPPPPPPP/RNBQKBNR w KQkq - 0 1\" f3 e5 g4 Qh4
   matedesk moves \"8/8/8/K2pP2r/8/8/8/7k w - d6 0 1\"
   matedesk perft \"rnbqkbnr/pppppppp/8/8/8/8/PPPPPPPP/RNBQKBNR w KQkq - 0 1\" 3
+  matedesk explain BadKings
 
 Status:
   0  everything was answered
-  1  something that was given is refused
+  1  something that was given is refused: `matedesk explain CODE` says why
   2  the words ask for nothing, or `serve` is given more than 16 files
   3  no memory, or no thread
   4  a file can't be read, or the output can't be written
@@ -77,6 +80,56 @@ Status:
   3  no memory
   4  a FILE can't be read, or the output can't be written
 At 3 and 4 the first of the answers may have been written.";
+
+/// `verify` in one line.
+pub const ABOUT_VERIFY: &str =
+    "Holds the problems of files against their own claims: is each of them sound?";
+
+/// What stands below the arguments of `verify`: what a row says, the verdicts, an example, and the statuses.
+pub const AFTER_VERIFY: &str =
+    "Each line is a record, as `matedesk solve --help` says. Its claims are the moves that `bm`
+names, each in SAN, and the number of moves: that of `dm`, or else the first `#N` in `bm`,
+or else B. For each record there is a row of seven fields, parted by tabs, before the next
+line is waited for; a blank line is passed over:
+
+  LINE     its number in its file; with several files, NAME:LINE
+  VERDICT  what it is: see below
+  ASKED    `#N`, the number of moves that was asked
+  FOUND    `#N`, the number that the shortest mate takes, or `-`
+  KEYS     each first move that mates soonest, as `solve` lists them, or `-`
+  CLAIMED  the moves that `bm` names, or `-`
+  ID       what `id` says, or `-`
+
+The verdict is the first of these that applies:
+  CODE        the line is no record, or `bm` is at fault: it has a number that is not 1 to
+              15 (BadBound, BoundTooLarge), or names no legal move (NoSuchMove). The other
+              fields are `-`
+  unsolvable  there is no mate within the number asked
+  short       there is one in fewer moves; that a claimed move would mate in the number
+              asked is not told
+  wrong       a claimed move is no key
+  cooked      there is a key that isn't claimed; or, where no move is claimed, a second key
+  sound       else
+
+Moves to avoid (`am`) are left out at the first move, as `solve` does. At the end standard
+error says how many lines came to each verdict.
+
+Example:
+  $ cat problems.epd
+  7k/8/5K2/8/8/8/8/R7 w - - bm Kf7; dm 2; id \"one key of two\";
+  $ matedesk verify problems.epd
+  1\tcooked\t#2\t#2\tKf7 Kg6\tKf7\tone key of two
+  matedesk: sound 0, cooked 1, wrong 0, short 0, unsolvable 0, refused 0
+
+The FILE `-` is standard input; a file by that name is `./-`.
+
+Status:
+  0  each record is sound
+  1  a line is not
+  2  the words ask for nothing
+  3  no memory
+  4  a FILE can't be read, or the output can't be written
+At 3 and 4 the first of the rows may have been written.";
 
 /// `serve` in one line.
 pub const ABOUT_SERVE: &str =
@@ -194,9 +247,49 @@ Example:
   $ matedesk look \"rnb1kbnr/pppp1ppp/8/4p3/6Pq/5P2/PPPPP2P/RNBQKBNR w KQkq - 1 3\"
   rnb1kbnr/pppp1ppp/8/4p3/6Pq/5P2/PPPPP2P/RNBQKBNR w KQkq - 1 3
   check
+  $ matedesk look --board \"8/8/8/K2pP2r/8/8/8/7k w - d6 0 1\"
+  8/8/8/K2pP2r/8/8/8/7k w - d6 0 1
+  no check
+  8  . . . . . . . .
+  7  . . . . . . . .
+  6  . . . . . . . .
+  5  K . . p P . . r
+  4  . . . . . . . .
+  3  . . . . . . . .
+  2  . . . . . . . .
+  1  . . . . . . . k
+     a b c d e f g h
+  White to move
 
-A FEN that gives no sound position is refused: the error output names its first
-fault, and the status is 1.";
+Options stand before FEN. A FEN that gives no sound position is refused: the error
+output names its first fault, which `matedesk explain CODE` explains, and the status
+is 1.";
+
+/// The option `--board` in one line.
+pub const ABOUT_BOARD: &str = "Draws the board too, and says who is to move";
+
+/// The option `--flip` in one line.
+pub const ABOUT_FLIP: &str = "Draws it from Black's side; goes with --board";
+
+/// `play` in one line.
+pub const ABOUT_PLAY: &str = "Makes moves from a FEN, and shows the position reached";
+
+/// What stands below the arguments of `play`.
+pub const AFTER_PLAY: &str =
+    "The FEN of the position reached stands on the first line, and `mate`, `stalemate`, `check` or
+`no check` on the second. No move is needed: then that is the position given.
+
+Example:
+  $ matedesk play \"rnbqkbnr/pppppppp/8/8/8/8/PPPPPPPP/RNBQKBNR w KQkq - 0 1\" f3 e5 g4 Qh4
+  rnb1kbnr/pppp1ppp/8/4p3/6Pq/5P2/PPPPP2P/RNBQKBNR w KQkq - 1 3
+  mate
+
+A MOVE is written in SAN, with or without a `+` or `#` at its end (`Qh4`, `exd6`, `O-O`,
+`e8=Q`), or by its coordinates (`d8h4`, `e7e8q`). Where the K-th is no legal move of the
+position before it, the error output says `move K: NoSuchMove`, and the status is 1.";
+
+/// The argument MOVE in one line.
+pub const ABOUT_MOVE: &str = "Moves, one after the other, in SAN or by their coordinates";
 
 /// `moves` in one line.
 pub const ABOUT_MOVES: &str = "Lists the legal moves of a FEN, or says `mate` or `stalemate`";
@@ -214,19 +307,66 @@ Example:
   Ka6
   Kb6
   e6
+  $ matedesk moves --fen \"7k/8/5K2/8/8/8/8/6R1 b - - 0 1\"
+  Kh7\t8/7k/5K2/8/8/8/8/6R1 w - - 1 2
 
-The pawn on d5 can't be taken en passant: two pawns would leave the rank of the king.";
+The pawn on d5 can't be taken en passant: two pawns would leave the rank of the king.
+
+With --coordinates a move stands there as `g2h1`, with a small letter for what a pawn
+becomes. With --fen each line has SAN, a tab and the FEN after the move, and with both
+SAN, coordinates and FEN. Options stand before FEN.";
+
+/// The option `--coordinates` in one line.
+pub const ABOUT_COORDINATES: &str = "Writes moves by their coordinates, as `g2h1`";
+
+/// The option `--fen` of `moves` in one line.
+pub const ABOUT_FENS: &str = "Writes the FEN after each move behind it";
 
 /// `perft` in one line.
 pub const ABOUT_PERFT: &str = "Counts the lines of DEPTH legal moves from a FEN";
 
 /// What stands below the arguments of `perft`.
 pub const AFTER_PERFT: &str =
-    "The count is the one by which chess programs compare their move generators.
+    "The count is the one by which chess programs compare their move generators. With --divide
+the count behind each first move stands before it, so that two programs can be compared
+move by move.
 
 Example:
   $ matedesk perft \"rnbqkbnr/pppppppp/8/8/8/8/PPPPPPPP/RNBQKBNR w KQkq - 0 1\" 3
-  8902";
+  8902
+  $ matedesk perft --divide \"7k/8/5K2/8/8/8/8/7R b - - 0 1\" 2
+  h8g8: 20
+  20";
+
+/// The option `--divide` in one line.
+pub const ABOUT_DIVIDE: &str = "Writes the count behind each first move too";
+
+/// `explain` in one line.
+pub const ABOUT_EXPLAIN: &str = "Says what the code of a fault means, or lists all codes";
+
+/// What stands below the arguments of `explain`.
+pub const AFTER_EXPLAIN: &str =
+    "CODE is a word by which something is refused: a FEN or a move (`matedesk: CODE`), a line of
+records (`# line K: CODE`), a step of a script (`refused CODE`), a desk or a room. Told
+are what it means, where it comes, an example that has it, and the same mended.
+
+Example:
+  $ matedesk explain OpponentInCheck
+  OpponentInCheck: the king of the side not to move is attacked.
+  That king could be taken, which the Laws of Chess don't allow. Mostly the wrong side is to
+  move: see the second field.
+
+  Example:
+  4k3/8/8/8/8/8/8/4RK2 w - - 0 1
+
+  Mended:
+  4k3/8/8/8/8/8/8/4RK2 b - - 0 1
+
+Without CODE all are listed, with a sentence for each. Where there is no such code the
+error output says NoSuchFault, and the status is 1.";
+
+/// The argument CODE in one line.
+pub const ABOUT_CODE: &str = "The code of a fault, as `BadKings`";
 
 /// The argument DEPTH in one line.
 pub const ABOUT_DEPTH: &str = "How many moves a line has, 0 to 6";

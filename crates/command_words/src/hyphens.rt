@@ -3,17 +3,30 @@
 //! `clap` would take such a word for an option. Its setting that allows hyphens in a value would put the whole command
 //! line beyond what its contracts say, so the words get `--`, which ends the options, before the FEN.
 
-ghost use Rattle.std.specs.Prelude.{◌≡◌, IfOk, map};
+ghost use Rattle.std.specs.Prelude.{◌≡◌, ◌≤◌, ◌+◌, IfOk, IfSome, length, map};
 ghost use Rattle.std.specs.String.{string_bytes};
-ghost use Rattle.command_words.specs.Hyphens.{escaped, is_hyphened, takes_fen, wants_escape};
+ghost use Rattle.command_words.specs.Hyphens.{escape_at, escaped, hyphened_at, is_hyphened, is_option_of, takes_fen};
 
 use std::alloc::{AllocError, Global};
 
-/// Whether the first word of the command is a FEN.
+/// Whether the first word of the command, options aside, is a FEN.
 fn takes_fen(name: &str) -> bool
     ensures { result ≡ takes_fen name.now }
 {
-    name == "look" || name == "moves" || name == "perft"
+    name == "look" || name == "play" || name == "moves" || name == "perft"
+}
+
+/// Whether the word is an option of the command, which may stand before its FEN.
+fn is_option_of(name: &str, word: &str) -> bool
+    ensures { result ≡ is_option_of name.now word.now }
+{
+    if name == "look" {
+        word == "--board" || word == "--flip"
+    } else if name == "moves" {
+        word == "--coordinates" || word == "--fen"
+    } else {
+        name == "perft" && word == "--divide"
+    }
 }
 
 /// Whether `clap` would take the word for an option, but for those of help and of the end of the options.
@@ -27,12 +40,31 @@ fn is_hyphened(word: &str) -> bool
     starts && !(word == "--" || word == "-h" || word == "--help")
 }
 
-fn wants_escape(words: &[&str]) -> bool
-    ensures { result ≡ wants_escape (map (λ s. s.now) words.now) }
+/// How many words stand before a FEN that begins with a hyphen, where these stand behind the first two.
+fn hyphened_at(name: &str, words: &[&str]) -> Option<usize>
+    ensures at { result ≡ hyphened_at name.now 2 (map (λ s. s.now) words.now) }
+    ensures inside { IfSome result (λ at. at ≤ 2 + length words.now) }
+{
+    let mut at = 2;
+    let mut rest = words;
+    while let [word, more @ ..] = rest {
+        if !is_option_of(name, word) {
+            return if is_hyphened(word) { Some(at) } else { None };
+        }
+        at += 1;
+        rest = more;
+    }
+    None
+}
+
+/// How many words stand before a FEN that begins with a hyphen.
+fn escape_at(words: &[&str]) -> Option<usize>
+    ensures at { result ≡ escape_at (map (λ s. s.now) words.now) }
+    ensures inside { IfSome result (λ at. at ≤ length words.now) }
 {
     match words {
-        [_, name, fen, ..] => takes_fen(name) && is_hyphened(fen),
-        _ => false,
+        [_, name, rest @ ..] if takes_fen(name) => hyphened_at(name, rest),
+        _ => None,
     }
 }
 
@@ -52,9 +84,9 @@ pub fn escaped<'a>(alloc: Global, words: &'a [String]) -> Result<Vec<&'a str>, A
     ensures { IfOk result (λ v. map (λ s. s.now) v.items ≡ escaped (map string_bytes words.entry.now)) }
 {
     let mut texts = texts_of(alloc, words)?;
-    if !wants_escape(texts.as_slice()) {
+    let Some(at) = escape_at(texts.as_slice()) else {
         return Ok(texts);
-    }
-    texts.insert(2, "--")?;
+    };
+    texts.insert(at, "--")?;
     Ok(texts)
 }

@@ -1,35 +1,59 @@
 //! From the words of a command line to a request.
 
-ghost use Rattle.std.specs.Prelude.{◌≡◌, ◌≢◌, None, IfOk, IfErr, map, option_map, false, true};
+ghost use Rattle.std.specs.Prelude.{◌≡◌, ◌≢◌, None, codes, IfOk, IfErr, map, option_map, false, true};
 ghost use Rattle.std.specs.Option.{option_map_or};
 ghost use Rattle.clap.specs.Walk.{byte_or_zero};
 ghost use Rattle.clap.specs.Words.{all_of, first_of, found_of, kind_of, one_of, rows_of};
-ghost use Rattle.command_words.specs.Asked.{asked_by, asked_exactly, bound_in, depth_in, memo_size_in, number_or_zero, workers_in, serve_in, solve_in, asked_of, asks_display_exactly, is_display, may_display_exactly};
+ghost use Rattle.command_words.specs.Asked.{asked_by, asked_exactly, bound_in, depth_in, form_in, is_given, look_in, memo_size_in, moves_in, number_or_zero, perft_in, play_in, side_in, workers_in, serve_in, solve_in, verify_in, asked_of, asks_display_exactly, is_display, may_display_exactly};
 ghost use Rattle.command_words.specs.Request.{plan_of};
 
 use crate::command_line::desk_command;
 use crate::limits::{Depth, MemoSize, Workers};
+use chess_board::Colour;
 use chess_problems::Bound;
 use clap::error::ErrorKind;
 use clap::{ArgMatches, Error};
 use std::alloc::Global;
+
+/// How the moves are written that `moves` lists, each on a line of its own.
+#[derive(Clone, Copy, Debug, PartialEq, Eq)]
+pub enum MoveForm {
+    /// In SAN.
+    San,
+    /// By its coordinates.
+    Coordinates,
+    /// In SAN, with the FEN after it.
+    SanFen,
+    /// In SAN and by its coordinates, with the FEN after it.
+    SanCoordinatesFen,
+}
 
 /// A command with its arguments.
 #[derive(Clone, Copy)]
 pub enum Request<'m, 'a> {
     /// Show a FEN in canonical form, and whether the side to move is in check.
     Look(&'a str),
-    /// List the legal moves of a FEN, or say how the game has ended.
-    Moves(&'a str),
+    /// The same, with the board as it is seen from a side.
+    Board(&'a str, Colour),
+    /// Make moves one after the other from a FEN, where any are given, and show the position reached.
+    Play(&'a str, Option<&'m [&'a str]>),
+    /// List the legal moves of a FEN in such a form, or say how the game has ended.
+    Moves(MoveForm, &'a str),
     /// Count the lines of so many legal moves from a FEN.
     Perft(&'a str, Depth),
+    /// The same, for each first move too.
+    Divide(&'a str, Depth),
     /// Answer the records of files, in order, over a memo of such a size; the bound is for records that say none.
     Solve(Bound, MemoSize, &'m [&'a str]),
+    /// Hold the records of files, in order, against their own claims, over a memo of such a size; the bound is for records that say none.
+    Verify(Bound, MemoSize, &'m [&'a str]),
     /// Answer the records of files by so many workers, each over a memo of such a size, all files at once; the bound is for records
     /// that say none.
     Serve(Workers, Bound, MemoSize, &'m [&'a str]),
     /// Run the script of a file at a desk.
     Replay(&'a str),
+    /// Explain the fault of such a code, or list them all.
+    Explain(Option<&'a str>),
 }
 
 /// The value of a positional.
@@ -67,7 +91,7 @@ fn depth_in(matches: &ArgMatches) -> Option<Depth>
     Depth::new(number_in(matches, "DEPTH"))
 }
 
-/// The bound of `solve` and of `serve`. `clap` has kept it to its range.
+/// The bound of `solve`, `verify` and `serve`. `clap` has kept it to its range.
 fn bound_in(matches: &ArgMatches) -> Option<Bound>
     ensures { result ≡ bound_in (rows_of (found_of matches.now)) }
 {
@@ -81,11 +105,89 @@ fn workers_in(matches: &ArgMatches) -> Option<Workers>
     Workers::new(number_in(matches, "N"))
 }
 
-/// The size of the memo of `solve`, or of each worker of `serve`. `clap` has kept it to its range.
+/// The size of the memo of `solve` or `verify`, or of each worker of `serve`. `clap` has kept it to its range.
 fn memo_size_in(matches: &ArgMatches) -> Option<MemoSize>
     ensures { result ≡ memo_size_in (rows_of (found_of matches.now)) }
 {
     MemoSize::new(large_number_in(matches, "M"))
+}
+
+/// Whether an option without a value is given. `clap` has the value `true` for it then, and else `false`.
+fn is_given(matches: &ArgMatches, id: &str) -> bool
+    ensures { result ≡ is_given id.now (rows_of (found_of matches.now)) }
+{
+    match text_in(matches, id) {
+        Some(value) => value == "true",
+        None => false,
+    }
+}
+
+/// From which side the board is seen.
+fn side_in(matches: &ArgMatches) -> Colour
+    ensures { result ≡ side_in (rows_of (found_of matches.now)) }
+{
+    if is_given(matches, "flip") {
+        Colour::Black
+    } else {
+        Colour::White
+    }
+}
+
+/// What the arguments of `look` ask for; nothing where a board is to be turned that isn't asked for.
+fn look_in<'m, 'a>(matches: &'m ArgMatches<'a>) -> Option<Request<'m, 'a>>
+    ensures { option_map plan_of result ≡ look_in (rows_of (found_of matches.now)) }
+{
+    let fen = text_in(matches, "FEN")?;
+    if is_given(matches, "board") {
+        Some(Request::Board(fen, side_in(matches)))
+    } else if is_given(matches, "flip") {
+        None
+    } else {
+        Some(Request::Look(fen))
+    }
+}
+
+/// What the arguments of `play` ask for.
+fn play_in<'m, 'a>(matches: &'m ArgMatches<'a>) -> Option<Request<'m, 'a>>
+    ensures { option_map plan_of result ≡ play_in (rows_of (found_of matches.now)) }
+{
+    let fen = text_in(matches, "FEN")?;
+    Some(Request::Play(fen, names_in(matches, "MOVE")))
+}
+
+/// How the moves are written that `moves` lists.
+fn form_in(matches: &ArgMatches) -> MoveForm
+    ensures { result ≡ form_in (rows_of (found_of matches.now)) }
+{
+    let has_coordinates = is_given(matches, "coordinates");
+    let has_fen = is_given(matches, "fen");
+    match (has_coordinates, has_fen) {
+        (false, false) => MoveForm::San,
+        (true, false) => MoveForm::Coordinates,
+        (false, true) => MoveForm::SanFen,
+        (true, true) => MoveForm::SanCoordinatesFen,
+    }
+}
+
+/// What the arguments of `moves` ask for.
+fn moves_in<'m, 'a>(matches: &'m ArgMatches<'a>) -> Option<Request<'m, 'a>>
+    ensures { option_map plan_of result ≡ moves_in (rows_of (found_of matches.now)) }
+{
+    let fen = text_in(matches, "FEN")?;
+    Some(Request::Moves(form_in(matches), fen))
+}
+
+/// What the arguments of `perft` ask for.
+fn perft_in<'m, 'a>(matches: &'m ArgMatches<'a>) -> Option<Request<'m, 'a>>
+    ensures { option_map plan_of result ≡ perft_in (rows_of (found_of matches.now)) }
+{
+    let depth = depth_in(matches)?;
+    let fen = text_in(matches, "FEN")?;
+    if is_given(matches, "divide") {
+        Some(Request::Divide(fen, depth))
+    } else {
+        Some(Request::Perft(fen, depth))
+    }
 }
 
 /// What the arguments of `solve` ask for.
@@ -95,6 +197,15 @@ fn solve_in<'m, 'a>(matches: &'m ArgMatches<'a>) -> Option<Request<'m, 'a>>
     let bound = bound_in(matches)?;
     let memo = memo_size_in(matches)?;
     names_in(matches, "FILE").map(|names| Request::Solve(bound, memo, names))
+}
+
+/// What the arguments of `verify` ask for.
+fn verify_in<'m, 'a>(matches: &'m ArgMatches<'a>) -> Option<Request<'m, 'a>>
+    ensures { option_map plan_of result ≡ verify_in (rows_of (found_of matches.now)) }
+{
+    let bound = bound_in(matches)?;
+    let memo = memo_size_in(matches)?;
+    names_in(matches, "FILE").map(|names| Request::Verify(bound, memo, names))
 }
 
 /// What the arguments of `serve` ask for.
@@ -113,18 +224,23 @@ fn request_by<'m, 'a>(name: &str, matches: &'m ArgMatches<'a>) -> Option<Request
     ensures { option_map plan_of result ≡ asked_by name.now (rows_of (found_of matches.now)) }
 {
     if name == "look" {
-        text_in(matches, "FEN").map(Request::Look)
+        look_in(matches)
+    } else if name == "play" {
+        play_in(matches)
     } else if name == "moves" {
-        text_in(matches, "FEN").map(Request::Moves)
+        moves_in(matches)
     } else if name == "perft" {
-        let depth = depth_in(matches)?;
-        text_in(matches, "FEN").map(|fen| Request::Perft(fen, depth))
+        perft_in(matches)
     } else if name == "solve" {
         solve_in(matches)
+    } else if name == "verify" {
+        verify_in(matches)
     } else if name == "serve" {
         serve_in(matches)
     } else if name == "replay" {
         text_in(matches, "SCRIPT").map(Request::Replay)
+    } else if name == "explain" {
+        Some(Request::Explain(text_in(matches, "CODE")))
     } else {
         None
     }

@@ -6,7 +6,10 @@ use Rattle.chess_notation.specs.Words.{is_blank}
 use Rattle.chess_notation.specs.EpdFaults.{IsFaultOf}
 use Rattle.chess_notation.specs.declared.epd_faults.EpdFault.{EpdFault}
 use Rattle.chess_notation.specs.declared.epd_faults.EpdFault.TheVariants.{NoMemory}
-use Rattle.mate_answers.specs.InputReplies.{answer_line, fault_line, without_cr, lines_of, IsLineReply, IsReply, RepliesGoOn, answered as is_answered, refused as is_refused}
+use Rattle.text_lines.specs.Lines.{without_cr, lines_of}
+use Rattle.text_lines.specs.Refusals.{fault_line}
+use Rattle.text_lines.specs.Replies.{IsReply as IsReplyBy}
+use Rattle.mate_answers.specs.InputReplies.{answer_line, IsLineReply, IsReply, RepliesGoOn, answered as is_answered, refused as is_refused}
 use Rattle.room_ends.specs.Letters.{records}
 use Rattle.desk_room.specs.Deliveries.{asked}
 use Rattle.room_ends.specs.Windows.{letters_sent, collected, default_of, SameWindow}
@@ -91,7 +94,7 @@ handled_refusal_behind go_on c texts front replies after lines line here old_is 
 -- All lines are handled, nothing is awaited, and the window said farewell.
 pub reported : (w : Window) (c : Submitter) (v : Window) (input : List ℕ) → SameWindow w c.window → SameWindow c.window v → records (letters_sent v) ≡ records (letters_sent c.window)
     → collected v ≡ collected c.window → c.pending_replies.items ≡ [] → HasHandled (lines_of input) c → Reports w input (record { window = v; reply = Some (record { text = c.text; refused = c.refused }) })
-unfolding IsReply
+unfolding IsReplyBy
 reported w c v input before after sent got none handled =
     let items : List (Vec ℕ Global) → List (List ℕ) = map (λ t. t.items) in
     let whole : Progress (default_of c.window) (lines_of input) (records (letters_sent v)) (map asked (collected v)) c.text.items [] c.refused =

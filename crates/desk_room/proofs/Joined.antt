@@ -6,7 +6,7 @@ use Rattle.desk_room.specs.inside.Submitters.{Reports}
 use Rattle.desk_room.specs.inside.Threads.{AllFresh, AllOf, AllReport, AllSettled, IsFreshWindow, IsSettled}
 use Rattle.desk_room.specs.Serving.{AreReplies}
 use Rattle.mate_answers.specs.InputReplies.{IsReply}
-use Rattle.mate_answers.specs.declared.input_replies.Output.{Output}
+use Rattle.text_lines.specs.declared.replies.Output.{Output}
 use Rattle.room_ends.specs.declared.windows.Window.{Window}
 use Rattle.room_ends.specs.declared.window_ring_line.Line.{Line}
 use Rattle.desk_room.specs.declared.keepers.Keeper.{Keeper}

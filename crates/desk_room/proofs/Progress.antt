@@ -1,7 +1,8 @@
 -- What a submitter has handled, one step more.
 use Rattle.std.proofs.Common.{◌≡◌, ℕ, ◌+◌, ◌≤◌, List, [], ◌∷◌, ◌++◌, length, refl, ap, sym, ◌∙◌, subst, arith, append_assoc, append-nil, length-append}
 use Rattle.chess_notation.specs.Records.{RecordValue}
-use Rattle.mate_answers.specs.InputReplies.{answer_line, without_cr, IsLineReply, IsReplyFrom, RepliesGoOn}
+use Rattle.text_lines.specs.Lines.{without_cr}
+use Rattle.mate_answers.specs.InputReplies.{answer_line, IsLineReply, IsReplyFrom, RepliesGoOn}
 use Rattle.desk_room.specs.inside.Submitters.{woven, Progress}
 
 woven_snoc : (rs : List RecordValue) (ts : List (List ℕ)) (r : RecordValue) → length ts ≡ length rs → woven (rs ++ r ∷ []) (ts ++ [] ∷ []) ≡ woven rs ts ++ answer_line r

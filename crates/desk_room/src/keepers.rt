@@ -55,7 +55,7 @@ impl Keeper {
     ghost use Rattle.mate_desk.specs.Calls.{after_close, is_drained as is_drained_content};
     ghost use Rattle.room_ends.specs.DequeRule.{stops};
     ghost use Rattle.desk_room.specs.Kept.{AreOwed, AreMarked};
-    ghost use Rattle.desk_room.specs.Keepers.{lists, known, backs_known, benches_of, order_places, is_home, windows_gone, Stays, SameRoom};
+    ghost use Rattle.desk_room.specs.Keepers.{lists, known, backs_known, benches_of, order_places, free, is_home, windows_gone, Stays, SameRoom};
     ghost use Rattle.room_ends.specs.declared.deque_rule.Order.TheVariants.{Stop};
 
     /// What was taken of each window is what was delivered to it and then what it has pending, and withdrawals are marked so. It
@@ -84,6 +84,7 @@ impl Keeper {
         ensures heard { (lists self.new).heard ≡ (lists self.old).heard }
         ensures orders { (lists self.new).orders ≡ (lists self.old).orders }
         ensures known { known self.new ≡ known self.old }
+        ensures free { free self.new ≡ free self.old }
         ensures backs_known { backs_known self.new ≡ backs_known self.old }
         ensures home { is_home self.new ≡ is_home self.old }
         ensures stays { Stays self.old self.new }
@@ -109,6 +110,7 @@ impl Keeper {
         ensures put { (lists self.new).put ≡ (lists self.old).put }
         ensures heard { (lists self.new).heard ≡ (lists self.old).heard }
         ensures known { known self.new ≡ known self.old }
+        ensures free { free self.new ≡ free self.old }
         ensures backs_known { backs_known self.new ≡ backs_known self.old }
         ensures home { is_home self.new ≡ true }
         ensures stays { Stays self.old self.new }

@@ -1,6 +1,6 @@
 //! Inputs served by threads.
 //!
-//! To read: `solve_gates`; `stop_signal` and `backoff`, how the threads end and wait; `submitters`, one at each window; what each thread does,
+//! To read: `solve_gates`; `signals`, `park_words` and `backoff`, how the threads end, wait and are woken; `submitters`, one at each window; what each thread does,
 //! `window_thread`, `bench_thread` and `keeper_thread`; and `thread_groups`.
 
 ghost use Rattle.std.specs.Prelude.{◌≡◌, ◌≢◌, ◌↔◌, ◌⊎◌, ◌<◌, ◌≤◌, length, map, vec_len, IfOk, IfSome, Err};
@@ -13,8 +13,9 @@ ghost use Rattle.desk_room.specs.declared.rooms.RoomFault.TheVariants as fault;
 mod backoff;
 mod bench_thread;
 mod keeper_thread;
+mod park_words;
+mod signals;
 mod solve_gates;
-mod stop_signal;
 mod submitters;
 mod thread_groups;
 mod window_thread;
@@ -22,7 +23,7 @@ mod window_thread;
 use crate::keepers::Keeper;
 use crate::rooms::{Room, RoomFault, open_room};
 use crate::serving::keeper_thread::run_keeper;
-use crate::serving::stop_signal::{StopReason, StopSignal};
+use crate::serving::signals::{Signals, StopReason};
 use crate::serving::thread_groups::{BenchesDone, run_benches, run_windows};
 use crate::serving::window_thread::Report;
 use chess_moves::Rays;
@@ -40,7 +41,7 @@ use std::thread::{Promise, Threads};
 const ENTRIES: usize = 16_384;
 
 /// How many places each ring has.
-const RING: usize = 8;
+const RING: usize = 32;
 
 /// What the keeper's thread brings back: the keeper of the same room.
 #[derive(Drop)]
@@ -60,7 +61,7 @@ fn run_ends<R: Threads + Wait + Sync, G: Gate>(
     benches: Vec<Bench>,
     entries: usize,
     gate: &G,
-    stop: &StopSignal,
+    signals: &Signals,
 ) -> Result<Vec<Report>, AllocError>
     requires as_many { vec_len windows ≡ length inputs.now }
     requires fresh { AllFresh windows.items }
@@ -75,17 +76,17 @@ fn run_ends<R: Threads + Wait + Sync, G: Gate>(
         {
             let working = move ||
                 requires { IsSync R.row × IsSync G.row }
-            { run_benches(rt, alloc, rays, benches, entries, gate, stop) };
+            { run_benches(rt, alloc, rays, benches, entries, gate, signals) };
             match scope.spawn_with(BenchesDone, working) {
                 Ok(child) => {
-                    let reports = run_windows(rt, alloc, rays, windows, inputs, stop);
+                    let reports = run_windows(rt, alloc, rays, windows, inputs, signals);
                     child.join(rt);
                     reports
                 }
                 Err(refused) => {
-                    stop.send(StopReason::NoThread);
+                    signals.stop(StopReason::NoThread);
                     (refused.value)();
-                    run_windows(rt, alloc, rays, windows, inputs, stop)
+                    run_windows(rt, alloc, rays, windows, inputs, signals)
                 }
             }
         },
@@ -101,7 +102,7 @@ fn run<R: Threads + Wait + Sync, G: Gate>(
     inputs: &[Vec<u8>],
     entries: usize,
     gate: &G,
-    stop: &StopSignal,
+    signals: &Signals,
 ) -> (Keeper, Result<Vec<Report>, AllocError>)
     requires as_many { vec_len room.windows ≡ length inputs.now }
     requires fresh { AllFresh room.windows.items }
@@ -124,21 +125,21 @@ fn run<R: Threads + Wait + Sync, G: Gate>(
             let promise = KeeperOf(Snapshot::of(&keeper));
             let keeping = move || -> Keeper
                 ensures { SameRoom keeper result }
-            { run_keeper(rt, keeper, most, stop) };
+            { run_keeper(rt, keeper, most, signals) };
             match scope.spawn_with(promise, keeping) {
                 Ok(child) => {
                     let reports = run_ends(
-                        rt, alloc, rays, windows, inputs, benches, entries, gate, stop,
+                        rt, alloc, rays, windows, inputs, benches, entries, gate, signals,
                     );
                     if reports.is_err() {
-                        stop.send(StopReason::NoMemory);
+                        signals.stop(StopReason::NoMemory);
                     }
                     (child.join(rt), reports)
                 }
                 Err(refused) => {
-                    stop.send(StopReason::NoThread);
+                    signals.stop(StopReason::NoThread);
                     let reports = run_ends(
-                        rt, alloc, rays, windows, inputs, benches, entries, gate, stop,
+                        rt, alloc, rays, windows, inputs, benches, entries, gate, signals,
                     );
                     ((refused.value)(), reports)
                 }
@@ -203,14 +204,14 @@ pub fn serve_with_memo<R: Threads + Wait + Sync, G: Gate>(
     ensures good_ring { result ≢ Err fault.BadRing }
 {
     let room = open_room(alloc, inputs.len(), benches, RING, default)?;
-    let stop = StopSignal::new();
-    let (mut keeper, reports) = run(rt, alloc, rays, room, inputs, entries, gate, &stop);
+    let signals = Signals::new();
+    let (mut keeper, reports) = run(rt, alloc, rays, room, inputs, entries, gate, &signals);
     let Ok(reports) = reports else {
         return Err(RoomFault::NoMemory);
     };
     match settle_all(alloc, &mut keeper, reports) {
         Ok(Some(outputs)) => Ok(outputs),
-        Ok(None) => match stop.reason() {
+        Ok(None) => match signals.reason() {
             Some(StopReason::NoThread) => Err(RoomFault::NoThread),
             _ => Err(RoomFault::NoMemory),
         },

@@ -1,3 +1,1 @@
-pub mod InputLines
-pub mod InputReplies
-pub mod KeptLines
+pub mod LineReplies

@@ -1,2 +1,1 @@
 pub mod InputReplies
-pub mod inside

@@ -11,27 +11,30 @@ use Rattle.desk_room.specs.Serving.{AreReplies}
 use Rattle.desk_room.specs.declared.rooms.RoomFault.{RoomFault}
 use Rattle.desk_room.specs.declared.rooms.RoomFault.TheVariants as fault
 use Rattle.byte_streams.specs.Stops.{AppendsPart, is_of_output}
-use Rattle.mate_answers.specs.declared.input_replies.Output.{Output}
+use Rattle.text_lines.specs.declared.replies.Output.{Output}
 use Rattle.byte_streams.specs.declared.stops.Stop.{Stop}
 use Rattle.byte_streams.specs.declared.stops.Stop.TheVariants as stop
 use Rattle.command_words.specs.Asked.{serve}
 use Rattle.plain_commands.specs.Sources.{Holds}
 use Rattle.plain_commands.specs.Status.{status_of}
 use Rattle.plain_commands.specs.Writing.{Gains}
-use Rattle.plain_commands.specs.Solved.{IsReplies}
+use Rattle.plain_commands.specs.FileAnswers.{AreReplies as AreFileReplies}
+use Rattle.plain_commands.specs.Solved.{record_replies}
 use Rattle.plain_commands.specs.Command.{Ends, EndsByStatus, StopsServing}
 use Rattle.plain_commands.specs.Served.{HaveNoWindows, HaveWindows, Serves}
 use Rattle.matedesk.specs.Serving.{unserved_status}
 
 -- ---- what is shown
 
-replies_of : (bound : ℕ) (inputs : List (List ℕ)) (outputs : List Output) → AreReplies bound inputs outputs
-    → IsReplies bound inputs (flat_map (λ o. o.text.items) outputs) (sum_by (λ o. o.refused) outputs)
-replies_of bound [] [] are = (refl, refl)
-replies_of bound [] (o ∷ os) are = absurd are
-replies_of bound (input ∷ inputs) [] are = absurd are
-replies_of bound (input ∷ inputs) (o ∷ os) are =
-    (o.text.items, o.refused, flat_map (λ o. o.text.items) os, sum_by (λ o. o.refused) os, are.0, replies_of bound inputs os are.1, refl, sum_by-append (λ o. o.refused) (o ∷ []) os ∙ ap (λ n. n + sum_by (λ o. o.refused) os) (omega arith))
+replies_of : (bound : ℕ) (names inputs : List (List ℕ)) (outputs : List Output) → length inputs ≡ length names → AreReplies bound inputs outputs
+    → AreFileReplies (record_replies bound) names inputs (flat_map (λ o. o.text.items) outputs) (sum_by (λ o. o.refused) outputs)
+replies_of bound [] [] [] same are = (refl, refl)
+replies_of bound [] (input ∷ inputs) outputs same are = absurd (omega (arith, same))
+replies_of bound (name ∷ names) [] outputs same are = absurd (omega (arith, same))
+replies_of bound [] [] (o ∷ os) same are = absurd are
+replies_of bound (name ∷ names) (input ∷ inputs) [] same are = absurd are
+replies_of bound (name ∷ names) (input ∷ inputs) (o ∷ os) same are =
+    (o.text.items, o.refused, flat_map (λ o. o.text.items) os, sum_by (λ o. o.refused) os, are.0, replies_of bound names inputs os (omega (arith, same)) are.1, refl, sum_by-append (λ o. o.refused) (o ∷ []) os ∙ ap (λ n. n + sum_by (λ o. o.refused) os) (omega arith))
 
 have_windows : (names : List Text) (inputs : List (List ℕ)) → length inputs ≡ length names → ¬ ((length inputs ≡ 0) ⊎ (16 < length inputs)) → HaveWindows names
 have_windows names inputs same many =
@@ -44,7 +47,7 @@ serves : (holds : Text → Option (List ℕ)) (bound : ℕ) (names : List Text) 
     → Serves holds bound names refused (flat_map (λ o. o.text.items) outputs)
 serves holds bound names inputs outputs refused held same many are refusal = record {
   windows = have_windows names inputs same many;
-  solves = record { inputs = inputs; refusals = sum_by (λ o. o.refused) outputs; given = held; replies = replies_of bound inputs outputs are; refusal = refusal };
+  solves = record { inputs = inputs; refusals = sum_by (λ o. o.refused) outputs; given = held; are_replies = replies_of bound names inputs outputs same are; refusal = refusal };
 }
 
 gains_served : (holds : Text → Option (List ℕ)) (bound : ℕ) (names : List Text) (inputs : List (List ℕ)) (outputs : List Output) (r : Result Bool Stop) (old new : Option (List ℕ))

@@ -17,14 +17,18 @@ use Rattle.chess_notation.specs.declared.epd_faults.EpdFault.{EpdFault}
 use Rattle.chess_notation.specs.declared.epd_faults.EpdFault.TheVariants as fault
 use Rattle.clap.specs.Words.{Text}
 use Rattle.byte_streams.specs.Inputs.{MayBe}
-use Rattle.plain_commands.specs.Solved.{IsReplies, Solves}
+use Rattle.plain_commands.specs.FileAnswers.{AreReplies}
+use Rattle.plain_commands.specs.Solved.{Solves, record_replies}
 use Rattle.plain_commands.specs.Sources.{Holds}
-use Rattle.mate_answers.specs.InputReplies.{IsLineReply, IsReply, answered, fault_line, refused, skipped}
+use Rattle.text_lines.specs.Refusals.{fault_line}
+use Rattle.text_lines.specs.Replies.{IsReply as IsReplyBy}
+use Rattle.mate_answers.specs.InputReplies.{IsLineReply, IsReply, answered, refused, skipped}
 use Rattle.chess_board.specs.Positions.{Setup}
 use Rattle.command_words.specs.Asked.{asked, asked_by, asked_exactly, look, serve, solve}
 use Rattle.plain_commands.specs.Command.{Ends}
 use Rattle.command_words.specs.Hyphens.{escaped}
-use Rattle.plain_commands.specs.FenCommands.{look_text, ShowsFen}
+use Rattle.chess_views.specs.Looks.{look_text}
+use Rattle.plain_commands.specs.FenCommands.{ShowsFen}
 
 pub asked_look : asked (codes "matedesk" ∷ codes "look" ∷ codes "k7/8/8/8/8/8/8/7K w - - 0 1" ∷ []) ≡ Some (look (codes "k7/8/8/8/8/8/8/7K w - - 0 1"))
 unfolding clap_on_literals asked_by asked_exactly escaped
@@ -116,21 +120,21 @@ blank_reply number line text count blank (answered r words reads) = let no : tru
 -- ---- two files
 
 one_reply : RecordsClear → (text : List ℕ) (count : ℕ) → IsReply 3 (codes "8/8\n") text count → text ≡ codes "# line 1: Fen FieldCount\n"
-unfolding IsReply short
+unfolding IsReplyBy short
 one_reply clear text count (first, few, more, others, reply, (second, none, last, left, blank, (nil, zero_is), is_more, all_more), is, all) =
     let line = short_reply clear 1 first few reply in
     let rest : more ≡ [] = is_more ∙ ap (λ t. t ++ last) (blank_reply 2 [] second none refl blank).0 ∙ nil in
     is ∙ rw (line.0, rest, decimal_digit 1 (omega arith)) refl
 
 two_reply : RecordsClear → (text : List ℕ) (count : ℕ) → IsReply 3 (codes " \n8/8") text count → text ≡ codes "# line 2: Fen FieldCount\n"
-unfolding IsReply short
+unfolding IsReplyBy short
 two_reply clear text count (first, few, more, others, blank, (second, one, last, left, reply, (nil, zero_is), is_more, all_more), is, all) =
     let line = short_reply clear 2 second one reply in
     let none = (blank_reply 1 (codes " ") first few refl blank).0 in
     is ∙ rw (none, is_more, line.0, nil, decimal_digit 2 (omega arith)) refl
 
 both_shown : RecordsClear → (holds : Text → Option (List ℕ)) → holds (codes "one") ≡ Some (codes "8/8\n") → holds (codes "two") ≡ Some (codes " \n8/8")
-    → (inputs : List (List ℕ)) (text : List ℕ) (refusals : ℕ) → Holds holds (codes "one" ∷ codes "two" ∷ []) inputs → IsReplies 3 inputs text refusals
+    → (inputs : List (List ℕ)) (text : List ℕ) (refusals : ℕ) → Holds holds (codes "one" ∷ codes "two" ∷ []) inputs → AreReplies (record_replies 3) (codes "one" ∷ codes "two" ∷ []) inputs text refusals
     → text ≡ codes "# line 1: Fen FieldCount\n# line 2: Fen FieldCount\n"
 both_shown clear holds one two [] text refusals given replies = absurd given
 both_shown clear holds one two (a ∷ []) text refusals given replies = absurd given.1
@@ -144,7 +148,7 @@ both_shown clear holds one two (a ∷ b ∷ []) text refusals (is_a, (is_b, end)
 
 pub solve_shown : RecordsClear → (holds : Text → Option (List ℕ)) → holds (codes "one") ≡ Some (codes "8/8\n") → holds (codes "two") ≡ Some (codes " \n8/8")
     → (any_refused : Bool) (text : List ℕ) → Solves holds 3 (codes "one" ∷ codes "two" ∷ []) any_refused text → text ≡ codes "# line 1: Fen FieldCount\n# line 2: Fen FieldCount\n"
-solve_shown clear holds one two any_refused text shows = both_shown clear holds one two shows.inputs text shows.refusals shows.given shows.replies
+solve_shown clear holds one two any_refused text shows = both_shown clear holds one two shows.inputs text shows.refusals shows.given shows.are_replies
 
 -- ---- the program
 

@@ -1,8 +1,9 @@
 mod HeldFiles
 mod Shown
 mod Parts
-mod SolvedFiles
+mod AnsweredFiles
 mod Unopened
+mod VerifiedFiles
 mod WrittenOutputs
 mod Cuts
 mod DeskLaws

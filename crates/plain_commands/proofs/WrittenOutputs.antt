@@ -5,7 +5,7 @@ use Rattle.std.proofs.lemmas.List.{take-append-drop}
 use Rattle.std.proofs.Math.Seq.{drop-cons}
 use Rattle.std.specs.Io.KnownBytes.{Appends}
 use Rattle.byte_streams.specs.Stops.{AppendsPart}
-use Rattle.mate_answers.specs.declared.input_replies.Output.{Output}
+use Rattle.text_lines.specs.declared.replies.Output.{Output}
 use Rattle.byte_streams.specs.declared.stops.Stop.{Stop}
 use Rattle.plain_commands.proofs.Parts.{part_behind}
 

@@ -6,22 +6,33 @@ use Rattle.byte_streams.specs.declared.stops.Stop.{Stop}
 use Rattle.byte_streams.specs.declared.stops.Stop.TheVariants.{NoMemory, Unreadable, Unwritable, NoReader}
 use Rattle.plain_commands.specs.Sources.{SomeRefused}
 use Rattle.plain_commands.specs.Status.{status_of}
-use Rattle.plain_commands.specs.Writing.{Gains, GainsPart}
-use Rattle.command_words.specs.Asked.{Asked, look, moves, perft, solve, serve, replay}
-use Rattle.plain_commands.specs.FenCommands.{ShowsFen, StopsOverFen, look_text, moves_text, perft_text}
+use Rattle.plain_commands.specs.Writing.{Gains, GainsPart, StopsShowing}
+use Rattle.chess_views.specs.Counts.{divided_text, perft_text}
+use Rattle.chess_views.specs.Listings.{moves_text}
+use Rattle.chess_views.specs.Looks.{look_board_text, look_text}
+use Rattle.command_words.specs.Asked.{Asked, look, board, play, moves, perft, divide, solve, verify, serve, replay, explain}
+use Rattle.plain_commands.specs.Explained.{Explains}
+use Rattle.plain_commands.specs.FenCommands.{ShowsFen, columns_of}
+use Rattle.plain_commands.specs.Played.{ShowsPlay}
 use Rattle.plain_commands.specs.Replayed.{ReplaysFile, StopsReplaying}
 use Rattle.plain_commands.specs.Solved.{Solves, StopsSolving}
+use Rattle.plain_commands.specs.Verified.{StopsVerifying, Verifies}
 use Rattle.plain_commands.specs.Served.{HaveNoWindows, Serves}
 
 -- What a command shows where names hold such inputs, and whether anything that it was given is refused. The size of a memo and the
 -- number of workers change nothing of it.
 abbrev pub Shows : (Text → Option (List ℕ)) → Asked → Bool → List ℕ → Type 0
 Shows holds (look fen) refused text = ShowsFen look_text fen refused text
-Shows holds (moves fen) refused text = ShowsFen moves_text fen refused text
+Shows holds (board fen side) refused text = ShowsFen (look_board_text side) fen refused text
+Shows holds (play fen words) refused text = ShowsPlay fen words refused text
+Shows holds (moves form fen) refused text = ShowsFen (moves_text (columns_of form)) fen refused text
 Shows holds (perft fen depth) refused text = ShowsFen (perft_text depth) fen refused text
+Shows holds (divide fen depth) refused text = ShowsFen (divided_text depth) fen refused text
 Shows holds (solve bound memo names) refused text = Solves holds bound names refused text
+Shows holds (verify bound memo names) refused text = Verifies holds bound names refused text
 Shows holds (serve workers bound memo names) refused text = Serves holds bound names refused text
 Shows holds (replay name) refused text = ReplaysFile (holds name) refused text
+Shows holds (explain code) refused text = Explains code refused text
 
 -- What the output gained where `serve` stops: nothing where memory gives out, no thread is to be had or a file can't be read, which
 -- may be refused; and where a write breaks off, a first part of the replies to all files.
@@ -33,9 +44,10 @@ StopsServing holds refuses bound names NoReader old new = GainsPart (λ text. (r
 
 abbrev pub Stops : (Text → Option (List ℕ)) → (Text → Type 0) → Asked → Stop → (old new : Option (List ℕ)) → Type 0
 Stops holds refuses (solve bound memo names) stop old new = StopsSolving holds refuses bound names stop old new
+Stops holds refuses (verify bound memo names) stop old new = StopsVerifying holds refuses bound names stop old new
 Stops holds refuses (serve workers bound memo names) stop old new = StopsServing holds refuses bound names stop old new
 Stops holds refuses (replay name) stop old new = StopsReplaying (holds name) (refuses name) stop old new
-Stops holds refuses asks stop old new = StopsOverFen (Shows holds asks false) stop old new
+Stops holds refuses asks stop old new = StopsShowing (Shows holds asks false) stop old new
 
 -- The program stops where a command does.
 abbrev pub StopsBy : (Text → Option (List ℕ)) → (Text → Type 0) → Option Asked → Stop → (old new : Option (List ℕ)) → Type 0

@@ -2,9 +2,13 @@ pub mod Sources
 pub mod Writing
 pub mod Status
 pub mod FenCommands
+pub mod Played
+pub mod FileAnswers
 pub mod Solved
+pub mod Verified
 pub mod Scripts
 pub mod Replayed
 pub mod inside
 pub mod Served
+pub mod Explained
 pub mod Command

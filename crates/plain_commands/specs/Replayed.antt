@@ -11,7 +11,8 @@ use Rattle.byte_streams.specs.Inputs.{MayBe}
 use Rattle.byte_streams.specs.declared.stops.Stop.{Stop}
 use Rattle.byte_streams.specs.declared.stops.Stop.TheVariants.{NoMemory, Unreadable, Unwritable, NoReader}
 use Rattle.plain_commands.specs.Scripts.{IsFirstFault, IsScript, ScriptValue, step_value}
-use Rattle.plain_commands.specs.Writing.{GainsPart, line}
+use Rattle.chess_views.specs.Lines.{line}
+use Rattle.plain_commands.specs.Writing.{GainsPart}
 
 -- replies, each on a line of its own
 unfoldable pub reply_lines : List Reply → List ℕ

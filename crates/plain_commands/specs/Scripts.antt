@@ -7,7 +7,7 @@ use Rattle.chess_notation.specs.Operations.{is_digit}
 use Rattle.chess_notation.specs.Words.{is_blank}
 use Rattle.mate_desk.specs.declared.steps_and_replies.Step.{Step}
 use Rattle.mate_desk.specs.declared.steps_and_replies.Step.TheVariants as step
-use Rattle.mate_answers.specs.InputReplies.{lines_of, without_cr}
+use Rattle.text_lines.specs.Lines.{lines_of, without_cr}
 use Rattle.plain_commands.specs.declared.scripts.Script.{Script}
 use Rattle.plain_commands.specs.declared.scripts.ScriptFault.{ScriptFault}
 use Rattle.plain_commands.specs.declared.scripts.ScriptFault.TheVariants as fault

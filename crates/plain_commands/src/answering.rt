@@ -8,11 +8,15 @@ ghost use Rattle.command_words.specs.Request.{plan_of};
 ghost use Rattle.plain_commands.specs.Writing.{Gains};
 ghost use Rattle.plain_commands.specs.Command.{Ends, EndsByStatus, Shows, Stops};
 
+use crate::explaining::explain;
 use crate::fen_commands::{FenCommand, show_fen};
+use crate::playing::play_given;
 use crate::replaying::replay;
 use crate::solving::{solve, solves_none};
 use crate::sources::Source;
 use crate::status::{ANSWERED, MISUSED, no_memory, status_of};
+use crate::verifying::{verifies_none, verify};
+use crate::writing::complain;
 use byte_streams::{Stop, stop_of_output};
 use clap::Error;
 use clap::error::ErrorKind;
@@ -41,17 +45,25 @@ fn answer<S: Source, O: Write, E: Write>(
 {
     match request {
         Request::Look(fen) => show_fen(alloc, FenCommand::Look, fen, out, err),
-        Request::Moves(fen) => show_fen(alloc, FenCommand::Moves, fen, out, err),
+        Request::Board(fen, side) => show_fen(alloc, FenCommand::Board(*side), fen, out, err),
+        Request::Play(fen, moves) => play_given(alloc, fen, *moves, out, err),
+        Request::Moves(form, fen) => show_fen(alloc, FenCommand::Moves(*form), fen, out, err),
         Request::Perft(fen, depth) => show_fen(alloc, FenCommand::Perft(*depth), fen, out, err),
+        Request::Divide(fen, depth) => show_fen(alloc, FenCommand::Divide(*depth), fen, out, err),
         Request::Solve(bound, memo, names) => {
             solve(alloc, *bound, *memo, names, source, out, err)
         }
+        Request::Verify(bound, memo, names) => {
+            verify(alloc, *bound, *memo, names, source, out, err)
+        }
         Request::Serve(..) => unreachable!(),
         Request::Replay(name) => replay(alloc, name, source, out, err),
+        Request::Explain(code) => explain(alloc, *code, out, err),
     }
 }
 
-/// Answers what the words ask for, unless that is `serve`. Matches that ask for nothing are a misuse like any other.
+/// Answers what the words ask for, unless that is `serve`. Matches that ask for nothing are a misuse like any other: `clap` takes `--flip`
+/// alone.
 fn run<S: Source, O: Write, E: Write>(
     alloc: Global,
     request: &Option<Request>,
@@ -66,6 +78,7 @@ fn run<S: Source, O: Write, E: Write>(
     ensures kept { IfNone result ((out.new ≡ out.old) × (err.new ≡ err.old)) }
 {
     let Some(request) = request else {
+        complain(err, "--flip goes with --board");
         return Some(MISUSED);
     };
     if is_serve(request) {
@@ -127,8 +140,9 @@ pub fn plain_command<S: Source, O: Write, E: Write>(
     ensures plain { asks_serve (asked (map string_bytes words.now)) ≡ true → IfSome result (λ status. status ≡ 3) }
     ensures kept { IfNone result ((out.new ≡ out.old) × (err.new ≡ err.old)) }
 {
-    // What a `solve` has written for which memory is refused here.
+    // What a `solve` or a `verify` has written for which memory is refused here.
     solves_none();
+    verifies_none();
     let Ok(texts) = escaped(alloc, words) else {
         return Some(no_memory(err));
     };

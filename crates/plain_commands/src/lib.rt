@@ -1,17 +1,22 @@
-//! The commands of the program `matedesk` that start no thread: `look`, `moves` and `perft` over a position, `solve` over files of problems,
-//! `replay` over a script; and what all commands share, files by their names, what is shown, messages, and the status at the end.
+//! The commands of the program `matedesk` that start no thread: `look`, `play`, `moves` and `perft` over a position, `solve` over files of
+//! problems, `replay` over a script, `explain` over a table of faults; and what all commands share, files by their names, what is shown,
+//! messages, and the status at the end.
 //!
 //! What the words of a command line ask for is the business of `command_words`, and what is answered that of the crates of chess and of the
 //! desk. To read: `answering`, where the contract of `plain_command` says how each command ends; `sources` (a `Source` is the files that a
-//! command may read) and `files` (those of the system), `writing`, `status`; then `fen_commands`; `solving`, and `outputs`, which were made
-//! elsewhere; and `replaying`, over `scripts` (a text to a script), `script_lines` (its lines), `script_desk` and `script_steps` (what a
-//! line says), `script_words`.
+//! command may read) and `files` (those of the system), `writing`, `status`; then `fen_commands` and `playing`; `solving`, over `file_answers`
+//! (each line of each file), `verifying` likewise, and `outputs`, which were made elsewhere; `replaying`, over `scripts` (a text to a script), `script_lines` (its
+//! lines), `script_desk` and `script_steps` (what a line says), `script_words`; and `explaining`, over `explanations`.
 #![tactic(auto)]
 
 mod answering;
+mod explaining;
+mod explanations;
 mod fen_commands;
+mod file_answers;
 mod files;
 mod outputs;
+mod playing;
 mod replaying;
 mod script_desk;
 mod script_lines;
@@ -21,15 +26,19 @@ mod scripts;
 mod solving;
 mod sources;
 mod status;
+mod verifying;
 mod writing;
 
 pub use answering::{ends_by_status, plain_command};
+pub use explaining::explain;
+pub use explanations::{Example, Explanation};
 pub use fen_commands::{FenCommand, show_fen};
 pub use files::{FileSystem, Reading, Stream};
 pub use outputs::put_outputs;
+pub use playing::play_moves;
 pub use replaying::replay;
 pub use scripts::{Script, ScriptFault, read_script};
 pub use solving::{new_memo, solve, solves_none};
 pub use sources::{Source, SourceFault, holds_reads, read_file, read_files, whole};
 pub use status::{ANSWERED, MISUSED, NO_THREAD, no_memory, status_of};
-pub use writing::{complain, complain_faulty, complain_unreadable, push_line, show};
+pub use writing::{complain, complain_faulty, complain_unreadable, show};

@@ -8,10 +8,11 @@ ghost use Rattle.plain_commands.specs.Scripts.{IsFirstFault, IsScript, script_va
 use crate::scripts::{Script, ScriptFault, read_script};
 use crate::solving::new_memo;
 use crate::sources::{Source, read_file};
-use crate::writing::{complain, complain_faulty, push_line, show};
+use crate::writing::{complain, complain_faulty, show};
 use byte_streams::Stop;
 use chess_moves::Rays;
 use chess_notation::NoMemory;
+use chess_views::push_line;
 use mate_desk::{Reply, RunFault, reply_text, run};
 use std::alloc::Global;
 use std::io::Write;

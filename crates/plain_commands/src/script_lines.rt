@@ -1,7 +1,7 @@
 //! The lines of a script, one by one.
 
 ghost use Rattle.std.specs.Prelude.{◌≡◌, ◌<◌, ℕ, [], ◌∷◌, IfNone, IfSome, length};
-ghost use Rattle.mate_answers.specs.InputReplies.{lines_of};
+ghost use Rattle.text_lines.specs.Lines.{lines_of};
 ghost use Rattle.plain_commands.specs.Scripts.{said, said_from};
 ghost use Rattle.plain_commands.specs.inside.ScriptReading.{line_value};
 
@@ -26,7 +26,7 @@ pub struct Lines<'a> {
 
 impl<'a> Model for Lines<'a> {
     ghost use Rattle.std.specs.Prelude.{◌+◌, ◌<◌, ◌^◌, List, length};
-    ghost use Rattle.mate_answers.specs.InputReplies.{lines_of};
+    ghost use Rattle.text_lines.specs.Lines.{lines_of};
     ghost use Rattle.plain_commands.specs.Scripts.{Line, said_from};
 
     ghost Value = { List Line };

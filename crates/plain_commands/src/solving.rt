@@ -1,16 +1,12 @@
 //! The command `solve`.
 
-ghost use Rattle.std.specs.Prelude.{◌≡◌, ◌≤◌, ℕ, List, IfErr, IfOk, map, nat_lt};
-ghost use Rattle.std.specs.Io.KnownBytes.{Appends};
-ghost use Rattle.byte_streams.specs.Inputs.{MayBe};
-ghost use Rattle.mate_answers.specs.InputReplies.{IsReply, IsReplyToFirst};
-ghost use Rattle.byte_streams.specs.Stops.{AppendsBy};
+ghost use Rattle.std.specs.Prelude.{◌≡◌, ◌≤◌, IfErr, IfOk, map};
 ghost use Rattle.plain_commands.specs.Writing.{Gains};
 ghost use Rattle.plain_commands.specs.Solved.{Solves, SolvesNone, StopsSolving};
 
-use crate::sources::{Source, holds_reads};
-use crate::writing::complain_unreadable;
-use byte_streams::Stop;
+use crate::file_answers::{FileAnswers, answer_files};
+use crate::sources::Source;
+use byte_streams::{Input, Stop};
 use chess_moves::Rays;
 use chess_problems::Bound;
 use command_words::MemoSize;
@@ -32,24 +28,35 @@ pub fn new_memo(alloc: Global, entries: usize) -> Result<Memo, Stop>
     }
 }
 
-/// Answers each line of a file, before it reads on for the next; gives how many lines are refused.
-fn solve_file<S: Source, O: Write>(
-    alloc: Global,
-    rays: &Rays,
+/// Answers records, with the bound of those that say none.
+#[derive(Clone, Copy)]
+struct RecordAnswers<'a> {
+    rays: &'a Rays,
     bound: Bound,
-    name: &str,
-    source: &S,
-    memo: &mut Memo,
-    out: &mut O,
-) -> Result<usize, Stop>
-    ensures ok { IfOk result (λ count. (input : List ℕ) × (text : List ℕ) × MayBe (S.holds source.now name.now) input × IsReply bound input text count
-        × Appends (O.contents out.old) (O.contents out.new) text) }
-    ensures err { IfErr result (λ stop. (input : List ℕ) × (text : List ℕ) × MayBe (S.holds source.now name.now) input × IsReplyToFirst bound input text
-        × AppendsBy stop (O.contents out.old) (O.contents out.new) text) }
-    ensures unreadable { IfErr result (λ stop. stop ≡ Stop.Unreadable → S.refuses source.now name.now) }
-{
-    let file = source.open(alloc, name)?;
-    answer_input(alloc, rays, file, bound, memo, out)
+}
+
+impl<'a> FileAnswers for RecordAnswers<'a> {
+    ghost use Rattle.plain_commands.specs.Solved.{record_replies, first_record_replies};
+
+    type Memory = Memo;
+
+    ghost replies = { λ answers. record_replies answers.bound };
+
+    ghost first = { λ answers. first_record_replies answers.bound };
+
+    fn answer<I: Input + Drop, O: Write>(
+        &self,
+        alloc: Global,
+        _name: &str,
+        input: I,
+        memo: &mut Memo,
+        out: &mut O,
+    ) -> Result<usize, Stop> {
+        answer_input(alloc, self.rays, input, self.bound, memo, out)
+    }
+
+    #[tactic(auto, using(crate::proofs::Unopened::no_record_reply))]
+    fn begins_with_nothing(&self) {}
 }
 
 /// Answers each line of each file in order, over one memo of such a size, and opens a file only after the answers to those before
@@ -66,23 +73,10 @@ pub fn solve<S: Source, O: Write, E: Write>(
     ensures ok { IfOk result (λ refused. Gains (Solves (S.holds source.now) bound (map (λ s. s.now) names.now) refused) (O.contents out.old) (O.contents out.new)) }
     ensures err { IfErr result (λ stop. StopsSolving (S.holds source.now) (S.refuses source.now) bound (map (λ s. s.now) names.now) stop (O.contents out.old) (O.contents out.new)) }
 {
-    // How the files that are solved so far go on with the next.
-    holds_reads();
     let rays = Rays::new();
     let mut memo = new_memo(alloc, size.get() as usize)?;
-    let mut refused = false;
-    for name in names {
-        match solve_file(alloc, &rays, bound, name, source, &mut memo, out) {
-            Ok(count) => refused |= count > 0,
-            Err(stop) => {
-                if stop == Stop::Unreadable {
-                    complain_unreadable(err, name);
-                }
-                return Err(stop);
-            }
-        }
-    }
-    Ok(refused)
+    let answers = RecordAnswers { rays: &rays, bound };
+    answer_files(alloc, &answers, names, source, &mut memo, out, err)
 }
 
 /// What a `solve` that ends before it has opened a file has written. It does nothing: its contract is the law.

@@ -1,22 +1,11 @@
 //! Writing: what is shown on the output, and messages on the error output.
 
-ghost use Rattle.std.specs.Prelude.{◌≡◌, ◌++◌, IfErr, IfOk, OnErr, false, true};
+ghost use Rattle.std.specs.Prelude.{◌≡◌, IfErr, IfOk, OnErr, false, true};
 ghost use Rattle.std.specs.Io.KnownBytes.{Appends};
 ghost use Rattle.byte_streams.specs.Stops.{AppendsPart, is_of_output};
-ghost use Rattle.plain_commands.specs.Writing.{line};
 
 use byte_streams::{Stop, put};
-use std::alloc::AllocError;
 use std::io::Write;
-
-/// Adds a line to a text.
-pub fn push_line(text: &mut Vec<u8>, words: &str) -> Result<(), AllocError>
-    ensures { IfOk result (λ _. text.new.items ≡ text.old.items ++ line words.now) }
-{
-    text.extend_from_slice(words.as_bytes())?;
-    text.push(b'\n')?;
-    Ok(())
-}
 
 /// Writes the whole text that is shown. Nothing is refused then.
 pub fn show<O: Write>(out: &mut O, text: &[u8]) -> Result<bool, Stop>
@@ -41,4 +30,9 @@ pub fn complain_unreadable<E: Write>(err: &mut E, name: &str) {
 /// Says which line of a script is at fault. That it can't be written changes nothing.
 pub fn complain_faulty<E: Write>(err: &mut E, number: usize) {
     let _ = writeln!(err, "matedesk: script line {number}");
+}
+
+/// Says which of the moves is none, counted from 1. That it can't be written changes nothing.
+pub fn complain_move<E: Write>(err: &mut E, number: usize) {
+    let _ = writeln!(err, "matedesk: move {number}: NoSuchMove");
 }

@@ -1,4 +1,5 @@
-//! Tests of problems, read, solved and answered: of the crates from `chess_problems` to `mate_answers`, by their public calls alone.
+//! Tests of problems, read, solved and answered, and of positions shown: of the crates from `chess_problems` to `mate_answers`, by their
+//! public calls alone.
 #![tactic(auto)]
 
 #[cfg(test)]
@@ -17,3 +18,5 @@ mod record_reading_tests;
 mod san_tests;
 #[cfg(test)]
 mod solve_tests;
+#[cfg(test)]
+mod view_tests;

@@ -1,5 +1,5 @@
 -- Each step on the deque of orders keeps its rule.
-use Rattle.std.proofs.Common.{◌≡◌, ℕ, zero, suc, ◌+◌, ◌<◌, ◌≤◌, false, true≢false, List, [], ◌∷◌, ◌++◌, length, get_or, map, replicate, set, IsPermutation, sym, refl, ap, ◌∙◌, subst, append_assoc, arith, length-append}
+use Rattle.std.proofs.Common.{◌≡◌, ℕ, zero, suc, ◌+◌, ◌<◌, ◌≤◌, false, true≢false, List, [], ◌∷◌, ◌++◌, length, map, replicate, set, IsPermutation, sym, refl, ap, ◌∙◌, subst, append_assoc, arith, length-append}
 use Rattle.std.proofs.lemmas.List.{append-nil, map-append, replicate_more}
 use Rattle.std.proofs.lemmas.List.Concat.{flat_map-append}
 use Rattle.std.proofs.lemmas.List.Elements.{All-nil, All-set, All-push}
@@ -7,12 +7,12 @@ use Rattle.std.proofs.lemmas.List.Sorted.{IsPermutation-refl, IsPermutation-tran
 use mathlib.Core.Option.{some, some-ne-none, some-injective}
 use lib.ListN.{get_elem?}
 use Rattle.std.proofs.Math.ListN.{length-set}
-use Rattle.crossbeam_deque.specs.Tasks.{Pushes, Takes, Forks, FindsFew}
+use Rattle.crossbeam_deque.specs.Tasks.{Pushes, Takes, Forks}
 use Rattle.mate_jobs.specs.Jobs.{Task}
 use Rattle.room_ends.specs.declared.deque_rule.Order.{Order}
 use Rattle.room_ends.specs.declared.deque_rule.Order.TheVariants.{Solve, Stop}
 use Rattle.room_ends.specs.declared.deque_rule.View.{View}
-use Rattle.room_ends.specs.DequeRule.{stops, JobsFirst, got_by, Distributed, Ruled, keeper_view, bench_view, WasEmpty}
+use Rattle.room_ends.specs.DequeRule.{stops, JobsFirst, got_by, Distributed, Ruled, keeper_view, bench_view}
 
 pub length_orders : (xs ys : List Order) → length (xs ++ ys) ≡ length xs + length ys
 length_orders xs ys = length-append xs ys
@@ -59,11 +59,6 @@ got_by_set (u ∷ vs) (suc n) v x e =
 -- a new bench got nothing
 got_by_push : (vs : List View) → got_by (vs ++ bench_view [] ∷ []) ≡ got_by vs
 got_by_push vs = flat_map-append (λ (v : View). v.got) vs (bench_view [] ∷ []) ∙ append-nil (got_by vs)
-
-there : (vs : List View) (n : ℕ) (v : View) → get_elem? vs n ≡ some v → (n < length vs) × (get_or vs n v ≡ v)
-there [] n v e = absurd (some-ne-none v (sym e))
-there (u ∷ vs) zero v e = (omega arith, some-injective u v e)
-there (u ∷ vs) (suc n) v e = let rest = there vs n v e in (omega (arith, rest.0), rest.1)
 
 pub begins : Ruled [] (keeper_view 0 [] ∷ [])
 begins = record {
@@ -136,13 +131,6 @@ takes (suc n) v bench free (x ∷ []) waiting (k ∷ bs) more few rule at =
       },
       refl,
     )
-
--- a bench that finds nothing learns that nothing waited
-pub finds : (most port : ℕ) (v : View) → most ≡ 0 → v ≡ bench_view v.got → FindsFew Ruled most port v (WasEmpty v.got)
-finds most port v few bench waiting [] short rule at = absurd rule
-finds most zero v few bench waiting (k ∷ bs) short rule at = absurd (not_keeper waiting k v bs rule (some-injective k v at) (ap (λ (u : View). u.keeps) bench))
-finds most (suc n) v few bench (x ∷ waiting) (k ∷ bs) short rule at = absurd (omega (arith, few, short))
-finds most (suc n) v few bench [] (k ∷ bs) short rule at = let is = there bs n (bench_view v.got) (at ∙ ap some bench) in (k, bs, rule, (n, is.0, is.1))
 
 -- a pass is handed out
 pub hands : (port : ℕ) (v : View) → port ≡ 0 → Forks Ruled port v (keeper_view (v.passes + 1) v.orders) (bench_view [])

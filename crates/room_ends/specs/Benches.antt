@@ -1,7 +1,7 @@
 -- What a contract sees of a bench, and of the keeper's end of its back ring, a receiver (own to this project).
 use Rattle.std.specs.Prelude.{◌≡◌, ℕ, List}
 use Rattle.rtrb.specs.Ring.{sent, known_free, producer_capacity, received, known_items, IsPair, SameProducer, SameConsumer}
-use Rattle.room_ends.specs.Orders.{stealer_got, stealer_known_taken, SameStealer}
+use Rattle.room_ends.specs.Orders.{stealer_got, SameStealer}
 use Rattle.room_ends.specs.declared.deque_rule.Order.{Order}
 use Rattle.room_ends.specs.declared.letters.Back.{Back}
 use Rattle.room_ends.specs.declared.benches.Bench.{Bench}
@@ -10,10 +10,6 @@ use Rattle.room_ends.specs.declared.back_receiver.BackReceiver.{BackReceiver}
 -- the orders that the bench got, oldest first
 abbrev pub got : Bench → List Order
 got bench = stealer_got bench.stealer
-
--- how many orders the bench knows to have been taken from the deque, by whatever bench
-abbrev pub known_taken : Bench → ℕ
-known_taken bench = stealer_known_taken bench.stealer
 
 -- what the bench gave back, oldest first
 abbrev pub given : Bench → List Back

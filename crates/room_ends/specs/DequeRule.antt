@@ -1,5 +1,5 @@
 -- The rule of the deque of orders: what the keeper put out, what waits there, and what the benches got (own to this project).
-use Rattle.std.specs.Prelude.{◌≡◌, ℕ, ◌+◌, ◌≤◌, true, false, List, [], ◌∷◌, ◌++◌, length, map, replicate, flat_map, All, Contains, IsPermutation}
+use Rattle.std.specs.Prelude.{◌≡◌, ℕ, ◌+◌, ◌≤◌, true, false, List, [], ◌∷◌, ◌++◌, length, map, replicate, flat_map, All, IsPermutation}
 use Rattle.mate_jobs.specs.Jobs.{Task}
 use Rattle.room_ends.specs.declared.deque_rule.Order.{Order}
 use Rattle.room_ends.specs.declared.deque_rule.Order.TheVariants.{Solve, Stop}
@@ -44,7 +44,3 @@ keeper_view passes orders = record { keeps = true; passes = passes; orders = ord
 -- what a bench knows that got these orders
 abbrev pub bench_view : List Order → View
 bench_view got = record { keeps = false; passes = 0; orders = []; got = got }
-
--- at one moment nothing waited in the deque, when a bench had got these orders
-abbrev pub WasEmpty : List Order → Type 0
-WasEmpty got = (keeper : View) × (benches : List View) × Distributed [] keeper benches × Contains benches (bench_view got)

@@ -1,6 +1,6 @@
 -- What a contract sees of the two ends of the deque of orders: the keeper's, a producer, and a bench's, a stealer (own to this project).
 use Rattle.std.specs.Prelude.{◌≡◌, ℕ, List, [], ◌∷◌}
-use Rattle.crossbeam_deque.specs.Handles.{view, taken, worker_view, worker_deque, worker_capacity, stealer_deque}
+use Rattle.crossbeam_deque.specs.Handles.{view, worker_view, worker_deque, worker_capacity, stealer_deque}
 use Rattle.room_ends.specs.declared.deque_rule.Order.{Order}
 use Rattle.room_ends.specs.declared.deque_rule.Order.TheVariants.{Solve, Stop}
 use Rattle.room_ends.specs.declared.order_producer.OrderProducer.{OrderProducer}
@@ -23,10 +23,6 @@ places producer = worker_capacity producer.deque
 -- the orders that a stealer took, oldest first
 abbrev pub stealer_got : OrderStealer → List Order
 stealer_got stealer = (view stealer.pass).got
-
--- how many orders a stealer knows to have been taken from the deque, by whatever bench
-abbrev pub stealer_known_taken : OrderStealer → ℕ
-stealer_known_taken stealer = taken stealer.pass
 
 -- the order that was taken, if one was
 abbrev pub taken_order : Taken → List Order

@@ -17,16 +17,15 @@ pub struct Bench {
 }
 
 impl Bench {
-    ghost use Rattle.std.specs.Prelude.{◌≡◌, ◌<◌, ◌⊎◌, [], ◌∷◌, ◌++◌, length, IsOk, OnOk, IfErr, OnErr, true};
-    ghost use Rattle.room_ends.specs.DequeRule.{stops, WasEmpty};
+    ghost use Rattle.std.specs.Prelude.{◌≡◌, ◌<◌, [], ◌∷◌, ◌++◌, length, IsOk, OnOk, IfErr, OnErr, true};
+    ghost use Rattle.room_ends.specs.DequeRule.{stops};
     ghost use Rattle.room_ends.specs.Orders.{taken_order};
-    ghost use Rattle.room_ends.specs.Benches.{got, known_taken, given, places_known, bench_ring, SameBench};
-    ghost use Rattle.room_ends.specs.declared.order_stealer.Taken.TheVariants.{Stop, Nothing};
+    ghost use Rattle.room_ends.specs.Benches.{got, given, places_known, bench_ring, SameBench};
+    ghost use Rattle.room_ends.specs.declared.order_stealer.Taken.TheVariants.{Stop};
 
     /// Tries to take the next order. Once it has answered `Stop` it always does, and takes nothing more.
     pub fn take(&mut self) -> Taken
         ensures taken { stops (got self.old) ≡ 0 → got self.new ≡ got self.old ++ taken_order result }
-        ensures nothing { result ≡ Nothing → (known_taken self.old < known_taken self.new) ⊎ WasEmpty (got self.old) }
         ensures stopped { 0 < stops (got self.old) → (result ≡ Stop) × (got self.new ≡ got self.old) }
         ensures given { given self.new ≡ given self.old }
         ensures places { places_known self.new ≡ places_known self.old }
@@ -45,7 +44,6 @@ impl Bench {
         ensures succeeds { 0 < places_known self.old → IsOk result }
         ensures first { length (given self.old) < bench_ring self.old → IsOk result }
         ensures got { got self.new ≡ got self.old }
-        ensures taken { known_taken self.new ≡ known_taken self.old }
         ensures ends { SameBench self.old self.new }
     {
         match self.back.push(back) {

@@ -66,9 +66,7 @@ pub struct Takes;
 
 impl Outcome<Order, View> for Takes {
     ghost use Rattle.std.specs.Prelude.{◌≡◌, ◌++◌};
-    ghost use Rattle.room_ends.specs.DequeRule.{bench_view, WasEmpty};
+    ghost use Rattle.room_ends.specs.DequeRule.{bench_view};
 
     ghost then = { λ v xs w. w ≡ bench_view (v.got ++ xs) };
-
-    ghost empty = { λ v. WasEmpty v.got };
 }

@@ -33,16 +33,15 @@ pub(crate) struct OrderStealer {
 }
 
 impl OrderStealer {
-    ghost use Rattle.std.specs.Prelude.{◌≡◌, ◌<◌, ◌⊎◌, ◌++◌};
-    ghost use Rattle.room_ends.specs.DequeRule.{stops, WasEmpty};
-    ghost use Rattle.room_ends.specs.Orders.{stealer_got, stealer_known_taken, taken_order, SameStealer};
-    ghost use Rattle.room_ends.specs.declared.order_stealer.Taken.TheVariants.{Stop, Nothing};
+    ghost use Rattle.std.specs.Prelude.{◌≡◌, ◌<◌, ◌++◌};
+    ghost use Rattle.room_ends.specs.DequeRule.{stops};
+    ghost use Rattle.room_ends.specs.Orders.{stealer_got, taken_order, SameStealer};
+    ghost use Rattle.room_ends.specs.declared.order_stealer.Taken.TheVariants.{Stop};
 
     #[tactic(auto, using(crate::proofs::DequeSteps::stops_append))]
     /// Tries one steal, until it has answered `Stop`.
     pub(crate) fn take(&mut self) -> Taken
         ensures taken { stops (stealer_got self.old) ≡ 0 → stealer_got self.new ≡ stealer_got self.old ++ taken_order result }
-        ensures nothing { result ≡ Nothing → (stealer_known_taken self.old < stealer_known_taken self.new) ⊎ WasEmpty (stealer_got self.old) }
         ensures stopped { 0 < stops (stealer_got self.old) → (result ≡ Stop) × (stealer_got self.new ≡ stealer_got self.old) }
         ensures deque { SameStealer self.old self.new }
     {

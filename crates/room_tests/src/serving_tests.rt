@@ -62,6 +62,10 @@ struct HoldsFirst {
 }
 
 impl Gate for HoldsFirst {
+    ghost use Rattle.std.specs.Prelude.{⊤};
+
+    ghost answers = { λ _ _ _ _. ⊤ };
+
     fn pass(&self, _bench: usize, ticket: Ticket) -> bool {
         if ticket.0 != 0 {
             self.asked.store(true, Ordering::SeqCst);
@@ -104,12 +108,18 @@ fn benches_work_side_by_side(rt: HostRuntime) -> Result<(), Fail> {
 struct HandsBackOnce {
     came: AtomicU64,
     handed_back: AtomicU64,
+    passed: AtomicU64,
 }
 
 impl Gate for HandsBackOnce {
+    ghost use Rattle.std.specs.Prelude.{⊤};
+
+    ghost answers = { λ _ _ _ _. ⊤ };
+
     fn pass(&self, _bench: usize, ticket: Ticket) -> bool {
         let bit = 1 << (ticket.0 % 64);
         if self.came.fetch_or(bit, Ordering::SeqCst) & bit != 0 {
+            self.passed.fetch_add(1, Ordering::SeqCst);
             return true;
         }
         self.handed_back.fetch_add(1, Ordering::SeqCst);
@@ -123,6 +133,7 @@ fn jobs_that_are_handed_back_are_solved_later(rt: HostRuntime) -> Result<(), Fai
     let gate = HandsBackOnce {
         came: AtomicU64::new(0),
         handed_back: AtomicU64::new(0),
+        passed: AtomicU64::new(0),
     };
     let inputs = inputs_of(alloc, 1, &[A, A, A, A, A])?;
     check_served(
@@ -135,6 +146,7 @@ fn jobs_that_are_handed_back_are_solved_later(rt: HostRuntime) -> Result<(), Fai
         0,
     )?;
     assert_eq!(rt; gate.handed_back.load(Ordering::SeqCst), 5);
+    assert_eq!(rt; gate.passed.load(Ordering::SeqCst), 5);
     Ok(())
 }
 

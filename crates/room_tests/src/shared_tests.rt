@@ -15,6 +15,10 @@ struct CountsJobs {
 }
 
 impl Gate for CountsJobs {
+    ghost use Rattle.std.specs.Prelude.{⊤};
+
+    ghost answers = { λ _ _ _ _. ⊤ };
+
     fn pass(&self, _bench: usize, ticket: Ticket) -> bool {
         self.jobs.fetch_add(1, Ordering::SeqCst);
         self.tickets.fetch_add(ticket.0, Ordering::SeqCst);

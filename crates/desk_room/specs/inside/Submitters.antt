@@ -1,8 +1,9 @@
 -- Not for believing: what a submitter has done, and what its report says. No contract of a public call rests on it.
 use Rattle.std.specs.Prelude.{◌≡◌, ℕ, ◌+◌, List, [], ◌∷◌, ◌++◌, length, map, IfSome}
 use Rattle.chess_notation.specs.Records.{RecordValue}
-use Rattle.mate_answers.specs.InputReplies.{answer_line, lines_of, IsReply, IsReplyFrom}
-use Rattle.mate_answers.specs.declared.input_replies.Output.{Output}
+use Rattle.text_lines.specs.Lines.{lines_of}
+use Rattle.mate_answers.specs.InputReplies.{answer_line, IsReply, IsReplyFrom}
+use Rattle.text_lines.specs.declared.replies.Output.{Output}
 use Rattle.room_ends.specs.Letters.{records}
 use Rattle.desk_room.specs.Deliveries.{asked}
 use Rattle.room_ends.specs.Windows.{letters_sent, collected, default_of, SameWindow}

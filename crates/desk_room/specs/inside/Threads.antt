@@ -1,7 +1,7 @@
 -- Not for believing: what the threads of the windows begin with and bring back. No contract of a public call rests on it.
 use Rattle.std.specs.Prelude.{◌≡◌, ℕ, List, [], ◌∷◌, IfSome}
 use Rattle.mate_answers.specs.InputReplies.{IsReply}
-use Rattle.mate_answers.specs.declared.input_replies.Output.{Output}
+use Rattle.text_lines.specs.declared.replies.Output.{Output}
 use Rattle.room_ends.specs.Windows.{letters_sent, collected, default_of}
 use Rattle.desk_room.specs.Keepers.{IsOf}
 use Rattle.desk_room.specs.inside.Submitters.{IsReplyIf, Reports}

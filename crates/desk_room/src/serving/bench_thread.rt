@@ -1,11 +1,12 @@
 //! What the thread of a bench does.
 
-ghost use Rattle.std.specs.Prelude.{◌≡◌, ◌<◌, true};
-ghost use Rattle.room_ends.specs.Benches.{places_known};
+ghost use Rattle.std.specs.Prelude.{◌≡◌, ◌<◌, ◌++◌, Bool, [], ◌∷◌, true};
+ghost use Rattle.room_ends.specs.Benches.{given, places_known};
+ghost use Rattle.desk_room.specs.Serving.{back_of};
 
 use crate::serving::backoff::Backoff;
+use crate::serving::signals::{KeeperCalls, Signals, StopReason};
 use crate::serving::solve_gates::Gate;
-use crate::serving::stop_signal::{StopReason, StopSignal};
 use chess_moves::Rays;
 use mate_jobs::Job;
 use mate_search::Memo;
@@ -13,24 +14,35 @@ use room_ends::{Back, Bench, Taken};
 use std::alloc::Global;
 use std::sync::Wait;
 
+/// How often a bench looks again at once.
+const LOOKS: u32 = 100;
+
 /// Waits until the bench's ring has a place, unless the stop signal comes first. It answers whether it has one.
-fn await_place<R: Wait>(rt: &R, bench: &mut Bench, stop: &StopSignal) -> bool
+fn await_place<R: Wait>(
+    rt: &R,
+    bench: &mut Bench,
+    number: usize,
+    signals: &Signals,
+    calls: &mut KeeperCalls,
+) -> bool
     ensures { result ≡ true → 0 < places_known bench.new }
 {
-    let mut backoff = Backoff::new();
+    let mut backoff = Backoff::new(signals.bench_for_place(number), LOOKS);
     for _ in rt.forever() {
         if bench.has_place() {
+            backoff.reset();
             return true;
         }
-        if stop.reason().is_some() {
+        if signals.reason().is_some() {
             return false;
         }
-        backoff.wait(rt, stop);
+        calls.tell();
+        backoff.wait(rt);
     }
     false
 }
 
-/// Gives a job back, solved where the gate lets it pass. What is solved goes straight to its place in the ring.
+/// Gives a job back, solved exactly where the gate lets it pass. What is solved goes straight to its place in the ring.
 fn solve_or_return<G: Gate>(
     rays: &Rays,
     memo: &mut Memo,
@@ -40,6 +52,7 @@ fn solve_or_return<G: Gate>(
     job: Job,
 )
     requires { 0 < places_known bench.old }
+    ensures { (passed : Bool) × G.answers gate.now number job.ticket passed × (given bench.new ≡ given bench.old ++ back_of passed job ∷ []) }
 {
     if gate.pass(number, job.ticket()) {
         bench.give(Back::Solved(job.solve(rays, memo)));
@@ -58,27 +71,32 @@ pub(crate) fn run_bench<R: Wait, G: Gate>(
     number: usize,
     entries: usize,
     gate: &G,
-    stop: &StopSignal,
+    signals: &Signals,
 ) {
     let Ok(mut memo) = Memo::new(alloc, entries) else {
-        stop.send(StopReason::NoMemory);
+        signals.stop(StopReason::NoMemory);
         return;
     };
-    let mut backoff = Backoff::new();
+    let mut calls = KeeperCalls::new(signals);
+    let mut backoff = Backoff::new(signals.bench_for_order(number), LOOKS);
     for _ in rt.forever() {
-        if stop.reason().is_some() {
+        if signals.reason().is_some() {
             return;
         }
         match bench.take() {
             Taken::Job(job) => {
-                if !await_place(rt, &mut bench, stop) {
+                backoff.reset();
+                if !await_place(rt, &mut bench, number, signals, &mut calls) {
                     return;
                 }
                 solve_or_return(rays, &mut memo, gate, number, &mut bench, job);
-                backoff.reset();
+                calls.count();
             }
             Taken::Stop => return,
-            Taken::Nothing => backoff.wait(rt, stop),
+            Taken::Nothing => {
+                calls.tell();
+                backoff.wait(rt);
+            }
         }
     }
 }

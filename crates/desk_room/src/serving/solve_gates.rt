@@ -1,12 +1,16 @@
 //! Gates: whether a bench solves the job that it took, or hands it back.
 
-ghost use Rattle.std.specs.Prelude.{IsTrue};
+ghost use Rattle.std.specs.Prelude.{◌≡◌, ℕ, Bool, true};
 
 use mate_jobs::Ticket;
 
 /// Is asked by a bench, counted from 0, that has taken a job: true to solve it, false to hand it back.
 pub trait Gate: Sync {
-    fn pass(&self, bench: usize, ticket: Ticket) -> bool;
+    /// What it may answer to a bench about a ticket.
+    ghost answers: { Self → ℕ → ℕ → Bool → Type 0 };
+
+    fn pass(&self, bench: usize, ticket: Ticket) -> bool
+        ensures { answers self.now bench ticket result };
 }
 
 /// The gate that lets each job pass.
@@ -14,9 +18,11 @@ pub trait Gate: Sync {
 pub struct OpenGate;
 
 impl Gate for OpenGate {
-    fn pass(&self, _bench: usize, _ticket: Ticket) -> bool
-        ensures { IsTrue result }
-    {
+    ghost use Rattle.std.specs.Prelude.{◌≡◌, true};
+
+    ghost answers = { λ _ _ _ passed. passed ≡ true };
+
+    fn pass(&self, _bench: usize, _ticket: Ticket) -> bool {
         true
     }
 }

@@ -4,8 +4,7 @@ ghost use Rattle.std.specs.Prelude.{◌≡◌, ◌++◌, false, IfOk};
 ghost use Rattle.mate_answers.specs.InputReplies.{answer_line};
 ghost use Rattle.room_ends.specs.Windows.{is_gone};
 
-use crate::serving::backoff::Backoff;
-use crate::serving::stop_signal::{StopReason, StopSignal};
+use crate::serving::signals::{StopReason, WindowSignals};
 use chess_moves::Rays;
 use chess_notation::{EpdFault, is_blank};
 use mate_answers::{Output, fault_text, first_line, replies_go_on, without_cr};
@@ -48,7 +47,8 @@ fn write_answer(
 impl Submitter {
     ghost use Rattle.std.specs.Prelude.{◌≡◌, ◌<◌, ◌≤◌, ◌+◌, ◌-◌, ◌^◌, ℕ, List, [], ◌∷◌, ◌++◌, OnOk, length, true, false};
     ghost use Rattle.chess_notation.specs.Words.{is_blank as is_blank_text};
-    ghost use Rattle.mate_answers.specs.InputReplies.{without_cr as text_without_cr, lines_of, IsLineReply};
+    ghost use Rattle.text_lines.specs.Lines.{without_cr as text_without_cr, lines_of};
+    ghost use Rattle.mate_answers.specs.InputReplies.{IsLineReply};
     ghost use Rattle.room_ends.specs.Windows.{letters_sent, collected, deliveries_known, places_known, default_of, SameWindow};
     ghost use Rattle.desk_room.specs.inside.Submitters.{Collects, HasHandled};
 
@@ -129,23 +129,25 @@ impl Submitter {
         rt: &R,
         alloc: Global,
         rays: &Rays,
-        stop: &StopSignal,
+        signals: &mut WindowSignals,
     ) -> Result<(), StopReason>
         ensures window { SameWindow self.old.window self.new.window }
         ensures place { OnOk result (0 < places_known self.new.window) }
         ensures collects { OnOk result (Collects self.old self.new) }
     {
-        let mut backoff = Backoff::new();
+        let mut backoff = signals.backoff();
         for _ in rt.forever() {
-            if let Some(reason) = stop.reason() {
+            if let Some(reason) = signals.reason() {
                 return Err(reason);
             }
             if self.collect(alloc, rays)? {
+                signals.count();
                 backoff.reset();
             } else if self.has_place() {
+                backoff.reset();
                 return Ok(());
             } else {
-                backoff.wait(rt, stop);
+                signals.wait(rt, &mut backoff);
             }
         }
         unreachable!()
@@ -158,24 +160,25 @@ impl Submitter {
         rt: &R,
         alloc: Global,
         rays: &Rays,
-        stop: &StopSignal,
+        signals: &mut WindowSignals,
     ) -> Result<(), StopReason>
         ensures window { SameWindow self.old.window self.new.window }
         ensures none { OnOk result (self.new.pending_replies.items ≡ []) }
         ensures collects { OnOk result (Collects self.old self.new) }
     {
-        let mut backoff = Backoff::new();
+        let mut backoff = signals.backoff();
         for _ in rt.forever() {
             if self.pending_replies.is_empty() {
                 return Ok(());
             }
-            if let Some(reason) = stop.reason() {
+            if let Some(reason) = signals.reason() {
                 return Err(reason);
             }
             if self.collect(alloc, rays)? {
+                signals.count();
                 backoff.reset();
             } else {
-                backoff.wait(rt, stop);
+                signals.wait(rt, &mut backoff);
             }
         }
         unreachable!()
@@ -246,7 +249,7 @@ impl Submitter {
         rt: &R,
         alloc: Global,
         rays: &Rays,
-        stop: &StopSignal,
+        signals: &mut WindowSignals,
         number: usize,
         line: &[u8],
     ) -> Result<(), StopReason>
@@ -261,8 +264,10 @@ impl Submitter {
         if is_blank(line) {
             return Ok(());
         }
-        self.make_room(rt, alloc, rays, stop)?;
-        self.send(alloc, rays, number, line)
+        self.make_room(rt, alloc, rays, signals)?;
+        let sent = self.send(alloc, rays, number, line);
+        signals.count();
+        sent
     }
 
     #[tactic(auto, using(crate::proofs::RingEnds::same_window, crate::proofs::Collecting::window_then))]
@@ -272,7 +277,7 @@ impl Submitter {
         rt: &R,
         alloc: Global,
         rays: &Rays,
-        stop: &StopSignal,
+        signals: &mut WindowSignals,
         input: &[u8],
     ) -> Result<(), StopReason>
         requires none { self.old.refused ≡ 0 }
@@ -284,10 +289,10 @@ impl Submitter {
         for number in 1..usize::MAX {
             match first_line(rest) {
                 Some((line, more)) => {
-                    self.hand_in(rt, alloc, rays, stop, number, line)?;
+                    self.hand_in(rt, alloc, rays, signals, number, line)?;
                     rest = more;
                 }
-                None => return self.hand_in(rt, alloc, rays, stop, number, rest),
+                None => return self.hand_in(rt, alloc, rays, signals, number, rest),
             }
         }
         Err(StopReason::NoMemory)

@@ -6,8 +6,8 @@ ghost use Rattle.desk_room.specs.inside.Threads.{AllFresh, IsFreshWindow, AllRep
 ghost use Rattle.desk_room.specs.inside.Submitters.{Reports};
 
 use crate::serving::bench_thread::run_bench;
+use crate::serving::signals::{Signals, StopReason};
 use crate::serving::solve_gates::Gate;
-use crate::serving::stop_signal::{StopReason, StopSignal};
 use crate::serving::window_thread::{Report, run_window};
 use chess_moves::Rays;
 use room_ends::{Bench, Window};
@@ -38,7 +38,7 @@ pub(crate) fn run_windows<R: Threads + Wait + Sync>(
     rays: &Rays,
     mut windows: Vec<Window>,
     inputs: &[Vec<u8>],
-    stop: &StopSignal,
+    signals: &Signals,
 ) -> Result<Vec<Report>, AllocError>
     requires as_many { vec_len windows ≡ length inputs.now }
     requires fresh { AllFresh windows.items }
@@ -50,8 +50,9 @@ pub(crate) fn run_windows<R: Threads + Wait + Sync>(
     let Some((input, rest)) = inputs.split_last() else {
         unreachable!()
     };
-    if windows.is_empty() {
-        let only = run_window(rt, alloc, rays, window, input.as_slice(), stop);
+    let number = windows.len();
+    if number == 0 {
+        let only = run_window(rt, alloc, rays, window, number, input.as_slice(), signals);
         let mut one = Vec::new(alloc);
         return match one.push(only) {
             Ok(()) => Ok(one),
@@ -72,17 +73,25 @@ pub(crate) fn run_windows<R: Threads + Wait + Sync>(
             let others = move || -> Result<Vec<Report>, AllocError>
                 requires { IsSync R.row × (vec_len windows ≡ length rest.now) × AllFresh windows.items }
                 ensures { IfOk result (λ all. AllReport windows.items (map (λ v. v.items) rest.entry.now) all.items) }
-            { run_windows(rt, alloc, rays, windows, rest, stop) };
+            { run_windows(rt, alloc, rays, windows, rest, signals) };
             match scope.spawn_with(promise, others) {
                 Ok(child) => {
-                    let mine = run_window(rt, alloc, rays, window, input.as_slice(), stop);
+                    let mine = run_window(
+                        rt,
+                        alloc,
+                        rays,
+                        window,
+                        number,
+                        input.as_slice(),
+                        signals,
+                    );
                     (mine, child.join(rt))
                 }
                 Err(refused) => {
-                    stop.send(StopReason::NoThread);
+                    signals.stop(StopReason::NoThread);
                     let theirs = (refused.value)();
                     (
-                        run_window(rt, alloc, rays, window, input.as_slice(), stop),
+                        run_window(rt, alloc, rays, window, number, input.as_slice(), signals),
                         theirs,
                     )
                 }
@@ -113,14 +122,14 @@ pub(crate) fn run_benches<R: Threads + Wait + Sync, G: Gate>(
     mut benches: Vec<Bench>,
     entries: usize,
     gate: &G,
-    stop: &StopSignal,
+    signals: &Signals,
 ) {
     let Some(bench) = benches.pop() else {
         return;
     };
     let number = benches.len();
     if number == 0 {
-        run_bench(rt, alloc, rays, bench, number, entries, gate, stop);
+        run_bench(rt, alloc, rays, bench, number, entries, gate, signals);
         return;
     }
     thread::scope(
@@ -131,14 +140,14 @@ pub(crate) fn run_benches<R: Threads + Wait + Sync, G: Gate>(
         {
             let others = move ||
                 requires { IsSync R.row × IsSync G.row }
-            { run_benches(rt, alloc, rays, benches, entries, gate, stop) };
+            { run_benches(rt, alloc, rays, benches, entries, gate, signals) };
             match scope.spawn_with(BenchesDone, others) {
                 Ok(child) => {
-                    run_bench(rt, alloc, rays, bench, number, entries, gate, stop);
+                    run_bench(rt, alloc, rays, bench, number, entries, gate, signals);
                     child.join(rt);
                 }
                 Err(refused) => {
-                    stop.send(StopReason::NoThread);
+                    signals.stop(StopReason::NoThread);
                     (refused.value)();
                 }
             }

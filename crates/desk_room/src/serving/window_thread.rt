@@ -1,13 +1,12 @@
 //! At one window: an input is handed in, its reply collected, and the window comes back with that, in a report.
 
 ghost use Rattle.std.specs.Prelude.{◌≡◌, [], OnOk};
-ghost use Rattle.mate_answers.specs.InputReplies.{lines_of};
+ghost use Rattle.text_lines.specs.Lines.{lines_of};
 ghost use Rattle.room_ends.specs.Letters.{records};
 ghost use Rattle.room_ends.specs.Windows.{letters_sent, collected, SameWindow};
 ghost use Rattle.desk_room.specs.inside.Submitters.{HasHandled, Reports};
 
-use crate::serving::backoff::Backoff;
-use crate::serving::stop_signal::{StopReason, StopSignal};
+use crate::serving::signals::{Signals, StopReason, WindowSignals};
 use crate::serving::submitters::Submitter;
 use chess_moves::Rays;
 use mate_answers::Output;
@@ -24,20 +23,22 @@ pub(crate) struct Report {
 
 #[tactic(auto, using(crate::proofs::RingEnds::same_window, crate::proofs::Collecting::window_then))]
 /// Says farewell, once the record ring has a place for it.
-fn say_bye<R: Wait>(rt: &R, window: &mut Window, stop: &StopSignal)
+fn say_bye<R: Wait>(rt: &R, window: &mut Window, signals: &mut WindowSignals)
     ensures window { SameWindow window.old window.new }
     ensures records { records (letters_sent window.new) ≡ records (letters_sent window.old) }
     ensures collected { collected window.new ≡ collected window.old }
 {
-    let mut backoff = Backoff::new();
+    let mut backoff = signals.backoff();
     for _ in rt.forever() {
         if let Ok(()) = window.bye() {
+            signals.count();
+            signals.end();
             return;
         }
-        if stop.reason().is_some() {
+        if signals.reason().is_some() {
             return;
         }
-        backoff.wait(rt, stop);
+        signals.wait(rt, &mut backoff);
     }
 }
 
@@ -49,7 +50,7 @@ fn drive<R: Wait>(
     rays: &Rays,
     submitter: &mut Submitter,
     input: &[u8],
-    stop: &StopSignal,
+    signals: &mut WindowSignals,
 ) -> Result<(), StopReason>
     requires none { submitter.old.refused ≡ 0 }
     requires handled { HasHandled [] submitter.old }
@@ -57,8 +58,8 @@ fn drive<R: Wait>(
     ensures none { OnOk result (submitter.new.pending_replies.items ≡ []) }
     ensures handled { OnOk result (HasHandled (lines_of input.now) submitter.new) }
 {
-    submitter.hand_in_all(rt, alloc, rays, stop, input)?;
-    submitter.collect_all(rt, alloc, rays, stop)
+    submitter.hand_in_all(rt, alloc, rays, signals, input)?;
+    submitter.collect_all(rt, alloc, rays, signals)
 }
 
 /// Hands an input in at a window and collects the reply to it, unless the stop signal comes first.
@@ -67,15 +68,17 @@ pub(crate) fn run_window<R: Wait>(
     alloc: Global,
     rays: &Rays,
     window: Window,
+    number: usize,
     input: &[u8],
-    stop: &StopSignal,
+    signals: &Signals,
 ) -> Report
     requires sent { letters_sent window ≡ [] }
     requires collected { collected window ≡ [] }
     ensures { Reports window input.now result }
 {
+    let mut signals = WindowSignals::new(signals, number);
     let mut submitter = Submitter::new(alloc, window);
-    let ended = drive(rt, alloc, rays, &mut submitter, input, stop);
+    let ended = drive(rt, alloc, rays, &mut submitter, input, &mut signals);
     let Submitter {
         mut window,
         text,
@@ -84,14 +87,14 @@ pub(crate) fn run_window<R: Wait>(
     } = submitter;
     match ended {
         Ok(()) => {
-            say_bye(rt, &mut window, stop);
+            say_bye(rt, &mut window, &mut signals);
             Report {
                 window,
                 reply: Some(Output { text, refused }),
             }
         }
         Err(reason) => {
-            stop.send(reason);
+            signals.stop(reason);
             Report {
                 window,
                 reply: None,

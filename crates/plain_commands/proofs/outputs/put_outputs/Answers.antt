@@ -1,6 +1,6 @@
 use Rattle.std.proofs.Common.{rules, subst}
 use Rattle.byte_streams.specs.Stops.{AppendsPart}
-use Rattle.mate_answers.specs.declared.input_replies.Output.{Output}
+use Rattle.text_lines.specs.declared.replies.Output.{Output}
 use Rattle.plain_commands.proofs.WrittenOutputs.{breaks_off, part_there}
 use Rattle.plain_commands.proofs.outputs.put_outputs.Goals as goal
 

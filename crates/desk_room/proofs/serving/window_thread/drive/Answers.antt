@@ -1,4 +1,4 @@
-use Rattle.mate_answers.specs.InputReplies.{lines_of}
+use Rattle.text_lines.specs.Lines.{lines_of}
 use Rattle.desk_room.proofs.Handed.{on_ok}
 use Rattle.desk_room.proofs.serving.window_thread.drive.Goals as goal
 

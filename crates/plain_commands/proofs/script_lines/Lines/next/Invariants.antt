@@ -1,5 +1,5 @@
 use Rattle.std.proofs.Common.{◌≡◌, ◌+◌, ◌<◌, ◌^◌, length}
-use Rattle.mate_answers.specs.InputReplies.{lines_of}
+use Rattle.text_lines.specs.Lines.{lines_of}
 use Rattle.plain_commands.specs.Scripts.{said_from}
 use Rattle.plain_commands.proofs.script_lines.Lines.next.Given as goal
 

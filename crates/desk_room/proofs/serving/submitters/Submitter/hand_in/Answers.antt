@@ -1,6 +1,7 @@
 use Rattle.std.proofs.Common.{◌≡◌, true, false, map, rules, sym}
 use Rattle.chess_notation.specs.Words.{is_blank}
-use Rattle.mate_answers.specs.InputReplies.{without_cr, skipped}
+use Rattle.text_lines.specs.Lines.{without_cr}
+use Rattle.mate_answers.specs.InputReplies.{skipped}
 use Rattle.room_ends.specs.Letters.{records}
 use Rattle.desk_room.specs.Deliveries.{asked}
 use Rattle.room_ends.specs.Windows.{letters_sent, collected, default_of}
@@ -18,4 +19,4 @@ returns-then-is_blank-clause-handled g c lines at old =
 pub returns-clause-handled : goal.returns-clause-handled
 returns-clause-handled g c =
     let filled : is_blank c.without_cr-line.result.now ≡ false = search rules in
-    on_ok c.send.result c.send.ensures.handled (λ handled lines at old. handled lines c.args.line.now at (sym c.without_cr-line.ensures) filled (c.in_ok-make_room.ensures.collects.handled lines old))
+    on_ok c.send-sent.result c.send-sent.ensures.handled (λ handled lines at old. handled lines c.args.line.now at (sym c.without_cr-line.ensures) filled (c.in_ok-make_room.ensures.collects.handled lines old))

@@ -1,6 +1,8 @@
 use Rattle.std.proofs.Common.{◌≡◌, ◌≢◌, ◌+◌, ◌∙◌, ap, sym, length, rules, subst, ℕ}
 use Rattle.chess_notation.specs.declared.epd_faults.EpdFault.TheVariants.{NoMemory}
-use Rattle.mate_answers.specs.InputReplies.{fault_line, IsLineReply, without_cr}
+use Rattle.text_lines.specs.Lines.{without_cr}
+use Rattle.text_lines.specs.Refusals.{fault_line}
+use Rattle.mate_answers.specs.InputReplies.{IsLineReply}
 use Rattle.room_ends.specs.Windows.{default_of}
 use Rattle.room_ends.specs.WindowFaults.{RefusesLine}
 use Rattle.desk_room.proofs.Handed.{on_ok, handled_record, handled_same, refused_line}

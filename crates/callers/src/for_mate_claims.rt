@@ -1,0 +1,27 @@
+//! A caller of `mate_claims`.
+
+ghost use Rattle.std.specs.Prelude.{◌≡◌, ◌↔◌, ℕ, List, [], Option, IfOk, Some, true};
+ghost use Rattle.mate_claims.specs.ClaimReplies.{IsTold};
+ghost use Rattle.mate_claims.specs.declared.verdicts.Verdict.{Verdict as VerdictValue};
+
+use chess_moves::Rays;
+use chess_notation::NoMemory;
+use chess_problems::Bound;
+use mate_claims::{Verdict, told_of};
+use mate_search::Memo;
+use std::alloc::Global;
+
+/// Whether a line is a record that keeps to what it claims of its keys.
+pub fn is_sound(
+    alloc: Global,
+    rays: &Rays,
+    memo: &mut Memo,
+    line: &[u8],
+    default: Bound,
+) -> Result<bool, NoMemory>
+    ensures { IfOk result (λ sound. (row : List ℕ) × (verdict : Option VerdictValue) × IsTold [] default line.now row verdict
+        × ((sound ≡ true) ↔ (verdict ≡ Some VerdictValue.Sound))) }
+{
+    let told = told_of(alloc, rays, b"", line, default, memo)?;
+    Ok(matches!(told.verdict, Some(Verdict::Sound)))
+}

@@ -1,0 +1,2 @@
+pub mod DividedCounts
+pub mod PlayedSteps

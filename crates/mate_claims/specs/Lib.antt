@@ -1,0 +1,4 @@
+pub mod Verdicts
+pub mod Rows
+pub mod Counts
+pub mod ClaimReplies

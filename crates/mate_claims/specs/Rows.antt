@@ -1,0 +1,50 @@
+-- The row of a line: seven fields, parted by tabs (own to this project).
+use Rattle.std.specs.Prelude.{ℕ, ◌==◌, List, [], ◌∷◌, ◌++◌, map, filter, drop, codes, decimal, not}
+use Rattle.chess_board.specs.Characters.{char}
+use Rattle.chess_board.specs.Positions.{Setup}
+use Rattle.chess_board.specs.Moves.{Move}
+use Rattle.chess_problems.specs.declared.outcomes.Outcome.{Outcome}
+use Rattle.chess_problems.specs.declared.outcomes.Outcome.TheVariants.{Mate, NoMate}
+use Rattle.chess_notation.specs.SanText.{san_text}
+use Rattle.chess_notation.specs.Opcodes.{operands_under}
+use Rattle.chess_notation.specs.Answers.{in_order, operand_words}
+use Rattle.chess_notation.specs.Records.{RecordValue}
+use Rattle.mate_claims.specs.Verdicts.{verdict_of, verdict_name}
+
+-- a hyphen in place of nothing
+abbrev pub or_hyphen : List ℕ → List ℕ
+or_hyphen [] = char "-" ∷ []
+or_hyphen (b ∷ bs) = b ∷ bs
+
+-- a field behind its tab
+abbrev pub field : List ℕ → List ℕ
+field text = char "\t" ∷ or_hyphen text
+
+-- moves as the `bm` of an answer lists them, parted by spaces
+abbrev pub moves_field : Setup → List Move → List ℕ
+moves_field p moves = field (drop 1 (operand_words (in_order (map (san_text p) moves))))
+
+abbrev pub length_field : ℕ → List ℕ
+length_field n = field (char "#" ∷ decimal n)
+
+abbrev pub found_field : Outcome → List ℕ
+found_field (Mate n keys pv) = length_field n
+found_field NoMate = field []
+
+abbrev pub keys_field : Setup → Outcome → List ℕ
+keys_field p (Mate n keys pv) = moves_field p keys.items
+keys_field p NoMate = field []
+
+-- operands of which each stands behind a space, without the first space and the quotation marks
+abbrev pub unquoted : List ℕ → List ℕ
+unquoted operands = filter (λ b. not (b == char "\"")) (drop 1 operands)
+
+-- the row of a record: its line's place, the verdict, the lengths asked for and found, the keys, the moves claimed, the operands of `id`
+unfoldable pub record_row : List ℕ → RecordValue → List Move → Outcome → List ℕ
+record_row place r claimed outcome =
+    place ++ field (verdict_name (verdict_of r.bound claimed outcome)) ++ length_field r.bound ++ found_field outcome ++ keys_field r.position outcome
+    ++ moves_field r.position claimed ++ field (unquoted (operands_under (codes "id") r.rest)) ++ char "\n" ∷ []
+
+-- the row of a line that is refused: its place and the fault's name
+unfoldable pub refused_row : List ℕ → List ℕ → List ℕ
+refused_row place name = place ++ field name ++ field [] ++ field [] ++ field [] ++ field [] ++ field [] ++ char "\n" ∷ []

@@ -1,0 +1,35 @@
+-- The verdict on what a record claims, by what is true of its problem (own to this project).
+use Rattle.std.specs.Prelude.{ℕ, nat_lt, List, [], ◌∷◌, length, codes, Bool, not, if◌then◌else◌}
+use Rattle.std.specs.List.{list_all, list_any}
+use Rattle.chess_board.specs.Moves.{Move}
+use Rattle.chess_problems.specs.declared.outcomes.Outcome.{Outcome}
+use Rattle.chess_problems.specs.declared.outcomes.Outcome.TheVariants.{Mate, NoMate}
+use Rattle.chess_problems.specs.SameProblems.{is_same_move}
+use Rattle.mate_claims.specs.declared.verdicts.Verdict.{Verdict}
+use Rattle.mate_claims.specs.declared.verdicts.Verdict.TheVariants.{Sound, Cooked, Wrong, Short, Unsolvable}
+
+-- A verdict is printed as a word.
+abbrev pub verdict_name : Verdict → List ℕ
+verdict_name Sound = codes "sound"
+verdict_name Cooked = codes "cooked"
+verdict_name Wrong = codes "wrong"
+verdict_name Short = codes "short"
+verdict_name Unsolvable = codes "unsolvable"
+
+-- Each of these moves is among the others.
+abbrev pub are_among : List Move → List Move → Bool
+are_among others moves = list_all (λ m. list_any (is_same_move m) others) moves
+
+-- A key isn't claimed; where no move is claimed, there is more than one key.
+abbrev pub is_cooked : List Move → List Move → Bool
+is_cooked [] keys = nat_lt 1 (length keys)
+is_cooked (m ∷ ms) keys = not (are_among (m ∷ ms) keys)
+
+-- the verdict where the shortest mate is as long as was asked for: a claimed move is no key, or a key isn't claimed, or neither
+abbrev pub keys_verdict : List Move → List Move → Verdict
+keys_verdict claimed keys = if not (are_among keys claimed) then Wrong else (if is_cooked claimed keys then Cooked else Sound)
+
+-- the first that applies: there is no mate, there is one in fewer moves, or the verdict by its keys
+unfoldable pub verdict_of : ℕ → List Move → Outcome → Verdict
+verdict_of asked claimed (Mate n keys pv) = if nat_lt n asked then Short else keys_verdict claimed keys.items
+verdict_of asked claimed NoMate = Unsolvable

@@ -1,0 +1,151 @@
+//! The lines of an input held against their own claims, row by row.
+
+ghost use Rattle.std.specs.Prelude.{◌≡◌, ◌++◌, ◌≤◌, ℕ, List, IfErr, IfOk, decimal};
+ghost use Rattle.std.specs.Io.KnownBytes.{Appends};
+ghost use Rattle.byte_streams.specs.Inputs.{MayBe};
+ghost use Rattle.byte_streams.specs.Stops.{AppendsBy};
+ghost use Rattle.chess_notation.specs.Words.{is_blank};
+ghost use Rattle.chess_notation.specs.Records.{max_line};
+ghost use Rattle.text_lines.specs.Replies.{IsReply, IsReplyToFirst};
+ghost use Rattle.mate_claims.specs.ClaimReplies.{IsClaimReply, IsTold, refusals_of};
+ghost use Rattle.mate_claims.specs.Counts.{with_one};
+
+use crate::claim_replies::{Told, told_of};
+use crate::counts::Counts;
+use crate::rows::refused_row;
+use crate::verdicts::Verdict;
+use byte_streams::{Input, NoMemory, Stop};
+use chess_moves::Rays;
+use chess_notation::EpdFault;
+use chess_problems::Bound;
+use mate_search::Memo;
+use std::alloc::{AllocError, Global};
+use std::io::Write;
+use text_lines::{LineHandler, Output, answer_input};
+
+/// What holds lines against their own claims: the bound of a record that asks for none, and what stands before the number of each
+/// line in its row.
+#[derive(Clone, Copy)]
+pub struct ClaimRows<'a> {
+    pub rays: &'a Rays,
+    pub default: Bound,
+    pub prefix: &'a [u8],
+}
+
+/// What goes from each line to the next: a memo, and how many lines came to which verdict.
+#[derive(Drop)]
+pub struct ClaimMemory {
+    pub memo: Memo,
+    pub counts: Counts,
+}
+
+/// The place of a line, by its number.
+fn place_of(alloc: Global, prefix: &[u8], number: usize) -> Result<Vec<u8>, AllocError>
+    ensures { IfOk result (λ place. place.items ≡ prefix.now ++ decimal number) }
+{
+    let mut place = Vec::from_slice(alloc, prefix)?;
+    place.extend_from_slice(number.to_string(alloc)?.as_bytes())?;
+    Ok(place)
+}
+
+/// How many refusals a verdict is, or none.
+fn refusals(verdict: Option<Verdict>) -> usize
+    ensures count { result ≡ refusals_of verdict }
+    ensures few { result ≤ 1 }
+{
+    match verdict {
+        Some(Verdict::Sound) => 0,
+        _ => 1,
+    }
+}
+
+impl ClaimRows<'_> {
+    /// What is told of a line, which is counted.
+    fn tell(
+        &self,
+        alloc: Global,
+        number: usize,
+        line: &[u8],
+        memory: &mut ClaimMemory,
+    ) -> Result<Told, NoMemory>
+        ensures told { IfOk result (λ told. IsTold (self.now.prefix.now ++ decimal number) self.now.default line.now told.row.items told.verdict) }
+        ensures counts { IfOk result (λ told. memory.new.counts ≡ with_one told.verdict memory.old.counts) }
+        ensures room { memory.new.memo.room ≡ memory.old.memo.room }
+    {
+        let place = place_of(alloc, self.prefix, number)?;
+        let told = told_of(
+            alloc,
+            self.rays,
+            place.as_slice(),
+            line,
+            self.default,
+            &mut memory.memo,
+        )?;
+        let Some(counts) = memory.counts.with(told.verdict) else {
+            return Err(NoMemory);
+        };
+        memory.counts = counts;
+        Ok(told)
+    }
+}
+
+impl LineHandler for ClaimRows<'_> {
+    ghost use Rattle.mate_claims.specs.ClaimReplies.{IsClaimReply, skipped};
+
+    type Memory = ClaimMemory;
+
+    ghost replies = { λ rows. IsClaimReply rows.prefix.now rows.default };
+
+    ghost room = { λ memory. memory.memo.room };
+
+    /// The row of a line, with a newline behind it.
+    fn answer(
+        &self,
+        alloc: Global,
+        number: usize,
+        line: &[u8],
+        memory: &mut ClaimMemory,
+    ) -> Result<Output, NoMemory> {
+        let told = self.tell(alloc, number, line, memory)?;
+        Ok(Output {
+            refused: refusals(told.verdict),
+            text: told.row,
+        })
+    }
+
+    fn refuse_long(&self, alloc: Global, number: usize) -> Result<Output, NoMemory> {
+        let place = place_of(alloc, self.prefix, number)?;
+        Ok(Output {
+            text: refused_row(alloc, place.as_slice(), EpdFault::TooLong.code())?,
+            refused: 1,
+        })
+    }
+
+    ghost skips = { λ rows number line blank. skipped blank };
+}
+
+/// Holds each line of an input against its own claims: the row of each is written before the next is waited for. Gives how many lines
+/// are not sound.
+///
+/// Where it stops before the end, the rows of some of the first lines are written. The memory counts the verdicts.
+pub fn claim_input<I: Input + Drop, O: Write>(
+    alloc: Global,
+    rows: &ClaimRows<'_>,
+    input: I,
+    memory: &mut ClaimMemory,
+    out: &mut O,
+) -> Result<usize, Stop>
+    ensures ok { IfOk result (λ refused. (bytes : List ℕ) × (text : List ℕ) × MayBe (I.left input) bytes × IsReply (IsClaimReply rows.now.prefix.now rows.now.default) bytes text refused
+        × Appends (O.contents out.old) (O.contents out.new) text) }
+    ensures err { IfErr result (λ stop. (bytes : List ℕ) × (text : List ℕ) × MayBe (I.left input) bytes × IsReplyToFirst (IsClaimReply rows.now.prefix.now rows.now.default) bytes text
+        × AppendsBy stop (O.contents out.old) (O.contents out.new) text) }
+    ensures unreadable { IfErr result (λ stop. stop ≡ Stop.Unreadable → I.breaks input) }
+    ensures room { memory.new.memo.room ≡ memory.old.memo.room }
+{
+    let before = memory.counts.not_sound();
+    let count = answer_input(alloc, rows, input, memory, out)?;
+    // A line that is too long is refused unread, so that no count has it yet.
+    let counted = memory.counts.not_sound().saturating_sub(before);
+    memory.counts = memory.counts.with_refused(count.saturating_sub(counted));
+    Ok(count)
+}

@@ -1,0 +1,159 @@
+//! The row of a line: seven fields, parted by tabs.
+
+ghost use Rattle.std.specs.Prelude.{◌≡◌, ◌++◌, IfOk, OnOk, codes, drop};
+ghost use Rattle.chess_notation.specs.Opcodes.{operands_under};
+ghost use Rattle.chess_problems.specs.Outcomes.{AreLegal, IsPlayable};
+ghost use Rattle.mate_claims.specs.Rows.{or_hyphen as text_or_hyphen, field, moves_field, length_field, found_field, keys_field, unquoted, record_row as record_row_of, refused_row as refused_row_of};
+
+use crate::verdicts::judge;
+use byte_streams::NoMemory;
+use chess_board::{Move, Position};
+use chess_moves::Rays;
+use chess_notation::{Operation, Record, kept_operands, listed_text};
+use chess_problems::{Bound, Outcome};
+use std::alloc::{AllocError, Global};
+
+/// A hyphen in place of nothing.
+fn or_hyphen(text: &[u8]) -> &[u8]
+    ensures { result.now ≡ text_or_hyphen text.now }
+{
+    match text {
+        [] => b"-",
+        [_, ..] => text,
+    }
+}
+
+/// A text without its first byte.
+fn without_first(text: &[u8]) -> &[u8]
+    ensures { result.now ≡ drop 1 text.now }
+{
+    match text {
+        [] => &[],
+        [_, rest @ ..] => rest,
+    }
+}
+
+/// Adds a field behind a tab.
+fn push_field(row: &mut Vec<u8>, text: &[u8]) -> Result<(), AllocError>
+    ensures { OnOk result (row.new.items ≡ row.old.items ++ field text.now) }
+{
+    row.push(b'\t')?;
+    row.extend_from_slice(or_hyphen(text))?;
+    Ok(())
+}
+
+/// Adds a length.
+fn push_length(alloc: Global, row: &mut Vec<u8>, length: Bound) -> Result<(), AllocError>
+    ensures { OnOk result (row.new.items ≡ row.old.items ++ length_field length) }
+{
+    row.extend_from_slice(b"\t#")?;
+    row.extend_from_slice(length.get().to_string(alloc)?.as_bytes())?;
+    Ok(())
+}
+
+/// Adds the length that was found.
+fn push_found(alloc: Global, row: &mut Vec<u8>, outcome: &Outcome) -> Result<(), AllocError>
+    ensures { OnOk result (row.new.items ≡ row.old.items ++ found_field outcome.now) }
+{
+    match outcome {
+        Outcome::Mate { dm, .. } => push_length(alloc, row, *dm),
+        Outcome::NoMate => push_field(row, b""),
+    }
+}
+
+/// Adds moves of one position.
+fn push_moves(
+    alloc: Global,
+    row: &mut Vec<u8>,
+    rays: &Rays,
+    position: &Position,
+    moves: &[Move],
+) -> Result<(), NoMemory>
+    requires { AreLegal position.now moves.now }
+    ensures { OnOk result (row.new.items ≡ row.old.items ++ moves_field position.now moves.now) }
+{
+    let listed = listed_text(alloc, rays, position, moves)?;
+    push_field(row, without_first(listed.as_bytes()))?;
+    Ok(())
+}
+
+/// Adds the keys that were found.
+#[tactic(auto, unfolding(chess_problems::specs::Outcomes::IsPlayable))]
+fn push_keys(
+    alloc: Global,
+    row: &mut Vec<u8>,
+    rays: &Rays,
+    position: &Position,
+    outcome: &Outcome,
+) -> Result<(), NoMemory>
+    requires { IsPlayable position.now outcome.now }
+    ensures { OnOk result (row.new.items ≡ row.old.items ++ keys_field position.now outcome.now) }
+{
+    match outcome {
+        Outcome::Mate { keys, .. } => push_moves(alloc, row, rays, position, keys.as_slice()),
+        Outcome::NoMate => {
+            push_field(row, b"")?;
+            Ok(())
+        }
+    }
+}
+
+/// Operands of which each stands behind a space, without the first space and the quotation marks.
+fn unquoted_text(alloc: Global, operands: &[u8]) -> Result<Vec<u8>, AllocError>
+    ensures { IfOk result (λ text. text.items ≡ unquoted operands.now) }
+{
+    let mut text = Vec::new(alloc);
+    for byte in without_first(operands) {
+        if *byte != b'"' {
+            text.push(*byte)?;
+        }
+    }
+    Ok(text)
+}
+
+/// Adds the operands of `id`.
+fn push_id(alloc: Global, row: &mut Vec<u8>, operations: &[Operation]) -> Result<(), AllocError>
+    ensures { OnOk result (row.new.items ≡ row.old.items ++ field (unquoted (operands_under (codes "id") operations.now))) }
+{
+    let text = unquoted_text(alloc, kept_operands(operations, b"id"))?;
+    push_field(row, text.as_slice())
+}
+
+/// The row of a record by which these moves are claimed, with a newline: the place of its line, the verdict, the numbers of moves
+/// asked for and found, the keys and the moves claimed as `bm` of an answer lists them, and the operands of `id`. Only a growth that
+/// is refused is an error.
+#[tactic(auto, unfolding(crate::specs::Rows::record_row))]
+pub fn record_row(
+    alloc: Global,
+    rays: &Rays,
+    place: &[u8],
+    record: &Record,
+    claimed: &[Move],
+    outcome: &Outcome,
+) -> Result<Vec<u8>, NoMemory>
+    requires claimed { AreLegal «record».now.position claimed.now }
+    requires found { IsPlayable «record».now.position outcome.now }
+    ensures { IfOk result (λ row. row.items ≡ record_row_of place.now «record».now claimed.now outcome.now) }
+{
+    let mut row = Vec::from_slice(alloc, place)?;
+    let verdict = judge(record.bound, claimed, outcome);
+    push_field(&mut row, verdict.code().as_bytes())?;
+    push_length(alloc, &mut row, record.bound)?;
+    push_found(alloc, &mut row, outcome)?;
+    push_keys(alloc, &mut row, rays, &record.position, outcome)?;
+    push_moves(alloc, &mut row, rays, &record.position, claimed)?;
+    push_id(alloc, &mut row, record.rest.as_slice())?;
+    row.extend_from_slice(b"\n")?;
+    Ok(row)
+}
+
+/// The row of a line that is refused, with a newline: its place and the fault's name.
+#[tactic(auto, unfolding(crate::specs::Rows::refused_row))]
+pub fn refused_row(alloc: Global, place: &[u8], name: &str) -> Result<Vec<u8>, AllocError>
+    ensures { IfOk result (λ row. row.items ≡ refused_row_of place.now name.now) }
+{
+    let mut row = Vec::from_slice(alloc, place)?;
+    push_field(&mut row, name.as_bytes())?;
+    row.extend_from_slice(b"\t-\t-\t-\t-\t-\n")?;
+    Ok(row)
+}

@@ -1,0 +1,22 @@
+-- Where `verify` stops behind all its rows.
+use Rattle.std.proofs.Common.{◌≡◌, ◌∙◌, Bor, ℕ, Bool, List, Option, sym, ap, subst, map, length, nat_lt}
+use Rattle.std.specs.Bool.{⊤}
+use Rattle.std.proofs.lemmas.List.{length-map}
+use Rattle.byte_streams.specs.declared.stops.Stop.TheVariants as stop
+use Rattle.plain_commands.specs.FileAnswers.{Answers, AnswersFirst}
+use Rattle.plain_commands.specs.Sources.{HoldsEach}
+use Rattle.plain_commands.specs.Verified.{StopsVerifying, claim_replies, first_claim_replies, has_several}
+use Rattle.plain_commands.specs.Writing.{Gains}
+use Rattle.plain_commands.proofs.AnsweredFiles.{all_answered}
+
+pub stops_uncounted : HoldsEach → (holds : List ℕ → Option (List ℕ)) (refuses : List ℕ → Type 0) (bound : ℕ) (names : List (Bor (List ℕ))) (several unsound : Bool) (old new : Option (List ℕ))
+    → several ≡ nat_lt 1 (length names) → Gains (Answers holds (claim_replies several bound) (map (λ s. s.now) names) unsound) old new
+    → StopsVerifying holds refuses bound (map (λ s. s.now) names) stop.NoMemory old new
+stops_uncounted each holds refuses bound names several unsound old new is gains =
+    let texts = map (λ (s : Bor (List ℕ)). s.now) names in
+    let same : has_several texts ≡ several = ap (nat_lt 1) (length-map names (λ s. s.now)) ∙ sym is in
+    subst (λ b. Gains (AnswersFirst holds (claim_replies b bound) (first_claim_replies b bound) texts (λ _. ⊤)) old new) (sym same) (record {
+      gained = gains.gained;
+      shows = all_answered each holds (claim_replies several bound) (first_claim_replies several bound) texts unsound gains.gained gains.shows;
+      appends = gains.appends;
+    })

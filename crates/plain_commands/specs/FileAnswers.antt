@@ -1,0 +1,54 @@
+-- What is shown of files that are answered line by line, one after the other, and where that stops.
+use Rattle.std.specs.Prelude.{◌≡◌, ◌+◌, ◌++◌, ℕ, Bool, List, [], ◌∷◌, Option, nat_lt, length, take, drop, ⊤}
+use Rattle.byte_streams.specs.Inputs.{MayBe}
+use Rattle.byte_streams.specs.declared.stops.Stop.{Stop}
+use Rattle.byte_streams.specs.declared.stops.Stop.TheVariants.{NoMemory, Unreadable, Unwritable, NoReader}
+use Rattle.plain_commands.specs.Sources.{Holds}
+use Rattle.plain_commands.specs.Writing.{Gains, GainsPart}
+
+-- What the inputs of files are answered, one after the other, and how many of their lines are refused, where `Replies` says it of a
+-- file's name and its input.
+abbrev pub AreReplies : (List ℕ → List ℕ → List ℕ → ℕ → Type 0) → (names inputs : List (List ℕ)) → List ℕ → ℕ → Type 0
+AreReplies Replies [] [] text refusals = (text ≡ []) × (refusals ≡ 0)
+AreReplies Replies (name ∷ names) (input ∷ inputs) text refusals = (here : List ℕ) × (count : ℕ) × (more : List ℕ) × (others : ℕ)
+    × Replies name input here count × AreReplies Replies names inputs more others × (text ≡ here ++ more) × (refusals ≡ count + others)
+AreReplies Replies _ _ text refusals = ⊥
+
+-- The replies to what the names hold, and whether a line of it is refused.
+pub record Answers (holds : List ℕ → Option (List ℕ)) (Replies : List ℕ → List ℕ → List ℕ → ℕ → Type 0) (names : List (List ℕ)) (refused : Bool) (gained : List ℕ) : Type 0 where
+  pub inputs : List (List ℕ)
+  pub refusals : ℕ
+  pub given : Holds holds names inputs
+  pub are_replies : AreReplies Replies names inputs gained refusals
+  pub refusal : refused ≡ nat_lt 0 refusals
+
+-- what some of the first lines of the first file are answered, where `First` says it of a file's name and its input
+abbrev pub IsReplyIn : (List ℕ → Option (List ℕ)) → (List ℕ → List ℕ → List ℕ → Type 0) → List (List ℕ) → List ℕ → Type 0
+IsReplyIn holds First [] text = text ≡ []
+IsReplyIn holds First (name ∷ names) text = (input : List ℕ) × MayBe (holds name) input × First name input text
+
+-- The replies to the first files, and to some of the first lines of the next: what there is to write where it stops there. The names
+-- from that file on are such as `Stops` says.
+pub record AnswersFirst (holds : List ℕ → Option (List ℕ)) (Replies : List ℕ → List ℕ → List ℕ → ℕ → Type 0) (First : List ℕ → List ℕ → List ℕ → Type 0) (names : List (List ℕ)) (Stops : List (List ℕ) → Type 0) (text : List ℕ) : Type 0 where
+  pub inputs : List (List ℕ)
+  pub whole : List ℕ
+  pub refusals : ℕ
+  pub part : List ℕ
+  pub given : Holds holds (take (length inputs) names) inputs
+  pub are_replies : AreReplies Replies (take (length inputs) names) inputs whole refusals
+  pub next : IsReplyIn holds First (drop (length inputs) names) part
+  pub text_is : text ≡ whole ++ part
+  pub stops : Stops (drop (length inputs) names)
+
+-- The first of the names is one that may be refused.
+abbrev pub FirstRefused : (List ℕ → Type 0) → List (List ℕ) → Type 0
+FirstRefused refuses [] = ⊥
+FirstRefused refuses (name ∷ names) = refuses name
+
+-- What the output gained where it stops: the replies to first lines; where a file can't be read, which may be refused, to all lines
+-- before that file; and where a write breaks off, a first part of such replies.
+abbrev pub StopsAnswering : (List ℕ → Option (List ℕ)) → (List ℕ → Type 0) → (List ℕ → List ℕ → List ℕ → ℕ → Type 0) → (List ℕ → List ℕ → List ℕ → Type 0) → List (List ℕ) → Stop → (old new : Option (List ℕ)) → Type 0
+StopsAnswering holds refuses Replies First names NoMemory old new = Gains (AnswersFirst holds Replies First names (λ _. ⊤)) old new
+StopsAnswering holds refuses Replies First names Unreadable old new = Gains (AnswersFirst holds Replies First names (FirstRefused refuses)) old new
+StopsAnswering holds refuses Replies First names Unwritable old new = GainsPart (AnswersFirst holds Replies First names (λ _. ⊤)) old new
+StopsAnswering holds refuses Replies First names NoReader old new = GainsPart (AnswersFirst holds Replies First names (λ _. ⊤)) old new

@@ -1,0 +1,97 @@
+//! Files that are answered line by line, one after the other.
+
+ghost use Rattle.std.specs.Prelude.{◌≡◌, ◌≤◌, ℕ, List, [], IfErr, IfOk, map, nat_lt};
+ghost use Rattle.std.specs.Io.KnownBytes.{Appends};
+ghost use Rattle.byte_streams.specs.Inputs.{MayBe};
+ghost use Rattle.byte_streams.specs.Stops.{AppendsBy};
+ghost use Rattle.plain_commands.specs.Writing.{Gains};
+ghost use Rattle.plain_commands.specs.FileAnswers.{Answers, StopsAnswering};
+
+use crate::sources::{Source, holds_reads};
+use crate::writing::complain_unreadable;
+use byte_streams::{Input, Stop};
+use std::alloc::Global;
+use std::io::Write;
+
+/// What a command answers the lines of a file, over a memory that goes on from file to file.
+pub(crate) trait FileAnswers {
+    /// What is kept from line to line.
+    type Memory;
+
+    /// What the file of a name with such an input is answered, and how many of its lines are refused.
+    ghost replies: { Self → List ℕ → List ℕ → List ℕ → ℕ → Type 0 };
+
+    /// What some of the first lines of it are answered.
+    ghost first: { Self → List ℕ → List ℕ → List ℕ → Type 0 };
+
+    /// Answers each line of a file of this name, before it reads on for the next; gives how many lines are refused.
+    fn answer<I: Input + Drop, O: Write>(
+        &self,
+        alloc: Global,
+        name: &str,
+        input: I,
+        memory: &mut Self::Memory,
+        out: &mut O,
+    ) -> Result<usize, Stop>
+        ensures ok { IfOk result (λ count. (bytes : List ℕ) × (text : List ℕ) × MayBe (I.left input) bytes × replies self.now name.now bytes text count
+            × Appends (O.contents out.old) (O.contents out.new) text) }
+        ensures err { IfErr result (λ stop. (bytes : List ℕ) × (text : List ℕ) × MayBe (I.left input) bytes × first self.now name.now bytes text
+            × AppendsBy stop (O.contents out.old) (O.contents out.new) text) }
+        ensures unreadable { IfErr result (λ stop. stop ≡ Stop.Unreadable → I.breaks input) };
+
+    /// No line is answered with nothing. It does nothing: its contract is the law.
+    fn begins_with_nothing(&self)
+        ensures { (name input : List ℕ) → first self.now name input [] };
+}
+
+/// Answers the file of a name; gives how many of its lines are refused.
+fn answer_file<A: FileAnswers, S: Source, O: Write>(
+    alloc: Global,
+    answers: &A,
+    name: &str,
+    source: &S,
+    memory: &mut A::Memory,
+    out: &mut O,
+) -> Result<usize, Stop>
+    ensures ok { IfOk result (λ count. (input : List ℕ) × (text : List ℕ) × MayBe (S.holds source.now name.now) input × A.replies answers.now name.now input text count
+        × Appends (O.contents out.old) (O.contents out.new) text) }
+    ensures err { IfErr result (λ stop. (input : List ℕ) × (text : List ℕ) × MayBe (S.holds source.now name.now) input × A.first answers.now name.now input text
+        × AppendsBy stop (O.contents out.old) (O.contents out.new) text) }
+    ensures unreadable { IfErr result (λ stop. stop ≡ Stop.Unreadable → S.refuses source.now name.now) }
+{
+    // What a file that can't be opened is answered.
+    answers.begins_with_nothing();
+    let file = source.open(alloc, name)?;
+    answers.answer(alloc, name, file, memory, out)
+}
+
+/// Answers each line of each file in order, and opens a file only after the answers to those before were written; gives whether a
+/// line was refused. A file that can't be read is named on `err`.
+pub(crate) fn answer_files<A: FileAnswers, S: Source, O: Write, E: Write>(
+    alloc: Global,
+    answers: &A,
+    names: &[&str],
+    source: &S,
+    memory: &mut A::Memory,
+    out: &mut O,
+    err: &mut E,
+) -> Result<bool, Stop>
+    ensures ok { IfOk result (λ refused. Gains (Answers (S.holds source.now) (A.replies answers.now) (map (λ s. s.now) names.now) refused) (O.contents out.old) (O.contents out.new)) }
+    ensures err { IfErr result (λ stop. StopsAnswering (S.holds source.now) (S.refuses source.now) (A.replies answers.now) (A.first answers.now) (map (λ s. s.now) names.now) stop (O.contents out.old) (O.contents out.new)) }
+{
+    // How the files that are answered so far go on with the next.
+    holds_reads();
+    let mut refused = false;
+    for name in names {
+        match answer_file(alloc, answers, name, source, memory, out) {
+            Ok(count) => refused |= count > 0,
+            Err(stop) => {
+                if stop == Stop::Unreadable {
+                    complain_unreadable(err, name);
+                }
+                return Err(stop);
+            }
+        }
+    }
+    Ok(refused)
+}

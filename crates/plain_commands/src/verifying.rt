@@ -1,0 +1,111 @@
+//! The command `verify`.
+
+ghost use Rattle.std.specs.Prelude.{◌≡◌, ◌++◌, IfErr, IfOk, map};
+ghost use Rattle.plain_commands.specs.Writing.{Gains};
+ghost use Rattle.plain_commands.specs.Verified.{StopsVerifying, Verifies, VerifiesNone, has_several, prefix_of};
+
+use crate::file_answers::{FileAnswers, answer_files};
+use crate::solving::new_memo;
+use crate::sources::{Source, holds_reads};
+use crate::writing::complain;
+use byte_streams::{Input, Stop};
+use chess_moves::Rays;
+use chess_problems::Bound;
+use command_words::MemoSize;
+use mate_claims::{ClaimMemory, ClaimRows, Counts, claim_input};
+use std::alloc::{AllocError, Global};
+use std::io::Write;
+
+/// Holds records against their claims, with the bound of those that say none.
+#[derive(Clone, Copy)]
+struct ClaimAnswers<'a> {
+    rays: &'a Rays,
+    bound: Bound,
+    /// Whether a row names its file.
+    several: bool,
+}
+
+/// What stands before the number of a line.
+fn prefix_of(alloc: Global, several: bool, name: &str) -> Result<Vec<u8>, AllocError>
+    ensures { IfOk result (λ prefix. prefix.items ≡ prefix_of several name.now) }
+{
+    let mut prefix = Vec::new(alloc);
+    if several {
+        prefix.extend_from_slice(name.as_bytes())?;
+        prefix.push(b':')?;
+    }
+    Ok(prefix)
+}
+
+impl<'a> FileAnswers for ClaimAnswers<'a> {
+    ghost use Rattle.plain_commands.specs.Verified.{claim_replies, first_claim_replies};
+
+    type Memory = ClaimMemory;
+
+    ghost replies = { λ answers. claim_replies answers.several answers.bound };
+
+    ghost first = { λ answers. first_claim_replies answers.several answers.bound };
+
+    fn answer<I: Input + Drop, O: Write>(
+        &self,
+        alloc: Global,
+        name: &str,
+        input: I,
+        memory: &mut ClaimMemory,
+        out: &mut O,
+    ) -> Result<usize, Stop> {
+        let prefix = prefix_of(alloc, self.several, name)?;
+        let rows = ClaimRows {
+            rays: self.rays,
+            default: self.bound,
+            prefix: prefix.as_slice(),
+        };
+        claim_input(alloc, &rows, input, memory, out)
+    }
+
+    #[tactic(auto, using(crate::proofs::Unopened::no_claim_reply))]
+    fn begins_with_nothing(&self) {}
+}
+
+/// Holds each record of each file, in order, against its claims, over one memo of such a size; gives whether a line isn't sound. At the
+/// end `err` is told how many lines came to which verdict; a file that can't be read is named there.
+pub fn verify<S: Source, O: Write, E: Write>(
+    alloc: Global,
+    bound: Bound,
+    size: MemoSize,
+    names: &[&str],
+    source: &S,
+    out: &mut O,
+    err: &mut E,
+) -> Result<bool, Stop>
+    ensures ok { IfOk result (λ refused. Gains (Verifies (S.holds source.now) bound (map (λ s. s.now) names.now) refused) (O.contents out.old) (O.contents out.new)) }
+    ensures err { IfErr result (λ stop. StopsVerifying (S.holds source.now) (S.refuses source.now) bound (map (λ s. s.now) names.now) stop (O.contents out.old) (O.contents out.new)) }
+{
+    // How many inputs there are of so many names.
+    holds_reads();
+    let rays = Rays::new();
+    let memo = new_memo(alloc, size.get() as usize)?;
+    let mut memory = ClaimMemory {
+        memo,
+        counts: Counts::new(),
+    };
+    let answers = ClaimAnswers {
+        rays: &rays,
+        bound,
+        several: names.len() > 1,
+    };
+    match answer_files(alloc, &answers, names, source, &mut memory, out, err) {
+        Ok(unsound) => {
+            let counts = memory.counts.text(alloc)?;
+            complain(err, counts.as_str());
+            Ok(unsound)
+        }
+        Err(stop) => Err(stop),
+    }
+}
+
+/// What a `verify` that ends before it has opened a file has written. It does nothing: its contract is the law.
+#[tactic(auto, using(crate::proofs::Unopened::verifies_none))]
+pub fn verifies_none()
+    ensures { VerifiesNone }
+{}

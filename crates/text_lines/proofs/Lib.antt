@@ -1,0 +1,3 @@
+pub mod InputLines
+pub mod KeptLines
+pub mod LineReplies
