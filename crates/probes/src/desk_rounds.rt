@@ -1,10 +1,9 @@
-//! Rounds of calls on a full desk, to be timed from outside: `desk_rounds SUBMITTERS ROOM ROUNDS KIND`.
+//! Rounds of calls on a full desk, to be timed from outside: `desk-rounds SUBMITTERS ROOM ROUNDS KIND`.
 //!
 //! The desk is filled first, submitter by submitter in turn. In a round of the kind `notice` the lowest record is taken, withdrawn
 //! and handed back, and its notice is collected; in one of the kind `answer` it is taken, solved and finished, and its answer is
-//! collected. Then its submitter hands in a record again, so that the desk stays full. At last the text of one answer is printed.
-//! Where something is refused, its name is said on standard error, and the status is 1. `bench/desk` runs it.
-#![tactic(auto)]
+//! collected. Then its submitter hands in a record again, so that the desk stays full. What is answered is the text of one answer.
+//! `bench/desk` runs it, and `tests/no_memory` with allocations refused.
 
 use chess_moves::Rays;
 use chess_notation::{Record, read_record};
@@ -13,9 +12,6 @@ use mate_desk::{Delivery, Desk};
 use mate_jobs::{Job, Ticket};
 use mate_search::Memo;
 use std::alloc::Global;
-use std::env;
-use std::process::ExitCode;
-use std::rt::Env;
 
 /// A problem that is solved in little time: there is no mate in 1 by a lone king.
 const LINE: &[u8] = b"k7/8/8/8/8/8/8/7K w - -";
@@ -31,11 +27,14 @@ struct Rounds {
 
 /// The rounds that four words ask for; none where they ask for none.
 fn rounds_of(words: &[String]) -> Option<Rounds> {
+    let [submitters, room, rounds, kind] = words else {
+        return None;
+    };
     Some(Rounds {
-        submitters: words.get(1)?.parse::<usize>().ok()?,
-        room: words.get(2)?.parse::<usize>().ok()?,
-        rounds: words.get(3)?.parse::<usize>().ok()?,
-        are_solved: match words.get(4)?.as_str() {
+        submitters: submitters.parse::<usize>().ok()?,
+        room: room.parse::<usize>().ok()?,
+        rounds: rounds.parse::<usize>().ok()?,
+        are_solved: match kind.as_str() {
             "notice" => false,
             "answer" => true,
             _ => return None,
@@ -130,23 +129,7 @@ fn make_rounds(alloc: Global, asked: Rounds) -> Result<String, &'static str> {
     answer_of(alloc, &rays, &mut memo)
 }
 
-/// Makes the rounds that the program's words ask for.
-fn answer<R: Env + AllocGlobal>(rt: &R, alloc: Global) -> Result<String, &'static str> {
-    let words = env::args(rt).ok().ok_or("NoMemory")?;
-    let words: Vec<String> = words.collect(alloc).ok().ok_or("NoMemory")?;
-    make_rounds(alloc, rounds_of(words.as_slice()).ok_or("words")?)
-}
-
-// A text that can't be written changes no status.
-fn main(rt: HostRuntime) -> ExitCode {
-    match answer(&rt, rt.alloc()) {
-        Ok(text) => {
-            let _ = println!(rt; "{text}");
-            ExitCode::from(0)
-        }
-        Err(name) => {
-            let _ = eprintln!(rt; "{name}");
-            ExitCode::from(1)
-        }
-    }
+/// Makes the rounds that the words ask for.
+pub(crate) fn answer(alloc: Global, words: &[String]) -> Result<String, &'static str> {
+    make_rounds(alloc, rounds_of(words).ok_or("words")?)
 }

@@ -1,6 +1,6 @@
 //! Calls of `mate_search` and `mate_jobs` on one record, and the text of an outcome.
 
-use crate::marks::{Stop, default, mark};
+use crate::refused_growths::marks::{Stop, default, mark};
 use chess_moves::Rays;
 use chess_notation::{NoMemory, Record, answer_text, read_record};
 use chess_problems::Outcome;

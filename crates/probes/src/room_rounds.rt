@@ -1,11 +1,9 @@
-//! Rounds through a room turned by hand, to be timed from outside: `room_rounds WINDOWS BENCHES RING ROUNDS KIND`.
+//! Rounds through a room turned by hand, to be timed from outside: `room-rounds WINDOWS BENCHES RING ROUNDS KIND`.
 //!
 //! In a round of the kind `letters` the last window fills its ring with records, the keeper turns, the last bench solves each job
 //! and gives it back, the keeper turns again, and the window collects what it is given. In one of the kind `idle` the keeper turns,
-//! and nothing lies in any ring. At last the benches are sent home, and the number of the answers that were collected is printed.
-//! Where a growth is refused, what was refused is tried again; where something else is, its name is said on standard error, and the
-//! status is 1. `bench/room` runs it, and `tests/no_memory` with refused growths.
-#![tactic(auto)]
+//! and nothing lies in any ring. At last the benches are sent home, and the number of the answers that were collected is answered.
+//! Where a growth is refused, what was refused is tried again. `bench/room` runs it, and `tests/no_memory` with refused growths.
 
 use chess_moves::Rays;
 use chess_notation::EpdFault;
@@ -13,9 +11,6 @@ use chess_problems::Bound;
 use desk_room::{Back, Bench, Keeper, Room, Taken, Window, WindowFault, open_room};
 use mate_search::Memo;
 use std::alloc::Global;
-use std::env;
-use std::process::ExitCode;
-use std::rt::Env;
 
 /// A mate in one, whose operation is kept for the answer.
 const LINE: &[u8] = b"6k1/5ppp/8/8/8/8/8/R3K3 w Q - dm 1; id \"back rank\";";
@@ -32,12 +27,15 @@ struct Rounds {
 
 /// The rounds that five words ask for; none where they ask for none.
 fn rounds_of(words: &[String]) -> Option<Rounds> {
+    let [windows, benches, ring, rounds, kind] = words else {
+        return None;
+    };
     Some(Rounds {
-        windows: words.get(1)?.parse::<usize>().ok()?,
-        benches: words.get(2)?.parse::<usize>().ok()?,
-        ring: words.get(3)?.parse::<usize>().ok()?,
-        rounds: words.get(4)?.parse::<usize>().ok()?,
-        are_idle: match words.get(5)?.as_str() {
+        windows: windows.parse::<usize>().ok()?,
+        benches: benches.parse::<usize>().ok()?,
+        ring: ring.parse::<usize>().ok()?,
+        rounds: rounds.parse::<usize>().ok()?,
+        are_idle: match kind.as_str() {
             "letters" => false,
             "idle" => true,
             _ => return None,
@@ -82,25 +80,31 @@ fn collect(window: &mut Window, ring: usize) -> usize {
     collected
 }
 
+/// The ends of a room that a round is made with.
+#[derive(Drop)]
+struct Ends {
+    keeper: Keeper,
+    window: Window,
+    bench: Bench,
+}
+
 /// Makes one round, and answers how many deliveries were collected. Where the deque can't grow, jobs wait for a later turn.
 fn make_round(
     alloc: Global,
     rays: &Rays,
     memo: &mut Memo,
-    keeper: &mut Keeper,
-    window: &mut Window,
-    bench: &mut Bench,
+    ends: &mut Ends,
     ring: usize,
 ) -> Result<usize, &'static str> {
     for _ in 0..ring {
-        send(alloc, rays, window)?;
+        send(alloc, rays, &mut ends.window)?;
     }
     let mut collected: usize = 0;
     for _ in 0..=ring {
-        keeper.turn();
-        solve(rays, memo, bench, ring)?;
-        keeper.turn();
-        collected = collected.wrapping_add(collect(window, ring));
+        ends.keeper.turn();
+        solve(rays, memo, &mut ends.bench, ring)?;
+        ends.keeper.turn();
+        collected = collected.wrapping_add(collect(&mut ends.window, ring));
         if ring <= collected {
             return Ok(collected);
         }
@@ -109,11 +113,11 @@ fn make_round(
 }
 
 /// Sends the benches home. Where the deque can't grow, stops stay owed until one was taken.
-fn close(keeper: &mut Keeper, bench: &mut Bench) -> Result<(), &'static str> {
-    keeper.close();
+fn close(ends: &mut Ends) -> Result<(), &'static str> {
+    ends.keeper.close();
     for _ in 0..16 {
-        let owed = keeper.send_home();
-        match bench.take() {
+        let owed = ends.keeper.send_home();
+        match ends.bench.take() {
             Taken::Stop => {}
             _ => return Err("no stop"),
         }
@@ -133,53 +137,33 @@ fn make_rounds(alloc: Global, asked: Rounds) -> Result<usize, &'static str> {
         Err(fault) => return Err(fault.code()),
     };
     let Room {
-        mut keeper,
+        keeper,
         mut windows,
         mut benches,
     } = match open_room(alloc, asked.windows, asked.benches, asked.ring, default) {
         Ok(room) => room,
         Err(fault) => return Err(fault.code()),
     };
-    let mut window = windows.pop().ok_or("window")?;
-    let mut bench = benches.pop().ok_or("bench")?;
+    let mut ends = Ends {
+        keeper,
+        window: windows.pop().ok_or("window")?,
+        bench: benches.pop().ok_or("bench")?,
+    };
     let mut collected: usize = 0;
     for _ in 0..asked.rounds {
         if asked.are_idle {
-            keeper.turn();
+            ends.keeper.turn();
         } else {
-            let more = make_round(
-                alloc,
-                &rays,
-                &mut memo,
-                &mut keeper,
-                &mut window,
-                &mut bench,
-                asked.ring,
-            )?;
+            let more = make_round(alloc, &rays, &mut memo, &mut ends, asked.ring)?;
             collected = collected.wrapping_add(more);
         }
     }
-    close(&mut keeper, &mut bench)?;
+    close(&mut ends)?;
     Ok(collected)
 }
 
-/// Makes the rounds that the program's words ask for.
-fn answer<R: Env + AllocGlobal>(rt: &R, alloc: Global) -> Result<usize, &'static str> {
-    let words = env::args(rt).ok().ok_or("NoMemory")?;
-    let words: Vec<String> = words.collect(alloc).ok().ok_or("NoMemory")?;
-    make_rounds(alloc, rounds_of(words.as_slice()).ok_or("words")?)
-}
-
-// A text that can't be written changes no status.
-fn main(rt: HostRuntime) -> ExitCode {
-    match answer(&rt, rt.alloc()) {
-        Ok(collected) => {
-            let _ = println!(rt; "{collected}");
-            ExitCode::from(0)
-        }
-        Err(name) => {
-            let _ = eprintln!(rt; "{name}");
-            ExitCode::from(1)
-        }
-    }
+/// Makes the rounds that the words ask for.
+pub(crate) fn answer(alloc: Global, words: &[String]) -> Result<String, &'static str> {
+    let collected = make_rounds(alloc, rounds_of(words).ok_or("words")?)?;
+    format!(in alloc; "{collected}").ok().ok_or("NoMemory")
 }

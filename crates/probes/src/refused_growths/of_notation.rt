@@ -1,6 +1,6 @@
 //! A call of `chess_notation`. Its `answer_text`, which wants an outcome, is called in `of_search`.
 
-use crate::marks::{Stop, default, mark};
+use crate::refused_growths::marks::{Stop, default, mark};
 use chess_moves::Rays;
 use chess_notation::{Record, read_record};
 use std::alloc::Global;

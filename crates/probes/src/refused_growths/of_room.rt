@@ -1,6 +1,6 @@
 //! The calls that open a room of `desk_room`.
 
-use crate::marks::{Stop, default, mark};
+use crate::refused_growths::marks::{Stop, default, mark};
 use chess_moves::Rays;
 use desk_room::{OpenGate, open_room, serve};
 use std::alloc::Global;

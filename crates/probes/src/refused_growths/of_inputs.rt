@@ -1,7 +1,7 @@
 //! Calls of `mate_answers` on an input of records.
 
-use crate::marks::{Stop, default, mark};
-use crate::of_search::memo_of;
+use crate::refused_growths::marks::{Stop, default, mark};
+use crate::refused_growths::of_search::memo_of;
 use chess_moves::Rays;
 use chess_notation::EpdFault;
 use mate_answers::{answer_input, fault_text, solve_input};

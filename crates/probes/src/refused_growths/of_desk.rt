@@ -1,6 +1,6 @@
 //! Calls of `mate_desk`.
 
-use crate::marks::{Stop, default, mark};
+use crate::refused_growths::marks::{Stop, default, mark};
 use chess_moves::Rays;
 use chess_notation::read_record;
 use mate_desk::{Desk, Reply, RunFault, Step, reply_text, run};

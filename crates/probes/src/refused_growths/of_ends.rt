@@ -1,6 +1,6 @@
 //! Calls of the ends of a room.
 
-use crate::marks::{Stop, default, mark};
+use crate::refused_growths::marks::{Stop, default, mark};
 use chess_moves::Rays;
 use desk_room::{Back, Bench, Keeper, Room, Taken, Window, WindowFault, open_room};
 use std::alloc::Global;

@@ -1,12 +1,10 @@
-//! Calls that take memory, each with growths refused in it: `refused_growths CALL`.
+//! Calls that take memory, each with growths refused in it: `refused-growths CALL`.
 //!
-//! Everything around the call has ample memory: the call stands between two marks, and `tests/refused_growths` runs this program under
-//! `tests/refuse.c`, which knows them. The first line that is printed is what the call answered. The lines behind it say what was found
-//! afterwards, and are the same whatever was refused. Where something else goes wrong, its name is said on standard error, and the
-//! status is 1.
+//! Everything around the call has ample memory: the call stands between two marks, and `tests/refused_growths` runs this under
+//! `tests/refuse.c`, which knows them. The first line that is answered is what the call answered. The lines behind it say what was found
+//! afterwards, and are the same whatever was refused.
 //!
 //! To read: `marks`; then the calls, by the crate that they are of: `of_notation`, `of_search`, `of_inputs`, `of_desk`, `of_room` and `of_ends`.
-#![tactic(auto)]
 
 mod marks;
 mod of_desk;
@@ -16,12 +14,9 @@ mod of_notation;
 mod of_room;
 mod of_search;
 
-use crate::marks::Stop;
+use crate::refused_growths::marks::Stop;
 use chess_moves::Rays;
 use std::alloc::Global;
-use std::env;
-use std::process::ExitCode;
-use std::rt::Env;
 use std::sync::Wait;
 use std::thread::Threads;
 
@@ -54,26 +49,17 @@ fn tell<R: Threads + Wait + Sync>(
     }
 }
 
-/// What the call that the program's word names answered.
-fn answer<R: Env + AllocGlobal + Threads + Wait + Sync>(
+/// What the call that the word names answered.
+pub(crate) fn answer<R: Threads + Wait + Sync>(
     rt: &R,
     alloc: Global,
-) -> Result<String, Stop> {
-    let words = env::args(rt).ok().ok_or("NoMemory")?;
-    let words: Vec<String> = words.collect(alloc).ok().ok_or("NoMemory")?;
-    let name = words.get(1).ok_or("no call")?;
-    tell(rt, alloc, &Rays::new(), name.as_str())
-}
-
-fn main(rt: HostRuntime) -> ExitCode {
-    match answer(&rt, rt.alloc()) {
-        Ok(told) => {
-            let _ = println!(rt; "{told}");
-            ExitCode::from(0)
-        }
-        Err(Stop(name)) => {
-            let _ = eprintln!(rt; "{name}");
-            ExitCode::from(1)
-        }
+    words: &[String],
+) -> Result<String, &'static str> {
+    let [name] = words else {
+        return Err("no call");
+    };
+    match tell(rt, alloc, &Rays::new(), name.as_str()) {
+        Ok(told) => Ok(told),
+        Err(Stop(name)) => Err(name),
     }
 }
