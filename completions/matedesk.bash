@@ -1,7 +1,7 @@
 # Completions of matedesk for bash: commands, options, the values of --bound, --workers and DEPTH, codes, and files. A FEN has none.
 
 _matedesk() {
-    local word=${COMP_WORDS[COMP_CWORD]} before=${COMP_WORDS[COMP_CWORD - 1]} options depth=3
+    local word=${COMP_WORDS[COMP_CWORD]} before=${COMP_WORDS[COMP_CWORD - 1]} command=${COMP_WORDS[1]} options depth=3 files=
     # bash makes a word of the = of an option.
     [[ $before != '=' ]] || before=${COMP_WORDS[COMP_CWORD - 2]}
     [[ $word != '=' ]] || word=
@@ -12,24 +12,27 @@ _matedesk() {
         mapfile -t COMPREPLY < <(compgen -W "$options" -- "$word")
         return
     fi
-    case ${COMP_WORDS[1]} in
+    # With --lines it is another command.
+    [[ $command != @(look|moves|perft) || " ${COMP_WORDS[*]:2:COMP_CWORD - 2} " != *' --lines '* ]] || command+=' --lines'
+    case $command in
     solve | verify) options='--bound --memo -h --help' ;;
     serve) options='--workers --bound --memo -h --help' ;;
-    look) options='--board --flip -h --help' ;;
-    moves) options='--coordinates --fen -h --help' ;;
-    perft) options='--divide -h --help' ;;
-    replay | play | explain) options='-h --help' ;;
+    look) options='--board --flip --lines -h --help' ;;
+    moves) options='--coordinates --fen --lines -h --help' ;;
+    perft) options='--divide --lines -h --help' ;;
+    'look --lines') options='--board -h --help' ;;
+    replay | play | explain | *' --lines') options='-h --help' ;;
     *) return ;;
     esac
-    case ${COMP_WORDS[1]},$before,$word in
+    case $command,$before,$word in
     solve,--bound,* | verify,--bound,* | serve,--bound,*) mapfile -t COMPREPLY < <(compgen -W "$(echo {1..15})" -- "$word") ;;
     serve,--workers,*) mapfile -t COMPREPLY < <(compgen -W "$(echo {1..16})" -- "$word") ;;
     solve,--memo,* | verify,--memo,* | serve,--memo,*) ;;
+    'perft --lines,--lines,' | 'perft --lines,--lines,'[!-]*) mapfile -t COMPREPLY < <(compgen -W "$(echo {0..6})" -- "$word") ;;
+    *' --lines,'*,-*) mapfile -t COMPREPLY < <(compgen -W "$options" -- "$word") ;;
+    *' --lines,'*) files=1 ;;
     *,-*) mapfile -t COMPREPLY < <(compgen -W "$options" -- "$word") ;;
-    solve,* | verify,* | serve,* | replay,*)
-        mapfile -t COMPREPLY < <(compgen -f -- "$word")
-        compopt -o filenames 2>/dev/null
-        ;;
+    solve,* | verify,* | serve,* | replay,*) files=1 ;;
     perft,*)
         [[ ${COMP_WORDS[2]} != --divide ]] || depth=4
         ((COMP_CWORD != depth)) || mapfile -t COMPREPLY < <(compgen -W "$(echo {0..6})" -- "$word")
@@ -38,6 +41,10 @@ _matedesk() {
         ((COMP_CWORD != 2)) || mapfile -t COMPREPLY < <(compgen -W "$("${COMP_WORDS[0]}" explain 2>/dev/null | cut -d : -f 1)" -- "$word")
         ;;
     esac
+    if [[ $files ]]; then
+        mapfile -t COMPREPLY < <(compgen -f -- "$word")
+        compopt -o filenames 2>/dev/null
+    fi
 }
 
 complete -F _matedesk matedesk

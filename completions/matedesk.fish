@@ -24,6 +24,8 @@ complete -c matedesk -n '__fish_seen_subcommand_from look' -l flip -d 'Draw it a
 complete -c matedesk -n '__fish_seen_subcommand_from moves' -l coordinates -d 'Write moves by their coordinates'
 complete -c matedesk -n '__fish_seen_subcommand_from moves' -l fen -d 'Write the FEN after each move'
 complete -c matedesk -n '__fish_seen_subcommand_from perft' -l divide -d 'Count the lines behind each first move too'
+complete -c matedesk -n '__fish_seen_subcommand_from look moves perft' -l lines -d 'Read files of positions'
 complete -c matedesk -n '__fish_seen_subcommand_from solve verify serve replay' -F
+complete -c matedesk -n '__fish_seen_subcommand_from look moves perft; and string match -q -- --lines (commandline -opc)' -F
 complete -c matedesk -n '__fish_seen_subcommand_from perft; and test (count (string match -v -- "-*" (commandline -opc))) -eq 3' -a '(seq 0 6)' -d 'Depth'
 complete -c matedesk -n '__fish_seen_subcommand_from explain' -a '(matedesk explain 2>/dev/null | cut -d : -f 1)' -d 'Fault'

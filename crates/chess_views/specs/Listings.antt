@@ -1,7 +1,9 @@
 -- The legal moves of a FEN, listed.
-use Rattle.std.specs.Prelude.{◌++◌, ℕ, List, codes, flat_map}
+use Rattle.std.specs.Prelude.{◌++◌, ℕ, List, ◌∷◌, codes, drop, flat_map}
+use Rattle.chess_board.specs.Characters.{char}
 use Rattle.chess_board.specs.Fens.{FenValue, fen_text}
 use Rattle.chess_board.specs.Moves.{Move, move_text}
+use Rattle.chess_board.specs.Positions.{Setup}
 use Rattle.chess_moves.specs.inside.Listing.{legal_moves}
 use Rattle.chess_moves.specs.Verdicts.{verdict_of}
 use Rattle.chess_moves.specs.declared.verdicts.Verdict.{Verdict}
@@ -31,3 +33,16 @@ text_by Stalemate columns v = line (codes "stalemate")
 
 unfoldable pub moves_text : Columns → FenValue → List ℕ
 moves_text columns v = text_by (verdict_of v.position) columns v
+
+-- moves in SAN with one space between each two
+unfoldable pub spaced_moves : Setup → List Move → List ℕ
+spaced_moves p moves = drop 1 (flat_map (λ m. char " " ∷ san_text p m) moves)
+
+abbrev pub words_by : Verdict → Setup → List ℕ
+words_by Play p = spaced_moves p (legal_moves p)
+words_by Mate p = codes "mate"
+words_by Stalemate p = codes "stalemate"
+
+-- the legal moves on one line, in move order, or how the game has ended where there is none
+unfoldable pub moves_line : FenValue → List ℕ
+moves_line v = line (words_by (verdict_of v.position) v.position)

@@ -17,6 +17,6 @@ pub use boards::board_text;
 pub use columns::Columns;
 pub use counts::{divided_text, division_sums, perft_text};
 pub use lines::push_line;
-pub use listings::moves_text;
+pub use listings::{moves_line, moves_text};
 pub use looks::{look_board_text, look_text, reached_text};
 pub use played::{after_fen, play};

@@ -24,6 +24,27 @@ fn misused_words_end_with_two(rt: HostRuntime) -> Result<(), Fail> {
         ("look --board", "required arguments were not provided"),
         ("look --board --board a", "cannot be used multiple times"),
         ("look -- -abc d", "unexpected argument 'd'"),
+        ("look --lines", "required arguments were not provided"),
+        ("look --flip --lines a", "unexpected argument '--flip'"),
+        (
+            "look --lines --board --flip a",
+            "unexpected argument '--flip'",
+        ),
+        ("look --lines --lines a", "unexpected argument '--lines'"),
+        ("look a --lines", "unexpected argument '--lines'"),
+        ("moves --lines", "required arguments were not provided"),
+        ("moves --fen --lines a", "unexpected argument '--fen'"),
+        (
+            "moves --lines --coordinates a",
+            "unexpected argument '--coordinates'",
+        ),
+        ("perft --lines 1", "required arguments were not provided"),
+        ("perft --lines 7 a", "7 is not in 0..=6"),
+        ("perft --lines a 1", "invalid value 'a'"),
+        (
+            "perft --divide --lines 1 a",
+            "unexpected argument '--divide'",
+        ),
         ("watch a", "unrecognized subcommand 'watch'"),
         ("help", "unrecognized subcommand 'help'"),
         ("--fen", "unexpected argument '--fen'"),
@@ -112,6 +133,22 @@ fn help_and_version_go_to_out(rt: HostRuntime) -> Result<(), Fail> {
         ("look --help", "Forsyth-Edwards Notation"),
         ("look -h", "Usage: matedesk look [OPTIONS] <FEN>"),
         ("play -h", "Usage: matedesk play <FEN> [MOVE]..."),
+        (
+            "look --lines -h",
+            "Usage: matedesk look --lines [OPTIONS] <FILE>...",
+        ),
+        (
+            "look --board --lines -h",
+            "Usage: matedesk look --lines [OPTIONS] <FILE>...",
+        ),
+        (
+            "moves --lines -h",
+            "Usage: matedesk moves --lines <FILE>...",
+        ),
+        (
+            "perft --lines -h",
+            "Usage: matedesk perft --lines <DEPTH> <FILE>...",
+        ),
         ("explain -h", "Usage: matedesk explain [CODE]"),
         (
             "solve --help",

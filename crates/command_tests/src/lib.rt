@@ -11,6 +11,8 @@ mod fen_command_tests;
 #[cfg(test)]
 mod output_tests;
 #[cfg(test)]
+mod position_line_tests;
+#[cfg(test)]
 mod script_tests;
 #[cfg(test)]
 mod solve_tests;

@@ -1,3 +1,4 @@
 mod Escapes
+mod JoinedWords
 mod Numbers
 mod Parsed

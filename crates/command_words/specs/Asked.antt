@@ -15,8 +15,10 @@ use Rattle.chess_board.specs.declared.men.Colour.TheVariants.{White, Black}
 use Rattle.chess_problems.specs.Problems.{bound_of}
 use Rattle.command_words.specs.CommandLine.{desk_app}
 use Rattle.command_words.specs.Limits.{depth_of}
-use Rattle.command_words.specs.Hyphens.{escaped}
 use Rattle.command_words.specs.Limits.{memo_size_of, workers_of}
+use Rattle.command_words.specs.LineCommands.{given}
+use Rattle.command_words.specs.declared.request.LineView.{LineView}
+use Rattle.command_words.specs.declared.request.LineView.TheVariants as shown
 use Rattle.command_words.specs.declared.request.MoveForm.{MoveForm}
 use Rattle.command_words.specs.declared.request.MoveForm.TheVariants.{San, Coordinates, SanFen, SanCoordinatesFen}
 
@@ -28,6 +30,7 @@ pub data Asked : Type 0 where
   moves : MoveForm → Text → Asked
   perft : Text → ℕ → Asked
   divide : Text → ℕ → Asked
+  lines : LineView → List Text → Asked
   solve : ℕ → ℕ → List Text → Asked
   verify : ℕ → ℕ → List Text → Asked
   serve : ℕ → ℕ → ℕ → List Text → Asked
@@ -96,6 +99,16 @@ perft_at rows depth fen = if is_given (codes "divide") rows then divide fen dept
 abbrev pub perft_in : List Row → Option Asked
 perft_in rows = option_and_then (λ depth. option_map (perft_at rows depth) (first_of (codes "FEN") rows)) (depth_in rows)
 
+-- what the arguments of a command over lines ask for, by what it shows of each
+abbrev pub lines_in : LineView → List Row → Option Asked
+lines_in view rows = option_map (lines view) (all_of (codes "FILE") rows)
+
+abbrev pub look_lines_in : List Row → Option Asked
+look_lines_in rows = lines_in (if is_given (codes "board") rows then shown.Board else shown.Look) rows
+
+abbrev pub perft_lines_in : List Row → Option Asked
+perft_lines_in rows = option_and_then (λ depth. lines_in (shown.Perft depth) rows) (depth_in rows)
+
 -- what the arguments of `solve` ask for
 abbrev pub solve_in : List Row → Option Asked
 solve_in rows = option_and_then (λ bound. option_and_then (λ memo. option_map (λ names. solve bound memo names) (all_of (codes "FILE") rows)) (memo_size_in rows)) (bound_in rows)
@@ -122,6 +135,9 @@ asked_by name rows =
     else if bytes_eq name (codes "serve") then serve_in rows
     else if bytes_eq name (codes "replay") then option_map replay (first_of (codes "SCRIPT") rows)
     else if bytes_eq name (codes "explain") then Some (explain (first_of (codes "CODE") rows))
+    else if bytes_eq name (codes "look --lines") then look_lines_in rows
+    else if bytes_eq name (codes "moves --lines") then lines_in shown.Moves rows
+    else if bytes_eq name (codes "perft --lines") then perft_lines_in rows
     else None
 
 -- asks for `serve`, the one command that starts threads
@@ -174,12 +190,12 @@ asks_display_exactly words = asks_display_in desk_app words
 
 -- what the words ask for; none where they are at fault, or ask for help or the version
 abbrev pub asked : List Text → Option Asked
-asked words = asked_exactly (escaped words)
+asked words = asked_exactly (given words)
 
 -- whether the words may be taken to ask for help or the version
 abbrev pub may_display : List Text → Bool
-may_display words = may_display_exactly (escaped words)
+may_display words = may_display_exactly (given words)
 
 -- whether they ask for nothing else
 abbrev pub asks_display : List Text → Bool
-asks_display words = asks_display_exactly (escaped words)
+asks_display words = asks_display_exactly (given words)

@@ -75,6 +75,16 @@ moves_app = with_rule (with_rule (with_rule (new_app (codes "moves")) (flag_rule
 abbrev pub perft_app : App
 perft_app = with_rule (with_rule (with_rule (new_app (codes "perft")) (flag_rule (codes "divide"))) (wanted (codes "FEN"))) depth_rule
 
+-- the commands that answer lines of positions
+abbrev pub look_lines_app : App
+look_lines_app = with_rule (with_rule (new_app (codes "look --lines")) (flag_rule (codes "board"))) files_rule
+
+abbrev pub moves_lines_app : App
+moves_lines_app = with_rule (new_app (codes "moves --lines")) files_rule
+
+abbrev pub perft_lines_app : App
+perft_lines_app = with_rule (with_rule (new_app (codes "perft --lines")) depth_rule) files_rule
+
 abbrev pub explain_app : App
 explain_app = with_rule (new_app (codes "explain")) (new_rule (codes "CODE"))
 
@@ -95,6 +105,10 @@ bare_app = record (new_app (codes "matedesk")) {
 abbrev pub with_fen_apps : App → App
 with_fen_apps a = with_subcommand (with_subcommand (with_subcommand a look_app.top) play_app.top) moves_app.top
 
+-- with those that do so of each line of files
+abbrev pub with_line_apps : App → App
+with_line_apps a = with_subcommand (with_subcommand (with_subcommand a look_lines_app.top) moves_lines_app.top) perft_lines_app.top
+
 -- with the command that counts lines, and the one that explains faults
 abbrev pub with_other_apps : App → App
 with_other_apps a = with_subcommand (with_subcommand a perft_app.top) explain_app.top
@@ -109,7 +123,7 @@ with_desk_apps a = with_subcommand (with_subcommand a serve_app.top) replay_app.
 
 -- the whole command line
 abbrev pub desk_app : App
-desk_app = with_other_apps (with_fen_apps (with_desk_apps (with_problem_apps bare_app)))
+desk_app = with_line_apps (with_other_apps (with_fen_apps (with_desk_apps (with_problem_apps bare_app))))
 
 -- no argument of the command is global
 abbrev pub IsLocal : Command → Type 0

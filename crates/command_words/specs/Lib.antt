@@ -2,4 +2,5 @@ pub mod Asked
 pub mod CommandLine
 pub mod Limits
 pub mod Hyphens
+pub mod LineCommands
 pub mod Request

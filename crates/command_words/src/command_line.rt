@@ -2,15 +2,16 @@
 
 ghost use Rattle.std.specs.Prelude.{◌≡◌, IfOk, codes, false};
 ghost use Rattle.clap.specs.Words.{app_of, new_rule, rule_of, with_rule, with_subcommand};
-ghost use Rattle.command_words.specs.CommandLine.{IsLocal, bare_app, bound_rule, depth_rule, desk_app, explain_app, files_rule, flag_rule, look_app, memo_rule, moves_app, moves_rule, perft_app, play_app, replay_app, serve_app, solve_app, verify_app, wanted, with_desk_apps, with_fen_apps, with_other_apps, with_problem_apps, with_solving_options, workers_rule};
+ghost use Rattle.command_words.specs.CommandLine.{IsLocal, bare_app, bound_rule, depth_rule, desk_app, explain_app, files_rule, flag_rule, look_app, look_lines_app, memo_rule, moves_app, moves_lines_app, moves_rule, perft_app, perft_lines_app, play_app, replay_app, serve_app, solve_app, verify_app, wanted, with_desk_apps, with_fen_apps, with_line_apps, with_other_apps, with_problem_apps, with_solving_options, workers_rule};
 
 use crate::help::{
     ABOUT, ABOUT_BOARD, ABOUT_BOUND, ABOUT_CODE, ABOUT_COORDINATES, ABOUT_DEPTH, ABOUT_DIVIDE,
-    ABOUT_EXPLAIN, ABOUT_FEN, ABOUT_FENS, ABOUT_FILE, ABOUT_FLIP, ABOUT_LOOK, ABOUT_MEMO,
-    ABOUT_MEMOS, ABOUT_MOVE, ABOUT_MOVES, ABOUT_PERFT, ABOUT_PLAY, ABOUT_REPLAY, ABOUT_SCRIPT,
-    ABOUT_SERVE, ABOUT_SOLVE, ABOUT_VERIFY, ABOUT_WORKERS, AFTER_EXPLAIN, AFTER_HELP, AFTER_LOOK,
-    AFTER_MOVES, AFTER_PERFT, AFTER_PLAY, AFTER_REPLAY, AFTER_SERVE, AFTER_SOLVE, AFTER_VERIFY,
-    VERSION,
+    ABOUT_EXPLAIN, ABOUT_FEN, ABOUT_FENS, ABOUT_FILE, ABOUT_FLIP, ABOUT_LOOK, ABOUT_LOOK_LINES,
+    ABOUT_MEMO, ABOUT_MEMOS, ABOUT_MOVE, ABOUT_MOVES, ABOUT_MOVES_LINES, ABOUT_PERFT,
+    ABOUT_PERFT_LINES, ABOUT_PLAY, ABOUT_POSITIONS, ABOUT_REPLAY, ABOUT_SCRIPT, ABOUT_SERVE,
+    ABOUT_SOLVE, ABOUT_VERIFY, ABOUT_WORKERS, AFTER_EXPLAIN, AFTER_HELP, AFTER_LOOK,
+    AFTER_LOOK_LINES, AFTER_MOVES, AFTER_MOVES_LINES, AFTER_PERFT, AFTER_PERFT_LINES, AFTER_PLAY,
+    AFTER_REPLAY, AFTER_SERVE, AFTER_SOLVE, AFTER_VERIFY, VERSION,
 };
 use clap::{Arg, ArgAction, Command, value_parser};
 use std::alloc::{AllocError, Global};
@@ -93,11 +94,11 @@ fn code_arg<'a>(alloc: Global) -> Arg<'a>
 }
 
 /// The names of files, one or more.
-fn files_arg<'a>(alloc: Global) -> Arg<'a>
+fn files_arg<'a>(alloc: Global, help: &'a str) -> Arg<'a>
     ensures rule { rule_of result ≡ files_rule }
     ensures local { result.global ≡ false }
 {
-    wanted_arg(alloc, "FILE", ABOUT_FILE).num_args(1..)
+    wanted_arg(alloc, "FILE", help).num_args(1..)
 }
 
 /// `Command::arg`, by what a parse reads of its result.
@@ -153,7 +154,7 @@ fn solve_command<'a>(alloc: Global) -> Result<Command<'a>, AllocError>
         .about(ABOUT_SOLVE)
         .after_help(AFTER_SOLVE);
     let command = with_solving_options(alloc, command, "65536", ABOUT_MEMO)?;
-    with_arg(command, files_arg(alloc))
+    with_arg(command, files_arg(alloc, ABOUT_FILE))
 }
 
 fn verify_command<'a>(alloc: Global) -> Result<Command<'a>, AllocError>
@@ -163,7 +164,7 @@ fn verify_command<'a>(alloc: Global) -> Result<Command<'a>, AllocError>
         .about(ABOUT_VERIFY)
         .after_help(AFTER_VERIFY);
     let command = with_solving_options(alloc, command, "65536", ABOUT_MEMO)?;
-    with_arg(command, files_arg(alloc))
+    with_arg(command, files_arg(alloc, ABOUT_FILE))
 }
 
 fn serve_command<'a>(alloc: Global) -> Result<Command<'a>, AllocError>
@@ -174,7 +175,7 @@ fn serve_command<'a>(alloc: Global) -> Result<Command<'a>, AllocError>
         .after_help(AFTER_SERVE);
     let command = with_arg(command, workers_arg(alloc))?;
     let command = with_solving_options(alloc, command, "16384", ABOUT_MEMOS)?;
-    with_arg(command, files_arg(alloc))
+    with_arg(command, files_arg(alloc, ABOUT_FILE))
 }
 
 fn replay_command<'a>(alloc: Global) -> Result<Command<'a>, AllocError>
@@ -232,6 +233,34 @@ fn perft_command<'a>(alloc: Global) -> Result<Command<'a>, AllocError>
     with_arg(command, depth_arg(alloc))
 }
 
+fn look_lines_command<'a>(alloc: Global) -> Result<Command<'a>, AllocError>
+    ensures { IfOk result (λ c. (app_of c ≡ look_lines_app) × IsLocal c) }
+{
+    let command = Command::new(alloc, "look --lines")
+        .about(ABOUT_LOOK_LINES)
+        .after_help(AFTER_LOOK_LINES);
+    let board = flag_arg(alloc, "board", ABOUT_BOARD);
+    with_args(command, board, files_arg(alloc, ABOUT_POSITIONS))
+}
+
+fn moves_lines_command<'a>(alloc: Global) -> Result<Command<'a>, AllocError>
+    ensures { IfOk result (λ c. (app_of c ≡ moves_lines_app) × IsLocal c) }
+{
+    let command = Command::new(alloc, "moves --lines")
+        .about(ABOUT_MOVES_LINES)
+        .after_help(AFTER_MOVES_LINES);
+    with_arg(command, files_arg(alloc, ABOUT_POSITIONS))
+}
+
+fn perft_lines_command<'a>(alloc: Global) -> Result<Command<'a>, AllocError>
+    ensures { IfOk result (λ c. (app_of c ≡ perft_lines_app) × IsLocal c) }
+{
+    let command = Command::new(alloc, "perft --lines")
+        .about(ABOUT_PERFT_LINES)
+        .after_help(AFTER_PERFT_LINES);
+    with_args(command, depth_arg(alloc), files_arg(alloc, ABOUT_POSITIONS))
+}
+
 fn explain_command<'a>(alloc: Global) -> Result<Command<'a>, AllocError>
     ensures { IfOk result (λ c. (app_of c ≡ explain_app) × IsLocal c) }
 {
@@ -270,6 +299,15 @@ fn with_other_commands<'a>(alloc: Global, command: Command<'a>) -> Result<Comman
     with_command(command, explain_command(alloc)?)
 }
 
+/// Adds the commands that answer each line of files, a position.
+fn with_line_commands<'a>(alloc: Global, command: Command<'a>) -> Result<Command<'a>, AllocError>
+    ensures { IfOk result (λ c. app_of c ≡ with_line_apps (app_of command.entry)) }
+{
+    let command = with_command(command, look_lines_command(alloc)?)?;
+    let command = with_command(command, moves_lines_command(alloc)?)?;
+    with_command(command, perft_lines_command(alloc)?)
+}
+
 /// Adds the commands that answer the records of files one after the other.
 fn with_problem_commands<'a>(alloc: Global, command: Command<'a>) -> Result<Command<'a>, AllocError>
     ensures { IfOk result (λ c. app_of c ≡ with_problem_apps (app_of command.entry)) }
@@ -293,5 +331,6 @@ pub fn desk_command<'a>(alloc: Global) -> Result<Command<'a>, AllocError>
     let command = with_problem_commands(alloc, bare_command(alloc))?;
     let command = with_desk_commands(alloc, command)?;
     let command = with_fen_commands(alloc, command)?;
-    with_other_commands(alloc, command)
+    let command = with_other_commands(alloc, command)?;
+    with_line_commands(alloc, command)
 }

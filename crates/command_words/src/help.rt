@@ -25,6 +25,7 @@ Examples:
   matedesk play \"rnbqkbnr/pppppppp/8/8/8/8/PPPPPPPP/RNBQKBNR w KQkq - 0 1\" f3 e5 g4 Qh4
   matedesk moves \"8/8/8/K2pP2r/8/8/8/7k w - d6 0 1\"
   matedesk perft \"rnbqkbnr/pppppppp/8/8/8/8/PPPPPPPP/RNBQKBNR w KQkq - 0 1\" 3
+  matedesk moves --lines positions.epd
   matedesk explain BadKings
 
 Status:
@@ -263,7 +264,7 @@ Example:
 
 Options stand before FEN. A FEN that gives no sound position is refused: the error
 output names its first fault, which `matedesk explain CODE` explains, and the status
-is 1.";
+is 1. For many positions there is `matedesk look --lines`.";
 
 /// The option `--board` in one line.
 pub const ABOUT_BOARD: &str = "Draws the board too, and says who is to move";
@@ -314,7 +315,8 @@ The pawn on d5 can't be taken en passant: two pawns would leave the rank of the 
 
 With --coordinates a move stands there as `g2h1`, with a small letter for what a pawn
 becomes. With --fen each line has SAN, a tab and the FEN after the move, and with both
-SAN, coordinates and FEN. Options stand before FEN.";
+SAN, coordinates and FEN. Options stand before FEN. For many positions there is
+`matedesk moves --lines`.";
 
 /// The option `--coordinates` in one line.
 pub const ABOUT_COORDINATES: &str = "Writes moves by their coordinates, as `g2h1`";
@@ -336,10 +338,91 @@ Example:
   8902
   $ matedesk perft --divide \"7k/8/5K2/8/8/8/8/7R b - - 0 1\" 2
   h8g8: 20
-  20";
+  20
+
+For many positions there is `matedesk perft --lines`.";
 
 /// The option `--divide` in one line.
 pub const ABOUT_DIVIDE: &str = "Writes the count behind each first move too";
+
+/// `look --lines` in one line.
+pub const ABOUT_LOOK_LINES: &str = "Shows each position of files, as `look` shows a FEN";
+
+/// What stands below the arguments of `look --lines`: what a line says, an example, how lines are answered, and the statuses.
+pub const AFTER_LOOK_LINES: &str =
+    "Each line is a FEN, or the first four fields of one with operations behind them or none, as
+`solve` reads and writes records. It has counters where its fifth word begins with a
+digit, and else 0 and 1 for them. What stands behind is not read, and a blank line is
+passed over.
+
+Example:
+  $ cat positions.epd
+  8/8/8/K2pP2r/8/8/8/7k w - d6 0 1
+  8/8/8/8/8/8/8/K7 w - - 0 1
+  7k/8/5K2/8/8/8/8/R7 w - - bm Kf7 Kg6; dm 2;
+  $ matedesk look --lines positions.epd
+  8/8/8/K2pP2r/8/8/8/7k w - d6 0 1
+  no check
+  # line 2: Fen BadKings
+  7k/8/5K2/8/8/8/8/R7 w - - 0 1
+  no check
+
+Each line is answered before the next is waited for: a program that holds both ends open
+can write a line and read its answer. One that says no sound position is answered
+`# line K: CODE`: K is its number in its file, and CODE names its fault.
+
+The FILE `-` is standard input; a file by that name is `./-`.
+
+Status:
+  0  every line was answered
+  1  a line was refused; all others were answered
+  2  the words ask for nothing
+  3  no memory
+  4  a FILE can't be read, or the output can't be written
+At 3 and 4 the first of the answers may have been written.";
+
+/// `moves --lines` in one line.
+pub const ABOUT_MOVES_LINES: &str = "Lists the legal moves of each position of files, on one line";
+
+/// What stands below the arguments of `moves --lines`.
+pub const AFTER_MOVES_LINES: &str =
+    "Each line of a FILE is a position, and answered by one line before the next is waited for: its
+legal moves in SAN with a space between each two, `mate`, `stalemate`, or `# line K: CODE`.
+`matedesk look --lines --help` says what a line is, and which status comes when.
+
+Example:
+  $ cat positions.epd
+  8/8/8/K2pP2r/8/8/8/7k w - d6 0 1
+  8/8/8/8/8/8/8/K7 w - - 0 1
+  7k/8/5K2/8/8/8/8/6R1 b - - hmvc 3;
+  $ matedesk moves --lines positions.epd
+  Ka4 Kb4 Kb5 Ka6 Kb6 e6
+  # line 2: Fen BadKings
+  Kh7";
+
+/// `perft --lines` in one line.
+pub const ABOUT_PERFT_LINES: &str =
+    "Counts the lines of DEPTH legal moves from each position of files";
+
+/// What stands below the arguments of `perft --lines`.
+pub const AFTER_PERFT_LINES: &str =
+    "Each line of a FILE is a position, and answered by one line before the next is waited for: the
+count, as `perft` gives it, or `# line K: CODE`. `matedesk look --lines --help` says what
+a line is, and which status comes when.
+
+Example:
+  $ cat positions.epd
+  rnbqkbnr/pppppppp/8/8/8/8/PPPPPPPP/RNBQKBNR w KQkq - 0 1
+  8/8/8/8/8/8/8/K7 w - - 0 1
+  8/8/8/K2pP2r/8/8/8/7k w - d6
+  $ matedesk perft --lines 1 positions.epd
+  20
+  # line 2: Fen BadKings
+  6";
+
+/// The argument FILE of the commands over lines in one line.
+pub const ABOUT_POSITIONS: &str =
+    "Files of positions, each answered in its place; `-` is standard input";
 
 /// `explain` in one line.
 pub const ABOUT_EXPLAIN: &str = "Says what the code of a fault means, or lists all codes";

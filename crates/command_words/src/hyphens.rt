@@ -5,8 +5,10 @@
 
 ghost use Rattle.std.specs.Prelude.{◌≡◌, ◌≤◌, ◌+◌, IfOk, IfSome, length, map};
 ghost use Rattle.std.specs.String.{string_bytes};
-ghost use Rattle.command_words.specs.Hyphens.{escape_at, escaped, hyphened_at, is_hyphened, is_option_of, takes_fen};
+ghost use Rattle.command_words.specs.Hyphens.{escape_at, hyphened_at, is_hyphened, is_option_of, takes_fen};
+ghost use Rattle.command_words.specs.LineCommands.{given};
 
+use crate::line_commands::join_lines;
 use std::alloc::{AllocError, Global};
 
 /// Whether the first word of the command, options aside, is a FEN.
@@ -17,7 +19,7 @@ fn takes_fen(name: &str) -> bool
 }
 
 /// Whether the word is an option of the command, which may stand before its FEN.
-fn is_option_of(name: &str, word: &str) -> bool
+pub(crate) fn is_option_of(name: &str, word: &str) -> bool
     ensures { result ≡ is_option_of name.now word.now }
 {
     if name == "look" {
@@ -78,12 +80,13 @@ fn texts_of<'a>(alloc: Global, words: &'a [String]) -> Result<Vec<&'a str>, Allo
     Ok(texts)
 }
 
-/// The words as `clap` is to read them: with `--` before a FEN that begins with a hyphen.
+/// The words as `clap` is to read them: the `--lines` of a command joined to its name, and `--` before a FEN that begins with a hyphen.
 #[tactic(auto, using(crate::proofs::Escapes::escaped_no, crate::proofs::Escapes::escaped_so))]
 pub fn escaped<'a>(alloc: Global, words: &'a [String]) -> Result<Vec<&'a str>, AllocError>
-    ensures { IfOk result (λ v. map (λ s. s.now) v.items ≡ escaped (map string_bytes words.entry.now)) }
+    ensures { IfOk result (λ v. map (λ s. s.now) v.items ≡ given (map string_bytes words.entry.now)) }
 {
     let mut texts = texts_of(alloc, words)?;
+    join_lines(&mut texts)?;
     let Some(at) = escape_at(texts.as_slice()) else {
         return Ok(texts);
     };

@@ -1,15 +1,16 @@
 //! The words of a command line: what they ask for.
 //!
 //! What a word means is settled here, and what is answered is not. Read `specs/Asked.antt` first; then `request` (words to a request)
-//! over `command_line` (what `clap` is told), `limits` and `hyphens` (the words as it is given them), and `help` (what it prints).
+//! over `command_line` (what `clap` is told), `limits`, `hyphens` and `line_commands` (the words as it is given them), and `help` (what it prints).
 #![tactic(auto)]
 
 mod command_line;
 mod help;
 mod hyphens;
 mod limits;
+mod line_commands;
 mod request;
 
 pub use hyphens::escaped;
 pub use limits::{Depth, MemoSize, Workers};
-pub use request::{MoveForm, Request, parse, request_of};
+pub use request::{LineView, MoveForm, Request, parse, request_of};

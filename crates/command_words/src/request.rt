@@ -4,7 +4,7 @@ ghost use Rattle.std.specs.Prelude.{◌≡◌, ◌≢◌, None, codes, IfOk, IfE
 ghost use Rattle.std.specs.Option.{option_map_or};
 ghost use Rattle.clap.specs.Walk.{byte_or_zero};
 ghost use Rattle.clap.specs.Words.{all_of, first_of, found_of, kind_of, one_of, rows_of};
-ghost use Rattle.command_words.specs.Asked.{asked_by, asked_exactly, bound_in, depth_in, form_in, is_given, look_in, memo_size_in, moves_in, number_or_zero, perft_in, play_in, side_in, workers_in, serve_in, solve_in, verify_in, asked_of, asks_display_exactly, is_display, may_display_exactly};
+ghost use Rattle.command_words.specs.Asked.{asked_by, asked_exactly, bound_in, depth_in, form_in, is_given, lines_in, look_in, look_lines_in, memo_size_in, moves_in, number_or_zero, perft_in, perft_lines_in, play_in, side_in, workers_in, serve_in, solve_in, verify_in, asked_of, asks_display_exactly, is_display, may_display_exactly};
 ghost use Rattle.command_words.specs.Request.{plan_of};
 
 use crate::command_line::desk_command;
@@ -28,6 +28,19 @@ pub enum MoveForm {
     SanCoordinatesFen,
 }
 
+/// What is shown of the position on each line of files.
+#[derive(Clone, Copy)]
+pub enum LineView {
+    /// Its FEN in canonical form, and whether the side to move is in check.
+    Look,
+    /// The same, with the board as White sees it.
+    Board,
+    /// Its legal moves in SAN on one line, or how the game has ended.
+    Moves,
+    /// The number of lines of so many legal moves.
+    Perft(Depth),
+}
+
 /// A command with its arguments.
 #[derive(Clone, Copy)]
 pub enum Request<'m, 'a> {
@@ -43,6 +56,8 @@ pub enum Request<'m, 'a> {
     Perft(&'a str, Depth),
     /// The same, for each first move too.
     Divide(&'a str, Depth),
+    /// Show this of the position on each line of files, in order.
+    Lines(LineView, &'m [&'a str]),
     /// Answer the records of files, in order, over a memo of such a size; the bound is for records that say none.
     Solve(Bound, MemoSize, &'m [&'a str]),
     /// Hold the records of files, in order, against their own claims, over a memo of such a size; the bound is for records that say none.
@@ -190,6 +205,32 @@ fn perft_in<'m, 'a>(matches: &'m ArgMatches<'a>) -> Option<Request<'m, 'a>>
     }
 }
 
+/// What the arguments of a command over lines ask for, by what it shows of each.
+fn lines_in<'m, 'a>(matches: &'m ArgMatches<'a>, view: LineView) -> Option<Request<'m, 'a>>
+    ensures { option_map plan_of result ≡ lines_in view (rows_of (found_of matches.now)) }
+{
+    names_in(matches, "FILE").map(|names| Request::Lines(view, names))
+}
+
+/// What the arguments of `look --lines` ask for.
+fn look_lines_in<'m, 'a>(matches: &'m ArgMatches<'a>) -> Option<Request<'m, 'a>>
+    ensures { option_map plan_of result ≡ look_lines_in (rows_of (found_of matches.now)) }
+{
+    if is_given(matches, "board") {
+        lines_in(matches, LineView::Board)
+    } else {
+        lines_in(matches, LineView::Look)
+    }
+}
+
+/// What the arguments of `perft --lines` ask for.
+fn perft_lines_in<'m, 'a>(matches: &'m ArgMatches<'a>) -> Option<Request<'m, 'a>>
+    ensures { option_map plan_of result ≡ perft_lines_in (rows_of (found_of matches.now)) }
+{
+    let depth = depth_in(matches)?;
+    lines_in(matches, LineView::Perft(depth))
+}
+
 /// What the arguments of `solve` ask for.
 fn solve_in<'m, 'a>(matches: &'m ArgMatches<'a>) -> Option<Request<'m, 'a>>
     ensures { option_map plan_of result ≡ solve_in (rows_of (found_of matches.now)) }
@@ -241,6 +282,12 @@ fn request_by<'m, 'a>(name: &str, matches: &'m ArgMatches<'a>) -> Option<Request
         text_in(matches, "SCRIPT").map(Request::Replay)
     } else if name == "explain" {
         Some(Request::Explain(text_in(matches, "CODE")))
+    } else if name == "look --lines" {
+        look_lines_in(matches)
+    } else if name == "moves --lines" {
+        lines_in(matches, LineView::Moves)
+    } else if name == "perft --lines" {
+        perft_lines_in(matches)
     } else {
         None
     }

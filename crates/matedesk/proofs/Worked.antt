@@ -27,19 +27,20 @@ use Rattle.chess_board.specs.Positions.{Setup}
 use Rattle.command_words.specs.Asked.{asked, asked_by, asked_exactly, look, serve, solve}
 use Rattle.plain_commands.specs.Command.{Ends}
 use Rattle.command_words.specs.Hyphens.{escaped}
+use Rattle.command_words.specs.LineCommands.{joined}
 use Rattle.chess_views.specs.Looks.{look_text}
 use Rattle.plain_commands.specs.FenCommands.{ShowsFen}
 
 pub asked_look : asked (codes "matedesk" ∷ codes "look" ∷ codes "k7/8/8/8/8/8/8/7K w - - 0 1" ∷ []) ≡ Some (look (codes "k7/8/8/8/8/8/8/7K w - - 0 1"))
-unfolding clap_on_literals asked_by asked_exactly escaped
+unfolding clap_on_literals asked_by asked_exactly escaped joined
 asked_look = refl
 
 pub asked_solve : asked (codes "matedesk" ∷ codes "solve" ∷ codes "one" ∷ codes "two" ∷ []) ≡ Some (solve 3 65536 (codes "one" ∷ codes "two" ∷ []))
-unfolding clap_on_literals asked_by asked_exactly escaped
+unfolding clap_on_literals asked_by asked_exactly escaped joined
 asked_solve = refl
 
 pub asked_serve : asked (codes "matedesk" ∷ codes "serve" ∷ codes "--workers" ∷ codes "2" ∷ codes "one" ∷ codes "two" ∷ []) ≡ Some (serve 2 3 16384 (codes "one" ∷ codes "two" ∷ []))
-unfolding clap_on_literals asked_by asked_exactly escaped
+unfolding clap_on_literals asked_by asked_exactly escaped joined
 asked_serve = refl
 
 kings : Setup

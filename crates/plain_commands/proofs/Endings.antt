@@ -5,11 +5,13 @@ use Rattle.std.specs.Io.KnownBytes.{Keeps}
 use Rattle.clap.specs.Words.{Text}
 use Rattle.byte_streams.specs.declared.stops.Stop.{Stop}
 use Rattle.byte_streams.specs.declared.stops.Stop.TheVariants as stop
-use Rattle.command_words.specs.Asked.{Asked, look, board, play, moves, perft, divide, solve, verify, serve, replay, explain}
+use Rattle.command_words.specs.Asked.{Asked, look, board, play, moves, perft, divide, lines, solve, verify, serve, replay, explain}
 use Rattle.plain_commands.specs.Status.{status_of}
 use Rattle.plain_commands.specs.Writing.{Gains}
 use Rattle.plain_commands.specs.Solved.{SolvesNone}
 use Rattle.plain_commands.specs.Verified.{VerifiesNone}
+use Rattle.plain_commands.specs.PositionLines.{command_of}
+use Rattle.plain_commands.proofs.Unopened.{lines_at_once}
 use Rattle.plain_commands.specs.Command.{Ends, EndsByStatus, Shows, Stops, StopsBy}
 
 -- Where memory gives out at once, nothing is written.
@@ -21,6 +23,7 @@ stops_unread none unverified holds refuses (Some (play fen words)) old new kept 
 stops_unread none unverified holds refuses (Some (moves form fen)) old new kept = kept
 stops_unread none unverified holds refuses (Some (perft fen depth)) old new kept = kept
 stops_unread none unverified holds refuses (Some (divide fen depth)) old new kept = kept
+stops_unread none unverified holds refuses (Some (lines view names)) old new kept = lines_at_once holds refuses (command_of view) names old new kept
 stops_unread none unverified holds refuses (Some (solve bound memo names)) old new kept =
     record { gained = []; shows = none holds bound names; appends = Appends-kept old old new [] (Appends-nil old) kept }
 stops_unread none unverified holds refuses (Some (verify bound memo names)) old new kept =
@@ -36,6 +39,7 @@ no_reader holds refuses (play fen words) old new stops = stops
 no_reader holds refuses (moves form fen) old new stops = stops
 no_reader holds refuses (perft fen depth) old new stops = stops
 no_reader holds refuses (divide fen depth) old new stops = stops
+no_reader holds refuses (lines view names) old new stops = stops
 no_reader holds refuses (solve bound memo names) old new stops = stops
 no_reader holds refuses (verify bound memo names) old new stops = stops
 no_reader holds refuses (serve workers bound memo names) old new stops = stops

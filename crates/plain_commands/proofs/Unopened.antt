@@ -12,6 +12,8 @@ use Rattle.byte_streams.specs.declared.inputs.InputFault.TheVariants as fault
 use Rattle.byte_streams.specs.declared.stops.Stop.{Stop}
 use Rattle.byte_streams.specs.declared.stops.Stop.TheVariants as stop
 use Rattle.plain_commands.specs.FileAnswers.{AnswersFirst, IsReplyIn}
+use Rattle.plain_commands.specs.PositionLines.{StopsLines, first_position_replies}
+use Rattle.plain_commands.specs.declared.fen_commands.FenCommand.{FenCommand}
 use Rattle.plain_commands.specs.Solved.{SolvesNone, StopsSolving, first_record_replies}
 use Rattle.plain_commands.specs.Verified.{VerifiesNone, StopsVerifying, first_claim_replies, has_several}
 
@@ -49,6 +51,15 @@ verifies_none holds bound names = answers_none holds _ _ names (no_claim_reply (
 pub verifies_at_once : (holds : List ℕ → Option (List ℕ)) (refuses : List ℕ → Type 0) (bound : ℕ) (names : List (List ℕ)) (old new : Option (List ℕ)) → Keeps old new
     → StopsVerifying holds refuses bound names stop.NoMemory old new
 verifies_at_once holds refuses bound names old new kept = record { gained = []; shows = verifies_none holds bound names; appends = Appends-kept old old new [] (Appends-nil old) kept }
+
+pub no_position_reply : (command : FenCommand) (name input : List ℕ) → first_position_replies command name input []
+unfolding IsReplyToFirstBy
+no_position_reply command name input = (0, 0, (refl, refl))
+
+pub lines_at_once : (holds : List ℕ → Option (List ℕ)) (refuses : List ℕ → Type 0) (command : FenCommand) (names : List (List ℕ)) (old new : Option (List ℕ)) → Keeps old new
+    → StopsLines holds refuses command names stop.NoMemory old new
+lines_at_once holds refuses command names old new kept =
+    record { gained = []; shows = answers_none holds _ _ names (no_position_reply command); appends = Appends-kept old old new [] (Appends-nil old) kept }
 
 not_opened_by : (f : InputFault) (P : List ℕ → List ℕ → Type 0) (known old : Option (List ℕ)) → ((input : List ℕ) → P input [])
     → (input : List ℕ) × (text : List ℕ) × MayBe known input × P input text × AppendsBy (stop_of f) old old text

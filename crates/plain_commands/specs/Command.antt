@@ -10,10 +10,11 @@ use Rattle.plain_commands.specs.Writing.{Gains, GainsPart, StopsShowing}
 use Rattle.chess_views.specs.Counts.{divided_text, perft_text}
 use Rattle.chess_views.specs.Listings.{moves_text}
 use Rattle.chess_views.specs.Looks.{look_board_text, look_text}
-use Rattle.command_words.specs.Asked.{Asked, look, board, play, moves, perft, divide, solve, verify, serve, replay, explain}
+use Rattle.command_words.specs.Asked.{Asked, look, board, play, moves, perft, divide, lines, solve, verify, serve, replay, explain}
 use Rattle.plain_commands.specs.Explained.{Explains}
 use Rattle.plain_commands.specs.FenCommands.{ShowsFen, columns_of}
 use Rattle.plain_commands.specs.Played.{ShowsPlay}
+use Rattle.plain_commands.specs.PositionLines.{ShowsLines, StopsLines, command_of}
 use Rattle.plain_commands.specs.Replayed.{ReplaysFile, StopsReplaying}
 use Rattle.plain_commands.specs.Solved.{Solves, StopsSolving}
 use Rattle.plain_commands.specs.Verified.{StopsVerifying, Verifies}
@@ -28,6 +29,7 @@ Shows holds (play fen words) refused text = ShowsPlay fen words refused text
 Shows holds (moves form fen) refused text = ShowsFen (moves_text (columns_of form)) fen refused text
 Shows holds (perft fen depth) refused text = ShowsFen (perft_text depth) fen refused text
 Shows holds (divide fen depth) refused text = ShowsFen (divided_text depth) fen refused text
+Shows holds (lines view names) refused text = ShowsLines holds (command_of view) names refused text
 Shows holds (solve bound memo names) refused text = Solves holds bound names refused text
 Shows holds (verify bound memo names) refused text = Verifies holds bound names refused text
 Shows holds (serve workers bound memo names) refused text = Serves holds bound names refused text
@@ -43,6 +45,7 @@ StopsServing holds refuses bound names Unwritable old new = GainsPart (λ text. 
 StopsServing holds refuses bound names NoReader old new = GainsPart (λ text. (refused : Bool) × Serves holds bound names refused text) old new
 
 abbrev pub Stops : (Text → Option (List ℕ)) → (Text → Type 0) → Asked → Stop → (old new : Option (List ℕ)) → Type 0
+Stops holds refuses (lines view names) stop old new = StopsLines holds refuses (command_of view) names stop old new
 Stops holds refuses (solve bound memo names) stop old new = StopsSolving holds refuses bound names stop old new
 Stops holds refuses (verify bound memo names) stop old new = StopsVerifying holds refuses bound names stop old new
 Stops holds refuses (serve workers bound memo names) stop old new = StopsServing holds refuses bound names stop old new

@@ -1,17 +1,17 @@
--- What the commands over a FEN alone show: `look`, `moves` and `perft`.
+-- What the commands over a FEN alone show: `look`, `moves` and `perft`, also of each line of files.
 use Rattle.std.specs.Prelude.{◌≡◌, ℕ, Bool, List, [], true, false}
 use Rattle.chess_board.specs.Fens.{FenValue, IsFault, Spells}
 use Rattle.chess_board.specs.Soundness.{IsSound}
 use Rattle.chess_board.specs.declared.faults.FenFault.{FenFault}
 use Rattle.chess_views.specs.Counts.{divided_text, perft_text}
-use Rattle.chess_views.specs.Listings.{moves_text}
+use Rattle.chess_views.specs.Listings.{moves_line, moves_text}
 use Rattle.chess_views.specs.Looks.{look_board_text, look_text}
 use Rattle.chess_views.specs.declared.columns.Columns.{Columns}
 use Rattle.chess_views.specs.declared.columns.Columns.TheVariants as column
 use Rattle.command_words.specs.declared.request.MoveForm.{MoveForm}
 use Rattle.command_words.specs.declared.request.MoveForm.TheVariants.{San, Coordinates, SanFen, SanCoordinatesFen}
 use Rattle.plain_commands.specs.declared.fen_commands.FenCommand.{FenCommand}
-use Rattle.plain_commands.specs.declared.fen_commands.FenCommand.TheVariants.{Look, Board, Moves, Perft, Divide}
+use Rattle.plain_commands.specs.declared.fen_commands.FenCommand.TheVariants.{Look, Board, Moves, MovesLine, Perft, Divide}
 
 -- what stands on a line of `moves`, by how the moves are to be written
 abbrev pub columns_of : MoveForm → Columns
@@ -25,6 +25,7 @@ abbrev pub shown_text : FenCommand → FenValue → List ℕ
 shown_text Look v = look_text v
 shown_text (Board side) v = look_board_text side v
 shown_text (Moves form) v = moves_text (columns_of form) v
+shown_text MovesLine v = moves_line v
 shown_text (Perft depth) v = perft_text depth v
 shown_text (Divide depth) v = divided_text depth v
 

@@ -4,6 +4,7 @@ pub mod Status
 pub mod FenCommands
 pub mod Played
 pub mod FileAnswers
+pub mod PositionLines
 pub mod Solved
 pub mod Verified
 pub mod Scripts

@@ -11,6 +11,7 @@ ghost use Rattle.plain_commands.specs.Command.{Ends, EndsByStatus, Shows, Stops}
 use crate::explaining::explain;
 use crate::fen_commands::{FenCommand, show_fen};
 use crate::playing::play_given;
+use crate::position_answers::show_lines;
 use crate::replaying::replay;
 use crate::solving::{solve, solves_none};
 use crate::sources::Source;
@@ -50,6 +51,7 @@ fn answer<S: Source, O: Write, E: Write>(
         Request::Moves(form, fen) => show_fen(alloc, FenCommand::Moves(*form), fen, out, err),
         Request::Perft(fen, depth) => show_fen(alloc, FenCommand::Perft(*depth), fen, out, err),
         Request::Divide(fen, depth) => show_fen(alloc, FenCommand::Divide(*depth), fen, out, err),
+        Request::Lines(view, names) => show_lines(alloc, *view, names, source, out, err),
         Request::Solve(bound, memo, names) => {
             solve(alloc, *bound, *memo, names, source, out, err)
         }

@@ -11,7 +11,9 @@ use crate::writing::{complain, show};
 use byte_streams::Stop;
 use chess_board::{Colour, Fen, read_fen};
 use chess_moves::Rays;
-use chess_views::{Columns, divided_text, look_board_text, look_text, moves_text, perft_text};
+use chess_views::{
+    Columns, divided_text, look_board_text, look_text, moves_line, moves_text, perft_text,
+};
 use command_words::{Depth, MoveForm};
 use std::alloc::{AllocError, Global};
 use std::io::Write;
@@ -25,6 +27,8 @@ pub enum FenCommand {
     Board(Colour),
     /// The legal moves in such a form, or how the game has ended where there is none.
     Moves(MoveForm),
+    /// The same in SAN on one line.
+    MovesLine,
     /// How many lines of so many legal moves there are.
     Perft(Depth),
     /// The same, for each first move too.
@@ -44,11 +48,11 @@ fn columns_of(form: MoveForm) -> Columns
 }
 
 /// Reads a FEN, or names its fault on `err`.
-pub(crate) fn read<E: Write>(fen: &str, err: &mut E) -> Option<Fen>
+pub(crate) fn read<E: Write>(fen: &[u8], err: &mut E) -> Option<Fen>
     ensures read { IfSome result (λ v. Spells fen.now v × IsSound v.position) }
     ensures refused { IfNone result ((fault : FenFaultValue) × IsFault fen.now fault) }
 {
-    match read_fen(fen.as_bytes()) {
+    match read_fen(fen) {
         Ok(fen) => Some(fen),
         Err(fault) => {
             complain(err, fault.code());
@@ -58,16 +62,21 @@ pub(crate) fn read<E: Write>(fen: &str, err: &mut E) -> Option<Fen>
 }
 
 /// What a command shows of a FEN. It is made whole before any of it is written.
-fn shown_text(alloc: Global, command: FenCommand, fen: &Fen) -> Result<Vec<u8>, AllocError>
+pub(crate) fn shown_text(
+    alloc: Global,
+    rays: &Rays,
+    command: FenCommand,
+    fen: &Fen,
+) -> Result<Vec<u8>, AllocError>
     ensures { IfOk result (λ text. text.items ≡ shown_text command fen.now) }
 {
-    let rays = Rays::new();
     match command {
         FenCommand::Look => look_text(alloc, fen),
         FenCommand::Board(side) => look_board_text(alloc, fen, side),
-        FenCommand::Moves(form) => moves_text(alloc, &rays, fen, columns_of(form)),
-        FenCommand::Perft(depth) => perft_text(alloc, &rays, fen, depth.get()),
-        FenCommand::Divide(depth) => divided_text(alloc, &rays, fen, depth.get()),
+        FenCommand::Moves(form) => moves_text(alloc, rays, fen, columns_of(form)),
+        FenCommand::MovesLine => moves_line(alloc, rays, fen),
+        FenCommand::Perft(depth) => perft_text(alloc, rays, fen, depth.get()),
+        FenCommand::Divide(depth) => divided_text(alloc, rays, fen, depth.get()),
     }
 }
 
@@ -82,9 +91,9 @@ pub fn show_fen<O: Write, E: Write>(
     ensures ok { IfOk result (λ refused. Gains (ShowsFen (shown_text command) fen.now refused) (O.contents out.old) (O.contents out.new)) }
     ensures err { IfErr result (λ stop. StopsShowing (ShowsFen (shown_text command) fen.now false) stop (O.contents out.old) (O.contents out.new)) }
 {
-    let Some(fen) = read(fen, err) else {
+    let Some(fen) = read(fen.as_bytes(), err) else {
         return Ok(true);
     };
-    let text = shown_text(alloc, command, &fen)?;
+    let text = shown_text(alloc, &Rays::new(), command, &fen)?;
     show(out, text.as_slice())
 }

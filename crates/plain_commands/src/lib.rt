@@ -1,12 +1,13 @@
-//! The commands of the program `matedesk` that start no thread: `look`, `play`, `moves` and `perft` over a position, `solve` over files of
-//! problems, `replay` over a script, `explain` over a table of faults; and what all commands share, files by their names, what is shown,
-//! messages, and the status at the end.
+//! The commands of the program `matedesk` that start no thread: `look`, `play`, `moves` and `perft` over a position, or over files of
+//! positions, `solve` over files of problems, `replay` over a script, `explain` over a table of faults; and what all commands share, files by
+//! their names, what is shown, messages, and the status at the end.
 //!
 //! What the words of a command line ask for is the business of `command_words`, and what is answered that of the crates of chess and of the
 //! desk. To read: `answering`, where the contract of `plain_command` says how each command ends; `sources` (a `Source` is the files that a
 //! command may read) and `files` (those of the system), `writing`, `status`; then `fen_commands` and `playing`; `solving`, over `file_answers`
-//! (each line of each file), `verifying` likewise, and `outputs`, which were made elsewhere; `replaying`, over `scripts` (a text to a script), `script_lines` (its
-//! lines), `script_desk` and `script_steps` (what a line says), `script_words`; and `explaining`, over `explanations`.
+//! (each line of each file), `verifying` and `position_answers` likewise, and `outputs`, which were made elsewhere; `replaying`, over
+//! `scripts` (a text to a script), `script_lines` (its lines), `script_desk` and `script_steps` (what a line says), `script_words`; and
+//! `explaining`, over `explanations`.
 #![tactic(auto)]
 
 mod answering;
@@ -17,6 +18,7 @@ mod file_answers;
 mod files;
 mod outputs;
 mod playing;
+mod position_answers;
 mod replaying;
 mod script_desk;
 mod script_lines;
@@ -36,6 +38,7 @@ pub use fen_commands::{FenCommand, show_fen};
 pub use files::{FileSystem, Reading, Stream};
 pub use outputs::put_outputs;
 pub use playing::play_moves;
+pub use position_answers::show_lines;
 pub use replaying::replay;
 pub use scripts::{Script, ScriptFault, read_script};
 pub use solving::{new_memo, solve, solves_none};

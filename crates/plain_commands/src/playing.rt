@@ -11,6 +11,7 @@ use byte_streams::Stop;
 use chess_board::Fen;
 use chess_moves::Rays;
 use chess_views::{play, reached_text};
+use position_lines::line_fen;
 use std::alloc::Global;
 use std::io::Write;
 
@@ -28,7 +29,8 @@ fn reach<E: Write>(rays: &Rays, fen: &Fen, words: &[&str], err: &mut E) -> Optio
     }
 }
 
-/// Makes moves from a FEN and shows the position reached, or says on `err` what is refused of them; gives whether anything was.
+/// Makes moves from a FEN and shows the position reached, or says on `err` what is refused of them; gives whether anything was. The FEN is
+/// read as a line of positions is, so that its counters may be left out.
 pub fn play_moves<O: Write, E: Write>(
     alloc: Global,
     fen: &str,
@@ -39,7 +41,8 @@ pub fn play_moves<O: Write, E: Write>(
     ensures ok { IfOk result (λ refused. Gains (ShowsPlay fen.now (map (λ s. s.now) words.now) refused) (O.contents out.old) (O.contents out.new)) }
     ensures err { IfErr result (λ stop. StopsShowing (ShowsPlay fen.now (map (λ s. s.now) words.now) false) stop (O.contents out.old) (O.contents out.new)) }
 {
-    let Some(fen) = read(fen, err) else {
+    let text = line_fen(alloc, fen.as_bytes())?;
+    let Some(fen) = read(text.as_slice(), err) else {
         return Ok(true);
     };
     let rays = Rays::new();

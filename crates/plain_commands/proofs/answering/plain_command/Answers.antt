@@ -4,7 +4,7 @@ use Rattle.std.specs.Io.KnownBytes.{Keeps}
 use Rattle.std.specs.String.{string_bytes}
 use Rattle.clap.specs.Words.{Text}
 use Rattle.command_words.specs.Asked.{asked, asked_exactly}
-use Rattle.command_words.specs.Hyphens.{escaped}
+use Rattle.command_words.specs.LineCommands.{given}
 use Rattle.plain_commands.proofs.Endings.{ends_unasked}
 use Rattle.plain_commands.proofs.answering.plain_command.Goals as goal
 
@@ -16,7 +16,7 @@ returns-in_default-clause-ends g c =
 pub returns-clause-ends : goal.returns-clause-ends
 returns-clause-ends g c =
     let words = map string_bytes c.args.words.now in
-    let same : map (λ (s : Bor Text). s.now) c.as_slice.result.now ≡ escaped words = ap (map (λ (s : Bor Text). s.now)) c.as_slice.ensures.value ∙ c.in-Ok.ensures in
+    let same : map (λ (s : Bor Text). s.now) c.as_slice.result.now ≡ given words = ap (map (λ (s : Bor Text). s.now)) c.as_slice.ensures.value ∙ c.in-Ok.ensures in
     ends_unasked c.solves_none.ensures c.verifies_none.ensures (g.S.Source.holds c.args.source.now) (g.S.Source.refuses c.args.source.now) (asked words) c.usage.result (g.O.Write.contents c.args.out.now) (g.O.Write.contents c.usage.new.out)
     c.usage.ensures.no_refusal c.usage.ensures.bounded
     (λ other. subst (λ texts. asked_exactly texts ≡ None) same (c.in-Err.ensures.err (λ memory. other (c.usage.ensures.memory memory))))

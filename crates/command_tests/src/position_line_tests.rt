@@ -1,0 +1,132 @@
+//! The commands over lines of positions: what each line is answered, and where that stops.
+
+use crate::test_shelves::{ALWAYS, Shelf, run, run_with, shelf_of};
+use std::test::Fail;
+
+/// A FEN, a record with operations, a line that is refused between two blank ones, and four fields with no newline behind them.
+const LINES: &str =
+    "7k/8/5K2/8/8/8/8/6R1 b - - 3 40\r\n7k/5Q2/6K1/8/8/8/8/8 b - - dm 1;\n  \r\n8/8/8/8/8/8/8/K7 w - -\n\n8/8/8/K2pP2r/8/8/8/7k w - d6";
+
+const LOOKS: &str = "7k/8/5K2/8/8/8/8/6R1 b - - 3 40
+no check
+7k/5Q2/6K1/8/8/8/8/8 b - - 0 1
+no check
+# line 4: Fen BadKings
+8/8/8/K2pP2r/8/8/8/7k w - d6 0 1
+no check
+";
+
+const MOVES: &str = "Kh7\nstalemate\n# line 4: Fen BadKings\nKa4 Kb4 Kb5 Ka6 Kb6 e6\n";
+
+const COUNTS: &str = "1\n0\n# line 4: Fen BadKings\n6\n";
+
+#[test]
+fn each_line_is_answered_in_its_place(rt: HostRuntime) -> Result<(), Fail> {
+    let alloc = rt.alloc();
+    let files = [
+        ("lines", LINES),
+        ("one", "7k/8/5K2/8/8/8/8/R7 w - - bm Kf7 Kg6; dm 2;\n"),
+        ("empty", ""),
+        (
+            "start",
+            "rnbqkbnr/pppppppp/8/8/8/8/PPPPPPPP/RNBQKBNR w KQkq -\n",
+        ),
+        ("bad", "8/8"),
+    ];
+    let board =
+        "7k/8/5K2/8/8/8/8/R7 w - - 0 1\nno check\n8  . . . . . . . k\n7  . . . . . . . .\n6  . . . . . K . .\n5  . . . . . . . .\n4  . . . . . . . .\n3  . . . . . . . .\n2  . . . . . . . .\n1  R . . . . . . .\n   a b c d e f g h\nWhite to move\n";
+    let rows = [
+        ("look --lines lines", ALWAYS, 1, LOOKS),
+        ("moves --lines lines", ALWAYS, 1, MOVES),
+        ("perft --lines 1 lines", ALWAYS, 1, COUNTS),
+        (
+            "perft --lines 0 lines",
+            ALWAYS,
+            1,
+            "1\n1\n# line 4: Fen BadKings\n1\n",
+        ),
+        ("look --board --lines one", ALWAYS, 0, board),
+        ("look --lines --board one", ALWAYS, 0, board),
+        ("perft --lines 2 start empty start", ALWAYS, 0, "400\n400\n"),
+        (
+            "moves --lines bad bad",
+            ALWAYS,
+            1,
+            "# line 1: Fen FieldCount\n# line 1: Fen FieldCount\n",
+        ),
+        ("look --lines empty", 0, 0, ""),
+        ("moves --lines lines missing one", ALWAYS, 4, MOVES),
+        ("look --lines one", 0, 4, ""),
+        ("perft --lines 2 start start", 1, 4, "400\n"),
+    ];
+    let shelf = shelf_of(files.as_slice());
+    for (line, outs, status, text) in rows {
+        let mut words = Vec::new(alloc);
+        for word in line.split(' ') {
+            words.push(word)?;
+        }
+        let ended = run_with(&rt, &shelf, words.as_slice(), outs, ALWAYS)?;
+        assert_eq!(rt; ended.status, status, "{line} {outs}");
+        assert_eq!(rt; ended.out.as_slice(), text.as_bytes(), "{line} {outs}");
+    }
+    Ok(())
+}
+
+#[test]
+fn lines_of_positions_are_the_same_in_pieces(rt: HostRuntime) -> Result<(), Fail> {
+    for piece in [1, 2, 31, 32, 33, 34, 4096] {
+        for is_interrupted in [false, true] {
+            let shelf = Shelf {
+                files: &[("lines", LINES)],
+                piece,
+                is_interrupted,
+                reads: ALWAYS,
+            };
+            let words = ["moves", "--lines", "lines"];
+            let ended = run_with(&rt, &shelf, words.as_slice(), ALWAYS, ALWAYS)?;
+            assert_eq!(rt; ended.status, 1, "{piece}");
+            assert_eq!(rt; ended.out.as_slice(), MOVES.as_bytes(), "{piece}");
+            assert_eq!(rt; ended.err.as_slice(), b"".as_slice(), "{piece}");
+        }
+    }
+    Ok(())
+}
+
+#[test]
+fn a_line_says_a_fen_by_its_first_words(rt: HostRuntime) -> Result<(), Fail> {
+    let alloc = rt.alloc();
+    let rows = [
+        ("", "0 1", ""),
+        ("   ", "0 1", ""),
+        ("7 8", "7 8", ""),
+        ("  7   8  ", "7 8", ""),
+        ("7 8 9", "7 8", ""),
+        ("07 0008 dm 2;", "7 8", ""),
+        ("hmvc 7; fmvn 8;", "0 1", ""),
+        ("+7 8", "0 1", ""),
+        ("7", "", "BadCounter"),
+        ("7 dm 2;", "", "BadCounter"),
+        ("7x 8", "", "BadCounter"),
+        ("12345 8", "", "BadCounter"),
+    ];
+    for (behind, counters, fault) in rows {
+        let line = format!(in alloc; "7k/8/5K2/8/8/8/8/R7 w - - {behind}")?;
+        let files = [("line", line.as_str())];
+        let shelf = shelf_of(files.as_slice());
+        let words = ["look", "--lines", "line"];
+        let looked = run_with(&rt, &shelf, words.as_slice(), ALWAYS, ALWAYS)?;
+        let played = run(&rt, &["play", line.as_str()], ALWAYS, ALWAYS)?;
+        let is_read = fault.is_empty();
+        let shown = format!(in alloc; "7k/8/5K2/8/8/8/8/R7 w - - {counters}\nno check\n")?;
+        let refusal = format!(in alloc; "# line 1: Fen {fault}\n")?;
+        let complaint = format!(in alloc; "matedesk: {fault}\n")?;
+        let reply = if is_read { &shown } else { &refusal };
+        assert_eq!(rt; looked.out.as_slice(), reply.as_bytes(), "{behind}");
+        assert_eq!(rt; looked.status, if is_read { 0 } else { 1 }, "{behind}");
+        let text = if is_read { shown.as_str() } else { "" };
+        let message = if is_read { "" } else { complaint.as_str() };
+        assert_eq!(rt; played.out.as_slice(), text.as_bytes(), "{behind}");
+        assert_eq!(rt; played.err.as_slice(), message.as_bytes(), "{behind}");
+    }
+    Ok(())
+}

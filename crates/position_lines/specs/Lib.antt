@@ -1,0 +1,2 @@
+pub mod LineFens
+pub mod PositionReplies
