@@ -12,4 +12,4 @@ mod request;
 
 pub use hyphens::escaped;
 pub use limits::{Depth, MemoSize, Workers};
-pub use request::{MoveForm, Request, parse, request_of};
+pub use request::{MoveForm, Request, TreeForm, parse, request_of};

@@ -13,6 +13,8 @@ use Rattle.byte_streams.specs.declared.stops.Stop.{Stop}
 use Rattle.byte_streams.specs.declared.stops.Stop.TheVariants as stop
 use Rattle.plain_commands.specs.FileAnswers.{AnswersFirst, IsReplyIn}
 use Rattle.plain_commands.specs.Solved.{SolvesNone, StopsSolving, first_record_replies}
+use Rattle.command_words.specs.declared.request.TreeForm.{TreeForm}
+use Rattle.plain_commands.specs.Told.{StopsTelling, TellsNone, first_tree_replies}
 use Rattle.plain_commands.specs.Verified.{VerifiesNone, StopsVerifying, first_claim_replies, has_several}
 
 some_input : (known : Option (List ℕ)) → (input : List ℕ) × MayBe known input
@@ -49,6 +51,17 @@ verifies_none holds bound names = answers_none holds _ _ names (no_claim_reply (
 pub verifies_at_once : (holds : List ℕ → Option (List ℕ)) (refuses : List ℕ → Type 0) (bound : ℕ) (names : List (List ℕ)) (old new : Option (List ℕ)) → Keeps old new
     → StopsVerifying holds refuses bound names stop.NoMemory old new
 verifies_at_once holds refuses bound names old new kept = record { gained = []; shows = verifies_none holds bound names; appends = Appends-kept old old new [] (Appends-nil old) kept }
+
+pub no_tree_reply : (form : TreeForm) (bound : ℕ) (name input : List ℕ) → first_tree_replies form bound name input []
+unfolding IsReplyToFirstBy
+no_tree_reply form bound name input = (0, 0, (refl, refl))
+
+pub tells_none : TellsNone
+tells_none holds bound form names = answers_none holds _ _ names (no_tree_reply form bound)
+
+pub tells_at_once : (holds : List ℕ → Option (List ℕ)) (refuses : List ℕ → Type 0) (bound : ℕ) (form : TreeForm) (names : List (List ℕ)) (old new : Option (List ℕ)) → Keeps old new
+    → StopsTelling holds refuses bound form names stop.NoMemory old new
+tells_at_once holds refuses bound form names old new kept = record { gained = []; shows = tells_none holds bound form names; appends = Appends-kept old old new [] (Appends-nil old) kept }
 
 not_opened_by : (f : InputFault) (P : List ℕ → List ℕ → Type 0) (known old : Option (List ℕ)) → ((input : List ℕ) → P input [])
     → (input : List ℕ) × (text : List ℕ) × MayBe known input × P input text × AppendsBy (stop_of f) old old text

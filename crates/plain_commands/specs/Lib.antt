@@ -6,6 +6,7 @@ pub mod Played
 pub mod FileAnswers
 pub mod Solved
 pub mod Verified
+pub mod Told
 pub mod Scripts
 pub mod Replayed
 pub mod inside
