@@ -1,1 +1,2 @@
+pub mod FenLines
 pub mod PositionLines

@@ -9,5 +9,5 @@ mod line_fens;
 mod position_replies;
 mod words;
 
-pub use line_fens::line_fen;
+pub use line_fens::{fens_read, line_fen};
 pub use position_replies::{FenView, answer_positions};

@@ -1,7 +1,7 @@
 //! The FEN that a line says.
 
 ghost use Rattle.std.specs.Prelude.{◌≡◌, ◌++◌, IfOk};
-ghost use Rattle.position_lines.specs.LineFens.{begins_with_digit as does_begin_with_digit, counters_text, line_fen as fen_of_line, spaced};
+ghost use Rattle.position_lines.specs.LineFens.{FensRead, begins_with_digit as does_begin_with_digit, counters_text, line_fen as fen_of_line, spaced};
 
 use crate::words::word_at;
 use std::alloc::{AllocError, Global};
@@ -61,3 +61,8 @@ pub fn line_fen(alloc: Global, line: &[u8]) -> Result<Vec<u8>, AllocError>
     push_counters(&mut text, rest)?;
     Ok(text)
 }
+
+/// A law: the line of a FEN says that FEN, so that it is answered as the FEN is.
+pub fn fens_read()
+    ensures { FensRead }
+{}
