@@ -14,6 +14,7 @@ pub mod for_mate_claims;
 pub mod for_mate_desk;
 pub mod for_mate_jobs;
 pub mod for_mate_search;
+pub mod for_mate_tree;
 pub mod for_position_lines;
 pub mod for_room_ends;
 pub mod for_square_sets;

@@ -74,7 +74,7 @@ fn shown_arg<'a>(alloc: Global) -> Arg<'a>
 {
     Arg::new(alloc, "D")
         .long("moves")
-        .value_parser(value_parser!(u8).range(1..16))
+        .value_parser(value_parser!(u8).range(1..=15))
         .help(ABOUT_SHOWN)
 }
 

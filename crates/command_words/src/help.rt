@@ -150,7 +150,7 @@ line is answered `# line K: CODE` and an empty line, and a blank one is passed o
                      Of a key that gives check nothing is said
   1...Ke3            a defence: each legal reply stands below its move
   1...c6 dual        the same, where the attacker has more than one move to go on
-  2.Qxf3#            all moves with which the attacker mates soonest stand below the defence
+  2.Qxf3#            below a defence: each move with which the attacker mates soonest
   2.Qd5 #4           below this move the tree is cut: it mates within 4 moves, itself counted
 
 The tree goes down to mate, or to the attacker's D-th move. With --set-play `set play` has
@@ -162,7 +162,7 @@ Example:
   7k/8/5K2/8/8/8/8/R7 w - - dm 2;
   $ matedesk tree problems.epd
   7k/8/5K2/8/8/8/8/R7 w - - bm Kf7 Kg6; dm 2; pv Kg6 Kg8 Ra8#;
-  1.Kg6! zugzwang
+  1.Kg6! threat 2.Ra8#
     1...Kg8
       2.Ra8#
   1.Kf7! threat 2.Rh1#

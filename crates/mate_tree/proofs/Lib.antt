@@ -4,5 +4,6 @@ pub mod NoMovesLeft
 pub mod PassedSetups
 pub mod RefusedLines
 pub mod SoleMoves
+pub mod TreeLaws
 pub mod WrittenLines
 pub mod WrittenTrees

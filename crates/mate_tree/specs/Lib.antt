@@ -8,4 +8,5 @@ pub mod SetPlay
 pub mod Tries
 pub mod Trees
 pub mod TreeReplies
+pub mod Laws
 pub mod inside

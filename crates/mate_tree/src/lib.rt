@@ -3,13 +3,15 @@
 //!
 //! What is true of a position is `mate_search`'s business, and how a move is written `chess_notation`'s. Each definition stands in the
 //! file of `specs/` with the same name. To read: `forms`, `lines`, `continuations` and `defences`, the tree below a move;
-//! `passing` and `keys`, `set_play`, `tries`; then `trees`, over `sheets`, and `tree_replies`.
+//! `passing` and `keys`, `set_play`, `tries`; then `trees`, over `sheets`, and `tree_replies`. `laws` says of the definitions what they
+//! are meant to say.
 #![tactic(auto)]
 
 mod continuations;
 mod defences;
 mod forms;
 mod keys;
+mod laws;
 mod lines;
 mod passing;
 mod set_play;
@@ -19,5 +21,6 @@ mod trees;
 mod tries;
 
 pub use forms::Form;
+pub use laws::{defences_answered, leaves_mate, line_branches, soonest_reads};
 pub use passing::passed;
 pub use tree_replies::{TreeReplies, tree_input};

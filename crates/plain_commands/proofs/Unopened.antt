@@ -5,7 +5,6 @@ use Rattle.std.proofs.KnownBytes.{Appends-kept, Appends-nil}
 use Rattle.std.specs.Io.KnownBytes.{Keeps}
 use Rattle.byte_streams.specs.Inputs.{MayBe}
 use Rattle.text_lines.specs.Replies.{IsReplyToFirst as IsReplyToFirstBy}
-use Rattle.mate_answers.specs.InputReplies.{IsReplyToFirst}
 use Rattle.byte_streams.specs.Stops.{AppendsBy, stop_of}
 use Rattle.byte_streams.specs.declared.inputs.InputFault.{InputFault}
 use Rattle.byte_streams.specs.declared.inputs.InputFault.TheVariants as fault

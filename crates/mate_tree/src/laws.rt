@@ -1,0 +1,41 @@
+//! Laws about the definitions. A function here does nothing, beyond citing laws of the search: its contract is the law.
+
+ghost use Rattle.mate_tree.specs.Laws.{DefencesAnswered, LeavesMate, LineBranches, SoonestReads};
+
+use mate_search::{lost_reads, truth_reads, win_grows, win_reads};
+
+/// Something mates soonest exactly where the attacker mates within the moves that are left.
+pub fn soonest_reads()
+    ensures { SoonestReads }
+{
+    truth_reads();
+    win_reads();
+    win_grows();
+}
+
+/// After a move that mates in one the defender is mated: where a tree goes down to its end, it ends in mate.
+pub fn leaves_mate()
+    ensures { LeavesMate }
+{
+    truth_reads();
+    lost_reads();
+}
+
+/// Below each legal reply to a key, or to a move that mates soonest, stands a move that goes on: none refutes it, so that no key is a try.
+pub fn defences_answered()
+    ensures { DefencesAnswered }
+{
+    truth_reads();
+    lost_reads();
+    soonest_reads();
+}
+
+/// The line that `solve` tells is a branch of the tree: a key, a legal reply, a move that mates soonest from there; and so on, since that
+/// move is a key again.
+pub fn line_branches()
+    ensures { LineBranches }
+{
+    truth_reads();
+    win_reads();
+    lost_reads();
+}
