@@ -1,4 +1,4 @@
-# Completions of matedesk for bash: commands, options, the values of --bound, --workers and DEPTH, codes, and files. A FEN has none.
+# Completions of matedesk for bash: commands, options, the values of --bound, --moves, --workers and DEPTH, codes, and files. A FEN has none.
 
 _matedesk() {
     local word=${COMP_WORDS[COMP_CWORD]} before=${COMP_WORDS[COMP_CWORD - 1]} command=${COMP_WORDS[1]} options depth=3 files=
@@ -8,7 +8,7 @@ _matedesk() {
     COMPREPLY=()
     if ((COMP_CWORD == 1)); then
         options='-h --help -V --version'
-        [[ $word == -* ]] || options='solve verify serve replay look play moves perft explain'
+        [[ $word == -* ]] || options='solve verify tree serve replay look play moves perft explain'
         mapfile -t COMPREPLY < <(compgen -W "$options" -- "$word")
         return
     fi
@@ -16,6 +16,7 @@ _matedesk() {
     [[ $command != @(look|moves|perft) || " ${COMP_WORDS[*]:2:COMP_CWORD - 2} " != *' --lines '* ]] || command+=' --lines'
     case $command in
     solve | verify) options='--bound --memo -h --help' ;;
+    tree) options='--bound --moves --set-play --tries --lines -h --help' ;;
     serve) options='--workers --bound --memo -h --help' ;;
     look) options='--board --flip --lines -h --help' ;;
     moves) options='--coordinates --fen --lines -h --help' ;;
@@ -25,14 +26,14 @@ _matedesk() {
     *) return ;;
     esac
     case $command,$before,$word in
-    solve,--bound,* | verify,--bound,* | serve,--bound,*) mapfile -t COMPREPLY < <(compgen -W "$(echo {1..15})" -- "$word") ;;
+    solve,--bound,* | verify,--bound,* | tree,--bound,* | tree,--moves,* | serve,--bound,*) mapfile -t COMPREPLY < <(compgen -W "$(echo {1..15})" -- "$word") ;;
     serve,--workers,*) mapfile -t COMPREPLY < <(compgen -W "$(echo {1..16})" -- "$word") ;;
-    solve,--memo,* | verify,--memo,* | serve,--memo,*) ;;
+    solve,--memo,* | verify,--memo,* | tree,--lines,* | serve,--memo,*) ;;
     'perft --lines,--lines,' | 'perft --lines,--lines,'[!-]*) mapfile -t COMPREPLY < <(compgen -W "$(echo {0..6})" -- "$word") ;;
     *' --lines,'*,-*) mapfile -t COMPREPLY < <(compgen -W "$options" -- "$word") ;;
     *' --lines,'*) files=1 ;;
     *,-*) mapfile -t COMPREPLY < <(compgen -W "$options" -- "$word") ;;
-    solve,* | verify,* | serve,* | replay,*) files=1 ;;
+    solve,* | verify,* | tree,* | serve,* | replay,*) files=1 ;;
     perft,*)
         [[ ${COMP_WORDS[2]} != --divide ]] || depth=4
         ((COMP_CWORD != depth)) || mapfile -t COMPREPLY < <(compgen -W "$(echo {0..6})" -- "$word")

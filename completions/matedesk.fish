@@ -1,6 +1,6 @@
-# Completions of matedesk for fish: commands, options, the values of --bound, --workers and DEPTH, codes, and files. A FEN has none.
+# Completions of matedesk for fish: commands, options, the values of --bound, --moves, --workers and DEPTH, codes, and files. A FEN has none.
 
-set -l commands solve verify serve replay look play moves perft explain
+set -l commands solve verify tree serve replay look play moves perft explain
 
 complete -c matedesk -f
 complete -c matedesk -s h -l help -d 'Print help'
@@ -8,6 +8,7 @@ complete -c matedesk -n "not __fish_seen_subcommand_from $commands" -s V -l vers
 
 complete -c matedesk -n "not __fish_seen_subcommand_from $commands" -a solve -d 'Solve the problems of files'
 complete -c matedesk -n "not __fish_seen_subcommand_from $commands" -a verify -d 'Hold the problems of files against their claims'
+complete -c matedesk -n "not __fish_seen_subcommand_from $commands" -a tree -d 'Tell how the problems of files are solved'
 complete -c matedesk -n "not __fish_seen_subcommand_from $commands" -a serve -d 'Solve the problems of files on threads'
 complete -c matedesk -n "not __fish_seen_subcommand_from $commands" -a replay -d 'Run a script of steps at a desk'
 complete -c matedesk -n "not __fish_seen_subcommand_from $commands" -a look -d 'Show a FEN in canonical form'
@@ -17,15 +18,19 @@ complete -c matedesk -n "not __fish_seen_subcommand_from $commands" -a perft -d 
 complete -c matedesk -n "not __fish_seen_subcommand_from $commands" -a explain -d 'Say what a fault means'
 
 complete -c matedesk -n '__fish_seen_subcommand_from serve' -l workers -x -a '(seq 1 16)' -d 'Threads that solve'
-complete -c matedesk -n '__fish_seen_subcommand_from solve verify serve' -l bound -x -a '(seq 1 15)' -d 'Moves of a record without dm'
+complete -c matedesk -n '__fish_seen_subcommand_from solve verify tree serve' -l bound -x -a '(seq 1 15)' -d 'Moves of a record without dm'
 complete -c matedesk -n '__fish_seen_subcommand_from solve verify serve' -l memo -x -d 'Positions that are remembered'
+complete -c matedesk -n '__fish_seen_subcommand_from tree' -l moves -x -a '(seq 1 15)' -d 'Moves of the attacker that are shown'
+complete -c matedesk -n '__fish_seen_subcommand_from tree' -l set-play -d 'Show what would follow were the defender to move first'
+complete -c matedesk -n '__fish_seen_subcommand_from tree' -l tries -d 'Show the first moves that one reply alone refutes'
+complete -c matedesk -n '__fish_seen_subcommand_from tree' -l lines -x -d 'Lines that a tree has at most'
 complete -c matedesk -n '__fish_seen_subcommand_from look' -l board -d 'Draw the board too'
 complete -c matedesk -n '__fish_seen_subcommand_from look' -l flip -d 'Draw it as Black sees it'
 complete -c matedesk -n '__fish_seen_subcommand_from moves' -l coordinates -d 'Write moves by their coordinates'
 complete -c matedesk -n '__fish_seen_subcommand_from moves' -l fen -d 'Write the FEN after each move'
 complete -c matedesk -n '__fish_seen_subcommand_from perft' -l divide -d 'Count the lines behind each first move too'
 complete -c matedesk -n '__fish_seen_subcommand_from look moves perft' -l lines -d 'Read files of positions'
-complete -c matedesk -n '__fish_seen_subcommand_from solve verify serve replay' -F
+complete -c matedesk -n '__fish_seen_subcommand_from solve verify tree serve replay' -F
 complete -c matedesk -n '__fish_seen_subcommand_from look moves perft; and string match -q -- --lines (commandline -opc)' -F
 complete -c matedesk -n '__fish_seen_subcommand_from perft; and test (count (string match -v -- "-*" (commandline -opc))) -eq 3' -a '(seq 0 6)' -d 'Depth'
 complete -c matedesk -n '__fish_seen_subcommand_from explain' -a '(matedesk explain 2>/dev/null | cut -d : -f 1)' -d 'Fault'

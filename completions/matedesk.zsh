@@ -1,5 +1,5 @@
 #compdef matedesk
-# Completions of matedesk for zsh: commands, options, the values of --bound, --workers and DEPTH, codes, and files. A FEN has none.
+# Completions of matedesk for zsh: commands, options, the values of --bound, --moves, --workers and DEPTH, codes, and files. A FEN has none.
 
 _matedesk() {
     local curcontext=$curcontext state line
@@ -8,6 +8,7 @@ _matedesk() {
     commands=(
         'solve:solve the problems of files'
         'verify:hold the problems of files against their claims'
+        'tree:tell how the problems of files are solved'
         'serve:solve the problems of files on threads'
         'replay:run a script of steps at a desk'
         'look:show a FEN in canonical form'
@@ -27,6 +28,15 @@ _matedesk() {
             _arguments $help \
                 '--bound=[moves within which a record without dm asks for mate]:bound:(1 2 3 4 5 6 7 8 9 10 11 12 13 14 15)' \
                 '--memo=[positions that are remembered]:positions: ' \
+                '*:file of records:_files'
+            ;;
+        tree)
+            _arguments $help \
+                '--bound=[moves within which a record without dm asks for mate]:bound:(1 2 3 4 5 6 7 8 9 10 11 12 13 14 15)' \
+                '--moves=[moves of the attacker that are shown]:moves:(1 2 3 4 5 6 7 8 9 10 11 12 13 14 15)' \
+                '--set-play[show what would follow were the defender to move first]' \
+                '--tries[show the first moves that one reply alone refutes]' \
+                '--lines=[lines that a tree has at most]:lines: ' \
                 '*:file of records:_files'
             ;;
         serve)

@@ -1,5 +1,5 @@
 -- What the words of a command line ask for.
-use Rattle.std.specs.Prelude.{ℕ, ◌^◌, ◌&&◌, Bool, List, [], ◌∷◌, Option, None, Some, true, false, codes, length, nat_lt, option_map, option_and_then, unwrap_or, if◌then◌else◌}
+use Rattle.std.specs.Prelude.{ℕ, ◌^◌, ◌==◌, ◌&&◌, Bool, List, [], ◌∷◌, Option, None, Some, true, false, codes, length, nat_lt, option_map, option_and_then, unwrap_or, if◌then◌else◌}
 use Rattle.std.specs.List.{list_all, list_any}
 use Rattle.std.specs.Option.{option_map_or}
 use Rattle.std.specs.Char.{digit_value}
@@ -20,6 +20,7 @@ use Rattle.command_words.specs.LineCommands.{given}
 use Rattle.command_words.specs.declared.request.LineView.{LineView}
 use Rattle.command_words.specs.declared.request.LineView.TheVariants as shown
 use Rattle.command_words.specs.declared.request.MoveForm.{MoveForm}
+use Rattle.command_words.specs.declared.request.TreeForm.{TreeForm}
 use Rattle.command_words.specs.declared.request.MoveForm.TheVariants.{San, Coordinates, SanFen, SanCoordinatesFen}
 
 -- a command with its arguments
@@ -33,6 +34,7 @@ pub data Asked : Type 0 where
   lines : LineView → List Text → Asked
   solve : ℕ → ℕ → List Text → Asked
   verify : ℕ → ℕ → List Text → Asked
+  tree : ℕ → TreeForm → List Text → Asked
   serve : ℕ → ℕ → ℕ → List Text → Asked
   replay : Text → Asked
   explain : Option Text → Asked
@@ -117,6 +119,23 @@ solve_in rows = option_and_then (λ bound. option_and_then (λ memo. option_map 
 abbrev pub verify_in : List Row → Option Asked
 verify_in rows = option_and_then (λ bound. option_and_then (λ memo. option_map (λ names. verify bound memo names) (all_of (codes "FILE") rows)) (memo_size_in rows)) (bound_in rows)
 
+-- a number from 1 on, or none, for which 0 stands
+abbrev pub some_number : ℕ → Option ℕ
+some_number n = if n == 0 then None else Some n
+
+-- what is shown of a tree: how many moves, set play, tries, and how many lines
+abbrev pub tree_form_in : List Row → TreeForm
+tree_form_in rows = record {
+  moves = some_number (option_map_or byte_or_zero (one_of (codes "D") rows) 0);
+  set_play = is_given (codes "set-play") rows;
+  tries = is_given (codes "tries") rows;
+  lines = some_number (option_map_or number_or_zero (one_of (codes "N") rows) 0);
+}
+
+-- what the arguments of `tree` ask for
+abbrev pub tree_in : List Row → Option Asked
+tree_in rows = option_and_then (λ bound. option_map (λ names. tree bound (tree_form_in rows) names) (all_of (codes "FILE") rows)) (bound_in rows)
+
 -- what the arguments of `serve` ask for
 abbrev pub serve_in : List Row → Option Asked
 serve_in rows =
@@ -132,6 +151,7 @@ asked_by name rows =
     else if bytes_eq name (codes "perft") then perft_in rows
     else if bytes_eq name (codes "solve") then solve_in rows
     else if bytes_eq name (codes "verify") then verify_in rows
+    else if bytes_eq name (codes "tree") then tree_in rows
     else if bytes_eq name (codes "serve") then serve_in rows
     else if bytes_eq name (codes "replay") then option_map replay (first_of (codes "SCRIPT") rows)
     else if bytes_eq name (codes "explain") then Some (explain (first_of (codes "CODE") rows))

@@ -38,6 +38,20 @@ memo_rule default = record (new_rule (codes "M")) {
   defaults = default ∷ [];
 }
 
+-- an option that reads a number from 1 to 15, and need not be given
+abbrev pub shown_rule : Rule
+shown_rule = record (new_rule (codes "D")) {
+  long = Some (codes "moves");
+  parser = Some (parser.Signed (pos 1) (pos 15));
+}
+
+-- an option that reads a number from 1 to 1,000,000, and need not be given
+abbrev pub most_lines_rule : Rule
+most_lines_rule = record (new_rule (codes "N")) {
+  long = Some (codes "lines");
+  parser = Some (parser.Signed (pos 1) (pos 1000000));
+}
+
 -- an option without a value
 abbrev pub flag_rule : Text → Rule
 flag_rule name = record (new_rule name) { long = Some name; action = Some SetTrue }
@@ -59,6 +73,14 @@ solve_app = with_rule (with_solving_options (new_app (codes "solve")) (codes "65
 
 abbrev pub verify_app : App
 verify_app = with_rule (with_solving_options (new_app (codes "verify")) (codes "65536")) files_rule
+
+-- with the options of `tree`: the bound, and what is shown
+abbrev pub with_tree_options : App → App
+with_tree_options a =
+    with_rule (with_rule (with_rule (with_rule (with_rule a bound_rule) shown_rule) (flag_rule (codes "set-play"))) (flag_rule (codes "tries"))) most_lines_rule
+
+abbrev pub tree_app : App
+tree_app = with_rule (with_tree_options (new_app (codes "tree"))) files_rule
 
 abbrev pub serve_app : App
 serve_app = with_rule (with_solving_options (with_rule (new_app (codes "serve")) workers_rule) (codes "16384")) files_rule
@@ -115,7 +137,7 @@ with_other_apps a = with_subcommand (with_subcommand a perft_app.top) explain_ap
 
 -- with the commands that answer the records of files one after the other
 abbrev pub with_problem_apps : App → App
-with_problem_apps a = with_subcommand (with_subcommand a solve_app.top) verify_app.top
+with_problem_apps a = with_subcommand (with_subcommand (with_subcommand a solve_app.top) verify_app.top) tree_app.top
 
 -- with those on threads, and at a desk
 abbrev pub with_desk_apps : App → App

@@ -2,16 +2,17 @@
 
 ghost use Rattle.std.specs.Prelude.{◌≡◌, IfOk, codes, false};
 ghost use Rattle.clap.specs.Words.{app_of, new_rule, rule_of, with_rule, with_subcommand};
-ghost use Rattle.command_words.specs.CommandLine.{IsLocal, bare_app, bound_rule, depth_rule, desk_app, explain_app, files_rule, flag_rule, look_app, look_lines_app, memo_rule, moves_app, moves_lines_app, moves_rule, perft_app, perft_lines_app, play_app, replay_app, serve_app, solve_app, verify_app, wanted, with_desk_apps, with_fen_apps, with_line_apps, with_other_apps, with_problem_apps, with_solving_options, workers_rule};
+ghost use Rattle.command_words.specs.CommandLine.{IsLocal, bare_app, bound_rule, depth_rule, desk_app, explain_app, files_rule, flag_rule, look_app, look_lines_app, memo_rule, most_lines_rule, moves_app, moves_lines_app, moves_rule, perft_app, perft_lines_app, play_app, replay_app, serve_app, shown_rule, solve_app, tree_app, verify_app, wanted, with_desk_apps, with_fen_apps, with_line_apps, with_other_apps, with_problem_apps, with_solving_options, with_tree_options, workers_rule};
 
 use crate::help::{
     ABOUT, ABOUT_BOARD, ABOUT_BOUND, ABOUT_CODE, ABOUT_COORDINATES, ABOUT_DEPTH, ABOUT_DIVIDE,
     ABOUT_EXPLAIN, ABOUT_FEN, ABOUT_FENS, ABOUT_FILE, ABOUT_FLIP, ABOUT_LOOK, ABOUT_LOOK_LINES,
-    ABOUT_MEMO, ABOUT_MEMOS, ABOUT_MOVE, ABOUT_MOVES, ABOUT_MOVES_LINES, ABOUT_PERFT,
-    ABOUT_PERFT_LINES, ABOUT_PLAY, ABOUT_POSITIONS, ABOUT_REPLAY, ABOUT_SCRIPT, ABOUT_SERVE,
-    ABOUT_SOLVE, ABOUT_VERIFY, ABOUT_WORKERS, AFTER_EXPLAIN, AFTER_HELP, AFTER_LOOK,
-    AFTER_LOOK_LINES, AFTER_MOVES, AFTER_MOVES_LINES, AFTER_PERFT, AFTER_PERFT_LINES, AFTER_PLAY,
-    AFTER_REPLAY, AFTER_SERVE, AFTER_SOLVE, AFTER_VERIFY, VERSION,
+    ABOUT_MEMO, ABOUT_MEMOS, ABOUT_MOST_LINES, ABOUT_MOVE, ABOUT_MOVES, ABOUT_MOVES_LINES,
+    ABOUT_PERFT, ABOUT_PERFT_LINES, ABOUT_PLAY, ABOUT_POSITIONS, ABOUT_REPLAY, ABOUT_SCRIPT,
+    ABOUT_SERVE, ABOUT_SET_PLAY, ABOUT_SHOWN, ABOUT_SOLVE, ABOUT_TREE, ABOUT_TRIES, ABOUT_VERIFY,
+    ABOUT_WORKERS, AFTER_EXPLAIN, AFTER_HELP, AFTER_LOOK, AFTER_LOOK_LINES, AFTER_MOVES,
+    AFTER_MOVES_LINES, AFTER_PERFT, AFTER_PERFT_LINES, AFTER_PLAY, AFTER_REPLAY, AFTER_SERVE,
+    AFTER_SOLVE, AFTER_TREE, AFTER_VERIFY, VERSION,
 };
 use clap::{Arg, ArgAction, Command, value_parser};
 use std::alloc::{AllocError, Global};
@@ -64,6 +65,28 @@ fn memo_arg<'a>(alloc: Global, default: &'a str, help: &'a str) -> Arg<'a>
         .value_parser(value_parser!(u32).range(1..65_537))
         .default_value(default)
         .help(help)
+}
+
+/// How many of the attacker's moves are shown of a tree, 1 to 15.
+fn shown_arg<'a>(alloc: Global) -> Arg<'a>
+    ensures rule { rule_of result ≡ shown_rule }
+    ensures local { result.global ≡ false }
+{
+    Arg::new(alloc, "D")
+        .long("moves")
+        .value_parser(value_parser!(u8).range(1..16))
+        .help(ABOUT_SHOWN)
+}
+
+/// How many lines of a tree there are at most, 1 to 1,000,000.
+fn most_lines_arg<'a>(alloc: Global) -> Arg<'a>
+    ensures rule { rule_of result ≡ most_lines_rule }
+    ensures local { result.global ≡ false }
+{
+    Arg::new(alloc, "N")
+        .long("lines")
+        .value_parser(value_parser!(u32).range(1..1_000_001))
+        .help(ABOUT_MOST_LINES)
 }
 
 /// An option without a value, by its long name.
@@ -164,6 +187,28 @@ fn verify_command<'a>(alloc: Global) -> Result<Command<'a>, AllocError>
         .about(ABOUT_VERIFY)
         .after_help(AFTER_VERIFY);
     let command = with_solving_options(alloc, command, "65536", ABOUT_MEMO)?;
+    with_arg(command, files_arg(alloc, ABOUT_FILE))
+}
+
+/// Adds what may be given to `tree`: the bound, and what is shown.
+fn with_tree_options<'a>(alloc: Global, command: Command<'a>) -> Result<Command<'a>, AllocError>
+    requires local { IsLocal command }
+    ensures { IfOk result (λ c. (app_of c ≡ with_tree_options (app_of command.entry)) × IsLocal c) }
+{
+    let command = with_args(command, bound_arg(alloc), shown_arg(alloc))?;
+    let set_play = flag_arg(alloc, "set-play", ABOUT_SET_PLAY);
+    let tries = flag_arg(alloc, "tries", ABOUT_TRIES);
+    let command = with_args(command, set_play, tries)?;
+    with_arg(command, most_lines_arg(alloc))
+}
+
+fn tree_command<'a>(alloc: Global) -> Result<Command<'a>, AllocError>
+    ensures { IfOk result (λ c. (app_of c ≡ tree_app) × IsLocal c) }
+{
+    let command = Command::new(alloc, "tree")
+        .about(ABOUT_TREE)
+        .after_help(AFTER_TREE);
+    let command = with_tree_options(alloc, command)?;
     with_arg(command, files_arg(alloc, ABOUT_FILE))
 }
 
@@ -313,7 +358,8 @@ fn with_problem_commands<'a>(alloc: Global, command: Command<'a>) -> Result<Comm
     ensures { IfOk result (λ c. app_of c ≡ with_problem_apps (app_of command.entry)) }
 {
     let command = with_command(command, solve_command(alloc)?)?;
-    with_command(command, verify_command(alloc)?)
+    let command = with_command(command, verify_command(alloc)?)?;
+    with_command(command, tree_command(alloc)?)
 }
 
 /// Adds those on threads, and at a desk.

@@ -9,8 +9,8 @@ pub const ABOUT: &str =
 
 /// What stands below the list of commands: what a record and a FEN are, an example of each command, and the statuses.
 pub const AFTER_HELP: &str =
-    "A FILE of `solve`, `verify` or `serve` has a problem on each line, as a record in Extended Position
-Description: `matedesk solve --help` says what that is.
+    "A FILE of `solve`, `verify`, `tree` or `serve` has a problem on each line, as a record in Extended
+Position Description: `matedesk solve --help` says what that is.
 
 FEN, the Forsyth-Edwards Notation of a position, is six fields with a space between
 (placement, side, castling rights, en passant target, halfmove clock, fullmove
@@ -19,6 +19,7 @@ number), given as ONE argument in quotes.
 Examples:
   matedesk solve problems.epd
   matedesk verify problems.epd
+  matedesk tree problems.epd
   matedesk serve --workers 4 problems.epd
   matedesk replay small.script
   matedesk look \"rnbqkbnr/pppppppp/8/8/8/8/PPPPPPPP/RNBQKBNR w KQkq - 0 1\"
@@ -132,6 +133,55 @@ Status:
   4  a FILE can't be read, or the output can't be written
 At 3 and 4 the first of the rows may have been written.";
 
+/// `tree` in one line.
+pub const ABOUT_TREE: &str =
+    "Tells how the problems of files are solved: keys, threats, every defence, and what follows";
+
+/// What stands below the arguments of `tree`: what its lines say, an example, and the statuses.
+pub const AFTER_TREE: &str =
+    "Each line is a record, as `matedesk solve --help` says. For each record there is the answer
+of `solve`; where it tells of a mate, the tree of its solution; and an empty line. A refused
+line is answered `# line K: CODE` and an empty line, and a blank one is passed over.
+
+  1.Bh1! zugzwang    a key, and that the defender has no good move: were it to pass, there
+                     would be no mate in time
+  1.Nf4! threat 2.Qd5# 2.Qe6#
+                     a key, and the moves that would mate soonest were the defender to pass.
+                     Of a key that gives check nothing is said
+  1...Ke3            a defence: each legal reply stands below its move
+  1...c6 dual        the same, where the attacker has more than one move to go on
+  2.Qxf3#            all moves with which the attacker mates soonest stand below the defence
+  2.Qd5 #4           below this move the tree is cut: it mates within 4 moves, itself counted
+
+The tree goes down to mate, or to the attacker's D-th move. With --set-play `set play` has
+before the keys what the attacker would answer were the defender to move first. With --tries
+`tries` has behind them each first move that exactly one reply refutes: 1.Qh3? Kd5!
+
+Example:
+  $ cat problems.epd
+  7k/8/5K2/8/8/8/8/R7 w - - dm 2;
+  $ matedesk tree problems.epd
+  7k/8/5K2/8/8/8/8/R7 w - - bm Kf7 Kg6; dm 2; pv Kg6 Kg8 Ra8#;
+  1.Kg6! zugzwang
+    1...Kg8
+      2.Ra8#
+  1.Kf7! threat 2.Rh1#
+    1...Kh7
+      2.Rh1#
+
+Moves to avoid (`am`) are left out at the first move. A tree of many moves may take longer
+than one can wait, and all memory: use --moves and --lines.
+
+The FILE `-` is standard input; a file by that name is `./-`.
+
+Status:
+  0  every line was answered
+  1  a line was refused; all others were answered
+  2  the words ask for nothing
+  3  no memory
+  4  a FILE can't be read, or the output can't be written
+At 3 and 4 the first of the answers may have been written.";
+
 /// `serve` in one line.
 pub const ABOUT_SERVE: &str =
     "Solves the problems of up to 16 files on threads, and answers them as `solve` does";
@@ -225,6 +275,20 @@ pub const ABOUT_SCRIPT: &str = "A file with a desk and its steps; `-` is standar
 
 /// The option `--bound` in one line.
 pub const ABOUT_BOUND: &str = "Within how many moves a record without `dm` asks for mate, 1 to 15";
+
+/// The option `--moves` of `tree` in one line.
+pub const ABOUT_SHOWN: &str =
+    "How many of the attacker's moves are shown, 1 to 15; else all of a mate in up to 3, and else 2";
+
+/// The option `--set-play` in one line.
+pub const ABOUT_SET_PLAY: &str = "Shows what would follow were the defender to move first";
+
+/// The option `--tries` in one line.
+pub const ABOUT_TRIES: &str = "Shows the first moves that one reply alone refutes";
+
+/// The option `--lines` of `tree` in one line.
+pub const ABOUT_MOST_LINES: &str =
+    "How many lines a tree has at most, 1 to 1000000; `..` stands for the others";
 
 /// The option `--memo` of `solve` in one line.
 pub const ABOUT_MEMO: &str = "How many positions the memo has room for, 1 to 65536";

@@ -13,4 +13,4 @@ mod request;
 
 pub use hyphens::escaped;
 pub use limits::{Depth, MemoSize, Workers};
-pub use request::{LineView, MoveForm, Request, parse, request_of};
+pub use request::{LineView, MoveForm, Request, TreeForm, parse, request_of};

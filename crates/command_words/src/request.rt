@@ -4,7 +4,7 @@ ghost use Rattle.std.specs.Prelude.{◌≡◌, ◌≢◌, None, codes, IfOk, IfE
 ghost use Rattle.std.specs.Option.{option_map_or};
 ghost use Rattle.clap.specs.Walk.{byte_or_zero};
 ghost use Rattle.clap.specs.Words.{all_of, first_of, found_of, kind_of, one_of, rows_of};
-ghost use Rattle.command_words.specs.Asked.{asked_by, asked_exactly, bound_in, depth_in, form_in, is_given, lines_in, look_in, look_lines_in, memo_size_in, moves_in, number_or_zero, perft_in, perft_lines_in, play_in, side_in, workers_in, serve_in, solve_in, verify_in, asked_of, asks_display_exactly, is_display, may_display_exactly};
+ghost use Rattle.command_words.specs.Asked.{asked_by, asked_exactly, bound_in, depth_in, form_in, is_given, lines_in, look_in, look_lines_in, memo_size_in, moves_in, number_or_zero, perft_in, perft_lines_in, play_in, side_in, workers_in, serve_in, solve_in, some_number, tree_form_in, tree_in, verify_in, asked_of, asks_display_exactly, is_display, may_display_exactly};
 ghost use Rattle.command_words.specs.Request.{plan_of};
 
 use crate::command_line::desk_command;
@@ -41,6 +41,19 @@ pub enum LineView {
     Perft(Depth),
 }
 
+/// What is shown of a tree, and how much.
+#[derive(Clone, Copy, Debug, PartialEq, Eq)]
+pub struct TreeForm {
+    /// How many of the attacker's moves, where a number is given.
+    pub moves: Option<u8>,
+    /// Whether set play is shown.
+    pub set_play: bool,
+    /// Whether tries are shown.
+    pub tries: bool,
+    /// How many lines at most, where a number is given.
+    pub lines: Option<u32>,
+}
+
 /// A command with its arguments.
 #[derive(Clone, Copy)]
 pub enum Request<'m, 'a> {
@@ -62,6 +75,8 @@ pub enum Request<'m, 'a> {
     Solve(Bound, MemoSize, &'m [&'a str]),
     /// Hold the records of files, in order, against their own claims, over a memo of such a size; the bound is for records that say none.
     Verify(Bound, MemoSize, &'m [&'a str]),
+    /// Tell the trees of the records of files, in order, in such a form; the bound is for records that say none.
+    Tree(Bound, TreeForm, &'m [&'a str]),
     /// Answer the records of files by so many workers, each over a memo of such a size, all files at once; the bound is for records
     /// that say none.
     Serve(Workers, Bound, MemoSize, &'m [&'a str]),
@@ -106,7 +121,7 @@ fn depth_in(matches: &ArgMatches) -> Option<Depth>
     Depth::new(number_in(matches, "DEPTH"))
 }
 
-/// The bound of `solve`, `verify` and `serve`. `clap` has kept it to its range.
+/// The bound of `solve`, `verify`, `tree` and `serve`. `clap` has kept it to its range.
 fn bound_in(matches: &ArgMatches) -> Option<Bound>
     ensures { result ≡ bound_in (rows_of (found_of matches.now)) }
 {
@@ -249,6 +264,47 @@ fn verify_in<'m, 'a>(matches: &'m ArgMatches<'a>) -> Option<Request<'m, 'a>>
     names_in(matches, "FILE").map(|names| Request::Verify(bound, memo, names))
 }
 
+/// How many of the attacker's moves are shown of a tree. `clap` has kept them to their range, and has none where none are given.
+fn shown_in(matches: &ArgMatches) -> Option<u8>
+    ensures { result ≡ some_number (option_map_or byte_or_zero (one_of (codes "D") (rows_of (found_of matches.now))) 0) }
+{
+    match number_in(matches, "D") {
+        0 => None,
+        moves => Some(moves),
+    }
+}
+
+/// How many lines of a tree there are at most, likewise.
+fn most_lines_in(matches: &ArgMatches) -> Option<u32>
+    ensures { result ≡ some_number (option_map_or number_or_zero (one_of (codes "N") (rows_of (found_of matches.now))) 0) }
+{
+    match large_number_in(matches, "N") {
+        0 => None,
+        lines => Some(lines),
+    }
+}
+
+/// What is shown of a tree.
+fn tree_form_in(matches: &ArgMatches) -> TreeForm
+    ensures { result ≡ tree_form_in (rows_of (found_of matches.now)) }
+{
+    TreeForm {
+        moves: shown_in(matches),
+        set_play: is_given(matches, "set-play"),
+        tries: is_given(matches, "tries"),
+        lines: most_lines_in(matches),
+    }
+}
+
+/// What the arguments of `tree` ask for.
+fn tree_in<'m, 'a>(matches: &'m ArgMatches<'a>) -> Option<Request<'m, 'a>>
+    ensures { option_map plan_of result ≡ tree_in (rows_of (found_of matches.now)) }
+{
+    let bound = bound_in(matches)?;
+    let form = tree_form_in(matches);
+    names_in(matches, "FILE").map(|names| Request::Tree(bound, form, names))
+}
+
 /// What the arguments of `serve` ask for.
 fn serve_in<'m, 'a>(matches: &'m ArgMatches<'a>) -> Option<Request<'m, 'a>>
     ensures { option_map plan_of result ≡ serve_in (rows_of (found_of matches.now)) }
@@ -276,6 +332,8 @@ fn request_by<'m, 'a>(name: &str, matches: &'m ArgMatches<'a>) -> Option<Request
         solve_in(matches)
     } else if name == "verify" {
         verify_in(matches)
+    } else if name == "tree" {
+        tree_in(matches)
     } else if name == "serve" {
         serve_in(matches)
     } else if name == "replay" {

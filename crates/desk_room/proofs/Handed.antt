@@ -13,7 +13,7 @@ use Rattle.mate_answers.specs.InputReplies.{answer_line, IsLineReply, IsReply, R
 use Rattle.room_ends.specs.Letters.{records}
 use Rattle.desk_room.specs.Deliveries.{asked}
 use Rattle.room_ends.specs.Windows.{letters_sent, collected, default_of, SameWindow}
-use Rattle.room_ends.specs.WindowFaults.{SaysOnly, SaysRecord}
+use Rattle.room_ends.specs.WindowFaults.{SaysOnly, SaysKept}
 use Rattle.desk_room.specs.inside.Submitters.{Progress, HasHandled, Reports}
 use Rattle.room_ends.specs.declared.letters.Letter.TheVariants.{Record}
 use Rattle.desk_room.specs.declared.serving.submitters.Submitter.{Submitter}
@@ -31,7 +31,7 @@ answered_line : (default number : ℕ) (whole line : List ℕ) (r : RecordValue)
 answered_line default number whole line r is blank says = subst (λ l. IsLineReply default number l (answer_line r) 0) (sym is) (is_answered r blank says.0)
 
 pub refused_line : (default number : ℕ) (whole line here : List ℕ) (fault : EpdFault) → without_cr whole ≡ line → is_blank line ≡ false
-    → IsFaultOf line fault ⊎ ((fault ≡ NoMemory) × SaysRecord line default) → fault ≢ NoMemory → here ≡ fault_line number fault → IsLineReply default number (without_cr whole) here 1
+    → IsFaultOf line fault ⊎ ((fault ≡ NoMemory) × SaysKept line default) → fault ≢ NoMemory → here ≡ fault_line number fault → IsLineReply default number (without_cr whole) here 1
 refused_line default number whole line here fault is blank (inl faulty) other text =
     subst (λ l. IsLineReply default number l here 1) (sym is) (subst (λ t. IsLineReply default number line t 1) (sym text) (is_refused fault blank faulty))
 refused_line default number whole line here fault is blank (inr memory) other text = absurd (other memory.0)

@@ -11,7 +11,7 @@ use Rattle.desk_room.proofs.RingEnds.{same_line, ends_stay}
 
 pub of_then : (w : Window) (k m : Keeper) → IsOf w k → SameRoom k m → IsOf w m
 unfolding SameRoom
-of_then w k m h f = f w h
+of_then w k m h f = f.0 w h
 
 pub of_window : (w v : Window) (k : Keeper) → IsOf w k → SameWindow w v → IsOf v k
 of_window w v k h s = (h.0, ap (slice_get k.lines.items) s.2 ∙ h.1, ends_stay w v h.0 h.0 h.2 s (same_line h.0))

@@ -1,27 +1,32 @@
--- The windows of a room stay those that they were.
+-- The windows and the deque of a room stay those that they were.
 use Rattle.std.proofs.lemmas.List.Sums.{sum_by-cons, count_by_more_yes, count_by_more_no}
 use Rattle.room_ends.specs.Letters.{farewells}
 use Rattle.std.proofs.Common.{take, Bool, true, false, if◌then◌else◌, count_by, cond, nat_lt, ◌+◌, ◌≡◌, ◌≢◌, ◌<◌, ◌⊎◌, inl, inr, ℕ, zero, suc, List, [], ◌∷◌, length, map, set, get_or, slice_get, Some, refl, sym, ap, ◌∙◌, subst, arith}
+use Rattle.room_ends.specs.Orders.{SameDeque}
 use Rattle.room_ends.specs.Windows.{number_of}
 use Rattle.room_ends.specs.WindowRings.{letters_taken, has_farewell, SameLine, AreEnds}
 use Rattle.desk_room.specs.Keepers.{windows_gone, IsOf, SameRoom, Stays}
 use Rattle.room_ends.specs.declared.windows.Window.{Window}
 use Rattle.room_ends.specs.declared.window_ring_line.Line.{Line}
+use Rattle.room_ends.specs.declared.order_producer.OrderProducer.{OrderProducer}
 use Rattle.desk_room.specs.declared.keepers.Keeper.{Keeper}
 use Rattle.desk_room.proofs.Places.{is_or_not}
 use Rattle.desk_room.proofs.RingEnds.{same_window, ends_stay}
 
+pub deque_same : (p q : OrderProducer) → q ≡ p → SameDeque p q
+deque_same p q e = subst (λ o. SameDeque p o) (sym e) refl
+
 pub room_same : (k : Keeper) → SameRoom k k
 unfolding SameRoom
-room_same k = λ w h. h
+room_same k = ((λ w h. h), refl)
 
 pub room_then : (k l m : Keeper) → SameRoom k l → SameRoom l m → SameRoom k m
 unfolding SameRoom
-room_then k l m f g = λ w h. g w (f w h)
+room_then k l m f g = ((λ w h. g.0 w (f.0 w h)), g.1 ∙ f.1)
 
-pub room_lines : (k m : Keeper) → m.lines ≡ k.lines → SameRoom k m
+pub room_lines : (k m : Keeper) → m.lines ≡ k.lines → SameDeque k.producer m.producer → SameRoom k m
 unfolding SameRoom
-room_lines k m e = λ w h. (h.0, ap (λ v. slice_get v.items (number_of w)) e ∙ h.1, h.2)
+room_lines k m e d = ((λ w h. (h.0, ap (λ v. slice_get v.items (number_of w)) e ∙ h.1, h.2)), d)
 
 pub got_same : {A : Type 0} (n : ℕ) (xs : List A) (x : A) → n < length xs → slice_get (set xs n x) n ≡ Some x
 got_same n [] x h = absurd (omega arith)
@@ -41,9 +46,9 @@ got_is zero (z ∷ xs) x y g e = let h : z ≡ y = cc in sym h ∙ sym e
 got_is (suc n) (z ∷ xs) x y g e = got_is n xs x y g e
 
 -- one line, of which the ends stay the same
-pub room_set : (k m : Keeper) (n : ℕ) (l x : Line) → n < length k.lines.items → l ≡ get_or k.lines.items n l → SameLine l x → m.lines.items ≡ set k.lines.items n x → SameRoom k m
+pub room_set : (k m : Keeper) (n : ℕ) (l x : Line) → n < length k.lines.items → l ≡ get_or k.lines.items n l → SameLine l x → m.lines.items ≡ set k.lines.items n x → m.producer ≡ k.producer → SameRoom k m
 unfolding SameRoom
-room_set k m n l x h e s q = λ w p. pick w p (is_or_not (number_of w) n)
+room_set k m n l x h e s q d = ((λ w p. pick w p (is_or_not (number_of w) n)), deque_same k.producer m.producer d)
   where
     pick : (w : Window) → IsOf w k → ((number_of w ≡ n) ⊎ (number_of w ≢ n)) → IsOf w m
     pick w p (inl i) =
@@ -64,8 +69,8 @@ got_inside n [] x g = absurd (cc)
 got_inside zero (y ∷ xs) x g = omega arith
 got_inside (suc n) (y ∷ xs) x g = omega (arith, got_inside n xs x g)
 
-pub stays_lines : (k m : Keeper) → m.lines ≡ k.lines → length m.receivers.items ≡ length k.receivers.items → m.ring ≡ k.ring → Stays k m
-stays_lines k m e f g = record { windows = ap (λ v. length v.items) e; benches = f; ring = g; room = room_lines k m e }
+pub stays_lines : (k m : Keeper) → m.lines ≡ k.lines → length m.receivers.items ≡ length k.receivers.items → m.ring ≡ k.ring → SameDeque k.producer m.producer → Stays k m
+stays_lines k m e f g d = record { windows = ap (λ v. length v.items) e; benches = f; ring = g; room = room_lines k m e d }
 
 -- one line more was counted
 pub gone_more : (ls : List Line) (n : ℕ) (l : Line) (k : ℕ) → n < length ls → l ≡ get_or ls n l → k ≡ count_by has_farewell (take n ls) → count_by has_farewell (take (n + 1) ls) ≡ (if has_farewell l then k + 1 else k)

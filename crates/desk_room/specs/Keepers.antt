@@ -7,12 +7,13 @@ use Rattle.desk_room.specs.Events.{RoomLists, accepts}
 use Rattle.room_ends.specs.WindowRings.{letters_taken, letters_known, deliveries_put, places_free, AreEnds}
 use Rattle.room_ends.specs.Windows.{number_of}
 use Rattle.room_ends.specs.Benches.{heard, back_known}
-use Rattle.room_ends.specs.Orders.{orders, places}
+use Rattle.room_ends.specs.Orders.{orders, places, SameDeque}
 use Rattle.room_ends.specs.declared.letters.Letter.{Letter}
 use Rattle.room_ends.specs.declared.letters.Back.{Back}
 use Rattle.room_ends.specs.declared.windows.Window.{Window}
 use Rattle.room_ends.specs.declared.window_ring_line.Line.{Line}
 use Rattle.room_ends.specs.declared.back_receiver.BackReceiver.{BackReceiver}
+use Rattle.room_ends.specs.declared.order_producer.OrderProducer.{OrderProducer}
 use Rattle.desk_room.specs.declared.keepers.Keeper.{Keeper}
 
 -- its ends of each window's two rings, and of each bench's back ring
@@ -21,6 +22,10 @@ lines_of k = k.lines.items
 
 abbrev pub receivers_of : Keeper → List BackReceiver
 receivers_of k = k.receivers.items
+
+-- its end of the deque of orders
+abbrev pub producer_of : Keeper → OrderProducer
+producer_of k = k.producer
 
 -- its lists, and what its desk holds
 abbrev pub lists : Keeper → RoomLists
@@ -87,11 +92,11 @@ OthersServed n k m = (i : ℕ) → i ≢ n → IsServed i k → IsServed i m
 abbrev pub IsOf : Window → Keeper → Type 0
 IsOf w k = (line : Line) × (slice_get k.lines.items (number_of w) ≡ Some line) × AreEnds w line
 
--- The windows of the room are those that they were.
+-- The windows of the room are those that they were, and the deque is the same.
 unfoldable pub SameRoom : Keeper → Keeper → Type 0
-SameRoom k m = (w : Window) → IsOf w k → IsOf w m
+SameRoom k m = ((w : Window) → IsOf w k → IsOf w m) × SameDeque k.producer m.producer
 
--- It has as many windows, benches and places as it had, and the windows are those that they were.
+-- It has as many windows, benches and places as it had, the windows are those that they were, and the deque is the same.
 pub record Stays (k m : Keeper) : Type 0 where
   pub windows : windows_of m ≡ windows_of k
   pub benches : benches_of m ≡ benches_of k

@@ -2,7 +2,7 @@
 
 ghost use Rattle.std.specs.Prelude.{◌≡◌, ◌≢◌, ◌↔◌, ◌⊎◌, ◌<◌, ◌≤◌, [], codes, length, replicate, IfOk, Err, false};
 ghost use Rattle.mate_desk.specs.Calls.{empty};
-ghost use Rattle.desk_room.specs.Keepers.{lists, lines_of, receivers_of, ring_of, is_home};
+ghost use Rattle.desk_room.specs.Keepers.{lists, lines_of, receivers_of, producer_of, ring_of, is_home};
 ghost use Rattle.desk_room.specs.RoomFaults.{room_fault_name};
 ghost use Rattle.room_ends.specs.Opening.{AreOpened, AreIdle};
 ghost use Rattle.desk_room.specs.declared.rooms.RoomFault.TheVariants as fault;
@@ -69,7 +69,7 @@ pub fn open_room(
     ensures windows { IfOk result (λ room. length room.windows.items ≡ windows) }
     ensures benches { IfOk result (λ room. length room.benches.items ≡ benches) }
     ensures opened { IfOk result (λ room. AreOpened ring default 0 room.windows.items (lines_of room.keeper)) }
-    ensures idle { IfOk result (λ room. AreIdle ring room.benches.items (receivers_of room.keeper)) }
+    ensures idle { IfOk result (λ room. AreIdle (producer_of room.keeper) ring room.benches.items (receivers_of room.keeper)) }
     ensures lists { IfOk result (λ room. lists room.keeper ≡ record { taken = replicate windows []; put = replicate windows []; heard = replicate benches []; orders = []; content = empty windows ring 0 }) }
     ensures ring { IfOk result (λ room. ring_of room.keeper ≡ ring) }
     ensures here { IfOk result (λ room. is_home room.keeper ≡ false) }
@@ -107,7 +107,7 @@ fn open(
     ensures windows { IfOk result (λ room. length room.windows.items ≡ windows) }
     ensures benches { IfOk result (λ room. length room.benches.items ≡ benches) }
     ensures opened { IfOk result (λ room. AreOpened ring default 0 room.windows.items (lines_of room.keeper)) }
-    ensures idle { IfOk result (λ room. AreIdle ring room.benches.items (receivers_of room.keeper)) }
+    ensures idle { IfOk result (λ room. AreIdle (producer_of room.keeper) ring room.benches.items (receivers_of room.keeper)) }
     ensures lists { IfOk result (λ room. lists room.keeper ≡ record { taken = replicate windows []; put = replicate windows []; heard = replicate benches []; orders = []; content = empty windows ring 0 }) }
     ensures ring { IfOk result (λ room. ring_of room.keeper ≡ ring) }
     ensures here { IfOk result (λ room. is_home room.keeper ≡ false) }

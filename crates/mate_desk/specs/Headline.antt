@@ -1,9 +1,10 @@
 -- What a desk promises those who submit, whatever steps were made.
-use Rattle.std.specs.Prelude.{◌≡◌, ℕ, Bool, true, false, List, [], ◌∷◌, length, take, slice_get, Some}
+use Rattle.std.specs.Prelude.{◌≡◌, ℕ, Bool, true, false, List, [], ◌∷◌, length, take, slice_get, Some, Contains}
 use Rattle.chess_board.specs.Moves.{Move}
 use Rattle.chess_problems.specs.declared.outcomes.Outcome.{Outcome}
 use Rattle.chess_notation.specs.Records.{RecordValue, Reads, problem_of}
 use Rattle.mate_search.specs.Laws.{AreFirstMoves, IsTold}
+use Rattle.mate_search.specs.inside.Truth.{truth}
 use Rattle.mate_desk.specs.declared.steps_and_replies.Step.{Step}
 use Rattle.mate_desk.specs.declared.steps_and_replies.Reply.{Reply}
 use Rattle.mate_desk.specs.declared.steps_and_replies.Reply.TheVariants.{Answer}
@@ -47,6 +48,10 @@ AfterEachPrefix P steps replies = (k : ℕ) → P (past (take k steps) (take k r
 -- does within the bound.
 unfoldable pub IsTrueOf : RecordValue → Outcome → Type 0
 IsTrueOf asked outcome = (first : List Move) × AreFirstMoves (problem_of asked) first × IsTold first asked.position asked.bound outcome
+
+-- Each answer among the replies, as it prints, is true of the record that was asked.
+abbrev pub AnswersAreTrue : List Reply → Type 0
+AnswersAreTrue replies = (asked : RecordValue) → Contains replies (Answer asked) → IsTrueOf asked (truth (problem_of asked))
 
 -- The reply is an answer, and this outcome is true of the record that was asked.
 abbrev pub AnswersTruly : Reply → Outcome → Type 0

@@ -4,7 +4,7 @@ ghost use Rattle.std.specs.Prelude.{◌≡◌, ◌⊎◌, ◌↔◌, ◌<◌, �
 ghost use Rattle.mate_desk.specs.Refusals.{AreServed, IsRoom};
 ghost use Rattle.mate_desk.specs.History.{past};
 ghost use Rattle.mate_desk.specs.Replies.{AreReplies};
-ghost use Rattle.mate_desk.specs.Headline.{AfterEachPrefix, DeliversInOrder, GivesNoticeOfWithdrawn, DeliversAllOnceDrained, AcceptsNoneAfterClose};
+ghost use Rattle.mate_desk.specs.Headline.{AfterEachPrefix, DeliversInOrder, GivesNoticeOfWithdrawn, DeliversAllOnceDrained, AcceptsNoneAfterClose, AnswersAreTrue};
 ghost use Rattle.mate_desk.specs.RunFaults.{run_fault_name};
 ghost use Rattle.mate_desk.specs.inside.Stepping.{collects, finishes};
 ghost use Rattle.mate_desk.specs.declared.runs.RunFault.TheVariants as fault;
@@ -16,7 +16,7 @@ use crate::stepping::make;
 use crate::steps_and_replies::{Reply, Step};
 use chess_moves::Rays;
 use chess_problems::Bound;
-use mate_search::Memo;
+use mate_search::{Memo, truth_reads};
 use std::alloc::Global;
 use thiserror::Error;
 
@@ -92,6 +92,7 @@ pub fn run(
     ensures notices_for_the_withdrawn { IfOk result (λ replies. AfterEachPrefix GivesNoticeOfWithdrawn steps.now replies.items) }
     ensures all_once_drained { IfOk result (λ replies. AfterEachPrefix (DeliversAllOnceDrained submitters) steps.now replies.items) }
     ensures nothing_after_close { IfOk result (λ replies. AcceptsNoneAfterClose (past steps.now replies.items)) }
+    ensures true_answers { IfOk result (λ replies. AnswersAreTrue replies.items) }
     ensures ok { IfOk result (λ _. AreServed submitters × IsRoom room) }
     ensures bad_submitters { (result ≡ Err fault.BadSubmitters) ↔ ((submitters ≡ 0) ⊎ (16 < submitters)) }
     ensures bad_room { (result ≡ Err fault.BadRoom) ↔ (AreServed submitters × ((room ≡ 0) ⊎ (64 < room))) }
@@ -100,8 +101,9 @@ pub fn run(
     ensures memo_room { memo.new.room ≡ memo.old.room }
     ensures memo_within { memo.new.kept ≤ memo.new.room }
 {
-    // That a memo keeps no more than it has room for is this call's clause.
+    // That a memo keeps no more than it has room for is this call's clause, and what is true of a problem this law's.
     memo.len();
+    truth_reads();
     let mut desk = match Desk::new(alloc, submitters, room, 0) {
         Ok(desk) => desk,
         Err(DeskFault::BadSubmitters) => return Err(RunFault::BadSubmitters),

@@ -5,32 +5,35 @@ use Rattle.std.specs.Io.KnownBytes.{Keeps}
 use Rattle.clap.specs.Words.{Text}
 use Rattle.byte_streams.specs.declared.stops.Stop.{Stop}
 use Rattle.byte_streams.specs.declared.stops.Stop.TheVariants as stop
-use Rattle.command_words.specs.Asked.{Asked, look, board, play, moves, perft, divide, lines, solve, verify, serve, replay, explain}
+use Rattle.command_words.specs.Asked.{Asked, look, board, play, moves, perft, divide, lines, solve, verify, tree, serve, replay, explain}
 use Rattle.plain_commands.specs.Status.{status_of}
 use Rattle.plain_commands.specs.Writing.{Gains}
 use Rattle.plain_commands.specs.Solved.{SolvesNone}
 use Rattle.plain_commands.specs.Verified.{VerifiesNone}
+use Rattle.plain_commands.specs.Told.{TellsNone}
 use Rattle.plain_commands.specs.PositionLines.{command_of}
 use Rattle.plain_commands.proofs.Unopened.{lines_at_once}
 use Rattle.plain_commands.specs.Command.{Ends, EndsByStatus, Shows, Stops, StopsBy}
 
 -- Where memory gives out at once, nothing is written.
-stops_unread : SolvesNone → VerifiesNone → (holds : Text → Option (List ℕ)) (refuses : Text → Type 0) (asks : Option Asked) (old new : Option (List ℕ)) → Keeps old new → StopsBy holds refuses asks stop.NoMemory old new
-stops_unread none unverified holds refuses None old new kept = kept
-stops_unread none unverified holds refuses (Some (look fen)) old new kept = kept
-stops_unread none unverified holds refuses (Some (board fen side)) old new kept = kept
-stops_unread none unverified holds refuses (Some (play fen words)) old new kept = kept
-stops_unread none unverified holds refuses (Some (moves form fen)) old new kept = kept
-stops_unread none unverified holds refuses (Some (perft fen depth)) old new kept = kept
-stops_unread none unverified holds refuses (Some (divide fen depth)) old new kept = kept
-stops_unread none unverified holds refuses (Some (lines view names)) old new kept = lines_at_once holds refuses (command_of view) names old new kept
-stops_unread none unverified holds refuses (Some (solve bound memo names)) old new kept =
+stops_unread : SolvesNone → VerifiesNone → TellsNone → (holds : Text → Option (List ℕ)) (refuses : Text → Type 0) (asks : Option Asked) (old new : Option (List ℕ)) → Keeps old new → StopsBy holds refuses asks stop.NoMemory old new
+stops_unread none unverified untold holds refuses None old new kept = kept
+stops_unread none unverified untold holds refuses (Some (look fen)) old new kept = kept
+stops_unread none unverified untold holds refuses (Some (board fen side)) old new kept = kept
+stops_unread none unverified untold holds refuses (Some (play fen words)) old new kept = kept
+stops_unread none unverified untold holds refuses (Some (moves form fen)) old new kept = kept
+stops_unread none unverified untold holds refuses (Some (perft fen depth)) old new kept = kept
+stops_unread none unverified untold holds refuses (Some (divide fen depth)) old new kept = kept
+stops_unread none unverified untold holds refuses (Some (lines view names)) old new kept = lines_at_once holds refuses (command_of view) names old new kept
+stops_unread none unverified untold holds refuses (Some (solve bound memo names)) old new kept =
     record { gained = []; shows = none holds bound names; appends = Appends-kept old old new [] (Appends-nil old) kept }
-stops_unread none unverified holds refuses (Some (verify bound memo names)) old new kept =
+stops_unread none unverified untold holds refuses (Some (verify bound memo names)) old new kept =
     record { gained = []; shows = unverified holds bound names; appends = Appends-kept old old new [] (Appends-nil old) kept }
-stops_unread none unverified holds refuses (Some (serve workers bound memo names)) old new kept = kept
-stops_unread none unverified holds refuses (Some (replay name)) old new kept = kept
-stops_unread none unverified holds refuses (Some (explain code)) old new kept = kept
+stops_unread none unverified untold holds refuses (Some (tree bound form names)) old new kept =
+    record { gained = []; shows = untold holds bound form names; appends = Appends-kept old old new [] (Appends-nil old) kept }
+stops_unread none unverified untold holds refuses (Some (serve workers bound memo names)) old new kept = kept
+stops_unread none unverified untold holds refuses (Some (replay name)) old new kept = kept
+stops_unread none unverified untold holds refuses (Some (explain code)) old new kept = kept
 
 no_reader : (holds : Text → Option (List ℕ)) (refuses : Text → Type 0) (a : Asked) (old new : Option (List ℕ)) → Stops holds refuses a stop.NoReader old new → Stops holds refuses a stop.Unwritable old new
 no_reader holds refuses (look fen) old new stops = stops
@@ -42,6 +45,7 @@ no_reader holds refuses (divide fen depth) old new stops = stops
 no_reader holds refuses (lines view names) old new stops = stops
 no_reader holds refuses (solve bound memo names) old new stops = stops
 no_reader holds refuses (verify bound memo names) old new stops = stops
+no_reader holds refuses (tree bound form names) old new stops = stops
 no_reader holds refuses (serve workers bound memo names) old new stops = stops
 no_reader holds refuses (replay name) old new stops = stops
 no_reader holds refuses (explain code) old new stops = stops
@@ -105,13 +109,13 @@ pub ends_by_status : (holds : Text → Option (List ℕ)) (refuses : Text → Ty
 ends_by_status holds refuses = ends_by holds refuses
 
 -- The words ask for nothing, or memory gave out before that was known.
-pub ends_unasked : SolvesNone → VerifiesNone → (holds : Text → Option (List ℕ)) (refuses : Text → Type 0) (asks : Option Asked) (status : ℕ) (old new : Option (List ℕ)) → status ≢ 1 → status ≤ 4
+pub ends_unasked : SolvesNone → VerifiesNone → TellsNone → (holds : Text → Option (List ℕ)) (refuses : Text → Type 0) (asks : Option Asked) (status : ℕ) (old new : Option (List ℕ)) → status ≢ 1 → status ≤ 4
     → (status ≢ 3 → asks ≡ None) → ((status ≡ 2) ⊎ (status ≡ 3) → Keeps old new) → Ends holds refuses asks status old new
-ends_unasked none unverified holds refuses asks status old new not_refused within unasked kept = record {
+ends_unasked none unverified untold holds refuses asks status old new not_refused within unasked kept = record {
   answered = λ is. rw (unasked (λ other. absurd (omega (arith, is, other)))) tt;
   refused = λ is. absurd (not_refused is);
   misused = λ is. (rw (unasked (λ other. absurd (omega (arith, is, other)))) tt, kept (inl is));
-  no_memory = λ is. stops_unread none unverified holds refuses asks old new (kept (inr is));
+  no_memory = λ is. stops_unread none unverified untold holds refuses asks old new (kept (inr is));
   no_access = λ is. rw (unasked (λ other. absurd (omega (arith, is, other)))) tt;
   bounded = within;
 }

@@ -15,6 +15,8 @@ use Rattle.plain_commands.specs.FileAnswers.{AnswersFirst, IsReplyIn}
 use Rattle.plain_commands.specs.PositionLines.{StopsLines, first_position_replies}
 use Rattle.plain_commands.specs.declared.fen_commands.FenCommand.{FenCommand}
 use Rattle.plain_commands.specs.Solved.{SolvesNone, StopsSolving, first_record_replies}
+use Rattle.command_words.specs.declared.request.TreeForm.{TreeForm}
+use Rattle.plain_commands.specs.Told.{StopsTelling, TellsNone, first_tree_replies}
 use Rattle.plain_commands.specs.Verified.{VerifiesNone, StopsVerifying, first_claim_replies, has_several}
 
 some_input : (known : Option (List ℕ)) → (input : List ℕ) × MayBe known input
@@ -60,6 +62,17 @@ pub lines_at_once : (holds : List ℕ → Option (List ℕ)) (refuses : List ℕ
     → StopsLines holds refuses command names stop.NoMemory old new
 lines_at_once holds refuses command names old new kept =
     record { gained = []; shows = answers_none holds _ _ names (no_position_reply command); appends = Appends-kept old old new [] (Appends-nil old) kept }
+
+pub no_tree_reply : (form : TreeForm) (bound : ℕ) (name input : List ℕ) → first_tree_replies form bound name input []
+unfolding IsReplyToFirstBy
+no_tree_reply form bound name input = (0, 0, (refl, refl))
+
+pub tells_none : TellsNone
+tells_none holds bound form names = answers_none holds _ _ names (no_tree_reply form bound)
+
+pub tells_at_once : (holds : List ℕ → Option (List ℕ)) (refuses : List ℕ → Type 0) (bound : ℕ) (form : TreeForm) (names : List (List ℕ)) (old new : Option (List ℕ)) → Keeps old new
+    → StopsTelling holds refuses bound form names stop.NoMemory old new
+tells_at_once holds refuses bound form names old new kept = record { gained = []; shows = tells_none holds bound form names; appends = Appends-kept old old new [] (Appends-nil old) kept }
 
 not_opened_by : (f : InputFault) (P : List ℕ → List ℕ → Type 0) (known old : Option (List ℕ)) → ((input : List ℕ) → P input [])
     → (input : List ℕ) × (text : List ℕ) × MayBe known input × P input text × AppendsBy (stop_of f) old old text

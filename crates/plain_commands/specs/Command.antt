@@ -10,7 +10,7 @@ use Rattle.plain_commands.specs.Writing.{Gains, GainsPart, StopsShowing}
 use Rattle.chess_views.specs.Counts.{divided_text, perft_text}
 use Rattle.chess_views.specs.Listings.{moves_text}
 use Rattle.chess_views.specs.Looks.{look_board_text, look_text}
-use Rattle.command_words.specs.Asked.{Asked, look, board, play, moves, perft, divide, lines, solve, verify, serve, replay, explain}
+use Rattle.command_words.specs.Asked.{Asked, look, board, play, moves, perft, divide, lines, solve, verify, tree, serve, replay, explain}
 use Rattle.plain_commands.specs.Explained.{Explains}
 use Rattle.plain_commands.specs.FenCommands.{ShowsFen, columns_of}
 use Rattle.plain_commands.specs.Played.{ShowsPlay}
@@ -18,6 +18,7 @@ use Rattle.plain_commands.specs.PositionLines.{ShowsLines, StopsLines, command_o
 use Rattle.plain_commands.specs.Replayed.{ReplaysFile, StopsReplaying}
 use Rattle.plain_commands.specs.Solved.{Solves, StopsSolving}
 use Rattle.plain_commands.specs.Verified.{StopsVerifying, Verifies}
+use Rattle.plain_commands.specs.Told.{StopsTelling, Tells}
 use Rattle.plain_commands.specs.Served.{HaveNoWindows, Serves}
 
 -- What a command shows where names hold such inputs, and whether anything that it was given is refused. The size of a memo and the
@@ -32,6 +33,7 @@ Shows holds (divide fen depth) refused text = ShowsFen (divided_text depth) fen 
 Shows holds (lines view names) refused text = ShowsLines holds (command_of view) names refused text
 Shows holds (solve bound memo names) refused text = Solves holds bound names refused text
 Shows holds (verify bound memo names) refused text = Verifies holds bound names refused text
+Shows holds (tree bound form names) refused text = Tells holds bound form names refused text
 Shows holds (serve workers bound memo names) refused text = Serves holds bound names refused text
 Shows holds (replay name) refused text = ReplaysFile (holds name) refused text
 Shows holds (explain code) refused text = Explains code refused text
@@ -48,6 +50,7 @@ abbrev pub Stops : (Text → Option (List ℕ)) → (Text → Type 0) → Asked 
 Stops holds refuses (lines view names) stop old new = StopsLines holds refuses (command_of view) names stop old new
 Stops holds refuses (solve bound memo names) stop old new = StopsSolving holds refuses bound names stop old new
 Stops holds refuses (verify bound memo names) stop old new = StopsVerifying holds refuses bound names stop old new
+Stops holds refuses (tree bound form names) stop old new = StopsTelling holds refuses bound form names stop old new
 Stops holds refuses (serve workers bound memo names) stop old new = StopsServing holds refuses bound names stop old new
 Stops holds refuses (replay name) stop old new = StopsReplaying (holds name) (refuses name) stop old new
 Stops holds refuses asks stop old new = StopsShowing (Shows holds asks false) stop old new

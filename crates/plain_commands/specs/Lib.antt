@@ -7,6 +7,7 @@ pub mod FileAnswers
 pub mod PositionLines
 pub mod Solved
 pub mod Verified
+pub mod Told
 pub mod Scripts
 pub mod Replayed
 pub mod inside

@@ -2,6 +2,7 @@
 use Rattle.std.specs.Prelude.{◌≡◌, ◌⊎◌, ℕ, Bool, List, [], Option, true, false, flat_map, length, map}
 use Rattle.std.specs.Io.KnownBytes.{Keeps}
 use Rattle.mate_desk.specs.History.{past}
+use Rattle.mate_desk.specs.Headline.{AfterEachPrefix, DeliversInOrder, GivesNoticeOfWithdrawn, DeliversAllOnceDrained, AcceptsNoneAfterClose, AnswersAreTrue}
 use Rattle.mate_desk.specs.Refusals.{AreServed, IsRoom}
 use Rattle.mate_desk.specs.Replies.{AreReplies}
 use Rattle.mate_desk.specs.ReplyTexts.{reply_text}
@@ -18,7 +19,9 @@ use Rattle.plain_commands.specs.Writing.{GainsPart}
 unfoldable pub reply_lines : List Reply → List ℕ
 reply_lines replies = flat_map (λ reply. line (reply_text reply)) replies
 
--- A script is run at a new desk: each step has a reply, which is fixed by what happened before it.
+-- A script is run at a new desk: each step has a reply, which is fixed by what happened before it. After each of them what was delivered
+-- is, in order and each once, for the first of what was accepted, with notices for what was withdrawn, and for all of it once the desk
+-- is drained; nothing is accepted after close; and each answer is true.
 pub record Runs (v : ScriptValue) (text : List ℕ) : Type 0 where
   pub steps : List Step
   pub replies : List Reply
@@ -27,6 +30,11 @@ pub record Runs (v : ScriptValue) (text : List ℕ) : Type 0 where
   pub room : IsRoom v.room
   pub each : length replies ≡ length steps
   pub fixed : AreReplies v.submitters v.room v.bound (past steps replies)
+  pub in_order_and_each_once : AfterEachPrefix (DeliversInOrder v.bound) steps replies
+  pub notices_for_the_withdrawn : AfterEachPrefix GivesNoticeOfWithdrawn steps replies
+  pub all_once_drained : AfterEachPrefix (DeliversAllOnceDrained v.submitters) steps replies
+  pub nothing_after_close : AcceptsNoneAfterClose (past steps replies)
+  pub true_answers : AnswersAreTrue replies
   pub shown : text ≡ reply_lines replies
 
 -- No desk can be opened with so many submitters, or so much room.

@@ -16,6 +16,7 @@ use crate::replaying::replay;
 use crate::solving::{solve, solves_none};
 use crate::sources::Source;
 use crate::status::{ANSWERED, MISUSED, no_memory, status_of};
+use crate::telling::{tells_none, tree};
 use crate::verifying::{verifies_none, verify};
 use crate::writing::complain;
 use byte_streams::{Stop, stop_of_output};
@@ -58,6 +59,7 @@ fn answer<S: Source, O: Write, E: Write>(
         Request::Verify(bound, memo, names) => {
             verify(alloc, *bound, *memo, names, source, out, err)
         }
+        Request::Tree(bound, form, names) => tree(alloc, *bound, *form, names, source, out, err),
         Request::Serve(..) => unreachable!(),
         Request::Replay(name) => replay(alloc, name, source, out, err),
         Request::Explain(code) => explain(alloc, *code, out, err),
@@ -142,9 +144,10 @@ pub fn plain_command<S: Source, O: Write, E: Write>(
     ensures plain { asks_serve (asked (map string_bytes words.now)) ≡ true → IfSome result (λ status. status ≡ 3) }
     ensures kept { IfNone result ((out.new ≡ out.old) × (err.new ≡ err.old)) }
 {
-    // What a `solve` or a `verify` has written for which memory is refused here.
+    // What a `solve`, a `verify` or a `tree` has written for which memory is refused here.
     solves_none();
     verifies_none();
+    tells_none();
     let Ok(texts) = escaped(alloc, words) else {
         return Some(no_memory(err));
     };

@@ -1,12 +1,12 @@
 //! The commands of the program `matedesk` that start no thread: `look`, `play`, `moves` and `perft` over a position, or over files of
-//! positions, `solve` over files of problems, `replay` over a script, `explain` over a table of faults; and what all commands share, files by
-//! their names, what is shown, messages, and the status at the end.
+//! positions, `solve`, `verify` and `tree` over files of problems, `replay` over a script, `explain` over a table of faults; and what all
+//! commands share, files by their names, what is shown, messages, and the status at the end.
 //!
 //! What the words of a command line ask for is the business of `command_words`, and what is answered that of the crates of chess and of the
 //! desk. To read: `answering`, where the contract of `plain_command` says how each command ends; `sources` (a `Source` is the files that a
 //! command may read) and `files` (those of the system), `writing`, `status`; then `fen_commands` and `playing`; `solving`, over `file_answers`
-//! (each line of each file), `verifying` and `position_answers` likewise, and `outputs`, which were made elsewhere; `replaying`, over
-//! `scripts` (a text to a script), `script_lines` (its lines), `script_desk` and `script_steps` (what a line says), `script_words`; and
+//! (each line of each file), `verifying`, `telling` and `position_answers` likewise, and `outputs`, which were made elsewhere; `replaying`,
+//! over `scripts` (a text to a script), `script_lines` (its lines), `script_desk` and `script_steps` (what a line says), `script_words`; and
 //! `explaining`, over `explanations`.
 #![tactic(auto)]
 
@@ -28,6 +28,7 @@ mod scripts;
 mod solving;
 mod sources;
 mod status;
+mod telling;
 mod verifying;
 mod writing;
 

@@ -1,7 +1,9 @@
 -- One more end of a room that is opened.
-use Rattle.std.proofs.Common.{◌≡◌, ℕ, zero, suc, ◌+◌, List, [], ◌∷◌, ◌++◌, length, map, replicate, refl, ap, ◌∙◌, arith}
+use Rattle.std.proofs.Common.{◌≡◌, ℕ, zero, suc, ◌+◌, List, [], ◌∷◌, ◌++◌, length, map, replicate, refl, sym, ap, ◌∙◌, arith}
 use Rattle.std.proofs.lemmas.List.{map-append}
 use Rattle.room_ends.specs.Opening.{IsFresh, AreOpened, IsIdle, AreIdle}
+use Rattle.room_ends.specs.Orders.{SameDeque}
+use Rattle.room_ends.specs.declared.order_producer.OrderProducer.{OrderProducer}
 use Rattle.room_ends.specs.declared.windows.Window.{Window}
 use Rattle.room_ends.specs.declared.window_ring_line.Line.{Line}
 use Rattle.room_ends.specs.declared.benches.Bench.{Bench}
@@ -34,8 +36,12 @@ opened_snoc ring bound n (v ∷ vs) (m ∷ ms) w l all one = (all.0, opened_snoc
     numbered : (n m : ℕ) → IsFresh ring bound m w l → m ≡ n → IsFresh ring bound n w l
     numbered n m f e = record { number = f.number ∙ e; default = f.default; sent = f.sent; collected = f.collected; places = f.places; free = f.free; answers = f.answers; ends = f.ends }
 
-pub idle_snoc : (ring : ℕ) (bs : List Bench) (es : List BackReceiver) (b : Bench) (e : BackReceiver) → AreIdle ring bs es → IsIdle ring b e → AreIdle ring (bs ++ b ∷ []) (es ++ e ∷ [])
-idle_snoc ring [] [] b e all one = (one, tt)
-idle_snoc ring [] (x ∷ es) b e all one = absurd all
-idle_snoc ring (x ∷ bs) [] b e all one = absurd all
-idle_snoc ring (x ∷ bs) (y ∷ es) b e all one = (all.0, idle_snoc ring bs es b e all.1 one)
+idle_stays : (p q : OrderProducer) → SameDeque p q → (ring : ℕ) (b : Bench) (e : BackReceiver) → IsIdle p ring b e → IsIdle q ring b e
+idle_stays p q s ring b e one = record { takes = one.takes ∙ sym s; got = one.got; given = one.given; places = one.places; ends = one.ends }
+
+-- the producer is still at the deque at which it was when the benches before were opened
+pub idle_snoc : (p q : OrderProducer) → SameDeque p q → (ring : ℕ) (bs : List Bench) (es : List BackReceiver) (b : Bench) (e : BackReceiver) → AreIdle p ring bs es → IsIdle q ring b e → AreIdle q ring (bs ++ b ∷ []) (es ++ e ∷ [])
+idle_snoc p q s ring [] [] b e all one = (one, tt)
+idle_snoc p q s ring [] (x ∷ es) b e all one = absurd all
+idle_snoc p q s ring (x ∷ bs) [] b e all one = absurd all
+idle_snoc p q s ring (x ∷ bs) (y ∷ es) b e all one = (idle_stays p q s ring x y all.0, idle_snoc p q s ring bs es b e all.1 one)

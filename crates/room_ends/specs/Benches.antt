@@ -1,9 +1,10 @@
 -- What a contract sees of a bench, and of the keeper's end of its back ring, a receiver (own to this project).
 use Rattle.std.specs.Prelude.{◌≡◌, ℕ, List}
 use Rattle.rtrb.specs.Ring.{sent, known_free, producer_capacity, received, known_items, IsPair, SameProducer, SameConsumer}
-use Rattle.room_ends.specs.Orders.{stealer_got, SameStealer}
+use Rattle.room_ends.specs.Orders.{stealer_got, IsStealerOf, SameStealer}
 use Rattle.room_ends.specs.declared.deque_rule.Order.{Order}
 use Rattle.room_ends.specs.declared.letters.Back.{Back}
+use Rattle.room_ends.specs.declared.order_producer.OrderProducer.{OrderProducer}
 use Rattle.room_ends.specs.declared.benches.Bench.{Bench}
 use Rattle.room_ends.specs.declared.back_receiver.BackReceiver.{BackReceiver}
 
@@ -38,6 +39,10 @@ receiver_ring receiver = receiver.ring
 -- the two ends of one back ring
 abbrev pub AreEnds : Bench → BackReceiver → Type 0
 AreEnds bench receiver = IsPair bench.back receiver.back
+
+-- the orders that the bench takes are those that the producer puts out: both are at one deque
+abbrev pub TakesFrom : OrderProducer → Bench → Type 0
+TakesFrom producer bench = IsStealerOf producer bench.stealer
 
 -- the bench is still at the same deque, with the same back ring
 abbrev pub SameBench : Bench → Bench → Type 0

@@ -2,7 +2,8 @@
 use Rattle.std.specs.Prelude.{◌≡◌, ℕ, ◌+◌, List, [], ◌∷◌}
 use Rattle.room_ends.specs.Windows.{letters_sent, collected, places_known, places_of, number_of, default_of}
 use Rattle.room_ends.specs.WindowRings.{AreEnds, places_free}
-use Rattle.room_ends.specs.Benches.{got, given, bench_ring, AreEnds as AreBackEnds}
+use Rattle.room_ends.specs.Benches.{got, given, bench_ring, TakesFrom, AreEnds as AreBackEnds}
+use Rattle.room_ends.specs.declared.order_producer.OrderProducer.{OrderProducer}
 use Rattle.room_ends.specs.declared.windows.Window.{Window}
 use Rattle.room_ends.specs.declared.window_ring_line.Line.{Line}
 use Rattle.room_ends.specs.declared.benches.Bench.{Bench}
@@ -25,14 +26,16 @@ AreOpened ring bound n [] [] = Unit {0}
 AreOpened ring bound n (w ∷ ws) (l ∷ ls) = IsFresh ring bound n w l × AreOpened ring bound (n + 1) ws ls
 AreOpened ring bound n _ _ = ⊥
 
--- A bench that got and gave nothing yet, and the keeper's end of its back ring, which has so many places.
-pub record IsIdle (ring : ℕ) (bench : Bench) (receiver : BackReceiver) : Type 0 where
+-- A bench that got and gave nothing yet, and takes the producer's orders, and the keeper's end of its back ring, which has so many
+-- places.
+pub record IsIdle (producer : OrderProducer) (ring : ℕ) (bench : Bench) (receiver : BackReceiver) : Type 0 where
+  pub takes : TakesFrom producer bench
   pub got : got bench ≡ []
   pub given : given bench ≡ []
   pub places : bench_ring bench ≡ ring
   pub ends : AreBackEnds bench receiver
 
-abbrev pub AreIdle : ℕ → List Bench → List BackReceiver → Type 0
-AreIdle ring [] [] = Unit {0}
-AreIdle ring (b ∷ bs) (e ∷ es) = IsIdle ring b e × AreIdle ring bs es
-AreIdle ring _ _ = ⊥
+abbrev pub AreIdle : OrderProducer → ℕ → List Bench → List BackReceiver → Type 0
+AreIdle producer ring [] [] = Unit {0}
+AreIdle producer ring (b ∷ bs) (e ∷ es) = IsIdle producer ring b e × AreIdle producer ring bs es
+AreIdle producer ring _ _ = ⊥

@@ -1,6 +1,6 @@
 -- Why the calls of a window are refused, and how each reason prints: as its name, and a bad record as the fault of its line. Own to
 -- this project.
-use Rattle.std.specs.Prelude.{◌≡◌, ◌⊎◌, ℕ, List, codes}
+use Rattle.std.specs.Prelude.{◌≡◌, ◌≢◌, ◌⊎◌, ℕ, List, [], codes}
 use Rattle.chess_notation.specs.Records.{RecordValue, Reads}
 use Rattle.chess_notation.specs.EpdFaults.{IsFaultOf, epd_fault_name}
 use Rattle.chess_notation.specs.declared.epd_faults.EpdFault.TheVariants.{NoMemory}
@@ -33,10 +33,14 @@ SaysOnly line default r = Reads line default r × ((other : RecordValue) → Rea
 abbrev pub SaysRecord : List ℕ → ℕ → Type 0
 SaysRecord line default = (r : RecordValue) × Reads line default r
 
--- What a refusal says of the line: a bad record has this fault, or says a record for which memory was refused; a later reason is
--- answered only for a line that says a record.
+-- The line says a record that keeps an operation, for which memory is needed.
+abbrev pub SaysKept : List ℕ → ℕ → Type 0
+SaysKept line default = (r : RecordValue) × Reads line default r × (r.rest ≢ [])
+
+-- What a refusal says of the line: a bad record has this fault, or says a record with operations to keep for which memory was refused;
+-- a later reason is answered only for a line that says a record.
 abbrev pub RefusesLine : List ℕ → ℕ → WindowFault → Type 0
 RefusesLine line default submit.Gone = Unit {0}
-RefusesLine line default (submit.BadRecord fault) = IsFaultOf line fault ⊎ ((fault ≡ NoMemory) × SaysRecord line default)
+RefusesLine line default (submit.BadRecord fault) = IsFaultOf line fault ⊎ ((fault ≡ NoMemory) × SaysKept line default)
 RefusesLine line default submit.Busy = SaysRecord line default
 RefusesLine line default submit.Exhausted = SaysRecord line default

@@ -2,7 +2,7 @@
 
 ghost use Rattle.std.specs.Prelude.{◌≡◌, ◌≤◌, [], length, map, replicate, IfOk};
 ghost use Rattle.room_ends.specs.Benches.{given, places_known, bench_ring, heard, back_known, receiver_ring, AreEnds};
-ghost use Rattle.room_ends.specs.Orders.{orders, passes};
+ghost use Rattle.room_ends.specs.Orders.{orders, passes, SameDeque};
 ghost use Rattle.room_ends.specs.Opening.{AreIdle};
 
 use crate::back_receiver::BackReceiver;
@@ -49,11 +49,12 @@ pub fn open_benches(
     requires passes { passes producer.old ≡ 0 }
     ensures benches { IfOk result (λ ends. length ends.0.items ≡ benches) }
     ensures receivers { IfOk result (λ ends. length ends.1.items ≡ benches) }
-    ensures idle { IfOk result (λ ends. AreIdle ring ends.0.items ends.1.items) }
+    ensures idle { IfOk result (λ ends. AreIdle producer.new ring ends.0.items ends.1.items) }
     ensures heard { IfOk result (λ ends. map heard ends.1.items ≡ replicate benches []) }
     ensures rings { IfOk result (λ ends. map receiver_ring ends.1.items ≡ replicate benches ring) }
     ensures passes { IfOk result (λ _. passes producer.new ≡ benches) }
     ensures orders { orders producer.new ≡ orders producer.old }
+    ensures deque { SameDeque producer.old producer.new }
 {
     let mut ends = Vec::with_capacity(alloc, benches)?;
     let mut receivers = Vec::with_capacity(alloc, benches)?;

@@ -55,6 +55,9 @@ impl Bench {
     /// Whether a place of the back ring is known to be free.
     pub fn has_place(&mut self) -> bool
         ensures place { result ≡ true → 0 < places_known self.new }
+        ensures given { given self.new ≡ given self.old }
+        ensures got { got self.new ≡ got self.old }
+        ensures ends { SameBench self.old self.new }
     {
         !self.back.is_full()
     }

@@ -59,6 +59,7 @@ impl Window {
         ensures busy { result ≡ Err WindowFault.Busy → places_known self.new ≡ 0 }
         ensures filled { result ≡ Err WindowFault.Busy → places_of self.old ≤ length (letters_sent self.old) }
         ensures exhausted { result ≡ Err WindowFault.Exhausted → length (records (letters_sent self.old)) ≡ 2 ^ 64 - 1 }
+        ensures not_busy { result ≡ Err WindowFault.Exhausted → 0 < places_known self.new }
         ensures last { OnOk result (length (records (letters_sent self.old)) < 2 ^ 64 - 1) }
         ensures places { MatchResult result (λ _. places_known self.old ≤ places_known self.new + 1) (λ _. places_known self.old ≤ places_known self.new) }
     {

@@ -10,15 +10,15 @@ use Rattle.desk_room.specs.declared.keepers.Keeper.{Keeper}
 
 pub room_same : (k : Keeper) → SameRoom k k
 unfolding SameRoom
-room_same k = λ w h. h
+room_same k = ((λ w h. h), refl)
 
 pub room_then : (k l m : Keeper) → SameRoom k l → SameRoom l m → SameRoom k m
 unfolding SameRoom
-room_then k l m f g = λ w h. g w (f w h)
+room_then k l m f g = ((λ w h. g.0 w (f.0 w h)), g.1 ∙ f.1)
 
 pub of_then : (w : Window) (k m : Keeper) → IsOf w k → SameRoom k m → IsOf w m
 unfolding SameRoom
-of_then w k m h f = f w h
+of_then w k m h f = f.0 w h
 
 pub of_window : (w v : Window) (k : Keeper) → IsOf w k → SameWindow w v → IsOf v k
 of_window w v k h s = (h.0, ap (slice_get k.lines.items) s.2 ∙ h.1, ends_stay h.0 h.2)

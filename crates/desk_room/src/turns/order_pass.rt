@@ -2,7 +2,7 @@
 
 ghost use Rattle.std.specs.Prelude.{◌≡◌, ◌≤◌, length};
 ghost use Rattle.room_ends.specs.DequeRule.{stops};
-ghost use Rattle.room_ends.specs.Orders.{orders, passes, places};
+ghost use Rattle.room_ends.specs.Orders.{orders, passes, places, SameDeque};
 ghost use Rattle.desk_room.specs.inside.Steps.{OrderedOne};
 ghost use Rattle.desk_room.specs.declared.turns.order_pass.Tried.TheVariants.{Refused};
 
@@ -29,6 +29,7 @@ fn order_job(desk: &mut Desk, producer: &mut OrderProducer) -> Tried
     ensures full { result ≡ Refused → places producer.old ≤ length (orders producer.old) }
     ensures places { places producer.old ≤ places producer.new }
     ensures passes { passes producer.new ≡ passes producer.old }
+    ensures deque { SameDeque producer.old producer.new }
 {
     let Some(job) = desk.take() else {
         return Tried::NoneWaits;
@@ -44,7 +45,7 @@ fn order_job(desk: &mut Desk, producer: &mut OrderProducer) -> Tried
 
 impl Keeper {
     ghost use Rattle.std.specs.Prelude.{◌≡◌, ◌<◌, ◌≤◌, ◌+◌, ◌⊎◌, true, false, length};
-    ghost use Rattle.room_ends.specs.Orders.{orders, places};
+    ghost use Rattle.room_ends.specs.Orders.{orders, places, SameDeque};
     ghost use Rattle.desk_room.specs.Keepers.{lists};
     ghost use Rattle.desk_room.specs.Turns.{waiting};
     ghost use Rattle.desk_room.specs.inside.Steps.{Trying};
@@ -57,6 +58,7 @@ impl Keeper {
         ensures tried { Trying (lists self.old) (lists self.new) result }
         ensures full { result ≡ Refused → places self.old.producer ≤ length (orders self.old.producer) }
         ensures places { places self.old.producer ≤ places self.new.producer }
+        ensures deque { SameDeque self.old.producer self.new.producer }
         ensures receivers { self.new.receivers ≡ self.old.receivers }
         ensures lines { self.new.lines ≡ self.old.lines }
         ensures ring { self.new.ring ≡ self.old.ring }
@@ -73,6 +75,7 @@ impl Keeper {
         ensures waits { (waiting self.new.desk ≡ 0) ⊎ ((self.new.is_home ≡ true) ⊎ (places self.old.producer ≤ length (orders self.new.producer))) }
         ensures not_the_first { (waiting self.new.desk ≡ 0) ⊎ (0 < length (orders self.new.producer)) }
         ensures none { self.old.is_home ≡ true → lists self.new ≡ lists self.old }
+        ensures deque { SameDeque self.old.producer self.new.producer }
         ensures receivers { self.new.receivers ≡ self.old.receivers }
         ensures lines { self.new.lines ≡ self.old.lines }
         ensures ring { self.new.ring ≡ self.old.ring }

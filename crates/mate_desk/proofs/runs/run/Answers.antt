@@ -7,7 +7,8 @@ use Rattle.mate_desk.specs.Content.{Content}
 use Rattle.mate_desk.specs.declared.steps_and_replies.Step.{Step}
 use Rattle.mate_desk.specs.History.{past, History}
 use Rattle.mate_desk.specs.Replies.{AreReplies}
-use Rattle.mate_desk.specs.Headline.{DeliversInOrder, GivesNoticeOfWithdrawn, DeliversAllOnceDrained, AfterEachPrefix}
+use Rattle.chess_notation.specs.Records.{problem_of}
+use Rattle.mate_desk.specs.Headline.{DeliversInOrder, GivesNoticeOfWithdrawn, DeliversAllOnceDrained, AfterEachPrefix, IsTrueOf}
 use Rattle.mate_desk.specs.inside.Mirrors.{MirrorsBy, Mirrors, AtEachMoment}
 use Rattle.mate_desk.proofs.Promises.{in_order, notices, all_delivered, none_after_close, first_moment, and_moment, prefix_has}
 use Rattle.mate_desk.proofs.Beginnings.{start, past_more, hand_fits}
@@ -124,3 +125,7 @@ unfolding AfterEachPrefix
 returns-clause-all_once_drained c =
     let all : take c.loop-step.step-index c.args.steps.now ≡ c.args.steps.now = take_all c.loop-step.step-index c.args.steps.now (omega (arith, c.loop-step-test.false)) in
     prefix_has (DeliversAllOnceDrained c.args.submitters) [] c.args.steps.now c.loop-step.replies.items (subst (λ ss. AtEachMoment (DeliversAllOnceDrained c.args.submitters) (past ss c.loop-step.replies.items)) all c.loop-step.invariant.all)
+
+pub returns-clause-true_answers : goal.returns-clause-true_answers
+unfolding IsTrueOf
+returns-clause-true_answers c = λ asked _. c.truth_reads.ensures (problem_of asked)

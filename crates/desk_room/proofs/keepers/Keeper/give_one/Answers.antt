@@ -56,7 +56,7 @@ pub returns-clause-known : goal.returns-clause-known
 returns-clause-known c = let k = c.args.self.now in map_same letters_known k.lines.items c.args.n c.index_mut.result.now c.give_delivery.new.line c.requires c.index_mut.ensures.value c.give_delivery.ensures.known
 
 pub returns-clause-room : goal.returns-clause-room
-returns-clause-room c = room_set c.args.self.now _ c.args.n c.index_mut.result.now c.give_delivery.new.line c.requires c.index_mut.ensures.value c.give_delivery.ensures.line refl
+returns-clause-room c = room_set c.args.self.now _ c.args.n c.index_mut.result.now c.give_delivery.new.line c.requires c.index_mut.ensures.value c.give_delivery.ensures.line refl refl
 
 pub returns-clause-longer : goal.returns-clause-longer
 returns-clause-longer c = gave_longer c.give_delivery.result c.args.self.now.lines.items c.args.n c.index_mut.result.now c.give_delivery.new.line c.args.self.now.desk c.give_delivery.new.desk c.requires c.index_mut.ensures.value c.give_delivery.ensures.gave

@@ -48,4 +48,4 @@ unfolding OthersRead
 returns-clause-others c = λ i h. ⊎_elim (λ r. inl (at_other letters_known c.args.self.now.lines.items c.args.n i c.look.new.self [] h ∙ r)) (λ r. inr r)
 
 pub returns-clause-room : goal.returns-clause-room
-returns-clause-room c = room_set c.args.self.now _ c.args.n c.index_mut.result.now c.look.new.self c.requires c.index_mut.ensures.value c.look.ensures.line refl
+returns-clause-room c = room_set c.args.self.now _ c.args.n c.index_mut.result.now c.look.new.self c.requires c.index_mut.ensures.value c.look.ensures.line refl refl

@@ -109,5 +109,5 @@ returns-clause-stays c =
       windows = length-set k.lines.items c.number.result c.settle.new.self;
       benches = refl;
       ring = refl;
-      room = room_set k _ c.number.result c.index_mut.result.now c.settle.new.self (got_inside c.number.result k.lines.items c.requires.0 (ap (slice_get c.args.self.now.lines.items) c.number.ensures ∙ c.requires.1)) c.index_mut.ensures.value c.settle.ensures.line refl;
+      room = room_set k _ c.number.result c.index_mut.result.now c.settle.new.self (got_inside c.number.result k.lines.items c.requires.0 (ap (slice_get c.args.self.now.lines.items) c.number.ensures ∙ c.requires.1)) c.index_mut.ensures.value c.settle.ensures.line refl refl;
     }

@@ -67,7 +67,7 @@ returns-clause-others c =
     λ i h. ⊎_elim (λ r. inl (at_other letters_known k.lines.items c.args.n i c.take_letter.new.line [] h ∙ r)) (λ r. inr (rw (t.content) (refused_still c.args.n i t.letter k.desk c.requires.accepts r)))
 
 pub returns-clause-room : goal.returns-clause-room
-returns-clause-room c = room_set c.args.self.now _ c.args.n c.index_mut.result.now c.take_letter.new.line c.requires.window c.index_mut.ensures.value c.take_letter.ensures.line refl
+returns-clause-room c = room_set c.args.self.now _ c.args.n c.index_mut.result.now c.take_letter.new.line c.requires.window c.index_mut.ensures.value c.take_letter.ensures.line refl refl
 
 pub returns-clause-longer : goal.returns-clause-longer
 returns-clause-longer c = let t = c.take_letter.ensures.took in one_longer letters_taken c.args.self.now.lines.items c.args.n c.index_mut.result.now c.take_letter.new.line t.letter c.requires.window c.index_mut.ensures.value t.taken

@@ -12,7 +12,7 @@ use Rattle.desk_room.proofs.Closing.{turned_none, turned_orders, turned_benches,
 use Rattle.desk_room.proofs.Places.{map_length}
 use Rattle.room_ends.specs.Benches.{heard, back_known}
 use Rattle.desk_room.proofs.Listening.{backs_then, backs_ears}
-use Rattle.desk_room.proofs.Staying.{room_then, room_lines}
+use Rattle.desk_room.proofs.Staying.{deque_same, room_then, room_lines}
 use Rattle.desk_room.proofs.keepers.Keeper.turn.Goals as goal
 
 pub returns-clause-passes : goal.returns-clause-passes
@@ -94,7 +94,7 @@ returns-clause-stays c =
       windows = g.ensures.size ∙ (ap (λ v. length v.items) o.ensures.lines ∙ (t.ensures.size ∙ ap (λ v. length v.items) h.ensures.lines));
       benches = sym (map_length heard g.new.self.receivers.items) ∙ (turned_benches _ _ _ (returns-clause-passes c) ∙ map_length heard c.args.self.now.receivers.items);
       ring = g.ensures.ring ∙ (o.ensures.ring ∙ (t.ensures.ring ∙ h.ensures.ring));
-      room = room_then _ _ _ (room_lines c.args.self.now h.new.self h.ensures.lines) (room_then _ _ _ t.ensures.room (room_then _ _ _ (room_lines t.new.self o.new.self o.ensures.lines) g.ensures.room));
+      room = room_then _ _ _ (room_lines c.args.self.now h.new.self h.ensures.lines (deque_same c.args.self.now.producer h.new.self.producer h.ensures.producer)) (room_then _ _ _ t.ensures.room (room_then _ _ _ (room_lines t.new.self o.new.self o.ensures.lines o.ensures.deque) g.ensures.room));
     }
 
 pub returns-clause-few : goal.returns-clause-few

@@ -1,0 +1,11 @@
+pub mod Forms
+pub mod Lines
+pub mod Passing
+pub mod Continuations
+pub mod Defences
+pub mod Keys
+pub mod SetPlay
+pub mod Tries
+pub mod Trees
+pub mod TreeReplies
+pub mod inside

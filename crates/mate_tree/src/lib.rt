@@ -1,0 +1,23 @@
+//! The tree of a problem's solution: its keys and what they threaten, every defence, every way for the attacker to go on, set play and
+//! tries.
+//!
+//! What is true of a position is `mate_search`'s business, and how a move is written `chess_notation`'s. Each definition stands in the
+//! file of `specs/` with the same name. To read: `forms`, `lines`, `continuations` and `defences`, the tree below a move;
+//! `passing` and `keys`, `set_play`, `tries`; then `trees`, over `sheets`, and `tree_replies`.
+#![tactic(auto)]
+
+mod continuations;
+mod defences;
+mod forms;
+mod keys;
+mod lines;
+mod passing;
+mod set_play;
+mod sheets;
+mod tree_replies;
+mod trees;
+mod tries;
+
+pub use forms::Form;
+pub use passing::passed;
+pub use tree_replies::{TreeReplies, tree_input};

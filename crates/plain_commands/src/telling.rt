@@ -1,0 +1,99 @@
+//! The command `tree`.
+
+ghost use Rattle.std.specs.Prelude.{◌≡◌, IfErr, IfOk, map};
+ghost use Rattle.plain_commands.specs.Writing.{Gains};
+ghost use Rattle.plain_commands.specs.Told.{StopsTelling, Tells, TellsNone, tree_form_of};
+
+use crate::file_answers::{FileAnswers, answer_files};
+use crate::solving::new_memo;
+use crate::sources::Source;
+use byte_streams::{Input, Stop};
+use chess_moves::Rays;
+use chess_problems::Bound;
+use command_words::TreeForm;
+use mate_search::Memo;
+use mate_tree::{Form, TreeReplies, tree_input};
+use std::alloc::Global;
+use std::io::Write;
+
+/// How many positions the memo has room for.
+const ENTRIES: usize = 65_536;
+
+/// Tells the trees of records, with the bound of those that say none.
+#[derive(Clone, Copy)]
+struct TreeAnswers<'a> {
+    rays: &'a Rays,
+    bound: Bound,
+    form: TreeForm,
+}
+
+/// What is shown of a tree, as the words ask for it.
+fn form_of(form: &TreeForm) -> Form
+    ensures { result ≡ tree_form_of form.now }
+{
+    Form {
+        moves: form.moves,
+        set_play: form.set_play,
+        tries: form.tries,
+        lines: form.lines,
+    }
+}
+
+impl<'a> FileAnswers for TreeAnswers<'a> {
+    ghost use Rattle.plain_commands.specs.Told.{tree_replies, first_tree_replies};
+
+    type Memory = Memo;
+
+    ghost replies = { λ answers. tree_replies answers.form answers.bound };
+
+    ghost first = { λ answers. first_tree_replies answers.form answers.bound };
+
+    fn answer<I: Input + Drop, O: Write>(
+        &self,
+        alloc: Global,
+        _name: &str,
+        input: I,
+        memo: &mut Memo,
+        out: &mut O,
+    ) -> Result<usize, Stop> {
+        let trees = TreeReplies {
+            rays: self.rays,
+            default: self.bound,
+            form: form_of(&self.form),
+        };
+        tree_input(alloc, &trees, input, memo, out)
+    }
+
+    #[tactic(auto, using(crate::proofs::Unopened::no_tree_reply))]
+    fn begins_with_nothing(&self) {}
+}
+
+/// Tells the tree of each record of each file in order, over one memo, and opens a file only after the trees of those before were
+/// written; gives whether a line was refused. A file that can't be read is named on `err`.
+pub fn tree<S: Source, O: Write, E: Write>(
+    alloc: Global,
+    bound: Bound,
+    form: TreeForm,
+    names: &[&str],
+    source: &S,
+    out: &mut O,
+    err: &mut E,
+) -> Result<bool, Stop>
+    ensures ok { IfOk result (λ refused. Gains (Tells (S.holds source.now) bound form (map (λ s. s.now) names.now) refused) (O.contents out.old) (O.contents out.new)) }
+    ensures err { IfErr result (λ stop. StopsTelling (S.holds source.now) (S.refuses source.now) bound form (map (λ s. s.now) names.now) stop (O.contents out.old) (O.contents out.new)) }
+{
+    let rays = Rays::new();
+    let mut memo = new_memo(alloc, ENTRIES)?;
+    let answers = TreeAnswers {
+        rays: &rays,
+        bound,
+        form,
+    };
+    answer_files(alloc, &answers, names, source, &mut memo, out, err)
+}
+
+/// What a `tree` that ends before it has opened a file has written. It does nothing: its contract is the law.
+#[tactic(auto, using(crate::proofs::Unopened::tells_none))]
+pub fn tells_none()
+    ensures { TellsNone }
+{}
