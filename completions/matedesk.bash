@@ -8,32 +8,35 @@ _matedesk() {
     COMPREPLY=()
     if ((COMP_CWORD == 1)); then
         options='-h --help -V --version'
-        [[ $word == -* ]] || options='solve verify tree serve replay look play moves perft explain'
+        [[ $word == -* ]] || options='solve verify tree serve replay uci look play moves perft explain sheet import'
         mapfile -t COMPREPLY < <(compgen -W "$options" -- "$word")
         return
     fi
     # With --lines it is another command.
     [[ $command != @(look|moves|perft) || " ${COMP_WORDS[*]:2:COMP_CWORD - 2} " != *' --lines '* ]] || command+=' --lines'
     case $command in
-    solve | verify) options='--bound --memo -h --help' ;;
-    tree) options='--bound --moves --set-play --tries --lines -h --help' ;;
+    solve) options='--bound --memo --limit --from -h --help' ;;
+    verify) options='--bound --memo --from -h --help' ;;
+    tree) options='--bound --moves --set-play --tries --lines --from -h --help' ;;
+    sheet) options='--solutions --figurines --title --bound --memo -h --help' ;;
+    import) options='--keep -h --help' ;;
     serve) options='--workers --bound --memo -h --help' ;;
-    look) options='--board --flip --lines -h --help' ;;
+    look) options='--board --flip --svg --lines -h --help' ;;
     moves) options='--coordinates --fen --lines -h --help' ;;
     perft) options='--divide --lines -h --help' ;;
     'look --lines') options='--board -h --help' ;;
-    replay | play | explain | *' --lines') options='-h --help' ;;
+    replay | uci | play | explain | *' --lines') options='-h --help' ;;
     *) return ;;
     esac
     case $command,$before,$word in
-    solve,--bound,* | verify,--bound,* | tree,--bound,* | tree,--moves,* | serve,--bound,*) mapfile -t COMPREPLY < <(compgen -W "$(echo {1..15})" -- "$word") ;;
+    solve,--bound,* | verify,--bound,* | tree,--bound,* | tree,--moves,* | sheet,--bound,* | serve,--bound,*) mapfile -t COMPREPLY < <(compgen -W "$(echo {1..15})" -- "$word") ;;
     serve,--workers,*) mapfile -t COMPREPLY < <(compgen -W "$(echo {1..16})" -- "$word") ;;
-    solve,--memo,* | verify,--memo,* | tree,--lines,* | serve,--memo,*) ;;
+    solve,--memo,* | solve,--limit,* | verify,--memo,* | tree,--lines,* | sheet,--memo,* | sheet,--title,* | serve,--memo,* | *,--from,*) ;;
     'perft --lines,--lines,' | 'perft --lines,--lines,'[!-]*) mapfile -t COMPREPLY < <(compgen -W "$(echo {0..6})" -- "$word") ;;
     *' --lines,'*,-*) mapfile -t COMPREPLY < <(compgen -W "$options" -- "$word") ;;
     *' --lines,'*) files=1 ;;
     *,-*) mapfile -t COMPREPLY < <(compgen -W "$options" -- "$word") ;;
-    solve,* | verify,* | tree,* | serve,* | replay,*) files=1 ;;
+    solve,* | verify,* | tree,* | sheet,* | import,* | serve,* | replay,*) files=1 ;;
     perft,*)
         [[ ${COMP_WORDS[2]} != --divide ]] || depth=4
         ((COMP_CWORD != depth)) || mapfile -t COMPREPLY < <(compgen -W "$(echo {0..6})" -- "$word")

@@ -9,8 +9,11 @@ _matedesk() {
         'solve:solve the problems of files'
         'verify:hold the problems of files against their claims'
         'tree:tell how the problems of files are solved'
+        'sheet:make a page of diagrams of the problems of files'
+        'import:make records of the problems of collections'
         'serve:solve the problems of files on threads'
         'replay:run a script of steps at a desk'
+        'uci:answer a chess program as an engine'
         'look:show a FEN in canonical form'
         'play:make moves from a FEN'
         'moves:list the legal moves of a FEN'
@@ -24,10 +27,19 @@ _matedesk() {
     command) _describe command commands ;;
     words)
         case $words[1] in
-        solve | verify)
+        solve)
             _arguments $help \
                 '--bound=[moves within which a record without dm asks for mate]:bound:(1 2 3 4 5 6 7 8 9 10 11 12 13 14 15)' \
                 '--memo=[positions that are remembered]:positions: ' \
+                '--limit=[seconds that a record may take]:seconds: ' \
+                '--from=[line of the first file to begin with]:line: ' \
+                '*:file of records:_files'
+            ;;
+        verify)
+            _arguments $help \
+                '--bound=[moves within which a record without dm asks for mate]:bound:(1 2 3 4 5 6 7 8 9 10 11 12 13 14 15)' \
+                '--memo=[positions that are remembered]:positions: ' \
+                '--from=[line of the first file to begin with]:line: ' \
                 '*:file of records:_files'
             ;;
         tree)
@@ -37,8 +49,19 @@ _matedesk() {
                 '--set-play[show what would follow were the defender to move first]' \
                 '--tries[show the first moves that one reply alone refutes]' \
                 '--lines=[lines that a tree has at most]:lines: ' \
+                '--from=[line of the first file to begin with]:line: ' \
                 '*:file of records:_files'
             ;;
+        sheet)
+            _arguments $help \
+                '--solutions[solve the problems]' \
+                '--figurines[show pieces as figurines in solutions]' \
+                '--title[what the page is called]:title: ' \
+                '--bound=[moves within which a record without dm asks for mate]:bound:(1 2 3 4 5 6 7 8 9 10 11 12 13 14 15)' \
+                '--memo=[positions that are remembered]:positions: ' \
+                '*:file of records:_files'
+            ;;
+        import) _arguments $help '--keep[tell in c9 what was changed]' '*:collection:_files' ;;
         serve)
             _arguments $help \
                 '--workers=[threads that solve]:workers:(1 2 3 4 5 6 7 8 9 10 11 12 13 14 15 16)' \
@@ -47,7 +70,8 @@ _matedesk() {
                 '*:file of records:_files'
             ;;
         replay) _arguments $help '1:script:_files' ;;
-        look) _arguments $help '--board[draw the board too]' '--flip[draw it as Black sees it]' '--lines[read files of positions]' '*:FEN or file:_files' ;;
+        uci) _arguments $help ;;
+        look) _arguments $help '--board[draw the board too]' '--flip[draw it as Black sees it]' '--svg[draw it as an image]' '--lines[read files of positions]' '*:FEN or file:_files' ;;
         play) _arguments $help '1:FEN: ' '*:move: ' ;;
         moves) _arguments $help '--coordinates[write moves by their coordinates]' '--fen[write the FEN after each move]' '--lines[read files of positions]' '*:FEN or file:_files' ;;
         perft) _arguments $help '--divide[count the lines behind each first move too]' '--lines[read files of positions]' '1:FEN or depth: ' '2:depth:(0 1 2 3 4 5 6)' '*:file:_files' ;;

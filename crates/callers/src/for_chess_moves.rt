@@ -17,7 +17,8 @@ pub fn mobility(rays: &Rays, position: &Position) -> usize
 
 /// The position after the first legal move; none where there is no legal move.
 pub fn after_first(rays: &Rays, position: &Position) -> Option<Position>
-    ensures made { IfSome result (λ next. (m : Move) × (others : List Move) × (legal_moves position.now ≡ m ∷ others) × (next ≡ after_setup position.now m)) }
+    ensures made { IfSome result (λ next. (m : Move) × (others : List Move) × (legal_moves position.now ≡ m ∷ others)
+        × (next ≡ after_setup position.now m)) }
     ensures none { IfNone result (legal_moves position.now ≡ []) }
 {
     legal_listed();

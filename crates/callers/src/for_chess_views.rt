@@ -17,7 +17,8 @@ pub fn said_after(
     fen: &Fen,
     words: &[&str],
 ) -> Result<Option<Vec<u8>>, AllocError>
-    ensures said { IfOk result (λ said. IfSome said (λ text. (v : FenValue) × (played fen.now (map (λ s. s.now) words.now) ≡ Ok v) × (text.items ≡ text_of_reached v))) }
+    ensures said { IfOk result (λ said. IfSome said
+        (λ text. (v : FenValue) × (played fen.now (map (λ s. s.now) words.now) ≡ Ok v) × (text.items ≡ text_of_reached v))) }
     ensures none { IfOk result (λ said. IfNone said ((number : ℕ) × (played fen.now (map (λ s. s.now) words.now) ≡ Err number))) }
 {
     match play(rays, fen, words) {

@@ -19,7 +19,8 @@ impl LineHandler for Lengths {
 
     type Memory = ();
 
-    ghost replies = { λ _ number line text refusals. (text ≡ []) × (refusals ≡ (if not (is_blank line) && nat_lt max_line (length line) then 1 else 0)) };
+    ghost replies = { λ _ number line text refusals. (text ≡ [])
+        × (refusals ≡ (if not (is_blank line) && nat_lt max_line (length line) then 1 else 0)) };
 
     ghost room = { λ _. 0 };
 

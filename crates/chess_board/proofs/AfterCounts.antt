@@ -1,5 +1,6 @@
 -- After a move each side still has one king, and no side has gained a man.
-use Rattle.std.proofs.Common.{◌≡◌, ◌≢◌, ℕ, ◌+◌, ◌<◌, ◌≤◌, Bool, true, false, cond, ◌&&◌, length, Option, Some, None, refl, sym, ap, ◌∙◌, inl, inr, arith, count_by}
+use Rattle.std.proofs.Common.{◌≡◌, ◌≢◌, ℕ, ◌+◌, ◌<◌, ◌≤◌, Bool, true, false, cond, ◌&&◌, length}
+use Rattle.std.proofs.Common.{Option, Some, None, refl, sym, ap, ◌∙◌, inl, inr, arith, count_by}
 use Rattle.std.proofs.lemmas.Bool.{and_parts}
 use Rattle.chess_board.specs.declared.men.Colour.{Colour}
 use Rattle.chess_board.specs.declared.men.Colour.TheVariants.{White, Black}
@@ -23,7 +24,8 @@ use Rattle.chess_board.proofs.MenMoved.{length-moved, length-cleared, moved_othe
 use Rattle.chess_board.proofs.Movers.{a_man, Mover, IsPlain, IsPassing, IsCastling, Shape, own_apart, empty_apart}
 
 -- The squares stay 64.
-pub long_after : (p : Setup) (colour : Colour) (kind : Kind) (m : Move) → Mover p colour kind m → Shape p colour kind m → length (men_after p (a_man colour kind) m) ≡ 64
+pub long_after : (p : Setup) (colour : Colour) (kind : Kind) (m : Move) → Mover p colour kind m → Shape p colour kind m
+    → length (men_after p (a_man colour kind) m) ≡ 64
 long_after p colour _ m h (inl s) = ap length s.men ∙ length-moved p.men m.origin m.target _ ∙ h.sound.squares
 long_after p colour _ m h (inr (inl s)) = ap length s.men ∙ length-cleared _ _ ∙ length-moved p.men m.origin m.target _ ∙ h.sound.squares
 long_after p colour _ m h (inr (inr (inl s))) = ap length s.men ∙ length-moved _ _ _ _ ∙ length-moved p.men m.origin m.target _ ∙ h.sound.squares
@@ -31,11 +33,44 @@ long_after p colour _ m h (inr (inr (inr s))) = ap length s.men ∙ length-moved
 
 -- The king's squares and the rook's are four.
 pub castling_apart : (colour : Colour) (wing : Wing) (a b : ℕ) → a ≡ king_home colour → b ≡ king_goal colour wing →
-    (rook_home colour wing < 64) × (crossed a b < 64) × (rook_home colour wing ≢ a) × (rook_home colour wing ≢ b) × (crossed a b ≢ a) × (crossed a b ≢ b) × (crossed a b ≢ rook_home colour wing)
-castling_apart White KingSide a b e f = (omega arith, omega arith, (λ x. omega arith), (λ x. omega arith), (λ x. omega arith), (λ x. omega arith), (λ x. omega arith))
-castling_apart White QueenSide a b e f = (omega arith, omega arith, (λ x. omega arith), (λ x. omega arith), (λ x. omega arith), (λ x. omega arith), (λ x. omega arith))
-castling_apart Black KingSide a b e f = (omega arith, omega arith, (λ x. omega arith), (λ x. omega arith), (λ x. omega arith), (λ x. omega arith), (λ x. omega arith))
-castling_apart Black QueenSide a b e f = (omega arith, omega arith, (λ x. omega arith), (λ x. omega arith), (λ x. omega arith), (λ x. omega arith), (λ x. omega arith))
+    (rook_home colour wing < 64) × (crossed a b < 64) × (rook_home colour wing ≢ a) × (rook_home colour wing ≢ b)
+    × (crossed a b ≢ a) × (crossed a b ≢ b) × (crossed a b ≢ rook_home colour wing)
+castling_apart White KingSide a b e f = (
+  omega arith,
+  omega arith,
+  (λ x. omega arith),
+  (λ x. omega arith),
+  (λ x. omega arith),
+  (λ x. omega arith),
+  (λ x. omega arith),
+)
+castling_apart White QueenSide a b e f = (
+  omega arith,
+  omega arith,
+  (λ x. omega arith),
+  (λ x. omega arith),
+  (λ x. omega arith),
+  (λ x. omega arith),
+  (λ x. omega arith),
+)
+castling_apart Black KingSide a b e f = (
+  omega arith,
+  omega arith,
+  (λ x. omega arith),
+  (λ x. omega arith),
+  (λ x. omega arith),
+  (λ x. omega arith),
+  (λ x. omega arith),
+)
+castling_apart Black QueenSide a b e f = (
+  omega arith,
+  omega arith,
+  (λ x. omega arith),
+  (λ x. omega arith),
+  (λ x. omega arith),
+  (λ x. omega arith),
+  (λ x. omega arith),
+)
 
 rook_reads : (colour : Colour) (place : Option Man) → is_rook_of colour place ≡ true → place ≡ Some (rook colour)
 rook_reads colour None h = cc
@@ -54,7 +89,8 @@ rook_reads colour (Some man) h =
     rook_kind King h = cc
 
 -- No king is captured.
-no_king : (colour : Colour) (place : Option Man) → is_of colour place ≡ false → is_king_of (other_side colour) place ≡ false → (c : Colour) → is_king_of c place ≡ false
+no_king : (colour : Colour) (place : Option Man) → is_of colour place ≡ false → is_king_of (other_side colour) place ≡ false
+    → (c : Colour) → is_king_of c place ≡ false
 no_king colour None own other c = refl
 no_king White (Some man) own other White = rw own refl
 no_king White (Some man) own other Black = other
@@ -80,7 +116,8 @@ pawn_no_king colour c (Some man) h =
     kind_no_king c d King h = cc
 
 -- A man that has moved counts as before: a pawn becomes no king, and each man keeps its colour.
-pub promoted_kind : (colour : Colour) (kind : Kind) (b : ℕ) (k : Kind) → suits (a_man colour kind) b (Some k) ≡ true → (kind ≡ Pawn) × (is_promotion k ≡ true)
+pub promoted_kind : (colour : Colour) (kind : Kind) (b : ℕ) (k : Kind) → suits (a_man colour kind) b (Some k) ≡ true
+    → (kind ≡ Pawn) × (is_promotion k ≡ true)
 promoted_kind colour Pawn b k h = let q = and_parts (promotes (a_man colour Pawn) b) (is_promotion k) h in (refl, q.1)
 promoted_kind colour Knight b k h = cc
 promoted_kind colour Bishop b k h = cc
@@ -96,7 +133,8 @@ promoted_no_king c colour Rook h = refl
 promoted_no_king c colour Queen h = refl
 promoted_no_king c colour King h = cc
 
-becomes_king : (c colour : Colour) (kind : Kind) (b : ℕ) (o : Option Kind) → suits (a_man colour kind) b o ≡ true → is_king_of c (Some (becomes (a_man colour kind) o)) ≡ is_king_of c (Some (a_man colour kind))
+becomes_king : (c colour : Colour) (kind : Kind) (b : ℕ) (o : Option Kind) → suits (a_man colour kind) b o ≡ true
+    → is_king_of c (Some (becomes (a_man colour kind) o)) ≡ is_king_of c (Some (a_man colour kind))
 becomes_king c colour old b None h = refl
 becomes_king c colour old b (Some k) h = let q = promoted_kind colour old b k h in rw q.0 (promoted_no_king c colour k q.1)
 
@@ -117,12 +155,14 @@ plain_loss p colour kind m h s =
     record {
       place = man_at p.men m.target;
       no_king = no_king colour (man_at p.men m.target) s.not_own s.not_king;
-      counts = λ f none same. rw s.men (count_by-went f p.men m.origin m.target (a_man colour kind) (becomes (a_man colour kind) m.promotion) none (omega arith) (omega arith)
+      counts = λ f none same. rw s.men (count_by-went f p.men m.origin m.target (a_man colour kind)
+          (becomes (a_man colour kind) m.promotion) none (omega arith) (omega arith)
           (own_apart p.men colour kind m.origin m.target h.there s.not_own) h.there same);
     }
 
 -- the mover goes to an empty square and stays what it is
-went_to_empty : (f : Option Man → Bool) (p : Setup) (colour : Colour) (kind : Kind) (m : Move) → Mover p colour kind m → man_at p.men m.target ≡ None → f None ≡ false →
+went_to_empty : (f : Option Man → Bool) (p : Setup) (colour : Colour) (kind : Kind) (m : Move) → Mover p colour kind m
+    → man_at p.men m.target ≡ None → f None ≡ false →
     count_by f (moved p.men m.origin m.target (a_man colour kind)) ≡ count_by f p.men
 went_to_empty f p colour kind m h empty none =
     let long = h.sound.squares in let a_on = h.a_on in let b_on = h.b_on in
@@ -145,7 +185,8 @@ en_passant_loss p colour kind m h s =
           rw s.men (taken ∙ went));
     }
 
-castling_loss : (wing : Wing) (p : Setup) (colour : Colour) (kind : Kind) (m : Move) → Mover p colour kind m → IsCastling p colour kind m wing → Loss p colour kind m
+castling_loss : (wing : Wing) (p : Setup) (colour : Colour) (kind : Kind) (m : Move) → Mover p colour kind m
+    → IsCastling p colour kind m wing → Loss p colour kind m
 castling_loss wing p colour kind m h s =
     let long = h.sound.squares in
     let men' = moved p.men m.origin m.target (a_man colour kind) in
@@ -180,12 +221,14 @@ man_count : (c : Colour) (p : Setup) (colour : Colour) (kind : Kind) (m : Move) 
     count_by (is_of c) (men_after p (a_man colour kind) m) ≤ count_by (is_of c) p.men
 man_count c p colour kind m l = let e = l.counts (is_of c) refl (becomes_of c (a_man colour kind) m.promotion) in omega (arith, e)
 
-pub kings_after : (p : Setup) (colour : Colour) (kind : Kind) (m : Move) → Mover p colour kind m → Shape p colour kind m → HasOneKingEach (men_after p (a_man colour kind) m)
+pub kings_after : (p : Setup) (colour : Colour) (kind : Kind) (m : Move) → Mover p colour kind m → Shape p colour kind m
+    → HasOneKingEach (men_after p (a_man colour kind) m)
 kings_after p colour kind m h s =
     let l = loss_of p colour kind m h s in
     (king_count White p colour kind m h l ∙ h.sound.kings.0, king_count Black p colour kind m h l ∙ h.sound.kings.1)
 
-pub few_after : (p : Setup) (colour : Colour) (kind : Kind) (m : Move) → Mover p colour kind m → Shape p colour kind m → HasAtMostSixteenEach (men_after p (a_man colour kind) m)
+pub few_after : (p : Setup) (colour : Colour) (kind : Kind) (m : Move) → Mover p colour kind m → Shape p colour kind m
+    → HasAtMostSixteenEach (men_after p (a_man colour kind) m)
 few_after p colour kind m h s =
     let l = loss_of p colour kind m h s in
     let white = man_count White p colour kind m l in let black = man_count Black p colour kind m l in

@@ -50,7 +50,8 @@ home_other Black Black = inl refl
 
 -- What stands on a home square that the move does not touch stays there: the other side's castling happens on another rank,
 -- and a pawn is captured en passant on neither.
-stays_castling : (wing : Wing) (p : Setup) (colour : Colour) (kind : Kind) (m : Move) → IsCastling p colour kind m wing → (c : Colour) → king_home c ≢ m.origin →
+stays_castling : (wing : Wing) (p : Setup) (colour : Colour) (kind : Kind) (m : Move) → IsCastling p colour kind m wing
+    → (c : Colour) → king_home c ≢ m.origin →
     (s : ℕ) → rank_of s ≡ home_rank c → s ≢ m.origin → s ≢ m.target → man_at (men_after p (a_man colour kind) m) s ≡ man_at p.men s
 stays_castling wing p colour kind m sh c unmoved s rank from to = elim (home_other c colour) [
   | inl same ↦ absurd (unmoved (ap king_home same ∙ sym sh.origin))
@@ -59,12 +60,14 @@ stays_castling wing p colour kind m sh c unmoved s rank from to = elim (home_oth
       let r = rook_home colour wing in let x = crossed m.origin m.target in
       let home = (homes_on_rank colour wing).1 in
       let over = crossed_on_rank colour wing m.origin m.target sh.origin sh.target in
-      rw sh.men (moved_other men' r x (rook colour) s (λ e. differ (sym rank ∙ ap rank_of e ∙ home)) (λ e. differ (sym rank ∙ ap rank_of e ∙ over)) ∙ moved_other p.men m.origin m.target (a_man colour kind) s from to)
+      rw sh.men (moved_other men' r x (rook colour) s (λ e. differ (sym rank ∙ ap rank_of e ∙ home))
+      (λ e. differ (sym rank ∙ ap rank_of e ∙ over)) ∙ moved_other p.men m.origin m.target (a_man colour kind) s from to)
 ]
 
 stays : (p : Setup) (colour : Colour) (kind : Kind) (m : Move) → Shape p colour kind m → (c : Colour) → king_home c ≢ m.origin →
     (s : ℕ) → rank_of s ≡ home_rank c → s ≢ m.origin → s ≢ m.target → man_at (men_after p (a_man colour kind) m) s ≡ man_at p.men s
-stays p colour kind m (inl sh) c unmoved s rank from to = rw sh.men (moved_other p.men m.origin m.target (becomes (a_man colour kind) m.promotion) s from to)
+stays p colour kind m (inl sh) c unmoved s rank from to =
+    rw sh.men (moved_other p.men m.origin m.target (becomes (a_man colour kind) m.promotion) s from to)
 stays p colour kind m (inr (inl sh)) c unmoved s rank from to =
     let men' = moved p.men m.origin m.target (a_man colour kind) in let k = captured_pawn m.origin m.target in
     let low = sh.low in let high = sh.high in
@@ -85,8 +88,10 @@ right_is rights m Black KingSide = refl
 right_is rights m Black QueenSide = refl
 
 -- A right that is left was there before, and the move touched neither home.
-men_stay_home : (p : Setup) (colour : Colour) (kind : Kind) (m : Move) → IsSound p → Shape p colour kind m → (c : Colour) (w : Wing) → right_after p.rights m c w ≡ true →
-    (is_king_of c (man_at (men_after p (a_man colour kind) m) (king_home c)) ≡ true) × (is_rook_of c (man_at (men_after p (a_man colour kind) m) (rook_home c w)) ≡ true)
+men_stay_home : (p : Setup) (colour : Colour) (kind : Kind) (m : Move) → IsSound p → Shape p colour kind m
+    → (c : Colour) (w : Wing) → right_after p.rights m c w ≡ true →
+    (is_king_of c (man_at (men_after p (a_man colour kind) m) (king_home c)) ≡ true)
+    × (is_rook_of c (man_at (men_after p (a_man colour kind) m) (rook_home c w)) ≡ true)
 men_stay_home p colour kind m sound sh c w left =
     let q = and_parts (has_right_of p.rights c w && not (touches m (king_home c))) (not (touches m (rook_home c w))) left in
     let r = and_parts (has_right_of p.rights c w) (not (touches m (king_home c))) q.0 in
@@ -110,7 +115,8 @@ right_kept p colour kind m sound sh c w =
           rw (r, there.0, there.1) refl
     ]) refl
 
-pub rights_kept : (p : Setup) (colour : Colour) (kind : Kind) (m : Move) → IsSound p → Shape p colour kind m → has_men_of_rights (men_after p (a_man colour kind) m) (rights_after p.rights m) ≡ true
+pub rights_kept : (p : Setup) (colour : Colour) (kind : Kind) (m : Move) → IsSound p → Shape p colour kind m
+    → has_men_of_rights (men_after p (a_man colour kind) m) (rights_after p.rights m) ≡ true
 rights_kept p colour kind m sound sh =
     let a = right_kept p colour kind m sound sh White KingSide in
     let b = right_kept p colour kind m sound sh White QueenSide in

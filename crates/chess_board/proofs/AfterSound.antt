@@ -22,7 +22,8 @@ use Rattle.chess_board.proofs.AfterRights.{rights_kept}
 use Rattle.chess_board.proofs.AfterTargets.{target_kept}
 
 -- The parts of soundness, one by one; the last is what legality says beyond the rules for each kind of man.
-mover_sound : (p : Setup) (colour : Colour) (kind : Kind) (m : Move) → Mover p colour kind m → is_in_check (men_after p (a_man colour kind) m) colour ≡ false →
+mover_sound : (p : Setup) (colour : Colour) (kind : Kind) (m : Move) → Mover p colour kind m
+    → is_in_check (men_after p (a_man colour kind) m) colour ≡ false →
     IsSound (after_man p (Some (a_man colour kind)) m)
 mover_sound p colour kind m h safe =
     let sh = shape_of p colour kind m h in
@@ -39,7 +40,8 @@ mover_sound p colour kind m h safe =
 
 -- What legality says once the man is known.
 legal_parts : (p : Setup) (m : Move) (man : Man) → man_at p.men m.origin ≡ Some man → is_legal p m ≡ true →
-    (is_colour man.colour p.side ≡ true) × (suits man m.target m.promotion ≡ true) × (goes p man.colour man.kind m.origin m.target ≡ true) × (is_in_check (men_after p man m) p.side ≡ false)
+    (is_colour man.colour p.side ≡ true) × (suits man m.target m.promotion ≡ true)
+    × (goes p man.colour man.kind m.origin m.target ≡ true) × (is_in_check (men_after p man m) p.side ≡ false)
 unfolding is_legal is_pseudo_legal is_safe after_setup
 legal_parts p m man there legal =
     let q = and_parts (is_pseudo_legal p m) (is_safe p m) legal in
@@ -47,14 +49,17 @@ legal_parts p m man there legal =
     let may' = rw there at may in
     let f = and_parts (is_colour man.colour p.side && suits man m.target m.promotion) (goes p man.colour man.kind m.origin m.target) may' in
     let g = and_parts (is_colour man.colour p.side) (suits man m.target m.promotion) f.0 in
-    let safe : is_in_check (after_man p (man_at p.men m.origin) m).men p.side ≡ false = not-true (is_in_check (after_man p (man_at p.men m.origin) m).men p.side) q.1 in
+    let safe : is_in_check (after_man p (man_at p.men m.origin) m).men p.side ≡ false =
+    not-true (is_in_check (after_man p (man_at p.men m.origin) m).men p.side) q.1 in
     (g.0, g.1, f.1, rw there at safe)
 
-pub sound_legal : (p : Setup) (m : Move) (man : Man) → IsSound p → man_at p.men m.origin ≡ Some man → m.origin < 64 → m.target < 64 → is_legal p m ≡ true → IsSound (after_man p (Some man) m)
+pub sound_legal : (p : Setup) (m : Move) (man : Man) → IsSound p → man_at p.men m.origin ≡ Some man → m.origin < 64
+    → m.target < 64 → is_legal p m ≡ true → IsSound (after_man p (Some man) m)
 sound_legal p m man sound there a_on b_on legal =
     let q = legal_parts p m man there legal in
     let side : p.side ≡ man.colour = sym (colour_same man.colour p.side q.0) in
-    mover_sound p man.colour man.kind m (record { sound = sound; side = side; there = there; a_on = a_on; b_on = b_on; suit = q.1; goes = q.2 }) (rw side at q.3)
+    mover_sound p man.colour man.kind m
+    (record { sound = sound; side = side; there = there; a_on = a_on; b_on = b_on; suit = q.1; goes = q.2 }) (rw side at q.3)
 
 -- From an empty square nothing moves legally.
 pub legal_man : (p : Setup) (m : Move) → is_legal p m ≡ true → man_at p.men m.origin ≡ None → ⊥

@@ -20,14 +20,18 @@ use Rattle.chess_board.proofs.Movers.{a_man, Mover, Shape, stays_unpromoted}
 use Rattle.chess_board.proofs.PawnShapes.{pawn_steps, twice_parts}
 
 -- A double step is a plain move of a pawn that stays one.
-double_men : (p : Setup) (colour : Colour) (m : Move) → Mover p colour Pawn m → Shape p colour Pawn m → steps_twice p.men colour m.origin m.target ≡ true →
+double_men : (p : Setup) (colour : Colour) (m : Move) → Mover p colour Pawn m → Shape p colour Pawn m
+    → steps_twice p.men colour m.origin m.target ≡ true →
     men_after p (a_man colour Pawn) m ≡ moved p.men m.origin m.target (a_man colour Pawn)
 double_men p colour m h (inl s) twice =
-    s.men ∙ ap (λ o. moved p.men m.origin m.target (becomes (a_man colour Pawn) o)) (stays_unpromoted (a_man colour Pawn) m.target m.promotion h.suit (not_last colour m.origin m.target twice))
+    s.men ∙ ap (λ o. moved p.men m.origin m.target (becomes (a_man colour Pawn) o))
+    (stays_unpromoted (a_man colour Pawn) m.target m.promotion h.suit (not_last colour m.origin m.target twice))
   where
     not_last : (colour : Colour) (a b : ℕ) → steps_twice p.men colour a b ≡ true → promotes (a_man colour Pawn) b ≡ false
-    not_last White a b t = let q = twice_parts p.men White a b t in let r = eqb-true (rank_of b) (rank_of a + 2) q.0 in let x : rank_of b ≡ 3 = omega arith in rw x refl
-    not_last Black a b t = let q = twice_parts p.men Black a b t in let r = eqb-true (rank_of a) (rank_of b + 2) q.0 in let x : rank_of b ≡ 4 = omega arith in rw x refl
+    not_last White a b t = let q = twice_parts p.men White a b t in let r = eqb-true (rank_of b) (rank_of a + 2) q.0 in
+        let x : rank_of b ≡ 3 = omega arith in rw x refl
+    not_last Black a b t = let q = twice_parts p.men Black a b t in let r = eqb-true (rank_of a) (rank_of b + 2) q.0 in
+        let x : rank_of b ≡ 4 = omega arith in rw x refl
 double_men p colour m h (inr (inl s)) twice =
     let low = s.low in let high = s.high in let rank = (twice_parts p.men colour m.origin m.target twice).2 in
     absurd (elim (second_edge colour) [ inl e ↦ omega arith | inr e ↦ omega arith ])
@@ -44,7 +48,8 @@ record DoubleStep (p : Setup) (colour : Colour) (m : Move) : Type 0 where
   front : man_at (men_after p (a_man colour Pawn) m) m.target ≡ man_of colour Pawn
   back : man_at (men_after p (a_man colour Pawn) m) m.origin ≡ None
 
-double_step : (p : Setup) (colour : Colour) (m : Move) → Mover p colour Pawn m → Shape p colour Pawn m → steps_twice p.men colour m.origin m.target ≡ true →
+double_step : (p : Setup) (colour : Colour) (m : Move) → Mover p colour Pawn m → Shape p colour Pawn m
+    → steps_twice p.men colour m.origin m.target ≡ true →
     m.origin ≢ m.target → crossed m.origin m.target ≢ m.origin → crossed m.origin m.target ≢ m.target → DoubleStep p colour m
 double_step p colour m h sh twice apart from to =
     let men = double_men p colour m h sh twice in
@@ -56,7 +61,8 @@ double_step p colour m h sh twice apart from to =
       back = rw men (moved_origin p.men m.origin m.target (a_man colour Pawn) (omega arith) apart);
     }
 
-double_target : (p : Setup) (colour : Colour) (m : Move) → Mover p colour Pawn m → Shape p colour Pawn m → steps_twice p.men colour m.origin m.target ≡ true →
+double_target : (p : Setup) (colour : Colour) (m : Move) → Mover p colour Pawn m → Shape p colour Pawn m
+    → steps_twice p.men colour m.origin m.target ≡ true →
     has_pawn_of_target (men_after p (a_man colour Pawn) m) (other_side colour) (crossed m.origin m.target) ≡ true
 double_target p White m h sh twice =
     let q = twice_parts p.men White m.origin m.target twice in
@@ -90,7 +96,8 @@ pub target_kept : (p : Setup) (colour : Colour) (kind : Kind) (m : Move) → Mov
     option_map_or (has_pawn_of_target (men_after p (a_man colour kind) m) (other_side colour)) (target_after (a_man colour kind) m) true ≡ true
 target_kept p colour Pawn m h sh =
     let held = has_pawn_of_target (men_after p (a_man colour Pawn) m) (other_side colour) in
-    (elim (eqb (rank_gap m.origin m.target) 2) as (λ b. eqb (rank_gap m.origin m.target) 2 ≡ b → option_map_or held (cond (true && b) (Some (crossed m.origin m.target)) None) true ≡ true) [
+    (elim (eqb (rank_gap m.origin m.target) 2) as (λ b. eqb (rank_gap m.origin m.target) 2 ≡ b
+    → option_map_or held (cond (true && b) (Some (crossed m.origin m.target)) None) true ≡ true) [
       | false ↦ λ e. refl
       | true ↦ λ e. double_target p colour m h sh (two_ranks p colour m.origin m.target h.goes (eqb-true (rank_gap m.origin m.target) 2 e))
     ]) refl

@@ -1,5 +1,7 @@
 -- The words of a board and the men that they show.
-use Rattle.std.proofs.Common.{◌≡◌, ℕ, zero, suc, ◌+◌, ◌<◌, ◌≤◌, ltb, eqb, not, Bool, true, false, cond, ◌&&◌, ◌||◌, ◌^◌, List, [], ◌∷◌, Option, None, Some, is_some, length, get_or, set, replicate, length-set, count_by, refl, sym, ap, subst, ◌∙◌, arith}
+use Rattle.std.proofs.Common.{◌≡◌, ℕ, zero, suc, ◌+◌, ◌<◌, ◌≤◌, ltb, eqb, not, Bool, true, false, cond, ◌&&◌}
+use Rattle.std.proofs.Common.{◌||◌, ◌^◌, List, [], ◌∷◌, Option, None, Some, is_some, length, get_or, set}
+use Rattle.std.proofs.Common.{replicate, length-set, count_by, refl, sym, ap, subst, ◌∙◌, arith}
 use Rattle.std.proofs.lemmas.Bool.{lt-ltb, eqb-true}
 use Rattle.std.specs.Prelude.{slice_index}
 use denote.Enum.Declared.{tag_of}
@@ -19,9 +21,11 @@ use Rattle.std.specs.Int.RustNames.{bit_and, bit_or}
 use Rattle.chess_board.specs.Men.{man_of, is_colour, is_kind, is_of, is_man}
 use Rattle.chess_board.specs.inside.KindTests.{is_king_kind, is_king_of}
 use Rattle.chess_board.specs.Sets.{IsSetOf}
-use Rattle.chess_board.specs.inside.Boards.{is_of_kind, colour_words, kind_words, words_of, word_of, kind_by, place_by, place_at, listed, men_of, AreWordsOf, AreTheirWords}
+use Rattle.chess_board.specs.inside.Boards.{is_of_kind, colour_words, kind_words, words_of, word_of, kind_by}
+use Rattle.chess_board.specs.inside.Boards.{place_by, place_at, listed, men_of, AreWordsOf, AreTheirWords}
 use Rattle.chess_board.proofs.Counting.{count_by_none}
-use Rattle.chess_board.proofs.MenSets.{IsSetOf-word_of, word_of-IsSetOf, word_of-set, word_of-fits, IsChanged-without, IsSetOf-bit_and, IsSetOf-bit_or}
+use Rattle.chess_board.proofs.MenSets.{IsSetOf-word_of, word_of-IsSetOf, word_of-set, word_of-fits}
+use Rattle.chess_board.proofs.MenSets.{IsChanged-without, IsSetOf-bit_and, IsSetOf-bit_or}
 
 length-listed : {X : Type 0} (f : ℕ → X) (i n : ℕ) → length (listed f i n) ≡ n
 unfolding listed
@@ -113,7 +117,8 @@ IsSetOf-occupied men white black = IsSetOf-bit_or white black (is_of White) (is_
 -- the set of a side, and that of a kind, by its number
 pub IsSetOf-side : (men : List (Option Man)) (b : Inside) (colour : Colour) → AreWordsOf men b
     → IsSetOf (slice_index b.by_colour (tag_of colour_type colour)) (is_of colour) men
-IsSetOf-side men b colour h = subst (λ w. IsSetOf (slice_index w.by_colour (tag_of colour_type colour)) (is_of colour) men) (words_are men b h) (own colour)
+IsSetOf-side men b colour h = subst (λ w. IsSetOf (slice_index w.by_colour (tag_of colour_type colour)) (is_of colour) men)
+    (words_are men b h) (own colour)
   where
     own : (c : Colour) → IsSetOf (slice_index (colour_words men) (tag_of colour_type c)) (is_of c) men
     own White = IsSetOf-word_of (is_of White) men (word_of (is_of White) men) h.squares refl
@@ -203,20 +208,23 @@ module _ (men : List (Option Man)) (square at : ℕ) (man : Man) (long : length 
       either true c = refl
       either false c = refl
 
-  pub word_still : (test : Option Man → Bool) → test None ≡ false → test (Some man) ≡ false → word_of test (set men square (Some man)) ≡ word_of test men
+  pub word_still : (test : Option Man → Bool) → test None ≡ false → test (Some man) ≡ false
+      → word_of test (set men square (Some man)) ≡ word_of test men
   word_still test none fails =
       word_of-set test men (word_of test men) (word_of test men) square (Some man) long on refl (
         word_of-fits test men long,
-        (λ s inside. (elim (eqb s square) as (λ b. eqb s square ≡ b → has (word_of test men) s ≡ cond b (test (Some man)) (has (word_of test men) s)) [
-          | true ↦ λ e.
-              let it = eqb-true s square e in
-              rw it (IsSetOf-word_of test men (word_of test men) long refl square on ∙ rw (free, fails) none)
-          | false ↦ λ e. refl
-        ]) refl),
+        (λ s inside. (elim (eqb s square) as (λ b. eqb s square ≡ b
+            → has (word_of test men) s ≡ cond b (test (Some man)) (has (word_of test men) s)) [
+              | true ↦ λ e.
+                  let it = eqb-true s square e in
+                  rw it (IsSetOf-word_of test men (word_of test men) long refl square on ∙ rw (free, fails) none)
+              | false ↦ λ e. refl
+            ]) refl),
       )
 
 -- the words of the colours, and of the kinds, once a man is put on an empty square
-module _ (men : List (Option Man)) (square at : ℕ) (long : length men ≡ 64) (on : square < 64) (here : at ≡ square) (free : man_at men square ≡ None) where
+module _ (men : List (Option Man)) (square at : ℕ) (long : length men ≡ 64) (on : square < 64)
+    (here : at ≡ square) (free : man_at men square ≡ None) where
   colours_with : (c : Colour) (k : Kind) (new : ℕ) → new < 2 ^ 64
       → ((s : ℕ) → s < 64 → has new s ≡ (eqb s at || has (slice_index (colour_words men) (tag_of colour_type c)) s))
       → colour_words (set men square (man_of c k)) ≡ set (colour_words men) (tag_of colour_type c) new
@@ -295,11 +303,13 @@ AreWordsOf-with men b square at man colour_word kind_word h on here free colour_
       squares = length-set men square (Some man) ∙ h.squares;
       colours =
           colours_with men square at h.squares on here free c k colour_word colour_fits
-          (subst (λ (w : List ℕ). (s : ℕ) → s < 64 → has colour_word s ≡ (eqb s at || has (slice_index w (tag_of colour_type c)) s)) (sym h.colours) of_colour)
+          (subst (λ (w : List ℕ). (s : ℕ) → s < 64
+          → has colour_word s ≡ (eqb s at || has (slice_index w (tag_of colour_type c)) s)) (sym h.colours) of_colour)
           ∙ ap (λ (w : List ℕ). set w (tag_of colour_type c) colour_word) h.colours;
       kinds =
           kinds_with men square at h.squares on here free c k kind_word kind_fits
-          (subst (λ (w : List ℕ). (s : ℕ) → s < 64 → has kind_word s ≡ (eqb s at || has (slice_index w (tag_of kind_type k)) s)) (sym h.kinds) of_kind)
+          (subst (λ (w : List ℕ). (s : ℕ) → s < 64
+          → has kind_word s ≡ (eqb s at || has (slice_index w (tag_of kind_type k)) s)) (sym h.kinds) of_kind)
           ∙ ap (λ (w : List ℕ). set w (tag_of kind_type k) kind_word) h.kinds;
     }
 
@@ -355,7 +365,8 @@ pub some_king : (men : List (Option Man)) (kings : ℕ) (colour : Colour) → le
     → count_by (is_king_of colour) men ≡ 1 → 0 < kings
 some_king men zero colour long is one =
     let none : count_by (is_king_of colour) men ≡ 0 =
-    count_by_none (is_king_of colour) men None (λ k inside. let bit = bit_at-zero k in king_test (man_at men k) ∙ sym (is k (omega arith)) ∙ rw bit) in
+    count_by_none (is_king_of colour) men None
+    (λ k inside. let bit = bit_at-zero k in king_test (man_at men k) ∙ sym (is k (omega arith)) ∙ rw bit) in
     absurd (omega arith)
   where
     king_test : (place : Option Man) → is_king_of colour place ≡ is_man colour King place

@@ -29,8 +29,10 @@ and_true false t a b = cc
 
 -- `==` of each part says whether the parts are equal.
 pub setup_agrees : (B : List (Option Man) → List (Option Man) → Bool) (C : Colour → Colour → Bool) (R : Rights → Rights → Bool) (T : ℕ → ℕ → Bool)
-    → ((x y : List (Option Man)) → length x ≡ 64 → length y ≡ 64 → Agrees B x y) → ((x y : Colour) → Agrees C x y) → ((x y : Rights) → Agrees R x y) → ((x y : ℕ) → Agrees T x y)
-    → (a b : Setup) → length a.men ≡ 64 → length b.men ≡ 64 → (r : Bool) → r ≡ (B a.men b.men && (C a.side b.side && (R a.rights b.rights && option_eq T a.target b.target)))
+    → ((x y : List (Option Man)) → length x ≡ 64 → length y ≡ 64 → Agrees B x y) → ((x y : Colour) → Agrees C x y)
+    → ((x y : Rights) → Agrees R x y) → ((x y : ℕ) → Agrees T x y)
+    → (a b : Setup) → length a.men ≡ 64 → length b.men ≡ 64 → (r : Bool)
+    → r ≡ (B a.men b.men && (C a.side b.side && (R a.rights b.rights && option_eq T a.target b.target)))
     → (IsTrue r → a ≡ b) × (a ≡ b → IsTrue r)
 setup_agrees B C R T m c r t a b a_long b_long result is =
     let board : Agrees B a.men b.men = m a.men b.men a_long b_long in (
@@ -50,7 +52,8 @@ setup_agrees B C R T m c r t a b a_long b_long result is =
 
 -- `==` at rights.
 abbrev pub rights_eq : Rights → Rights → Bool
-rights_eq x y = beq x.white_king_side y.white_king_side && (beq x.white_queen_side y.white_queen_side && (beq x.black_king_side y.black_king_side && beq x.black_queen_side y.black_queen_side))
+rights_eq x y = beq x.white_king_side y.white_king_side && (beq x.white_queen_side y.white_queen_side
+    && (beq x.black_king_side y.black_king_side && beq x.black_queen_side y.black_queen_side))
 
 pub colour_agrees : (x y : Colour) → Agrees (sameb colour_type) x y
 colour_agrees x y = (same_true colour_type tt x y, true_same colour_type x y)
@@ -66,5 +69,7 @@ rights_agrees x y = (
       let c = (booleans_Decides x.black_king_side y.black_king_side).0 three.0 in
       let d = (booleans_Decides x.black_queen_side y.black_queen_side).0 three.1 in
       λ i. record { white_king_side = a i; white_queen_side = b i; black_king_side = c i; black_queen_side = d i }),
-  (λ e. and_true _ _ ((booleans_Decides _ _).1 (ap (λ m. m.white_king_side) e)) (and_true _ _ ((booleans_Decides _ _).1 (ap (λ m. m.white_queen_side) e)) (and_true _ _ ((booleans_Decides _ _).1 (ap (λ m. m.black_king_side) e)) ((booleans_Decides _ _).1 (ap (λ m. m.black_queen_side) e))))),
+  (λ e. and_true _ _ ((booleans_Decides _ _).1 (ap (λ m. m.white_king_side) e))
+      (and_true _ _ ((booleans_Decides _ _).1 (ap (λ m. m.white_queen_side) e)) (and_true _ _
+      ((booleans_Decides _ _).1 (ap (λ m. m.black_king_side) e)) ((booleans_Decides _ _).1 (ap (λ m. m.black_queen_side) e))))),
 )

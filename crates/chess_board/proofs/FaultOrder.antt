@@ -13,12 +13,14 @@ first_in_front A [] back fault h = absurd h
 first_in_front A (next ∷ later) back fault (inl here) = inl here
 first_in_front A (next ∷ later) back fault (inr behind) = inr (behind.0, first_in_front A later back fault behind.1)
 
-pub first_behind : (A : FenFault → Type 0) (front back : List FenFault) (fault : FenFault) → NoneOf A front → IsFirst A back fault → IsFirst A (front ++ back) fault
+pub first_behind : (A : FenFault → Type 0) (front back : List FenFault) (fault : FenFault) → NoneOf A front
+    → IsFirst A back fault → IsFirst A (front ++ back) fault
 first_behind A [] back fault none h = h
 first_behind A (next ∷ later) back fault none h = inr (none.0, first_behind A later back fault none.1 h)
 
 -- The first of faults that apply by one measure is the first by another that says the same of each.
-pub first_alike : (A B : FenFault → Type 0) (faults : List FenFault) (fault : FenFault) → ((f : FenFault) → A f → B f) → ((f : FenFault) → B f → A f) → IsFirst A faults fault → IsFirst B faults fault
+pub first_alike : (A B : FenFault → Type 0) (faults : List FenFault) (fault : FenFault) → ((f : FenFault) → A f → B f)
+    → ((f : FenFault) → B f → A f) → IsFirst A faults fault → IsFirst B faults fault
 first_alike A B [] fault to from h = absurd h
 first_alike A B (next ∷ later) fault to from (inl here) = inl (to next here.0, here.1)
 first_alike A B (next ∷ later) fault to from (inr behind) = inr ((λ b. behind.0 (from next b)), first_alike A B later fault to from behind.1)

@@ -1,7 +1,9 @@
 -- Which fault of a text is its first, and that a text with a fault spells no FEN of a sound position.
 use Rattle.std.proofs.Common.{◌≡◌, ◌∙◌, List, [], ◌∷◌, length, slice_index_or, ap, sym, subst, inr, ℕ, true≢false}
 use Rattle.chess_board.specs.declared.faults.FenFault.{FenFault}
-use Rattle.chess_board.specs.declared.faults.FenFault.TheVariants.{FieldCount, BadPlacement, BadSide, BadCastling, BadTarget, BadCounter, BadKings, PawnOnEndRank, TooManyMen, RightWithoutMen, TargetWithoutPawn, OpponentInCheck}
+use Rattle.chess_board.specs.declared.faults.FenFault.TheVariants.{FieldCount, BadPlacement, BadSide, BadCastling, BadTarget}
+use Rattle.chess_board.specs.declared.faults.FenFault.TheVariants.{BadCounter, BadKings, PawnOnEndRank, TooManyMen, RightWithoutMen}
+use Rattle.chess_board.specs.declared.faults.FenFault.TheVariants.{TargetWithoutPawn, OpponentInCheck}
 use Rattle.chess_board.specs.Positions.{Setup}
 use Rattle.chess_board.specs.Soundness.{IsSound}
 use Rattle.chess_board.specs.Fields.{IsCounter}
@@ -79,7 +81,8 @@ pub fault_of_spelling : (text a b c d e g : List ℕ) (fault : FenFault) → par
     → IsFirst (IsAmiss (record { placement = a; side = b; castling = c; target = d })) spelling_faults fault → IsFault text fault
 unfolding IsFault
 fault_of_spelling text a b c d e g fault six h =
-    let here : IsFirst (IsAmiss (fields_of text)) spelling_faults fault = subst (λ ps. IsFirst (IsAmiss (fields_in ps)) spelling_faults fault) (sym six) h in
+    let here : IsFirst (IsAmiss (fields_of text)) spelling_faults fault =
+    subst (λ ps. IsFirst (IsAmiss (fields_in ps)) spelling_faults fault) (sym six) h in
     inr ((λ no. no (ap length six)), first_in_front (Applies text) spelling_faults (BadCounter ∷ position_faults) fault here)
 
 spelt_here : (text a b c d e g : List ℕ) (p : Setup) → parts text ≡ a ∷ b ∷ c ∷ d ∷ e ∷ g ∷ []
@@ -92,12 +95,15 @@ pub fault_of_position : (text a b c d e g : List ℕ) (p : Setup) (fault : FenFa
 unfolding IsFault
 fault_of_position text a b c d e g p fault six spelt half full h =
     let here = spelt_here text a b c d e g p six spelt in
-    let counters : IsCounter (part text 4) × IsCounter (part text 5) = subst (λ ps. IsCounter (slice_index_or ps 4 []) × IsCounter (slice_index_or ps 5 [])) (sym six) (half, full) in
+    let counters : IsCounter (part text 4) × IsCounter (part text 5) =
+    subst (λ ps. IsCounter (slice_index_or ps 4 []) × IsCounter (slice_index_or ps 5 [])) (sym six) (half, full) in
     let first : IsFirst (IsAmiss (fields_of text)) position_faults fault =
-    first_alike (IsUnsoundBy p) (IsAmiss (fields_of text)) position_faults fault (to_amiss (fields_of text) p here) (from_amiss (fields_of text) p here) h in
+    first_alike (IsUnsoundBy p) (IsAmiss (fields_of text)) position_faults fault (to_amiss (fields_of text) p here)
+    (from_amiss (fields_of text) p here) h in
     inr (
       (λ no. no (ap length six)),
-      first_behind (Applies text) spelling_faults (BadCounter ∷ position_faults) fault (spelt_right (fields_of text) p here) (inr ((λ no. no counters), first)),
+      first_behind (Applies text) spelling_faults (BadCounter ∷ position_faults) fault
+          (spelt_right (fields_of text) p here) (inr ((λ no. no counters), first)),
     )
 
 -- A text with a fault spells no FEN of a sound position.

@@ -10,7 +10,8 @@ use Rattle.chess_board.proofs.FenFaults.{spelt_right, sound_right, to_amiss, fro
 pub spelling_is_first : (f : Fields) (fault : FenFault) → IsFirst (IsAmiss f) spelling_faults fault → IsFirst (IsAmiss f) field_faults fault
 spelling_is_first f fault h = first_in_front (IsAmiss f) spelling_faults position_faults fault h
 
-pub unsound_is_first : (f : Fields) (p : Setup) (fault : FenFault) → SpellsSetup f p → IsFirst (IsUnsoundBy p) position_faults fault → IsFirst (IsAmiss f) field_faults fault
+pub unsound_is_first : (f : Fields) (p : Setup) (fault : FenFault) → SpellsSetup f p
+    → IsFirst (IsUnsoundBy p) position_faults fault → IsFirst (IsAmiss f) field_faults fault
 unsound_is_first f p fault spelt h =
     first_behind (IsAmiss f) spelling_faults position_faults fault (spelt_right f p spelt)
     (first_alike (IsUnsoundBy p) (IsAmiss f) position_faults fault (to_amiss f p spelt) (from_amiss f p spelt) h)
@@ -18,4 +19,5 @@ unsound_is_first f p fault spelt h =
 pub faulty_fields : (f : Fields) (p : Setup) (fault : FenFault) → IsFirst (IsAmiss f) field_faults fault → SpellsSetup f p → IsSound p → ⊥
 faulty_fields f p fault h spelt sound =
     none_first (IsAmiss f) field_faults fault
-    (none_joined (IsAmiss f) spelling_faults position_faults (spelt_right f p spelt) (none_alike (IsAmiss f) (IsUnsoundBy p) position_faults (from_amiss f p spelt) (sound_right p sound))) h
+    (none_joined (IsAmiss f) spelling_faults position_faults (spelt_right f p spelt)
+    (none_alike (IsAmiss f) (IsUnsoundBy p) position_faults (from_amiss f p spelt) (sound_right p sound))) h

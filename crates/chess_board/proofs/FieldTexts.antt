@@ -1,5 +1,6 @@
 -- The texts of the fields after the placement: none has a space, each is read again, and no two values share one.
-use Rattle.std.proofs.Common.{◌≡◌, ◌∙◌, ℕ, ◌+◌, ◌-◌, ◌*◌, ◌/◌, ◌%◌, ◌<◌, ◌≤◌, List, [], ◌∷◌, ◌++◌, Bool, true, false, Option, Some, None, length, get_or, length-append, refl, ap, sym, arith, inl, inr, ◌==◌}
+use Rattle.std.proofs.Common.{◌≡◌, ◌∙◌, ℕ, ◌+◌, ◌-◌, ◌*◌, ◌/◌, ◌%◌, ◌<◌, ◌≤◌, List, [], ◌∷◌, ◌++◌, Bool, true, false, Option}
+use Rattle.std.proofs.Common.{Some, None, length, get_or, length-append, refl, ap, sym, arith, inl, inr, ◌==◌}
 use Rattle.std.specs.Prelude.{All, decimal}
 use Rattle.std.proofs.lemmas.List.Elements.{All-nil, All-cons, All-append, All-weaker}
 use Rattle.std.proofs.lemmas.List.Sums.{fold-append}
@@ -9,7 +10,8 @@ use Rattle.chess_board.specs.declared.men.Colour.{Colour}
 use Rattle.chess_board.specs.declared.men.Colour.TheVariants.{White, Black}
 use Rattle.chess_board.specs.declared.men.Rights.{Rights}
 use Rattle.chess_board.specs.Squares.{file_of, rank_of}
-use Rattle.chess_board.specs.Fields.{side_text, letter_if, castling_text, rights_in, IsCastling, IsRightLetter, IsRightLetters, times, target_text, SpellsTarget, IsDigit, digits_value, SpellsCounter}
+use Rattle.chess_board.specs.Fields.{side_text, letter_if, castling_text, rights_in, IsCastling, IsRightLetter, IsRightLetters}
+use Rattle.chess_board.specs.Fields.{times, target_text, SpellsTarget, IsDigit, digits_value, SpellsCounter}
 
 -- none of the bytes is a space
 abbrev pub IsSpaceless : List ℕ → Type 0
@@ -44,9 +46,11 @@ castling_spaceless rights = go rights.white_king_side rights.white_queen_side ri
   letters : (a b c d : Bool) → IsSpaceless (letter_if a 75 ++ letter_if b 81 ++ letter_if c 107 ++ letter_if d 113)
   letters a b c d = All-append (λ x. (x == 32) ≡ false) (letter_if a 75 ++ letter_if b 81 ++ letter_if c 107) (letter_if d 113)
       (All-append (λ x. (x == 32) ≡ false) (letter_if a 75 ++ letter_if b 81) (letter_if c 107)
-      (All-append (λ x. (x == 32) ≡ false) (letter_if a 75) (letter_if b 81) (letter a 75 refl) (letter b 81 refl)) (letter c 107 refl)) (letter d 113 refl)
+      (All-append (λ x. (x == 32) ≡ false) (letter_if a 75) (letter_if b 81) (letter a 75 refl) (letter b 81 refl))
+      (letter c 107 refl)) (letter d 113 refl)
 
-  go : (a b c d : Bool) → IsSpaceless (castling_text (record { white_king_side = a; white_queen_side = b; black_king_side = c; black_queen_side = d }))
+  go : (a b c d : Bool) → IsSpaceless
+      (castling_text (record { white_king_side = a; white_queen_side = b; black_king_side = c; black_queen_side = d }))
   go true b c d = letters true b c d
   go false true c d = letters false true c d
   go false false true d = letters false false true d
@@ -87,9 +91,11 @@ castling_spelt rights = go rights.white_king_side rights.white_queen_side rights
   all : (a b c d : Bool) → All IsRightLetter (letters a b c d)
   all a b c d = All-append IsRightLetter (letter_if a 75 ++ letter_if b 81 ++ letter_if c 107) (letter_if d 113)
       (All-append IsRightLetter (letter_if a 75 ++ letter_if b 81) (letter_if c 107)
-      (All-append IsRightLetter (letter_if a 75) (letter_if b 81) (letter a 75 (inl refl)) (letter b 81 (inr (inl refl)))) (letter c 107 (inr (inr (inl refl))))) (letter d 113 (inr (inr (inr refl))))
+      (All-append IsRightLetter (letter_if a 75) (letter_if b 81) (letter a 75 (inl refl)) (letter b 81 (inr (inl refl))))
+      (letter c 107 (inr (inr (inl refl))))) (letter d 113 (inr (inr (inr refl))))
 
-  once : (a b c d : Bool) → (times 75 (letters a b c d) ≤ 1) × (times 81 (letters a b c d) ≤ 1) × (times 107 (letters a b c d) ≤ 1) × (times 113 (letters a b c d) ≤ 1)
+  once : (a b c d : Bool) → (times 75 (letters a b c d) ≤ 1) × (times 81 (letters a b c d) ≤ 1)
+      × (times 107 (letters a b c d) ≤ 1) × (times 113 (letters a b c d) ≤ 1)
   once false false false false = (omega arith, omega arith, omega arith, omega arith)
   once false false false true = (omega arith, omega arith, omega arith, omega arith)
   once false false true false = (omega arith, omega arith, omega arith, omega arith)
@@ -151,7 +157,8 @@ counter_one n h = record {
 counter_more : (n : ℕ) (text : List ℕ) → 10 ≤ n → IsCounterOf (n / 10) text → IsCounterOf n (text ++ (48 + n % 10) ∷ [])
 counter_more n text h front = record {
   digits = All-append IsDigit text ((48 + n % 10) ∷ []) front.digits (All-cons IsDigit (48 + n % 10) [] (omega arith, omega arith) (All-nil IsDigit));
-  value = fold-append (λ (m b : ℕ). 10 * m + (b - 48)) 0 text ((48 + n % 10) ∷ []) ∙ ap (λ m. 10 * m + ((48 + n % 10) - 48)) front.value ∙ omega arith;
+  value = fold-append (λ (m b : ℕ). 10 * m + (b - 48)) 0 text ((48 + n % 10) ∷ [])
+      ∙ ap (λ m. 10 * m + ((48 + n % 10) - 48)) front.value ∙ omega arith;
   some = rw length-append (omega arith);
 }
 

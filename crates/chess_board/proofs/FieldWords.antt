@@ -1,5 +1,6 @@
 -- The fields that are printed for a position are visible words, and they spell it.
-use Rattle.std.proofs.Common.{◌≡◌, ◌≢◌, ℕ, zero, suc, ◌+◌, ◌≤◌, List, [], ◌∷◌, ◌++◌, Bool, true, false, Option, Some, None, length, refl, ap, arith, take, drop, length-append, length-take}
+use Rattle.std.proofs.Common.{◌≡◌, ◌≢◌, ℕ, zero, suc, ◌+◌, ◌≤◌, List, [], ◌∷◌, ◌++◌, Bool, true, false, Option}
+use Rattle.std.proofs.Common.{Some, None, length, refl, ap, arith, take, drop, length-append, length-take}
 use Rattle.std.specs.List.{All, join_with_byte}
 use Rattle.std.proofs.lemmas.List.Elements.{All-nil, All-cons, All-append}
 use Rattle.chess_board.specs.declared.men.Colour.{Colour}
@@ -48,7 +49,8 @@ ranks_visible : (n : ℕ) (men : List (Option Man)) → All (λ part. All IsVisi
 ranks_visible zero men = All-nil (λ part. All IsVisible part)
 ranks_visible (suc n) men =
     All-append (λ part. All IsVisible part) (rank_texts n (drop 8 men)) (rank_text (take 8 men) ∷ []) (ranks_visible n (drop 8 men))
-    (All-cons (λ part. All IsVisible part) (rank_text (take 8 men)) [] (rank_visible 0 (take 8 men) (omega (arith, length-take 8 men))) (All-nil (λ part. All IsVisible part)))
+    (All-cons (λ part. All IsVisible part) (rank_text (take 8 men)) []
+    (rank_visible 0 (take 8 men) (omega (arith, length-take 8 men))) (All-nil (λ part. All IsVisible part)))
 
 joined_visible : (parts : List (List ℕ)) → All (λ part. All IsVisible part) parts → All IsVisible (join_with_byte 47 parts)
 joined_visible [] visible = All-nil IsVisible
@@ -66,7 +68,8 @@ joined_some (part ∷ next ∷ parts) eight same =
 
 placement_word : (men : List (Option Man)) → IsVisibleWord (placement_text men)
 placement_word men =
-    rw (placement_text-rank_texts men) (joined_some (rank_texts 8 men) (length-rank_texts 8 men), joined_visible (rank_texts 8 men) (ranks_visible 8 men))
+    rw (placement_text-rank_texts men)
+    (joined_some (rank_texts 8 men) (length-rank_texts 8 men), joined_visible (rank_texts 8 men) (ranks_visible 8 men))
 
 some_byte : (b : ℕ) (bs : List ℕ) → b ∷ bs ≢ []
 some_byte b bs same = absurd (omega (arith, ap length same))
@@ -87,7 +90,8 @@ castling_word rights = go rights.white_king_side rights.white_queen_side rights.
       (All-append IsVisible (letter_if a 75) (letter_if b 81) (letter a 75 (omega arith, omega arith)) (letter b 81 (omega arith, omega arith)))
       (letter c 107 (omega arith, omega arith))) (letter d 113 (omega arith, omega arith))
 
-  go : (a b c d : Bool) → IsVisibleWord (castling_text (record { white_king_side = a; white_queen_side = b; black_king_side = c; black_queen_side = d }))
+  go : (a b c d : Bool) → IsVisibleWord
+      (castling_text (record { white_king_side = a; white_queen_side = b; black_king_side = c; black_queen_side = d }))
   go true b c d = (some_byte 75 (letter_if b 81 ++ letter_if c 107 ++ letter_if d 113), letters true b c d)
   go false true c d = (some_byte 81 (letter_if c 107 ++ letter_if d 113), letters false true c d)
   go false false true d = (some_byte 107 (letter_if d 113), letters false false true d)
@@ -99,7 +103,8 @@ target_word side None on = (some_byte 45 [], one 45 (omega arith, omega arith))
 target_word side (Some square) on =
     let below = on.0 in (
       some_byte (97 + file_of square) ((49 + rank_of square) ∷ []),
-      All-cons IsVisible (97 + file_of square) ((49 + rank_of square) ∷ []) (omega arith, omega arith) (one (49 + rank_of square) (omega arith, omega arith)),
+      All-cons IsVisible (97 + file_of square) ((49 + rank_of square) ∷ []) (omega arith, omega arith)
+          (one (49 + rank_of square) (omega arith, omega arith)),
     )
 
 pub printed_words : PrintedSpells

@@ -1,5 +1,6 @@
 -- The men once one went to another square, and once one was taken away.
-use Rattle.std.proofs.Common.{◌≡◌, ◌≢◌, ℕ, ◌+◌, ◌<◌, Bool, false, cond, List, length, Option, Some, None, sym, ◌∙◌, inl, inr, arith, length-set, get_or-set_other, get_or-set_same, count_by}
+use Rattle.std.proofs.Common.{◌≡◌, ◌≢◌, ℕ, ◌+◌, ◌<◌, Bool, false, cond, List, length, Option, Some, None, sym}
+use Rattle.std.proofs.Common.{◌∙◌, inl, inr, arith, length-set, get_or-set_other, get_or-set_same, count_by}
 use Rattle.std.proofs.lemmas.List.Sums.{sum_by-set}
 use Rattle.std.proofs.lemmas.Bool.{cases_eq}
 use Rattle.chess_board.specs.declared.men.Man.{Man}
@@ -35,7 +36,8 @@ count_by-cleared f men k none on =
     omega (arith, s)
 
 -- A count loses what stood on both squares, and gains the man that went.
-pub count_by-moved : (f : Option Man → Bool) (men : List (Option Man)) (a b : ℕ) (man : Man) → f None ≡ false → a < length men → b < length men → b ≢ a →
+pub count_by-moved : (f : Option Man → Bool) (men : List (Option Man)) (a b : ℕ) (man : Man) → f None ≡ false
+    → a < length men → b < length men → b ≢ a →
     count_by f (moved men a b man) + cond (f (man_at men a)) 1 0 + cond (f (man_at men b)) 1 0 ≡ count_by f men + cond (f (Some man)) 1 0
 count_by-moved f men a b man none a_on b_on apart =
     let g : Option Man → ℕ = λ x. cond (f x) 1 0 in
@@ -45,7 +47,8 @@ count_by-moved f men a b man none a_on b_on apart =
     omega (arith, s, u)
 
 -- A count that takes the man that went for what it was loses what stood on the target.
-pub count_by-went : (f : Option Man → Bool) (men : List (Option Man)) (a b : ℕ) (man new : Man) → f None ≡ false → a < length men → b < length men → b ≢ a →
+pub count_by-went : (f : Option Man → Bool) (men : List (Option Man)) (a b : ℕ) (man new : Man) → f None ≡ false
+    → a < length men → b < length men → b ≢ a →
     man_at men a ≡ Some man → f (Some new) ≡ f (Some man) → count_by f (moved men a b new) + cond (f (man_at men b)) 1 0 ≡ count_by f men
 count_by-went f men a b man new none a_on b_on apart there same =
     let e = rw (there, same) at (count_by-moved f men a b new none a_on b_on apart) in omega (arith, e)

@@ -36,7 +36,8 @@ kinds_compare k j =
 kind_placed : (k : Kind) → (0 < promotion_place (Some k)) × (promotion_place (Some k) < 7)
 kind_placed k =
     each_kind (λ x. (0 < promotion_place (Some x)) × (promotion_place (Some x) < 7))
-    (omega arith, omega arith) (omega arith, omega arith) (omega arith, omega arith) (omega arith, omega arith) (omega arith, omega arith) (omega arith, omega arith) k
+    (omega arith, omega arith) (omega arith, omega arith) (omega arith, omega arith) (omega arith, omega arith)
+    (omega arith, omega arith) (omega arith, omega arith) k
 
 promotion_below : (o : Option Kind) → promotion_place o < 7
 promotion_below None = omega arith
@@ -51,7 +52,8 @@ nat_cmp-equal x y h = grind (arith, nat_tests)
 nat_cmp-greater : (x y : ℕ) → y < x → nat_cmp x y ≡ Greater
 nat_cmp-greater x y h = grind (arith, nat_tests)
 
-promotions_compare : (o u : Option Kind) → option_partial_cmp ((kinds.ghosts).partial_cmp) o u ≡ Some (nat_cmp (promotion_place o) (promotion_place u))
+promotions_compare : (o u : Option Kind)
+    → option_partial_cmp ((kinds.ghosts).partial_cmp) o u ≡ Some (nat_cmp (promotion_place o) (promotion_place u))
 promotions_compare None None = refl
 promotions_compare None (Some j) = let e = nat_cmp-less 0 (promotion_place (Some j)) (kind_placed j).0 in rw e refl
 promotions_compare (Some k) None = let e = nat_cmp-greater (promotion_place (Some k)) 0 (kind_placed k).0 in rw e refl
@@ -64,16 +66,20 @@ order_cases x y = elim (cases_eq x y) [
 ]
 
 abbrev IsBefore : Move → Move → Type 0
-IsBefore a b = (partial_lt ((moves.ghosts).partial_cmp) a b ≡ true → move_place a < move_place b) × (move_place a < move_place b → partial_lt ((moves.ghosts).partial_cmp) a b ≡ true)
+IsBefore a b = (partial_lt ((moves.ghosts).partial_cmp) a b ≡ true → move_place a < move_place b)
+    × (move_place a < move_place b → partial_lt ((moves.ghosts).partial_cmp) a b ≡ true)
 
 by_promotion : (a b : Move) → a.origin ≡ b.origin → a.target ≡ b.target → IsBefore a b
 by_promotion a b origin target =
     let p = nat_cmp-equal a.origin b.origin origin in let q = nat_cmp-equal a.target b.target target in
     let r = promotions_compare a.promotion b.promotion in
     elim (order_cases (promotion_place a.promotion) (promotion_place b.promotion)) [
-      | inl less ↦ let s = nat_cmp-less (promotion_place a.promotion) (promotion_place b.promotion) less in rw (p, q, r, s) ((λ h. omega arith), (λ h. refl))
-      | inr (inl same) ↦ let s = nat_cmp-equal (promotion_place a.promotion) (promotion_place b.promotion) same in rw (p, q, r, s) ((λ h. cc), (λ h. absurd (omega arith)))
-      | inr (inr more) ↦ let s = nat_cmp-greater (promotion_place a.promotion) (promotion_place b.promotion) more in rw (p, q, r, s) ((λ h. cc), (λ h. absurd (omega arith)))
+      | inl less ↦ let s = nat_cmp-less (promotion_place a.promotion) (promotion_place b.promotion) less in
+          rw (p, q, r, s) ((λ h. omega arith), (λ h. refl))
+      | inr (inl same) ↦ let s = nat_cmp-equal (promotion_place a.promotion) (promotion_place b.promotion) same in
+          rw (p, q, r, s) ((λ h. cc), (λ h. absurd (omega arith)))
+      | inr (inr more) ↦ let s = nat_cmp-greater (promotion_place a.promotion) (promotion_place b.promotion) more in
+          rw (p, q, r, s) ((λ h. cc), (λ h. absurd (omega arith)))
     ]
 
 by_target : (a b : Move) → a.origin ≡ b.origin → IsBefore a b

@@ -26,7 +26,8 @@ use Rattle.chess_board.proofs.PawnShapes.{pawn_shape}
 use Rattle.chess_board.proofs.Walk.{empty_reads}
 
 piece_shape : (p : Setup) (colour : Colour) (kind : Kind) (m : Move) → Mover p colour kind m →
-    men_after p (a_man colour kind) m ≡ moved p.men m.origin m.target (becomes (a_man colour kind) m.promotion) → piece_goes p colour kind m.origin m.target ≡ true → IsPlain p colour kind m
+    men_after p (a_man colour kind) m ≡ moved p.men m.origin m.target (becomes (a_man colour kind) m.promotion)
+    → piece_goes p colour kind m.origin m.target ≡ true → IsPlain p colour kind m
 piece_shape p colour kind m h men goes =
     let q = and_parts (attacks_as p.men colour kind m.origin m.target) (not (is_of colour (man_at p.men m.target))) goes in
     record {
@@ -47,15 +48,18 @@ right_men p colour wing sound right =
     let one : has_men_of_right p.men p.rights colour wing ≡ true = pick colour wing all.0 all.1 all.2 all.3 in
     and_parts (is_king_of colour (man_at p.men (king_home colour))) (is_rook_of colour (man_at p.men (rook_home colour wing))) (rw right at one)
   where
-    pick : (colour : Colour) (wing : Wing) → has_men_of_right p.men p.rights White KingSide ≡ true → has_men_of_right p.men p.rights White QueenSide ≡ true →
-        has_men_of_right p.men p.rights Black KingSide ≡ true → has_men_of_right p.men p.rights Black QueenSide ≡ true → has_men_of_right p.men p.rights colour wing ≡ true
+    pick : (colour : Colour) (wing : Wing) → has_men_of_right p.men p.rights White KingSide ≡ true
+        → has_men_of_right p.men p.rights White QueenSide ≡ true →
+        has_men_of_right p.men p.rights Black KingSide ≡ true → has_men_of_right p.men p.rights Black QueenSide ≡ true
+        → has_men_of_right p.men p.rights colour wing ≡ true
     pick White KingSide a b c d = a
     pick White QueenSide a b c d = b
     pick Black KingSide a b c d = c
     pick Black QueenSide a b c d = d
 
 castling_men : (p : Setup) (colour : Colour) (wing : Wing) (m : Move) → m.origin ≡ king_home colour → m.target ≡ king_goal colour wing →
-    men_after p (a_man colour King) m ≡ moved (moved p.men m.origin m.target (a_man colour King)) (rook_home colour wing) (crossed m.origin m.target) (rook colour)
+    men_after p (a_man colour King) m ≡ moved (moved p.men m.origin m.target (a_man colour King)) (rook_home colour wing)
+    (crossed m.origin m.target) (rook colour)
 castling_men p White KingSide m e f = rw (e, f) refl
 castling_men p White QueenSide m e f = rw (e, f) refl
 castling_men p Black KingSide m e f = rw (e, f) refl
@@ -76,7 +80,8 @@ clear_at men a b s clear on between =
     empty_reads men s (rw between at h)
 
 castling_parts : (p : Setup) (colour : Colour) (wing : Wing) (a b : ℕ) → castles_to p colour wing a b ≡ true →
-    (has_right_of p.rights colour wing ≡ true) × (a ≡ king_home colour) × (b ≡ king_goal colour wing) × (is_clear p.men a (rook_home colour wing) ≡ true)
+    (has_right_of p.rights colour wing ≡ true) × (a ≡ king_home colour) × (b ≡ king_goal colour wing)
+    × (is_clear p.men a (rook_home colour wing) ≡ true)
 castling_parts p colour wing a b goes =
     let right = has_right_of p.rights colour wing in
     let home = eqb a (king_home colour) in
@@ -91,7 +96,8 @@ castling_parts p colour wing a b goes =
     let f = all_four right home goal clear s.0 in
     (f.0, eqb-true a (king_home colour) f.1, eqb-true b (king_goal colour wing) f.2, f.3)
 
-castling_shape : (p : Setup) (colour : Colour) (wing : Wing) (m : Move) → Mover p colour King m → castles_to p colour wing m.origin m.target ≡ true → IsCastling p colour King m wing
+castling_shape : (p : Setup) (colour : Colour) (wing : Wing) (m : Move) → Mover p colour King m
+    → castles_to p colour wing m.origin m.target ≡ true → IsCastling p colour King m wing
 castling_shape p colour wing m h goes =
     let f = castling_parts p colour wing m.origin m.target goes in
     let home = king_home colour in

@@ -56,7 +56,8 @@ pub record IsPassing (p : Setup) (colour : Colour) (kind : Kind) (m : Move) : Ty
 
 -- A king castles on a wing.
 pub record IsCastling (p : Setup) (colour : Colour) (kind : Kind) (m : Move) (wing : Wing) : Type 0 where
-  pub men : men_after p (a_man colour kind) m ≡ moved (moved p.men m.origin m.target (a_man colour kind)) (rook_home colour wing) (crossed m.origin m.target) (rook colour)
+  pub men : men_after p (a_man colour kind) m ≡ moved (moved p.men m.origin m.target (a_man colour kind)) (rook_home colour wing)
+      (crossed m.origin m.target) (rook colour)
   pub king : kind ≡ King
   pub unpromoted : m.promotion ≡ None
   pub origin : m.origin ≡ king_home colour
@@ -66,7 +67,8 @@ pub record IsCastling (p : Setup) (colour : Colour) (kind : Kind) (m : Move) (wi
   pub rook_there : is_rook_of colour (man_at p.men (rook_home colour wing)) ≡ true
 
 abbrev pub Shape : Setup → Colour → Kind → Move → Type 0
-Shape p colour kind m = IsPlain p colour kind m ⊎ IsPassing p colour kind m ⊎ IsCastling p colour kind m KingSide ⊎ IsCastling p colour kind m QueenSide
+Shape p colour kind m = IsPlain p colour kind m ⊎ IsPassing p colour kind m
+    ⊎ IsCastling p colour kind m KingSide ⊎ IsCastling p colour kind m QueenSide
 
 pub other_twice : (a : Colour) → other_side (other_side a) ≡ a
 other_twice White = refl
@@ -81,10 +83,12 @@ attacks_no_king p colour kind m h attacks =
     (elim (is_king_of foe (man_at p.men b)) as (λ x. is_king_of foe (man_at p.men b) ≡ x → x ≡ false) [
       | false ↦ λ e. refl
       | true ↦ λ e.
-          let from : attacks_from p.men colour m.origin b ≡ true = rw h.there (and_from (is_colour colour colour) (attacks_as p.men colour kind m.origin b) (is_colour_same colour) attacks) in
+          let from : attacks_from p.men colour m.origin b ≡ true = rw h.there
+          (and_from (is_colour colour colour) (attacks_as p.men colour kind m.origin b) (is_colour_same colour) attacks) in
           let hit : is_attacked p.men b colour ≡ true = any_at (λ x. attacks_from p.men colour x b) 64 m.origin h.a_on from in
           let hit' : is_attacked p.men b (other_side foe) ≡ true = rw (other_twice colour) hit in
-          let check : is_in_check p.men foe ≡ true = any_at (λ x. is_king_attacked p.men foe x) 64 b h.b_on (and_from (is_king_of foe (man_at p.men b)) (is_attacked p.men b (other_side foe)) e hit') in
+          let check : is_in_check p.men foe ≡ true = any_at (λ x. is_king_attacked p.men foe x) 64 b h.b_on
+          (and_from (is_king_of foe (man_at p.men b)) (is_attacked p.men b (other_side foe)) e hit') in
           let safe : is_in_check p.men foe ≡ false = rw h.side at h.sound.safe in
           cc
     ]) refl
@@ -95,10 +99,12 @@ stays_unpromoted man b None h e = refl
 stays_unpromoted man b (Some k) h e = let t = rw e at h in cc
 
 -- Where no man of its own stands, or none at all, the mover itself does not stand.
-pub own_apart : (men : List (Option Man)) (colour : Colour) (kind : Kind) (a b : ℕ) → man_at men a ≡ man_of colour kind → is_of colour (man_at men b) ≡ false → b ≢ a
+pub own_apart : (men : List (Option Man)) (colour : Colour) (kind : Kind) (a b : ℕ) → man_at men a ≡ man_of colour kind
+    → is_of colour (man_at men b) ≡ false → b ≢ a
 own_apart men colour k a b there taken same =
     let x = rw (same, there) at taken in
     let y = is_colour_same colour in cc
 
-pub empty_apart : (men : List (Option Man)) (colour : Colour) (kind : Kind) (a b : ℕ) → man_at men a ≡ man_of colour kind → man_at men b ≡ None → b ≢ a
+pub empty_apart : (men : List (Option Man)) (colour : Colour) (kind : Kind) (a b : ℕ)
+    → man_at men a ≡ man_of colour kind → man_at men b ≡ None → b ≢ a
 empty_apart men colour k a b there empty same = let x = rw (same, there) at empty in cc

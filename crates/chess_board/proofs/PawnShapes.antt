@@ -29,16 +29,25 @@ once_parts men colour a b h =
     (p.0, eqb-true (file_of a) (file_of b) p.1, empty_reads men b p.2)
 
 pub twice_parts : (men : List (Option Man)) (colour : Colour) (a b : ℕ) → steps_twice men colour a b ≡ true →
-    (is_forward colour 2 a b ≡ true) × (file_of a ≡ file_of b) × (rank_of a ≡ second_rank colour) × (man_at men (crossed a b) ≡ None) × (man_at men b ≡ None)
+    (is_forward colour 2 a b ≡ true) × (file_of a ≡ file_of b) × (rank_of a ≡ second_rank colour)
+    × (man_at men (crossed a b) ≡ None) × (man_at men b ≡ None)
 twice_parts men colour a b h =
-    let p = all_five (is_forward colour 2 a b) (eqb (file_of a) (file_of b)) (eqb (rank_of a) (second_rank colour)) (is_empty men (crossed a b)) (is_empty men b) h in
-    (p.0, eqb-true (file_of a) (file_of b) p.1, eqb-true (rank_of a) (second_rank colour) p.2, empty_reads men (crossed a b) p.3, empty_reads men b p.4)
+    let p = all_five (is_forward colour 2 a b) (eqb (file_of a) (file_of b)) (eqb (rank_of a) (second_rank colour))
+    (is_empty men (crossed a b)) (is_empty men b) h in (
+      p.0,
+      eqb-true (file_of a) (file_of b) p.1,
+      eqb-true (rank_of a) (second_rank colour) p.2,
+      empty_reads men (crossed a b) p.3,
+      empty_reads men b p.4,
+    )
 
-pub attack_parts : (men : List (Option Man)) (colour : Colour) (a b : ℕ) → attacks_as men colour Pawn a b ≡ true → (file_gap a b ≡ 1) × (is_forward colour 1 a b ≡ true)
+pub attack_parts : (men : List (Option Man)) (colour : Colour) (a b : ℕ) → attacks_as men colour Pawn a b ≡ true
+    → (file_gap a b ≡ 1) × (is_forward colour 1 a b ≡ true)
 attack_parts men colour a b h = let p = and_parts (eqb (file_gap a b) 1) (is_forward colour 1 a b) h in (eqb-true (file_gap a b) 1 p.0, p.1)
 
 -- A pawn goes one square forward, straight or diagonally, or makes a double step.
-pub pawn_steps : (p : Setup) (colour : Colour) (a b : ℕ) → pawn_goes p colour a b ≡ true → (is_forward colour 1 a b ≡ true) ⊎ (steps_twice p.men colour a b ≡ true)
+pub pawn_steps : (p : Setup) (colour : Colour) (a b : ℕ) → pawn_goes p colour a b ≡ true
+    → (is_forward colour 1 a b ≡ true) ⊎ (steps_twice p.men colour a b ≡ true)
 pawn_steps p colour a b h =
     let once = steps_once p.men colour a b in
     let twice = steps_twice p.men colour a b in
@@ -47,7 +56,8 @@ pawn_steps p colour a b h =
     elim (or_cases (once || twice || taking) passing h) [
       | inr h ↦ inl (attack_parts p.men colour a b ((and_parts (attacks_as p.men colour Pawn a b) (is_square p.target b) h).0)).1
       | inl h ↦ elim (or_cases (once || twice) taking h) [
-        | inr h ↦ inl (attack_parts p.men colour a b ((and_parts (attacks_as p.men colour Pawn a b) (is_of (other_side colour) (man_at p.men b)) h).0)).1
+        | inr h ↦ inl (attack_parts p.men colour a b
+            ((and_parts (attacks_as p.men colour Pawn a b) (is_of (other_side colour) (man_at p.men b)) h).0)).1
         | inl h ↦ elim (or_cases once twice h) [
           | inl h ↦ inl (once_parts p.men colour a b h).0
           | inr h ↦ inr h
@@ -69,7 +79,8 @@ target_parts men Black b h =
     let p = all_four (eqb (rank_of b) 2) (is_empty men b) (is_pawn_of White (man_at men (b + 8))) (is_empty men (b - 8)) h in
     (eqb-true (rank_of b) 2 p.0, empty_reads men b p.1, p.2)
 
-target_holds : (p : Setup) (colour : Colour) (b : ℕ) → IsSound p → p.side ≡ colour → is_square p.target b ≡ true → has_pawn_of_target p.men colour b ≡ true
+target_holds : (p : Setup) (colour : Colour) (b : ℕ) → IsSound p → p.side ≡ colour → is_square p.target b ≡ true
+    → has_pawn_of_target p.men colour b ≡ true
 target_holds p colour b sound side here =
     (elim (p.target) as (λ o. p.target ≡ o → has_pawn_of_target p.men colour b ≡ true) [
       | None ↦ λ e. let t = rw e at here in cc
@@ -79,7 +90,8 @@ target_holds p colour b sound side here =
           rw same at held
     ]) refl
 
-no_target : (p : Setup) (colour : Colour) (b : ℕ) → IsSound p → p.side ≡ colour → (has_pawn_of_target p.men colour b ≡ true → ⊥) → is_square p.target b ≡ false
+no_target : (p : Setup) (colour : Colour) (b : ℕ) → IsSound p → p.side ≡ colour
+    → (has_pawn_of_target p.men colour b ≡ true → ⊥) → is_square p.target b ≡ false
 no_target p colour b sound side fails =
     (elim (is_square p.target b) as (λ x. is_square p.target b ≡ x → x ≡ false) [
       | false ↦ λ e. refl
@@ -88,7 +100,8 @@ no_target p colour b sound side fails =
 
 -- The other ways lead to no target: a single step would come from the square on which the passed pawn stands, a double step
 -- ends on another rank, and on the square of a capture a man stands.
-once_no_target : (p : Setup) (colour : Colour) (a b : ℕ) → man_at p.men a ≡ man_of colour Pawn → steps_once p.men colour a b ≡ true → has_pawn_of_target p.men colour b ≡ true → ⊥
+once_no_target : (p : Setup) (colour : Colour) (a b : ℕ) → man_at p.men a ≡ man_of colour Pawn
+    → steps_once p.men colour a b ≡ true → has_pawn_of_target p.men colour b ≡ true → ⊥
 once_no_target p White a b there goes held =
     let s = once_parts p.men White a b goes in let r = eqb-true (rank_of b) (rank_of a + 1) s.0 in
     let t = target_parts p.men White b held in
@@ -108,17 +121,20 @@ twice_no_target p Black a b goes held =
     let s = twice_parts p.men Black a b goes in let r = eqb-true (rank_of a) (rank_of b + 2) s.0 in
     let t = target_parts p.men Black b held in omega arith
 
-takes_no_target : (p : Setup) (colour : Colour) (b : ℕ) → is_of (other_side colour) (man_at p.men b) ≡ true → has_pawn_of_target p.men colour b ≡ true → ⊥
+takes_no_target : (p : Setup) (colour : Colour) (b : ℕ) → is_of (other_side colour) (man_at p.men b) ≡ true
+    → has_pawn_of_target p.men colour b ≡ true → ⊥
 takes_no_target p colour b taken held =
     let t = target_parts p.men colour b held in
     let x = rw t.1 at taken in cc
 
 -- En passant: the passed pawn stands beside the capturing one and beyond the target.
-captured_is : (p : Setup) (colour : Colour) (a b : ℕ) → a < 64 → b < 64 → is_forward colour 1 a b ≡ true → rank_of b ≡ target_rank colour → captured_pawn a b ≡ beyond colour b
+captured_is : (p : Setup) (colour : Colour) (a b : ℕ) → a < 64 → b < 64 → is_forward colour 1 a b ≡ true
+    → rank_of b ≡ target_rank colour → captured_pawn a b ≡ beyond colour b
 captured_is p White a b a_on b_on forward rank = let r = eqb-true (rank_of b) (rank_of a + 1) forward in omega arith
 captured_is p Black a b a_on b_on forward rank = let r = eqb-true (rank_of a) (rank_of b + 1) forward in omega arith
 
-captured_rank : (colour : Colour) (a b : ℕ) → is_forward colour 1 a b ≡ true → rank_of b ≡ target_rank colour → (2 < rank_of a) × (rank_of a < 5) × (rank_of a ≢ rank_of b)
+captured_rank : (colour : Colour) (a b : ℕ) → is_forward colour 1 a b ≡ true → rank_of b ≡ target_rank colour
+    → (2 < rank_of a) × (rank_of a < 5) × (rank_of a ≢ rank_of b)
 captured_rank White a b forward rank = let r = eqb-true (rank_of b) (rank_of a + 1) forward in (omega arith, omega arith, λ e. omega arith)
 captured_rank Black a b forward rank = let r = eqb-true (rank_of a) (rank_of b + 1) forward in (omega arith, omega arith, λ e. omega arith)
 
@@ -126,7 +142,8 @@ not_last : (colour : Colour) (b : ℕ) → rank_of b ≡ target_rank colour → 
 not_last White b h = rw h refl
 not_last Black b h = rw h refl
 
-en_passant_shape : (p : Setup) (colour : Colour) (m : Move) → Mover p colour Pawn m → takes_en_passant p colour m.origin m.target ≡ true → IsPassing p colour Pawn m
+en_passant_shape : (p : Setup) (colour : Colour) (m : Move) → Mover p colour Pawn m
+    → takes_en_passant p colour m.origin m.target ≡ true → IsPassing p colour Pawn m
 en_passant_shape p colour m h goes =
     let q = and_parts (attacks_as p.men colour Pawn m.origin m.target) (is_square p.target m.target) goes in
     let g = attack_parts p.men colour m.origin m.target q.0 in
@@ -147,10 +164,12 @@ en_passant_shape p colour m h goes =
     }
 
 -- The other ways are plain.
-plain_men : (p : Setup) (colour : Colour) (m : Move) → is_square p.target m.target ≡ false → men_after p (a_man colour Pawn) m ≡ moved p.men m.origin m.target (becomes (a_man colour Pawn) m.promotion)
+plain_men : (p : Setup) (colour : Colour) (m : Move) → is_square p.target m.target ≡ false
+    → men_after p (a_man colour Pawn) m ≡ moved p.men m.origin m.target (becomes (a_man colour Pawn) m.promotion)
 plain_men p colour m h = rw h refl
 
-stepping_shape : (p : Setup) (colour : Colour) (m : Move) → Mover p colour Pawn m → man_at p.men m.target ≡ None → (has_pawn_of_target p.men colour m.target ≡ true → ⊥) → IsPlain p colour Pawn m
+stepping_shape : (p : Setup) (colour : Colour) (m : Move) → Mover p colour Pawn m → man_at p.men m.target ≡ None
+    → (has_pawn_of_target p.men colour m.target ≡ true → ⊥) → IsPlain p colour Pawn m
 stepping_shape p colour m h empty fails = record {
   men = plain_men p colour m (no_target p colour m.target h.sound h.side fails);
   not_own = rw empty refl;
@@ -163,7 +182,8 @@ enemy_is_not_own Black None h = cc
 enemy_is_not_own White (Some man) h = rw (sym (colour_same Black man.colour h)) refl
 enemy_is_not_own Black (Some man) h = rw (sym (colour_same White man.colour h)) refl
 
-taking_shape : (p : Setup) (colour : Colour) (m : Move) → Mover p colour Pawn m → takes p.men colour Pawn m.origin m.target ≡ true → IsPlain p colour Pawn m
+taking_shape : (p : Setup) (colour : Colour) (m : Move) → Mover p colour Pawn m
+    → takes p.men colour Pawn m.origin m.target ≡ true → IsPlain p colour Pawn m
 taking_shape p colour m h goes =
     let q = and_parts (attacks_as p.men colour Pawn m.origin m.target) (is_of (other_side colour) (man_at p.men m.target)) goes in
     record {
@@ -183,8 +203,10 @@ pawn_shape p colour m h =
       | inl g ↦ elim (or_cases (once || twice) taking g) [
         | inr g ↦ inl (taking_shape p colour m h g)
         | inl g ↦ elim (or_cases once twice g) [
-          | inl g ↦ inl (stepping_shape p colour m h ((once_parts p.men colour m.origin m.target g).2) (once_no_target p colour m.origin m.target h.there g))
-          | inr g ↦ inl (stepping_shape p colour m h ((twice_parts p.men colour m.origin m.target g).4) (twice_no_target p colour m.origin m.target g))
+          | inl g ↦ inl (stepping_shape p colour m h ((once_parts p.men colour m.origin m.target g).2)
+              (once_no_target p colour m.origin m.target h.there g))
+          | inr g ↦ inl (stepping_shape p colour m h ((twice_parts p.men colour m.origin m.target g).4)
+              (twice_no_target p colour m.origin m.target g))
         ]
       ]
     ]

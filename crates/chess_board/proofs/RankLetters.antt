@@ -1,5 +1,6 @@
 -- The reader of a rank undoes the letters and digits of `Placement`, and takes no other bytes.
-use Rattle.std.proofs.Common.{◌≡◌, ℕ, zero, suc, ◌+◌, ◌-◌, ◌<◌, ◌≤◌, [], ◌∷◌, Bool, true, false, refl, ap, sym, ◌∙◌, arith, Option, Some, None, nat_lt, if◌then◌else◌}
+use Rattle.std.proofs.Common.{◌≡◌, ℕ, zero, suc, ◌+◌, ◌-◌, ◌<◌, ◌≤◌, [], ◌∷◌, Bool, true, false, refl}
+use Rattle.std.proofs.Common.{ap, sym, ◌∙◌, arith, Option, Some, None, nat_lt, if◌then◌else◌}
 use Rattle.std.proofs.lemmas.Bool.Decides.{nat_tests}
 use Rattle.chess_board.specs.declared.men.Colour.{Colour}
 use Rattle.chess_board.specs.declared.men.Colour.TheVariants.{White, Black}
@@ -60,7 +61,8 @@ kind_of_man colour (Some kind) man e =
     let same : record { colour = colour; kind = kind } ≡ man = cc in
     (ap (λ m. m.colour) (sym same), ap (λ m. Some m.kind) same)
 
-man_spelt_if : (capital : Bool) (b : ℕ) (man : Man) → capital ≡ nat_lt b 97 → (if capital then man_as White (kind_of_letter b) else man_as Black (kind_of_letter (b - 32))) ≡ Some man → man_letter man ≡ b
+man_spelt_if : (capital : Bool) (b : ℕ) (man : Man) → capital ≡ nat_lt b 97 → (if capital then man_as White (kind_of_letter b)
+    else man_as Black (kind_of_letter (b - 32))) ≡ Some man → man_letter man ≡ b
 man_spelt_if true b man capital e =
     let told = kind_of_man White (kind_of_letter b) man e in
     ap (λ c. coloured_letter c man.kind) told.0 ∙ kind_spelt b man.kind told.1

@@ -32,7 +32,8 @@ seen men (Some man) colour a b h =
 pub attacked_reads : AttackedReads
 attacked_reads men b colour = (
   (λ h. let r = any_some (λ a. attacks_from men colour a b) 64 h in let s = seen men (man_at men r.0) colour r.0 b r.2 in (r.0, r.1, s.0, s.1, s.2)),
-  (λ w. any_at (λ a. attacks_from men colour a b) 64 w.0 w.1 (rw w.3 (and_from (is_colour colour colour) (attacks_as men colour w.2 w.0 b) (is_colour_same colour) w.4))),
+  (λ w. any_at (λ a. attacks_from men colour a b) 64 w.0 w.1
+      (rw w.3 (and_from (is_colour colour colour) (attacks_as men colour w.2 w.0 b) (is_colour_same colour) w.4))),
 )
 
 pub clear_reads : ClearReads

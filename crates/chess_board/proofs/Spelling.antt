@@ -7,13 +7,19 @@ use Rattle.chess_board.specs.Placement.{placement_text}
 use Rattle.chess_board.specs.Fields.{side_text, castling_text, target_text, SpellsTarget, SpellsCounter}
 use Rattle.chess_board.specs.Soundness.{IsSound}
 use Rattle.chess_board.specs.Fens.{FenValue, Fields, SpellsSetup, Spells, parts, fields_of, position_text, fen_text}
-use Rattle.chess_board.proofs.FieldTexts.{IsSpaceless, side_once, target_once, side_spaceless, castling_spaceless, target_spaceless, counter_spaceless, castling_spelt, castling_read, counter_read}
+use Rattle.chess_board.proofs.FieldTexts.{IsSpaceless, side_once, target_once, side_spaceless, castling_spaceless, target_spaceless}
+use Rattle.chess_board.proofs.FieldTexts.{counter_spaceless, castling_spelt, castling_read, counter_read}
 use Rattle.chess_board.proofs.Targets.{target_on}
 use Rattle.chess_board.proofs.PlacementOnce.{placement_once, placement_has_no_space}
 
 -- the first four of some parts
 abbrev pub fields_in : List (List ℕ) → Fields
-fields_in ps = record { placement = slice_index_or ps 0 []; side = slice_index_or ps 1 []; castling = slice_index_or ps 2 []; target = slice_index_or ps 3 [] }
+fields_in ps = record {
+  placement = slice_index_or ps 0 [];
+  side = slice_index_or ps 1 [];
+  castling = slice_index_or ps 2 [];
+  target = slice_index_or ps 3 [];
+}
 
 -- A text in six parts is spelt by what they spell.
 pub spells_of : (text a b c d e g : List ℕ) (f : FenValue) → parts text ≡ a ∷ b ∷ c ∷ d ∷ e ∷ g ∷ []
@@ -31,7 +37,8 @@ setup_once f p q a b =
     let men : p.men ≡ q.men = placement_once p.men q.men a.placement.0 b.placement.0 (sym a.placement.1 ∙ b.placement.1) in
     let side : p.side ≡ q.side = side_once p.side q.side (sym a.side ∙ b.side) in
     let rights : p.rights ≡ q.rights = a.castling.1 ∙ sym b.castling.1 in
-    let target : p.target ≡ q.target = target_once q.side p.target q.target f.target (subst (λ s. SpellsTarget s f.target p.target) side a.target) b.target in
+    let target : p.target ≡ q.target =
+    target_once q.side p.target q.target f.target (subst (λ s. SpellsTarget s f.target p.target) side a.target) b.target in
     λ i. record { men = men i; side = side i; rights = rights i; target = target i }
 
 pub spelt_once : (text : List ℕ) (f g : FenValue) → Spells text f → Spells text g → f ≡ g
@@ -64,7 +71,8 @@ regroup a b c d e g =
 
 -- The text that is printed is cut into its six fields.
 pub printed_parts : (f : FenValue) → f.halfmove ≤ 9999 → f.fullmove ≤ 9999 → parts (fen_text f)
-    ≡ placement_text f.position.men ∷ side_text f.position.side ∷ castling_text f.position.rights ∷ target_text f.position.target ∷ decimal f.halfmove ∷ decimal f.fullmove ∷ []
+    ≡ placement_text f.position.men ∷ side_text f.position.side ∷ castling_text f.position.rights ∷ target_text f.position.target
+    ∷ decimal f.halfmove ∷ decimal f.fullmove ∷ []
 unfolding fen_text position_text
 printed_parts f half full =
     let a = placement_text f.position.men in
@@ -72,13 +80,15 @@ printed_parts f half full =
     let c = castling_text f.position.rights in
     let d = target_text f.position.target in
     ap parts (regroup a b c d (decimal f.halfmove) (decimal f.fullmove)) ∙ parts_joined a b c d (decimal f.halfmove) (decimal f.fullmove)
-    (placement_has_no_space f.position.men) (side_spaceless f.position.side) (castling_spaceless f.position.rights) (target_spaceless f.position.target)
+    (placement_has_no_space f.position.men) (side_spaceless f.position.side)
+    (castling_spaceless f.position.rights) (target_spaceless f.position.target)
     (counter_spaceless f.halfmove half) (counter_spaceless f.fullmove full)
 
 -- The text that is printed for a FEN of a sound position spells it.
 pub printed_spells : (f : FenValue) → IsSound f.position → f.halfmove ≤ 9999 → f.fullmove ≤ 9999 → Spells (fen_text f) f
 printed_spells f sound half full =
-    spells_of (fen_text f) (placement_text f.position.men) (side_text f.position.side) (castling_text f.position.rights) (target_text f.position.target)
+    spells_of (fen_text f) (placement_text f.position.men) (side_text f.position.side)
+    (castling_text f.position.rights) (target_text f.position.target)
     (decimal f.halfmove) (decimal f.fullmove) f (printed_parts f half full)
     (record {
       placement = (sound.squares, refl);

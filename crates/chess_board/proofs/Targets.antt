@@ -25,7 +25,8 @@ below : (side : Colour) (square : ℕ) → rank_of square ≡ target_rank side �
 below White square h = omega arith
 below Black square h = omega arith
 
-on_board : (men : List (Option Man)) (side : Colour) (target : Option ℕ) → option_map_or (has_pawn_of_target men side) target true ≡ true → IsTargetOf side target
+on_board : (men : List (Option Man)) (side : Colour) (target : Option ℕ)
+    → option_map_or (has_pawn_of_target men side) target true ≡ true → IsTargetOf side target
 on_board men side None h = tt
 on_board men side (Some square) h = let rank : rank_of square ≡ target_rank side = on_rank men side square h in (below side square rank, rank)
 

@@ -1,5 +1,6 @@
 -- A text that is cut at a byte.
-use Rattle.std.proofs.Common.{◌≡◌, ◌≢◌, ℕ, ◌+◌, ◌-◌, ◌<◌, List, [], ◌∷◌, ◌++◌, true, false, length, ap, sym, ◌∙◌, arith, take, drop, get_or, ◌==◌, take-append-drop, append_assoc, refl, suc}
+use Rattle.std.proofs.Common.{◌≡◌, ◌≢◌, ℕ, ◌+◌, ◌-◌, ◌<◌, List, [], ◌∷◌, ◌++◌, true, false, length, ap, sym, ◌∙◌}
+use Rattle.std.proofs.Common.{arith, take, drop, get_or, ◌==◌, take-append-drop, append_assoc, refl, suc}
 use Rattle.std.specs.List.{slice_split, join_with_byte, All}
 use Rattle.std.proofs.lemmas.Bool.Decides.{nat_tests}
 use Rattle.std.proofs.lemmas.List.{drop_more, take_rest}
@@ -20,7 +21,8 @@ slice_split_whole byte text lacks = slice_split_none (λ b. b == byte) text (λ 
 pub slice_split_cut : (byte : ℕ) (text : List ℕ) (at : ℕ) → at < length text → All (λ b. b ≢ byte) (take at text) → get_or text at 0 ≡ byte
     → slice_split (λ b. b == byte) text ≡ take at text ∷ slice_split (λ b. b == byte) (take (length text - (at + 1)) (drop (at + 1) text))
 slice_split_cut byte text at inside lacks here =
-    let whole : take at text ++ get_or text at 0 ∷ drop (at + 1) text ≡ text = ap (λ t. take at text ++ t) (sym (drop_more text at 0 inside)) ∙ take-append-drop at text in
+    let whole : take at text ++ get_or text at 0 ∷ drop (at + 1) text ≡ text =
+    ap (λ t. take at text ++ t) (sym (drop_more text at 0 inside)) ∙ take-append-drop at text in
     ap (slice_split (λ b. b == byte)) (sym whole)
     ∙ slice_split_at (λ b. b == byte) (take at text) (get_or text at 0) (drop (at + 1) text)
     (λ k d below. eqb-false (get_or (take at text) k d) byte (lacks k d below)) (eqb-true (get_or text at 0) byte here)

@@ -1,9 +1,12 @@
 -- The faults of a FEN: their names as printed, their order, and those of a position that is spelt and not sound.
 use Rattle.std.specs.Prelude.{◌≡◌, ◌⊎◌, ℕ, List, [], ◌∷◌, true, false, codes}
 use Rattle.chess_board.specs.declared.faults.FenFault.{FenFault}
-use Rattle.chess_board.specs.declared.faults.FenFault.TheVariants.{FieldCount, BadPlacement, BadSide, BadCastling, BadTarget, BadCounter, BadKings, PawnOnEndRank, TooManyMen, RightWithoutMen, TargetWithoutPawn, OpponentInCheck}
+use Rattle.chess_board.specs.declared.faults.FenFault.TheVariants.{FieldCount, BadPlacement, BadSide, BadCastling, BadTarget}
+use Rattle.chess_board.specs.declared.faults.FenFault.TheVariants.{BadCounter, BadKings, PawnOnEndRank, TooManyMen, RightWithoutMen}
+use Rattle.chess_board.specs.declared.faults.FenFault.TheVariants.{TargetWithoutPawn, OpponentInCheck}
 use Rattle.chess_board.specs.Positions.{Setup}
-use Rattle.chess_board.specs.Soundness.{HasOneKingEach, HasAtMostSixteenEach, has_no_end_pawn, has_men_of_rights, has_pawn_of_some_target, is_opponent_in_check}
+use Rattle.chess_board.specs.Soundness.{HasOneKingEach, HasAtMostSixteenEach, has_no_end_pawn, has_men_of_rights}
+use Rattle.chess_board.specs.Soundness.{has_pawn_of_some_target, is_opponent_in_check}
 
 abbrev pub fault_name : FenFault → List ℕ
 fault_name FieldCount = codes "FieldCount"

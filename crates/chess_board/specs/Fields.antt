@@ -1,7 +1,8 @@
 -- The fields of a FEN after the placement: side to move, castling, en passant target, counters (PGN Specification, sections
 -- 16.1.3.2 to 16.1.3.6). Own to this project: castling letters are read in any order, a dash is read also after a double
 -- step, a counter has one to four digits, and a fullmove number may be 0.
-use Rattle.std.specs.Prelude.{◌≡◌, ◌⊎◌, ℕ, ◌+◌, ◌-◌, ◌*◌, ◌<◌, ◌≤◌, List, [], ◌∷◌, ◌++◌, Bool, Option, Some, None, All, count_by, codes, fold, length, if◌then◌else◌, ◌==◌, ◌||◌}
+use Rattle.std.specs.Prelude.{◌≡◌, ◌⊎◌, ℕ, ◌+◌, ◌-◌, ◌*◌, ◌<◌, ◌≤◌, List, [], ◌∷◌, ◌++◌, Bool, Option, Some}
+use Rattle.std.specs.Prelude.{None, All, count_by, codes, fold, length, if◌then◌else◌, ◌==◌, ◌||◌}
 use Rattle.std.specs.List.{list_any}
 use Rattle.chess_board.specs.Characters.{char}
 use Rattle.chess_board.specs.declared.men.Colour.{Colour}

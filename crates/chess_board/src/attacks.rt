@@ -3,7 +3,9 @@
 ghost use Rattle.std.specs.Prelude.{◌≡◌, ◌+◌, ◌*◌, ◌<◌, ◌≤◌, ◌⊎◌, true, ◌||◌};
 ghost use Rattle.chess_board.specs.Squares.{gap};
 ghost use Rattle.chess_board.specs.inside.Walks.{toward_of};
-ghost use Rattle.chess_board.specs.Attacks.{is_clear as clear, is_rook_line as rook_line, is_bishop_line as bishop_line, is_forward as forward, attacks_as as attacks, attacks_from as attacks_at, is_attacked, is_king_attacked as king_attacked, is_in_check};
+ghost use Rattle.chess_board.specs.Attacks.{is_clear as clear, is_rook_line as rook_line, is_bishop_line as bishop_line};
+ghost use Rattle.chess_board.specs.Attacks.{is_forward as forward, attacks_as as attacks, attacks_from as attacks_at};
+ghost use Rattle.chess_board.specs.Attacks.{is_attacked, is_king_attacked as king_attacked, is_in_check};
 
 use crate::boards::Board;
 use crate::men::{Colour, Kind, Man, is_king_of};

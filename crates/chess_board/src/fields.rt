@@ -3,7 +3,8 @@
 ghost use Rattle.std.specs.Prelude.{◌≡◌, ◌≢◌, ◌↔◌, ℕ, ◌+◌, ◌++◌, ◌∷◌, ◌<◌, ◌≤◌, IsTrue, IfSome, IfNone, Option, decimal};
 ghost use Rattle.arrayvec.specs.ArrayString.{array_string_len};
 ghost use Rattle.chess_board.specs.declared.men.Colour.{Colour as ColourValue};
-ghost use Rattle.chess_board.specs.Fields.{side_text, times, has_letter, rights_in, has_any, IsRightLetters, IsCastling, SpellsCastling, castling_text, target_rank, target_text, SpellsTarget, IsCounter, SpellsCounter};
+ghost use Rattle.chess_board.specs.Fields.{side_text, times, has_letter, rights_in, has_any, IsRightLetters, IsCastling, SpellsCastling};
+ghost use Rattle.chess_board.specs.Fields.{castling_text, target_rank, target_text, SpellsTarget, IsCounter, SpellsCounter};
 
 use crate::men::{Colour, Rights};
 use crate::squares::{Square, push_square};

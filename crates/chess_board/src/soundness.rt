@@ -4,7 +4,8 @@ ghost use Rattle.std.specs.Prelude.{◌≡◌, ◌↔◌, IsTrue, ◌<◌, count
 ghost use Rattle.std.specs.Option.{option_map_or};
 ghost use Rattle.chess_board.specs.Men.{is_of as place_is_of};
 ghost use Rattle.chess_board.specs.inside.KindTests.{is_king_of as place_is_king_of};
-ghost use Rattle.chess_board.specs.Soundness.{is_no_end_pawn, has_no_end_pawn, has_men_of_right, has_men_of_rights, has_pawn_of_target, HasOneKingEach, HasAtMostSixteenEach};
+ghost use Rattle.chess_board.specs.Soundness.{is_no_end_pawn, has_no_end_pawn, has_men_of_right, has_men_of_rights};
+ghost use Rattle.chess_board.specs.Soundness.{has_pawn_of_target, HasOneKingEach, HasAtMostSixteenEach};
 
 use crate::castling::{king_home, rook_home};
 use crate::men::{Colour, Man, Rights, Wing, is_king_of, is_of, is_pawn, is_pawn_of, is_rook_of};

@@ -54,7 +54,8 @@ no_man_stays taken by King s = no_king_stays s
 
 place_not_itself : (taken : ℕ → Bool) (by : Colour) (place : Option Man) (s : ℕ) → place_hits taken by place s s ≡ false
 place_not_itself taken by None s = refl
-place_not_itself taken by (Some man) s = ap (λ x. is_colour by man.colour && x) (no_man_stays taken by man.kind s) ∙ and-false (is_colour by man.colour)
+place_not_itself taken by (Some man) s =
+    ap (λ x. is_colour by man.colour && x) (no_man_stays taken by man.kind s) ∙ and-false (is_colour by man.colour)
 
 none_between : (a s : ℕ) → stands_between a s s ≡ false
 none_between a s = false_from_ne_true (stands_between a s s) (λ h.

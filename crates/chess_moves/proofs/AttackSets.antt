@@ -32,20 +32,31 @@ four a b c d t p q r s ea eb ec ed = rw (has_or (bit_or (bit_or a b) c) d t, has
 
 pub five : (a b c d e t : ℕ) (p q r s u : Bool) → has a t ≡ p → has b t ≡ q → has c t ≡ r → has d t ≡ s → has e t ≡ u
     → has (bit_or (bit_or (bit_or (bit_or a b) c) d) e) t ≡ (p || q || r || s || u)
-five a b c d e t p q r s u ea eb ec ed ee = rw (has_or (bit_or (bit_or (bit_or a b) c) d) e t, ee) (ap (λ (x : Bool). x || u) (four a b c d t p q r s ea eb ec ed))
+five a b c d e t p q r s u ea eb ec ed ee =
+    rw (has_or (bit_or (bit_or (bit_or a b) c) d) e t, ee) (ap (λ (x : Bool). x || u) (four a b c d t p q r s ea eb ec ed))
 
 pub eight : (a b c d e f g h t : ℕ) (p q r s u v w x : Bool) → has a t ≡ p → has b t ≡ q → has c t ≡ r → has d t ≡ s
     → has e t ≡ u → has f t ≡ v → has g t ≡ w → has h t ≡ x
     → has (bit_or (bit_or (bit_or (bit_or (bit_or (bit_or (bit_or a b) c) d) e) f) g) h) t ≡ (p || q || r || s || u || v || w || x)
 eight a b c d e f g h t p q r s u v w x ea eb ec ed ee ef eg eh =
     let first : ℕ = bit_or (bit_or (bit_or a b) c) d in
-    rw (has_or (bit_or (bit_or (bit_or first e) f) g) h t, has_or (bit_or (bit_or first e) f) g t, has_or (bit_or first e) f t, has_or first e t, ee, ef, eg, eh)
+    rw (
+      has_or (bit_or (bit_or (bit_or first e) f) g) h t,
+      has_or (bit_or (bit_or first e) f) g t,
+      has_or (bit_or first e) f t,
+      has_or first e t,
+      ee,
+      ef,
+      eg,
+      eh,
+    )
     (ap (λ (y : Bool). y || u || v || w || x) (four a b c d t p q r s ea eb ec ed))
 
 -- what lies on four rays and is not hidden on one of them
 pub open_four : (lines a b c d t : ℕ) (p q r s u v w x : Bool) → bit_or (bit_or (bit_or a b) c) d < 2 ^ 64 → t < 64
     → has lines t ≡ (p || q || r || s) → has a t ≡ (p && u) → has b t ≡ (q && v) → has c t ≡ (r && w) → has d t ≡ (s && x)
-    → (p ≡ true → q ≡ true → ⊥) → (p ≡ true → r ≡ true → ⊥) → (p ≡ true → s ≡ true → ⊥) → (q ≡ true → r ≡ true → ⊥) → (q ≡ true → s ≡ true → ⊥) → (r ≡ true → s ≡ true → ⊥)
+    → (p ≡ true → q ≡ true → ⊥) → (p ≡ true → r ≡ true → ⊥) → (p ≡ true → s ≡ true → ⊥) → (q ≡ true → r ≡ true → ⊥)
+    → (q ≡ true → s ≡ true → ⊥) → (r ≡ true → s ≡ true → ⊥)
     → has (bit_and lines (bit_not w64 (bit_or (bit_or (bit_or a b) c) d))) t ≡ (p && not u || q && not v || r && not w || s && not x)
 open_four lines a b c d t p q r s u v w x fits l on ea eb ec ed pq pr ps qr qs rs =
     has_less lines (bit_or (bit_or (bit_or a b) c) d) t fits l
@@ -66,7 +77,8 @@ open_four lines a b c d t p q r s u v w x fits l on ea eb ec ed pq pr ps qr qs r
     third false = refl
 
     one_ray : (p q r s u v w x : Bool)
-        → (p ≡ true → q ≡ true → ⊥) → (p ≡ true → r ≡ true → ⊥) → (p ≡ true → s ≡ true → ⊥) → (q ≡ true → r ≡ true → ⊥) → (q ≡ true → s ≡ true → ⊥) → (r ≡ true → s ≡ true → ⊥)
+        → (p ≡ true → q ≡ true → ⊥) → (p ≡ true → r ≡ true → ⊥) → (p ≡ true → s ≡ true → ⊥) → (q ≡ true → r ≡ true → ⊥)
+        → (q ≡ true → s ≡ true → ⊥) → (r ≡ true → s ≡ true → ⊥)
         → ((p || q || r || s) && not ((p && u) || (q && v) || (r && w) || (s && x))) ≡ (p && not u || q && not v || r && not w || s && not x)
     one_ray true true r s u v w x pq pr ps qr qs rs = absurd (pq refl refl)
     one_ray true false true s u v w x pq pr ps qr qs rs = absurd (pr refl refl)
@@ -107,7 +119,12 @@ turned false false false false = refl
 -- what a bishop and what a rook sees, seen back
 pub slants_back : (taken : ℕ → Bool) (a b : ℕ) → reaches_as_bishop taken b a ≡ reaches_as_bishop taken a b
 unfolding reaches_as_bishop
-slants_back taken a b = rw (reaches_back taken SouthWest a b, reaches_back taken NorthWest a b, reaches_back taken NorthEast a b, reaches_back taken SouthEast a b)
+slants_back taken a b = rw (
+  reaches_back taken SouthWest a b,
+  reaches_back taken NorthWest a b,
+  reaches_back taken NorthEast a b,
+  reaches_back taken SouthEast a b,
+)
     (turned (reaches taken NorthEast a b) (reaches taken SouthEast a b) (reaches taken SouthWest a b) (reaches taken NorthWest a b))
 
 pub straight_back : (taken : ℕ → Bool) (a b : ℕ) → reaches_as_rook taken b a ≡ reaches_as_rook taken a b
@@ -118,11 +135,17 @@ straight_back taken a b = rw (reaches_back taken South a b, reaches_back taken W
 -- what is reached depends on the squares of the board alone
 pub reaches_same : (p q : ℕ → Bool) → ((s : ℕ) → s < 64 → p s ≡ q s) → (d : Direction) (a b : ℕ) → reaches p d a b ≡ reaches q d a b
 reaches_same p q h d a b = ap (λ (x : Bool). toward d a b && not x)
-    (any_same (λ s. toward d a s && toward d s b && p s) (λ s. toward d a s && toward d s b && q s) 64 (λ s l. ap (λ (x : Bool). toward d a s && toward d s b && x) (h s l)))
+    (any_same (λ s. toward d a s && toward d s b && p s) (λ s. toward d a s && toward d s b && q s) 64
+    (λ s l. ap (λ (x : Bool). toward d a s && toward d s b && x) (h s l)))
 
 pub slants_same : (p q : ℕ → Bool) → ((s : ℕ) → s < 64 → p s ≡ q s) → (a b : ℕ) → reaches_as_bishop p a b ≡ reaches_as_bishop q a b
 unfolding reaches_as_bishop
-slants_same p q h a b = rw (reaches_same p q h NorthEast a b, reaches_same p q h SouthEast a b, reaches_same p q h SouthWest a b, reaches_same p q h NorthWest a b)
+slants_same p q h a b = rw (
+  reaches_same p q h NorthEast a b,
+  reaches_same p q h SouthEast a b,
+  reaches_same p q h SouthWest a b,
+  reaches_same p q h NorthWest a b,
+)
 
 pub straight_same : (p q : ℕ → Bool) → ((s : ℕ) → s < 64 → p s ≡ q s) → (a b : ℕ) → reaches_as_rook p a b ≡ reaches_as_rook q a b
 unfolding reaches_as_rook
@@ -138,7 +161,8 @@ by_kind Queen p n sl st k = sl || st
 by_kind King p n sl st k = k
 
 as_kind : (own : Bool) (kind : Kind) (p n sl st k : Bool)
-    → ((own && is_pawn_kind kind) && p || (own && is_knight_kind kind) && n || (own && is_diagonal_kind kind) && sl || (own && is_straight_kind kind) && st || (own && is_king_kind kind) && k)
+    → ((own && is_pawn_kind kind) && p || (own && is_knight_kind kind) && n || (own && is_diagonal_kind kind) && sl
+    || (own && is_straight_kind kind) && st || (own && is_king_kind kind) && k)
     ≡ (own && by_kind kind p n sl st k)
 unfolding by_kind
 as_kind false man p n sl st k = refl
@@ -157,7 +181,8 @@ as_kind true Queen p n false false k = refl
 as_kind true King p n sl st k = refl
 
 hits_by_kind : (taken : ℕ → Bool) (by : Colour) (kind : Kind) (a b : ℕ)
-    → by_kind kind (leaps (capture_of by) a b) (leaps KnightLeap a b) (reaches_as_bishop taken a b) (reaches_as_rook taken a b) (leaps KingStep a b) ≡ hits_as taken by kind a b
+    → by_kind kind (leaps (capture_of by) a b) (leaps KnightLeap a b) (reaches_as_bishop taken a b) (reaches_as_rook taken a b)
+    (leaps KingStep a b) ≡ hits_as taken by kind a b
 unfolding by_kind
 hits_by_kind taken by Pawn a b = refl
 hits_by_kind taken by Knight a b = refl
@@ -168,12 +193,14 @@ hits_by_kind taken by King a b = refl
 
 -- the five tests of a place say whether its man attacks
 pub place_by_kind : (taken : ℕ → Bool) (by : Colour) (place : Option Man) (a b : ℕ)
-    → (is_one by is_pawn_kind place && leaps (capture_of by) a b || is_one by is_knight_kind place && leaps KnightLeap a b || is_one by is_diagonal_kind place && reaches_as_bishop taken a b
+    → (is_one by is_pawn_kind place && leaps (capture_of by) a b || is_one by is_knight_kind place && leaps KnightLeap a b
+    || is_one by is_diagonal_kind place && reaches_as_bishop taken a b
     || is_one by is_straight_kind place && reaches_as_rook taken a b || is_one by is_king_kind place && leaps KingStep a b)
     ≡ place_hits taken by place a b
 place_by_kind taken by None a b = refl
 place_by_kind taken by (Some man) a b =
-    as_kind (is_colour by man.colour) man.kind (leaps (capture_of by) a b) (leaps KnightLeap a b) (reaches_as_bishop taken a b) (reaches_as_rook taken a b) (leaps KingStep a b)
+    as_kind (is_colour by man.colour) man.kind (leaps (capture_of by) a b) (leaps KnightLeap a b) (reaches_as_bishop taken a b)
+    (reaches_as_rook taken a b) (leaps KingStep a b)
     ∙ ap (λ x. is_colour by man.colour && x) (hits_by_kind taken by man.kind a b)
 
 -- the set of a square's attackers, by sets
@@ -191,13 +218,16 @@ attackers_are occupied force by men square l1 l2 d r l3 stands sets h1 h2 h3 h4 
     let taken : ℕ → Bool = λ s. is_taken men s in
     let e1 : has l1 s ≡ leaps (capture_of by) s square = h1 s on ∙ capture_mirrored by s square in
     let e2 : has l2 s ≡ leaps KnightLeap s square = h2 s on ∙ knight_back s square in
-    let e3 : reaches_as_bishop (has occupied) square s ≡ reaches_as_bishop taken s square = slants_same (has occupied) taken stands square s ∙ slants_back taken s square in
-    let e4 : reaches_as_rook (has occupied) square s ≡ reaches_as_rook taken s square = straight_same (has occupied) taken stands square s ∙ straight_back taken s square in
+    let e3 : reaches_as_bishop (has occupied) square s ≡ reaches_as_bishop taken s square =
+    slants_same (has occupied) taken stands square s ∙ slants_back taken s square in
+    let e4 : reaches_as_rook (has occupied) square s ≡ reaches_as_rook taken s square =
+    straight_same (has occupied) taken stands square s ∙ straight_back taken s square in
     let e5 : has l3 s ≡ leaps KingStep s square = h5 s on ∙ king_back s square in
     five (bit_and force.pawns l1) (bit_and force.knights l2) d r (bit_and force.king l3) s
     _ _ _ _ _
     (part force.pawns l1 s _ _ (sets.pawns s on) e1) (part force.knights l2 s _ _ (sets.knights s on) e2)
-    (h3 s on ∙ and_both _ _ _ _ (sets.diagonal s on) e3) (h4 s on ∙ and_both _ _ _ _ (sets.straight s on) e4) (part force.king l3 s _ _ (sets.king s on) e5)
+    (h3 s on ∙ and_both _ _ _ _ (sets.diagonal s on) e3) (h4 s on ∙ and_both _ _ _ _ (sets.straight s on) e4)
+    (part force.king l3 s _ _ (sets.king s on) e5)
     ∙ place_by_kind taken by (man_at men s) s square
   where
     and_both : (x y p q : Bool) → x ≡ p → y ≡ q → (x && y) ≡ (p && q)

@@ -1,5 +1,6 @@
 -- Attack by differences of file and rank is attack by directions and leaps.
-use Rattle.std.proofs.Common.{◌≡◌, ℕ, zero, suc, ◌/◌, ◌%◌, ◌<◌, Bool, true, false, not, ◌&&◌, ◌||◌, ltb, List, Option, Some, None, ◌⊎◌, inl, inr, refl, sym, ap, ◌∙◌, arith}
+use Rattle.std.proofs.Common.{◌≡◌, ℕ, zero, suc, ◌/◌, ◌%◌, ◌<◌, Bool, true, false, not, ◌&&◌, ◌||◌, ltb}
+use Rattle.std.proofs.Common.{List, Option, Some, None, ◌⊎◌, inl, inr, refl, sym, ap, ◌∙◌, arith}
 use Rattle.std.proofs.Math.Bool.{and-or_distrib_right}
 use Rattle.std.proofs.lemmas.Bool.{and_parts, and_from, or_cases, or_left, or_right, eqb-true, eq-eqb, lt-ltb, ltb-true}
 use Rattle.chess_board.specs.declared.men.Colour.{Colour}
@@ -10,7 +11,8 @@ use Rattle.chess_board.specs.declared.men.Man.{Man}
 use Rattle.chess_board.specs.Squares.{file_gap, rank_gap, any_below, all_below, some_square}
 use Rattle.chess_board.specs.Men.{is_colour}
 use Rattle.chess_board.specs.Positions.{man_at, is_empty}
-use Rattle.chess_board.specs.Attacks.{is_amid, on_one_rank, on_one_file, on_one_diagonal, is_between_on_rank, is_between_on_file, is_between_on_diagonal, is_between}
+use Rattle.chess_board.specs.Attacks.{is_amid, on_one_rank, on_one_file, on_one_diagonal, is_between_on_rank}
+use Rattle.chess_board.specs.Attacks.{is_between_on_file, is_between_on_diagonal, is_between}
 use Rattle.chess_board.specs.Attacks.{is_clear, is_rook_line, is_bishop_line, attacks_as, man_attacks, attacks_from, is_attacked}
 use Rattle.chess_moves.specs.declared.directions.Direction.{Direction}
 use Rattle.chess_moves.specs.declared.directions.Direction.TheVariants.{North, NorthEast, East, SouthEast, South, SouthWest, West, NorthWest}

@@ -57,15 +57,18 @@ passed_over p t sound here =
     ]) refl
 
 -- A single step would come from the square on which the passed pawn stands.
-no_step : (men : List (Option Man)) (c : Colour) (o t : ℕ) (man : Man) → man_at men o ≡ Some man → man.colour ≡ c → IsPassedOver men c t → steps_once men c o t ≡ false
+no_step : (men : List (Option Man)) (c : Colour) (o t : ℕ) (man : Man) → man_at men o ≡ Some man → man.colour ≡ c
+    → IsPassedOver men c t → steps_once men c o t ≡ false
 no_step men White o t man there own h = false_from_ne_true (steps_once men White o t) (λ goes.
-    let q = and_parts (is_forward White 1 o t) (eqb (file_of o) (file_of t)) ((and_parts (is_forward White 1 o t && eqb (file_of o) (file_of t)) (is_empty men t) goes).0) in
+    let q = and_parts (is_forward White 1 o t) (eqb (file_of o) (file_of t))
+    ((and_parts (is_forward White 1 o t && eqb (file_of o) (file_of t)) (is_empty men t) goes).0) in
     let rank = eqb-true (rank_of t) (rank_of o + 1) q.0 in
     let file = eqb-true (file_of o) (file_of t) q.1 in
     let back : t - 8 ≡ o = omega arith in
     let never = rw (back, there, own) at h.pawn in cc)
 no_step men Black o t man there own h = false_from_ne_true (steps_once men Black o t) (λ goes.
-    let q = and_parts (is_forward Black 1 o t) (eqb (file_of o) (file_of t)) ((and_parts (is_forward Black 1 o t && eqb (file_of o) (file_of t)) (is_empty men t) goes).0) in
+    let q = and_parts (is_forward Black 1 o t) (eqb (file_of o) (file_of t))
+    ((and_parts (is_forward Black 1 o t && eqb (file_of o) (file_of t)) (is_empty men t) goes).0) in
     let rank = eqb-true (rank_of o) (rank_of t + 1) q.0 in
     let file = eqb-true (file_of o) (file_of t) q.1 in
     let back : t + 8 ≡ o = omega arith in
@@ -83,12 +86,14 @@ double_parts false file home crossing last h = cc
 -- A double step ends on another rank.
 no_double : (men : List (Option Man)) (c : Colour) (o t : ℕ) → IsPassedOver men c t → steps_twice men c o t ≡ false
 no_double men White o t h = false_from_ne_true (steps_twice men White o t) (λ goes.
-    let q = double_parts (is_forward White 2 o t) (eqb (file_of o) (file_of t)) (eqb (rank_of o) 1) (is_empty men (crossed o t)) (is_empty men t) goes in
+    let q = double_parts (is_forward White 2 o t) (eqb (file_of o) (file_of t)) (eqb (rank_of o) 1)
+    (is_empty men (crossed o t)) (is_empty men t) goes in
     let rank = eqb-true (rank_of t) (rank_of o + 2) q.0 in
     let home = eqb-true (rank_of o) 1 q.1 in
     let last = h.rank in omega arith)
 no_double men Black o t h = false_from_ne_true (steps_twice men Black o t) (λ goes.
-    let q = double_parts (is_forward Black 2 o t) (eqb (file_of o) (file_of t)) (eqb (rank_of o) 6) (is_empty men (crossed o t)) (is_empty men t) goes in
+    let q = double_parts (is_forward Black 2 o t) (eqb (file_of o) (file_of t)) (eqb (rank_of o) 6)
+    (is_empty men (crossed o t)) (is_empty men t) goes in
     let rank = eqb-true (rank_of o) (rank_of t + 2) q.0 in
     let home = eqb-true (rank_of o) 6 q.1 in
     let last = h.rank in omega arith)
@@ -103,7 +108,8 @@ no_capture men c o t h = false_from_ne_true (takes men c Pawn o t) (λ goes.
 abbrev pub plain_ways : List (Option Man) → Colour → ℕ → ℕ → Bool
 plain_ways men c o t = steps_once men c o t || steps_twice men c o t || takes men c Pawn o t
 
-pub no_plain_way : (men : List (Option Man)) (c : Colour) (o t : ℕ) (man : Man) → man_at men o ≡ Some man → man.colour ≡ c → IsPassedOver men c t → plain_ways men c o t ≡ false
+pub no_plain_way : (men : List (Option Man)) (c : Colour) (o t : ℕ) (man : Man) → man_at men o ≡ Some man → man.colour ≡ c
+    → IsPassedOver men c t → plain_ways men c o t ≡ false
 no_plain_way men c o t man there own h =
     or_from (steps_once men c o t || steps_twice men c o t) (takes men c Pawn o t)
     (or_from (steps_once men c o t) (steps_twice men c o t) (no_step men c o t man there own h) (no_double men c o t h))
@@ -111,5 +117,7 @@ no_plain_way men c o t man there own h =
 
 -- The pawn that is captured stands beyond the square.
 pub captured_is_beyond : (men : List (Option Man)) (c : Colour) (o t : ℕ) → attacks_as men c Pawn o t ≡ true → captured_pawn o t ≡ beyond c t
-captured_is_beyond men White o t h = let rank = eqb-true (rank_of t) (rank_of o + 1) ((and_parts (eqb (file_gap o t) 1) (is_forward White 1 o t) h).1) in omega arith
-captured_is_beyond men Black o t h = let rank = eqb-true (rank_of o) (rank_of t + 1) ((and_parts (eqb (file_gap o t) 1) (is_forward Black 1 o t) h).1) in omega arith
+captured_is_beyond men White o t h = let rank =
+    eqb-true (rank_of t) (rank_of o + 1) ((and_parts (eqb (file_gap o t) 1) (is_forward White 1 o t) h).1) in omega arith
+captured_is_beyond men Black o t h = let rank =
+    eqb-true (rank_of o) (rank_of t + 1) ((and_parts (eqb (file_gap o t) 1) (is_forward Black 1 o t) h).1) in omega arith

@@ -1,6 +1,7 @@
 -- A king that may castle is not attacked where it arrives: that its goal is not attacked before is asked of it, and neither its own
 -- square, when it left it, nor the corner, when the rook left it, opens a line to its goal.
-use Rattle.std.proofs.Common.{◌≡◌, ◌≢◌, ℕ, ◌<◌, Bool, true, false, not, ◌&&◌, ◌||◌, List, Option, None, Some, refl, sym, ap, ◌∙◌, eqb, length, set, get_or-set_same, get_or-set_other, length-set, arith}
+use Rattle.std.proofs.Common.{◌≡◌, ◌≢◌, ℕ, ◌<◌, Bool, true, false, not, ◌&&◌, ◌||◌, List, Option, None, Some, refl}
+use Rattle.std.proofs.Common.{sym, ap, ◌∙◌, eqb, length, set, get_or-set_same, get_or-set_other, length-set, arith}
 use Rattle.std.proofs.lemmas.List.{set-set, set-get_or, set_comm}
 use Rattle.std.proofs.lemmas.Bool.{and_parts, eqb-true, not-true, false_from_ne_true}
 use Rattle.chess_board.specs.declared.men.Colour.{Colour}
@@ -53,10 +54,38 @@ record Squares (k g r v : ℕ) : Type 0 where
   g_apart : g ≢ r
 
 squares : (c : Colour) (w : Wing) → Squares (king_home c) (king_goal c w) (rook_home c w) (crossed (king_home c) (king_goal c w))
-squares White KingSide = record { k_on = omega arith; g_on = omega arith; r_on = omega arith; v_on = omega arith; k_apart = λ e. omega arith; g_apart = λ e. omega arith }
-squares White QueenSide = record { k_on = omega arith; g_on = omega arith; r_on = omega arith; v_on = omega arith; k_apart = λ e. omega arith; g_apart = λ e. omega arith }
-squares Black KingSide = record { k_on = omega arith; g_on = omega arith; r_on = omega arith; v_on = omega arith; k_apart = λ e. omega arith; g_apart = λ e. omega arith }
-squares Black QueenSide = record { k_on = omega arith; g_on = omega arith; r_on = omega arith; v_on = omega arith; k_apart = λ e. omega arith; g_apart = λ e. omega arith }
+squares White KingSide = record {
+  k_on = omega arith;
+  g_on = omega arith;
+  r_on = omega arith;
+  v_on = omega arith;
+  k_apart = λ e. omega arith;
+  g_apart = λ e. omega arith;
+}
+squares White QueenSide = record {
+  k_on = omega arith;
+  g_on = omega arith;
+  r_on = omega arith;
+  v_on = omega arith;
+  k_apart = λ e. omega arith;
+  g_apart = λ e. omega arith;
+}
+squares Black KingSide = record {
+  k_on = omega arith;
+  g_on = omega arith;
+  r_on = omega arith;
+  v_on = omega arith;
+  k_apart = λ e. omega arith;
+  g_apart = λ e. omega arith;
+}
+squares Black QueenSide = record {
+  k_on = omega arith;
+  g_on = omega arith;
+  r_on = omega arith;
+  v_on = omega arith;
+  k_apart = λ e. omega arith;
+  g_apart = λ e. omega arith;
+}
 
 module _ (men : List (Option Man)) (c : Colour) (w : Wing) (king rook : Man) (by : Colour) (len : length men ≡ 64)
     (king_there : man_at men (king_home c) ≡ Some king) (rook_there : man_at men (rook_home c w) ≡ Some rook)
@@ -108,7 +137,8 @@ module _ (men : List (Option Man)) (c : Colour) (w : Wing) (king rook : Man) (by
       let is : hits_from both_off by r g ≡ true = ap (λ s. hits_from both_off by s g) same ∙ hit in cc) in
       let home = each (λ a. not (stands_between a g k) || stands_between a g v) 64 a (behind_home_tried c w) l in
       let not_home : stands_between a g k ≡ false = first (stands_between a g k) (stands_between a g v) home open_way in
-      let not_corner : stands_between a g r ≡ false = not-true (stands_between a g r) (each (λ a. not (stands_between a g r)) 64 a (behind_corner_tried c w) l) in
+      let not_corner : stands_between a g r ≡ false =
+      not-true (stands_between a g r) (each (λ a. not (stands_between a g r)) 64 a (behind_corner_tried c w) l) in
       let there : man_at one_off r ≡ Some rook = let off = places.k_apart in rw get_or-set_other rook_there in
       let without_rook = attacks_lifted one_off r rook by a g len1 places.r_on there rook_own in
       let without_king = attacks_lifted men k king by a g len places.k_on king_there king_own in
@@ -119,7 +149,8 @@ module _ (men : List (Option Man)) (c : Colour) (w : Wing) (king rook : Man) (by
       first true y h e = absurd (cc)
       first false y h e = refl
 
-  pub unattacked_castled : (new_king new_rook : Man) → is_colour by new_king.colour ≡ false → is_colour by new_rook.colour ≡ false → is_hit men g by ≡ false
+  pub unattacked_castled : (new_king new_rook : Man) → is_colour by new_king.colour ≡ false
+      → is_colour by new_rook.colour ≡ false → is_hit men g by ≡ false
       → is_hit (moved (moved men k g new_king) r v new_rook) g by ≡ false
   unfolding is_hit
   unattacked_castled new_king new_rook king_new rook_new safe =
@@ -129,8 +160,10 @@ module _ (men : List (Option Man)) (c : Colour) (w : Wing) (king rook : Man) (by
       ap (λ x. set x v (Some new_rook)) (set_comm one_off g r (Some new_king) None places.g_apart) in
       any_none (λ a. hits_from (moved (moved men k g new_king) r v new_rook) by a g) 64 (λ a l.
       ap (λ x. hits_from x by a g) same ∙ false_from_ne_true (hits_from (set arrived v (Some new_rook)) by a g) (λ h.
-      let over = and_parts (hits_from arrived by a g) (gets_through a g v) (sym (attacks_placed arrived v new_rook by a g len3 places.v_on rook_new) ∙ h) in
-      let come = and_parts (hits_from both_off by a g) (gets_through a g g) (sym (attacks_placed both_off g new_king by a g len2 places.g_on king_new) ∙ over.0) in
+      let over = and_parts (hits_from arrived by a g) (gets_through a g v)
+      (sym (attacks_placed arrived v new_rook by a g len3 places.v_on rook_new) ∙ h) in
+      let come = and_parts (hits_from both_off by a g) (gets_through a g g)
+      (sym (attacks_placed both_off g new_king by a g len2 places.g_on king_new) ∙ over.0) in
       let open_way : stands_between a g v ≡ false = second (eqb v a) (stands_between a g v) over.1 in
       let was = attacked_before a l come.0 open_way in
       let hit = any_at (λ a. hits_from men by a g) 64 a l was in cc))

@@ -85,7 +85,8 @@ clear_by_sets men a b between occupied j k fits rule set =
     ∙ not_not (eqb (bit_and between occupied) 0)
 
 -- the same of the way between a king and a rook at home
-pub clear_way : (men : List (Option Man)) (c : Colour) (w : Wing) (home rook between occupied : ℕ) → home ≡ king_home c → rook ≡ rook_home c w → between < 2 ^ 64
+pub clear_way : (men : List (Option Man)) (c : Colour) (w : Wing) (home rook between occupied : ℕ) → home ≡ king_home c
+    → rook ≡ rook_home c w → between < 2 ^ 64
     → ((s : ℕ) → s < 64 → has between s ≡ stands_between home rook s) → IsSetOf occupied is_some men
     → is_clear men home (rook_home c w) ≡ eqb (bit_and between occupied) 0
 clear_way men c w home rook between occupied at_home at_corner fits rule set =
@@ -109,4 +110,5 @@ way_tried Black QueenSide = refl
 
 pub has-way_set : (c : Colour) (w : Wing) (t : ℕ) → t < 64 → has (way_set c w) t ≡ stands_between (king_home c) (rook_home c w) t
 has-way_set c w t l =
-    same_equal (has (way_set c w) t) (stands_between (king_home c) (rook_home c w) t) (each (λ s. same (has (way_set c w) s) (stands_between (king_home c) (rook_home c w) s)) 64 t (way_tried c w) l)
+    same_equal (has (way_set c w) t) (stands_between (king_home c) (rook_home c w) t)
+    (each (λ s. same (has (way_set c w) s) (stands_between (king_home c) (rook_home c w) s)) 64 t (way_tried c w) l)

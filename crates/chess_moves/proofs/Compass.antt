@@ -1,5 +1,6 @@
 -- A line has one direction, and no attack by a leap goes along two steps of it.
-use Rattle.std.proofs.Common.{◌≡◌, ◌≢◌, ℕ, ◌+◌, ◌*◌, ◌/◌, ◌%◌, ◌<◌, ◌≤◌, Bool, true, false, not, ◌&&◌, ◌||◌, cond, eqb, ltb, leb, refl, sym, ap, ◌∙◌, arith}
+use Rattle.std.proofs.Common.{◌≡◌, ◌≢◌, ℕ, ◌+◌, ◌*◌, ◌/◌, ◌%◌, ◌<◌, ◌≤◌, Bool, true, false, not}
+use Rattle.std.proofs.Common.{◌&&◌, ◌||◌, cond, eqb, ltb, leb, refl, sym, ap, ◌∙◌, arith}
 use Rattle.std.proofs.Math.Bool.{or-true, and-false}
 use Rattle.std.proofs.lemmas.Bool.{eqb-true, and_parts, and_from, ne_eqb, le-ltb, lt-ltb, leb-true, eq-eqb, false_from_ne_true}
 use Rattle.chess_board.specs.declared.men.Colour.{Colour}
@@ -119,14 +120,22 @@ pub record IsFar (a b : ℕ) : Type 0 where
 
 line_far : (d : Direction) (a s b : ℕ) → toward d a s ≡ true → toward d s b ≡ true → IsFar a b
 unfolding toward
-line_far North a s b h k = let x = north_says a s h in let y = north_says s b k in record { files = omega arith; ranks = omega arith; apart = omega arith }
-line_far NorthEast a s b h k = let x = north_east_says a s h in let y = north_east_says s b k in record { files = omega arith; ranks = omega arith; apart = omega arith }
-line_far East a s b h k = let x = east_says a s h in let y = east_says s b k in record { files = omega arith; ranks = omega arith; apart = omega arith }
-line_far SouthEast a s b h k = let x = north_west_says s a h in let y = north_west_says b s k in record { files = omega arith; ranks = omega arith; apart = omega arith }
-line_far South a s b h k = let x = north_says s a h in let y = north_says b s k in record { files = omega arith; ranks = omega arith; apart = omega arith }
-line_far SouthWest a s b h k = let x = north_east_says s a h in let y = north_east_says b s k in record { files = omega arith; ranks = omega arith; apart = omega arith }
-line_far West a s b h k = let x = east_says s a h in let y = east_says b s k in record { files = omega arith; ranks = omega arith; apart = omega arith }
-line_far NorthWest a s b h k = let x = north_west_says a s h in let y = north_west_says s b k in record { files = omega arith; ranks = omega arith; apart = omega arith }
+line_far North a s b h k = let x = north_says a s h in let y = north_says s b k in
+    record { files = omega arith; ranks = omega arith; apart = omega arith }
+line_far NorthEast a s b h k = let x = north_east_says a s h in let y = north_east_says s b k in
+    record { files = omega arith; ranks = omega arith; apart = omega arith }
+line_far East a s b h k = let x = east_says a s h in let y = east_says s b k in
+    record { files = omega arith; ranks = omega arith; apart = omega arith }
+line_far SouthEast a s b h k = let x = north_west_says s a h in let y = north_west_says b s k in
+    record { files = omega arith; ranks = omega arith; apart = omega arith }
+line_far South a s b h k = let x = north_says s a h in let y = north_says b s k in
+    record { files = omega arith; ranks = omega arith; apart = omega arith }
+line_far SouthWest a s b h k = let x = north_east_says s a h in let y = north_east_says b s k in
+    record { files = omega arith; ranks = omega arith; apart = omega arith }
+line_far West a s b h k = let x = east_says s a h in let y = east_says b s k in
+    record { files = omega arith; ranks = omega arith; apart = omega arith }
+line_far NorthWest a s b h k = let x = north_west_says a s h in let y = north_west_says s b k in
+    record { files = omega arith; ranks = omega arith; apart = omega arith }
 
 pub far_no_knight : (a b : ℕ) → IsFar a b → leaps KnightLeap a b ≡ false
 unfolding leaps

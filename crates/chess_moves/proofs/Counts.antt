@@ -1,5 +1,6 @@
 -- How many lines of play there are, and that the count fits.
-use Rattle.std.proofs.Common.{◌≡◌, ℕ, zero, suc, ◌+◌, ◌-◌, ◌*◌, ◌^◌, ◌<◌, ◌≤◌, List, [], ◌∷◌, length, map, refl, ap, ◌∙◌, arith, sub-one, length-append}
+use Rattle.std.proofs.Common.{◌≡◌, ℕ, zero, suc, ◌+◌, ◌-◌, ◌*◌, ◌^◌, ◌<◌, ◌≤◌, List, [], ◌∷◌}
+use Rattle.std.proofs.Common.{length, map, refl, ap, ◌∙◌, arith, sub-one, length-append}
 use Rattle.std.specs.List.{sum_by, flat_map}
 use Rattle.std.proofs.Math.Nat.{pow-suc, mul-le-mul_left}
 use Rattle.std.proofs.lemmas.List.Sums.{sum_by-cons}
@@ -14,9 +15,17 @@ map_length f [] = refl
 map_length f (x ∷ xs) = ap suc (map_length f xs)
 
 -- the lines that begin with one of these moves
-lines_length : (f : Move → List (List Move)) (xs : List Move) → length (flat_map (λ m. map (λ line. m ∷ line) (f m)) xs) ≡ sum_by (λ m. length (f m)) xs
+lines_length : (f : Move → List (List Move)) (xs : List Move)
+    → length (flat_map (λ m. map (λ line. m ∷ line) (f m)) xs) ≡ sum_by (λ m. length (f m)) xs
 lines_length f [] = refl
-lines_length f (x ∷ xs) = omega (arith, length-append (map (λ line. x ∷ line) (f x)) (flat_map (λ m. map (λ line. m ∷ line) (f m)) xs), map_length (λ (line : List Move). x ∷ line) (f x), lines_length f xs, sum_by-cons (λ m. length (f m)) x xs)
+lines_length f (x ∷ xs) =
+    omega (
+      arith,
+      length-append (map (λ line. x ∷ line) (f x)) (flat_map (λ m. map (λ line. m ∷ line) (f m)) xs),
+      map_length (λ (line : List Move). x ∷ line) (f x),
+      lines_length f xs,
+      sum_by-cons (λ m. length (f m)) x xs,
+    )
 
 pub plays_none : (p : Setup) (d : ℕ) → d ≡ 0 → length (plays p d) ≡ 1
 unfolding plays

@@ -42,7 +42,8 @@ off_lines taken square t slants lines = rw (off_diagonals taken square t slants,
 pub none_near : (sliders lines t : ℕ) (on seen : Bool) → has lines t ≡ on → (on ≡ false → seen ≡ false) → bit_and sliders lines ≡ 0
     → has 0 t ≡ (has sliders t && seen)
 none_near sliders lines t on seen rule off none =
-    has_none 0 t refl ∙ sym (dropped (has sliders t) on seen off (sym (part sliders lines t (has sliders t) on refl rule) ∙ has_none (bit_and sliders lines) t none))
+    has_none 0 t refl ∙ sym (dropped (has sliders t) on seen off
+    (sym (part sliders lines t (has sliders t) on refl rule) ∙ has_none (bit_and sliders lines) t none))
   where
     dropped : (x on seen : Bool) → (on ≡ false → seen ≡ false) → (x && on) ≡ false → (x && seen) ≡ false
     dropped true on seen off e = off e
@@ -51,7 +52,8 @@ none_near sliders lines t on seen rule off none =
 pub some_near : (sliders lines attacks t : ℕ) (on seen : Bool) → has lines t ≡ on → (on ≡ false → seen ≡ false) → has attacks t ≡ seen
     → has (bit_and (bit_and sliders lines) attacks) t ≡ (has sliders t && seen)
 some_near sliders lines attacks t on seen rule off e =
-    part (bit_and sliders lines) attacks t (has sliders t && on) seen (part sliders lines t (has sliders t) on refl rule) e ∙ both (has sliders t) on seen off
+    part (bit_and sliders lines) attacks t (has sliders t && on) seen (part sliders lines t (has sliders t) on refl rule) e
+    ∙ both (has sliders t) on seen off
   where
     both : (x on seen : Bool) → (on ≡ false → seen ≡ false) → ((x && on) && seen) ≡ (x && seen)
     both true true seen off = refl

@@ -1,5 +1,6 @@
 -- A side has at most 1,024 legal moves: at most 64 from each of its at most 16 men.
-use Rattle.std.proofs.Common.{◌≡◌, ℕ, zero, suc, ◌+◌, ◌*◌, ◌≤◌, Bool, true, false, cond, eqb, List, [], ◌∷◌, filter, length, take, get_or, count_by, Option, Some, None, refl, ap, ◌∙◌, arith, append-nil}
+use Rattle.std.proofs.Common.{◌≡◌, ℕ, zero, suc, ◌+◌, ◌*◌, ◌≤◌, Bool, true, false, cond, eqb, List, [], ◌∷◌, filter}
+use Rattle.std.proofs.Common.{length, take, get_or, count_by, Option, Some, None, refl, ap, ◌∙◌, arith, append-nil}
 use Rattle.std.proofs.lemmas.Bool.{eqb-true, eq-eqb}
 use Rattle.std.proofs.lemmas.List.Sums.{sum_by-take-le, sum_by-cons}
 use Rattle.chess_board.specs.declared.men.Kind.{Kind}
@@ -38,13 +39,15 @@ none_between f o t fails =
     omega (arith, many-between f o t, many-promotions f o t, n None, n (Some Knight), n (Some Bishop), n (Some Rook), n (Some Queen))
 
 -- Where the man is promoted, the promotions are all that can be legal.
-pub between_promoted : (p : Setup) (o t : ℕ) (man : Man) → man_at p.men o ≡ Some man → promotes man t ≡ true → filter (is_legal p) (moves_between o t) ≡ filter (is_legal p) (promotions o t)
+pub between_promoted : (p : Setup) (o t : ℕ) (man : Man) → man_at p.men o ≡ Some man → promotes man t ≡ true
+    → filter (is_legal p) (moves_between o t) ≡ filter (is_legal p) (promotions o t)
 between_promoted p o t man is yes' =
     let plain : is_legal p (move_of o t None) ≡ false = not_suited p (move_of o t None) man is (rw yes' refl) in
     between_kept (is_legal p) o t ∙ rw (one_none (is_legal p) o t None plain) refl
 
 -- Where it is not, the plain move is.
-pub between_plain : (p : Setup) (o t : ℕ) (man : Man) → man_at p.men o ≡ Some man → promotes man t ≡ false → filter (is_legal p) (moves_between o t) ≡ filter (is_legal p) (move_of o t None ∷ [])
+pub between_plain : (p : Setup) (o t : ℕ) (man : Man) → man_at p.men o ≡ Some man → promotes man t ≡ false
+    → filter (is_legal p) (moves_between o t) ≡ filter (is_legal p) (move_of o t None ∷ [])
 between_plain p o t man is no' =
     let n = λ (k : Kind). one_none (is_legal p) o t (Some k) (not_suited p (move_of o t (Some k)) man is (rw no' refl)) in
     between_kept (is_legal p) o t ∙ rw (promotions_kept (is_legal p) o t) (simp (n Knight, n Bishop, n Rook, n Queen, append-nil) refl)
@@ -54,11 +57,20 @@ few_between p o t man is =
     let f : Move → Bool = is_legal p in
     let at = λ (r : Option Kind). one_at_most f o t r in
     (elim (promotes man t) as (λ b. promotes man t ≡ b → many f (moves_between o t) ≤ cond b 4 1) [
-      | true ↦ λ yes'. omega (arith, ap length (between_promoted p o t man is yes'), many-promotions f o t, at (Some Knight), at (Some Bishop), at (Some Rook), at (Some Queen))
+      | true ↦ λ yes'. omega (
+        arith,
+        ap length (between_promoted p o t man is yes'),
+        many-promotions f o t,
+        at (Some Knight),
+        at (Some Bishop),
+        at (Some Rook),
+        at (Some Queen),
+      )
       | false ↦ λ no'. omega (arith, ap length (between_plain p o t man is no'), at None)
     ]) refl
 
-none_reached : (p : Setup) (o t : ℕ) (man : Man) → man_at p.men o ≡ Some man → goes p man.colour man.kind o t ≡ false → many (is_legal p) (moves_between o t) ≡ 0
+none_reached : (p : Setup) (o t : ℕ) (man : Man) → man_at p.men o ≡ Some man → goes p man.colour man.kind o t ≡ false
+    → many (is_legal p) (moves_between o t) ≡ 0
 none_reached p o t man is h = none_between (is_legal p) o t (λ r. not_gone p (move_of o t r) man is h)
 
 -- From one square.
@@ -66,7 +78,12 @@ none_reached p o t man is h = none_between (is_legal p) o t (λ r. not_gone p (m
 many_none : (p : Setup) (o n : ℕ) → is_of p.side (man_at p.men o) ≡ false → many (is_legal p) (moves_to o n) ≡ 0
 unfolding moves_to
 many_none p o zero h = refl
-many_none p o (suc n) h = omega (arith, many-to_more (is_legal p) o n, many_none p o n h, none_between (is_legal p) o n (λ r. not_own p (move_of o n r) h))
+many_none p o (suc n) h = omega (
+  arith,
+  many-to_more (is_legal p) o n,
+  many_none p o n h,
+  none_between (is_legal p) o n (λ r. not_own p (move_of o n r) h),
+)
 
 -- There are none where no man of the side to move stands.
 pub none_from : (p : Setup) (o : ℕ) → is_of p.side (man_at p.men o) ≡ false → filter (is_legal p) (moves_to o 64) ≡ []
@@ -126,7 +143,8 @@ few_of_pawn p o man is pawn =
           let each : (t : ℕ) → many f (moves_between o t) ≤ cond (eqb (rank_of t) (last_rank c)) 4 0 = λ t.
           (elim (eqb (rank_of t) (last_rank c)) as (λ b. eqb (rank_of t) (last_rank c) ≡ b → many f (moves_between o t) ≤ cond b 4 0) [
             | true ↦ λ l. rw l at (rw (promotes_is t) at (few_between p o t man is))
-            | false ↦ λ l. let stays : goes p man.colour man.kind o t ≡ false = rw (goes_is t) (not_true (pawn_goes p c o t) (λ g. let e = eq-eqb (rank_of t) (last_rank c) ((pawn_before p c o t g).1 from) in cc)) in
+            | false ↦ λ l. let stays : goes p man.colour man.kind o t ≡ false = rw (goes_is t) (not_true (pawn_goes p c o t)
+                (λ g. let e = eq-eqb (rank_of t) (last_rank c) ((pawn_before p c o t g).1 from) in cc)) in
                 omega (arith, none_reached p o t man is stays)
           ]) refl in
           omega (arith, many_total f o (λ t. cond (eqb (rank_of t) (last_rank c)) 4 0) each 64, total_last c)
@@ -134,7 +152,9 @@ few_of_pawn p o man is pawn =
           let each : (t : ℕ) → many f (moves_between o t) ≤ cond (eqb (rank_of t) (last_rank c)) 0 1 = λ t.
           (elim (eqb (rank_of t) (last_rank c)) as (λ b. eqb (rank_of t) (last_rank c) ≡ b → many f (moves_between o t) ≤ cond b 0 1) [
             | false ↦ λ l. rw l at (rw (promotes_is t) at (few_between p o t man is))
-            | true ↦ λ l. let stays : goes p man.colour man.kind o t ≡ false = rw (goes_is t) (not_true (pawn_goes p c o t) (λ g. let e = eq-eqb (rank_of o) (rank_before c) ((pawn_before p c o t g).0 (eqb-true (rank_of t) (last_rank c) l)) in cc)) in
+            | true ↦ λ l. let stays : goes p man.colour man.kind o t ≡ false =
+                rw (goes_is t) (not_true (pawn_goes p c o t) (λ g. let e =
+                eq-eqb (rank_of o) (rank_before c) ((pawn_before p c o t g).0 (eqb-true (rank_of t) (last_rank c) l)) in cc)) in
                 omega (arith, none_reached p o t man is stays)
           ]) refl in
           omega (arith, many_total f o (λ t. cond (eqb (rank_of t) (last_rank c)) 0 1) each 64, total_other c)
@@ -156,21 +176,30 @@ few_from p o = (elim (man_at p.men o) as (λ m. man_at p.men o ≡ m → many (i
 
 -- From all squares.
 
-own_more : (xs : List (Option Man)) (n : ℕ) (side : Colour) → count_by (is_of side) (take (suc n) xs) ≡ count_by (is_of side) (take n xs) + cond (is_of side (get_or xs n None)) 1 0
+own_more : (xs : List (Option Man)) (n : ℕ) (side : Colour)
+    → count_by (is_of side) (take (suc n) xs) ≡ count_by (is_of side) (take n xs) + cond (is_of side (get_or xs n None)) 1 0
 own_more [] zero side = refl
 own_more [] (suc n) side = refl
 own_more (x ∷ xs) zero side = refl
-own_more (x ∷ xs) (suc n) side = omega (arith, own_more xs n side, sum_by-cons (λ y. cond (is_of side y) 1 0) x (take (suc n) xs), sum_by-cons (λ y. cond (is_of side y) 1 0) x (take n xs))
+own_more (x ∷ xs) (suc n) side = omega (
+  arith,
+  own_more xs n side,
+  sum_by-cons (λ y. cond (is_of side y) 1 0) x (take (suc n) xs),
+  sum_by-cons (λ y. cond (is_of side y) 1 0) x (take n xs),
+)
 
 few_below : (p : Setup) (n : ℕ) → many (is_legal p) (moves_below n) ≤ 64 * count_by (is_of p.side) (take n p.men)
 unfolding moves_below
 few_below p zero = omega arith
-few_below p (suc n) = (elim (is_of p.side (man_at p.men n)) as (λ b. is_of p.side (man_at p.men n) ≡ b → many (is_legal p) (moves_below (suc n)) ≤ 64 * count_by (is_of p.side) (take (suc n) p.men)) [
-  | true ↦ λ t. let one : count_by (is_of p.side) (take (suc n) p.men) ≡ count_by (is_of p.side) (take n p.men) + 1 = rw t at (own_more p.men n p.side) in
-      omega (arith, many-below_more (is_legal p) n, few_from p n, few_below p n, one)
-  | false ↦ λ t. let one : count_by (is_of p.side) (take (suc n) p.men) ≡ count_by (is_of p.side) (take n p.men) + 0 = rw t at (own_more p.men n p.side) in
-      omega (arith, many-below_more (is_legal p) n, many_none p n 64 t, few_below p n, one)
-]) refl
+few_below p (suc n) = (elim (is_of p.side (man_at p.men n)) as (λ b. is_of p.side (man_at p.men n) ≡ b
+    → many (is_legal p) (moves_below (suc n)) ≤ 64 * count_by (is_of p.side) (take (suc n) p.men)) [
+      | true ↦ λ t. let one : count_by (is_of p.side) (take (suc n) p.men) ≡ count_by (is_of p.side) (take n p.men) + 1 =
+          rw t at (own_more p.men n p.side) in
+          omega (arith, many-below_more (is_legal p) n, few_from p n, few_below p n, one)
+      | false ↦ λ t. let one : count_by (is_of p.side) (take (suc n) p.men) ≡ count_by (is_of p.side) (take n p.men) + 0 =
+          rw t at (own_more p.men n p.side) in
+          omega (arith, many-below_more (is_legal p) n, many_none p n 64 t, few_below p n, one)
+    ]) refl
 
 sixteen : (p : Setup) → IsSound p → count_by (is_of p.side) p.men ≤ 16
 sixteen p sound = go p.side sound.few.0 sound.few.1

@@ -1,5 +1,6 @@
 -- The theorem of flight squares: a move that leaves the king a square to step to does not mate.
-use Rattle.std.proofs.Common.{◌≡◌, ◌≢◌, ℕ, zero, suc, ◌+◌, ◌<◌, Bool, true, false, cond, not, ◌&&◌, ◌||◌, eqb, List, [], ◌∷◌, Option, None, Some, length, count_by, get_or, set, refl, sym, ap, ◌∙◌, arith, length-set}
+use Rattle.std.proofs.Common.{◌≡◌, ◌≢◌, ℕ, zero, suc, ◌+◌, ◌<◌, Bool, true, false, cond, not, ◌&&◌, ◌||◌, eqb, List, [], ◌∷◌}
+use Rattle.std.proofs.Common.{Option, None, Some, length, count_by, get_or, set, refl, sym, ap, ◌∙◌, arith, length-set}
 use Rattle.std.specs.Prelude.{nat_lt, Contains}
 use Rattle.std.proofs.lemmas.Bool.{and_from, and_parts, false_from_ne_true, not-true, lt-ltb}
 use Rattle.chess_board.specs.declared.men.Colour.{Colour}
@@ -68,12 +69,14 @@ own_colour Black = refl
 
 -- A king may step to a square beside it where no man of its own stands and where it is not attacked then.
 step_legal : (q : Setup) (k f : ℕ) → length q.men ≡ 64 → IsKingAt q.men q.side k → f < 64 → leaps KingStep k f ≡ true
-    → is_of q.side (man_at q.men f) ≡ false → is_hit (moved q.men k f (king q.side)) f (other_side q.side) ≡ false → is_legal q (move_of k f None) ≡ true
+    → is_of q.side (man_at q.men f) ≡ false
+    → is_hit (moved q.men k f (king q.side)) f (other_side q.side) ≡ false → is_legal q (move_of k f None) ≡ true
 unfolding is_legal is_pseudo_legal is_safe after_setup
 step_legal q k f long at f_on beside free safe =
     let m : Move = move_of k f None in
     let near : attacks_as q.men q.side King k f ≡ true = attacks_same q.men q.side King k f at.on_board f_on ∙ beside in
-    let steps : piece_goes q q.side King k f ≡ true = and_from (attacks_as q.men q.side King k f) (not (is_of q.side (man_at q.men f))) near (ap not free) in
+    let steps : piece_goes q q.side King k f ≡ true =
+    and_from (attacks_as q.men q.side King k f) (not (is_of q.side (man_at q.men f))) near (ap not free) in
     let gone : goes q q.side King k f ≡ true = ap (λ (x : Bool). x || castles q q.side k f) steps in
     let may : man_may q (Some (king q.side)) m ≡ true = ap (λ (x : Bool). (x && true) && goes q q.side King k f) (own_colour q.side) ∙ gone in
     let candidate : man_may q (man_at q.men k) m ≡ true = ap (λ place. man_may q place m) at.here ∙ may in
@@ -149,7 +152,8 @@ module _ (p : Setup) (k f : ℕ) (man : Man) (m : Move) (sound : IsSound p) (sti
       let c : Colour = other_side p.side in
       let found = some_king (after_setup p m) c still in
       let on = found.1 in
-      let is : is_king_of c (man_at (moved p.men m.origin m.target man) found.0) ≡ true = ap (λ men. is_king_of c (man_at men found.0)) (sym men_are) ∙ found.2 in
+      let is : is_king_of c (man_at (moved p.men m.origin m.target man) found.0) ≡ true =
+      ap (λ men. is_king_of c (man_at men found.0)) (sym men_are) ∙ found.2 in
       there_after (λ place. is_king_of c place ≡ true → ⊥) p.men m.origin m.target man found.0 sound.squares on
       (λ e h. let none = no_king in absurd (cc)) (λ h. absurd (cc)) (λ off to h. to (alone found.0 on h ∙ same)) is
 
@@ -163,7 +167,8 @@ module _ (p : Setup) (k f : ℕ) (man : Man) (m : Move) (sound : IsSound p) (sti
       let parts = and_parts (not (is_hit gone f p.side)) (not (hits_as (λ s. is_taken gone s) p.side man.kind m.target f)) leaves in
       let safe : is_hit gone f (other_side c) ≡ false = ap (is_hit gone f) back ∙ not-true (is_hit gone f p.side) parts.0 in
       let misses : hits_as (λ s. is_taken gone s) (other_side c) man.kind m.target f ≡ false =
-      ap (λ (by : Colour). hits_as (λ s. is_taken gone s) by man.kind m.target f) back ∙ not-true (hits_as (λ s. is_taken gone s) p.side man.kind m.target f) parts.1 in
+      ap (λ (by : Colour). hits_as (λ s. is_taken gone s) by man.kind m.target f) back
+      ∙ not-true (hits_as (λ s. is_taken gone s) p.side man.kind m.target f) parts.1 in
       let mine : is_colour (other_side c) man.colour ≡ true = ap (λ (by : Colour). is_colour by man.colour) back ∙ own in
       let unhit = still_safe p.men k m.origin m.target f man c sound.squares t_on flight.on_board not_left not_taken mine safe misses in
       let at : IsKingAt (moved p.men m.origin m.target man) c k =
@@ -192,7 +197,8 @@ module _ (p : Setup) (k f : ℕ) (man : Man) (m : Move) (sound : IsSound p) (sti
   flight_squares f_on beside free before safe misses =
       let gone : List (Option Man) = cleared (cleared p.men k) m.origin in
       let unhit : is_hit gone f p.side ≡ false = sym (attacked_same gone f p.side f_on) ∙ safe in
-      let off : hits_as (λ s. is_taken gone s) p.side man.kind m.target f ≡ false = sym (attacks_same gone p.side man.kind m.target f t_on f_on) ∙ misses in
+      let off : hits_as (λ s. is_taken gone s) p.side man.kind m.target f ≡ false =
+      sym (attacks_same gone p.side man.kind m.target f t_on f_on) ∙ misses in
       flight_left (record {
         on_board = f_on;
         beside = sym (attacks_same p.men (other_side p.side) King k f k_on f_on) ∙ beside;

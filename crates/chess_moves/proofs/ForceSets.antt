@@ -55,12 +55,14 @@ straight_kinds King = refl
 
 -- each man is of some kind
 pub kinds_all : (colour : Colour) (place : Option Man)
-    → (is_one colour is_pawn_kind place || is_one colour is_knight_kind place || is_one colour is_diagonal_kind place || is_one colour is_straight_kind place || is_one colour is_king_kind place)
+    → (is_one colour is_pawn_kind place || is_one colour is_knight_kind place || is_one colour is_diagonal_kind place
+    || is_one colour is_straight_kind place || is_one colour is_king_kind place)
     ≡ is_of colour place
 kinds_all colour None = refl
 kinds_all colour (Some man) = own (is_colour colour man.colour) man.kind
   where
-    own : (x : Bool) (kind : Kind) → (x && is_pawn_kind kind || x && is_knight_kind kind || x && is_diagonal_kind kind || x && is_straight_kind kind || x && is_king_kind kind) ≡ x
+    own : (x : Bool) (kind : Kind) → (x && is_pawn_kind kind || x && is_knight_kind kind || x && is_diagonal_kind kind || x
+        && is_straight_kind kind || x && is_king_kind kind) ≡ x
     own false asked = refl
     own true Pawn = refl
     own true Knight = refl

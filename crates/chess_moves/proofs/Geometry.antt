@@ -174,7 +174,8 @@ capture_mirrored White a b = rw (gap_back (a % 8) (b % 8))
 capture_mirrored Black a b = rw (gap_back (a % 8) (b % 8))
 
 -- of two squares in one direction, the one whose number comes later in it lies beyond the other
-pub toward_later : (d : Direction) (a b c : ℕ) → toward d a b ≡ true → toward d a c ≡ true → (cond (is_rising d) (ltb b c) (ltb c b)) ≡ true → toward d b c ≡ true
+pub toward_later : (d : Direction) (a b c : ℕ) → toward d a b ≡ true → toward d a c ≡ true
+    → (cond (is_rising d) (ltb b c) (ltb c b)) ≡ true → toward d b c ≡ true
 toward_later d a b c h k l = (elim (is_rising d) as (λ x. is_rising d ≡ x → (cond x (ltb b c) (ltb c b)) ≡ true → toward d b c ≡ true) [
   | true ↦ λ r later. toward_above d a b c r h k (ltb-true b c later)
   | false ↦ λ r later. toward_below d a b c r h k (ltb-true c b later)

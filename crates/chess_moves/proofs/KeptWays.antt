@@ -28,7 +28,8 @@ legal_way p man o t r there own suited =
     rw (there, colour, suited) refl
 
 -- The four promotions pass a test together, or none does.
-promotions_pass : (f : Move → Bool) (o t : ℕ) (b : Bool) → ((k : Kind) → is_promotion k ≡ true → f (move_of o t (Some k)) ≡ b) → filter f (promotions o t) ≡ cond b (promotions o t) []
+promotions_pass : (f : Move → Bool) (o t : ℕ) (b : Bool) → ((k : Kind) → is_promotion k ≡ true → f (move_of o t (Some k)) ≡ b)
+    → filter f (promotions o t) ≡ cond b (promotions o t) []
 promotions_pass f o t true h = rw (h Knight refl, h Bishop refl, h Rook refl, h Queen refl) refl
 promotions_pass f o t false h = rw (h Knight refl, h Bishop refl, h Rook refl, h Queen refl) refl
 
@@ -37,7 +38,8 @@ pub ways_kept : (p : Setup) (man : Man) (o t : ℕ) (b : Bool) → man_at p.men 
     → ((r : Option Kind) → suits man t r ≡ true → goes_safely p man o t r ≡ b) → filter (is_legal p) (moves_between o t) ≡ cond b (ways man o t) []
 ways_kept p man o t b there own safe =
     let way = λ (r : Option Kind) (s : suits man t r ≡ true). legal_way p man o t r there own s ∙ safe r s in
-    (elim (promotes man t) as (λ x. promotes man t ≡ x → filter (is_legal p) (moves_between o t) ≡ cond b (cond x (promotions o t) (move_of o t None ∷ [])) []) [
+    (elim (promotes man t) as (λ x. promotes man t ≡ x
+    → filter (is_legal p) (moves_between o t) ≡ cond b (cond x (promotions o t) (move_of o t None ∷ [])) []) [
       | true ↦ λ e. between_promoted p o t man there e ∙ promotions_pass (is_legal p) o t b (λ k is. way (Some k) (rw (e, is) refl))
       | false ↦ λ e. let plain = way None (rw e refl) in between_plain p o t man there e ∙ rw plain refl
     ]) refl

@@ -1,5 +1,6 @@
 -- The moves of a side's king are those from its one square.
-use Rattle.std.proofs.Common.{◌≡◌, ℕ, zero, suc, ◌+◌, ◌*◌, ◌%◌, ◌^◌, ◌<◌, ◌≤◌, Bool, true, false, ◌&&◌, eqb, ltb, cond, filter, length, refl, ap, subst, ◌∙◌, arith, bit_or, w64}
+use Rattle.std.proofs.Common.{◌≡◌, ℕ, zero, suc, ◌+◌, ◌*◌, ◌%◌, ◌^◌, ◌<◌, ◌≤◌, Bool, true, false, ◌&&◌}
+use Rattle.std.proofs.Common.{eqb, ltb, cond, filter, length, refl, ap, subst, ◌∙◌, arith, bit_or, w64}
 use Rattle.std.proofs.lemmas.Bool.{eqb-true, eqb-false, false_from_ne_true}
 use Rattle.std.proofs.lemmas.Bool.Decides.{nat_tests}
 use Rattle.std.proofs.lemmas.Nat.Bits.{bit_at-zero, bit_at_set_same, bit_at_set_other}
@@ -34,7 +35,8 @@ king_alone info p h =
     let one = king_of_scene info p h in
     let there : is_man info.side King (man_at p.men info.king) ≡ true =
     ap (λ place. is_man info.side King place) one.here ∙ ap (λ (x : Bool). x && true) (same_colour info.side p.side h.side) in
-    λ s l. has-one_square info.king s h.on_board l ∙ ((elim (eqb s info.king) as (λ b. eqb s info.king ≡ b → b ≡ is_man info.side King (man_at p.men s)) [
+    λ s l. has-one_square info.king s h.on_board l
+    ∙ ((elim (eqb s info.king) as (λ b. eqb s info.king ≡ b → b ≡ is_man info.side King (man_at p.men s)) [
       | true ↦ λ e. let same = eqb-true s info.king e in rw same (rw there refl)
       | false ↦ λ e. let ne = eqb-false s info.king e in rw (false_from_ne_true (is_man info.side King (man_at p.men s))
           (λ is. ne (one.alone s l (subst (λ (c : Colour). is_man c King (man_at p.men s) ≡ true) h.side is)))) refl

@@ -1,5 +1,6 @@
 -- Whether a king is in check once it went: each step is asked about, and castling leaves it safe.
-use Rattle.std.proofs.Common.{◌≡◌, ◌≢◌, ℕ, ◌<◌, Bool, true, false, not, ◌&&◌, ◌||◌, eqb, List, length, Option, Some, None, refl, sym, ap, ◌∙◌, inl, inr, arith, length-set, bit_or}
+use Rattle.std.proofs.Common.{◌≡◌, ◌≢◌, ℕ, ◌<◌, Bool, true, false, not, ◌&&◌, ◌||◌, eqb, List, length, Option}
+use Rattle.std.proofs.Common.{Some, None, refl, sym, ap, ◌∙◌, inl, inr, arith, length-set, bit_or}
 use Rattle.std.proofs.lemmas.Bool.{and_parts, or_cases}
 use Rattle.std.proofs.Math.Bool.{and-false}
 use Rattle.std.proofs.lemmas.Bool.Decides.{nat_tests}
@@ -47,7 +48,8 @@ four_parts true false c d h = cc
 four_parts false b c d h = cc
 
 -- A right has its rook at home.
-rook_at_home : (p : Setup) (c : Colour) (wing : Wing) → IsSound p → has_right_of p.rights c wing ≡ true → is_rook_of c (man_at p.men (rook_home c wing)) ≡ true
+rook_at_home : (p : Setup) (c : Colour) (wing : Wing) → IsSound p → has_right_of p.rights c wing ≡ true
+    → is_rook_of c (man_at p.men (rook_home c wing)) ≡ true
 rook_at_home p c wing sound right =
     let right_men : Colour → Wing → Bool = has_men_of_right p.men p.rights in
     let all = four_parts (right_men White KingSide) (right_men White QueenSide) (right_men Black KingSide) (right_men Black QueenSide) sound.rights in
@@ -55,7 +57,8 @@ rook_at_home p c wing sound right =
     (and_parts (is_king_of c (man_at p.men (king_home c))) (is_rook_of c (man_at p.men (rook_home c wing))) (rw right at one)).1
   where
     pick : (c : Colour) (wing : Wing) → has_men_of_right p.men p.rights White KingSide ≡ true → has_men_of_right p.men p.rights White QueenSide ≡ true
-        → has_men_of_right p.men p.rights Black KingSide ≡ true → has_men_of_right p.men p.rights Black QueenSide ≡ true → has_men_of_right p.men p.rights c wing ≡ true
+        → has_men_of_right p.men p.rights Black KingSide ≡ true → has_men_of_right p.men p.rights Black QueenSide ≡ true
+        → has_men_of_right p.men p.rights c wing ≡ true
     pick White KingSide a b c d = a
     pick White QueenSide a b c d = b
     pick Black KingSide a b c d = c
@@ -94,12 +97,14 @@ safe_at p a b = not (is_in_check (men_after p (king p.side) (move_of a b None)) 
 in_check_stepped : (info : LegalityInfo) (p : Setup) (b : ℕ) → IsLegalityInfoOf info p → b < 64 → eqb (file_gap info.king b) 2 ≡ false
     → is_in_check (men_after p (king p.side) (move_of info.king b None)) p.side ≡ is_hit (moved p.men info.king b (king p.side)) b (other_side p.side)
 in_check_stepped info p b h on near =
-    rw near (in_check_there (moved p.men info.king b (king p.side)) p.side b (king_goes p.men p.side info.king b h.sound.squares on (king_of_scene info p h)))
+    rw near (in_check_there (moved p.men info.king b (king p.side)) p.side b
+    (king_goes p.men p.side info.king b h.sound.squares on (king_of_scene info p h)))
 
 -- The same once it castled.
 in_check_castled : (info : LegalityInfo) (p : Setup) (b : ℕ) → IsLegalityInfoOf info p → b < 64 → castles p p.side info.king b ≡ true
     → is_in_check (men_after p (king p.side) (move_of info.king b None)) p.side
-    ≡ is_hit (moved (moved p.men info.king b (king p.side)) (rook_home p.side (wing_of info.king b)) (crossed info.king b) (rook p.side)) b (other_side p.side)
+    ≡ is_hit (moved (moved p.men info.king b (king p.side)) (rook_home p.side (wing_of info.king b))
+    (crossed info.king b) (rook p.side)) b (other_side p.side)
 in_check_castled info p b h on castled_there =
     let w = some_wing p p.side info.king b castled_there in
     let far : eqb (file_gap info.king b) 2 ≡ true = rw (w.1.home, w.1.goal) (goal_is_far p.side w.0) in
@@ -110,14 +115,17 @@ in_check_castled info p b h on castled_there =
     let home : b ≢ rook_home p.side (wing_of info.king b) = rw (w.1.home, w.1.goal, wing_is p.side w.0) apart.0 in
     let over : b ≢ crossed info.king b = rw (w.1.home, w.1.goal) apart.1 in
     rw far (in_check_there (castled men p.side info.king b) p.side b
-    (king_stays men p.side b (rook_home p.side (wing_of info.king b)) (crossed info.king b) (rook p.side) long went home over (and-false (is_colour p.side p.side))))
+    (king_stays men p.side b (rook_home p.side (wing_of info.king b)) (crossed info.king b)
+    (rook p.side) long went home over (and-false (is_colour p.side p.side))))
 
-found_rook : (c : Colour) (place : Option Man) → is_rook_of c place ≡ true → (man : Man) × (place ≡ Some man) × (is_colour (other_side c) man.colour ≡ false)
+found_rook : (c : Colour) (place : Option Man) → is_rook_of c place ≡ true
+    → (man : Man) × (place ≡ Some man) × (is_colour (other_side c) man.colour ≡ false)
 found_rook c None h = absurd (cc)
 found_rook c (Some man) h = (man, refl, own_rook_not_other c (Some man) h)
 
 -- A king that castled is not in check.
-safe_castled : (info : LegalityInfo) (p : Setup) (b : ℕ) → IsLegalityInfoOf info p → b < 64 → castles p p.side info.king b ≡ true → safe_at p info.king b ≡ true
+safe_castled : (info : LegalityInfo) (p : Setup) (b : ℕ) → IsLegalityInfoOf info p → b < 64
+    → castles p p.side info.king b ≡ true → safe_at p info.king b ≡ true
 safe_castled info p b h on castled_there =
     let c : Colour = p.side in
     let w = some_wing p c info.king b castled_there in
@@ -126,21 +134,25 @@ safe_castled info p b h on castled_there =
     let there : man_at p.men (king_home c) ≡ Some (king c) = ap (man_at p.men) (sym w.1.home) ∙ h.king in
     let on_goal : king_goal c w.0 < 64 = rw w.1.goal at on in
     let safe : is_hit p.men (king_goal c w.0) (other_side c) ≡ false =
-    sym (attacked_same p.men (king_goal c w.0) (other_side c) on_goal) ∙ ap (λ s. is_attacked p.men s (other_side c)) (sym w.1.goal) ∙ w.1.safe_goal in
+    sym (attacked_same p.men (king_goal c w.0) (other_side c) on_goal)
+    ∙ ap (λ s. is_attacked p.men s (other_side c)) (sym w.1.goal) ∙ w.1.safe_goal in
     let checked : is_in_check (men_after p (king c) (move_of info.king b None)) c ≡ false =
     in_check_castled info p b h on castled_there
-    ∙ rw (w.1.home, w.1.goal, wing_is c w.0) (unattacked_castled p.men c w.0 (king c) found.0 (other_side c) h.sound.squares there found.1 own found.2 (king c) (rook c) own own safe) in
+    ∙ rw (w.1.home, w.1.goal, wing_is c w.0) (unattacked_castled p.men c w.0 (king c) found.0
+    (other_side c) h.sound.squares there found.1 own found.2 (king c) (rook c) own own safe) in
     ap not checked
 
 -- The origin of a king is that of the legality information.
-pub king_origin : (info : LegalityInfo) (p : Setup) (man : Man) (o : ℕ) → IsLegalityInfoOf info p → o < 64 → man_at p.men o ≡ Some man → man.colour ≡ p.side → man.kind ≡ King → o ≡ info.king
+pub king_origin : (info : LegalityInfo) (p : Setup) (man : Man) (o : ℕ) → IsLegalityInfoOf info p → o < 64
+    → man_at p.men o ≡ Some man → man.colour ≡ p.side → man.kind ≡ King → o ≡ info.king
 king_origin info p man o h on there own is_king =
     let colour = same_colour p.side p.side refl in
     (king_of_scene info p h).alone o on (rw (there, is_king, own, colour) refl)
 
 -- Its steps and its castlings together are where the king goes.
 pub king_goals : (p : Setup) (man : Man) (o k steps castlings t : ℕ) → man.colour ≡ p.side → man.kind ≡ King → o ≡ k
-    → has steps t ≡ piece_goes p man.colour man.kind o t → has castlings t ≡ castles p p.side k t → has (bit_or steps castlings) t ≡ goes p p.side King k t
+    → has steps t ≡ piece_goes p man.colour man.kind o t → has castlings t ≡ castles p p.side k t
+    → has (bit_or steps castlings) t ≡ goes p p.side King k t
 king_goals p man o k steps castlings t own is_king at steps_are castlings_are =
     let near = rw (own, is_king, at) at steps_are in
     rw (has_or steps castlings t, near, castlings_are) refl
@@ -154,7 +166,8 @@ king_goes_safely p man o k t None own is_king at suited =
 king_goes_safely p man o k t (Some r) own is_king at suited = let never = rw is_king at suited in cc
 
 -- A king's step is asked about over the board without the king.
-pub step_safe : (info : LegalityInfo) (p : Setup) (man : Man) (o steps t : ℕ) → IsLegalityInfoOf info p → t < 64 → man.colour ≡ p.side → man.kind ≡ King → o ≡ info.king
+pub step_safe : (info : LegalityInfo) (p : Setup) (man : Man) (o steps t : ℕ) → IsLegalityInfoOf info p → t < 64
+    → man.colour ≡ p.side → man.kind ≡ King → o ≡ info.king
     → has steps t ≡ piece_goes p man.colour man.kind o t → has steps t ≡ true
     → (goes p p.side King info.king t ≡ true) × (not (is_hit (moved p.men info.king t (king p.side)) t (other_side p.side)) ≡ safe_at p info.king t)
 step_safe info p man o steps t h on own is_king at steps_are there =
@@ -173,8 +186,10 @@ either_safely false true false h = h refl
 either_safely false false safe h = refl
 
 -- It goes safely where a step is safe and where it castles.
-pub king_goes_safely_there : (info : LegalityInfo) (p : Setup) (man : Man) (o steps castlings t : ℕ) (r : Option Kind) → IsLegalityInfoOf info p → t < 64
-    → man.colour ≡ p.side → man.kind ≡ King → o ≡ info.king → has steps t ≡ piece_goes p man.colour man.kind o t → has castlings t ≡ castles p p.side info.king t
+pub king_goes_safely_there : (info : LegalityInfo) (p : Setup) (man : Man) (o steps castlings t : ℕ) (r : Option Kind)
+    → IsLegalityInfoOf info p → t < 64
+    → man.colour ≡ p.side → man.kind ≡ King → o ≡ info.king → has steps t ≡ piece_goes p man.colour man.kind o t
+    → has castlings t ≡ castles p p.side info.king t
     → suits man t r ≡ true → goes_safely p man o t r ≡ ((has steps t && safe_at p info.king t) || has castlings t)
 king_goes_safely_there info p man o steps castlings t r h on own is_king at steps_are castlings_are suited =
     let k : ℕ = info.king in

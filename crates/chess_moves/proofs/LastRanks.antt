@@ -1,5 +1,6 @@
 -- The last ranks as sets, and how many moves a man has to a set of targets.
-use Rattle.std.proofs.Common.{◌≡◌, ℕ, zero, suc, ◌+◌, ◌*◌, ◌<◌, ◌≤◌, ◌^◌, Bool, true, false, ◌&&◌, eqb, cond, [], ◌∷◌, length, None, refl, sym, ap, ◌∙◌, arith, length-append, inl, inr}
+use Rattle.std.proofs.Common.{◌≡◌, ℕ, zero, suc, ◌+◌, ◌*◌, ◌<◌, ◌≤◌, ◌^◌, Bool, true, false, ◌&&◌, eqb, cond}
+use Rattle.std.proofs.Common.{[], ◌∷◌, length, None, refl, sym, ap, ◌∙◌, arith, length-append, inl, inr}
 use Rattle.std.specs.List.{flat_map}
 use Rattle.std.specs.Int.RustNames.{bit_and, count_ones}
 use Rattle.std.proofs.lemmas.Bool.{and_parts, cases_eq}
@@ -37,7 +38,8 @@ each test (suc n) s h l =
 -- the eighth rank and the first, square by square
 pub has-eighth : (s : ℕ) → s < 64 → has 18374686479671623680 s ≡ eqb (rank_of s) 7
 unfolding all_below
-has-eighth s l = same_equal (has 18374686479671623680 s) (eqb (rank_of s) 7) (each (λ t. same (has 18374686479671623680 t) (eqb (rank_of t) 7)) 64 s refl l)
+has-eighth s l = same_equal (has 18374686479671623680 s) (eqb (rank_of s) 7)
+    (each (λ t. same (has 18374686479671623680 t) (eqb (rank_of t) 7)) 64 s refl l)
 
 pub has-first : (s : ℕ) → s < 64 → has 255 s ≡ eqb (rank_of s) 0
 unfolding all_below
@@ -52,12 +54,14 @@ module _ (man : Man) (o set last : ℕ) (is : (t : ℕ) → t < 64 → has last 
       one true false = refl
       one false q = refl
 
-  many_below : (n : ℕ) → n ≤ 64 → length (flat_map (ways man o) (members_below set n)) ≡ length (members_below set n) + 3 * length (members_below (bit_and set last) n)
+  many_below : (n : ℕ) → n ≤ 64 → length (flat_map (ways man o) (members_below set n))
+      ≡ length (members_below set n) + 3 * length (members_below (bit_and set last) n)
   unfolding members_below
   many_below zero h = refl
   many_below (suc n) h = omega (
     arith,
-    ap length (flat_map-below_suc (ways man o) set n) ∙ length-append (flat_map (ways man o) (members_below set n)) (cond (has set n) (ways man o n) []),
+    ap length (flat_map-below_suc (ways man o) set n)
+        ∙ length-append (flat_map (ways man o) (members_below set n)) (cond (has set n) (ways man o n) []),
     many_below n (omega arith),
     many_to n (omega arith),
     length-below_more set n,
@@ -67,4 +71,9 @@ module _ (man : Man) (o set last : ℕ) (is : (t : ℕ) → t < 64 → has last 
   -- one to each target, and three more where the man is promoted
   pub many_ways : set < 2 ^ 64 → length (flat_map (ways man o) (members set)) ≡ count_ones set + 3 * count_ones (bit_and set last)
   unfolding members
-  many_ways fits = omega (arith, many_below 64 (omega arith), length-members set fits, length-members (bit_and set last) (omega (arith, and_le_l set last)))
+  many_ways fits = omega (
+    arith,
+    many_below 64 (omega arith),
+    length-members set fits,
+    length-members (bit_and set last) (omega (arith, and_le_l set last)),
+  )

@@ -1,6 +1,7 @@
 -- A bishop's line is one of four directions, and a rook's line one of the other four.
 use Rattle.std.proofs.Common.{◌≡◌, ◌≢◌, ℕ, ◌/◌, ◌%◌, ◌<◌, true, not, ◌||◌, eqb, ◌⊎◌, inl, inr, sym, arith}
-use Rattle.std.proofs.lemmas.Bool.{and_parts, and_from, or_cases, or_left, or_right, eqb-true, eq-eqb, ne_eqb, eqb-false, not-true, not_from_false, cases_order}
+use Rattle.std.proofs.lemmas.Bool.{and_parts, and_from, or_cases, or_left, or_right, eqb-true, eq-eqb}
+use Rattle.std.proofs.lemmas.Bool.{ne_eqb, eqb-false, not-true, not_from_false, cases_order}
 use Rattle.chess_board.specs.Squares.{file_gap, rank_gap}
 use Rattle.chess_board.specs.Attacks.{on_one_rank, on_one_file, on_one_diagonal, is_rook_line, is_bishop_line}
 use Rattle.chess_moves.specs.declared.directions.Direction.TheVariants.{North, NorthEast, East, SouthEast, South, SouthWest, West, NorthWest}

@@ -20,7 +20,8 @@ begun_has m [] line (k, on, e) = absurd (omega arith)
 begun_has m (x ∷ xs) line (zero, on, e) = (0, omega arith, ap (λ (l : List Move). m ∷ l) e)
 begun_has m (x ∷ xs) line (suc k, on, e) = Contains-append_right ((m ∷ x) ∷ []) (begun m xs) (m ∷ line) (begun_has m xs line (k, omega arith, e))
 
-pub begun_in : (m : Move) (lines : List (List Move)) (line : List Move) → Contains (begun m lines) line → (rest : List Move) × Contains lines rest × (line ≡ m ∷ rest)
+pub begun_in : (m : Move) (lines : List (List Move)) (line : List Move) → Contains (begun m lines) line
+    → (rest : List Move) × Contains lines rest × (line ≡ m ∷ rest)
 begun_in m [] line (k, on, e) = absurd (omega arith)
 begun_in m (x ∷ xs) line (zero, on, e) = (x, (0, omega arith, refl), sym e)
 begun_in m (x ∷ xs) line (suc k, on, e) =
@@ -34,9 +35,11 @@ module _ (f : Move → List (List Move)) where
   lines_have : (ms : List Move) (m : Move) (line : List Move) → Contains ms m → Contains (f m) line → Contains (lines_of ms) (m ∷ line)
   lines_have [] m line (k, on, e) c = absurd (omega arith)
   lines_have (x ∷ xs) m line (zero, on, e) c = rw e (Contains-append_left (begun m (f m)) (lines_of xs) (m ∷ line) (begun_has m (f m) line c))
-  lines_have (x ∷ xs) m line (suc k, on, e) c = Contains-append_right (begun x (f x)) (lines_of xs) (m ∷ line) (lines_have xs m line (k, omega arith, e) c)
+  lines_have (x ∷ xs) m line (suc k, on, e) c =
+      Contains-append_right (begun x (f x)) (lines_of xs) (m ∷ line) (lines_have xs m line (k, omega arith, e) c)
 
-  pub lines_in : (ms : List Move) (line : List Move) → Contains (lines_of ms) line → (m : Move) × (rest : List Move) × Contains ms m × Contains (f m) rest × (line ≡ m ∷ rest)
+  pub lines_in : (ms : List Move) (line : List Move) → Contains (lines_of ms) line
+      → (m : Move) × (rest : List Move) × Contains ms m × Contains (f m) rest × (line ≡ m ∷ rest)
   lines_in [] line (k, on, e) = absurd (omega arith)
   lines_in (x ∷ xs) line c = elim (Contains-append_cases (begun x (f x)) (lines_of xs) line c) [
     | inl h ↦ let r = begun_in x (f x) line h in (x, r.0, (0, omega arith, refl), r.1, r.2)
@@ -58,7 +61,8 @@ plays_have zero p [] h line = (0, omega arith, refl)
 plays_have zero p (m ∷ ms) h line = absurd (omega arith)
 plays_have (suc d) p [] h line = absurd (omega arith)
 plays_have (suc d) p (m ∷ ms) h line =
-    lines_have (λ m. plays (after_setup p m) d) (legal_moves p) m ms ((legal_listed p m).1 line.0) (plays_have d (after_setup p m) ms (omega arith) line.1)
+    lines_have (λ m. plays (after_setup p m) d) (legal_moves p) m ms ((legal_listed p m).1 line.0)
+    (plays_have d (after_setup p m) ms (omega arith) line.1)
 
 pub plays_listed : PlaysListed
 plays_listed p d ms = (plays_in d p ms, λ h. plays_have d p ms h.0 h.1)

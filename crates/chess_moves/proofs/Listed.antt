@@ -1,5 +1,6 @@
 -- The list holds exactly the legal moves.
-use Rattle.std.proofs.Common.{◌≡◌, ℕ, zero, suc, ◌<◌, Bool, true, false, cond, List, [], ◌∷◌, filter, Option, Some, None, refl, sym, ap, subst, ◌∙◌, arith, inl, inr}
+use Rattle.std.proofs.Common.{◌≡◌, ℕ, zero, suc, ◌<◌, Bool, true, false, cond, List, [], ◌∷◌, filter}
+use Rattle.std.proofs.Common.{Option, Some, None, refl, sym, ap, subst, ◌∙◌, arith, inl, inr}
 use Rattle.std.specs.Prelude.{Contains}
 use Rattle.std.specs.List.{list_all}
 use Rattle.std.specs.Prelude.{nat_lt, length}
@@ -98,13 +99,18 @@ unfolding legal_moves
 legal_listed p m = (
   (λ c. let s = sifted (is_legal p) (moves_below 64) m c in let r = below_in 64 m s.0 in (r.0, r.1, s.1)),
   (λ h. let w = played p m h.2 in
-      kept (is_legal p) (moves_below 64) m (below_has m.origin 64 m h.0 (to_has m.origin m.target 64 m h.1 (between_has w.0 m.origin m.target m.promotion w.1.suits))) h.2),
+      kept (is_legal p) (moves_below 64) m (below_has m.origin 64 m h.0
+      (to_has m.origin m.target 64 m h.1 (between_has w.0 m.origin m.target m.promotion w.1.suits))) h.2),
 )
 
 -- All that pass a test pass it.
 pub all_kept : (f : Move → Bool) (xs : List Move) → list_all f (filter f xs) ≡ true
 all_kept f [] = refl
-all_kept f (x ∷ xs) = (elim (f x) as (λ b. f x ≡ b → list_all f (cond b (x ∷ filter f xs) (filter f xs)) ≡ true) [ true ↦ λ e. rw e (all_kept f xs) | false ↦ λ e. all_kept f xs ]) refl
+all_kept f (x ∷ xs) = (elim (f x) as (λ b. f x ≡ b → list_all f (cond b (x ∷ filter f xs) (filter f xs)) ≡ true) [
+  | true ↦ λ e.
+      rw e (all_kept f xs)
+  | false ↦ λ e. all_kept f xs
+]) refl
 
 pub all_legal : (p : Setup) → list_all (is_legal p) (legal_moves p) ≡ true
 unfolding legal_moves
@@ -112,10 +118,11 @@ all_legal p = all_kept (is_legal p) (moves_below 64)
 
 -- A way that suits the man stands among its ways.
 ways_have : (man : Man) (o t : ℕ) (r : Option Kind) → suits man t r ≡ true → Contains (ways man o t) (move_of o t r)
-ways_have man o t None s = (elim (promotes man t) as (λ b. promotes man t ≡ b → Contains (cond b (promotions o t) (move_of o t None ∷ [])) (move_of o t None)) [
-  | true ↦ λ e. let never = rw e at s in cc
-  | false ↦ λ e. (0, omega arith, refl)
-]) refl
+ways_have man o t None s = (elim (promotes man t) as (λ b. promotes man t ≡ b
+    → Contains (cond b (promotions o t) (move_of o t None ∷ [])) (move_of o t None)) [
+      | true ↦ λ e. let never = rw e at s in cc
+      | false ↦ λ e. (0, omega arith, refl)
+    ]) refl
 ways_have man o t (Some asked) s =
     let both = and_parts (promotes man t) (is_promotion asked) s in
     let promoted : promotes man t ≡ true = both.0 in
@@ -130,19 +137,23 @@ ways_have man o t (Some asked) s =
     one King h = cc
 
 -- Such a way is legal where its square is a target.
-pub legal_target : (p : Setup) (man : Man) (o t : ℕ) (r : Option Kind) (is : Bool) → suits man t r ≡ true → IsTarget is p man o t → is_legal p (move_of o t r) ≡ is
+pub legal_target : (p : Setup) (man : Man) (o t : ℕ) (r : Option Kind) (is : Bool) → suits man t r ≡ true
+    → IsTarget is p man o t → is_legal p (move_of o t r) ≡ is
 legal_target p man o t r true s are =
-    (sifted (is_legal p) (moves_between o t) (move_of o t r) (subst (λ (ms : List Move). Contains ms (move_of o t r)) (sym are) (ways_have man o t r s))).1
+    (sifted (is_legal p) (moves_between o t) (move_of o t r)
+    (subst (λ (ms : List Move). Contains ms (move_of o t r)) (sym are) (ways_have man o t r s))).1
 legal_target p man o t r false s are = (elim (is_legal p (move_of o t r)) as (λ b. is_legal p (move_of o t r) ≡ b → b ≡ false) [
   | false ↦ λ e. refl
-  | true ↦ λ e. absurd (nowhere (subst (λ (ms : List Move). Contains ms (move_of o t r)) are (kept (is_legal p) (moves_between o t) (move_of o t r) (between_has man o t r s) e)))
+  | true ↦ λ e. absurd (nowhere (subst (λ (ms : List Move). Contains ms (move_of o t r)) are
+      (kept (is_legal p) (moves_between o t) (move_of o t r) (between_has man o t r s) e)))
 ]) refl
   where
     nowhere : Contains {X = Move} [] (move_of o t r) → ⊥
     nowhere (k, on, e) = omega arith
 
 -- A man that is not promoted on a target has a legal move.
-pub some_legal : (p : Setup) (man : Man) (o t : ℕ) → t < 64 → promotes man t ≡ false → IsTarget true p man o t → nat_lt 0 (length (filter (is_legal p) (moves_to o 64))) ≡ true
+pub some_legal : (p : Setup) (man : Man) (o t : ℕ) → t < 64 → promotes man t ≡ false → IsTarget true p man o t
+    → nat_lt 0 (length (filter (is_legal p) (moves_to o 64))) ≡ true
 some_legal p man o t on last are =
     let suited : suits man t None ≡ true = rw last refl in
     let legal = legal_target p man o t None true suited are in

@@ -23,7 +23,8 @@ hits_same p q h colour Rook a b = straight_same p q h a b
 hits_same p q h colour Queen a b = rw (slants_same p q h a b, straight_same p q h a b)
 hits_same p q h colour King a b = refl
 
-pub hits_by_set : (men : List (Option Man)) (occupied : ℕ) → IsSetOf occupied is_some men → (colour : Colour) (asked : Kind) (a b : ℕ) → a < 64 → b < 64
+pub hits_by_set : (men : List (Option Man)) (occupied : ℕ) → IsSetOf occupied is_some men
+    → (colour : Colour) (asked : Kind) (a b : ℕ) → a < 64 → b < 64
     → hits_as (has occupied) colour asked a b ≡ attacks_as men colour asked a b
 hits_by_set men occupied set colour asked a b j k =
     hits_same (has occupied) (λ s. is_taken men s) set colour asked a b ∙ sym (attacks_same men colour asked a b j k)

@@ -1,5 +1,6 @@
 -- Mate, told from the king's moves and those of the other men.
-use Rattle.std.proofs.Common.{◌≡◌, ℕ, ◌+◌, ◌^◌, ◌<◌, Bool, true, false, not, ◌&&◌, ◌||◌, eqb, cond, zero-add, ◌≤◌, length, refl, sym, ap, ◌∙◌, arith, w64, bit_and, zero, suc}
+use Rattle.std.proofs.Common.{◌≡◌, ℕ, ◌+◌, ◌^◌, ◌<◌, Bool, true, false, not, ◌&&◌, ◌||◌, eqb, cond, zero-add}
+use Rattle.std.proofs.Common.{◌≤◌, length, refl, sym, ap, ◌∙◌, arith, w64, bit_and, zero, suc}
 use Rattle.std.specs.Prelude.{nat_lt}
 use Rattle.std.specs.Int.{bit_not}
 use Rattle.std.proofs.lemmas.Bool.{eqb-true, eqb-false, ne_eqb, and_parts, lt-ltb, ltb-true, ltb-false}
@@ -42,7 +43,8 @@ none_below : (p : Setup) (set k n : ℕ) → ((s : ℕ) → s < n → has set s 
 none_below p set k zero is l = many_none p set
 none_below p set k (suc n) is l =
     let out : has set n ≡ false = is n (omega arith) ∙ ne_eqb n k (omega arith) in
-    many_below_suc p set n ∙ ap (λ b. many_below p set n + cond b (many_from p n) 0) out ∙ omega (arith, none_below p set k n (λ s h. is s (omega arith)) (omega arith))
+    many_below_suc p set n ∙ ap (λ b. many_below p set n + cond b (many_from p n) 0) out
+    ∙ omega (arith, none_below p set k n (λ s h. is s (omega arith)) (omega arith))
 
 one_below : (p : Setup) (set k n : ℕ) → ((s : ℕ) → s < n → has set s ≡ eqb s k) → k < n → many_below p set n ≡ many_from p k
 one_below p set k zero is l = absurd (omega arith)
@@ -51,7 +53,8 @@ one_below p set k (suc n) is l = (elim (eqb n k) as (λ b. eqb n k ≡ b → man
       let same = eqb-true n k e in
       let on : has set n ≡ true = is n (omega arith) ∙ e in
       many_below_suc p set n ∙ ap (λ b. many_below p set n + cond b (many_from p n) 0) on
-      ∙ ap (λ x. x + many_from p n) (none_below p set k n (λ s h. is s (omega arith)) (omega arith)) ∙ zero-add (many_from p n) ∙ ap (many_from p) same
+      ∙ ap (λ x. x + many_from p n) (none_below p set k n (λ s h. is s (omega arith)) (omega arith))
+      ∙ zero-add (many_from p n) ∙ ap (many_from p) same
   | false ↦ λ e.
       let apart = eqb-false n k e in
       let out : has set n ≡ false = is n (omega arith) ∙ e in
@@ -93,7 +96,8 @@ king_moves info p h some =
       | false ↦ λ e. let apart = eqb-false n k e in omega (arith, many_below_suc p set n, from_below set k n (omega arith) on)
     ]) refl
 
-pub mate_by : (p : Setup) (check : Bool) (moves : Bool) → is_in_check p.men p.side ≡ check → has_legal_move p ≡ moves → is_mate p ≡ (check && not moves)
+pub mate_by : (p : Setup) (check : Bool) (moves : Bool) → is_in_check p.men p.side ≡ check
+    → has_legal_move p ≡ moves → is_mate p ≡ (check && not moves)
 mate_by p check moves e f = rw (e, f) refl
 
 -- No move without check mates.

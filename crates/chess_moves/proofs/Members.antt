@@ -1,5 +1,6 @@
 -- The squares of a set, rising: what is made of each, and that they are as many as its word has ones.
-use Rattle.std.proofs.Common.{◌≡◌, ℕ, zero, suc, ◌+◌, ◌/◌, ◌^◌, ◌<◌, Bool, true, false, cond, eqb, List, [], ◌∷◌, ◌++◌, length, refl, ap, ◌∙◌, arith, append-nil, length-append}
+use Rattle.std.proofs.Common.{◌≡◌, ℕ, zero, suc, ◌+◌, ◌/◌, ◌^◌, ◌<◌, Bool, true, false, cond, eqb, List}
+use Rattle.std.proofs.Common.{[], ◌∷◌, ◌++◌, length, refl, ap, ◌∙◌, arith, append-nil, length-append}
 use Rattle.std.specs.List.{flat_map}
 use Rattle.std.specs.Int.{bit_at}
 use Rattle.std.specs.Int.RustNames.{count_ones}
@@ -19,9 +20,11 @@ unfolding members
 no_members set h = rw h (below_none 64)
 
 -- what a function makes of each, one after the other
-pub flat_map-below_suc : {X : Type 0} (f : ℕ → List X) (set n : ℕ) → flat_map f (members_below set (suc n)) ≡ flat_map f (members_below set n) ++ cond (has set n) (f n) []
+pub flat_map-below_suc : {X : Type 0} (f : ℕ → List X) (set n : ℕ)
+    → flat_map f (members_below set (suc n)) ≡ flat_map f (members_below set n) ++ cond (has set n) (f n) []
 unfolding members_below
-flat_map-below_suc f set n = flat_map-append f (members_below set n) (cond (has set n) (n ∷ []) []) ∙ ap (λ xs. flat_map f (members_below set n) ++ xs) (one (has set n))
+flat_map-below_suc f set n = flat_map-append f (members_below set n) (cond (has set n) (n ∷ []) [])
+    ∙ ap (λ xs. flat_map f (members_below set n) ++ xs) (one (has set n))
   where
     one : (b : Bool) → flat_map f (cond b (n ∷ []) []) ≡ cond b (f n) []
     one true = append-nil (f n)
@@ -31,7 +34,8 @@ flat_map-below_suc f set n = flat_map-append f (members_below set n) (cond (has 
 
 pub length-below_more : (set n : ℕ) → length (members_below set (suc n)) ≡ length (members_below set n) + cond (has set n) 1 0
 unfolding members_below
-length-below_more set n = length-append (members_below set n) (cond (has set n) (n ∷ []) []) ∙ ap (λ (x : ℕ). length (members_below set n) + x) (one (has set n))
+length-below_more set n = length-append (members_below set n) (cond (has set n) (n ∷ []) [])
+    ∙ ap (λ (x : ℕ). length (members_below set n) + x) (one (has set n))
   where
     one : (b : Bool) → length (cond b (n ∷ []) []) ≡ cond b 1 0
     one true = refl
@@ -46,7 +50,13 @@ length-below_suc set zero = one (bit_at set 0) (bit_at-lt set 0)
     one zero h = refl
     one (suc zero) h = refl
     one (suc (suc x)) h = absurd (omega arith)
-length-below_suc set (suc n) = omega (arith, length-below_more set (suc n), length-below_more (set / 2) n, length-below_suc set n, ap {B = ℕ} (λ (x : ℕ). cond (eqb x 1) 1 0) (bit_at-suc set n))
+length-below_suc set (suc n) = omega (
+  arith,
+  length-below_more set (suc n),
+  length-below_more (set / 2) n,
+  length-below_suc set n,
+  ap {B = ℕ} (λ (x : ℕ). cond (eqb x 1) 1 0) (bit_at-suc set n),
+)
 
 length-below : (n set : ℕ) → set < 2 ^ n → length (members_below set n) ≡ count_ones set
 unfolding members_below count_ones

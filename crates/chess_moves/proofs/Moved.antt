@@ -1,5 +1,6 @@
 -- Sets when one square of the board changes.
-use Rattle.std.proofs.Common.{◌≡◌, ◌≢◌, ℕ, ◌<◌, Bool, true, false, not, ◌&&◌, ◌||◌, List, Option, None, Some, refl, sym, ap, ◌∙◌, eqb, length, get_or, set, get_or-set_same, get_or-set_other, arith}
+use Rattle.std.proofs.Common.{◌≡◌, ◌≢◌, ℕ, ◌<◌, Bool, true, false, not, ◌&&◌, ◌||◌, List, Option, None, Some, refl}
+use Rattle.std.proofs.Common.{sym, ap, ◌∙◌, eqb, length, get_or, set, get_or-set_same, get_or-set_other, arith}
 use Rattle.std.proofs.lemmas.Bool.{eqb-true, eqb-false, and_left, eq-eqb, ne_eqb}
 use Rattle.square_sets.specs.Members.{has}
 use Rattle.chess_board.specs.declared.men.Colour.{Colour}

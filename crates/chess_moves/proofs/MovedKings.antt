@@ -1,5 +1,6 @@
 -- Where a colour's king stands once a man moved, and that it stands nowhere else.
-use Rattle.std.proofs.Common.{◌≡◌, ◌≢◌, ℕ, ◌<◌, true, false, List, length, Option, Some, None, sym, ap, subst, ◌∙◌, inl, inr, arith, length-set, get_or-set_other, get_or-set_same}
+use Rattle.std.proofs.Common.{◌≡◌, ◌≢◌, ℕ, ◌<◌, true, false, List, length, Option, Some, None, sym, ap, subst}
+use Rattle.std.proofs.Common.{◌∙◌, inl, inr, arith, length-set, get_or-set_other, get_or-set_same}
 use Rattle.std.proofs.lemmas.Bool.{cases_eq}
 use Rattle.chess_board.specs.declared.men.Colour.{Colour}
 use Rattle.chess_board.specs.declared.men.Kind.TheVariants.{King}
@@ -49,7 +50,8 @@ there_after P men a b man s long on new gone old = elim (cases_eq s b) [
 ]
 
 -- what stands on a square once another man was taken away
-there_cleared : (P : Option Man → Type 0) (men : List (Option Man)) (v s : ℕ) → length men ≡ 64 → s < 64 → P None → (s ≢ v → P (man_at men s)) → P (man_at (cleared men v) s)
+there_cleared : (P : Option Man → Type 0) (men : List (Option Man)) (v s : ℕ) → length men ≡ 64 → s < 64 → P None
+    → (s ≢ v → P (man_at men s)) → P (man_at (cleared men v) s)
 there_cleared P men v s long on gone old = elim (cases_eq s v) [
   | inl here ↦
       let at : v < length men = omega arith in
@@ -63,7 +65,8 @@ Alone : Colour → ℕ → ℕ → Option Man → Type 0
 Alone c k s place = is_king_of c place ≡ true → s ≡ k
 
 -- Another man moved: the king stands where it stood.
-pub king_stays : (men : List (Option Man)) (c : Colour) (k a b : ℕ) (man : Man) → length men ≡ 64 → IsKingAt men c k → k ≢ a → k ≢ b → is_king_of c (Some man) ≡ false
+pub king_stays : (men : List (Option Man)) (c : Colour) (k a b : ℕ) (man : Man) → length men ≡ 64 → IsKingAt men c k → k ≢ a
+    → k ≢ b → is_king_of c (Some man) ≡ false
     → IsKingAt (moved men a b man) c k
 unfolding Alone
 king_stays men c k a b man long h off to other = record {
@@ -73,7 +76,8 @@ king_stays men c k a b man long h off to other = record {
 }
 
 -- The king moved.
-pub king_goes : (men : List (Option Man)) (c : Colour) (k b : ℕ) → length men ≡ 64 → b < 64 → IsKingAt men c k → IsKingAt (moved men k b (record { colour = c; kind = King })) c b
+pub king_goes : (men : List (Option Man)) (c : Colour) (k b : ℕ) → length men ≡ 64 → b < 64 → IsKingAt men c k
+    → IsKingAt (moved men k b (record { colour = c; kind = King })) c b
 unfolding Alone
 king_goes men c k b long on_b h =
     let king : Man = record { colour = c; kind = King } in record {

@@ -1,5 +1,6 @@
 -- A man's moves to some of its targets, where no other passes a test.
-use Rattle.std.proofs.Common.{◌≡◌, ℕ, zero, suc, ◌<◌, Bool, true, false, ◌&&◌, ◌||◌, cond, List, [], ◌∷◌, filter, Some, refl, sym, ap, ◌∙◌, arith, bit_and}
+use Rattle.std.proofs.Common.{◌≡◌, ℕ, zero, suc, ◌<◌, Bool, true, false, ◌&&◌, ◌||◌, cond, List}
+use Rattle.std.proofs.Common.{[], ◌∷◌, filter, Some, refl, sym, ap, ◌∙◌, arith, bit_and}
 use Rattle.std.specs.Prelude.{Contains}
 use Rattle.std.specs.List.{list_any, list_all, flat_map}
 use Rattle.std.proofs.lemmas.List.Folds.{list_any-append, list_all-append}
@@ -45,7 +46,8 @@ any_narrowed f man o set targets (suc n) h =
     ∙ sym (ap (list_any f) (flat_map-below_suc (ways man o) targets n)
     ∙ list_any-append f (flat_map (ways man o) (members_below targets n)) (cond (has targets n) (ways man o n) []))
   where
-    cases : (s t : Bool) → (t ≡ true → s ≡ false → list_any f (ways man o n) ≡ false) → list_any f (cond (s && t) (ways man o n) []) ≡ list_any f (cond t (ways man o n) [])
+    cases : (s t : Bool) → (t ≡ true → s ≡ false → list_any f (ways man o n) ≡ false)
+        → list_any f (cond (s && t) (ways man o n) []) ≡ list_any f (cond t (ways man o n) [])
     cases true t k = refl
     cases false true k = sym (k refl refl)
     cases false false k = refl
@@ -74,7 +76,8 @@ abbrev pub AreCheckSquares : ℕ → Setup → ℕ → Type 0
 AreCheckSquares set p o = (m : Move) → is_legal p m ≡ true → m.origin ≡ o → m.target < 64 → has set m.target ≡ false → gives_check p m ≡ false
 
 abbrev pub AreMateSquares : ℕ → Setup → ℕ → Type 0
-AreMateSquares set p o = (m : Move) → is_legal p m ≡ true → m.origin ≡ o → m.target < 64 → has set m.target ≡ false → is_mate (after_setup p m) ≡ false
+AreMateSquares set p o = (m : Move) → is_legal p m ≡ true → m.origin ≡ o → m.target < 64
+    → has set m.target ≡ false → is_mate (after_setup p m) ≡ false
 
 -- So only a move from the one to the other may mate.
 pub mate_squares : (p : Setup) (man : Man) (o checks goals : ℕ) → man_at p.men o ≡ Some man → AreCheckSquares checks p o
@@ -85,7 +88,8 @@ mate_squares p man o checks goals there check reached m legal at t_on out =
     let same : by.0 ≡ man = let is = by.1.there in cc in
     let gone : goes p man.colour man.kind o m.target ≡ true = ap (λ s. goes p man.colour man.kind s m.target) (sym at)
     ∙ ap (λ (x : Man). goes p x.colour x.kind m.origin m.target) (sym same) ∙ by.1.goes in
-    no_mate p m (check m legal at t_on (cases (has checks m.target) (has goals m.target) (sym (has_and checks goals m.target) ∙ out) (reached m.target t_on gone)))
+    no_mate p m (check m legal at t_on (cases (has checks m.target) (has goals m.target)
+    (sym (has_and checks goals m.target) ∙ out) (reached m.target t_on gone)))
   where
     cases : (x y : Bool) → (x && y) ≡ false → y ≡ true → x ≡ false
     cases true true e f = e
@@ -94,12 +98,14 @@ mate_squares p man o checks goals there check reached m legal at t_on out =
 
 -- Fewer squares, where moves to those that were dropped do not mate.
 pub fewer_squares : (p : Setup) (o hopes set : ℕ) → AreMateSquares hopes p o
-    → ((m : Move) → is_legal p m ≡ true → m.origin ≡ o → m.target < 64 → has hopes m.target ≡ true → has set m.target ≡ false → is_mate (after_setup p m) ≡ false)
+    → ((m : Move) → is_legal p m ≡ true → m.origin ≡ o → m.target < 64 → has hopes m.target ≡ true
+    → has set m.target ≡ false → is_mate (after_setup p m) ≡ false)
     → AreMateSquares set p o
-fewer_squares p o hopes set all dropped m legal at t_on out = (elim (has hopes m.target) as (λ b. has hopes m.target ≡ b → is_mate (after_setup p m) ≡ false) [
-  | true ↦ λ e. dropped m legal at t_on e out
-  | false ↦ λ e. all m legal at t_on e
-]) refl
+fewer_squares p o hopes set all dropped m legal at t_on out =
+    (elim (has hopes m.target) as (λ b. has hopes m.target ≡ b → is_mate (after_setup p m) ≡ false) [
+      | true ↦ λ e. dropped m legal at t_on e out
+      | false ↦ λ e. all m legal at t_on e
+    ]) refl
 
 module _ (p : Setup) (man : Man) (o set targets : ℕ) (quiet : AreMateSquares set p o) where
   -- Where there are none, the man does not mate.
@@ -110,7 +116,8 @@ module _ (p : Setup) (man : Man) (o set targets : ℕ) (quiet : AreMateSquares s
 
   -- It mates exactly where a move to one of them does.
   pub narrowed_mates : AreTargets targets p man o
-      → list_any (λ m. is_mate (after_setup p m)) (flat_map (ways man o) (members (bit_and set targets))) ≡ list_any (λ m. is_mate (after_setup p m)) (filter (is_legal p) (moves_to o 64))
+      → list_any (λ m. is_mate (after_setup p m)) (flat_map (ways man o) (members (bit_and set targets)))
+      ≡ list_any (λ m. is_mate (after_setup p m)) (filter (is_legal p) (moves_to o 64))
   unfolding members
   narrowed_mates are =
       any_narrowed (λ m. is_mate (after_setup p m)) man o set targets 64 (λ t l there out.

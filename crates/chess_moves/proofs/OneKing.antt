@@ -1,5 +1,6 @@
 -- A side's king stands on one square alone, and check is attack on that square.
-use Rattle.std.proofs.Common.{◌≡◌, ℕ, zero, suc, ◌+◌, ◌<◌, Bool, true, false, ◌&&◌, cond, List, [], ◌∷◌, length, get_or, count_by, Option, None, refl, sym, ap, ◌∙◌, arith}
+use Rattle.std.proofs.Common.{◌≡◌, ℕ, zero, suc, ◌+◌, ◌<◌, Bool, true, false, ◌&&◌, cond, List, [], ◌∷◌}
+use Rattle.std.proofs.Common.{length, get_or, count_by, Option, None, refl, sym, ap, ◌∙◌, arith}
 use Rattle.std.proofs.lemmas.Bool.{and_from}
 use Rattle.std.proofs.lemmas.List.Sums.{sum_by-cons}
 use Rattle.chess_board.specs.declared.men.Colour.{Colour}
@@ -66,13 +67,15 @@ in_check_at men c k on there alone =
     ]) refl ∙ attacked_same men k (other_side c) on
   where
     elsewhere : (s : ℕ) → s < 64 → is_attacked men k (other_side c) ≡ false → is_king_attacked men c s ≡ false
-    elsewhere s s_on safe = (elim (is_king_of c (man_at men s)) as (λ b. is_king_of c (man_at men s) ≡ b → (b && is_attacked men s (other_side c)) ≡ false) [
-      | true ↦ λ king. rw (alone s s_on king) safe
-      | false ↦ λ none. refl
-    ]) refl
+    elsewhere s s_on safe = (elim (is_king_of c (man_at men s)) as (λ b. is_king_of c (man_at men s) ≡ b
+        → (b && is_attacked men s (other_side c)) ≡ false) [
+          | true ↦ λ king. rw (alone s s_on king) safe
+          | false ↦ λ none. refl
+        ]) refl
 
 -- the same of the side to move
 pub in_check_is : (p : Setup) (king : ℕ) → IsSound p → king < 64 → man_at p.men king ≡ man_of p.side King
     → is_in_check p.men p.side ≡ is_attacked p.men king (other_side p.side)
 in_check_is p king sound on there =
-    in_check_at p.men p.side king on there (λ s l is. only_king p sound p.side king s on l there is) ∙ sym (attacked_same p.men king (other_side p.side) on)
+    in_check_at p.men p.side king on there (λ s l is. only_king p sound p.side king s on l there is)
+    ∙ sym (attacked_same p.men king (other_side p.side) on)

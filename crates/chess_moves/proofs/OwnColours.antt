@@ -36,7 +36,8 @@ other_not_own c None h = refl
 other_not_own c (Some man) h = other_is_not_own c man.colour h
 
 -- Where an own man stands, no man of the other side does.
-pub own_not_other : (p : Setup) (man : Man) (o : ℕ) → man_at p.men o ≡ Some man → man.colour ≡ p.side → is_of (other_side p.side) (man_at p.men o) ≡ false
+pub own_not_other : (p : Setup) (man : Man) (o : ℕ) → man_at p.men o ≡ Some man → man.colour ≡ p.side
+    → is_of (other_side p.side) (man_at p.men o) ≡ false
 own_not_other p man o there own = rw there (other_colour man.colour p.side own)
 
 pub own_rook_not_other : (c : Colour) (place : Option Man) → is_rook_of c place ≡ true → is_of (other_side c) place ≡ false

@@ -1,5 +1,6 @@
 -- How many moves free pawns have together, told from the sets to which they go.
-use Rattle.std.proofs.Common.{◌≡◌, ℕ, zero, suc, ◌+◌, ◌<◌, Bool, true, false, not, ◌&&◌, ◌||◌, eqb, cond, [], ◌∷◌, filter, length, Some, None, refl, sym, ap, ◌∙◌, arith, length-append, bit_and}
+use Rattle.std.proofs.Common.{◌≡◌, ℕ, zero, suc, ◌+◌, ◌<◌, Bool, true, false, not, ◌&&◌, ◌||◌, eqb, cond, [], ◌∷◌}
+use Rattle.std.proofs.Common.{filter, length, Some, None, refl, sym, ap, ◌∙◌, arith, length-append, bit_and}
 use Rattle.std.specs.List.{flat_map}
 use Rattle.std.proofs.lemmas.Bool.{and_parts, eqb-true}
 use Rattle.std.proofs.lemmas.List.Elements.{filter-append}
@@ -53,7 +54,8 @@ unfolding sum_to members_below
 ways_sum man o set zero = refl
 ways_sum man o set (suc n) = omega (
   arith,
-  ap length (flat_map-below_suc (ways man o) set n) ∙ length-append (flat_map (ways man o) (members_below set n)) (cond (has set n) (ways man o n) []),
+  ap length (flat_map-below_suc (ways man o) set n)
+      ∙ length-append (flat_map (ways man o) (members_below set n)) (cond (has set n) (ways man o n) []),
   ways_sum man o set n,
   ways_weight man o n (has set n),
 )
@@ -64,7 +66,8 @@ unfolding sum_to moves_to
 from_sum p o zero = refl
 from_sum p o (suc n) = omega (
   arith,
-  ap length (filter-append (is_legal p) (moves_to o n) (moves_between o n)) ∙ length-append (filter (is_legal p) (moves_to o n)) (filter (is_legal p) (moves_between o n)),
+  ap length (filter-append (is_legal p) (moves_to o n) (moves_between o n))
+      ∙ length-append (filter (is_legal p) (moves_to o n)) (filter (is_legal p) (moves_between o n)),
   from_sum p o n,
 )
 
@@ -75,7 +78,8 @@ men_sum p set zero = many_none p set
 men_sum p set (suc n) = omega (arith, many_below_suc p set n, men_sum p set n)
 
 -- One of two ways that exclude each other.
-either_way : (there r s a : Bool) (k : ℕ) → (r ≡ true → s ≡ false) → cond (there && ((r || s) && a)) k 0 ≡ cond (there && (r && a)) k 0 + cond (there && (s && a)) k 0
+either_way : (there r s a : Bool) (k : ℕ) → (r ≡ true → s ≡ false)
+    → cond (there && ((r || s) && a)) k 0 ≡ cond (there && (r && a)) k 0 + cond (there && (s && a)) k 0
 either_way false r s a k h = refl
 either_way true false s a k h = omega arith
 either_way true true s true k h = let e = h refl in rw e (omega arith)
@@ -96,7 +100,8 @@ from_behind true sh there here e a h = rw (h refl) (same sh there)
     same false false = refl
 
 -- The same through the square of a double step, which is empty.
-from_far_behind : (at sh sh2 there here under third crossed e a : Bool) → (at ≡ true → here ≡ there) → ((sh && sh2 && at && third) ≡ true → crossed ≡ under)
+from_far_behind : (at sh sh2 there here under third crossed e a : Bool) → (at ≡ true → here ≡ there)
+    → ((sh && sh2 && at && third) ≡ true → crossed ≡ under)
     → (at && (((sh && (((sh2 && here) && under) && third)) && e) && a)) ≡ (there && ((((sh && sh2 && at && third) && crossed) && e) && a))
 from_far_behind at false sh2 there here under third crossed e a h g = none at there
   where
@@ -132,7 +137,8 @@ from_far_behind true true true there here under true crossed e a h g = rw (h ref
     same false y = refl
 
 -- The same for a capture, from a file with a neighbour.
-from_beside : (at sh there here far off e a : Bool) → (at ≡ true → here ≡ there) → (at ≡ true → far ≡ off) → (at && (((sh && (here && not far)) && e) && a)) ≡ (there && (((sh && at && not off) && e) && a))
+from_beside : (at sh there here far off e a : Bool) → (at ≡ true → here ≡ there) → (at ≡ true → far ≡ off)
+    → (at && (((sh && (here && not far)) && e) && a)) ≡ (there && (((sh && at && not off) && e) && a))
 from_beside false sh there here far off e a h g = none sh there
   where
     none : (x y : Bool) → false ≡ (y && (((x && false && not off) && e) && a))
@@ -148,14 +154,19 @@ from_beside true sh there here far off e a h g = rw (h refl, g refl) (same sh th
     same false true z = refl
     same false false z = refl
 
-module _ (info : LegalityInfo) (p : Setup) (pawns once twice left right : ℕ) (h : IsLegalityInfoOf info p) (men : HaveMenOf Pawn pawns p) (free : AreFree pawns info p)
+module _ (info : LegalityInfo) (p : Setup) (pawns once twice left right : ℕ) (h : IsLegalityInfoOf info p)
+    (men : HaveMenOf Pawn pawns p) (free : AreFree pawns info p)
     (once_is : (t : ℕ) → t < 64 → has once t ≡ ((is_shifted info.side 8 t && has pawns (back info.side 8 t)) && is_empty p.men t))
-    (twice_is : (t : ℕ) → t < 64 → has twice t ≡ ((is_shifted info.side 8 t && (has once (back info.side 8 t) && eqb (rank_of (back info.side 8 t)) (third_rank info.side))) && is_empty p.men t))
-    (left_is : (t : ℕ) → t < 64 → has left t ≡ ((is_shifted info.side 7 t && (has pawns (back info.side 7 t) && not (eqb (file_of (back info.side 7 t)) (left_file info.side)))) && is_of (other_side info.side) (man_at p.men t)))
-    (right_is : (t : ℕ) → t < 64 → has right t ≡ ((is_shifted info.side 9 t && (has pawns (back info.side 9 t) && not (eqb (file_of (back info.side 9 t)) (right_file info.side)))) && is_of (other_side info.side) (man_at p.men t))) where
+    (twice_is : (t : ℕ) → t < 64 → has twice t ≡ ((is_shifted info.side 8 t
+    && (has once (back info.side 8 t) && eqb (rank_of (back info.side 8 t)) (third_rank info.side))) && is_empty p.men t))
+    (left_is : (t : ℕ) → t < 64 → has left t ≡ ((is_shifted info.side 7 t && (has pawns (back info.side 7 t)
+    && not (eqb (file_of (back info.side 7 t)) (left_file info.side)))) && is_of (other_side info.side) (man_at p.men t)))
+    (right_is : (t : ℕ) → t < 64 → has right t ≡ ((is_shifted info.side 9 t && (has pawns (back info.side 9 t) && not (eqb
+    (file_of (back info.side 9 t)) (right_file info.side)))) && is_of (other_side info.side) (man_at p.men t))) where
   -- A free pawn's moves are to the squares to which it goes plainly and answers the checks that there are.
   between : (o t : ℕ) → o < 64 → t < 64 → has pawns o ≡ true
-      → filter (is_legal p) (moves_between o t) ≡ cond (plain_ways p.men info.side o t && has info.check_mask t) (ways (record { colour = info.side; kind = Pawn }) o t) []
+      → filter (is_legal p) (moves_between o t) ≡ cond (plain_ways p.men info.side o t && has info.check_mask t)
+      (ways (record { colour = info.side; kind = Pawn }) o t) []
   between o t o_on on there =
       let man : Man = record { colour = info.side; kind = Pawn } in
       let stands : man_at p.men o ≡ Some man = men o o_on there ∙ ap (λ (c : Colour). man_of c Pawn) (sym h.side) in
@@ -164,9 +175,11 @@ module _ (info : LegalityInfo) (p : Setup) (pawns once twice left right : ℕ) (
       ways_kept p man o t (plain && has info.check_mask t) stands h.side (λ r suited.
       let own = other_colour (becomes man r).colour p.side (becomes_colour man r ∙ h.side) in
       let safe : has info.check_mask t ≡ not (is_hit (moved p.men o t (becomes man r)) info.king (other_side p.side)) =
-      h.check_mask t on ∙ safe_unpinned p.men (becomes man r) info.king o t (other_side p.side) h.sound.squares on own (λ a l. h.pin_squares o a o_on l f.0 (own_not_other p man o stands h.side)) in
+      h.check_mask t on ∙ safe_unpinned p.men (becomes man r) info.king o t (other_side p.side) h.sound.squares on own
+      (λ a l. h.pin_squares o a o_on l f.0 (own_not_other p man o stands h.side)) in
       let passing = f.1 t on in
-      pawn_goes_safely info p man o t r (has info.check_mask t) h stands h.side refl suited safe ∙ rw passing (or-false (plain && has info.check_mask t)))
+      pawn_goes_safely info p man o t r (has info.check_mask t) h stands h.side refl suited safe
+      ∙ rw passing (or-false (plain && has info.check_mask t)))
 
   -- It goes there in one of four ways, each from one square.
   by_way : (o t k : ℕ) → o < 64 → t < 64
@@ -192,32 +205,49 @@ module _ (info : LegalityInfo) (p : Setup) (pawns once twice left right : ℕ) (
       let at_s : ℕ → Bool = λ q. eqb o q in
       let ways' = ways_apart c o t o_on on in
       let moved_here = λ (q : ℕ) (e : eqb o q ≡ true). ap (has pawns) (sym (eqb-true o q e)) in
-      let steps_off : (r1 || r2) ≡ true → taking ≡ false = λ x. first_false (is_pawn_capture c o t) enemy (ways'.1 (either (is_step c o t) (is_empty p.men t) (is_double c o t) (is_empty p.men (crossed o t)) (is_empty p.men t) x)) in
-      let once_off : r1 ≡ true → r2 ≡ false = λ x. second_false (is_double c o t) (is_empty p.men (crossed o t)) (is_empty p.men t) (ways'.0 ((and_parts (is_step c o t) (is_empty p.men t) x).0)) in
+      let steps_off : (r1 || r2) ≡ true → taking ≡ false = λ x. first_false (is_pawn_capture c o t) enemy (ways'.1
+      (either (is_step c o t) (is_empty p.men t) (is_double c o t) (is_empty p.men (crossed o t)) (is_empty p.men t) x)) in
+      let once_off : r1 ≡ true → r2 ≡ false = λ x. second_false (is_double c o t) (is_empty p.men (crossed o t))
+      (is_empty p.men t) (ways'.0 ((and_parts (is_step c o t) (is_empty p.men t) x).0)) in
       let left_off : r3 ≡ true → r4 ≡ false = λ x. first_false (goes_right c o t) enemy (ways'.2 ((and_parts (goes_left c o t) enemy x).0)) in
-      let takes_is : taking ≡ (r3 || r4) = ap (λ (x : Bool). x && enemy) (capture_back_to c o t o_on on) ∙ spread (goes_left c o t) (goes_right c o t) enemy in
+      let takes_is : taking ≡ (r3 || r4) =
+      ap (λ (x : Bool). x && enemy) (capture_back_to c o t o_on on) ∙ spread (goes_left c o t) (goes_right c o t) enemy in
       let taken = ap (λ (x : Bool). cond (there && (x && a)) k 0) takes_is ∙ either_way there r3 r4 a k left_off in
       let f1 : (eqb o s && has (bit_and once info.check_mask) t) ≡ (there && (r1 && a)) =
       ap (λ (x : Bool). eqb o s && x) (has_and once info.check_mask t ∙ ap (λ (x : Bool). x && a) (once_is t on))
       ∙ from_behind (eqb o s) (is_shifted c 8 t) there (has pawns s) (is_empty p.men t) a (moved_here s)
       ∙ ap (λ (x : Bool). there && ((x && is_empty p.men t) && a)) (sym (step_back c o t o_on on)) in
-      let through : (is_shifted c 8 t && (has once s && eqb (rank_of s) (third_rank c))) ≡ (is_shifted c 8 t && (((is_shifted c 8 s && has pawns q2) && is_empty p.men s) && eqb (rank_of s) (third_rank c))) =
+      let through : (is_shifted c 8 t && (has once s && eqb (rank_of s) (third_rank c)))
+      ≡ (is_shifted c 8 t && (((is_shifted c 8 s && has pawns q2) && is_empty p.men s) && eqb (rank_of s) (third_rank c))) =
       and_when (is_shifted c 8 t) _ _ (λ e. ap (λ (x : Bool). x && eqb (rank_of s) (third_rank c)) (once_is s (back_on c 8 t on e))) in
       let f2 : (eqb o q2 && has (bit_and twice info.check_mask) t) ≡ (there && (r2 && a)) =
-      ap (λ (x : Bool). eqb o q2 && x) (has_and twice info.check_mask t ∙ ap (λ (x : Bool). x && a) (twice_is t on ∙ ap (λ (x : Bool). x && is_empty p.men t) through))
-      ∙ from_far_behind (eqb o q2) (is_shifted c 8 t) (is_shifted c 8 s) there (has pawns q2) (is_empty p.men s) (eqb (rank_of s) (third_rank c)) (is_empty p.men (crossed o t)) (is_empty p.men t) a (moved_here q2)
+      ap (λ (x : Bool). eqb o q2 && x) (has_and twice info.check_mask t
+      ∙ ap (λ (x : Bool). x && a) (twice_is t on ∙ ap (λ (x : Bool). x && is_empty p.men t) through))
+      ∙ from_far_behind (eqb o q2) (is_shifted c 8 t) (is_shifted c 8 s) there (has pawns q2) (is_empty p.men s)
+      (eqb (rank_of s) (third_rank c)) (is_empty p.men (crossed o t)) (is_empty p.men t) a (moved_here q2)
       (λ e. ap (λ (u : ℕ). is_empty p.men u) (crossed_back c o t o_on on (double_back c o t o_on on ∙ e)))
       ∙ ap (λ (x : Bool). there && (((x && is_empty p.men (crossed o t)) && is_empty p.men t) && a)) (sym (double_back c o t o_on on)) in
       let f3 : (eqb o q3 && has (bit_and left info.check_mask) t) ≡ (there && (r3 && a)) =
       ap (λ (x : Bool). eqb o q3 && x) (has_and left info.check_mask t ∙ ap (λ (x : Bool). x && a) (left_is t on))
-      ∙ from_beside (eqb o q3) (is_shifted c 7 t) there (has pawns q3) (eqb (file_of q3) (left_file c)) (eqb (file_of o) (left_file c)) enemy a (moved_here q3)
+      ∙ from_beside (eqb o q3) (is_shifted c 7 t) there (has pawns q3) (eqb (file_of q3) (left_file c))
+      (eqb (file_of o) (left_file c)) enemy a (moved_here q3)
       (λ e. ap (λ (u : ℕ). eqb (file_of u) (left_file c)) (sym (eqb-true o q3 e))) in
       let f4 : (eqb o q4 && has (bit_and right info.check_mask) t) ≡ (there && (r4 && a)) =
       ap (λ (x : Bool). eqb o q4 && x) (has_and right info.check_mask t ∙ ap (λ (x : Bool). x && a) (right_is t on))
-      ∙ from_beside (eqb o q4) (is_shifted c 9 t) there (has pawns q4) (eqb (file_of q4) (right_file c)) (eqb (file_of o) (right_file c)) enemy a (moved_here q4)
+      ∙ from_beside (eqb o q4) (is_shifted c 9 t) there (has pawns q4) (eqb (file_of q4) (right_file c))
+      (eqb (file_of o) (right_file c)) enemy a (moved_here q4)
       (λ e. ap (λ (u : ℕ). eqb (file_of u) (right_file c)) (sym (eqb-true o q4 e))) in
       let count : Bool → ℕ = λ x. cond x k 0 in
-      omega (arith, either_way there (r1 || r2) taking a k steps_off, either_way there r1 r2 a k once_off, taken, ap count f1, ap count f2, ap count f3, ap count f4)
+      omega (
+        arith,
+        either_way there (r1 || r2) taking a k steps_off,
+        either_way there r1 r2 a k once_off,
+        taken,
+        ap count f1,
+        ap count f2,
+        ap count f3,
+        ap count f4,
+      )
     where
       first_false : (x y : Bool) → x ≡ false → (x && y) ≡ false
       first_false x y e = rw e
@@ -239,14 +269,17 @@ module _ (info : LegalityInfo) (p : Setup) (pawns once twice left right : ℕ) (
   -- from all squares
   to_target : (t k : ℕ) → t < 64
       → sum_to 64 (λ o. cond (has pawns o && (plain_ways p.men info.side o t && has info.check_mask t)) k 0)
-      ≡ cond (has (bit_and once info.check_mask) t) k 0 + cond (has (bit_and twice info.check_mask) t) k 0 + cond (has (bit_and left info.check_mask) t) k 0 + cond (has (bit_and right info.check_mask) t) k 0
+      ≡ cond (has (bit_and once info.check_mask) t) k 0 + cond (has (bit_and twice info.check_mask) t) k 0
+      + cond (has (bit_and left info.check_mask) t) k 0 + cond (has (bit_and right info.check_mask) t) k 0
   to_target t k on =
       let c : Colour = info.side in
       let a : Bool = has info.check_mask t in
       let s : ℕ = back c 8 t in
       let q2 : ℕ = back c 8 s in
-      let from_one = λ (q set : ℕ) (bound : has (bit_and set info.check_mask) t ≡ true → q < 64). sum_at 64 q k (has (bit_and set info.check_mask) t) bound in
-      let inner = λ (set : ℕ) (e : has (bit_and set info.check_mask) t ≡ true). (and_parts (has set t) a (sym (has_and set info.check_mask t) ∙ e)).0 in
+      let from_one = λ (q set : ℕ) (bound : has (bit_and set info.check_mask) t ≡ true → q < 64).
+      sum_at 64 q k (has (bit_and set info.check_mask) t) bound in
+      let inner = λ (set : ℕ) (e : has (bit_and set info.check_mask) t ≡ true).
+      (and_parts (has set t) a (sym (has_and set info.check_mask t) ∙ e)).0 in
       let e1 = from_one s once (λ e. back_on c 8 t on (first_of _ _ (first_of _ _ (sym (once_is t on) ∙ inner once e)))) in
       let e2 = from_one q2 twice (λ e.
       let x = and_parts _ _ (first_of _ _ (sym (twice_is t on) ∙ inner twice e)) in
@@ -255,7 +288,9 @@ module _ (info : LegalityInfo) (p : Setup) (pawns once twice left right : ℕ) (
       let e3 = from_one (back c 7 t) left (λ e. back_on c 7 t on (first_of _ _ (first_of _ _ (sym (left_is t on) ∙ inner left e)))) in
       let e4 = from_one (back c 9 t) right (λ e. back_on c 9 t on (first_of _ _ (first_of _ _ (sym (right_is t on) ∙ inner right e)))) in
       sum_same 64 _ _ (λ o o_on. by_way o t k o_on on)
-      ∙ sum_four 64 (λ o. cond (eqb o s && has (bit_and once info.check_mask) t) k 0) (λ o. cond (eqb o q2 && has (bit_and twice info.check_mask) t) k 0) (λ o. cond (eqb o (back c 7 t) && has (bit_and left info.check_mask) t) k 0) (λ o. cond (eqb o (back c 9 t) && has (bit_and right info.check_mask) t) k 0)
+      ∙ sum_four 64 (λ o. cond (eqb o s && has (bit_and once info.check_mask) t) k 0) (λ o. cond (eqb o q2 && has
+      (bit_and twice info.check_mask) t) k 0) (λ o. cond (eqb o (back c 7 t) && has (bit_and left info.check_mask) t) k 0)
+      (λ o. cond (eqb o (back c 9 t) && has (bit_and right info.check_mask) t) k 0)
       ∙ omega (arith, e1, e2, e3, e4)
     where
       first_of : (x y : Bool) → (x && y) ≡ true → x ≡ true
@@ -263,7 +298,8 @@ module _ (info : LegalityInfo) (p : Setup) (pawns once twice left right : ℕ) (
 
   -- of one pawn
   of_pawn : (o : ℕ) → o < 64
-      → cond (has pawns o) (many_from p o) 0 ≡ sum_to 64 (λ t. cond (has pawns o && (plain_ways p.men info.side o t && has info.check_mask t)) (weight (record { colour = info.side; kind = Pawn }) t) 0)
+      → cond (has pawns o) (many_from p o) 0 ≡ sum_to 64 (λ t. cond (has pawns o
+      && (plain_ways p.men info.side o t && has info.check_mask t)) (weight (record { colour = info.side; kind = Pawn }) t) 0)
   of_pawn o o_on =
       let man : Man = record { colour = info.side; kind = Pawn } in
       let there' : ℕ → Bool = λ t. plain_ways p.men info.side o t && has info.check_mask t in

@@ -28,7 +28,8 @@ unfolding leaps
 step_leap White a b = refl
 step_leap Black a b = refl
 
-double_leap : (c : Colour) (a b : ℕ) → leaps (double_of c) a b ≡ (is_forward c 2 a b && eqb (file_of a) (file_of b) && eqb (rank_of a) (second_rank c))
+double_leap : (c : Colour) (a b : ℕ)
+    → leaps (double_of c) a b ≡ (is_forward c 2 a b && eqb (file_of a) (file_of b) && eqb (rank_of a) (second_rank c))
 unfolding leaps
 double_leap White a b = refl
 double_leap Black a b = refl
@@ -71,7 +72,8 @@ step_under_double Black a b j k h =
 once_leap : (men : List (Option Man)) (c : Colour) (a b : ℕ) → (leaps (step_of c) a b && is_empty men b) ≡ steps_once men c a b
 once_leap men c a b = ap (λ (x : Bool). x && is_empty men b) (step_leap c a b)
 
-twice_leap : (men : List (Option Man)) (c : Colour) (a b : ℕ) → (leaps (double_of c) a b && is_empty men (crossed a b) && is_empty men b) ≡ steps_twice men c a b
+twice_leap : (men : List (Option Man)) (c : Colour) (a b : ℕ)
+    → (leaps (double_of c) a b && is_empty men (crossed a b) && is_empty men b) ≡ steps_twice men c a b
 twice_leap men c a b = ap (λ (x : Bool). x && is_empty men (crossed a b) && is_empty men b) (double_leap c a b)
 
 -- no pawn steps twice that cannot step once
@@ -104,13 +106,15 @@ pub once_set : (men : List (Option Man)) (c : Colour) (occupied step a t : ℕ) 
 once_set men c occupied step a t set fits l rule =
     parted step occupied t (leaps (step_of c) a t) (is_some (man_at men t)) fits l rule (set t l) ∙ once_leap men c a t
 
-pub twice_set : (men : List (Option Man)) (c : Colour) (occupied double a s t : ℕ) → IsSetOf occupied is_some men → occupied < 2 ^ 64 → a < 64 → t < 64
+pub twice_set : (men : List (Option Man)) (c : Colour) (occupied double a s t : ℕ)
+    → IsSetOf occupied is_some men → occupied < 2 ^ 64 → a < 64 → t < 64
     → steps_once men c a s ≡ true
     → has double t ≡ leaps (double_of c) a t → has (bit_and double (bit_not w64 occupied)) t ≡ steps_twice men c a t
 twice_set men c occupied double a s t set fits j l once rule =
     parted double occupied t (leaps (double_of c) a t) (is_some (man_at men t)) fits l rule (set t l) ∙ twice_with_once men c a s t j l once
 
-pub takes_set : (men : List (Option Man)) (c : Colour) (occupied own capture a t : ℕ) → IsSetOf occupied is_some men → IsSetOf own (is_of c) men → own < 2 ^ 64 → t < 64
+pub takes_set : (men : List (Option Man)) (c : Colour) (occupied own capture a t : ℕ) → IsSetOf occupied is_some men
+    → IsSetOf own (is_of c) men → own < 2 ^ 64 → t < 64
     → has capture t ≡ leaps (capture_of c) a t
     → has (bit_and (bit_and capture occupied) (bit_not w64 own)) t ≡ takes men c Pawn a t
 takes_set men c occupied own capture a t set own_set fits l rule =

@@ -23,18 +23,21 @@ step_pairs Black = refl
 
 pub step_back : (c : Colour) (o t : ℕ) → o < 64 → t < 64 → is_step c o t ≡ (is_shifted c 8 t && eqb o (back c 8 t))
 step_back c o t j k =
-    same_equal (is_step c o t) (is_shifted c 8 t && eqb o (back c 8 t)) (each_pair (λ a b. same (is_step c a b) (is_shifted c 8 b && eqb a (back c 8 b))) o t (step_pairs c) j k)
+    same_equal (is_step c o t) (is_shifted c 8 t && eqb o (back c 8 t))
+    (each_pair (λ a b. same (is_step c a b) (is_shifted c 8 b && eqb a (back c 8 b))) o t (step_pairs c) j k)
 
 -- A word moved up, and one moved down.
 raised : (set gap t : ℕ) → t < 64 → has (set * 2 ^ gap % 2 ^ 64) t ≡ (leb gap t && has set (t - gap))
 raised set gap t l =
     let word : ℕ = set * 2 ^ gap in
     let whole : word ≡ word / 2 ^ 64 * 2 ^ 64 + word % 2 ^ 64 = omega arith in
-    let low : bit_at (word % 2 ^ 64) t ≡ bit_at word t = sym (ap (λ (x : ℕ). bit_at x t) whole ∙ bit_at_cat_low (word / 2 ^ 64) 64 (word % 2 ^ 64) t l) in
+    let low : bit_at (word % 2 ^ 64) t ≡ bit_at word t =
+    sym (ap (λ (x : ℕ). bit_at x t) whole ∙ bit_at_cat_low (word / 2 ^ 64) 64 (word % 2 ^ 64) t l) in
     let plain : word ≡ set * 2 ^ gap + 0 = omega arith in
     (elim (leb gap t) as (λ b. leb gap t ≡ b → has (word % 2 ^ 64) t ≡ (b && has set (t - gap))) [
       | true ↦ λ e.
-          let up : bit_at word t ≡ bit_at set (t - gap) = ap (λ (x : ℕ). bit_at x t) plain ∙ bit_at_cat_high set gap 0 t (pow_pos gap) (leb-true gap t e) in
+          let up : bit_at word t ≡ bit_at set (t - gap) =
+          ap (λ (x : ℕ). bit_at x t) plain ∙ bit_at_cat_high set gap 0 t (pow_pos gap) (leb-true gap t e) in
           rw (low, up)
       | false ↦ λ e.
           let none : bit_at word t ≡ 0 = ap (λ (x : ℕ). bit_at x t) plain ∙ bit_at_cat_low set gap 0 t (leb-false gap t e) ∙ bit_at-zero t in
@@ -72,8 +75,10 @@ double_pairs White = refl
 double_pairs Black = refl
 
 pub double_back : (c : Colour) (o t : ℕ) → o < 64 → t < 64
-    → is_double c o t ≡ (is_shifted c 8 t && is_shifted c 8 (back c 8 t) && eqb o (back c 8 (back c 8 t)) && eqb (rank_of (back c 8 t)) (third_rank c))
-double_back c o t j k = same_equal (is_double c o t) (doubled c o t) (each_pair (λ a b. same (is_double c a b) (doubled c a b)) o t (double_pairs c) j k)
+    → is_double c o t ≡ (is_shifted c 8 t && is_shifted c 8 (back c 8 t) && eqb o (back c 8 (back c 8 t))
+    && eqb (rank_of (back c 8 t)) (third_rank c))
+double_back c o t j k = same_equal (is_double c o t) (doubled c o t)
+    (each_pair (λ a b. same (is_double c a b) (doubled c a b)) o t (double_pairs c) j k)
 
 crossed_pairs : (c : Colour) → all_below 64 (λ o. all_below 64 (λ t. not (is_double c o t) || eqb (crossed o t) (back c 8 t))) ≡ true
 unfolding all_below
@@ -92,14 +97,16 @@ capture_pairs Black = refl
 
 pub capture_back_to : (c : Colour) (o t : ℕ) → o < 64 → t < 64 → is_pawn_capture c o t ≡ (goes_left c o t || goes_right c o t)
 capture_back_to c o t j k =
-    same_equal (is_pawn_capture c o t) (goes_left c o t || goes_right c o t) (each_pair (λ a b. same (is_pawn_capture c a b) (goes_left c a b || goes_right c a b)) o t (capture_pairs c) j k)
+    same_equal (is_pawn_capture c o t) (goes_left c o t || goes_right c o t)
+    (each_pair (λ a b. same (is_pawn_capture c a b) (goes_left c a b || goes_right c a b)) o t (capture_pairs c) j k)
 
 -- No two of a pawn's steps and captures lead from one square to one other.
 abbrev apart : Bool → Bool → Bool
 apart true b = not b
 apart false b = true
 
-apart_pairs : (c : Colour) → all_below 64 (λ o. all_below 64 (λ t. apart (is_step c o t) (is_double c o t) && apart (is_step c o t || is_double c o t) (is_pawn_capture c o t) && apart (goes_left c o t) (goes_right c o t))) ≡ true
+apart_pairs : (c : Colour) → all_below 64 (λ o. all_below 64 (λ t. apart (is_step c o t) (is_double c o t)
+    && apart (is_step c o t || is_double c o t) (is_pawn_capture c o t) && apart (goes_left c o t) (goes_right c o t))) ≡ true
 unfolding all_below
 apart_pairs White = refl
 apart_pairs Black = refl
@@ -110,15 +117,21 @@ apart_from true false h e = refl
 apart_from false b h e = cc
 
 pub ways_apart : (c : Colour) (o t : ℕ) → o < 64 → t < 64
-    → (is_step c o t ≡ true → is_double c o t ≡ false) × ((is_step c o t || is_double c o t) ≡ true → is_pawn_capture c o t ≡ false) × (goes_left c o t ≡ true → goes_right c o t ≡ false)
+    → (is_step c o t ≡ true → is_double c o t ≡ false) × ((is_step c o t || is_double c o t) ≡ true
+    → is_pawn_capture c o t ≡ false) × (goes_left c o t ≡ true → goes_right c o t ≡ false)
 ways_apart c o t j k =
     let x : Bool = apart (is_step c o t) (is_double c o t) in
     let y : Bool = apart (is_step c o t || is_double c o t) (is_pawn_capture c o t) in
     let z : Bool = apart (goes_left c o t) (goes_right c o t) in
-    let tried : (x && y && z) ≡ true = each_pair (λ a b. apart (is_step c a b) (is_double c a b) && apart (is_step c a b || is_double c a b) (is_pawn_capture c a b) && apart (goes_left c a b) (goes_right c a b)) o t (apart_pairs c) j k in
+    let tried : (x && y && z) ≡ true = each_pair (λ a b. apart (is_step c a b) (is_double c a b) && apart (is_step c a b
+    || is_double c a b) (is_pawn_capture c a b) && apart (goes_left c a b) (goes_right c a b)) o t (apart_pairs c) j k in
     let q = and_parts (x && y) z tried in
-    let r = and_parts x y q.0 in
-    (λ e. apart_from (is_step c o t) (is_double c o t) r.0 e, λ e. apart_from (is_step c o t || is_double c o t) (is_pawn_capture c o t) r.1 e, λ e. apart_from (goes_left c o t) (goes_right c o t) q.1 e)
+    let r = and_parts x y q.0 in (
+      λ e. apart_from (is_step c o t) (is_double c o t) r.0 e,
+      λ e. apart_from (is_step c o t || is_double c o t)
+          (is_pawn_capture c o t) r.1 e,
+      λ e. apart_from (goes_left c o t) (goes_right c o t) q.1 e,
+    )
 
 pub back_on : (c : Colour) (gap t : ℕ) → t < 64 → is_shifted c gap t ≡ true → back c gap t < 64
 back_on White gap t l h = omega arith
@@ -131,7 +144,8 @@ has-a_file s l = same_equal (has 72340172838076673 s) (eqb (file_of s) 0) (each 
 
 pub has-h_file : (s : ℕ) → s < 64 → has 9259542123273814144 s ≡ eqb (file_of s) 7
 unfolding all_below
-has-h_file s l = same_equal (has 9259542123273814144 s) (eqb (file_of s) 7) (each (λ t. same (has 9259542123273814144 t) (eqb (file_of t) 7)) 64 s refl l)
+has-h_file s l = same_equal (has 9259542123273814144 s) (eqb (file_of s) 7)
+    (each (λ t. same (has 9259542123273814144 t) (eqb (file_of t) 7)) 64 s refl l)
 
 pub has-third : (s : ℕ) → s < 64 → has 16711680 s ≡ eqb (rank_of s) 2
 unfolding all_below

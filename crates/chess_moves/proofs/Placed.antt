@@ -1,5 +1,6 @@
 -- What one more own man changes in the attacks on a square.
-use Rattle.std.proofs.Common.{◌≡◌, ◌≢◌, ℕ, ◌<◌, Bool, true, false, not, ◌&&◌, ◌||◌, List, Option, None, Some, refl, sym, ap, ◌∙◌, eqb, length, set, get_or-set_same, get_or-set_other, arith}
+use Rattle.std.proofs.Common.{◌≡◌, ◌≢◌, ℕ, ◌<◌, Bool, true, false, not, ◌&&◌, ◌||◌, List, Option, None, Some}
+use Rattle.std.proofs.Common.{refl, sym, ap, ◌∙◌, eqb, length, set, get_or-set_same, get_or-set_other, arith}
 use Rattle.std.proofs.Math.Bool.{and-true, and-false}
 use Rattle.std.proofs.lemmas.Bool.{eqb-true, eqb-false}
 use Rattle.chess_board.specs.declared.men.Colour.{Colour}
@@ -57,7 +58,8 @@ attacks_with taken after t on more c Queen a k =
     (two_and (reaches_as_bishop taken a k) (reaches_as_rook taken a k) (not (stands_between a k t)))
 attacks_with taken after t on more c King a k = leaps_with KingStep a k t (far_no_king a k)
 
-pub place_with : (taken after : ℕ → Bool) (t : ℕ) → t < 64 → ((s : ℕ) → s < 64 → after s ≡ (eqb s t || taken s)) → (by : Colour) (place : Option Man) (a k : ℕ)
+pub place_with : (taken after : ℕ → Bool) (t : ℕ) → t < 64 → ((s : ℕ) → s < 64 → after s ≡ (eqb s t || taken s))
+    → (by : Colour) (place : Option Man) (a k : ℕ)
     → place_hits after by place a k ≡ (place_hits taken by place a k && not (stands_between a k t))
 place_with taken after t on more by None a k = refl
 place_with taken after t on more by (Some man) a k =
@@ -69,7 +71,8 @@ place_with taken after t on more by (Some man) a k =
     grouped false y z = refl
 
 -- With one more own man on t, an attacker stays one where it gets through.
-pub attacks_placed : (men : List (Option Man)) (t : ℕ) (man : Man) (by : Colour) (a k : ℕ) → length men ≡ 64 → t < 64 → is_colour by man.colour ≡ false
+pub attacks_placed : (men : List (Option Man)) (t : ℕ) (man : Man) (by : Colour) (a k : ℕ) → length men ≡ 64
+    → t < 64 → is_colour by man.colour ≡ false
     → hits_from (set men t (Some man)) by a k ≡ (hits_from men by a k && gets_through a k t)
 attacks_placed men t man by a k len on own =
     let taken : ℕ → Bool = λ s. is_taken men s in

@@ -1,5 +1,6 @@
 -- Whether a move gives check, told by what is seen from the king before it: where it is not special and opens no line.
-use Rattle.std.proofs.Common.{◌≡◌, ◌≢◌, ℕ, ◌<◌, Bool, true, false, not, ◌&&◌, ◌||◌, List, Option, None, Some, is_some, refl, sym, ap, ◌∙◌, eqb, length, set, length-set, get_or-set_same, get_or-set_other, arith}
+use Rattle.std.proofs.Common.{◌≡◌, ◌≢◌, ℕ, ◌<◌, Bool, true, false, not, ◌&&◌, ◌||◌, List, Option, None, Some, is_some, refl}
+use Rattle.std.proofs.Common.{sym, ap, ◌∙◌, eqb, length, set, length-set, get_or-set_same, get_or-set_other, arith}
 use Rattle.std.proofs.lemmas.Bool.{eqb-true, eqb-false, and_left, and_right, and_from, and_parts, both_ways, or_parts, false_from_ne_true}
 use Rattle.square_sets.specs.Members.{has}
 use Rattle.chess_board.specs.declared.men.Colour.{Colour}
@@ -88,7 +89,8 @@ each_placed men t man len t_on P came stayed s s_on =
 
 not_between : (a k : ℕ) → stands_between a k a ≡ false
 not_between a k = false_from_ne_true (stands_between a k a) (λ h.
-    let w = between_some a k a h in let none = toward_self w.direction a in let on = and_parts (toward w.direction a a) (toward w.direction a k) w.on_line in
+    let w = between_some a k a h in let none = toward_self w.direction a in let on =
+    and_parts (toward w.direction a a) (toward w.direction a k) w.on_line in
     let first = on.0 in cc)
 
 -- Where k is safe once a man is lifted off the board, it is attacked afterwards exactly if the man attacks it from where it is put.
@@ -107,7 +109,8 @@ hit_placed men t man len t_on by k own safe =
     false_from_ne_true (hits_from men by a k) (λ h. let hit = any_at (λ a. hits_from men by a k) 64 a l h in cc) in
     let inside : t < length men = omega arith in
     let came : man_at (set men t (Some man)) t ≡ Some man = rw get_or-set_same refl in
-    (elim (hits_as taken by man.kind t k) as (λ b. hits_as taken by man.kind t k ≡ b → any_below 64 (λ a. hits_from (set men t (Some man)) by a k) ≡ b) [
+    (elim (hits_as taken by man.kind t k) as (λ b. hits_as taken by man.kind t k ≡ b
+    → any_below 64 (λ a. hits_from (set men t (Some man)) by a k) ≡ b) [
       | true ↦ λ e. any_at (λ a. hits_from (set men t (Some man)) by a k) 64 t t_on
           (ap (λ place. place_hits after by place t k) came ∙ still (Some man) t
           ∙ and_from (place_hits taken by (Some man) t k) (not (stands_between t k t))
@@ -167,7 +170,8 @@ check_after p k o t man taken sound k_on o_on t_on there here own hits =
     let men : List (Option Man) = moved p.men o t man in
     let alone : (s : ℕ) → s < 64 → is_king_of c (man_at p.men s) ≡ true → s ≡ k = λ s l king. only_king p sound c k s k_on l there king in
     let king : is_king_of c (man_at p.men k) ≡ true = king_found p.men c k there in
-    let no_king : is_king_of c (Some man) ≡ false = and_left (is_colour c man.colour) (is_king_kind man.kind) (own_is_not_other p.side man.colour own) in
+    let no_king : is_king_of c (Some man) ≡ false =
+    and_left (is_colour c man.colour) (is_king_kind man.kind) (own_is_not_other p.side man.colour own) in
     let hit : is_attacked men k (other_side c) ≡ hits_as taken p.side man.kind t k =
     attacked_same men k (other_side c) k_on ∙ ap (is_hit men k) (side_back p.side) ∙ hits in
     (elim (hits_as taken p.side man.kind t k) as (λ b. hits_as taken p.side man.kind t k ≡ b → is_in_check men c ≡ b) [
@@ -177,12 +181,14 @@ check_after p k o t man taken sound k_on o_on t_on there here own hits =
           let other : k ≢ o = λ same. both_ways (is_king_of c (man_at p.men o)) (ap (is_king_of c) here ∙ no_king)
           (ap (λ s. is_king_of c (man_at p.men s)) (sym same) ∙ king) in
           any_at (λ s. is_king_attacked men c s) 64 k k_on
-          (and_from (is_king_of c (man_at men k)) (is_attacked men k (other_side c)) (ap (is_king_of c) (man_stayed p.men o t k man apart other) ∙ king) (hit ∙ e))
+          (and_from (is_king_of c (man_at men k)) (is_attacked men k (other_side c))
+          (ap (is_king_of c) (man_stayed p.men o t k man apart other) ∙ king) (hit ∙ e))
       | false ↦ λ e. any_none (λ s. is_king_attacked men c s) 64
           (each_moved p.men o t man sound.squares o_on t_on (λ s place. (is_king_of c place && is_attacked men s (other_side c)) ≡ false)
           (and_left (is_king_of c (Some man)) (is_attacked men t (other_side c)) no_king)
           (λ s. refl)
-          (λ s l. (elim (is_king_of c (man_at p.men s)) as (λ b. is_king_of c (man_at p.men s) ≡ b → (b && is_attacked men s (other_side c)) ≡ false) [
+          (λ s l. (elim (is_king_of c (man_at p.men s)) as (λ b. is_king_of c (man_at p.men s) ≡ b
+          → (b && is_attacked men s (other_side c)) ≡ false) [
             | true ↦ λ king. rw (alone s l king) (hit ∙ e)
             | false ↦ λ none. refl
           ]) refl))
@@ -217,7 +223,8 @@ lifted_check p k man m sound k_on there o_on t_on here legal clear plain =
     (hit_placed gone m.target man len t_on p.side k own clear)
 
 -- So the check squares tell whether it gives check.
-pub plain_check : (p : Setup) (check_squares : CheckSquares) (man : Man) (m : Move) → AreCheckSquaresOf check_squares p → m.origin < 64 → m.target < 64
+pub plain_check : (p : Setup) (check_squares : CheckSquares) (man : Man) (m : Move)
+    → AreCheckSquaresOf check_squares p → m.origin < 64 → m.target < 64
     → man_at p.men m.origin ≡ Some man → is_legal p m ≡ true → has check_squares.queen m.origin ≡ false → is_special p man m ≡ false
     → has (squares_of check_squares man.kind) m.target ≡ gives_check p m
 plain_check p check_squares man m seen o_on t_on there legal hidden plain =

@@ -26,7 +26,8 @@ played p m legal =
       | None ↦ λ is. let never = rw is at may in cc
       | Some man ↦ λ is.
           let man_may_it = rw is at may in
-          let gone = and_parts (is_colour man.colour p.side && suits man m.target m.promotion) (goes p man.colour man.kind m.origin m.target) man_may_it in
+          let gone = and_parts (is_colour man.colour p.side && suits man m.target m.promotion)
+          (goes p man.colour man.kind m.origin m.target) man_may_it in
           let own = and_parts (is_colour man.colour p.side) (suits man m.target m.promotion) gone.0 in
           (man, record { there = is; own = own.0; suits = own.1; goes = gone.1 })
     ]) refl
@@ -62,7 +63,8 @@ not_suited p m man is h = (elim (is_legal p m) as (λ b. is_legal p m ≡ b → 
 ]) refl
 
 -- No move goes where its man cannot.
-pub not_gone : (p : Setup) (m : Move) (man : Man) → man_at p.men m.origin ≡ Some man → goes p man.colour man.kind m.origin m.target ≡ false → is_legal p m ≡ false
+pub not_gone : (p : Setup) (m : Move) (man : Man) → man_at p.men m.origin ≡ Some man
+    → goes p man.colour man.kind m.origin m.target ≡ false → is_legal p m ≡ false
 not_gone p m man is h = (elim (is_legal p m) as (λ b. is_legal p m ≡ b → b ≡ false) [
   | false ↦ λ t. refl
   | true ↦ λ t. let gone = (played_by p m man is t).goes in cc

@@ -85,7 +85,8 @@ hidden_rising ray occupied more beyond s d rises rule one_more small rule_beyond
     let m : ℕ = bit_and ray occupied in
     let z = bit_at-trailing_zeros w64 more (some_more m more 63 one_more (omega arith)) small in
     let b : ℕ = trailing_zeros w64 more in
-    let low : (u : ℕ) → u < b → u < 64 → has m u ≡ true → ⊥ = λ u l k there. let none = has_no more u (z.2 u l) in let some = in_more m more 63 u one_more k there in cc in
+    let low : (u : ℕ) → u < b → u < 64 → has m u ≡ true → ⊥ = λ u l k there. let none = has_no more u (z.2 u l) in let some =
+    in_more m more 63 u one_more k there in cc in
     (elim (has m b) as (λ x. has m b ≡ x → (t : ℕ) → t < 64 → has beyond t ≡ is_hidden (has occupied) d s t) [
       | true ↦ λ e. hidden_from ray occupied beyond s b d rule rule_beyond z.0 (eqb-true (bit_at m b) 1 e)
           (λ u k line h there ne. toward_above d s b u rises line h (elim (cases_lt u b) [ inl l ↦ absurd (low u l k there) | inr g ↦ omega arith ]))
@@ -109,10 +110,12 @@ hidden_falling ray occupied more beyond s d rises rule one_more small rule_beyon
     let m : ℕ = bit_and ray occupied in
     let z = bit_at-leading_zeros more (some_more m more 0 one_more (omega arith)) small in
     let b : ℕ = 63 - leading_zeros w64 more in
-    let high : (u : ℕ) → b < u → u < 64 → has m u ≡ true → ⊥ = λ u l k there. let none = has_no more u (z.3 u l) in let some = in_more m more 0 u one_more k there in cc in
+    let high : (u : ℕ) → b < u → u < 64 → has m u ≡ true → ⊥ = λ u l k there. let none = has_no more u (z.3 u l) in let some =
+    in_more m more 0 u one_more k there in cc in
     (elim (has m b) as (λ x. has m b ≡ x → (t : ℕ) → t < 64 → has beyond t ≡ is_hidden (has occupied) d s t) [
       | true ↦ λ e. hidden_from ray occupied beyond s b d rule rule_beyond z.0 (eqb-true (bit_at m b) 1 e)
-          (λ u k line h there ne. toward_below d s b u rises line h (elim (cases_lt u b) [ inl l ↦ l | inr g ↦ absurd (high u (omega arith) k there) ]))
+          (λ u k line h there ne. toward_below d s b u rises line h
+          (elim (cases_lt u b) [ inl l ↦ l | inr g ↦ absurd (high u (omega arith) k there) ]))
       | false ↦ λ e.
           let last : has more b ≡ eqb b 0 = one_more b z.0 ∙ (rw e) in
           let at_end : b ≡ 0 = eqb-true b 0 (sym last ∙ eq-eqb (bit_at more b) 1 z.2) in
@@ -134,10 +137,12 @@ unfolding all_below
 bottom_tried = refl
 
 pub with_h8 : (set : ℕ) → OneMore set (bit_or set 9223372036854775808) 63
-with_h8 set t l = has_or set 9223372036854775808 t ∙ ap (λ (x : Bool). has set t || x) (same_equal (has 9223372036854775808 t) (eqb t 63) (each (λ t. same (has 9223372036854775808 t) (eqb t 63)) 64 t top_tried l))
+with_h8 set t l = has_or set 9223372036854775808 t ∙ ap (λ (x : Bool). has set t || x) (same_equal (has 9223372036854775808 t)
+    (eqb t 63) (each (λ t. same (has 9223372036854775808 t) (eqb t 63)) 64 t top_tried l))
 
 pub with_a1 : (set : ℕ) → OneMore set (bit_or set 1) 0
-with_a1 set t l = has_or set 1 t ∙ ap (λ (x : Bool). has set t || x) (same_equal (has 1 t) (eqb t 0) (each (λ t. same (has 1 t) (eqb t 0)) 64 t bottom_tried l))
+with_a1 set t l = has_or set 1 t ∙ ap (λ (x : Bool). has set t || x)
+    (same_equal (has 1 t) (eqb t 0) (each (λ t. same (has 1 t) (eqb t 0)) 64 t bottom_tried l))
 
 -- It is a word, as the set is, and where the lowest and the highest square stand.
 pub small_h8 : (set : ℕ) → set < 2 ^ 64 → bit_or set 9223372036854775808 < 2 ^ 64
@@ -147,7 +152,8 @@ pub small_a1 : (set : ℕ) → set < 2 ^ 64 → bit_or set 1 < 2 ^ 64
 small_a1 set l = or_lt 64 set 1 l (omega arith)
 
 pub first_rising : (set : ℕ) → set < 2 ^ 64 → trailing_zeros w64 (bit_or set 9223372036854775808) < 64
-first_rising set l = (bit_at-trailing_zeros w64 (bit_or set 9223372036854775808) (some_more set (bit_or set 9223372036854775808) 63 (with_h8 set) (omega arith)) (small_h8 set l)).0
+first_rising set l = (bit_at-trailing_zeros w64 (bit_or set 9223372036854775808)
+    (some_more set (bit_or set 9223372036854775808) 63 (with_h8 set) (omega arith)) (small_h8 set l)).0
 
 pub first_falling : (set : ℕ) → set < 2 ^ 64 → leading_zeros w64 (bit_or set 1) < 64
 first_falling set l = (bit_at-leading_zeros (bit_or set 1) (some_more set (bit_or set 1) 0 (with_a1 set) (omega arith)) (small_a1 set l)).1

@@ -1,5 +1,6 @@
 -- A man that is hidden from the king goes: the attacks on the king stay as they were.
-use Rattle.std.proofs.Common.{◌≡◌, ◌≢◌, ℕ, ◌<◌, Bool, true, false, not, ◌&&◌, ◌||◌, List, Option, None, Some, is_some, refl, sym, ap, ◌∙◌, eqb, length, set, get_or-set_same, get_or-set_other, arith}
+use Rattle.std.proofs.Common.{◌≡◌, ◌≢◌, ℕ, ◌<◌, Bool, true, false, not, ◌&&◌, ◌||◌, List, Option, None, Some, is_some}
+use Rattle.std.proofs.Common.{refl, sym, ap, ◌∙◌, eqb, length, set, get_or-set_same, get_or-set_other, arith}
 use Rattle.std.proofs.lemmas.Bool.{eqb-true, eqb-false, and_parts, and_from, not-true, not_from_false, false_from_ne_true, true_from_ne_false}
 use Rattle.chess_board.specs.declared.men.Colour.{Colour}
 use Rattle.chess_board.specs.declared.men.Kind.{Kind}
@@ -9,7 +10,8 @@ use Rattle.chess_board.specs.Men.{is_colour, is_of}
 use Rattle.chess_board.specs.Positions.{man_at}
 use Rattle.chess_moves.specs.declared.directions.Direction.{Direction}
 use Rattle.chess_moves.specs.declared.directions.Direction.TheVariants.{North, NorthEast, East, SouthEast, South, SouthWest, West, NorthWest}
-use Rattle.chess_moves.specs.inside.Directions.{reaches, is_blocked, toward, opposite, stands_between, is_on_diagonal, is_on_straight, reaches_as_bishop, reaches_as_rook}
+use Rattle.chess_moves.specs.inside.Directions.{reaches, is_blocked, toward, opposite, stands_between, is_on_diagonal}
+use Rattle.chess_moves.specs.inside.Directions.{is_on_straight, reaches_as_bishop, reaches_as_rook}
 use Rattle.chess_moves.specs.inside.Forces.{is_one, is_diagonal_kind, is_straight_kind}
 use Rattle.chess_moves.specs.inside.SliderLines.{IsAlone}
 use Rattle.chess_moves.specs.inside.Hits.{is_taken, hits_as, place_hits, hits_from}
@@ -63,7 +65,8 @@ reached_apart taken after o h d a k apart =
     let s = blocker_of taken d a k e in
     (elim (eqb s.square o) as (λ b. eqb s.square o ≡ b → ⊥) [
       | true ↦ λ t. apart x.0 (alone s x.0 clear (eqb-true s.square o t))
-      | false ↦ λ f. let hit = blocked_at after d a k s.square s.on_board s.behind s.before (h.stays s.square s.on_board (eqb-false s.square o f) s.is_taken) in cc
+      | false ↦ λ f. let hit = blocked_at after d a k s.square s.on_board s.behind s.before
+          (h.stays s.square s.on_board (eqb-false s.square o f) s.is_taken) in cc
     ]) refl))))
     (reached_more taken after h.fewer d a k)
   where
@@ -82,21 +85,29 @@ slants_apart : (taken after : ℕ → Bool) (o : ℕ) → Leaves taken after o �
     → (is_on_diagonal k a ≡ true → IsAlone taken k a o → ⊥) → reaches_as_bishop after a k ≡ reaches_as_bishop taken a k
 unfolding reaches_as_bishop is_on_diagonal
 slants_apart taken after o h a k apart =
-    let r = λ (d : Direction) (line : toward (opposite d) k a ≡ true → is_on_diagonal k a ≡ true). reached_apart taken after o h d a k (λ e. apart (line (toward_back d a k ∙ e))) in
-    rw (r NorthEast (λ e. simp (e, or-true)), r SouthEast (λ e. simp (e, or-true)), r SouthWest (λ e. rw e refl), r NorthWest (λ e. simp (e, or-true)))
+    let r = λ (d : Direction) (line : toward (opposite d) k a ≡ true → is_on_diagonal k a ≡ true).
+    reached_apart taken after o h d a k (λ e. apart (line (toward_back d a k ∙ e))) in
+    rw (
+      r NorthEast (λ e. simp (e, or-true)),
+      r SouthEast (λ e. simp (e, or-true)),
+      r SouthWest (λ e. rw e refl),
+      r NorthWest (λ e. simp (e, or-true)),
+    )
 
 straight_apart : (taken after : ℕ → Bool) (o : ℕ) → Leaves taken after o → (a k : ℕ)
     → (is_on_straight k a ≡ true → IsAlone taken k a o → ⊥) → reaches_as_rook after a k ≡ reaches_as_rook taken a k
 unfolding reaches_as_rook is_on_straight
 straight_apart taken after o h a k apart =
-    let r = λ (d : Direction) (line : toward (opposite d) k a ≡ true → is_on_straight k a ≡ true). reached_apart taken after o h d a k (λ e. apart (line (toward_back d a k ∙ e))) in
+    let r = λ (d : Direction) (line : toward (opposite d) k a ≡ true → is_on_straight k a ≡ true).
+    reached_apart taken after o h d a k (λ e. apart (line (toward_back d a k ∙ e))) in
     rw (r North (λ e. simp (e, or-true)), r East (λ e. simp (e, or-true)), r South (λ e. rw e refl), r West (λ e. simp (e, or-true)))
 
 slants_left : (taken after : ℕ → Bool) (o : ℕ) → Leaves taken after o → (a k : ℕ)
     → reaches_as_bishop taken o k ≡ false → reaches_as_bishop after a k ≡ reaches_as_bishop taken a k
 unfolding reaches_as_bishop
 slants_left taken after o h a k hidden =
-    let none = four_none (reaches taken NorthEast o k) (reaches taken SouthEast o k) (reaches taken SouthWest o k) (reaches taken NorthWest o k) hidden in
+    let none = four_none (reaches taken NorthEast o k) (reaches taken SouthEast o k)
+    (reaches taken SouthWest o k) (reaches taken NorthWest o k) hidden in
     let r = reached_same taken after o h in
     rw (r NorthEast a k none.0, r SouthEast a k none.1, r SouthWest a k none.2, r NorthWest a k none.3)
 
@@ -134,10 +145,13 @@ attacks_apart taken after o h c King a k ds gs = refl
 
 place_apart : (taken after : ℕ → Bool) (o : ℕ) → Leaves taken after o → (by : Colour) (place : Option Man) (a k : ℕ)
     → (is_one by is_diagonal_kind place ≡ true → is_on_diagonal k a ≡ true → IsAlone taken k a o → ⊥)
-    → (is_one by is_straight_kind place ≡ true → is_on_straight k a ≡ true → IsAlone taken k a o → ⊥) → place_hits after by place a k ≡ place_hits taken by place a k
+    → (is_one by is_straight_kind place ≡ true → is_on_straight k a ≡ true → IsAlone taken k a o → ⊥)
+    → place_hits after by place a k ≡ place_hits taken by place a k
 place_apart taken after o h by None a k ds gs = refl
-place_apart taken after o h by (Some man) a k ds gs = and_when (is_colour by man.colour) (hits_as after by man.kind a k) (hits_as taken by man.kind a k) (λ own.
-    attacks_apart taken after o h by man.kind a k (λ x. ds (and_from (is_colour by man.colour) (is_diagonal_kind man.kind) own x)) (λ x. gs (and_from (is_colour by man.colour) (is_straight_kind man.kind) own x)))
+place_apart taken after o h by (Some man) a k ds gs =
+    and_when (is_colour by man.colour) (hits_as after by man.kind a k) (hits_as taken by man.kind a k) (λ own.
+    attacks_apart taken after o h by man.kind a k (λ x. ds (and_from (is_colour by man.colour) (is_diagonal_kind man.kind) own x))
+    (λ x. gs (and_from (is_colour by man.colour) (is_straight_kind man.kind) own x)))
 
 no_attack : (taken : ℕ → Bool) (by : Colour) (place : Option Man) (a k : ℕ) → is_of by place ≡ false → place_hits taken by place a k ≡ false
 no_attack taken by None a k h = refl

@@ -52,16 +52,25 @@ rising_both k (x ∷ xs) ys r u s a = (
 
 above_kept : (f : Move → Bool) (k : ℕ) (ms : List Move) → IsAbove k ms → IsAbove k (filter f ms)
 above_kept f k [] a = tt
-above_kept f k (m ∷ ms) a = elim (f m) as (λ b. IsAbove k (cond b (m ∷ filter f ms) (filter f ms))) [ true ↦ (a.0, above_kept f k ms a.1) | false ↦ above_kept f k ms a.1 ]
+above_kept f k (m ∷ ms) a = elim (f m) as (λ b.
+    IsAbove k (cond b (m ∷ filter f ms) (filter f ms))) [ true ↦ (a.0, above_kept f k ms a.1) | false ↦ above_kept f k ms a.1 ]
 
 rising_kept : (f : Move → Bool) (ms : List Move) → IsRising ms → IsRising (filter f ms)
 rising_kept f [] r = tt
-rising_kept f (m ∷ ms) r = elim (f m) as (λ b. IsRising (cond b (m ∷ filter f ms) (filter f ms))) [ true ↦ (above_kept f (move_place m) ms r.0, rising_kept f ms r.1) | false ↦ rising_kept f ms r.1 ]
+rising_kept f (m ∷ ms) r = elim (f m) as (λ b. IsRising (cond b (m ∷ filter f ms) (filter f ms))) [
+  | true ↦
+      (above_kept f (move_place m) ms r.0, rising_kept f ms r.1)
+  | false ↦ rising_kept f ms r.1
+]
 
-between_rises : (o t : ℕ) → IsRising (moves_between o t) × IsFrom (first_place o t) (moves_between o t) × IsUnder (first_place o (t + 1)) (moves_between o t)
+between_rises : (o t : ℕ) → IsRising (moves_between o t) × IsFrom (first_place o t) (moves_between o t)
+    × IsUnder (first_place o (t + 1)) (moves_between o t)
 unfolding moves_between
 between_rises o t = (
-  ((omega arith, (omega arith, (omega arith, (omega arith, tt)))), ((omega arith, (omega arith, (omega arith, tt))), ((omega arith, (omega arith, tt)), ((omega arith, tt), (tt, tt))))),
+  (
+    (omega arith, (omega arith, (omega arith, (omega arith, tt)))),
+    ((omega arith, (omega arith, (omega arith, tt))), ((omega arith, (omega arith, tt)), ((omega arith, tt), (tt, tt)))),
+  ),
   (omega arith, (omega arith, (omega arith, (omega arith, (omega arith, tt))))),
   (omega arith, (omega arith, (omega arith, (omega arith, (omega arith, tt))))),
 )
@@ -72,7 +81,8 @@ to_rises o zero = (tt, tt, tt)
 to_rises o (suc n) =
     let a = to_rises o n in let b = between_rises o n in (
       rising_both (first_place o n) (moves_to o n) (moves_between o n) a.0 a.2 b.0 b.1,
-      from_both (first_place o 0) (moves_to o n) (moves_between o n) a.1 (from_weaker (first_place o 0) (first_place o n) (moves_between o n) (omega arith) b.1),
+      from_both (first_place o 0) (moves_to o n) (moves_between o n) a.1
+          (from_weaker (first_place o 0) (first_place o n) (moves_between o n) (omega arith) b.1),
       under_both (first_place o (suc n)) (moves_to o n) (moves_between o n)
           (under_weaker (first_place o n) (first_place o (suc n)) (moves_to o n) (omega arith) a.2)
           (under_weaker (first_place o (n + 1)) (first_place o (suc n)) (moves_between o n) (omega arith) b.2),

@@ -12,7 +12,8 @@ top_digit j a l h =
 
 -- `63 - leading_zeros` of a number that is not 0 is the place of its highest 1
 pub bit_at-leading_zeros : (n : ℕ) → 0 < n → n < 2 ^ 64
-    → (63 - leading_zeros w64 n < 64) × (leading_zeros w64 n < 64) × (bit_at n (63 - leading_zeros w64 n) ≡ 1) × ((i : ℕ) → 63 - leading_zeros w64 n < i → bit_at n i ≡ 0)
+    → (63 - leading_zeros w64 n < 64) × (leading_zeros w64 n < 64) × (bit_at n (63 - leading_zeros w64 n) ≡ 1)
+    × ((i : ℕ) → 63 - leading_zeros w64 n < i → bit_at n i ≡ 0)
 bit_at-leading_zeros n h fits =
     let top = leading_top 64 n h fits in
     let j : ℕ = top.0 in

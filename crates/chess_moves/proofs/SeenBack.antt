@@ -10,7 +10,8 @@ use Rattle.chess_moves.proofs.AttackSets.{slants_back, straight_back, slants_sam
 use Rattle.chess_moves.proofs.Geometry.{knight_back, king_back, capture_mirrored}
 
 -- A man of the one colour attacks a from k where one of the other colour attacks k from a.
-pub hits_back : (p q : ℕ → Bool) → ((s : ℕ) → s < 64 → p s ≡ q s) → (c : Colour) (asked : Kind) (k a : ℕ) → hits_as p (other_side c) asked k a ≡ hits_as q c asked a k
+pub hits_back : (p q : ℕ → Bool) → ((s : ℕ) → s < 64 → p s ≡ q s) → (c : Colour) (asked : Kind) (k a : ℕ)
+    → hits_as p (other_side c) asked k a ≡ hits_as q c asked a k
 hits_back p q h White Pawn k a = capture_mirrored White a k
 hits_back p q h Black Pawn k a = capture_mirrored Black a k
 hits_back p q h c Knight k a = knight_back a k

@@ -25,7 +25,8 @@ has_or a b t = rw (bit_at_or a b t) (or_test (bit_at a t) (bit_at b t) (bit_at-l
 
 -- a set less another
 pub has_less : (a b t : ℕ) → b < 2 ^ 64 → t < 64 → has (bit_and a (bit_not w64 b)) t ≡ (has a t && not (has b t))
-has_less a b t fits l = rw (bit_at_and a (bit_not w64 b) t, bit_at_not w64 b t fits l) (less_test (bit_at a t) (bit_at b t) (bit_at-lt a t) (bit_at-lt b t))
+has_less a b t fits l = rw (bit_at_and a (bit_not w64 b) t, bit_at_not w64 b t fits l)
+    (less_test (bit_at a t) (bit_at b t) (bit_at-lt a t) (bit_at-lt b t))
 
 -- the empty set
 pub has_none : (set u : ℕ) → set ≡ 0 → has set u ≡ false

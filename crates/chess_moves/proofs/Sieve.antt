@@ -18,13 +18,16 @@ module _ (f : Move → Bool) where
   abbrev pub kept : ℕ → ℕ → Option Kind → List Move
   kept o t r = filter f (move_of o t r ∷ [])
 
-  pub promotions_kept : (o t : ℕ) → filter f (promotions o t) ≡ kept o t (Some Knight) ++ (kept o t (Some Bishop) ++ (kept o t (Some Rook) ++ kept o t (Some Queen)))
+  pub promotions_kept : (o t : ℕ) → filter f (promotions o t) ≡ kept o t (Some Knight)
+      ++ (kept o t (Some Bishop) ++ (kept o t (Some Rook) ++ kept o t (Some Queen)))
   promotions_kept o t =
       filter-append f (move_of o t (Some Knight) ∷ []) (move_of o t (Some Bishop) ∷ move_of o t (Some Rook) ∷ move_of o t (Some Queen) ∷ [])
-      ∙ ap (λ (xs : List Move). kept o t (Some Knight) ++ xs) (filter-append f (move_of o t (Some Bishop) ∷ []) (move_of o t (Some Rook) ∷ move_of o t (Some Queen) ∷ [])
+      ∙ ap (λ (xs : List Move). kept o t (Some Knight) ++ xs)
+      (filter-append f (move_of o t (Some Bishop) ∷ []) (move_of o t (Some Rook) ∷ move_of o t (Some Queen) ∷ [])
       ∙ ap (λ (xs : List Move). kept o t (Some Bishop) ++ xs) (filter-append f (move_of o t (Some Rook) ∷ []) (move_of o t (Some Queen) ∷ [])))
 
-  pub many-promotions : (o t : ℕ) → many (promotions o t) ≡ length (kept o t (Some Knight)) + (length (kept o t (Some Bishop)) + (length (kept o t (Some Rook)) + length (kept o t (Some Queen))))
+  pub many-promotions : (o t : ℕ) → many (promotions o t) ≡ length (kept o t (Some Knight))
+      + (length (kept o t (Some Bishop)) + (length (kept o t (Some Rook)) + length (kept o t (Some Queen))))
   many-promotions o t = ap length (promotions_kept o t) ∙ simp length-append refl
 
   pub between_kept : (o t : ℕ) → filter f (moves_between o t) ≡ kept o t None ++ filter f (promotions o t)

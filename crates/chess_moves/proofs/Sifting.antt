@@ -17,7 +17,8 @@ sifted_none all passes = record { kept_are = λ t on. rw (has_none 0 t refl) (no
     none true p = refl
     none false p = refl
 
-pub sifted_all : (all rest kept : ℕ) (passes : ℕ → Bool) → rest ≡ 0 → IsSifted all rest kept passes → (t : ℕ) → t < 64 → has kept t ≡ (has all t && passes t)
+pub sifted_all : (all rest kept : ℕ) (passes : ℕ → Bool) → rest ≡ 0 → IsSifted all rest kept passes → (t : ℕ)
+    → t < 64 → has kept t ≡ (has all t && passes t)
 sifted_all all rest kept passes done h t on = rw (done, has_none 0 t refl) at (h.kept_are t on)
 
 module _ (all rest left kept s : ℕ) (passes : ℕ → Bool) (h : IsSifted all rest kept passes) (split : IsSplit rest s left) where

@@ -6,7 +6,8 @@ use Rattle.square_sets.specs.BitScan.{IsLowest}
 use Rattle.chess_board.specs.Squares.{any_below}
 use Rattle.chess_moves.specs.declared.directions.Direction.{Direction}
 use Rattle.chess_moves.specs.declared.directions.Direction.TheVariants.{North, NorthEast, East, SouthEast, South, SouthWest, West, NorthWest}
-use Rattle.chess_moves.specs.inside.Directions.{toward, is_blocked, reaches, reaches_as_bishop, reaches_as_rook, is_on_diagonal, is_on_straight, stands_between}
+use Rattle.chess_moves.specs.inside.Directions.{toward, is_blocked, reaches, reaches_as_bishop, reaches_as_rook}
+use Rattle.chess_moves.specs.inside.Directions.{is_on_diagonal, is_on_straight, stands_between}
 use Rattle.chess_moves.specs.inside.SliderLines.{is_open, IsAlone, IsAloneIn}
 use Rattle.chess_moves.proofs.AnyLemmas.{any_same, any_none}
 use Rattle.chess_moves.proofs.Compass.{between_from, between_in}
@@ -21,7 +22,8 @@ empty_is_zero set fits none =
     eqb-true set 0 (not-false (eqb set 0) e)
 
 -- a set of one square is that square and nothing
-pub alone_lowest : (set first rest o : ℕ) → rest < 2 ^ 64 → IsLowest first set → ((s : ℕ) → s < 64 → has rest s ≡ (not (eqb s first) && has set s)) → IsAloneIn set o → rest ≡ 0
+pub alone_lowest : (set first rest o : ℕ) → rest < 2 ^ 64 → IsLowest first set
+    → ((s : ℕ) → s < 64 → has rest s ≡ (not (eqb s first) && has set s)) → IsAloneIn set o → rest ≡ 0
 alone_lowest set first rest o fits lowest others alone =
     let same : first ≡ o = eqb-true first o ((elim (eqb first o) as (λ b. eqb first o ≡ b → b ≡ true) [
       | true ↦ λ e. refl
@@ -33,9 +35,11 @@ alone_lowest set first rest o fits lowest others alone =
     ]) refl))
 
 -- in the direction of b, what is blocked is what is not open
-blocked_open : (taken : ℕ → Bool) (d : Direction) (a b : ℕ) → toward d a b ≡ true → is_blocked taken d a b ≡ any_below 64 (λ s. stands_between a b s && taken s)
+blocked_open : (taken : ℕ → Bool) (d : Direction) (a b : ℕ) → toward d a b ≡ true
+    → is_blocked taken d a b ≡ any_below 64 (λ s. stands_between a b s && taken s)
 blocked_open taken d a b line = any_same (λ s. toward d a s && toward d s b && taken s) (λ s. stands_between a b s && taken s) 64
-    (λ s l. ap (λ x. x && taken s) (same_tests (toward d a s && toward d s b) (stands_between a b s) (between_from d a b s) (between_in d a b s line)))
+    (λ s l. ap (λ x. x && taken s)
+    (same_tests (toward d a s && toward d s b) (stands_between a b s) (between_from d a b s) (between_in d a b s line)))
 
 reaches_open : (taken : ℕ → Bool) (d : Direction) (a b : ℕ) → reaches taken d a b ≡ (toward d a b && is_open taken a b)
 reaches_open taken d a b = (elim (toward d a b) as (λ b'. toward d a b ≡ b' → (b' && not (is_blocked taken d a b)) ≡ (b' && is_open taken a b)) [
@@ -68,7 +72,8 @@ pub nothing_between : (between occupied a b : ℕ) → bit_and between occupied 
 nothing_between between occupied a b fits rule =
     let e : not (eqb (bit_and between occupied) 0) ≡ any_below 64 (λ s. stands_between a b s && has occupied s) =
     nonzero (bit_and between occupied) fits
-    ∙ any_same (has (bit_and between occupied)) (λ s. stands_between a b s && has occupied s) 64 (λ s l. has_and between occupied s ∙ ap (λ x. x && has occupied s) (rule s l)) in
+    ∙ any_same (has (bit_and between occupied)) (λ s. stands_between a b s && has occupied s) 64
+    (λ s l. has_and between occupied s ∙ ap (λ x. x && has occupied s) (rule s l)) in
     turned (eqb (bit_and between occupied) 0) _ e
   where
     turned : (x y : Bool) → not x ≡ y → x ≡ not y

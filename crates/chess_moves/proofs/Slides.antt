@@ -8,8 +8,10 @@ use Rattle.chess_moves.proofs.AnyLemmas.{any_same, any_none, any_at, any_some}
 use Rattle.chess_moves.proofs.Geometry.{toward_on, toward_back, toward_self}
 
 -- a man that stands between
-pub blocked_at : (taken : ℕ → Bool) (d : Direction) (a b s : ℕ) → s < 64 → toward d a s ≡ true → toward d s b ≡ true → taken s ≡ true → is_blocked taken d a b ≡ true
-blocked_at taken d a b s l h k t = any_at (λ s. toward d a s && toward d s b && taken s) 64 s l (and_from (toward d a s && toward d s b) (taken s) (and_from (toward d a s) (toward d s b) h k) t)
+pub blocked_at : (taken : ℕ → Bool) (d : Direction) (a b s : ℕ) → s < 64 → toward d a s ≡ true → toward d s b ≡ true
+    → taken s ≡ true → is_blocked taken d a b ≡ true
+blocked_at taken d a b s l h k t = any_at (λ s. toward d a s && toward d s b && taken s) 64 s l
+    (and_from (toward d a s && toward d s b) (taken s) (and_from (toward d a s) (toward d s b) h k) t)
 
 pub record Blocker (taken : ℕ → Bool) (d : Direction) (a b : ℕ) : Type 0 where
   pub square : ℕ
@@ -28,7 +30,8 @@ blocker_of taken d a b h =
 
 -- what is blocked one way is blocked the other way
 pub blocked_back : (taken : ℕ → Bool) (d : Direction) (a b : ℕ) → is_blocked taken (opposite d) b a ≡ is_blocked taken d a b
-blocked_back taken d a b = any_same (λ s. toward (opposite d) b s && toward (opposite d) s a && taken s) (λ s. toward d a s && toward d s b && taken s) 64
+blocked_back taken d a b = any_same (λ s. toward (opposite d) b s && toward (opposite d) s a && taken s)
+    (λ s. toward d a s && toward d s b && taken s) 64
     (λ s l. rw (toward_back d s b, toward_back d a s) (turned (toward d s b) (toward d a s) (taken s)))
   where
     turned : (x y z : Bool) → (x && y && z) ≡ (y && x && z)
@@ -51,7 +54,8 @@ still_blocked taken after d a k o stays hidden h =
           let from_o : toward d o k ≡ true = ap (λ x. toward d x k) (sym same) ∙ s.before in
           let to_o : toward d a o ≡ true = ap (λ x. toward d a x) (sym same) ∙ s.behind in
           let u = blocker_of taken d o k (hidden from_o) in
-          let apart : u.square ≢ o = λ e. let self : toward d o o ≡ true = ap (λ x. toward d o x) (sym e) ∙ u.behind in let none = toward_self d o in cc in
+          let apart : u.square ≢ o = λ e. let self : toward d o o ≡ true =
+          ap (λ x. toward d o x) (sym e) ∙ u.behind in let none = toward_self d o in cc in
           blocked_at after d a k u.square u.on_board (toward_on d a o u.square to_o u.behind) u.before (stays u.square u.on_board apart u.is_taken)
       | false ↦ λ f. blocked_at after d a k s.square s.on_board s.behind s.before (stays s.square s.on_board (eqb-false s.square o f) s.is_taken)
     ]) refl
@@ -65,7 +69,8 @@ reached_before taken after d a k o stays hidden h =
     let x = and_parts (toward d a k) (not (is_blocked after d a k)) h in
     let open_after = not-true (is_blocked after d a k) x.1 in
     and_from (toward d a k) (not (is_blocked taken d a k)) x.0
-    (not_from_false (is_blocked taken d a k) (false_from_ne_true (is_blocked taken d a k) (λ e. let again = still_blocked taken after d a k o stays hidden e in cc)))
+    (not_from_false (is_blocked taken d a k)
+    (false_from_ne_true (is_blocked taken d a k) (λ e. let again = still_blocked taken after d a k o stays hidden e in cc)))
 
 -- with the nearest man on the ray at b: what lies behind a man is what lies beyond b
 pub hidden_beyond : (taken : ℕ → Bool) (d : Direction) (a b t : ℕ) → b < 64 → toward d a b ≡ true → taken b ≡ true
@@ -79,7 +84,8 @@ hidden_beyond taken d a b t on line there first =
           let u = blocker_of taken d a t h in
           (elim (eqb u.square b) as (λ x. eqb u.square b ≡ x → ⊥) [
             | true ↦ λ same. let beyond : toward d b t ≡ true = ap (λ x. toward d x t) (sym (eqb-true u.square b same)) ∙ u.before in cc
-            | false ↦ λ apart. let beyond = toward_on d b u.square t (first u.square u.on_board u.behind u.is_taken (eqb-false u.square b apart)) u.before in cc
+            | false ↦ λ apart. let beyond = toward_on d b u.square t
+                (first u.square u.on_board u.behind u.is_taken (eqb-false u.square b apart)) u.before in cc
           ]) refl) in
           rw open_line (sym (and-false (toward d a t)))
     ]) refl
@@ -89,7 +95,8 @@ pub hidden_none : (taken : ℕ → Bool) (d : Direction) (a t : ℕ)
     → ((u : ℕ) → u < 64 → (toward d a u && taken u) ≡ false)
     → false ≡ is_hidden taken d a t
 hidden_none taken d a t none =
-    let open_line : is_blocked taken d a t ≡ false = any_none (λ s. toward d a s && toward d s t && taken s) 64 (λ s l. dropped (toward d a s) (toward d s t) (taken s) (none s l)) in
+    let open_line : is_blocked taken d a t ≡ false = any_none (λ s. toward d a s && toward d s t && taken s) 64
+    (λ s l. dropped (toward d a s) (toward d s t) (taken s) (none s l)) in
     rw open_line (sym (and-false (toward d a t)))
   where
     dropped : (x y z : Bool) → (x && z) ≡ false → (x && y && z) ≡ false

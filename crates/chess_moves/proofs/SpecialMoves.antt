@@ -26,7 +26,8 @@ no_promotion : (man : Man) (t : ℕ) (r : Option Kind) → suits man t r ≡ tru
 no_promotion man t None s h = refl
 no_promotion man t (Some asked) s h = let x = (and_parts (promotes man t) (is_promotion asked) s).0 in cc
 
-none_special : (p : Setup) (man : Man) (m : Move) → is_some m.promotion ≡ false → is_en_passant p man m ≡ false → is_castling man m ≡ false → is_special p man m ≡ false
+none_special : (p : Setup) (man : Man) (m : Move) → is_some m.promotion ≡ false → is_en_passant p man m ≡ false
+    → is_castling man m ≡ false → is_special p man m ≡ false
 none_special p man m a b c = rw (a, b, c) refl
 
 pub plain_pawn : (p : Setup) (man : Man) (m : Move) → is_legal p m ≡ true → man_at p.men m.origin ≡ Some man → man.kind ≡ Pawn
@@ -52,14 +53,16 @@ no_step p c o t two =
     none true y z = refl
     none false y z = refl
 
-pub plain_king : (info : LegalityInfo) (p : Setup) (man : Man) (m : Move) → IsLegalityInfoOf info p → is_legal p m ≡ true → man_at p.men m.origin ≡ Some man → m.origin < 64
+pub plain_king : (info : LegalityInfo) (p : Setup) (man : Man) (m : Move) → IsLegalityInfoOf info p → is_legal p m ≡ true
+    → man_at p.men m.origin ≡ Some man → m.origin < 64
     → man.kind ≡ King → castles p p.side info.king m.target ≡ false → is_special p man m ≡ false
 plain_king info p man m h legal there on king none =
     let by = played_by p m man there legal in
     let own : man.colour ≡ p.side = same_side man.colour p.side by.own in
     let at : m.origin ≡ info.king = king_origin info p man m.origin h on there own king in
     let no_pawn : is_pawn_kind man.kind ≡ false = ap is_pawn_kind king in
-    let gone : (piece_goes p man.colour King m.origin m.target || castles p man.colour m.origin m.target) ≡ true = ap (λ kind. goes p man.colour kind m.origin m.target) (sym king) ∙ by.goes in
+    let gone : (piece_goes p man.colour King m.origin m.target || castles p man.colour m.origin m.target) ≡ true =
+    ap (λ kind. goes p man.colour kind m.origin m.target) (sym king) ∙ by.goes in
     let uncastled : castles p man.colour m.origin m.target ≡ false = rw (own, at) none in
     none_special p man m
     (no_promotion man m.target m.promotion by.suits (and_left (is_pawn_kind man.kind) _ no_pawn))
@@ -68,14 +71,16 @@ plain_king info p man m h legal there on king none =
     let still = no_step p man.colour m.origin m.target two in
     let never : (false || false) ≡ true = rw (still, uncastled) at gone in cc)))
 
-pub plain_piece : (p : Setup) (man : Man) (m : Move) → is_legal p m ≡ true → man_at p.men m.origin ≡ Some man → is_pawn_kind man.kind ≡ false → is_king_kind man.kind ≡ false
+pub plain_piece : (p : Setup) (man : Man) (m : Move) → is_legal p m ≡ true → man_at p.men m.origin ≡ Some man
+    → is_pawn_kind man.kind ≡ false → is_king_kind man.kind ≡ false
     → is_special p man m ≡ false
 plain_piece p man m legal there no_pawn no_king = none_special p man m
     (no_promotion man m.target m.promotion (played_by p m man there legal).suits (and_left (is_pawn_kind man.kind) _ no_pawn))
     (and_left (is_pawn_kind man.kind) (is_square p.target m.target) no_pawn)
     (and_left (is_king_kind man.kind) (eqb (file_gap m.origin m.target) 2) no_king)
 
-pub is_piece : (asked : Kind) → (asked ≡ Knight) ⊎ ((asked ≡ Bishop) ⊎ ((asked ≡ Rook) ⊎ (asked ≡ Queen))) → (is_pawn_kind asked ≡ false) × (is_king_kind asked ≡ false)
+pub is_piece : (asked : Kind) → (asked ≡ Knight) ⊎ ((asked ≡ Bishop) ⊎ ((asked ≡ Rook) ⊎ (asked ≡ Queen)))
+    → (is_pawn_kind asked ≡ false) × (is_king_kind asked ≡ false)
 is_piece asked (inl e) = (ap is_pawn_kind e, ap is_king_kind e)
 is_piece asked (inr (inl e)) = (ap is_pawn_kind e, ap is_king_kind e)
 is_piece asked (inr (inr (inl e))) = (ap is_pawn_kind e, ap is_king_kind e)

@@ -48,7 +48,8 @@ sum_at n q k true h = one n (h refl)
     one (suc m) l = (elim (eqb m q) as (λ b. eqb m q ≡ b → sum_to m (λ s. cond (eqb s q && true) k 0) + cond (b && true) k 0 ≡ k) [
       | true ↦ λ e.
           let same = eqb-true m q e in
-          let none : sum_to m (λ s. cond (eqb s q && true) k 0) ≡ 0 = sum_none m (λ s. cond (eqb s q && true) k 0) (λ s j. let apart = ne_eqb s q (λ x. omega arith) in rw apart) in
+          let none : sum_to m (λ s. cond (eqb s q && true) k 0) ≡ 0 =
+          sum_none m (λ s. cond (eqb s q && true) k 0) (λ s j. let apart = ne_eqb s q (λ x. omega arith) in rw apart) in
           omega (arith, none)
       | false ↦ λ e. let ne = eqb-false m q e in omega (arith, one m (omega arith))
     ]) refl

@@ -1,5 +1,6 @@
 -- The legal moves, told from the squares of the men and from the targets of each.
-use Rattle.std.proofs.Common.{◌≡◌, ℕ, zero, suc, ◌+◌, ◌≤◌, true, false, not, eqb, cond, List, [], ◌∷◌, ◌++◌, filter, length, Option, Some, None, refl, sym, ap, ◌∙◌, arith, length-append}
+use Rattle.std.proofs.Common.{◌≡◌, ℕ, zero, suc, ◌+◌, ◌≤◌, true, false, not, eqb, cond, List, [], ◌∷◌, ◌++◌}
+use Rattle.std.proofs.Common.{filter, length, Option, Some, None, refl, sym, ap, ◌∙◌, arith, length-append}
 use Rattle.std.specs.List.{flat_map}
 use Rattle.std.proofs.lemmas.Bool.{and_parts}
 use Rattle.std.proofs.lemmas.List.Elements.{filter-append}
@@ -22,7 +23,8 @@ use Rattle.chess_moves.proofs.Few.{none_from}
 
 -- One man's moves.
 
-legal_to_below : (p : Setup) (man : Man) (o set n : ℕ) → AreTargets set p man o → n ≤ 64 → filter (is_legal p) (moves_to o n) ≡ flat_map (ways man o) (members_below set n)
+legal_to_below : (p : Setup) (man : Man) (o set n : ℕ) → AreTargets set p man o → n ≤ 64
+    → filter (is_legal p) (moves_to o n) ≡ flat_map (ways man o) (members_below set n)
 unfolding moves_to members_below
 legal_to_below p man o set zero targets h = refl
 legal_to_below p man o set (suc n) targets h =
@@ -32,7 +34,8 @@ legal_to_below p man o set (suc n) targets h =
     ∙ sym (flat_map-below_suc (ways man o) set n)
 
 -- the legal moves from a square are a man's ways to its targets
-pub legal_to : (p : Setup) (man : Man) (o set : ℕ) → AreTargets set p man o → filter (is_legal p) (moves_to o 64) ≡ flat_map (ways man o) (members set)
+pub legal_to : (p : Setup) (man : Man) (o set : ℕ) → AreTargets set p man o
+    → filter (is_legal p) (moves_to o 64) ≡ flat_map (ways man o) (members set)
 unfolding members
 legal_to p man o set targets = legal_to_below p man o set 64 targets (omega arith)
 
@@ -52,15 +55,17 @@ moves_after (Some later) man o t ts = moves_from later man o (t ∷ ts)
 
 first_way : (first : Kind) (man : Man) (o t : ℕ) (ts : List ℕ)
     → moves_from first man o (t ∷ ts) ≡ move_of o t (promotion_at first man t) ∷ moves_after (next_promotion (promotion_at first man t)) man o t ts
-first_way first man o t ts = (elim (promotes man t) as (λ b. promotes man t ≡ b → moves_from first man o (t ∷ ts) ≡ move_of o t (cond b (Some first) None) ∷ moves_after (next_promotion (cond b (Some first) None)) man o t ts) [
-  | false ↦ λ e. rw e (last None)
-  | true ↦ λ e. promoted first e
-]) refl
+first_way first man o t ts = (elim (promotes man t) as (λ b. promotes man t ≡ b → moves_from first man o (t ∷ ts)
+    ≡ move_of o t (cond b (Some first) None) ∷ moves_after (next_promotion (cond b (Some first) None)) man o t ts) [
+      | false ↦ λ e. rw e (last None)
+      | true ↦ λ e. promoted first e
+    ]) refl
   where
     last : (r : Option Kind) → move_of o t r ∷ flat_map (ways man o) ts ≡ move_of o t r ∷ moves_from Knight man o ts
     last r = ap (λ (ms : List Move). move_of o t r ∷ ms) (sym (all_ways man o ts))
 
-    promoted : (first : Kind) → promotes man t ≡ true → moves_from first man o (t ∷ ts) ≡ move_of o t (Some first) ∷ moves_after (next_promotion (Some first)) man o t ts
+    promoted : (first : Kind) → promotes man t ≡ true
+        → moves_from first man o (t ∷ ts) ≡ move_of o t (Some first) ∷ moves_after (next_promotion (Some first)) man o t ts
     promoted Knight e = rw e refl
     promoted Bishop e = rw e refl
     promoted Rook e = rw e refl
@@ -74,7 +79,8 @@ left_after None man o set rest = moves_from Knight man o (members rest)
 left_after (Some later) man o set rest = moves_from later man o (members set)
 
 pub first_move : (first : Kind) (man : Man) (o set t rest : ℕ) → IsSplit set t rest
-    → moves_from first man o (members set) ≡ move_of o t (promotion_at first man t) ∷ left_after (next_promotion (promotion_at first man t)) man o set rest
+    → moves_from first man o (members set) ≡ move_of o t (promotion_at first man t)
+    ∷ left_after (next_promotion (promotion_at first man t)) man o set rest
 first_move first man o set t rest split =
     let r : Option Kind = promotion_at first man t in
     ap (moves_from first man o) split.rising
@@ -91,7 +97,8 @@ no_moves first man o set h = ap (moves_from first man o) (no_members set h)
 
 -- All men's moves.
 
-legal_below : (p : Setup) (own n : ℕ) → IsSetOf own (is_of p.side) p.men → n ≤ 64 → filter (is_legal p) (moves_below n) ≡ moves_of_men p (members_below own n)
+legal_below : (p : Setup) (own n : ℕ) → IsSetOf own (is_of p.side) p.men → n ≤ 64
+    → filter (is_legal p) (moves_below n) ≡ moves_of_men p (members_below own n)
 unfolding moves_below members_below
 legal_below p own zero is h = refl
 legal_below p own (suc n) is h =
@@ -112,7 +119,8 @@ unfolding legal_moves members
 legal_of_men p own is = legal_below p own 64 is (omega arith)
 
 -- those of the lowest man, and those of the others
-pub first_man : (p : Setup) (set o rest : ℕ) → IsSplit set o rest → moves_of_men p (members set) ≡ filter (is_legal p) (moves_to o 64) ++ moves_of_men p (members rest)
+pub first_man : (p : Setup) (set o rest : ℕ) → IsSplit set o rest
+    → moves_of_men p (members set) ≡ filter (is_legal p) (moves_to o 64) ++ moves_of_men p (members rest)
 first_man p set o rest split = ap (λ (os : List ℕ). moves_of_men p os) split.rising
 
 -- how many they are, where these are the targets of the lowest man

@@ -28,6 +28,13 @@ pub(crate) struct Flights {
     pub squares: u64,
 }
 
+/// A man that is to move, and its square.
+#[derive(Clone, Copy)]
+pub(crate) struct Mover {
+    pub man: Man,
+    pub origin: u8,
+}
+
 /// The flights of a position, found at the first question about them.
 pub(crate) fn flights_once(
     rays: &Rays,
@@ -72,26 +79,25 @@ pub(crate) fn squares_that_cover(
     position: &Position,
     info: &LegalityInfo,
     flights: Flights,
-    man: Man,
-    origin: u8,
+    mover: Mover,
     hopes: u64,
 ) -> u64
-    requires on_board { origin < 64 }
+    requires on_board { mover.origin < 64 }
     requires info { IsLegalityInfoOf info.now position.now }
     requires flights { AreFlightsOf flights position.now }
-    requires there { man_at position.now.men origin ≡ Some man }
-    ensures { (m : MoveValue) → is_legal position.now m ≡ true → m.origin ≡ origin → m.target < 64 → has hopes m.target ≡ true
+    requires there { man_at position.now.men mover.origin ≡ Some mover.man }
+    ensures { (m : MoveValue) → is_legal position.now m ≡ true → m.origin ≡ mover.origin → m.target < 64 → has hopes m.target ≡ true
         → has result m.target ≡ false → is_mate (after_setup position.now m) ≡ false }
 {
     // That a legal move leaves a sound position is this law.
     sound_after();
-    let special = special_squares(rays, position, info, man);
+    let special = special_squares(rays, position, info, mover.man);
     let mut covering = hopes;
     for flight in square_sets::squares(flights.squares) {
         if covering == 0 {
             break;
         }
-        covering &= special | squares_covering(rays, position, info, flights, man, origin, flight);
+        covering &= special | squares_covering(rays, position, info, flights, mover, flight);
     }
     covering
 }
@@ -102,27 +108,26 @@ fn squares_covering(
     position: &Position,
     info: &LegalityInfo,
     flights: Flights,
-    man: Man,
-    origin: u8,
+    mover: Mover,
     flight: u8,
 ) -> u64
-    requires on_board { (origin < 64) × (flight < 64) }
+    requires on_board { (mover.origin < 64) × (flight < 64) }
     requires info { IsLegalityInfoOf info.now position.now }
     requires flights { AreFlightsOf flights position.now }
     requires flight { has flights.squares flight ≡ true }
-    ensures { (t : ℕ) → t < 64 → has result t ≡ false → leaves_flight position.now flights.king origin man.kind t flight ≡ true }
+    ensures { (t : ℕ) → t < 64 → has result t ≡ false → leaves_flight position.now flights.king mover.origin mover.man.kind t flight ≡ true }
 {
     let side = info.side;
     let lines = lines_to(rays, Kind::Queen, side, flight);
-    if square_sets::contains(lines, origin) {
+    if square_sets::contains(lines, mover.origin) {
         let lifted = square_sets::without(info.occupied, flights.king);
-        let gone = square_sets::without(lifted, origin);
-        let others = without(&force_of(position, side), origin);
+        let gone = square_sets::without(lifted, mover.origin);
+        let others = without(&force_of(position, side), mover.origin);
         if is_hit_over(rays, gone, &others, side, flight) {
             return u64::MAX;
         }
     }
-    lines_to(rays, man.kind, side, flight)
+    lines_to(rays, mover.man.kind, side, flight)
 }
 
 /// The squares from which a man of a kind would attack a square on an empty board.

@@ -5,7 +5,8 @@
 //! found by making it: sets of squares tell where each man may go.
 //!
 //! To read: `specs/Laws.antt` (which moves the list has) and `specs/inside/Listing.antt` (how it is put together); `directions`,
-//! `ray_tables`, `forces`, `attackers` and `slider_lines` (what is seen and attacked, and what is between), `legality_info`, `castling_targets`, `en_passant_targets`,
+//! `ray_tables`, `forces`, `attackers` and `slider_lines` (what is seen and attacked, and what is between), `legality_info`,
+//! `castling_targets`, `en_passant_targets`,
 //! `pseudo_legal_targets` and `checks_and_pins` (where a man goes, and where it leaves its king safe), `legal_targets` and `promotions`;
 //! then `move_generation`, `verdicts` and `verdict_of_position`, and `perft_count`; `check_squares` and `gives_check`;
 //! `discovered_checks`, `attacked_sets`, `flights` and `mate_in_one`. `laws` says what the lists hold in words that do not speak of how

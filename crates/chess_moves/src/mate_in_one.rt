@@ -14,7 +14,7 @@ ghost use Rattle.chess_moves.specs.Verdicts.{is_mate, has_mating_move as some_mo
 
 use crate::check_squares::{CheckSquares, check_squares_of};
 use crate::discovered_checks::check_targets;
-use crate::flights::{Flights, flights_once, squares_that_cover};
+use crate::flights::{Flights, Mover, flights_once, squares_that_cover};
 use crate::legal_targets::targets_from;
 use crate::legality_info::{LegalityInfo, legality_info_of};
 use crate::move_generation::ManMoves;
@@ -65,7 +65,7 @@ fn man_mates(
         return false;
     }
     let known = flights_once(rays, position, info, flights);
-    let squares = squares_that_cover(rays, position, info, known, man, origin, hopes);
+    let squares = squares_that_cover(rays, position, info, known, Mover { man, origin }, hopes);
     if squares == 0 {
         return false;
     }

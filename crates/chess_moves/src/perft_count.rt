@@ -11,7 +11,8 @@ ghost use Rattle.chess_board.specs.Legality.{is_legal};
 ghost use Rattle.chess_moves.specs.inside.Listing.{legal_moves, moves_to};
 ghost use Rattle.chess_moves.specs.inside.MoveGeneration.{moves_of_men, HaveMenOf};
 ghost use Rattle.chess_moves.specs.Plays.{plays};
-ghost use Rattle.chess_moves.specs.inside.Shifts.{is_shifted, back, left_file as left_file_of, right_file as right_file_of, third_rank as third_rank_of, AreFree};
+ghost use Rattle.chess_moves.specs.inside.Shifts.{is_shifted, back, left_file as left_file_of, right_file as right_file_of};
+ghost use Rattle.chess_moves.specs.inside.Shifts.{third_rank as third_rank_of, AreFree};
 
 use crate::en_passant_targets::en_passant_origins;
 use crate::legal_targets::{targets_at_once, targets_of_king};

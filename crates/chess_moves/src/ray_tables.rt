@@ -3,7 +3,8 @@
 ghost use Rattle.std.specs.Prelude.{◌≡◌, ℕ, ◌<◌};
 ghost use Rattle.square_sets.specs.Members.{has};
 ghost use Rattle.chess_board.specs.Squares.{gap};
-ghost use Rattle.chess_moves.specs.inside.Directions.{toward, is_hidden, reaches, reaches_as_bishop, reaches_as_rook, is_on_diagonal, is_on_straight, stands_between, RaysInOrder};
+ghost use Rattle.chess_moves.specs.inside.Directions.{toward, is_hidden, reaches, reaches_as_bishop, reaches_as_rook};
+ghost use Rattle.chess_moves.specs.inside.Directions.{is_on_diagonal, is_on_straight, stands_between, RaysInOrder};
 ghost use Rattle.chess_moves.specs.inside.Leaps.{leaps};
 ghost use Rattle.chess_moves.specs.inside.RayTables.{AreRaysToward, AreTargetsOf, AreOneSetOf, AreRays};
 

@@ -23,14 +23,16 @@ use Rattle.chess_notation.proofs.AvoidMoveAnswers.{avoid_of_answer}
 use Rattle.chess_notation.proofs.AnswerContents.{IsAnswered, none_answered, mate_answered}
 
 -- What stands behind the words of a printable text is printable.
-words_tail : (IsOne : List ℕ → Type 0) (words : List (List ℕ)) (text tail : List ℕ) → SpellsWords IsOne text words tail → list_all is_printable text ≡ true
+words_tail : (IsOne : List ℕ → Type 0) (words : List (List ℕ)) (text tail : List ℕ)
+    → SpellsWords IsOne text words tail → list_all is_printable text ≡ true
     → list_all is_printable tail ≡ true
 words_tail IsOne [] text tail h printable = sym (ap (list_all is_printable) h) ∙ printable
 words_tail IsOne (word ∷ words) text tail (n, rest, e, is, apart, spelt) printable =
     let parts = list_all-parts is_printable (replicate n 32) (word ++ rest) (sym (ap (list_all is_printable) e) ∙ printable) in
     words_tail IsOne words rest tail spelt (list_all-parts is_printable word rest parts.1).1
 
-rest_spellable : (operations : List Operation) (tail : List ℕ) → SpellsRest tail operations → list_all is_printable tail ≡ true → Each IsSpellable operations
+rest_spellable : (operations : List Operation) (tail : List ℕ) → SpellsRest tail operations
+    → list_all is_printable tail ≡ true → Each IsSpellable operations
 rest_spellable operations tail (inl spelt) printable = spellable_operations operations tail spelt printable
 rest_spellable operations tail (inr (halfmove, fullmove, rest, words, spelt)) printable =
     spellable_operations operations rest spelt (words_tail IsCounter (halfmove ∷ fullmove ∷ []) tail rest words printable)
@@ -40,7 +42,8 @@ copied_of : (line : List ℕ) (asked : ℕ) (r : RecordValue) (reads : Reads lin
 copied_of line asked r reads =
     let behind = words_tail IsWord (field_words reads.fields) line reads.tail reads.words reads.printable in
     let spellable = rest_spellable reads.operations reads.tail reads.spelt behind in
-    are_copied reads.operations r.rest (λ entry at. let kept = (reads.kept.1 entry).0 at in (kept.0, (spellable kept.0 kept.1, kept.2, kept.1), kept.3))
+    are_copied reads.operations r.rest
+    (λ entry at. let kept = (reads.kept.1 entry).0 at in (kept.0, (spellable kept.0 kept.1, kept.2, kept.1), kept.3))
 
 entries_apart : (entries : List Entry) → IsApart (entries_text entries)
 entries_apart [] = tt
@@ -57,7 +60,8 @@ four_words a b c d tail a_is b_is c_is d_is apart =
     append_assoc (a ++ 32 ∷ b ++ 32 ∷ c) (32 ∷ d) tail ∙ append_assoc (a ++ 32 ∷ b) (32 ∷ c) last ∙ append_assoc a (32 ∷ b) third in
     (0, second, whole, a_is, refl, (1, third, refl, b_is, refl, (1, last, refl, c_is, refl, (1, tail, refl, d_is, apart, refl))))
 
-four_printable : (a b c d : List ℕ) → list_all is_printable a ≡ true → list_all is_printable b ≡ true → list_all is_printable c ≡ true → list_all is_printable d ≡ true
+four_printable : (a b c d : List ℕ) → list_all is_printable a ≡ true → list_all is_printable b ≡ true
+    → list_all is_printable c ≡ true → list_all is_printable d ≡ true
     → list_all is_printable (a ++ 32 ∷ b ++ 32 ∷ c ++ 32 ∷ d) ≡ true
 four_printable a b c d a_is b_is c_is d_is =
     let two = list_all-both is_printable a (32 ∷ b) a_is b_is in
@@ -65,7 +69,8 @@ four_printable a b c d a_is b_is c_is d_is =
     list_all-both is_printable (a ++ 32 ∷ b ++ 32 ∷ c) (32 ∷ d) three d_is
 
 -- A sound position's text with an answer's operations behind it is a record.
-answer_says : PrintedSpells → (p : Setup) (default asked : ℕ) (avoid : List Move) (entries rest : List Entry) → IsSound p → IsAnswered p avoid entries rest default asked
+answer_says : PrintedSpells → (p : Setup) (default asked : ℕ) (avoid : List Move) (entries rest : List Entry) → IsSound p
+    → IsAnswered p avoid entries rest default asked
     → length (position_text p ++ entries_text entries) ≤ max_line
     → Reads (position_text p ++ entries_text entries) default (record { position = p; bound = asked; avoid = avoid; rest = rest })
 unfolding position_text
@@ -86,7 +91,8 @@ answer_says printed p default asked avoid entries rest sound answered short =
       fields = fields;
       tail = entries_text entries;
       operations = all;
-      words = four_words fields.placement fields.side fields.castling fields.target (entries_text entries) placement.0 side.0 castling.0 target.0 (entries_apart entries);
+      words = four_words fields.placement fields.side fields.castling fields.target
+          (entries_text entries) placement.0 side.0 castling.0 target.0 (entries_apart entries);
       position = are.spelt;
       sound = sound;
       spelt = inl (subst (λ es. SpellsOperations (entries_text es) all) answered.shown (spelled_operations all spellable));
@@ -103,7 +109,8 @@ answer_reads printed listed line asked default r (Mate dm keys pv) reads playabl
     let line_can = line_spellable r.position pv.items playable.1 in
     let copied = copied_of line asked r reads in
     let avoids = avoid_of_answer reads.operations r.rest copied reads.once reads.kept r.position r.avoid reads.avoid in
-    let answered = mate_answered r.position r.avoid keys.items pv.items default dm r.rest copied reads.kept.0 avoids keys_can line_can length.0 length.1 in
+    let answered = mate_answered r.position r.avoid keys.items pv.items default dm r.rest copied reads.kept.0
+    avoids keys_can line_can length.0 length.1 in
     answer_says printed r.position default dm r.avoid _ r.rest reads.sound answered short
 answer_reads printed listed line asked default r NoMate reads playable length short =
     let copied = copied_of line asked r reads in

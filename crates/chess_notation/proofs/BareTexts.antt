@@ -1,6 +1,7 @@
 -- The text of a move without its suffix tells it from the other legal moves: its first byte says whether a pawn, a
 -- castling king or a piece moves.
-use Rattle.std.proofs.Common.{◌≡◌, ◌⊎◌, ℕ, ◌<◌, ◌≤◌, Bool, true, false, eqb, List, ◌∷◌, get_or, drop, Option, Some, refl, sym, ap, subst, ◌∙◌, inl, inr, arith}
+use Rattle.std.proofs.Common.{◌≡◌, ◌⊎◌, ℕ, ◌<◌, ◌≤◌, Bool, true, false, eqb, List, ◌∷◌, get_or}
+use Rattle.std.proofs.Common.{drop, Option, Some, refl, sym, ap, subst, ◌∙◌, inl, inr, arith}
 use Rattle.std.proofs.lemmas.Bool.{and_parts}
 use Rattle.chess_board.specs.declared.men.Kind.{Kind}
 use Rattle.chess_board.specs.declared.men.Kind.TheVariants.{Pawn, Knight, Bishop, Rook, Queen, King}
@@ -111,22 +112,29 @@ kind_same : (a b : Kind) → kind_letter a ≡ kind_letter b → a ≡ b
 kind_same a b letters =
     let said : Some a ≡ Some b = sym (kind_said-letter a) ∙ ap kind_said letters ∙ kind_said-letter b in cc
 
-written_same : (p : Setup) (m n : Move) (a b : Man) → IsPlayed p m a → IsPlayed p n b → Written p m a → Written p n b → bare_text p m ≡ bare_text p n → m ≡ n
+written_same : (p : Setup) (m n : Move) (a b : Man) → IsPlayed p m a → IsPlayed p n b → Written p m a
+    → Written p n b → bare_text p m ≡ bare_text p n → m ≡ n
 written_same p m n a b by_m by_n (inl v) (inl w) e =
     let same : a ≡ b = man_same p a b by_m.own by_n.own (v.pawn ∙ sym w.pawn) in
     let by_n' : IsPlayed p n a = subst (λ x. IsPlayed p n x) (sym same) by_n in
     same_pawn p a m n by_m by_n' v.pawn (sym v.text ∙ e ∙ w.text ∙ ap (λ x. pawn_text p x n) (sym same))
-written_same p m n a b by_m by_n (inl v) (inr (inl w)) e = let x = first_pawn p m a v in let y = first_castling p n b w in let z = ap first e in absurd (omega arith)
-written_same p m n a b by_m by_n (inl v) (inr (inr w)) e = let x = first_pawn p m a v in let y = first_piece p n b w in let z = ap first e in let k = kind_below b.kind in absurd (omega arith)
-written_same p m n a b by_m by_n (inr (inl v)) (inl w) e = let x = first_castling p m a v in let y = first_pawn p n b w in let z = ap first e in absurd (omega arith)
+written_same p m n a b by_m by_n (inl v) (inr (inl w)) e = let x = first_pawn p m a v in let y = first_castling p n b w in
+    let z = ap first e in absurd (omega arith)
+written_same p m n a b by_m by_n (inl v) (inr (inr w)) e = let x = first_pawn p m a v in let y = first_piece p n b w in let z =
+    ap first e in let k = kind_below b.kind in absurd (omega arith)
+written_same p m n a b by_m by_n (inr (inl v)) (inl w) e = let x = first_castling p m a v in let y = first_pawn p n b w in
+    let z = ap first e in absurd (omega arith)
 written_same p m n a b by_m by_n (inr (inl v)) (inr (inl w)) e =
     let same : a ≡ b = man_same p a b by_m.own by_n.own (castling_king a m v.castling ∙ sym (castling_king b n w.castling)) in
     let by_n' : IsPlayed p n a = subst (λ x. IsPlayed p n x) (sym same) by_n in
     let castles_n : is_castling a n ≡ true = ap (λ x. is_castling x n) same ∙ w.castling in
     same_castling p a m n by_m by_n' v.piece v.castling castles_n (sym v.text ∙ e ∙ w.text)
-written_same p m n a b by_m by_n (inr (inl v)) (inr (inr w)) e = absurd (kind_no_castling b.kind (sym (first_piece p n b w) ∙ sym (ap first e) ∙ first_castling p m a v))
-written_same p m n a b by_m by_n (inr (inr v)) (inl w) e = let x = first_piece p m a v in let y = first_pawn p n b w in let z = ap first e in let k = kind_below a.kind in absurd (omega arith)
-written_same p m n a b by_m by_n (inr (inr v)) (inr (inl w)) e = absurd (kind_no_castling a.kind (sym (first_piece p m a v) ∙ ap first e ∙ first_castling p n b w))
+written_same p m n a b by_m by_n (inr (inl v)) (inr (inr w)) e =
+    absurd (kind_no_castling b.kind (sym (first_piece p n b w) ∙ sym (ap first e) ∙ first_castling p m a v))
+written_same p m n a b by_m by_n (inr (inr v)) (inl w) e = let x = first_piece p m a v in let y = first_pawn p n b w in let z =
+    ap first e in let k = kind_below a.kind in absurd (omega arith)
+written_same p m n a b by_m by_n (inr (inr v)) (inr (inl w)) e =
+    absurd (kind_no_castling a.kind (sym (first_piece p m a v) ∙ ap first e ∙ first_castling p n b w))
 written_same p m n a b by_m by_n (inr (inr v)) (inr (inr w)) e =
     let letters : kind_letter a.kind ≡ kind_letter b.kind = sym (first_piece p m a v) ∙ ap first e ∙ first_piece p n b w in
     let same : a ≡ b = man_same p a b by_m.own by_n.own (kind_same a.kind b.kind letters) in

@@ -13,7 +13,8 @@ value_behind-capped m k [] same = same
 value_behind-capped m k (b ∷ bs) same = value_behind-capped (10 * m + (b - 48)) (10 * k + (b - 48)) bs (omega arith)
 
 pub value_more : (digits : List ℕ) (n i b m : ℕ) → i < length digits → b ≡ get_or digits i 0 → min m 16 ≡ min (10 * n + (b - 48)) 16
-    → min (value_behind n (drop i digits)) 16 ≡ min (digits_value digits) 16 → min (value_behind m (drop (i + 1) digits)) 16 ≡ min (digits_value digits) 16
+    → min (value_behind n (drop i digits)) 16 ≡ min (digits_value digits) 16
+    → min (value_behind m (drop (i + 1) digits)) 16 ≡ min (digits_value digits) 16
 value_more digits n i b m here at next so_far =
     let split : drop i digits ≡ b ∷ drop (suc i) digits = drop-cons digits i 0 here ∙ ap (λ x. x ∷ drop (suc i) digits) (sym at) in
     rw add-one (value_behind-capped m (10 * n + (b - 48)) (drop (suc i) digits) next ∙ ap (λ t. min (value_behind n t) 16) (sym split) ∙ so_far)

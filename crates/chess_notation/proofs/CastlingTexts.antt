@@ -22,7 +22,8 @@ use Rattle.chess_notation.specs.SanText.{wing_text}
 king_near : (men : List (Option Man)) (colour : Colour) (a b : ℕ) → attacks_as men colour King a b ≡ true → eqb (file_gap a b) 2 ≡ false
 king_near men colour a b h = grind (arith, nat_tests)
 
-castling_squares : (p : Setup) (colour : Colour) (wing : Wing) (a b : ℕ) → castles_to p colour wing a b ≡ true → (a ≡ king_home colour) × (b ≡ king_goal colour wing)
+castling_squares : (p : Setup) (colour : Colour) (wing : Wing) (a b : ℕ) → castles_to p colour wing a b ≡ true
+    → (a ≡ king_home colour) × (b ≡ king_goal colour wing)
 castling_squares p colour wing a b h =
     let right = has_right_of p.rights colour wing in
     let home = eqb a (king_home colour) in
@@ -45,13 +46,15 @@ wing_of-king_goal White QueenSide a b e f = rw (e, f) refl
 wing_of-king_goal Black KingSide a b e f = rw (e, f) refl
 wing_of-king_goal Black QueenSide a b e f = rw (e, f) refl
 
-on_wing : (p : Setup) (colour : Colour) (wing : Wing) (a b : ℕ) → castles_to p colour wing a b ≡ true → (a ≡ king_home colour) × (b ≡ king_goal colour (wing_of a b))
+on_wing : (p : Setup) (colour : Colour) (wing : Wing) (a b : ℕ) → castles_to p colour wing a b ≡ true
+    → (a ≡ king_home colour) × (b ≡ king_goal colour (wing_of a b))
 on_wing p colour wing a b h =
     let at = castling_squares p colour wing a b h in
     (at.0, at.1 ∙ ap (king_goal colour) (sym (wing_of-king_goal colour wing a b at.0 at.1)))
 
 -- The king that goes two files goes from its home to the goal of that wing.
-castles_home : (p : Setup) (colour : Colour) (kind : Kind) (a b : ℕ) → goes p colour kind a b ≡ true → (is_king_kind kind && eqb (file_gap a b) 2) ≡ true →
+castles_home : (p : Setup) (colour : Colour) (kind : Kind) (a b : ℕ) → goes p colour kind a b ≡ true
+    → (is_king_kind kind && eqb (file_gap a b) 2) ≡ true →
     (a ≡ king_home colour) × (b ≡ king_goal colour (wing_of a b))
 castles_home p colour Pawn a b h two = cc
 castles_home p colour Knight a b h two = cc
@@ -75,8 +78,10 @@ wing_same KingSide QueenSide e = let lengths = ap length e in absurd (omega arit
 wing_same QueenSide KingSide e = let lengths = ap length e in absurd (omega arith)
 wing_same QueenSide QueenSide e = refl
 
-pub castling_same : (p : Setup) (man : Man) (m n : Move) → goes p man.colour man.kind m.origin m.target ≡ true → goes p man.colour man.kind n.origin n.target ≡ true →
-    is_castling man m ≡ true → is_castling man n ≡ true → wing_text (wing_of m.origin m.target) ≡ wing_text (wing_of n.origin n.target) → (m.origin ≡ n.origin) × (m.target ≡ n.target)
+pub castling_same : (p : Setup) (man : Man) (m n : Move) → goes p man.colour man.kind m.origin m.target ≡ true
+    → goes p man.colour man.kind n.origin n.target ≡ true →
+    is_castling man m ≡ true → is_castling man n ≡ true → wing_text (wing_of m.origin m.target)
+    ≡ wing_text (wing_of n.origin n.target) → (m.origin ≡ n.origin) × (m.target ≡ n.target)
 castling_same p man m n goes_m goes_n castles_m castles_n texts =
     let wings = wing_same (wing_of m.origin m.target) (wing_of n.origin n.target) texts in
     let at_m = castles_home p man.colour man.kind m.origin m.target goes_m castles_m in

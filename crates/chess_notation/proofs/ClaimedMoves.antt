@@ -6,36 +6,19 @@ use Rattle.chess_board.specs.Positions.{Setup}
 use Rattle.chess_board.specs.Moves.{Move}
 use Rattle.chess_moves.specs.inside.Listing.{legal_moves}
 use Rattle.chess_problems.specs.Outcomes.{AreLegal}
-use Rattle.chess_notation.specs.declared.avoid_moves.Named.{Named}
 use Rattle.chess_notation.specs.declared.claims.ClaimFault.TheVariants.{NoSuchMove}
-use Rattle.chess_notation.specs.SanText.{bare_text}
-use Rattle.chess_notation.specs.Opcodes.{same_text}
-use Rattle.chess_notation.specs.AvoidMoves.{without_suffix, names, is_name, named}
-use Rattle.chess_notation.specs.Claims.{is_length, is_claim, is_some_if_length, is_small_if_length, claims_fault}
+use Rattle.chess_notation.specs.AvoidMoves.{names, named}
+use Rattle.chess_notation.specs.Claims.{is_claim, is_some_if_length, is_small_if_length, claims_fault}
 use Rattle.chess_notation.proofs.Members.{in_front, in_back}
-use Rattle.chess_notation.proofs.NamedMoves.{move_of, text_of, any_named, legal_texts}
-
--- Each word is a length or names a move of the list where each is a claim.
-pub all_claims : (p : Setup) (ns : List Named) (words : List (List ℕ)) → map move_of ns ≡ legal_moves p → map text_of ns ≡ map (bare_text p) (legal_moves p)
-    → list_all (λ word. is_length word || list_any (λ n. same_text (without_suffix word) (text_of n)) ns) words ≡ list_all (is_claim p) words
-unfolding is_name
-all_claims p ns [] moves texts = refl
-all_claims p ns (word ∷ words) moves texts =
-    let here : list_any (λ n. same_text (without_suffix word) (text_of n)) ns ≡ list_any (names p word) (legal_moves p) =
-    any_named p word ns (legal_texts p ns moves texts) ∙ ap (list_any (names p word)) moves in
-    rw (here, all_claims p ns words moves texts) refl
-
-pub are_claimed : (p : Setup) (ns : List Named) (words : List (List ℕ)) → map move_of ns ≡ legal_moves p → map text_of ns ≡ map (bare_text p) (legal_moves p) → (list : List Named) → list ≡ ns
-    → list_all (λ word. is_length word || list_any (λ n. same_text (without_suffix word) (text_of n)) list) words ≡ list_all (is_claim p) words
-are_claimed p ns words moves texts list same =
-    ap (λ (xs : List Named). list_all (λ word. is_length word || list_any (λ n. same_text (without_suffix word) (text_of n)) xs) words) same ∙ all_claims p ns words moves texts
 
 -- The fault of the claims where the first two tests pass, by the third.
-pub fault_third : (p : Setup) (words : List (List ℕ)) → list_all is_some_if_length words ≡ true → list_all is_small_if_length words ≡ true → list_all (is_claim p) words ≡ false
+pub fault_third : (p : Setup) (words : List (List ℕ)) → list_all is_some_if_length words ≡ true
+    → list_all is_small_if_length words ≡ true → list_all (is_claim p) words ≡ false
     → claims_fault p words ≡ Some NoSuchMove
 fault_third p words some small each = rw (some, small, each) refl
 
-pub fault_none : (p : Setup) (words : List (List ℕ)) → list_all is_some_if_length words ≡ true → list_all is_small_if_length words ≡ true → list_all (is_claim p) words ≡ true
+pub fault_none : (p : Setup) (words : List (List ℕ)) → list_all is_some_if_length words ≡ true
+    → list_all is_small_if_length words ≡ true → list_all (is_claim p) words ≡ true
     → claims_fault p words ≡ None
 fault_none p words some small each = rw (some, small, each) refl
 

@@ -1,7 +1,9 @@
 -- Four fields that spell a sound position have no fault.
 use Rattle.std.proofs.Common.{◌≢◌, ℕ, List, [], ◌∷◌, sym, ◌∙◌, subst, inl, inr, true≢false}
 use Rattle.chess_board.specs.declared.faults.FenFault.{FenFault}
-use Rattle.chess_board.specs.declared.faults.FenFault.TheVariants.{FieldCount, BadPlacement, BadSide, BadCastling, BadTarget, BadCounter, BadKings, PawnOnEndRank, TooManyMen, RightWithoutMen, TargetWithoutPawn, OpponentInCheck}
+use Rattle.chess_board.specs.declared.faults.FenFault.TheVariants.{FieldCount, BadPlacement, BadSide, BadCastling, BadTarget}
+use Rattle.chess_board.specs.declared.faults.FenFault.TheVariants.{BadCounter, BadKings, PawnOnEndRank, TooManyMen, RightWithoutMen}
+use Rattle.chess_board.specs.declared.faults.FenFault.TheVariants.{TargetWithoutPawn, OpponentInCheck}
 use Rattle.chess_board.specs.Positions.{Setup}
 use Rattle.chess_board.specs.Soundness.{IsSound}
 use Rattle.chess_board.specs.Faults.{IsFirst, IsUnsoundBy, field_faults}
@@ -26,7 +28,8 @@ sound_right p h TargetWithoutPawn u = true≢false (sym h.target ∙ u)
 sound_right p h OpponentInCheck u = true≢false (sym u ∙ h.safe)
 
 -- A fault of the position that the fields spell is one of every position that they spell: there is one only.
-position_right : SpellsOne → (f : Fields) (p : Setup) → SpellsSetup f p → IsSound p → (fault : FenFault) → (q : Setup) × SpellsSetup f q × IsUnsoundBy q fault → ⊥
+position_right : SpellsOne → (f : Fields) (p : Setup) → SpellsSetup f p → IsSound p → (fault : FenFault)
+    → (q : Setup) × SpellsSetup f q × IsUnsoundBy q fault → ⊥
 position_right one f p spelt sound fault w = sound_right p sound fault (subst (λ (s : Setup). IsUnsoundBy s fault) (one f w.0 p w.1 spelt) w.2)
 
 fields_right : SpellsOne → (f : Fields) (p : Setup) → SpellsSetup f p → IsSound p → (fault : FenFault) → IsAmiss f fault → ⊥
@@ -43,7 +46,8 @@ fields_right one f p h sound RightWithoutMen u = position_right one f p h sound 
 fields_right one f p h sound TargetWithoutPawn u = position_right one f p h sound TargetWithoutPawn u
 fields_right one f p h sound OpponentInCheck u = position_right one f p h sound OpponentInCheck u
 
-none_first : (Applies : FenFault → Type 0) (faults : List FenFault) (fault : FenFault) → ((f : FenFault) → Applies f → ⊥) → IsFirst Applies faults fault → ⊥
+none_first : (Applies : FenFault → Type 0) (faults : List FenFault) (fault : FenFault)
+    → ((f : FenFault) → Applies f → ⊥) → IsFirst Applies faults fault → ⊥
 none_first Applies [] fault none h = h
 none_first Applies (next ∷ later) fault none (inl h) = none next h.0
 none_first Applies (next ∷ later) fault none (inr h) = none_first Applies later fault none h.1

@@ -1,5 +1,6 @@
 -- Coordinates: they tell a move from each other, no text in SAN is one of them, and none ends with a suffix.
-use Rattle.std.proofs.Common.{◌≡◌, ℕ, ◌+◌, ◌-◌, ◌<◌, Bool, true, false, ◌&&◌, not, ltb, List, [], ◌∷◌, ◌++◌, length, slice_index, get_or, drop, Option, Some, None, if◌then◌else◌, refl, sym, ap, ◌∙◌, arith}
+use Rattle.std.proofs.Common.{◌≡◌, ℕ, ◌+◌, ◌-◌, ◌<◌, Bool, true, false, ◌&&◌, not, ltb, List, [], ◌∷◌, ◌++◌, length, slice_index}
+use Rattle.std.proofs.Common.{get_or, drop, Option, Some, None, if◌then◌else◌, refl, sym, ap, ◌∙◌, arith}
 use Rattle.std.proofs.lemmas.Bool.Decides.{nat_tests}
 use Rattle.chess_board.specs.Characters.{small}
 use Rattle.chess_board.specs.declared.men.Kind.{Kind}
@@ -56,7 +57,8 @@ begins-wing_text QueenSide = refl
 begins-man_text : (p : Setup) (place : Option Man) (m : Move) → m.target < 64 → begins (man_text p place m) ≡ false
 begins-man_text p None m on = refl
 begins-man_text p (Some man) m on = by_kind (is_pawn_kind man.kind) (is_castling man m) where
-  by_kind : (pawn castling : Bool) → begins (if pawn then pawn_text p man m else (if castling then wing_text (wing_of m.origin m.target) else piece_text p man m)) ≡ false
+  by_kind : (pawn castling : Bool) → begins (if pawn then pawn_text p man m
+      else (if castling then wing_text (wing_of m.origin m.target) else piece_text p man m)) ≡ false
   by_kind true castling = begins-pawn_form (is_capture p man m) m.origin m.target m.promotion on
   by_kind false true = begins-wing_text (wing_of m.origin m.target)
   by_kind false false = begins-low (kind_letter man.kind) (tail_text p man m) (kind_low man.kind)

@@ -1,5 +1,7 @@
 -- FEN's counters behind the fields: no operation begins with one, so that they are passed over where they stand.
-use Rattle.std.proofs.Common.{◌≡◌, ◌≢◌, ℕ, zero, suc, ◌<◌, ◌≤◌, ◌==◌, nat_le, List, [], ◌∷◌, ◌++◌, Bool, true, false, length, slice_index_or, refl, ap, sym, ◌∙◌, arith, append_assoc, replicate, inl, inr, if◌then◌else◌, ◌&&◌}
+use Rattle.std.proofs.Common.{◌≡◌, ◌≢◌, ℕ, zero, suc, ◌<◌, ◌≤◌, ◌==◌, nat_le, List, [], ◌∷◌, ◌++◌}
+use Rattle.std.proofs.Common.{Bool, true, false, length, slice_index_or, refl, ap, sym, ◌∙◌, arith}
+use Rattle.std.proofs.Common.{append_assoc, replicate, inl, inr, if◌then◌else◌, ◌&&◌}
 use Rattle.std.specs.List.{list_all}
 use Rattle.std.proofs.lemmas.Bool.{and_parts}
 use Rattle.std.proofs.lemmas.Bool.Decides.{nat_tests}
@@ -28,7 +30,8 @@ digits_from (b ∷ bs) h (suc k) d below = digits_from bs (and_parts (is_digit b
 
 digits_to : (word : List ℕ) → ((k d : ℕ) → k < length word → IsDigit (slice_index_or word k d)) → list_all is_digit word ≡ true
 digits_to [] h = refl
-digits_to (b ∷ bs) h = let here : is_digit b ≡ true = digit_to b (h 0 0 (omega arith)) in rw here (digits_to bs (λ k d below. h (suc k) d (omega arith)))
+digits_to (b ∷ bs) h = let here : is_digit b ≡ true = digit_to b (h 0 0 (omega arith)) in
+    rw here (digits_to bs (λ k d below. h (suc k) d (omega arith)))
 
 counter_from : (word : List ℕ) → is_counter word ≡ true → IsCounter word
 counter_from [] h = cc
@@ -100,14 +103,21 @@ rest_spelled_if true text operations e h =
     let second = words_split (behind text) in
     let one = counter_from (word_at text) both.0 in
     let two = counter_from (word_at (behind text)) both.1 in
-    inr (word_at text, word_at (behind text), behind (behind text), (first.0, behind text, first.1, one, first.2, (second.0, behind (behind text), second.1, two, second.2, refl)), h)
+    inr (
+      word_at text,
+      word_at (behind text),
+      behind (behind text),
+      (first.0, behind text, first.1, one, first.2, (second.0, behind (behind text), second.1, two, second.2, refl)),
+      h,
+    )
 rest_spelled_if false text operations e h = inl h
 
 pub rest_spelled : (text : List ℕ) (operations : List Operation) → SpellsOperations (behind_counters text) operations → SpellsRest text operations
 unfolding behind_counters
 rest_spelled text operations h = rest_spelled_if (is_counter (word_at text) && is_counter (word_at (behind text))) text operations refl h
 
-pub spelled_rest : (operations : List Operation) (text : List ℕ) → SpellsRest text operations → AreSegments (segments_of (behind_counters text)) operations
+pub spelled_rest : (operations : List Operation) (text : List ℕ) → SpellsRest text operations
+    → AreSegments (segments_of (behind_counters text)) operations
 unfolding behind_counters
 spelled_rest operations text (inl h) = rw (no_counter operations text h) (spelled_segments operations text h)
 spelled_rest operations text (inr h) =
@@ -121,5 +131,6 @@ spelled_rest operations text (inr h) =
     let second = word_again more.0 words.1 h.1 more.1 more.2 second_bytes.0 second_bytes.1 more.4 in
     let tail : behind (behind text) ≡ h.2 = ap behind first.rest_is ∙ second.rest_is ∙ more.5 in
     let one : is_counter (word_at text) ≡ true = ap is_counter first.word_is ∙ first_test in
-    let two : is_counter (word_at (behind text)) ≡ true = ap (λ t. is_counter (word_at t)) first.rest_is ∙ ap is_counter second.word_is ∙ second_test in
+    let two : is_counter (word_at (behind text)) ≡ true =
+    ap (λ t. is_counter (word_at t)) first.rest_is ∙ ap is_counter second.word_is ∙ second_test in
     rw (one, two, tail) (spelled_segments operations h.2 h.4)

@@ -86,10 +86,12 @@ kept_to_if false entry entries kept x own free later h = elim (in_cases entry en
 
 pub kept_to : (entries : List Entry) (x : Entry) → Contains entries x → is_own x.opcode ≡ false → Contains (kept_entries entries) x
 kept_to [] x h free = h
-kept_to (entry ∷ entries) x h free = kept_to_if (is_own entry.opcode) entry entries (kept_entries entries) x refl free (λ more. kept_to entries x more free) h
+kept_to (entry ∷ entries) x h free =
+    kept_to_if (is_own entry.opcode) entry entries (kept_entries entries) x refl free (λ more. kept_to entries x more free) h
 
 -- Two rising lists with the same members are one list.
-below_member : (opcode : List ℕ) (entries : List Entry) → IsBelow opcode entries → (x : Entry) → Contains entries x → comes_before opcode x.opcode ≡ true
+below_member : (opcode : List ℕ) (entries : List Entry) → IsBelow opcode entries → (x : Entry)
+    → Contains entries x → comes_before opcode x.opcode ≡ true
 below_member opcode [] below x h = absurd (in_none x h)
 below_member opcode (entry ∷ entries) below x h = elim (in_cases entry entries x h) [
   | inl e ↦ ap (λ t. comes_before opcode t.opcode) e ∙ below.0
@@ -104,7 +106,8 @@ fronts_same x y xs ys below under h k = elim (in_cases y ys x h) [
   | inl e ↦ e
   | inr one ↦ elim (in_cases x xs y k) [
     | inl e ↦ sym e
-    | inr two ↦ absurd (not_self x.opcode (comes_before_trans x.opcode y.opcode x.opcode (below_member x.opcode xs below y two) (below_member y.opcode ys under x one)))
+    | inr two ↦ absurd (not_self x.opcode (comes_before_trans x.opcode y.opcode x.opcode (below_member x.opcode xs below y two)
+        (below_member y.opcode ys under x one)))
   ]
 ]
 

@@ -66,7 +66,8 @@ distinct_if false entry entries here more = (here, more)
 
 pub kept_distinct : (entries : List Entry) → AreDistinct entries → AreDistinct (kept_entries entries)
 kept_distinct [] h = tt
-kept_distinct (entry ∷ entries) h = distinct_if (is_own entry.opcode) entry (kept_entries entries) (kept_other entry.opcode entries h.0) (kept_distinct entries h.1)
+kept_distinct (entry ∷ entries) h = distinct_if (is_own entry.opcode) entry (kept_entries entries)
+    (kept_other entry.opcode entries h.0) (kept_distinct entries h.1)
 
 -- One entry more.
 new_if : (first : Bool) (entry next : Entry) (done entries : List Entry) → IsOther entry.opcode entries → AreNew (next ∷ done) entries
@@ -86,7 +87,8 @@ new_later (next ∷ done) entry entries new = (new.0.1, new_later done entry ent
 
 below_all : (opcode : List ℕ) (next : List ℕ) (entries : List Entry) → comes_before opcode next ≡ true → IsBelow next entries → IsBelow opcode entries
 below_all opcode next [] before below = tt
-below_all opcode next (entry ∷ entries) before below = (comes_before_trans opcode next entry.opcode before below.0, below_all opcode next entries before below.1)
+below_all opcode next (entry ∷ entries) before below =
+    (comes_before_trans opcode next entry.opcode before below.0, below_all opcode next entries before below.1)
 
 below_if : (first : Bool) (opcode : List ℕ) (entry next : Entry) (done : List Entry) → comes_before opcode entry.opcode ≡ true
     → IsBelow opcode (next ∷ done) → IsBelow opcode (with_entry entry done)
@@ -100,8 +102,10 @@ below_with opcode entry [] before below = (before, tt)
 below_with opcode entry (next ∷ done) before below =
     below_if (comes_before entry.opcode next.opcode) opcode entry next done before below (below_with opcode entry done before below.1)
 
-rises_if : (first : Bool) (entry next : Entry) (done : List Entry) → comes_before entry.opcode next.opcode ≡ first → same_text next.opcode entry.opcode ≡ false
-    → RisesByOpcode (next ∷ done) → RisesByOpcode (with_entry entry done) → RisesByOpcode (if first then entry ∷ next ∷ done else next ∷ with_entry entry done)
+rises_if : (first : Bool) (entry next : Entry) (done : List Entry) → comes_before entry.opcode next.opcode ≡ first
+    → same_text next.opcode entry.opcode ≡ false
+    → RisesByOpcode (next ∷ done) → RisesByOpcode (with_entry entry done)
+    → RisesByOpcode (if first then entry ∷ next ∷ done else next ∷ with_entry entry done)
 rises_if true entry next done before other rises later = ((before, below_all entry.opcode next.opcode done before rises.0), rises)
 rises_if false entry next done before other rises later =
     (below_with next.opcode entry done (comes_before_or_after next.opcode entry.opcode other before) rises.0, later)
@@ -111,14 +115,16 @@ rises_with entry [] entries rises new = (tt, tt)
 rises_with entry (next ∷ done) entries rises new =
     rises_if (comes_before entry.opcode next.opcode) entry next done refl new.0.0 rises (rises_with entry done entries rises.1 new.1)
 
-pub inserted_rises : (done entries : List Entry) → RisesByOpcode done → AreNew done entries → AreDistinct entries → RisesByOpcode (inserted done entries)
+pub inserted_rises : (done entries : List Entry) → RisesByOpcode done → AreNew done entries
+    → AreDistinct entries → RisesByOpcode (inserted done entries)
 inserted_rises done [] rises new distinct = rises
 inserted_rises done (entry ∷ entries) rises new distinct =
     inserted_rises (with_entry entry done) entries (rises_with entry done entries rises new)
     (new_with entry done entries distinct.0 (new_later done entry entries new)) distinct.1
 
 -- Kept entries stay kept.
-kept_if : (first : Bool) (entry next : Entry) (done : List Entry) → is_own entry.opcode ≡ false → AreKept (next ∷ done) → AreKept (with_entry entry done)
+kept_if : (first : Bool) (entry next : Entry) (done : List Entry) → is_own entry.opcode ≡ false
+    → AreKept (next ∷ done) → AreKept (with_entry entry done)
     → AreKept (if first then entry ∷ next ∷ done else next ∷ with_entry entry done)
 kept_if true entry next done here kept later = (here, kept)
 kept_if false entry next done here kept later = (kept.0, later)
@@ -131,7 +137,8 @@ inserted_kept : (done entries : List Entry) → AreKept done → AreKept entries
 inserted_kept done [] kept more = kept
 inserted_kept done (entry ∷ entries) kept more = inserted_kept (with_entry entry done) entries (kept_with entry done more.0 kept) more.1
 
-own_if : (own : Bool) (entry : Entry) (entries : List Entry) → is_own entry.opcode ≡ own → AreKept entries → AreKept (if own then entries else entry ∷ entries)
+own_if : (own : Bool) (entry : Entry) (entries : List Entry) → is_own entry.opcode ≡ own → AreKept entries
+    → AreKept (if own then entries else entry ∷ entries)
 own_if true entry entries here more = more
 own_if false entry entries here more = (here, more)
 
@@ -143,7 +150,8 @@ segments_kept (segment ∷ segments) = own_if (is_own (word_at segment)) (entry_
 pub rest_rises : (segments : List (List ℕ)) → are_distinct segments ≡ true → RisesByOpcode (rest_of segments)
 unfolding rest_of
 rest_rises segments distinct =
-    rw (kept_shown segments) (inserted_rises [] (kept_entries (map entry_in segments)) tt tt (kept_distinct (map entry_in segments) (shown_distinct segments distinct)))
+    rw (kept_shown segments) (inserted_rises [] (kept_entries (map entry_in segments)) tt tt
+    (kept_distinct (map entry_in segments) (shown_distinct segments distinct)))
 
 pub rest_kept : (segments : List (List ℕ)) → AreKept (rest_of segments)
 unfolding rest_of

@@ -5,7 +5,9 @@ use Rattle.std.proofs.lemmas.Bool.{and_parts}
 use Rattle.std.proofs.lemmas.Bool.Decides.{nat_tests}
 use mathlib.Core.Bool.{not}
 use Rattle.chess_board.specs.Fields.{digits_value}
-use Rattle.chess_notation.specs.declared.epd_faults.EpdFault.TheVariants.{TooLong, NotPrintable, Fen, BadOpcode, BadString, MissingSemicolon, DoubleOpcode, BadBound, BoundTooLarge, BadAvoid, NoMemory}
+use Rattle.chess_notation.specs.declared.epd_faults.EpdFault.TheVariants.{TooLong, NotPrintable, Fen, BadOpcode, BadString}
+use Rattle.chess_notation.specs.declared.epd_faults.EpdFault.TheVariants.{MissingSemicolon, DoubleOpcode, BadBound, BoundTooLarge}
+use Rattle.chess_notation.specs.declared.epd_faults.EpdFault.TheVariants.{BadAvoid, NoMemory}
 use Rattle.chess_notation.specs.inside.RecordReading.{IsClearTo}
 use Rattle.chess_notation.specs.Words.{word_at, behind, is_blank}
 use Rattle.chess_notation.specs.Segments.{Segments}
@@ -13,7 +15,8 @@ use Rattle.chess_notation.specs.Quoting.{strings_fit}
 use Rattle.chess_notation.specs.Operations.{is_printable}
 use Rattle.chess_notation.specs.Records.{max_line}
 use Rattle.chess_notation.specs.RecordFields.{is_number, is_counter, behind_fields, behind_counters, operations_in, cut_of}
-use Rattle.chess_notation.specs.EpdFaults.{each_segment, has_opcode, are_distinct, is_bound_segment, has_number, has_number_if_bound, is_small_if_bound}
+use Rattle.chess_notation.specs.EpdFaults.{each_segment, has_opcode, are_distinct, is_bound_segment}
+use Rattle.chess_notation.specs.EpdFaults.{has_number, has_number_if_bound, is_small_if_bound}
 use Rattle.chess_notation.proofs.WordSplits.{all_behind}
 use Rattle.chess_notation.proofs.WordLists.{behind_within}
 
@@ -28,13 +31,21 @@ pub record IsBoundNumber (segment : List ℕ) : Type 0 where
   pub some : 1 ≤ digits_value (word_at (behind segment))
   pub few : digits_value (word_at (behind segment)) ≤ 15
 
-pub bound_number : (segment : List ℕ) → is_bound_segment segment ≡ true → has_number_if_bound segment ≡ true → is_small_if_bound segment ≡ true → IsBoundNumber segment
+pub bound_number : (segment : List ℕ) → is_bound_segment segment ≡ true → has_number_if_bound segment ≡ true
+    → is_small_if_bound segment ≡ true → IsBoundNumber segment
 bound_number segment bound number small =
     let here : has_number segment ≡ true = if_bound (is_bound_segment segment) (has_number segment) bound number in
-    let low : nat_le (digits_value (word_at (behind segment))) 15 ≡ true = if_bound (is_bound_segment segment) (nat_le (digits_value (word_at (behind segment))) 15) bound small in
-    let outer = and_parts (is_number (word_at (behind segment)) && is_blank (behind (behind segment))) (nat_lt 0 (digits_value (word_at (behind segment)))) here in
+    let low : nat_le (digits_value (word_at (behind segment))) 15 ≡ true =
+    if_bound (is_bound_segment segment) (nat_le (digits_value (word_at (behind segment))) 15) bound small in
+    let outer = and_parts (is_number (word_at (behind segment)) && is_blank (behind (behind segment)))
+    (nat_lt 0 (digits_value (word_at (behind segment)))) here in
     let inner = and_parts (is_number (word_at (behind segment))) (is_blank (behind (behind segment))) outer.0 in
-    record { digits = inner.0; alone = inner.1; some = above (digits_value (word_at (behind segment))) outer.1; few = below (digits_value (word_at (behind segment))) low } where
+    record {
+      digits = inner.0;
+      alone = inner.1;
+      some = above (digits_value (word_at (behind segment))) outer.1;
+      few = below (digits_value (word_at (behind segment))) low;
+    } where
       if_bound : (bound test : Bool) → bound ≡ true → (not bound || test) ≡ true → test ≡ true
       if_bound true test b h = h
       if_bound false test b h = cc
@@ -91,18 +102,30 @@ no_fault_printable line clear =
     let p = is_printable in
     let tail = behind (behind (behind (behind line))) in
     counters_keep (is_counter (word_at tail) && is_counter (word_at (behind tail))) p tail
-    (all_behind p (behind (behind (behind line))) (all_behind p (behind (behind line)) (all_behind p (behind line) (all_behind p line (no_fault_passes line clear).printable))))
+    (all_behind p (behind (behind (behind line))) (all_behind p (behind (behind line))
+    (all_behind p (behind line) (all_behind p line (no_fault_passes line clear).printable))))
 
 -- The text of its operations is no longer than the line.
 pub operations_within : (line : List ℕ) → length (operations_in line) ≤ length line
 unfolding operations_in behind_counters behind_fields
 operations_within line =
     let tail = behind (behind (behind (behind line))) in
-    let fields : length tail ≤ length line = omega (arith, behind_within line, behind_within (behind line), behind_within (behind (behind line)), behind_within (behind (behind (behind line)))) in
+    let fields : length tail ≤ length line = omega (
+      arith,
+      behind_within line,
+      behind_within (behind line),
+      behind_within (behind (behind line)),
+      behind_within (behind (behind (behind line))),
+    ) in
     by_counters (is_counter (word_at tail) && is_counter (word_at (behind tail))) fields where
       by_counters : (b : Bool) → length (behind (behind (behind (behind line)))) ≤ length line
           → length (if b then behind (behind (behind (behind (behind (behind line))))) else behind (behind (behind (behind line)))) ≤ length line
-      by_counters true fields = omega (arith, fields, behind_within (behind (behind (behind (behind line)))), behind_within (behind (behind (behind (behind (behind line))))))
+      by_counters true fields = omega (
+        arith,
+        fields,
+        behind_within (behind (behind (behind (behind line)))),
+        behind_within (behind (behind (behind (behind (behind line))))),
+      )
       by_counters false fields = fields
 
 -- Without one of the first eight, each `dm` has a number. Where this is a bound, there is none of the first nine.

@@ -1,5 +1,6 @@
 -- A text in which each word names a move has few words: each has two bytes at least, and a space before the next.
-use Rattle.std.proofs.Common.{◌≡◌, ℕ, zero, suc, ◌+◌, ◌*◌, ◌-◌, ◌≤◌, Bool, true, false, Some, List, [], ◌∷◌, ◌++◌, length, take, replicate, refl, ap, sym, ◌∙◌, arith, codes, if◌then◌else◌}
+use Rattle.std.proofs.Common.{◌≡◌, ℕ, zero, suc, ◌+◌, ◌*◌, ◌-◌, ◌≤◌, Bool, true, false, Some, List, [], ◌∷◌, ◌++◌}
+use Rattle.std.proofs.Common.{length, take, replicate, refl, ap, sym, ◌∙◌, arith, codes, if◌then◌else◌}
 use Rattle.std.specs.List.{Contains, list_all, slice_index}
 use Rattle.std.proofs.lemmas.Bool.{and_parts}
 use Rattle.std.proofs.lemmas.List.{length-append, length-take}
@@ -43,7 +44,8 @@ long_piece p man m = long_last (disambiguation_text p man m) (if is_capture p ma
 
 long_man : (p : Setup) (man : Man) (m : Move) → 2 ≤ length (man_text p (Some man) m)
 long_man p man m = by_kind (is_pawn_kind man.kind) (is_castling man m) where
-  by_kind : (pawn castling : Bool) → 2 ≤ length (if pawn then pawn_text p man m else (if castling then wing_text (wing_of m.origin m.target) else piece_text p man m))
+  by_kind : (pawn castling : Bool) → 2 ≤ length
+      (if pawn then pawn_text p man m else (if castling then wing_text (wing_of m.origin m.target) else piece_text p man m))
   by_kind true castling = long_pawn p man m
   by_kind false true = long_castling (wing_of m.origin m.target)
   by_kind false false = long_piece p man m
@@ -85,24 +87,29 @@ few_none : (text : List ℕ) → length text ≤ 0 → HasFewWords text
 few_none [] short = let none = ap length (words_none [] refl) in omega arith
 few_none (b ∷ bs) short = absurd (omega (arith, short))
 
-few_words_in : LegalListed → (p : Setup) (most : ℕ) (text : List ℕ) → length text ≤ most → list_all (is_name p) (words_in text) ≡ true → HasFewWords text
+few_words_in : LegalListed → (p : Setup) (most : ℕ) (text : List ℕ) → length text ≤ most
+    → list_all (is_name p) (words_in text) ≡ true → HasFewWords text
 few_words_in listed p zero text short names = few_none text short
 few_words_in listed p (suc most) text short names = (elim (is_blank text) as (λ b. is_blank text ≡ b → HasFewWords text) [
   | true ↦ λ blank. let none = ap length (words_none text blank) in omega (arith, none)
   | false ↦ λ solid.
       let split = words_split text in
       let words = words_next text solid in
-      let named = and_parts (is_name p (word_at text)) (list_all (is_name p) (words_in (behind text))) (sym (ap (list_all (is_name p)) words) ∙ names) in
+      let named = and_parts (is_name p (word_at text)) (list_all (is_name p) (words_in (behind text)))
+      (sym (ap (list_all (is_name p)) words) ∙ names) in
       let front : List ℕ = replicate split.0 32 in
       let whole : length text ≡ length front + (length (word_at text) + length (behind text)) =
-      ap length split.1 ∙ length-append front (word_at text ++ behind text) ∙ ap (λ n. length front + n) (length-append (word_at text) (behind text)) in
+      ap length split.1 ∙ length-append front (word_at text ++ behind text)
+      ∙ ap (λ n. length front + n) (length-append (word_at text) (behind text)) in
       let long = long_name listed p (word_at text) named.0 in
       let few = few_behind (behind text) split.2 (λ rest is.
       let shorter : length (behind text) ≡ suc (length rest) = ap length is in
-      few_words_in listed p most rest (omega (arith, whole, long, shorter, short)) (sym (ap (list_all (is_name p)) (ap words_in is ∙ words_spaces 1 rest)) ∙ named.1)) in
+      few_words_in listed p most rest (omega (arith, whole, long, shorter, short))
+      (sym (ap (list_all (is_name p)) (ap words_in is ∙ words_spaces 1 rest)) ∙ named.1)) in
       let count = ap length words in
       omega (arith, whole, long, few, count)
 ]) refl
 
-pub few_words : LegalListed → (p : Setup) (text : List ℕ) → length text ≤ max_line → list_all (is_name p) (words_in text) ≡ true → length (words_in text) ≤ 341
+pub few_words : LegalListed → (p : Setup) (text : List ℕ) → length text ≤ max_line
+    → list_all (is_name p) (words_in text) ≡ true → length (words_in text) ≤ 341
 few_words listed p text short names = let few = few_words_in listed p (length text) text (omega arith) names in omega (arith, few, short)

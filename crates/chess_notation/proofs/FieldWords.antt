@@ -61,7 +61,8 @@ pub record HasFields (line : List ℕ) (fields : Fields) (tail : List ℕ) : Typ
   pub fields_are : line_fields line ≡ fields
   pub tail_is : behind_fields line ≡ tail
 
-pub spelled_fields : (line : List ℕ) (fields : Fields) (tail : List ℕ) → SpellsWords IsWord line (field_words fields) tail → HasFields line fields tail
+pub spelled_fields : (line : List ℕ) (fields : Fields) (tail : List ℕ)
+    → SpellsWords IsWord line (field_words fields) tail → HasFields line fields tail
 unfolding fourth_word line_fields behind_fields
 spelled_fields line fields tail w1 =
     let n1 = word_again w1.0 line fields.placement w1.1 w1.2 w1.3.1 w1.3.0 w1.4 in

@@ -5,7 +5,8 @@ use Rattle.chess_notation.specs.Opcodes.{comes_before, is_own, IsBelow, RisesByO
 use Rattle.chess_notation.specs.Records.{AreOnce, IsKeptOf, IsRestOf}
 use Rattle.chess_notation.proofs.Members.{in_front, in_back, in_none, in_cases, in_map, in_map_from}
 use Rattle.chess_notation.proofs.TextOrder.{comes_before_self}
-use Rattle.chess_notation.proofs.MergedOperations.{Each, with_operation, with_operation_cases, with_operation_other, Each-with_operation, IsNew, once_with_operation}
+use Rattle.chess_notation.proofs.MergedOperations.{Each, with_operation, with_operation_cases, with_operation_other}
+use Rattle.chess_notation.proofs.MergedOperations.{Each-with_operation, IsNew, once_with_operation}
 use Rattle.chess_notation.proofs.SpellableOperations.{IsSpellable}
 
 below_is_new : (opcode : List ℕ) (os : List Operation) → IsBelow opcode (map entry_of os) → IsNew opcode os
@@ -31,7 +32,8 @@ pub record AreCopied (line : List Operation) (entries : List Entry) : Type 0 whe
   pub shown : map entry_of operations ≡ entries
   pub each : Each (IsCopied line) operations
 
-pub are_copied : (line : List Operation) (entries : List Entry) → ((entry : Entry) → Contains entries entry → (o : Operation) × IsCopied line o × (entry ≡ entry_of o))
+pub are_copied : (line : List Operation) (entries : List Entry)
+    → ((entry : Entry) → Contains entries entry → (o : Operation) × IsCopied line o × (entry ≡ entry_of o))
     → AreCopied line entries
 are_copied line [] from = record { operations = []; shown = refl; each = λ x at. absurd (in_none x at) }
 are_copied line (entry ∷ entries) from =
@@ -53,7 +55,8 @@ pub record IsAnswer (copied all : List Operation) : Type 0 where
   pub copies : (o : Operation) → Contains copied o → Contains all o
   pub only : (o : Operation) → is_own o.opcode ≡ false → Contains all o → Contains copied o
 
-pub answer_alone : {line : List Operation} (entries : List Entry) (copied : AreCopied line entries) → RisesByOpcode entries → IsAnswer copied.operations copied.operations
+pub answer_alone : {line : List Operation} (entries : List Entry) (copied : AreCopied line entries) → RisesByOpcode entries
+    → IsAnswer copied.operations copied.operations
 answer_alone entries copied rises = record {
   spellable = λ o at. (copied.each o at).0;
   once = once_rising copied.operations (subst RisesByOpcode (sym copied.shown) rises);
@@ -61,7 +64,8 @@ answer_alone entries copied rises = record {
   only = λ o other at. at;
 }
 
-pub answer_with : (own : Operation) (copied all : List Operation) → IsSpellable own → is_own own.opcode ≡ true → IsNew own.opcode all → IsAnswer copied all
+pub answer_with : (own : Operation) (copied all : List Operation) → IsSpellable own → is_own own.opcode ≡ true
+    → IsNew own.opcode all → IsAnswer copied all
     → IsAnswer copied (with_operation own all)
 answer_with own copied all spellable written new answer = record {
   spellable = Each-with_operation IsSpellable own all spellable answer.spellable;
@@ -75,10 +79,12 @@ answer_with own copied all spellable written new answer = record {
 
 -- No copied operation has an opcode that an answer writes itself.
 pub own_is_new : (line : List Operation) (opcode : List ℕ) (os : List Operation) → is_own opcode ≡ true → Each (IsCopied line) os → IsNew opcode os
-own_is_new line opcode os own each x at e = let other : is_own x.opcode ≡ false = (each x at).1 in let own_too : is_own x.opcode ≡ true = ap is_own e ∙ own in cc
+own_is_new line opcode os own each x at e = let other : is_own x.opcode ≡ false = (each x at).1 in
+    let own_too : is_own x.opcode ≡ true = ap is_own e ∙ own in cc
 
 -- What an answer keeps when it is read is what was copied.
-pub rest_of_answer : {line : List Operation} (entries : List Entry) (copied : AreCopied line entries) (all : List Operation) → RisesByOpcode entries → IsAnswer copied.operations all → IsRestOf all entries
+pub rest_of_answer : {line : List Operation} (entries : List Entry) (copied : AreCopied line entries) (all : List Operation)
+    → RisesByOpcode entries → IsAnswer copied.operations all → IsRestOf all entries
 rest_of_answer entries copied all rises answer = (rises, λ entry. (to entry, from entry)) where
   to : (entry : Entry) → Contains entries entry → IsKeptOf all entry
   to entry at =
@@ -87,5 +93,6 @@ rest_of_answer entries copied all rises answer = (rises, λ entry. (to entry, fr
 
   from : (entry : Entry) → IsKeptOf all entry → Contains entries entry
   from entry (o, at, other, e) =
-      let shown : Contains (map entry_of copied.operations) entry = subst (Contains (map entry_of copied.operations)) (sym e) (in_map entry_of copied.operations o (answer.only o other at)) in
+      let shown : Contains (map entry_of copied.operations) entry = subst (Contains (map entry_of copied.operations)) (sym e)
+      (in_map entry_of copied.operations o (answer.only o other at)) in
       subst (λ es. Contains es entry) copied.shown shown

@@ -12,6 +12,7 @@ listed_at p [] i d here legal = absurd (omega arith)
 listed_at p (m ∷ ms) zero d here legal = legal.0
 listed_at p (m ∷ ms) (suc i) d here legal = listed_at p ms i d (omega arith) legal.1
 
-pub legal_at : LegalListed → (p : Setup) (keys : List Move) (i : ℕ) (m : Move) → i < length keys → m ≡ get_or keys i m → AreLegal p keys → is_legal p m ≡ true
+pub legal_at : LegalListed → (p : Setup) (keys : List Move) (i : ℕ) (m : Move) → i < length keys
+    → m ≡ get_or keys i m → AreLegal p keys → is_legal p m ≡ true
 legal_at listed p keys i m here at legal =
     (((listed p m).0) (subst (λ (n : Move). Contains (legal_moves p) n) (sym at) (listed_at p keys i m here legal))).2

@@ -32,7 +32,8 @@ played law p m listed =
       | None ↦ λ is. let never = rw is at may in cc
       | Some man ↦ λ is.
           let man_may_it = rw is at may in
-          let gone = and_parts (is_colour man.colour p.side && suits man m.target m.promotion) (goes p man.colour man.kind m.origin m.target) man_may_it in
+          let gone = and_parts (is_colour man.colour p.side && suits man m.target m.promotion)
+          (goes p man.colour man.kind m.origin m.target) man_may_it in
           let own = and_parts (is_colour man.colour p.side) (suits man m.target m.promotion) gone.0 in
           (man, record { listed = listed; from_board = on.0; to_board = on.1; there = is; own = own.0; suits = own.1; goes = gone.1 })
     ]) refl

@@ -8,7 +8,9 @@ use Rattle.chess_board.specs.Laws.{SpellsOne}
 use Rattle.chess_moves.specs.Laws.{LegalListed}
 use Rattle.chess_board.specs.declared.faults.FenFault.TheVariants.{FieldCount}
 use Rattle.chess_notation.specs.declared.epd_faults.EpdFault.{EpdFault}
-use Rattle.chess_notation.specs.declared.epd_faults.EpdFault.TheVariants.{TooLong, NotPrintable, Fen, BadOpcode, BadString, MissingSemicolon, DoubleOpcode, BadBound, BoundTooLarge, BadAvoid, NoMemory}
+use Rattle.chess_notation.specs.declared.epd_faults.EpdFault.TheVariants.{TooLong, NotPrintable, Fen, BadOpcode, BadString}
+use Rattle.chess_notation.specs.declared.epd_faults.EpdFault.TheVariants.{MissingSemicolon, DoubleOpcode, BadBound, BoundTooLarge}
+use Rattle.chess_notation.specs.declared.epd_faults.EpdFault.TheVariants.{BadAvoid, NoMemory}
 use Rattle.chess_notation.specs.Words.{is_blank}
 use Rattle.chess_notation.specs.Segments.{Segments, segments_of}
 use Rattle.chess_notation.specs.Quoting.{strings_fit}
@@ -33,7 +35,12 @@ some_fourth line clear = clear (Fen FieldCount) (omega arith)
 
 pub no_fault_reads : LegalListed → (line : List ℕ) (default : ℕ) (p : Setup) → IsClearTo 9 line → SpellsSetup (line_fields line) p → IsSound p
     → list_all (has_names_if_avoid p) (cut_of line).ended ≡ true
-    → Reads line default (record { position = p; bound = bound_said (cut_of line).ended default; avoid = avoid_in p (cut_of line).ended; rest = rest_of (cut_of line).ended })
+    → Reads line default (record {
+      position = p;
+      bound = bound_said (cut_of line).ended default;
+      avoid = avoid_in p (cut_of line).ended;
+      rest = rest_of (cut_of line).ended;
+    })
 unfolding cut_of operations_in
 no_fault_reads listed line default p clear spelt sound names =
     let passed = no_fault_passes line clear in
@@ -69,7 +76,8 @@ bound_here : (line : List ℕ) (default : ℕ) (r : RecordValue) → Reads line 
 bound_here line default r h = asked_is_bound (cut_of line).ended h.operations default r.bound (segments_are line default r h).shown h.once h.bound
 
 avoid_here : (line : List ℕ) (default : ℕ) (r : RecordValue) → Reads line default r → AreAvoidedIn r.position (cut_of line).ended r.avoid
-avoid_here line default r h = avoided_are_named r.position (cut_of line).ended h.operations r.avoid (segments_are line default r h).shown h.once h.avoid
+avoid_here line default r h =
+    avoided_are_named r.position (cut_of line).ended h.operations r.avoid (segments_are line default r h).shown h.once h.avoid
 
 rest_here : (line : List ℕ) (default : ℕ) (r : RecordValue) → Reads line default r → r.rest ≡ rest_of (cut_of line).ended
 rest_here line default r h =
@@ -79,7 +87,8 @@ rest_here line default r h =
 
 pub says_one : SpellsOne → SaysOne
 says_one one line default r other h k =
-    let position : r.position ≡ other.position = one (line_fields line) r.position other.position (spelt_here line default r h) (spelt_here line default other k) in
+    let position : r.position ≡ other.position =
+    one (line_fields line) r.position other.position (spelt_here line default r h) (spelt_here line default other k) in
     let bound : r.bound ≡ other.bound = (bound_here line default r h).same ∙ sym (bound_here line default other k).same in
     let avoid : r.avoid ≡ other.avoid =
     (avoid_here line default r h).same ∙ ap (λ p. avoid_in p (cut_of line).ended) position ∙ sym (avoid_here line default other k).same in

@@ -17,7 +17,8 @@ abbrev pub with_operation : Operation → List Operation → List Operation
 with_operation o [] = o ∷ []
 with_operation o (next ∷ os) = if comes_before o.opcode next.opcode then o ∷ next ∷ os else next ∷ with_operation o os
 
-map-with_operation-at : (before : Bool) (o next : Operation) (os : List Operation) → map entry_of (with_operation o os) ≡ with_entry (entry_of o) (map entry_of os)
+map-with_operation-at : (before : Bool) (o next : Operation) (os : List Operation)
+    → map entry_of (with_operation o os) ≡ with_entry (entry_of o) (map entry_of os)
     → map entry_of (if before then o ∷ next ∷ os else next ∷ with_operation o os)
     ≡ (if before then entry_of o ∷ entry_of next ∷ map entry_of os else entry_of next ∷ with_entry (entry_of o) (map entry_of os))
 map-with_operation-at true o next os rest = refl
@@ -27,7 +28,8 @@ pub map-with_operation : (o : Operation) (os : List Operation) → map entry_of 
 map-with_operation o [] = refl
 map-with_operation o (next ∷ os) = map-with_operation-at (comes_before o.opcode next.opcode) o next os (map-with_operation o os)
 
-with_operation_cases-at : (before : Bool) (o next : Operation) (os : List Operation) (x : Operation) → (Contains (with_operation o os) x → (x ≡ o) ⊎ Contains os x)
+with_operation_cases-at : (before : Bool) (o next : Operation) (os : List Operation) (x : Operation)
+    → (Contains (with_operation o os) x → (x ≡ o) ⊎ Contains os x)
     → Contains (if before then o ∷ next ∷ os else next ∷ with_operation o os) x → (x ≡ o) ⊎ Contains (next ∷ os) x
 with_operation_cases-at true o next os x rest at = in_cases o (next ∷ os) x at
 with_operation_cases-at false o next os x rest at = elim (in_cases next (with_operation o os) x at) [
@@ -52,7 +54,8 @@ pub with_operation_own : (o : Operation) (os : List Operation) → Contains (wit
 with_operation_own o [] = in_front o []
 with_operation_own o (next ∷ os) = with_operation_own-at (comes_before o.opcode next.opcode) o next os (with_operation_own o os)
 
-with_operation_other-at : (before : Bool) (o next : Operation) (os : List Operation) (x : Operation) → (Contains os x → Contains (with_operation o os) x)
+with_operation_other-at : (before : Bool) (o next : Operation) (os : List Operation) (x : Operation)
+    → (Contains os x → Contains (with_operation o os) x)
     → Contains (next ∷ os) x → Contains (if before then o ∷ next ∷ os else next ∷ with_operation o os) x
 with_operation_other-at true o next os x rest at = in_back o (next ∷ os) x at
 with_operation_other-at false o next os x rest at = elim (in_cases next os x at) [
@@ -74,10 +77,12 @@ Each-with_operation P o os own each x at = elim (with_operation_cases o os x at)
 abbrev pub IsNew : List ℕ → List Operation → Type 0
 IsNew opcode operations = Each (λ x. x.opcode ≢ opcode) operations
 
-pub IsNew-with_operation : (opcode : List ℕ) (o : Operation) (os : List Operation) → o.opcode ≢ opcode → IsNew opcode os → IsNew opcode (with_operation o os)
+pub IsNew-with_operation : (opcode : List ℕ) (o : Operation) (os : List Operation) → o.opcode ≢ opcode
+    → IsNew opcode os → IsNew opcode (with_operation o os)
 IsNew-with_operation opcode o os = Each-with_operation (λ x. x.opcode ≢ opcode) o os
 
-once_with_operation-at : (before : Bool) (o next : Operation) (os : List Operation) → IsNew o.opcode (next ∷ os) → AreOnce (next ∷ os) → AreOnce (with_operation o os)
+once_with_operation-at : (before : Bool) (o next : Operation) (os : List Operation) → IsNew o.opcode (next ∷ os)
+    → AreOnce (next ∷ os) → AreOnce (with_operation o os)
     → AreOnce (if before then o ∷ next ∷ os else next ∷ with_operation o os)
 once_with_operation-at true o next os new once rest = (new, once)
 once_with_operation-at false o next os new once rest =

@@ -1,8 +1,8 @@
 -- A word names one legal move at most, so words name no more moves than there are words.
-use Rattle.std.proofs.Common.{◌≡◌, ℕ, ◌+◌, ◌≤◌, Bool, true, false, ◌||◌, List, [], ◌∷◌, length, filter, take, drop, cond, refl, ap, sym, ◌∙◌, subst, arith, inl, inr}
+use Rattle.std.proofs.Common.{◌≡◌, ℕ, ◌+◌, ◌≤◌, Bool, true, false, ◌||◌, List, [], ◌∷◌, length}
+use Rattle.std.proofs.Common.{filter, cond, refl, ap, sym, ◌∙◌, subst, arith, inl, inr}
 use Rattle.std.specs.List.{Contains, list_any}
-use Rattle.std.proofs.lemmas.List.{length-append, take-append-drop}
-use Rattle.std.proofs.lemmas.List.Elements.{filter-append, filter_passes, All-filter, All-contains, All-contains_itself}
+use Rattle.std.proofs.lemmas.List.Elements.{filter_passes, All-filter, All-contains, All-contains_itself}
 use Rattle.chess_board.specs.Positions.{Setup}
 use Rattle.chess_board.specs.Moves.{Move, move_place}
 use Rattle.chess_moves.specs.inside.Listing.{legal_moves}
@@ -16,7 +16,8 @@ use Rattle.chess_notation.proofs.TextOrder.{same_text_is}
 
 pub names_one : BareTextsApart → NamesOne
 names_one apart p word m n legal_m legal_n by_m by_n =
-    apart p m n legal_m legal_n (sym (same_text_is (without_suffix word) (bare_text p m) by_m) ∙ same_text_is (without_suffix word) (bare_text p n) by_n)
+    apart p m n legal_m legal_n (sym (same_text_is (without_suffix word) (bare_text p m) by_m)
+    ∙ same_text_is (without_suffix word) (bare_text p n) by_n)
 
 -- Of moves that rise, a word names one at most.
 abbrev AreLegal : Setup → List Move → Type 0
@@ -64,7 +65,8 @@ none_of_none : (ms : List Move) → length (filter (λ m. false) ms) ≡ 0
 none_of_none [] = refl
 none_of_none (m ∷ ms) = none_of_none ms
 
-few_of_words : BareTextsApart → LegalRise → (p : Setup) (words : List (List ℕ)) → length (filter (λ m. list_any (λ word. names p word m) words) (legal_moves p)) ≤ length words
+few_of_words : BareTextsApart → LegalRise → (p : Setup) (words : List (List ℕ))
+    → length (filter (λ m. list_any (λ word. names p word m) words) (legal_moves p)) ≤ length words
 few_of_words apart rise p [] = let none = none_of_none (legal_moves p) in omega arith
 few_of_words apart rise p (word ∷ words) =
     let one = one_at_most apart p word (legal_moves p) (rise p) (λ m h. h) in
@@ -75,13 +77,6 @@ few_of_words apart rise p (word ∷ words) =
 pub few_named : BareTextsApart → LegalRise → (p : Setup) (words : List (List ℕ)) → length (named p words) ≤ length words
 unfolding named
 few_named apart rise p words = few_of_words apart rise p words
-
--- Of the first ones no more pass a test than of all.
-pub few_of_first : {X : Type 0} (f : X → Bool) (xs : List X) (i : ℕ) → length (filter f (take i xs)) ≤ length (filter f xs)
-few_of_first f xs i =
-    let split = ap length (sym (filter-append f (take i xs) (drop i xs)) ∙ ap (filter f) (take-append-drop i xs)) in
-    let sum = length-append (filter f (take i xs)) (filter f (drop i xs)) in
-    omega (arith, split, sum)
 
 -- The moves that words name are the legal moves that some word names.
 any_of : {X : Type 0} (f : X → Bool) (xs : List X) (x : X) → Contains xs x → f x ≡ true → list_any f xs ≡ true
@@ -95,7 +90,8 @@ kept : (f : Move → Bool) (ms : List Move) (m : Move) → Contains ms m → f m
 kept f [] m h is = absurd (omega (arith, h.1))
 kept f (n ∷ ns) m h is = elim (in_cases n ns m h) [
   | inl e ↦ let here : f n ≡ true = sym (ap f e) ∙ is in rw here (subst (Contains (n ∷ filter f ns)) (sym e) (in_front n (filter f ns)))
-  | inr more ↦ let rest = kept f ns m more is in (elim (f n) as (λ b. Contains (cond b (n ∷ filter f ns) (filter f ns)) m) [ true ↦ in_back n (filter f ns) m rest | false ↦ rest ])
+  | inr more ↦ let rest = kept f ns m more is in (elim (f n) as (λ b.
+      Contains (cond b (n ∷ filter f ns) (filter f ns)) m) [ true ↦ in_back n (filter f ns) m rest | false ↦ rest ])
 ]
 
 pub named_read : LegalRise → NamedRead
@@ -103,8 +99,10 @@ unfolding named
 named_read rise p words = (
   λ m. (
     (λ c. (
-      All-contains (Contains (legal_moves p)) _ m (All-filter (λ x. list_any (λ word. names p word x) words) (Contains (legal_moves p)) (legal_moves p) (All-contains_itself (legal_moves p))) c,
-      any_member (λ word. names p word m) words (All-contains (λ x. list_any (λ word. names p word x) words ≡ true) _ m (filter_passes (λ x. list_any (λ word. names p word x) words) (legal_moves p)) c),
+      All-contains (Contains (legal_moves p)) _ m (All-filter (λ x. list_any (λ word. names p word x) words)
+          (Contains (legal_moves p)) (legal_moves p) (All-contains_itself (legal_moves p))) c,
+      any_member (λ word. names p word m) words (All-contains (λ x. list_any (λ word. names p word x) words ≡ true) _ m
+          (filter_passes (λ x. list_any (λ word. names p word x) words) (legal_moves p)) c),
     )),
     (λ h. kept (λ x. list_any (λ word. names p word x) words) (legal_moves p) m h.0 (any_of (λ word. names p word m) words h.1.0 h.1.1 h.1.2)),
   ),

@@ -1,5 +1,6 @@
 -- A number in decimal is digits, few and at least one, that stand for it.
-use Rattle.std.proofs.Common.{◌≡◌, ◌≢◌, ℕ, zero, suc, ◌+◌, ◌-◌, ◌*◌, ◌/◌, ◌%◌, ◌<◌, ◌≤◌, ◌==◌, nat_lt, List, [], ◌∷◌, true, false, length, fold, decimal, refl, ap, sym, ◌∙◌, arith, if◌then◌else◌}
+use Rattle.std.proofs.Common.{◌≡◌, ◌≢◌, ℕ, zero, suc, ◌+◌, ◌-◌, ◌*◌, ◌/◌, ◌%◌, ◌<◌, ◌≤◌, ◌==◌, nat_lt, List, []}
+use Rattle.std.proofs.Common.{◌∷◌, true, false, length, fold, decimal, refl, ap, sym, ◌∙◌, arith, if◌then◌else◌}
 use Rattle.std.proofs.lemmas.Bool.Decides.{nat_tests}
 use Rattle.std.specs.List.{list_all}
 use Rattle.std.specs.Fmt.{digits_onto, digit_glyph, digits}
@@ -20,7 +21,8 @@ last_digit : (n : ℕ) → is_digit (last n) ≡ true
 last_digit n = rw (last_is n) (is_between_from 48 57 (48 + n % 10) (omega arith) (omega arith))
 
 -- one digit more: the number has no other, or they are those of its tenth
-digits_onto_suc : (P : List ℕ → Type 0) (k n : ℕ) (after : List ℕ) → (n < 10 → P (last n ∷ after)) → (10 ≤ n → P (digits_onto k 10 false (n / 10) (last n ∷ after)))
+digits_onto_suc : (P : List ℕ → Type 0) (k n : ℕ) (after : List ℕ) → (n < 10 → P (last n ∷ after))
+    → (10 ≤ n → P (digits_onto k 10 false (n / 10) (last n ∷ after)))
     → P (digits_onto (suc k) 10 false n after)
 digits_onto_suc P k n after one more =
     (elim (n / 10 == 0) as (λ b. (n / 10 == 0) ≡ b → P (if b then last n ∷ after else digits_onto k 10 false (n / 10) (last n ∷ after))) [
@@ -44,7 +46,8 @@ onto_more zero n after = omega arith
 onto_more (suc k) n after =
     digits_onto_suc (λ ds. length after ≤ length ds) k n after (λ s. omega arith) (λ s. omega (arith, onto_more k (n / 10) (last n ∷ after)))
 
-onto_value : (k n : ℕ) (after : List ℕ) → n < k → fold (λ n b. 10 * n + (b - 48)) 0 (digits_onto k 10 false n after) ≡ fold (λ n b. 10 * n + (b - 48)) n after
+onto_value : (k n : ℕ) (after : List ℕ) → n < k
+    → fold (λ n b. 10 * n + (b - 48)) 0 (digits_onto k 10 false n after) ≡ fold (λ n b. 10 * n + (b - 48)) n after
 onto_value zero n after small = absurd (omega arith)
 onto_value (suc k) n after small =
     let value = λ (m : ℕ). fold (λ n b. 10 * n + (b - 48)) m after in
@@ -63,7 +66,8 @@ decimal_few n = onto_few 64 n []
 pub decimal_some : (n : ℕ) → decimal n ≢ []
 unfolding digits
 decimal_some n =
-    digits_onto_suc (λ ds. ds ≢ []) 63 n [] (λ s e. cc) (λ s e. let one = onto_more 63 (n / 10) (last n ∷ []) in let none = ap length e in omega arith)
+    digits_onto_suc (λ ds. ds ≢ []) 63 n [] (λ s e. cc)
+    (λ s e. let one = onto_more 63 (n / 10) (last n ∷ []) in let none = ap length e in omega arith)
 
 pub decimal_value : (n : ℕ) → n < 64 → n ≡ digits_value (decimal n)
 unfolding digits

@@ -1,5 +1,6 @@
 -- Where the strings of a segment fit and no semicolon stands outside them, operands are spelled.
-use Rattle.std.proofs.Common.{◌≡◌, ◌≢◌, ℕ, suc, ◌+◌, ◌-◌, ◌<◌, ◌≤◌, ◌==◌, nat_le, List, [], ◌∷◌, ◌++◌, Bool, true, false, Some, None, length, refl, ap, sym, ◌∙◌, arith, append_assoc, subst, if◌then◌else◌}
+use Rattle.std.proofs.Common.{◌≡◌, ◌≢◌, ℕ, suc, ◌+◌, ◌-◌, ◌<◌, ◌≤◌, ◌==◌, nat_le, List, [], ◌∷◌, ◌++◌, Bool, true, false}
+use Rattle.std.proofs.Common.{Some, None, length, refl, ap, sym, ◌∙◌, arith, append_assoc, subst, if◌then◌else◌}
 use Rattle.std.proofs.lemmas.Bool.Decides.{nat_tests}
 use Rattle.std.proofs.lemmas.Bool.{eqb-true}
 use mathlib.Core.Bool.{not}
@@ -22,7 +23,8 @@ is_inside mode = not (is_outside mode)
 abbrev pub Left : Mode → List ℕ → Type 0
 Left Gap bs = (operands : List Operand) × SpellsOperands (32 ∷ bs) operands
 Left Plain bs = (word : List ℕ) × (rest : List ℕ) × (operands : List Operand) × (bs ≡ word ++ rest) × AreWordBytes word × SpellsOperands rest operands
-Left (Quoted n) bs = (text : List ℕ) × (rest : List ℕ) × (operands : List Operand) × (bs ≡ text ++ 34 ∷ rest) × (length text ≤ 255 - n) × HaveNoQuote text × SpellsOperands rest operands
+Left (Quoted n) bs = (text : List ℕ) × (rest : List ℕ) × (operands : List Operand) × (bs ≡ text ++ 34 ∷ rest)
+    × (length text ≤ 255 - n) × HaveNoQuote text × SpellsOperands rest operands
 Left Closed bs = (operands : List Operand) × SpellsOperands bs operands
 
 more_space : (bs : List ℕ) (operands : List Operand) → SpellsOperands (32 ∷ bs) operands → SpellsOperands (32 ∷ 32 ∷ bs) operands
@@ -58,8 +60,17 @@ gap_step : (mark space : Bool) (b : ℕ) (bs : List ℕ) → (b == 34) ≡ mark 
     → is_uncut false (b ∷ bs) ≡ true → Read bs → Left Gap (b ∷ bs)
 gap_step true space b bs m s fits uncut read =
     let is_mark : b ≡ 34 = eqb-true b 34 m in
-    let w = read (Quoted 0) fits (uncut_mark false bs (rw is_mark at uncut)) in
-    (Text w.0 ∷ w.2, (0, w.1, ap (λ t. 32 ∷ t) (ap (λ x. x ∷ bs) is_mark ∙ ap (λ t. 34 ∷ t) (w.3 ∙ sym (append_assoc w.0 (34 ∷ []) w.1))), (omega (arith, w.4), w.5), w.6))
+    let w = read (Quoted 0) fits (uncut_mark false bs (rw is_mark at uncut)) in (
+      Text w.0 ∷ w.2,
+      (
+        0,
+        w.1,
+        ap (λ t. 32 ∷ t) (ap (λ x. x ∷ bs) is_mark
+            ∙ ap (λ t. 34 ∷ t) (w.3 ∙ sym (append_assoc w.0 (34 ∷ []) w.1))),
+        (omega (arith, w.4), w.5),
+        w.6,
+      ),
+    )
 gap_step false true b bs m s fits uncut read =
     let is_space : b ≡ 32 = eqb-true b 32 s in
     let other : b ≢ 34 = grind (arith, nat_tests) in

@@ -1,5 +1,6 @@
 -- Operands that are spelled fit, and are squeezed to their texts with one space before each.
-use Rattle.std.proofs.Common.{◌≡◌, ℕ, zero, suc, ◌+◌, ◌<◌, ◌≤◌, ◌==◌, nat_le, List, [], ◌∷◌, ◌++◌, true, false, length, refl, ap, sym, ◌∙◌, arith, replicate}
+use Rattle.std.proofs.Common.{◌≡◌, ℕ, zero, suc, ◌+◌, ◌<◌, ◌≤◌, ◌==◌, nat_le, List, [], ◌∷◌, ◌++◌}
+use Rattle.std.proofs.Common.{true, false, length, refl, ap, sym, ◌∙◌, arith, replicate}
 use Rattle.std.proofs.lemmas.Bool.Decides.{nat_tests}
 use Rattle.std.proofs.lemmas.List.{append-nil}
 use Rattle.chess_notation.specs.declared.quoting.Mode.{Mode}
@@ -23,7 +24,10 @@ on_word [] bytes = record { fits = λ rest. refl; squeezed = λ rest. refl }
 on_word (b ∷ bs) bytes =
     let no_space : (b == 32) ≡ false = not_byte b 32 bytes.0 in
     let no_mark : (b == 34) ≡ false = not_byte b 34 bytes.1 in
-    record { fits = λ rest. rw (no_mark, no_space) ((on_word bs bytes.3).fits rest); squeezed = λ rest. rw no_space (ap (λ t. b ∷ t) ((on_word bs bytes.3).squeezed rest)) }
+    record {
+      fits = λ rest. rw (no_mark, no_space) ((on_word bs bytes.3).fits rest);
+      squeezed = λ rest. rw no_space (ap (λ t. b ∷ t) ((on_word bs bytes.3).squeezed rest));
+    }
 
 any_count : (n : ℕ) (bs : List ℕ) → squeezed_from (Quoted n) bs ≡ squeezed_from (Quoted 0) bs
 any_count n [] = refl
@@ -49,13 +53,16 @@ pub record IsDone (text squeezed : List ℕ) : Type 0 where
   pub closed_squeezed : squeezed_from Closed text ≡ squeezed
 
 on_operand : (operand : Operand) (rest squeezed : List ℕ) → IsOperand operand → IsDone rest squeezed
-    → (fits_from Gap (operand_text operand ++ rest) ≡ true) × (squeezed_from Gap (operand_text operand ++ rest) ≡ 32 ∷ (operand_text operand ++ squeezed))
+    → (fits_from Gap (operand_text operand ++ rest) ≡ true)
+    × (squeezed_from Gap (operand_text operand ++ rest) ≡ 32 ∷ (operand_text operand ++ squeezed))
 on_operand (Word []) rest squeezed is done = absurd (is.0 refl)
 on_operand (Word (b ∷ bs)) rest squeezed is done =
     let no_space : (b == 32) ≡ false = not_byte b 32 is.1.0 in
     let no_mark : (b == 34) ≡ false = not_byte b 34 is.1.1 in
-    let on = on_word bs is.1.3 in
-    (rw (no_mark, no_space) (on.fits rest ∙ done.plain), rw (no_mark, no_space) (ap (λ t. 32 ∷ b ∷ t) (on.squeezed rest ∙ ap (λ t. bs ++ t) done.plain_squeezed)))
+    let on = on_word bs is.1.3 in (
+      rw (no_mark, no_space) (on.fits rest ∙ done.plain),
+      rw (no_mark, no_space) (ap (λ t. 32 ∷ b ∷ t) (on.squeezed rest ∙ ap (λ t. bs ++ t) done.plain_squeezed)),
+    )
 on_operand (Text text) rest squeezed is done =
     let on = on_string 0 text (omega (arith, is.0)) is.1 in
     (on.fits rest ∙ done.closed, ap (λ t. 32 ∷ 34 ∷ t) (on.squeezed rest ∙ ap (λ t. (text ++ 34 ∷ []) ++ t) done.closed_squeezed))

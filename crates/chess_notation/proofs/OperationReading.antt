@@ -38,11 +38,16 @@ read_operation segment opcode fits uncut =
     sym (opcode_fits split.0 (word_at segment) (behind segment) word.0 word.1) ∙ sym (ap (fits_from Plain) split.1) ∙ fits in
     let closed : fits_from Closed (behind segment) ≡ true = apart_closed (behind segment) split.2 ∙ plain in
     let clear : is_uncut false (behind segment) ≡ true =
-    sym (uncut_on (word_at segment) (behind segment) word.0) ∙ sym (uncut_spaces split.0 (word_at segment ++ behind segment)) ∙ sym (ap (is_uncut false) split.1) ∙ uncut in
-    let left = read_left (behind segment) Closed closed clear in
-    (record { opcode = word_at segment; operands = left.0 }, (split.0, behind segment, split.1, opcode, left.1), record { opcode = refl; operands = left.1 })
+    sym (uncut_on (word_at segment) (behind segment) word.0) ∙ sym (uncut_spaces split.0 (word_at segment ++ behind segment))
+    ∙ sym (ap (is_uncut false) split.1) ∙ uncut in
+    let left = read_left (behind segment) Closed closed clear in (
+      record { opcode = word_at segment; operands = left.0 },
+      (split.0, behind segment, split.1, opcode, left.1),
+      record { opcode = refl; operands = left.1 },
+    )
 
-read_segments : (ended : List (List ℕ)) (rest : List ℕ) → list_all has_opcode ended ≡ true → list_all strings_fit ended ≡ true → AreUncut false ended → is_blank rest ≡ true
+read_segments : (ended : List (List ℕ)) (rest : List ℕ) → list_all has_opcode ended ≡ true → list_all strings_fit ended ≡ true
+    → AreUncut false ended → is_blank rest ≡ true
     → (operations : List Operation) × SpellsOperations (join ended rest) operations × AreShown ended operations
 read_segments [] rest opcodes fit uncut blank = ([], blank_is_spaces rest blank, tt)
 read_segments (segment ∷ segments) rest opcodes fit uncut blank =

@@ -5,12 +5,14 @@ use Rattle.std.proofs.lemmas.List.{append-nil}
 use Rattle.chess_notation.specs.Words.{is_blank}
 use Rattle.chess_notation.specs.Segments.{Segments, with_segment, segments_of}
 use Rattle.chess_notation.specs.Quoting.{strings_fit}
-use Rattle.chess_notation.specs.Operations.{is_opcode, Operand, operand_text, IsOperand, AreWordBytes, HaveNoQuote, SpellsOperands, Operation, SpellsOperation, SpellsOperations}
+use Rattle.chess_notation.specs.Operations.{is_opcode, Operand, operand_text, IsOperand, AreWordBytes, HaveNoQuote}
+use Rattle.chess_notation.specs.Operations.{SpellsOperands, Operation, SpellsOperation, SpellsOperations}
 use Rattle.chess_notation.specs.Operations.Operand.{Word, Text}
 use Rattle.chess_notation.specs.EpdFaults.{has_opcode}
 use Rattle.chess_notation.proofs.WordSplits.{word_again, spaces_blank}
 use Rattle.chess_notation.proofs.OperandTexts.{spelled_done}
-use Rattle.chess_notation.proofs.SegmentCuts.{with_front-none, Passes, passes_none, passes_mark, passes_other, passes_append, passes_cons, segments_of_ended}
+use Rattle.chess_notation.proofs.SegmentCuts.{with_front-none, Passes, passes_none, passes_mark, passes_other}
+use Rattle.chess_notation.proofs.SegmentCuts.{passes_append, passes_cons, segments_of_ended}
 use Rattle.chess_notation.proofs.ShownOperations.{IsShown, AreShown, opcode_is_word, word_bytes_no_space, opcode_fits, operands_apart}
 
 passes_space : Passes false (32 ∷ []) false
@@ -50,7 +52,8 @@ spelled_segment segment operation h =
     let apart = operands_apart operation.operands h.1 h.4 in
     let found = word_again h.0 segment operation.opcode h.1 h.2 (word_bytes_no_space operation.opcode word.0) word.1 apart in
     let done = spelled_done operation.operands h.1 h.4 in
-    let rest = passes_append false operation.opcode false h.1 false (passes_word operation.opcode word.0) (passes_operands operation.operands h.1 h.4) in
+    let rest = passes_append false operation.opcode false h.1 false (passes_word operation.opcode word.0)
+    (passes_operands operation.operands h.1 h.4) in
     let P : List ℕ → Type 0 = λ t. SpellsOperands t operation.operands in
     record {
       passes = rw h.2 (passes_append false (replicate h.0 32) false (operation.opcode ++ h.1) false (passes_spaces h.0) rest);
@@ -75,4 +78,9 @@ spelled_segments (operation ∷ operations) text h =
     let segment = spelled_segment h.0 operation h.3 in
     let more = spelled_segments operations h.1 h.4 in
     let cut : segments_of text ≡ with_segment h.0 (segments_of h.1) = ap segments_of h.2 ∙ segments_of_ended h.0 h.1 segment.passes in
-    rw cut (record { opcodes = rw segment.opcode more.opcodes; fit = rw segment.fits more.fit; blank = more.blank; shown = (segment.shown, more.shown) })
+    rw cut (record {
+      opcodes = rw segment.opcode more.opcodes;
+      fit = rw segment.fits more.fit;
+      blank = more.blank;
+      shown = (segment.shown, more.shown);
+    })

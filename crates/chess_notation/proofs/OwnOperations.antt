@@ -1,5 +1,6 @@
 -- The operations that an answer writes itself can be printed.
-use Rattle.std.proofs.Common.{◌≡◌, ℕ, ◌==◌, List, [], ◌∷◌, ◌++◌, Bool, true, false, not, length-append, map, codes, decimal, refl, ap, arith, if◌then◌else◌}
+use Rattle.std.proofs.Common.{◌≡◌, ℕ, ◌==◌, List, [], ◌∷◌, ◌++◌, Bool, true, false, not, length-append}
+use Rattle.std.proofs.Common.{map, codes, decimal, refl, ap, arith, if◌then◌else◌}
 use Rattle.std.specs.List.{list_all}
 use Rattle.std.proofs.lemmas.Bool.{and_parts}
 use Rattle.chess_board.specs.Positions.{Setup}
@@ -18,7 +19,8 @@ use Rattle.chess_notation.proofs.Numerals.{decimal_digits, decimal_few, decimal_
 use Rattle.chess_notation.proofs.SanBytes.{IsPlainWord, san_plain}
 use Rattle.chess_notation.proofs.SpellableOperations.{IsSpellable, ArePlain, words_operation, entry_of-words, words_spellable}
 
-with_text_plain-at : (before : Bool) (text next : List ℕ) (texts : List (List ℕ)) → IsPlainWord text → ArePlain (next ∷ texts) → ArePlain (with_text text texts)
+with_text_plain-at : (before : Bool) (text next : List ℕ) (texts : List (List ℕ)) → IsPlainWord text
+    → ArePlain (next ∷ texts) → ArePlain (with_text text texts)
     → ArePlain (if before then text ∷ next ∷ texts else next ∷ with_text text texts)
 with_text_plain-at true text next texts is are rest = (is, are)
 with_text_plain-at false text next texts is are rest = (are.0, rest)
@@ -89,6 +91,13 @@ none_spellable bound =
     let marked : list_all is_printable (none_text bound ++ 34 ∷ []) ≡ true = list_all-both is_printable (none_text bound) (34 ∷ []) text refl in
     record {
       opcode = refl;
-      operands = ((omega (arith, long, decimal_few bound), HaveNoQuote-both (codes "no mate in ") (decimal bound) refl (HaveNoQuote-word (decimal bound) (plain_word_bytes (decimal bound) plain))), tt);
+      operands = (
+        (
+          omega (arith, long, decimal_few bound),
+          HaveNoQuote-both (codes "no mate in ") (decimal bound) refl
+              (HaveNoQuote-word (decimal bound) (plain_word_bytes (decimal bound) plain)),
+        ),
+        tt,
+      );
       printable = list_all-both is_printable (none_text bound ++ 34 ∷ []) [] marked refl;
     }

@@ -32,7 +32,8 @@ double_parts men colour a b h =
     let u = and_parts onward straight s.0 in
     record { onward = u.0; straight = eqb-true (file_of a) (file_of b) u.1; home = eqb-true (rank_of a) (second_rank colour) s.1; empty = r.1 }
 
-once_parts : (men : List (Option Man)) (colour : Colour) (a b : ℕ) → steps_once men colour a b ≡ true → (is_forward colour 1 a b ≡ true) × (file_of a ≡ file_of b)
+once_parts : (men : List (Option Man)) (colour : Colour) (a b : ℕ) → steps_once men colour a b ≡ true
+    → (is_forward colour 1 a b ≡ true) × (file_of a ≡ file_of b)
 once_parts men colour a b h =
     let q = and_parts (is_forward colour 1 a b && eqb (file_of a) (file_of b)) (is_empty men b) h in
     let r = and_parts (is_forward colour 1 a b) (eqb (file_of a) (file_of b)) q.0 in
@@ -51,7 +52,8 @@ pawn_steps p colour a b h =
     elim (or_cases (once || twice || taking) passing h) [
       | inr h ↦ inl (attack_forward p.men colour a b ((and_parts (attacks_as p.men colour Pawn a b) (is_square p.target b) h).0))
       | inl h ↦ elim (or_cases (once || twice) taking h) [
-        | inr h ↦ inl (attack_forward p.men colour a b ((and_parts (attacks_as p.men colour Pawn a b) (is_of (other_side colour) (man_at p.men b)) h).0))
+        | inr h ↦ inl (attack_forward p.men colour a b
+            ((and_parts (attacks_as p.men colour Pawn a b) (is_of (other_side colour) (man_at p.men b)) h).0))
         | inl h ↦ elim (or_cases once twice h) [
           | inl h ↦ inl (once_parts p.men colour a b h).0
           | inr h ↦ inr (double_parts p.men colour a b h)
@@ -64,7 +66,8 @@ no_enemy colour None empty enemy = cc
 no_enemy colour (Some man) empty enemy = cc
 
 -- A pawn that captures nothing stays on its file.
-pub quiet_file : (p : Setup) (colour : Colour) (a b : ℕ) → pawn_goes p colour a b ≡ true → is_empty p.men b ≡ true → is_square p.target b ≡ false → file_of a ≡ file_of b
+pub quiet_file : (p : Setup) (colour : Colour) (a b : ℕ) → pawn_goes p colour a b ≡ true → is_empty p.men b ≡ true
+    → is_square p.target b ≡ false → file_of a ≡ file_of b
 quiet_file p colour a b h empty unpassed =
     let once = steps_once p.men colour a b in
     let twice = steps_twice p.men colour a b in
@@ -73,7 +76,8 @@ quiet_file p colour a b h empty unpassed =
     elim (or_cases (once || twice || taking) passing h) [
       | inr h ↦ let here = (and_parts (attacks_as p.men colour Pawn a b) (is_square p.target b) h).1 in cc
       | inl h ↦ elim (or_cases (once || twice) taking h) [
-        | inr h ↦ absurd (no_enemy (other_side colour) (man_at p.men b) empty ((and_parts (attacks_as p.men colour Pawn a b) (is_of (other_side colour) (man_at p.men b)) h).1))
+        | inr h ↦ absurd (no_enemy (other_side colour) (man_at p.men b) empty
+            ((and_parts (attacks_as p.men colour Pawn a b) (is_of (other_side colour) (man_at p.men b)) h).1))
         | inl h ↦ elim (or_cases once twice h) [
           | inl h ↦ (once_parts p.men colour a b h).1
           | inr h ↦ (double_parts p.men colour a b h).straight
@@ -86,12 +90,14 @@ next_rank_same White a b t h k = let x = eqb-true (rank_of t) (rank_of a + 1) h 
 next_rank_same Black a b t h k = let x = eqb-true (rank_of a) (rank_of t + 1) h in let y = eqb-true (rank_of b) (rank_of t + 1) k in omega arith
 
 -- A double step crosses the square from which a single step goes to its target.
-crossed_is : (colour : Colour) (a b t : ℕ) → is_forward colour 1 a t ≡ true → is_forward colour 2 b t ≡ true → file_of a ≡ file_of b → file_of b ≡ file_of t → crossed b t ≡ a
+crossed_is : (colour : Colour) (a b t : ℕ) → is_forward colour 1 a t ≡ true → is_forward colour 2 b t ≡ true
+    → file_of a ≡ file_of b → file_of b ≡ file_of t → crossed b t ≡ a
 crossed_is White a b t h k f g = let x = eqb-true (rank_of t) (rank_of a + 1) h in let y = eqb-true (rank_of t) (rank_of b + 2) k in omega arith
 crossed_is Black a b t h k f g = let x = eqb-true (rank_of a) (rank_of t + 1) h in let y = eqb-true (rank_of b) (rank_of t + 2) k in omega arith
 
 -- so that no pawn stands on that square
-not_both : (men : List (Option Man)) (colour : Colour) (man : Man) (a b t : ℕ) → man_at men a ≡ Some man → is_forward colour 1 a t ≡ true → IsDouble men colour b t → file_of a ≡ file_of b → a ≡ b
+not_both : (men : List (Option Man)) (colour : Colour) (man : Man) (a b t : ℕ) → man_at men a ≡ Some man
+    → is_forward colour 1 a t ≡ true → IsDouble men colour b t → file_of a ≡ file_of b → a ≡ b
 not_both men colour man a b t there h double files =
     let at = crossed_is colour a b t h double.onward files double.straight in
     let empty = rw (at, there) at double.empty in cc

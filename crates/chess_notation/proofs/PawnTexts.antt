@@ -1,5 +1,6 @@
 -- What a pawn's text says: the file that it leaves, where it captures, and what it becomes.
-use Rattle.std.proofs.Common.{◌≡◌, ℕ, ◌+◌, ◌<◌, ◌≤◌, Bool, true, false, cond, eqb, List, [], ◌∷◌, ◌++◌, length, Option, Some, None, codes, if◌then◌else◌, refl, ap, arith}
+use Rattle.std.proofs.Common.{◌≡◌, ℕ, ◌+◌, ◌<◌, ◌≤◌, Bool, true, false, cond, eqb, List, [], ◌∷◌, ◌++◌}
+use Rattle.std.proofs.Common.{length, Option, Some, None, codes, if◌then◌else◌, refl, ap, arith}
 use Rattle.chess_board.specs.declared.men.Kind.{Kind}
 use Rattle.chess_board.specs.Squares.{file_of, rank_of}
 use Rattle.chess_board.specs.Fields.{square_text}
@@ -32,13 +33,15 @@ read_pawn (a ∷ b ∷ c ∷ d ∷ e ∷ f ∷ rest) = said (Some a) c d (kind_s
 abbrev pub pawn_wrote : Bool → ℕ → ℕ → Option Kind → PawnSaid
 pawn_wrote captures o t becomes = said (cond captures (Some (97 + file_of o)) None) (97 + file_of t) (49 + rank_of t) becomes
 
-pub read_pawn-form : (captures : Bool) (o t : ℕ) (becomes : Option Kind) → t < 64 → read_pawn (pawn_form captures o t becomes) ≡ pawn_wrote captures o t becomes
+pub read_pawn-form : (captures : Bool) (o t : ℕ) (becomes : Option Kind) → t < 64
+    → read_pawn (pawn_form captures o t becomes) ≡ pawn_wrote captures o t becomes
 read_pawn-form true o t None on = refl
 read_pawn-form false o t None on = refl
 read_pawn-form true o t (Some made) on = ap (said (Some (97 + file_of o)) (97 + file_of t) (49 + rank_of t)) (kind_said-letter made)
 read_pawn-form false o t (Some made) on = let x = rank_no_capture t on in simp (x, kind_said-letter)
 
-pub unmarked-pawn_form : (captures : Bool) (o t : ℕ) (becomes : Option Kind) → unmarked (pawn_form captures o t becomes) ≡ pawn_form captures o t becomes
+pub unmarked-pawn_form : (captures : Bool) (o t : ℕ) (becomes : Option Kind)
+    → unmarked (pawn_form captures o t becomes) ≡ pawn_form captures o t becomes
 unmarked-pawn_form true o t None = simp (file_unmarked, rank_unmarked)
 unmarked-pawn_form false o t None = simp (file_unmarked, rank_unmarked)
 unmarked-pawn_form true o t (Some made) = simp (file_unmarked, rank_unmarked, kind_unmarked)

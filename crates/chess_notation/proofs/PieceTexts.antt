@@ -1,5 +1,6 @@
 -- What a piece's text says after its letter: what tells it from its rivals, whether it captures, and its target.
-use Rattle.std.proofs.Common.{◌≡◌, ℕ, ◌+◌, ◌<◌, ◌≤◌, Bool, true, false, cond, eqb, ltb, List, [], ◌∷◌, ◌++◌, length, Option, Some, None, codes, if◌then◌else◌, refl, arith}
+use Rattle.std.proofs.Common.{◌≡◌, ℕ, ◌+◌, ◌<◌, ◌≤◌, Bool, true, false, cond, eqb, ltb, List, [], ◌∷◌}
+use Rattle.std.proofs.Common.{◌++◌, length, Option, Some, None, codes, if◌then◌else◌, refl, arith}
 use Rattle.chess_board.specs.Squares.{file_of, rank_of}
 use Rattle.chess_board.specs.Fields.{square_text}
 use Rattle.chess_board.specs.declared.men.Man.{Man}
@@ -10,7 +11,8 @@ use Rattle.chess_notation.specs.Disambiguation.{origin_text, some_rival}
 use Rattle.chess_notation.proofs.TextBytes.{unmarked, file_unmarked, rank_unmarked, file_no_capture, rank_no_capture, file_high, rank_low}
 
 abbrev tail_form : Bool → Bool → Bool → Bool → ℕ → ℕ → List ℕ
-tail_form some on_file on_rank captures o t = (if some then origin_text on_file on_rank o else []) ++ (if captures then codes "x" else []) ++ square_text t
+tail_form some on_file on_rank captures o t =
+    (if some then origin_text on_file on_rank o else []) ++ (if captures then codes "x" else []) ++ square_text t
 
 abbrev pub has_rival : Setup → Man → Move → Bool
 has_rival p man m = some_rival p man m (λ n. true)
@@ -52,9 +54,11 @@ abbrev pub rank_told : Bool → Bool → ℕ → Option ℕ
 rank_told some on_file r = cond some (cond on_file (Some r) None) None
 
 abbrev tail_wrote : Bool → Bool → Bool → ℕ → ℕ → TailSaid
-tail_wrote some on_file on_rank o t = said (file_told some on_file on_rank (97 + file_of o)) (rank_told some on_file (49 + rank_of o)) (97 + file_of t) (49 + rank_of t)
+tail_wrote some on_file on_rank o t = said (file_told some on_file on_rank (97 + file_of o))
+    (rank_told some on_file (49 + rank_of o)) (97 + file_of t) (49 + rank_of t)
 
-read_tail-form : (some on_file on_rank captures : Bool) (o t : ℕ) → o < 64 → read_tail (tail_form some on_file on_rank captures o t) ≡ tail_wrote some on_file on_rank o t
+read_tail-form : (some on_file on_rank captures : Bool) (o t : ℕ) → o < 64
+    → read_tail (tail_form some on_file on_rank captures o t) ≡ tail_wrote some on_file on_rank o t
 read_tail-form false on_file on_rank true o t on = refl
 read_tail-form false on_file on_rank false o t on = refl
 read_tail-form true false on_rank true o t on = simp (file_high)
@@ -64,7 +68,8 @@ read_tail-form true true false false o t on = let x = rank_no_capture o on in le
 read_tail-form true true true true o t on = refl
 read_tail-form true true true false o t on = let x = rank_no_capture o on in simp (x)
 
-unmarked-tail_form : (some on_file on_rank captures : Bool) (o t : ℕ) → unmarked (tail_form some on_file on_rank captures o t) ≡ tail_form some on_file on_rank captures o t
+unmarked-tail_form : (some on_file on_rank captures : Bool) (o t : ℕ)
+    → unmarked (tail_form some on_file on_rank captures o t) ≡ tail_form some on_file on_rank captures o t
 unmarked-tail_form false on_file on_rank true o t = simp (file_unmarked, rank_unmarked)
 unmarked-tail_form false on_file on_rank false o t = simp (file_unmarked, rank_unmarked)
 unmarked-tail_form true false on_rank true o t = simp (file_unmarked, rank_unmarked)
@@ -97,7 +102,8 @@ told_file p man m = file_told (has_rival p man m) (has_on_file p man m) (has_on_
 abbrev pub told_rank : Setup → Man → Move → Option ℕ
 told_rank p man m = rank_told (has_rival p man m) (has_on_file p man m) (49 + rank_of m.origin)
 
-pub read_tail-text : (p : Setup) (man : Man) (m : Move) → m.origin < 64 → read_tail (tail_text p man m) ≡ said (told_file p man m) (told_rank p man m) (97 + file_of m.target) (49 + rank_of m.target)
+pub read_tail-text : (p : Setup) (man : Man) (m : Move) → m.origin < 64 → read_tail (tail_text p man m)
+    ≡ said (told_file p man m) (told_rank p man m) (97 + file_of m.target) (49 + rank_of m.target)
 read_tail-text p man m on = read_tail-form (has_rival p man m) (has_on_file p man m) (has_on_rank p man m) (is_capture p man m) m.origin m.target on
 
 -- Where both have rivals, and one on the file wherever the files are the same, one on the rank wherever the ranks are, they are

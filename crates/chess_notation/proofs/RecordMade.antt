@@ -30,14 +30,20 @@ pub record IsChecked (line text : List ℕ) (p : Setup) : Type 0 where
 -- what is made of them
 abbrev pub made : List ℕ → Setup → ℕ → RecordValue
 made text p default =
-    record { position = p; bound = bound_said (segments_of text).ended default; avoid = avoid_in p (segments_of text).ended; rest = rest_of (segments_of text).ended }
+    record {
+      position = p;
+      bound = bound_said (segments_of text).ended default;
+      avoid = avoid_in p (segments_of text).ended;
+      rest = rest_of (segments_of text).ended;
+    }
 
 pub made_reads : LegalListed → (line text : List ℕ) (p : Setup) (default : ℕ) → IsChecked line text p → Reads line default (made text p default)
 unfolding cut_of
 made_reads listed line text p default is =
     let names : list_all (has_names_if_avoid p) (cut_of line).ended ≡ true =
     sym (ap (λ t. list_all (has_names_if_avoid p) (segments_of t).ended) is.text_is) ∙ is.names in
-    subst (λ (t : List ℕ). Reads line default (made t p default)) (sym is.text_is) (no_fault_reads listed line default p is.clear is.spelt is.sound names)
+    subst (λ (t : List ℕ). Reads line default (made t p default)) (sym is.text_is)
+    (no_fault_reads listed line default p is.clear is.spelt is.sound names)
 
 -- So is the same with its parts under other names.
 pub made_as : LegalListed → (line text : List ℕ) (p : Setup) (default bound : ℕ) (avoid : List Move) (rest : List Entry) → IsChecked line text p
@@ -69,12 +75,15 @@ large_is_fault line text clear text_is large = record {
 -- What stands behind `am` says which moves are to be avoided, and whether it names moves.
 pub asked_names : (p : Setup) (segments : List (List ℕ)) (words : List ℕ) → are_distinct segments ≡ true → avoid_text_in segments ≡ Some words
     → list_all (has_names_if_avoid p) segments ≡ are_names p words
-asked_names p segments words distinct there = names_by_first p segments distinct ∙ ap (λ (t : Option (List ℕ)). option_map_or (are_names p) t true) there
+asked_names p segments words distinct there =
+    names_by_first p segments distinct ∙ ap (λ (t : Option (List ℕ)). option_map_or (are_names p) t true) there
 
-pub unasked_names : (p : Setup) (segments : List (List ℕ)) → are_distinct segments ≡ true → avoid_text_in segments ≡ None → list_all (has_names_if_avoid p) segments ≡ true
+pub unasked_names : (p : Setup) (segments : List (List ℕ)) → are_distinct segments ≡ true → avoid_text_in segments ≡ None
+    → list_all (has_names_if_avoid p) segments ≡ true
 unasked_names p segments distinct none = names_by_first p segments distinct ∙ ap (λ (t : Option (List ℕ)). option_map_or (are_names p) t true) none
 
-pub asked_moves : (p : Setup) (segments : List (List ℕ)) (words : List ℕ) → avoid_text_in segments ≡ Some words → named p (words_in words) ≡ avoid_in p segments
+pub asked_moves : (p : Setup) (segments : List (List ℕ)) (words : List ℕ) → avoid_text_in segments ≡ Some words
+    → named p (words_in words) ≡ avoid_in p segments
 unfolding avoid_in
 asked_moves p segments words there = ap (λ (t : Option (List ℕ)). option_map_or (λ text. named p (words_in text)) t []) (sym there)
 

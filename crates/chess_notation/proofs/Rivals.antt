@@ -16,7 +16,8 @@ use Rattle.chess_notation.proofs.LegalMen.{IsPlayed}
 use Rattle.chess_notation.proofs.TextBytes.{same_square}
 use Rattle.chess_notation.proofs.PieceTexts.{has_rival, has_on_file, has_on_rank, told_file, told_rank, told_same}
 
-rival_there : (p : Setup) (man : Man) (m n : Move) (passes : Move → Bool) → Contains (legal_moves p) n → is_rival p man m n ≡ true → passes n ≡ true → some_rival p man m passes ≡ true
+rival_there : (p : Setup) (man : Man) (m n : Move) (passes : Move → Bool) → Contains (legal_moves p) n → is_rival p man m n ≡ true
+    → passes n ≡ true → some_rival p man m passes ≡ true
 unfolding some_rival
 rival_there p man m n passes at is pass =
     let here : (is_rival p man m (get_or (legal_moves p) at.0 n) && passes (get_or (legal_moves p) at.0 n)) ≡ true = rw at.2 (rw (is, pass)) in
@@ -29,7 +30,8 @@ one_colour Black = refl
 such_there : (man : Man) (place : Option Man) → place ≡ Some man → is_such man place ≡ true
 such_there man place there = rw (there, one_colour man.colour) (eq-eqb (kind_letter man.kind) (kind_letter man.kind) refl)
 
-rival_of : (p : Setup) (man : Man) (m n : Move) → man_at p.men n.origin ≡ Some man → n.target ≡ m.target → eqb n.origin m.origin ≡ false → is_rival p man m n ≡ true
+rival_of : (p : Setup) (man : Man) (m n : Move) → man_at p.men n.origin ≡ Some man → n.target ≡ m.target
+    → eqb n.origin m.origin ≡ false → is_rival p man m n ≡ true
 rival_of p man m n there targets apart = rw (eq-eqb n.target m.target targets, apart) (such_there man (man_at p.men n.origin) there)
 
 eqb-false_sym : (a b : ℕ) → eqb a b ≡ false → eqb b a ≡ false
@@ -50,8 +52,10 @@ piece_origin_same p man m n by_m by_n targets files ranks = (elim (eqb m.origin 
       let told = told_same (has_on_file p man m) (has_on_rank p man m) (has_on_file p man n) (has_on_rank p man n)
       (97 + file_of m.origin) (49 + rank_of m.origin) (97 + file_of n.origin) (49 + rank_of n.origin)
       (rw (some_m, some_n) at files) (rw (some_m, some_n) at ranks)
-      (λ f. rival_there p man m n (λ x. eqb (file_of x.origin) (file_of m.origin)) by_n.listed n_is (eq-eqb (file_of n.origin) (file_of m.origin) (omega arith)))
-      (λ r. rival_there p man m n (λ x. eqb (rank_of x.origin) (rank_of m.origin)) by_n.listed n_is (eq-eqb (rank_of n.origin) (rank_of m.origin) (omega arith))) in
+      (λ f. rival_there p man m n (λ x. eqb (file_of x.origin) (file_of m.origin)) by_n.listed n_is
+      (eq-eqb (file_of n.origin) (file_of m.origin) (omega arith)))
+      (λ r. rival_there p man m n (λ x. eqb (rank_of x.origin) (rank_of m.origin)) by_n.listed n_is
+      (eq-eqb (rank_of n.origin) (rank_of m.origin) (omega arith))) in
       let f = told.0 in
       let r = told.1 in
       same_square m.origin n.origin (omega arith) (omega arith)

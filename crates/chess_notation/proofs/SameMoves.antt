@@ -26,23 +26,27 @@ unpromoted man b None piece suited = refl
 unpromoted man b (Some made) piece suited = let never = rw piece at suited in cc
 
 -- Pawns.
-pawn_quiet : (p : Setup) (man : Man) (m : Move) → IsPlayed p m man → man.kind ≡ Pawn → is_capture p man m ≡ false → file_of m.origin ≡ file_of m.target
+pawn_quiet : (p : Setup) (man : Man) (m : Move) → IsPlayed p m man → man.kind ≡ Pawn
+    → is_capture p man m ≡ false → file_of m.origin ≡ file_of m.target
 pawn_quiet p man m by pawn quiet =
     let parts = or_parts (not (is_empty p.men m.target)) (is_en_passant p man m) quiet in
     quiet_file p man.colour m.origin m.target (rw pawn at by.goes) (not-false (is_empty p.men m.target) parts.0) (rw pawn at parts.1)
 
 -- The file that the pawn leaves is in the text, or is that of its target.
-pawn_files : (takes_m takes_n : Bool) (f g : ℕ) → cond takes_m (Some (97 + f)) None ≡ cond takes_n (Some (97 + g)) None → (takes_m ≡ false → takes_n ≡ false → f ≡ g) → f ≡ g
+pawn_files : (takes_m takes_n : Bool) (f g : ℕ) → cond takes_m (Some (97 + f)) None ≡ cond takes_n (Some (97 + g)) None
+    → (takes_m ≡ false → takes_n ≡ false → f ≡ g) → f ≡ g
 pawn_files true true f g e quiet = let bytes : 97 + f ≡ 97 + g = cc in omega arith
 pawn_files true false f g e quiet = cc
 pawn_files false true f g e quiet = cc
 pawn_files false false f g e quiet = quiet refl refl
 
-pub same_pawn : (p : Setup) (man : Man) (m n : Move) → IsPlayed p m man → IsPlayed p n man → man.kind ≡ Pawn → pawn_text p man m ≡ pawn_text p man n → m ≡ n
+pub same_pawn : (p : Setup) (man : Man) (m n : Move) → IsPlayed p m man → IsPlayed p n man → man.kind ≡ Pawn
+    → pawn_text p man m ≡ pawn_text p man n → m ≡ n
 same_pawn p man m n by_m by_n pawn texts =
     let takes_m = is_capture p man m in
     let takes_n = is_capture p man n in
-    let w = sym (read_pawn-form takes_m m.origin m.target m.promotion by_m.to_board) ∙ ap read_pawn texts ∙ read_pawn-form takes_n n.origin n.target n.promotion by_n.to_board in
+    let w = sym (read_pawn-form takes_m m.origin m.target m.promotion by_m.to_board) ∙ ap read_pawn texts
+    ∙ read_pawn-form takes_n n.origin n.target n.promotion by_n.to_board in
     let f : 97 + file_of m.target ≡ 97 + file_of n.target = ap (λ s. s.to_file) w in
     let r : 49 + rank_of m.target ≡ 49 + rank_of n.target = ap (λ s. s.to_rank) w in
     let targets : m.target ≡ n.target = same_square m.target n.target (omega arith) (omega arith) in
@@ -54,14 +58,16 @@ same_pawn p man m n by_m by_n pawn texts =
     move_same m n origins targets (ap (λ s. s.becomes) w)
 
 -- Castling.
-pub same_castling : (p : Setup) (man : Man) (m n : Move) → IsPlayed p m man → IsPlayed p n man → is_pawn_kind man.kind ≡ false → is_castling man m ≡ true → is_castling man n ≡ true →
+pub same_castling : (p : Setup) (man : Man) (m n : Move) → IsPlayed p m man → IsPlayed p n man → is_pawn_kind man.kind ≡ false
+    → is_castling man m ≡ true → is_castling man n ≡ true →
     wing_text (wing_of m.origin m.target) ≡ wing_text (wing_of n.origin n.target) → m ≡ n
 same_castling p man m n by_m by_n piece castles_m castles_n texts =
     let at = castling_same p man m n by_m.goes by_n.goes castles_m castles_n texts in
     move_same m n at.0 at.1 (unpromoted man m.target m.promotion piece by_m.suits ∙ sym (unpromoted man n.target n.promotion piece by_n.suits))
 
 -- Pieces.
-pub same_piece : (p : Setup) (man : Man) (m n : Move) → IsPlayed p m man → IsPlayed p n man → is_pawn_kind man.kind ≡ false → tail_text p man m ≡ tail_text p man n → m ≡ n
+pub same_piece : (p : Setup) (man : Man) (m n : Move) → IsPlayed p m man → IsPlayed p n man → is_pawn_kind man.kind ≡ false
+    → tail_text p man m ≡ tail_text p man n → m ≡ n
 same_piece p man m n by_m by_n piece tails =
     let w = sym (read_tail-text p man m by_m.from_board) ∙ ap read_tail tails ∙ read_tail-text p man n by_n.from_board in
     let f : 97 + file_of m.target ≡ 97 + file_of n.target = ap (λ s. s.to_file) w in

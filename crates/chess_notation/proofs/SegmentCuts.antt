@@ -37,12 +37,16 @@ passes_mark false = record { passes = λ more. refl }
 
 pub passes_other : (inside : Bool) (b : ℕ) → b ≢ 34 → (inside ≡ false → b ≢ 59) → Passes inside (b ∷ []) inside
 passes_other true b mark end = record { passes = λ more. (let test : (b == 34) ≡ false = not_byte b 34 mark in rw test refl) }
-passes_other false b mark end = record { passes = λ more. (let test : (b == 34) ≡ false = not_byte b 34 mark in let last : (b == 59) ≡ false = not_byte b 59 (end refl) in rw (last, test) refl) }
+passes_other false b mark end = record {
+  passes = λ more. (let test : (b == 34) ≡ false = not_byte b 34 mark in
+      let last : (b == 59) ≡ false = not_byte b 59 (end refl) in rw (last, test) refl);
+}
 
 pub passes_append : (a : Bool) (xs : List ℕ) (b : Bool) (ys : List ℕ) (c : Bool) → Passes a xs b → Passes b ys c → Passes a (xs ++ ys) c
 passes_append a xs b ys c first second = record {
   passes = λ more.
-      ap (segments_from a) (append_assoc xs ys more) ∙ first.passes (ys ++ more) ∙ ap (with_front xs) (second.passes more) ∙ sym (with_front-append xs ys (segments_from c more));
+      ap (segments_from a) (append_assoc xs ys more) ∙ first.passes (ys ++ more) ∙ ap (with_front xs) (second.passes more)
+      ∙ sym (with_front-append xs ys (segments_from c more));
 }
 
 pub passes_cons : (a : Bool) (x : ℕ) (b : Bool) (ys : List ℕ) (c : Bool) → Passes a (x ∷ []) b → Passes b ys c → Passes a (x ∷ ys) c
@@ -50,7 +54,8 @@ passes_cons a x b ys c first second = passes_append a (x ∷ []) b ys c first se
 
 -- A text that is passed over outside strings and a semicolon are an ended segment.
 pub segments_of_ended : (text more : List ℕ) → Passes false text false → segments_of (text ++ 59 ∷ more) ≡ with_segment text (segments_of more)
-segments_of_ended text more passes = passes.passes (59 ∷ more) ∙ with_front-segment text [] (segments_of more) ∙ ap (λ t. with_segment t (segments_of more)) (append-nil text)
+segments_of_ended text more passes = passes.passes (59 ∷ more) ∙ with_front-segment text [] (segments_of more)
+    ∙ ap (λ t. with_segment t (segments_of more)) (append-nil text)
 
 -- The segments, put together again.
 abbrev pub join : List (List ℕ) → List ℕ → List ℕ
@@ -72,7 +77,8 @@ joined_if : (end inside : Bool) (b : ℕ) (bs : List ℕ) → ends_segment insid
     → bs ≡ join_of (segments_from (inside_after inside b) bs)
     → b ∷ bs ≡ join_of (if end then with_segment [] (segments_from false bs) else with_byte b (segments_from (inside_after inside b) bs))
 joined_if true inside b bs e outside on = ap (λ x. x ∷ bs) (ends_is inside b e) ∙ ap (λ t. 59 ∷ t) outside
-joined_if false inside b bs e outside on = ap (λ t. b ∷ t) on ∙ sym (join_byte b (segments_from (inside_after inside b) bs).ended (segments_from (inside_after inside b) bs).rest)
+joined_if false inside b bs e outside on = ap (λ t. b ∷ t) on
+    ∙ sym (join_byte b (segments_from (inside_after inside b) bs).ended (segments_from (inside_after inside b) bs).rest)
 
 pub joined : (text : List ℕ) (inside : Bool) → text ≡ join_of (segments_from inside text)
 joined [] inside = refl
@@ -92,7 +98,8 @@ uncut_if : (end inside : Bool) (b : ℕ) (bs : List ℕ) → ends_segment inside
     → AreUncut (inside_after inside b) (segments_from (inside_after inside b) bs).ended
     → AreUncut inside (if end then with_segment [] (segments_from false bs) else with_byte b (segments_from (inside_after inside b) bs)).ended
 uncut_if true inside b bs e outside on = (refl, outside)
-uncut_if false inside b bs e outside on = uncut_byte inside b (segments_from (inside_after inside b) bs).ended (segments_from (inside_after inside b) bs).rest e on
+uncut_if false inside b bs e outside on =
+    uncut_byte inside b (segments_from (inside_after inside b) bs).ended (segments_from (inside_after inside b) bs).rest e on
 
 pub are_uncut : (text : List ℕ) (inside : Bool) → AreUncut inside (segments_from inside text).ended
 are_uncut [] inside = tt

@@ -1,5 +1,6 @@
 -- The words behind `am` say what its operands are, and so which moves are to be avoided.
-use Rattle.std.proofs.Common.{◌≡◌, ◌≢◌, ℕ, suc, ◌-◌, List, [], ◌∷◌, ◌++◌, Bool, true, false, Option, Some, length, map, take, refl, ap, sym, ◌∙◌, arith, subst, inl, inr, if◌then◌else◌, codes, ◌&&◌, ◌||◌}
+use Rattle.std.proofs.Common.{◌≡◌, ◌≢◌, ℕ, suc, ◌-◌, List, [], ◌∷◌, ◌++◌, Bool, true, false, Option, Some, length, map}
+use Rattle.std.proofs.Common.{take, refl, ap, sym, ◌∙◌, arith, subst, inl, inr, if◌then◌else◌, codes, ◌&&◌, ◌||◌}
 use Rattle.std.specs.List.{list_all, slice_index}
 use Rattle.std.specs.Option.{option_map_or}
 use Rattle.std.proofs.lemmas.Bool.{and_parts}
@@ -39,7 +40,8 @@ unfolding is_name without_suffix
 name_head listed p b bs h =
     let found = any_member (names p (b ∷ bs)) (legal_moves p) h in
     let plain = bare_plain p found.0 ((listed p found.0).0 found.1) in
-    let word : IsPlainWord (without_suffix (b ∷ bs)) = subst IsPlainWord (sym (same_text_is (without_suffix (b ∷ bs)) (bare_text p found.0) found.2)) plain in
+    let word : IsPlainWord (without_suffix (b ∷ bs)) =
+    subst IsPlainWord (sym (same_text_is (without_suffix (b ∷ bs)) (bare_text p found.0) found.2)) plain in
     plain_head (is_suffix (slice_index (b ∷ bs) (length (b ∷ bs) - 1))) b bs word
 
 quoted_no_name : LegalListed → (p : Setup) (bs : List ℕ) → is_name p (34 ∷ bs) ≡ false
@@ -59,7 +61,8 @@ mark_no_names listed p bs =
 pub word_operands : (words : List (List ℕ)) (text : List ℕ) → SpellsOperands text (map Word words) → words_in text ≡ words
 word_operands [] text h = ap words_in h.1 ∙ no_words h.0
 word_operands (word ∷ words) text h =
-    ap words_in h.2 ∙ words_spaces (suc h.0) (word ++ h.1) ∙ words_front word h.1 (word_bytes_no_space word h.3.1) h.3.0 (operands_apart (map Word words) h.1 h.4)
+    ap words_in h.2 ∙ words_spaces (suc h.0) (word ++ h.1)
+    ∙ words_front word h.1 (word_bytes_no_space word h.3.1) h.3.0 (operands_apart (map Word words) h.1 h.4)
     ∙ ap (λ ws. word ∷ ws) (word_operands words h.1 h.4)
 
 -- Operands of which each word is a name are plain.
@@ -68,19 +71,23 @@ pub names_plain : LegalListed → (p : Setup) (operands : List Operand) (text : 
 names_plain listed p [] text h names = sym (ap (map Word) (ap words_in h.1 ∙ no_words h.0))
 names_plain listed p (Word word ∷ operands) text h names =
     let split : words_in text ≡ word ∷ words_in h.1 =
-    ap words_in h.2 ∙ words_spaces (suc h.0) (word ++ h.1) ∙ words_front word h.1 (word_bytes_no_space word h.3.1) h.3.0 (operands_apart operands h.1 h.4) in
+    ap words_in h.2 ∙ words_spaces (suc h.0) (word ++ h.1)
+    ∙ words_front word h.1 (word_bytes_no_space word h.3.1) h.3.0 (operands_apart operands h.1 h.4) in
     let rest = and_parts (is_name p word) (list_all (is_name p) (words_in h.1)) (sym (ap (list_all (is_name p)) split) ∙ names) in
     ap (λ os. Word word ∷ os) (names_plain listed p operands h.1 h.4 rest.1) ∙ sym (ap (map Word) split)
 names_plain listed p (Text quoted ∷ operands) text h names =
-    let there : words_in text ≡ words_in (34 ∷ ((quoted ++ 34 ∷ []) ++ h.1)) = ap words_in h.2 ∙ words_spaces (suc h.0) (34 ∷ ((quoted ++ 34 ∷ []) ++ h.1)) in
+    let there : words_in text ≡ words_in (34 ∷ ((quoted ++ 34 ∷ []) ++ h.1)) =
+    ap words_in h.2 ∙ words_spaces (suc h.0) (34 ∷ ((quoted ++ 34 ∷ []) ++ h.1)) in
     let none : list_all (is_name p) (words_in text) ≡ false = ap (list_all (is_name p)) there ∙ mark_no_names listed p ((quoted ++ 34 ∷ []) ++ h.1) in
     cc
 
 -- Whether the segment shows `am`.
-avoid_opcode : (segment : List ℕ) (operation : Operation) → IsShown segment operation → is_avoid_segment segment ≡ true → operation.opcode ≡ codes "am"
+avoid_opcode : (segment : List ℕ) (operation : Operation) → IsShown segment operation
+    → is_avoid_segment segment ≡ true → operation.opcode ≡ codes "am"
 avoid_opcode = shown_opcode (codes "am")
 
-other_opcode : (segment : List ℕ) (operation : Operation) → IsShown segment operation → is_avoid_segment segment ≡ false → operation.opcode ≢ codes "am"
+other_opcode : (segment : List ℕ) (operation : Operation) → IsShown segment operation
+    → is_avoid_segment segment ≡ false → operation.opcode ≢ codes "am"
 other_opcode = shown_other_opcode (codes "am") refl
 
 -- The tests of a segment that shows it, taken apart.
@@ -111,7 +118,8 @@ no_more_am p operation operations avoid other (inl h) = inl (
 )
 no_more_am p operation operations avoid other (inr h) = inr (h.0, in_back operation operations (am_of h.0) h.1, h.2, h.3, h.4)
 
-shown_am : LegalListed → (p : Setup) (segment : List ℕ) (operation : Operation) → IsShown segment operation → is_avoid_segment segment ≡ true → AreNames p (behind segment)
+shown_am : LegalListed → (p : Setup) (segment : List ℕ) (operation : Operation) → IsShown segment operation
+    → is_avoid_segment segment ≡ true → AreNames p (behind segment)
     → operation ≡ am_of (words_in (behind segment))
 shown_am listed p segment operation shown avoid are =
     let opcode = avoid_opcode segment operation shown avoid in
@@ -130,13 +138,20 @@ names_are_avoided listed p (segment ∷ segments) [] shown names = absurd shown
 names_are_avoided listed p (segment ∷ segments) (operation ∷ operations) shown names =
     let both = and_parts (has_names_if_avoid p segment) (list_all (has_names_if_avoid p) segments) names in
     by_test (is_avoid_segment segment) refl both.0 (names_are_avoided listed p segments operations shown.1 both.1) where
-      by_test : (avoid : Bool) → is_avoid_segment segment ≡ avoid → (not avoid || are_names p (behind segment)) ≡ true → AreToAvoid p operations (avoid_in p segments)
+      by_test : (avoid : Bool) → is_avoid_segment segment ≡ avoid → (not avoid || are_names p (behind segment)) ≡ true
+          → AreToAvoid p operations (avoid_in p segments)
           → AreToAvoid p (operation ∷ operations) (named_by p (if avoid then Some (behind segment) else avoid_text_in segments))
       by_test true e names later =
           let are = names_there p (behind segment) names in
           let am = shown_am listed p segment operation shown.0 e are in
           let words = words_in (behind segment) in
-          inr (words, in_same (operation ∷ operations) (am_of words) operation (sym am) (in_front operation operations), words_some (behind segment) are.solid, are.each, refl)
+          inr (
+            words,
+            in_same (operation ∷ operations) (am_of words) operation (sym am) (in_front operation operations),
+            words_some (behind segment) are.solid,
+            are.each,
+            refl,
+          )
       by_test false e names later = no_more_am p operation operations (avoid_in p segments) (other_opcode segment operation shown.0 e) later
 
 -- The other way: what is asked to be avoided is what the segments name, and they pass the tests.
@@ -169,7 +184,8 @@ words_solid (word ∷ words) text some h = ap is_blank h.2 ∙ operand_solid (Wo
 names_from : (p : Setup) (text : List ℕ) → is_blank text ≡ false → list_all (is_name p) (words_in text) ≡ true → are_names p text ≡ true
 names_from p text solid each = rw (solid, each) refl
 
-pub avoided_are_named : (p : Setup) (segments : List (List ℕ)) (operations : List Operation) (avoid : List Move) → AreShown segments operations → AreOnce operations
+pub avoided_are_named : (p : Setup) (segments : List (List ℕ)) (operations : List Operation) (avoid : List Move)
+    → AreShown segments operations → AreOnce operations
     → AreToAvoid p operations avoid → AreAvoidedIn p segments avoid
 unfolding avoid_in avoid_text_in
 avoided_are_named p [] [] avoid shown once (inl h) = record { same = h.1; names = refl }
@@ -177,15 +193,18 @@ avoided_are_named p [] [] avoid shown once (inr h) = absurd (in_none (am_of h.0)
 avoided_are_named p [] (operation ∷ operations) avoid shown once h = absurd shown
 avoided_are_named p (segment ∷ segments) [] avoid shown once h = absurd shown
 avoided_are_named p (segment ∷ segments) (operation ∷ operations) avoid shown once h =
-    by_test (is_avoid_segment segment) refl (avoided_are_named p segments operations [] shown.1 once.1) (avoided_are_named p segments operations avoid shown.1 once.1) where
+    by_test (is_avoid_segment segment) refl (avoided_are_named p segments operations [] shown.1 once.1)
+    (avoided_are_named p segments operations avoid shown.1 once.1) where
       by_test : (test : Bool) → is_avoid_segment segment ≡ test → (AreToAvoid p operations [] → AreAvoidedIn p segments [])
           → (AreToAvoid p operations avoid → AreAvoidedIn p segments avoid) → AreAvoidedIn p (segment ∷ segments) avoid
       by_test true e none more =
           let am = avoid_opcode segment operation shown.0 e in
           let got = avoided_here p operation operations avoid once am h in
-          let spelled : SpellsOperands (behind segment) (map Word got.0) = subst (λ o. SpellsOperands (behind segment) o.operands) got.1 shown.0.operands in
+          let spelled : SpellsOperands (behind segment) (map Word got.0) =
+          subst (λ o. SpellsOperands (behind segment) o.operands) got.1 shown.0.operands in
           let words : words_in (behind segment) ≡ got.0 = word_operands got.0 (behind segment) spelled in
-          let here : are_names p (behind segment) ≡ true = names_from p (behind segment) (words_solid got.0 (behind segment) got.2 spelled) (ap (list_all (is_name p)) words ∙ got.3) in
+          let here : are_names p (behind segment) ≡ true = names_from p (behind segment)
+          (words_solid got.0 (behind segment) got.2 spelled) (ap (list_all (is_name p)) words ∙ got.3) in
           let later = none (inl ((λ o inside is. once.0 o inside (is ∙ sym am)), refl)) in
           record { same = rw e (got.4 ∙ ap (named p) (sym words)); names = rw (e, here) later.names }
       by_test false e none more =
@@ -193,7 +212,8 @@ avoided_are_named p (segment ∷ segments) (operation ∷ operations) avoid show
           record { same = rw e later.same; names = rw e later.names }
 
 -- Where no opcode stands twice, the first `am` settles the test.
-no_am_later : (p : Setup) (segment : List ℕ) (segments : List (List ℕ)) → is_avoid_segment segment ≡ true → list_all (differs_from (word_at segment)) segments ≡ true
+no_am_later : (p : Setup) (segment : List ℕ) (segments : List (List ℕ)) → is_avoid_segment segment ≡ true
+    → list_all (differs_from (word_at segment)) segments ≡ true
     → list_all (has_names_if_avoid p) segments ≡ true
 no_am_later p segment [] avoid differ = refl
 no_am_later p segment (next ∷ segments) avoid differ =

@@ -1,5 +1,6 @@
 -- The words behind `dm` say what its operands are, and so which bound is asked for.
-use Rattle.std.proofs.Common.{◌≡◌, ◌≢◌, ℕ, zero, suc, ◌≤◌, ◌==◌, nat_le, nat_lt, List, [], ◌∷◌, ◌++◌, Bool, true, false, refl, ap, sym, ◌∙◌, arith, replicate, subst, inl, inr, if◌then◌else◌, codes}
+use Rattle.std.proofs.Common.{◌≡◌, ◌≢◌, ℕ, zero, suc, ◌≤◌, ◌==◌, nat_le, nat_lt, List, [], ◌∷◌, ◌++◌, Bool, true}
+use Rattle.std.proofs.Common.{false, refl, ap, sym, ◌∙◌, arith, replicate, subst, inl, inr, if◌then◌else◌, codes}
 use Rattle.std.specs.List.{list_all}
 use Rattle.std.proofs.lemmas.Bool.{and_parts}
 use Rattle.std.proofs.lemmas.Bool.Decides.{nat_tests}
@@ -23,7 +24,8 @@ one_word rest word h =
     let next = word_again (suc h.0) rest word h.1 h.2 (word_bytes_no_space word h.3.1) h.3.0 (operands_apart [] h.1 h.4) in
     (next.word_is, ap is_blank (next.rest_is ∙ h.4.1) ∙ spaces_blank h.4.0)
 
-pub operand_solid : (operand : Operand) (more : ℕ) (rest : List ℕ) → IsOperand operand → is_blank (spaces more ++ (operand_text operand ++ rest)) ≡ false
+pub operand_solid : (operand : Operand) (more : ℕ) (rest : List ℕ) → IsOperand operand
+    → is_blank (spaces more ++ (operand_text operand ++ rest)) ≡ false
 operand_solid (Word []) more rest is = absurd (is.0 refl)
 operand_solid (Word (b ∷ bs)) more rest is =
     let no_space : (b == 32) ≡ false = not_byte b 32 is.1.0 in
@@ -46,18 +48,22 @@ mark_no_number more rest = ap (λ t. is_number (front_word t)) (spaces_over (suc
 -- One number and nothing else is one plain operand.
 one_operand : (operands : List Operand) (rest : List ℕ) → SpellsOperands rest operands → is_number (word_at rest) ≡ true
     → is_blank (behind rest) ≡ true → operands ≡ Word (word_at rest) ∷ []
-one_operand [] rest h number blank = let none : is_number (word_at rest) ≡ false = ap (λ t. is_number (word_at t)) h.1 ∙ ap is_number (spaces_no_word h.0) in cc
+one_operand [] rest h number blank = let none : is_number (word_at rest) ≡ false =
+    ap (λ t. is_number (word_at t)) h.1 ∙ ap is_number (spaces_no_word h.0) in cc
 one_operand (Word word ∷ operands) rest h number blank =
     let next = word_again (suc h.0) rest word h.1 h.2 (word_bytes_no_space word h.3.1) h.3.0 (operands_apart operands h.1 h.4) in
     let none : operands ≡ [] = blank_none operands h.1 h.4 (sym (ap is_blank next.rest_is) ∙ blank) in
     ap (λ os. Word word ∷ os) none ∙ ap (λ w. Word w ∷ []) (sym next.word_is)
-one_operand (Text text ∷ operands) rest h number blank = let none : is_number (word_at rest) ≡ false = ap (λ t. is_number (word_at t)) h.2 ∙ mark_no_number h.0 ((text ++ 34 ∷ []) ++ h.1) in cc
+one_operand (Text text ∷ operands) rest h number blank = let none : is_number (word_at rest) ≡ false =
+    ap (λ t. is_number (word_at t)) h.2 ∙ mark_no_number h.0 ((text ++ 34 ∷ []) ++ h.1) in cc
 
 -- Whether the segment shows `dm`.
-bound_opcode : (segment : List ℕ) (operation : Operation) → IsShown segment operation → is_bound_segment segment ≡ true → operation.opcode ≡ codes "dm"
+bound_opcode : (segment : List ℕ) (operation : Operation) → IsShown segment operation
+    → is_bound_segment segment ≡ true → operation.opcode ≡ codes "dm"
 bound_opcode = shown_opcode (codes "dm")
 
-other_opcode : (segment : List ℕ) (operation : Operation) → IsShown segment operation → is_bound_segment segment ≡ false → operation.opcode ≢ codes "dm"
+other_opcode : (segment : List ℕ) (operation : Operation) → IsShown segment operation
+    → is_bound_segment segment ≡ false → operation.opcode ≢ codes "dm"
 other_opcode = shown_other_opcode (codes "dm") refl
 
 shown_dm : (segment : List ℕ) (operation : Operation) → IsShown segment operation → is_bound_segment segment ≡ true → IsBoundNumber segment
@@ -97,8 +103,16 @@ bound_is_asked (segment ∷ segments) (operation ∷ operations) default shown n
           let h = bound_number segment e number small in
           let dm = shown_dm segment operation shown.0 e h in
           let word = word_at (behind segment) in
-          inr (word, in_same (operation ∷ operations) (dm_of word) operation (sym dm) (in_front operation operations), (and_parts (not (is_empty_text word)) (list_all is_digit word) h.digits).1, refl, h.some, h.few)
-      by_test false e number small later = no_more_dm operation operations default (bound_said segments default) (other_opcode segment operation shown.0 e) later
+          inr (
+            word,
+            in_same (operation ∷ operations) (dm_of word) operation (sym dm) (in_front operation operations),
+            (and_parts (not (is_empty_text word)) (list_all is_digit word) h.digits).1,
+            refl,
+            h.some,
+            h.few,
+          )
+      by_test false e number small later =
+          no_more_dm operation operations default (bound_said segments default) (other_opcode segment operation shown.0 e) later
 
 -- The other way: an asked bound is that of the segments, and they pass the tests.
 fewer_dm : (operation : Operation) (operations : List Operation) (default bound : ℕ) → operation.opcode ≢ codes "dm"
@@ -157,14 +171,16 @@ asked_is_bound [] [] default bound shown once (inr h) = absurd (in_none (dm_of h
 asked_is_bound [] (operation ∷ operations) default bound shown once h = absurd shown
 asked_is_bound (segment ∷ segments) [] default bound shown once h = absurd shown
 asked_is_bound (segment ∷ segments) (operation ∷ operations) default bound shown once h =
-    by_test (is_bound_segment segment) refl (asked_is_bound segments operations default default shown.1 once.1) (asked_is_bound segments operations default bound shown.1 once.1) where
+    by_test (is_bound_segment segment) refl (asked_is_bound segments operations default default shown.1 once.1)
+    (asked_is_bound segments operations default bound shown.1 once.1) where
       by_test : (test : Bool) → is_bound_segment segment ≡ test → (IsBoundOf operations default default → IsBoundIn segments default default)
           → (IsBoundOf operations default bound → IsBoundIn segments default bound)
           → IsBoundIn (segment ∷ segments) default bound
       by_test true e none more =
           let dm = bound_opcode segment operation shown.0 e in
           let got = asked_here operation operations default bound once dm h in
-          let spelled : SpellsOperands (behind segment) (Word got.0 ∷ []) = subst (λ o. SpellsOperands (behind segment) o.operands) got.1 shown.0.operands in
+          let spelled : SpellsOperands (behind segment) (Word got.0 ∷ []) =
+          subst (λ o. SpellsOperands (behind segment) o.operands) got.1 shown.0.operands in
           let here = dm_numbered segment got.0 bound spelled got.2 got.3 got.4 got.5 in
           let later = none (inl ((λ o inside is. once.0 o inside (is ∙ sym dm)), refl)) in
           record { same = rw e here.same; numbers = rw (e, here.number) later.numbers; small = rw (e, here.small) later.small }

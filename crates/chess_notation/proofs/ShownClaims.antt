@@ -1,5 +1,6 @@
 -- The words of what a line claims are the operands of its `bm`.
-use Rattle.std.proofs.Common.{◌≡◌, ◌≢◌, ℕ, zero, suc, ◌==◌, List, [], ◌∷◌, ◌++◌, Bool, true, false, length, map, replicate, refl, ap, sym, ◌∙◌, inl, inr, if◌then◌else◌, codes, append_assoc, arith}
+use Rattle.std.proofs.Common.{◌≡◌, ◌≢◌, ℕ, zero, suc, ◌==◌, List, [], ◌∷◌, ◌++◌, Bool, true, false, length, map, replicate}
+use Rattle.std.proofs.Common.{refl, ap, sym, ◌∙◌, inl, inr, if◌then◌else◌, codes, append_assoc, arith}
 use Rattle.chess_notation.specs.Words.{behind, words_in}
 use Rattle.chess_notation.specs.Operations.{Operand, IsOperand, AreWordBytes, HaveNoQuote, SpellsOperands, Operation, operand_text}
 use Rattle.chess_notation.specs.Operations.Operand.{Word, Text}
@@ -34,11 +35,13 @@ shut_string (b ∷ bs) rest h =
     let other : (b == 34) ≡ false = not_byte b 34 h.0 in
     rw other (ap (λ t. 34 ∷ t) (shut_string bs rest h.1))
 
-shut_operand : (operand : Operand) (rest : List ℕ) → IsOperand operand → shut_from false (operand_text operand ++ rest) ≡ operand_word operand ++ shut_from false rest
+shut_operand : (operand : Operand) (rest : List ℕ) → IsOperand operand
+    → shut_from false (operand_text operand ++ rest) ≡ operand_word operand ++ shut_from false rest
 shut_operand (Word word) rest h = shut_word word rest h.1
 shut_operand (Text text) rest h =
     let marks : List ℕ = replicate (length text) 34 in
-    ap (λ t. 34 ∷ t) (ap (shut_from true) (append_assoc text (34 ∷ []) rest) ∙ shut_string text rest h.1 ∙ sym (append_assoc marks (34 ∷ []) (shut_from false rest)))
+    ap (λ t. 34 ∷ t) (ap (shut_from true) (append_assoc text (34 ∷ []) rest) ∙ shut_string text rest h.1
+    ∙ sym (append_assoc marks (34 ∷ []) (shut_from false rest)))
 
 mark_no_space : ◌≢◌ {A = ℕ} 34 32
 mark_no_space e = omega arith
@@ -60,7 +63,8 @@ shut_apart [] h = tt
 shut_apart (b ∷ bs) h = rw h refl
 
 -- So the words are the operands.
-pub operand_words_shut : (operands : List Operand) (text : List ℕ) → SpellsOperands text operands → words_in (shut_from false text) ≡ map operand_word operands
+pub operand_words_shut : (operands : List Operand) (text : List ℕ) → SpellsOperands text operands
+    → words_in (shut_from false text) ≡ map operand_word operands
 operand_words_shut [] text h = ap (λ t. words_in (shut_from false t)) h.1 ∙ ap words_in (shut_blank h.0) ∙ no_words h.0
 operand_words_shut (operand ∷ operands) text h =
     let word = operand_word operand in
@@ -85,7 +89,8 @@ no_more_bm operation operations words other (inl h) = inl (
 )
 no_more_bm operation operations words other (inr h) = inr (h.0, in_back operation operations (bm_of h.0) h.1, h.2)
 
-keys_operands : (segments : List (List ℕ)) (operations : List Operation) → AreShown segments operations → AreOperandsOfKeys operations (words_behind (keys_text_in segments))
+keys_operands : (segments : List (List ℕ)) (operations : List Operation) → AreShown segments operations
+    → AreOperandsOfKeys operations (words_behind (keys_text_in segments))
 unfolding keys_text_in
 keys_operands [] [] shown = inl ((λ o inside. absurd (in_none o inside)), no_words 0)
 keys_operands [] (operation ∷ operations) shown = absurd shown
@@ -97,8 +102,14 @@ keys_operands (segment ∷ segments) (operation ∷ operations) shown =
       by_test true e later =
           let opcode = shown_opcode (codes "bm") segment operation shown.0 e in
           let bm : bm_of operation.operands ≡ operation = λ i. record { opcode = sym opcode i; operands = operation.operands } in
-          inr (operation.operands, in_same (operation ∷ operations) (bm_of operation.operands) operation bm (in_front operation operations), operand_words_shut operation.operands (behind segment) shown.0.operands)
-      by_test false e later = no_more_bm operation operations (words_behind (keys_text_in segments)) (shown_other_opcode (codes "bm") refl segment operation shown.0 e) later
+          inr (
+            operation.operands,
+            in_same (operation ∷ operations) (bm_of operation.operands) operation bm
+                (in_front operation operations),
+            operand_words_shut operation.operands (behind segment) shown.0.operands,
+          )
+      by_test false e later = no_more_bm operation operations (words_behind (keys_text_in segments))
+          (shown_other_opcode (codes "bm") refl segment operation shown.0 e) later
 
 pub claims_read : ClaimsRead
 unfolding claim_words claims_text

@@ -1,11 +1,13 @@
 -- A segment shows an operation: its opcode is the first word, and its operands stand behind.
-use Rattle.std.proofs.Common.{◌≡◌, ◌≢◌, ℕ, zero, suc, ◌==◌, nat_le, List, [], ◌∷◌, ◌++◌, true, false, length, refl, ap, sym, ◌∙◌, replicate, map, ◌&&◌}
+use Rattle.std.proofs.Common.{◌≡◌, ◌≢◌, ℕ, zero, suc, ◌==◌, nat_le, List, [], ◌∷◌, ◌++◌, true}
+use Rattle.std.proofs.Common.{false, length, refl, ap, sym, ◌∙◌, replicate, map, ◌&&◌}
 use Rattle.std.specs.List.{list_all}
 use Rattle.std.proofs.lemmas.Bool.{and_parts}
 use Rattle.chess_notation.specs.declared.quoting.Mode.TheVariants.{Plain}
 use Rattle.chess_notation.specs.Words.{word_at, behind}
 use Rattle.chess_notation.specs.Quoting.{fits_from, squeezed_from}
-use Rattle.chess_notation.specs.Operations.{is_letter, is_opcode_byte, is_opcode, AreWordBytes, Operand, SpellsOperands, operands_text, Operation, entry_of}
+use Rattle.chess_notation.specs.Operations.{is_letter, is_opcode_byte, is_opcode, AreWordBytes, Operand}
+use Rattle.chess_notation.specs.Operations.{SpellsOperands, operands_text, Operation, entry_of}
 use Rattle.chess_notation.specs.Opcodes.{same_text}
 use Rattle.chess_notation.specs.RecordFields.{entry_in}
 use Rattle.chess_notation.specs.Records.{HaveNoSpace, IsApart}
@@ -23,7 +25,8 @@ AreShown (segment ∷ segments) (operation ∷ operations) = IsShown segment ope
 AreShown _ _ = ⊥
 
 -- The segment shows an operation with this opcode, or with another one.
-pub shown_opcode : (opcode segment : List ℕ) (operation : Operation) → IsShown segment operation → same_text opcode (word_at segment) ≡ true → operation.opcode ≡ opcode
+pub shown_opcode : (opcode segment : List ℕ) (operation : Operation) → IsShown segment operation
+    → same_text opcode (word_at segment) ≡ true → operation.opcode ≡ opcode
 shown_opcode opcode segment operation shown h = sym shown.opcode ∙ sym (same_text_is opcode (word_at segment) h)
 
 pub shown_other_opcode : (opcode : List ℕ) → same_text opcode opcode ≡ true → (segment : List ℕ) (operation : Operation) → IsShown segment operation
@@ -34,15 +37,18 @@ shown_other_opcode opcode self segment operation shown h e =
 
 shown_entry : (segment : List ℕ) (operation : Operation) → IsShown segment operation → entry_in segment ≡ entry_of operation
 shown_entry segment operation h =
-    let operands : squeezed_from Plain (behind segment) ≡ operands_text operation.operands = (spelled_done operation.operands (behind segment) h.operands).plain_squeezed in
+    let operands : squeezed_from Plain (behind segment) ≡ operands_text operation.operands =
+    (spelled_done operation.operands (behind segment) h.operands).plain_squeezed in
     λ i. record { opcode = h.opcode i; operands = operands i }
 
-pub shown_entries : (segments : List (List ℕ)) (operations : List Operation) → AreShown segments operations → map entry_in segments ≡ map entry_of operations
+pub shown_entries : (segments : List (List ℕ)) (operations : List Operation) → AreShown segments operations
+    → map entry_in segments ≡ map entry_of operations
 shown_entries [] [] h = refl
 shown_entries [] (operation ∷ operations) h = absurd h
 shown_entries (segment ∷ segments) [] h = absurd h
 shown_entries (segment ∷ segments) (operation ∷ operations) h =
-    ap (λ e. e ∷ map entry_in segments) (shown_entry segment operation h.0) ∙ ap (λ es. entry_of operation ∷ es) (shown_entries segments operations h.1)
+    ap (λ e. e ∷ map entry_in segments) (shown_entry segment operation h.0)
+    ∙ ap (λ es. entry_of operation ∷ es) (shown_entries segments operations h.1)
 
 -- the bytes of an opcode
 opcode_byte_is_word : (b : ℕ) → is_opcode_byte b ≡ true → (b ≢ 32) × (b ≢ 34) × (b ≢ 59)
@@ -73,7 +79,8 @@ word_bytes_no_space [] bytes = tt
 word_bytes_no_space (b ∷ bs) bytes = (bytes.0, word_bytes_no_space bs bytes.3)
 
 -- the strings of a segment, behind its opcode
-pub opcode_fits : (n : ℕ) (word rest : List ℕ) → AreWordBytes word → word ≢ [] → fits_from Plain (replicate n 32 ++ (word ++ rest)) ≡ fits_from Plain rest
+pub opcode_fits : (n : ℕ) (word rest : List ℕ) → AreWordBytes word → word ≢ []
+    → fits_from Plain (replicate n 32 ++ (word ++ rest)) ≡ fits_from Plain rest
 opcode_fits zero word rest bytes some = (on_word word bytes).fits rest
 opcode_fits (suc n) [] rest bytes some = absurd (some refl)
 opcode_fits (suc n) (b ∷ bs) rest bytes some =

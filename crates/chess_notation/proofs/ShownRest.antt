@@ -49,16 +49,22 @@ differ_from opcode (segment ∷ segments) h = rw h.0 (differ_from opcode segment
 
 segments_distinct : (segments : List (List ℕ)) → AreDistinct (map entry_in segments) → are_distinct segments ≡ true
 segments_distinct [] h = refl
-segments_distinct (segment ∷ segments) h = let here : list_all (differs_from (word_at segment)) segments ≡ true = differ_from (word_at segment) segments h.0 in rw here (segments_distinct segments h.1)
+segments_distinct (segment ∷ segments) h = let here : list_all (differs_from (word_at segment)) segments ≡ true =
+    differ_from (word_at segment) segments h.0 in rw here (segments_distinct segments h.1)
 
-pub distinct_once : (segments : List (List ℕ)) (operations : List Operation) → AreShown segments operations → are_distinct segments ≡ true → AreOnce operations
-distinct_once segments operations shown h = once_from operations (subst AreDistinct (shown_entries segments operations shown) (shown_distinct segments h))
+pub distinct_once : (segments : List (List ℕ)) (operations : List Operation) → AreShown segments operations
+    → are_distinct segments ≡ true → AreOnce operations
+distinct_once segments operations shown h =
+    once_from operations (subst AreDistinct (shown_entries segments operations shown) (shown_distinct segments h))
 
-pub once_distinct : (segments : List (List ℕ)) (operations : List Operation) → AreShown segments operations → AreOnce operations → are_distinct segments ≡ true
-once_distinct segments operations shown once = segments_distinct segments (subst AreDistinct (sym (shown_entries segments operations shown)) (distinct_from operations once))
+pub once_distinct : (segments : List (List ℕ)) (operations : List Operation) → AreShown segments operations
+    → AreOnce operations → are_distinct segments ≡ true
+once_distinct segments operations shown once = segments_distinct segments
+    (subst AreDistinct (sym (shown_entries segments operations shown)) (distinct_from operations once))
 
 -- The rest has exactly the kept operations' entries.
-rest_has : (operations : List Operation) (entry : Entry) → Contains (inserted [] (kept_entries (map entry_of operations))) entry → IsKeptOf operations entry
+rest_has : (operations : List Operation) (entry : Entry)
+    → Contains (inserted [] (kept_entries (map entry_of operations))) entry → IsKeptOf operations entry
 rest_has operations entry h = elim (inserted_from [] (kept_entries (map entry_of operations)) entry h) [
   | inl none ↦ absurd (in_none entry none)
   | inr more ↦
@@ -67,16 +73,21 @@ rest_has operations entry h = elim (inserted_from [] (kept_entries (map entry_of
       (got.0, got.1, sym (ap (λ e. is_own e.opcode) got.2) ∙ kept.1, got.2)
 ]
 
-has_rest : (operations : List Operation) (entry : Entry) → IsKeptOf operations entry → Contains (inserted [] (kept_entries (map entry_of operations))) entry
+has_rest : (operations : List Operation) (entry : Entry) → IsKeptOf operations entry
+    → Contains (inserted [] (kept_entries (map entry_of operations))) entry
 has_rest operations entry h =
-    let inside : Contains (map entry_of operations) entry = subst (Contains (map entry_of operations)) (sym h.3) (in_map entry_of operations h.0 h.1) in
-    inserted_to [] (kept_entries (map entry_of operations)) entry (inr (kept_to (map entry_of operations) entry inside (ap (λ e. is_own e.opcode) h.3 ∙ h.2)))
+    let inside : Contains (map entry_of operations) entry =
+    subst (Contains (map entry_of operations)) (sym h.3) (in_map entry_of operations h.0 h.1) in
+    inserted_to [] (kept_entries (map entry_of operations)) entry
+    (inr (kept_to (map entry_of operations) entry inside (ap (λ e. is_own e.opcode) h.3 ∙ h.2)))
 
-rest_shown : (segments : List (List ℕ)) (operations : List Operation) → AreShown segments operations → rest_of segments ≡ inserted [] (kept_entries (map entry_of operations))
+rest_shown : (segments : List (List ℕ)) (operations : List Operation) → AreShown segments operations
+    → rest_of segments ≡ inserted [] (kept_entries (map entry_of operations))
 unfolding rest_of
 rest_shown segments operations shown = ap (inserted []) (kept_shown segments ∙ ap kept_entries (shown_entries segments operations shown))
 
-pub rest_is_kept : (segments : List (List ℕ)) (operations : List Operation) → AreShown segments operations → are_distinct segments ≡ true → IsRestOf operations (rest_of segments)
+pub rest_is_kept : (segments : List (List ℕ)) (operations : List Operation) → AreShown segments operations
+    → are_distinct segments ≡ true → IsRestOf operations (rest_of segments)
 rest_is_kept segments operations shown distinct =
     let same = rest_shown segments operations shown in (
       rest_rises segments distinct,
@@ -88,4 +99,5 @@ rest_is_kept segments operations shown distinct =
 
 -- It is the only such list.
 pub rest_once : (operations : List Operation) (rest other : List Entry) → IsRestOf operations rest → IsRestOf operations other → rest ≡ other
-rest_once operations rest other h k = rising_same rest other h.0 k.0 (λ entry inside. (k.1 entry).1 ((h.1 entry).0 inside)) (λ entry inside. (h.1 entry).1 ((k.1 entry).0 inside))
+rest_once operations rest other h k = rising_same rest other h.0 k.0 (λ entry inside. (k.1 entry).1 ((h.1 entry).0 inside))
+    (λ entry inside. (h.1 entry).1 ((k.1 entry).0 inside))

@@ -1,7 +1,8 @@
 -- Operations whose printed text spells them.
 use Rattle.std.proofs.Common.{◌≡◌, ℕ, List, [], ◌∷◌, ◌++◌, true, map, refl, ap, sym, ◌∙◌, subst, inl, inr, append_assoc, replicate}
 use Rattle.std.specs.List.{list_all}
-use Rattle.chess_notation.specs.Operations.{is_opcode, is_printable, Operand, operand_text, IsOperand, SpellsOperands, Operation, SpellsOperation, SpellsOperations, operands_text, entry_of}
+use Rattle.chess_notation.specs.Operations.{is_opcode, is_printable, Operand, operand_text, IsOperand, SpellsOperands}
+use Rattle.chess_notation.specs.Operations.{Operation, SpellsOperation, SpellsOperations, operands_text, entry_of}
 use Rattle.chess_notation.specs.Operations.Operand.{Word}
 use Rattle.chess_notation.specs.Answers.{entry_text, entries_text, operand_words}
 use Rattle.chess_notation.proofs.PlainBytes.{list_all-parts, list_all-both, plain_word_bytes, plain_all_printable, opcode_printable}
@@ -43,14 +44,16 @@ printed_operations (o ∷ os) each =
     let segment : list_all is_printable (32 ∷ (o.opcode ++ operands_text o.operands)) ≡ true =
     list_all-both is_printable o.opcode (operands_text o.operands) (opcode_printable o.opcode is.opcode) is.printable in
     list_all-both is_printable (entry_text (entry_of o)) (entries_text (map entry_of os))
-    (list_all-both is_printable (32 ∷ (o.opcode ++ operands_text o.operands)) (59 ∷ []) segment refl) (printed_operations os (Each-tail IsSpellable o os each))
+    (list_all-both is_printable (32 ∷ (o.opcode ++ operands_text o.operands)) (59 ∷ []) segment refl)
+    (printed_operations os (Each-tail IsSpellable o os each))
 
 -- Operations that a printable text spells are such.
 spellable_operands : (operands : List Operand) (text : List ℕ) → SpellsOperands text operands → list_all is_printable text ≡ true
     → AreOperands operands × (list_all is_printable (operands_text operands) ≡ true)
 spellable_operands [] text h printable = (tt, refl)
 spellable_operands (operand ∷ operands) text (more, rest, e, is, spelt) printable =
-    let parts = list_all-parts is_printable (32 ∷ replicate more 32) (operand_text operand ++ rest) (sym (ap (list_all is_printable) e) ∙ printable) in
+    let parts = list_all-parts is_printable (32 ∷ replicate more 32) (operand_text operand ++ rest)
+    (sym (ap (list_all is_printable) e) ∙ printable) in
     let token = list_all-parts is_printable (operand_text operand) rest parts.1 in
     let others = spellable_operands operands rest spelt token.1 in
     ((is, others.0), list_all-both is_printable (operand_text operand) (operands_text operands) token.0 others.1)
@@ -83,7 +86,8 @@ words_are_operands (word ∷ words) are = ((are.0.0, plain_word_bytes word are.0
 
 words_printable : (words : List (List ℕ)) → ArePlain words → list_all is_printable (operands_text (map Word words)) ≡ true
 words_printable [] are = refl
-words_printable (word ∷ words) are = list_all-both is_printable word (operands_text (map Word words)) (plain_all_printable word are.0.1) (words_printable words are.1)
+words_printable (word ∷ words) are = list_all-both is_printable word (operands_text (map Word words))
+    (plain_all_printable word are.0.1) (words_printable words are.1)
 
 words_text : (words : List (List ℕ)) → operands_text (map Word words) ≡ operand_words words
 words_text [] = refl
@@ -93,8 +97,10 @@ words_text (word ∷ words) = ap (λ t. 32 ∷ (word ++ t)) (words_text words)
 abbrev pub words_operation : List ℕ → List (List ℕ) → Operation
 words_operation opcode words = record { opcode = opcode; operands = map Word words }
 
-pub entry_of-words : (opcode : List ℕ) (words : List (List ℕ)) → entry_of (words_operation opcode words) ≡ record { opcode = opcode; operands = operand_words words }
+pub entry_of-words : (opcode : List ℕ) (words : List (List ℕ))
+    → entry_of (words_operation opcode words) ≡ record { opcode = opcode; operands = operand_words words }
 entry_of-words opcode words = ap (λ t. record { opcode = opcode; operands = t }) (words_text words)
 
-pub words_spellable : (opcode : List ℕ) (words : List (List ℕ)) → is_opcode opcode ≡ true → ArePlain words → IsSpellable (words_operation opcode words)
+pub words_spellable : (opcode : List ℕ) (words : List (List ℕ)) → is_opcode opcode ≡ true → ArePlain words
+    → IsSpellable (words_operation opcode words)
 words_spellable opcode words is are = record { opcode = is; operands = words_are_operands words are; printable = words_printable words are }

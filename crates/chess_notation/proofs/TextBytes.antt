@@ -8,7 +8,8 @@ use Rattle.chess_board.specs.Placement.{kind_letter}
 
 -- the kind that a letter says
 abbrev pub kind_said : ℕ → Option Kind
-kind_said b = cond (eqb b 80) (Some Pawn) (cond (eqb b 78) (Some Knight) (cond (eqb b 66) (Some Bishop) (cond (eqb b 82) (Some Rook) (cond (eqb b 81) (Some Queen) (cond (eqb b 75) (Some King) None)))))
+kind_said b = cond (eqb b 80) (Some Pawn) (cond (eqb b 78) (Some Knight) (cond (eqb b 66) (Some Bishop)
+    (cond (eqb b 82) (Some Rook) (cond (eqb b 81) (Some Queen) (cond (eqb b 75) (Some King) None)))))
 
 pub kind_said-letter : (kind : Kind) → kind_said (kind_letter kind) ≡ Some kind
 kind_said-letter Pawn = refl

@@ -27,7 +27,8 @@ length-wing_text QueenSide = omega arith
 pub length-man_text : (p : Setup) (place : Option Man) (m : Move) → length (man_text p place m) ≤ 6
 length-man_text p None m = omega arith
 length-man_text p (Some man) m = by_kind (is_pawn_kind man.kind) (is_castling man m) where
-  by_kind : (pawn castling : Bool) → length (if pawn then pawn_text p man m else (if castling then wing_text (wing_of m.origin m.target) else piece_text p man m)) ≤ 6
+  by_kind : (pawn castling : Bool) → length
+      (if pawn then pawn_text p man m else (if castling then wing_text (wing_of m.origin m.target) else piece_text p man m)) ≤ 6
   by_kind true castling = length-pawn_text p man m
   by_kind false true = omega (arith, length-wing_text (wing_of m.origin m.target))
   by_kind false false = length-piece_text p man m
@@ -46,4 +47,9 @@ length-suffix_text p = by_mark (is_mate p) (is_in_check p.men p.side) where
 
 pub length-san_text : (p : Setup) (m : Move) → length (san_text p m) ≤ 7
 unfolding san_text
-length-san_text p m = omega (arith, length-append (bare_text p m) (suffix_text (after_setup p m)), length-bare_text p m, length-suffix_text (after_setup p m))
+length-san_text p m = omega (
+  arith,
+  length-append (bare_text p m) (suffix_text (after_setup p m)),
+  length-bare_text p m,
+  length-suffix_text (after_setup p m),
+)

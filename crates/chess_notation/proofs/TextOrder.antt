@@ -64,7 +64,8 @@ comes_before_or_after [] [] other after = cc
 comes_before_or_after [] (y ∷ ys) other after = refl
 comes_before_or_after (x ∷ xs) [] other after = cc
 comes_before_or_after (x ∷ xs) (y ∷ ys) other after = by_tests (nat_lt x y) (x == y) refl refl other after (comes_before_or_after xs ys) where
-  by_tests : (less same : Bool) → nat_lt x y ≡ less → (x == y) ≡ same → (same && same_text xs ys) ≡ false → (nat_lt y x || ((y == x) && comes_before ys xs)) ≡ false
+  by_tests : (less same : Bool) → nat_lt x y ≡ less → (x == y) ≡ same → (same && same_text xs ys) ≡ false
+      → (nat_lt y x || ((y == x) && comes_before ys xs)) ≡ false
       → (same_text xs ys ≡ false → comes_before ys xs ≡ false → comes_before xs ys ≡ true) → (less || (same && comes_before xs ys)) ≡ true
   by_tests true same l s other after later = refl
   by_tests false true l s other after later =

@@ -1,5 +1,6 @@
 -- A text tells what it is without its suffix.
-use Rattle.std.proofs.Common.{◌≡◌, ◌∙◌, ℕ, Bool, true, false, List, [], ◌∷◌, ◌++◌, append-nil, ltb, Option, Some, None, codes, if◌then◌else◌, refl, ap}
+use Rattle.std.proofs.Common.{◌≡◌, ◌∙◌, ℕ, Bool, true, false, List, [], ◌∷◌, ◌++◌, append-nil}
+use Rattle.std.proofs.Common.{ltb, Option, Some, None, codes, if◌then◌else◌, refl, ap}
 use Rattle.std.proofs.lemmas.List.Elements.{filter-append}
 use Rattle.chess_board.specs.declared.men.Man.{Man}
 use Rattle.chess_board.specs.declared.men.Wing.{Wing}
@@ -30,7 +31,8 @@ unmarked-wing_text QueenSide = refl
 unmarked-man_text : (p : Setup) (place : Option Man) (m : Move) → unmarked (man_text p place m) ≡ man_text p place m
 unmarked-man_text p None m = refl
 unmarked-man_text p (Some man) m = by_kind (is_pawn_kind man.kind) (is_castling man m) where
-  by_kind : (pawn castling : Bool) → unmarked (if pawn then pawn_text p man m else (if castling then wing_text (wing_of m.origin m.target) else piece_text p man m))
+  by_kind : (pawn castling : Bool) → unmarked
+      (if pawn then pawn_text p man m else (if castling then wing_text (wing_of m.origin m.target) else piece_text p man m))
       ≡ (if pawn then pawn_text p man m else (if castling then wing_text (wing_of m.origin m.target) else piece_text p man m))
   by_kind true castling = unmarked-pawn_form (is_capture p man m) m.origin m.target m.promotion
   by_kind false true = unmarked-wing_text (wing_of m.origin m.target)

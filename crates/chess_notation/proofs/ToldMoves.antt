@@ -1,5 +1,7 @@
 -- The move that a word tells: there is one at most, and each text of a legal move tells it.
-use Rattle.std.proofs.Common.{◌≡◌, ℕ, zero, suc, ◌+◌, ◌-◌, ◌<◌, Bool, true, false, ◌||◌, cond, List, [], ◌∷◌, ◌++◌, length, slice_index, get_or, take, ltb, All, Some, None, codes, if◌then◌else◌, find, refl, sym, ap, subst, ◌∙◌, inl, inr, arith, append-nil}
+use Rattle.std.proofs.Common.{◌≡◌, ℕ, zero, suc, ◌+◌, ◌-◌, ◌<◌, Bool, true, false, ◌||◌, cond, List, [], ◌∷◌}
+use Rattle.std.proofs.Common.{◌++◌, length, slice_index, get_or, take, ltb, All, Some, None, codes, if◌then◌else◌}
+use Rattle.std.proofs.Common.{find, refl, sym, ap, subst, ◌∙◌, inl, inr, arith, append-nil}
 use Rattle.std.specs.Prelude.{Contains}
 use Rattle.std.proofs.lemmas.Bool.{or_cases}
 use Rattle.std.proofs.lemmas.Bool.Decides.{nat_tests}
@@ -23,7 +25,8 @@ use Rattle.chess_notation.proofs.TextSuffixes.{unmarked-bare_text}
 use Rattle.chess_notation.proofs.CoordinateTexts.{no_coordinates, without_suffix-coordinates, coordinates_same}
 
 -- What is found in a list.
-pub find_here : {X : Type 0} (f : X → Bool) (xs : List X) (i : ℕ) (d : X) → i < length xs → find f (take i xs) ≡ None → f (get_or xs i d) ≡ true → find f xs ≡ Some (get_or xs i d)
+pub find_here : {X : Type 0} (f : X → Bool) (xs : List X) (i : ℕ) (d : X) → i < length xs → find f (take i xs) ≡ None
+    → f (get_or xs i d) ≡ true → find f xs ≡ Some (get_or xs i d)
 find_here f [] i d on none passes = absurd (omega arith)
 find_here f (x ∷ xs) zero d on none passes = rw passes
 find_here f (x ∷ xs) (suc i) d on none passes = (elim (f x) as (λ b. f x ≡ b → find f (x ∷ xs) ≡ Some (get_or xs i d)) [
@@ -31,7 +34,8 @@ find_here f (x ∷ xs) (suc i) d on none passes = (elim (f x) as (λ b. f x ≡ 
   | false ↦ λ t. let n = rw t at none in rw t (find_here f xs i d (omega arith) n passes)
 ]) refl
 
-find_none_suc : {X : Type 0} (f : X → Bool) (xs : List X) (i : ℕ) (d : X) → i < length xs → find f (take i xs) ≡ None → f (get_or xs i d) ≡ false → find f (take (suc i) xs) ≡ None
+find_none_suc : {X : Type 0} (f : X → Bool) (xs : List X) (i : ℕ) (d : X) → i < length xs → find f (take i xs) ≡ None
+    → f (get_or xs i d) ≡ false → find f (take (suc i) xs) ≡ None
 find_none_suc f [] i d on none fails = absurd (omega arith)
 find_none_suc f (x ∷ xs) zero d on none fails = rw fails
 find_none_suc f (x ∷ xs) (suc i) d on none fails = (elim (f x) as (λ b. f x ≡ b → find f (x ∷ take (suc i) xs) ≡ None) [
@@ -40,11 +44,14 @@ find_none_suc f (x ∷ xs) (suc i) d on none fails = (elim (f x) as (λ b. f x �
 ]) refl
 
 -- one more element that fails
-pub find_none_more : {X : Type 0} (f : X → Bool) (xs : List X) (i : ℕ) (d : X) → i < length xs → find f (take i xs) ≡ None → f (get_or xs i d) ≡ false → find f (take (i + 1) xs) ≡ None
-find_none_more f xs i d on none fails = let e : suc i ≡ i + 1 = omega arith in subst (λ k. find f (take k xs) ≡ None) e (find_none_suc f xs i d on none fails)
+pub find_none_more : {X : Type 0} (f : X → Bool) (xs : List X) (i : ℕ) (d : X) → i < length xs → find f (take i xs) ≡ None
+    → f (get_or xs i d) ≡ false → find f (take (i + 1) xs) ≡ None
+find_none_more f xs i d on none fails = let e : suc i ≡ i + 1 = omega arith in
+    subst (λ k. find f (take k xs) ≡ None) e (find_none_suc f xs i d on none fails)
 
 -- the only one that passes is found
-find_only : {X : Type 0} (f : X → Bool) (xs : List X) (x : X) → Contains xs x → f x ≡ true → ((y : X) → Contains xs y → f y ≡ true → y ≡ x) → find f xs ≡ Some x
+find_only : {X : Type 0} (f : X → Bool) (xs : List X) (x : X) → Contains xs x → f x ≡ true
+    → ((y : X) → Contains xs y → f y ≡ true → y ≡ x) → find f xs ≡ Some x
 find_only f [] x among passes only = absurd (in_none x among)
 find_only f (y ∷ ys) x among passes only = (elim (f y) as (λ b. f y ≡ b → cond b (Some y) (find f ys) ≡ Some x) [
   | true ↦ λ is. ap Some (only y (in_front y ys) is)

@@ -1,5 +1,6 @@
 -- The words of a text, one after the other.
-use Rattle.std.proofs.Common.{◌≡◌, ◌≢◌, ℕ, zero, suc, ◌<◌, ◌≤◌, ◌+◌, ◌==◌, Bool, if◌then◌else◌, List, [], ◌∷◌, ◌++◌, true, false, refl, ap, sym, ◌∙◌, arith, replicate, filter, length, append-nil}
+use Rattle.std.proofs.Common.{◌≡◌, ◌≢◌, ℕ, zero, suc, ◌<◌, ◌≤◌, ◌+◌, ◌==◌, Bool, if◌then◌else◌, List, [], ◌∷◌, ◌++◌}
+use Rattle.std.proofs.Common.{true, false, refl, ap, sym, ◌∙◌, arith, replicate, filter, length, append-nil}
 use Rattle.std.specs.List.{All, slice_split}
 use Rattle.std.proofs.lemmas.List.Elements.{All-nil, All-cons}
 use Rattle.std.proofs.lemmas.List.Splits.{slice_split_none, slice_split_at}
@@ -31,10 +32,12 @@ words_spaces (suc n) text = words_spaces n text
 pub words_front : (word rest : List ℕ) → HaveNoSpace word → word ≢ [] → IsApart rest → words_in (word ++ rest) ≡ word ∷ words_in rest
 unfolding words_in
 words_front word [] bytes some apart =
-    ap (λ t. filter is_word (slice_split is_space t)) (append-nil word) ∙ ap (filter is_word) (slice_split_none is_space word (no_spaces word bytes)) ∙ word_kept word [] some
+    ap (λ t. filter is_word (slice_split is_space t)) (append-nil word)
+    ∙ ap (filter is_word) (slice_split_none is_space word (no_spaces word bytes)) ∙ word_kept word [] some
 words_front word (b ∷ rest) bytes some apart =
     let space : is_space b ≡ true = ap is_space apart in
-    let cut : slice_split is_space (word ++ b ∷ rest) ≡ word ∷ slice_split is_space rest = slice_split_at is_space word b rest (no_spaces word bytes) space in
+    let cut : slice_split is_space (word ++ b ∷ rest) ≡ word ∷ slice_split is_space rest =
+    slice_split_at is_space word b rest (no_spaces word bytes) space in
     let behind : filter is_word (slice_split is_space (b ∷ rest)) ≡ filter is_word (slice_split is_space rest) = rw apart refl in
     ap (filter is_word) cut ∙ word_kept word (slice_split is_space rest) some ∙ ap (λ ws. word ∷ ws) (sym behind)
 
@@ -55,7 +58,8 @@ word_some text solid = solid_word text solid
 pub words_next : (text : List ℕ) → is_blank text ≡ false → words_in text ≡ word_at text ∷ words_in (behind text)
 words_next text solid =
     let split = words_split text in
-    ap words_in split.1 ∙ words_spaces split.0 (word_at text ++ behind text) ∙ words_front (word_at text) (behind text) (word_no_space text) (word_some text solid) split.2
+    ap words_in split.1 ∙ words_spaces split.0 (word_at text ++ behind text)
+    ∙ words_front (word_at text) (behind text) (word_no_space text) (word_some text solid) split.2
 
 pub no_words : (n : ℕ) → words_in (replicate n 32) ≡ []
 unfolding words_in

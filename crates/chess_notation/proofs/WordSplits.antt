@@ -1,5 +1,6 @@
 -- A text is spaces, a word and what follows it, and a word that is spelled so is found.
-use Rattle.std.proofs.Common.{◌≡◌, ◌≢◌, ℕ, zero, suc, ◌==◌, List, [], ◌∷◌, ◌++◌, Bool, true, false, refl, ap, sym, ◌∙◌, arith, replicate, if◌then◌else◌}
+use Rattle.std.proofs.Common.{◌≡◌, ◌≢◌, ℕ, zero, suc, ◌==◌, List, [], ◌∷◌, ◌++◌, Bool, true}
+use Rattle.std.proofs.Common.{false, refl, ap, sym, ◌∙◌, arith, replicate, if◌then◌else◌}
 use Rattle.std.proofs.lemmas.Bool.Decides.{nat_tests}
 use Rattle.std.proofs.lemmas.Bool.{and_parts, eqb-true}
 use Rattle.std.proofs.lemmas.List.{append-nil}
@@ -20,7 +21,8 @@ spaces_split : (text : List ℕ) → (n : ℕ) × (text ≡ replicate n 32 ++ af
 spaces_split [] = (0, refl)
 spaces_split (b ∷ bs) = spaces_split_at (b == 32) b bs refl (spaces_split bs)
 
-word_split_at : (space : Bool) (b : ℕ) (bs : List ℕ) → (b == 32) ≡ space → bs ≡ front_word bs ++ after_word bs → b ∷ bs ≡ front_word (b ∷ bs) ++ after_word (b ∷ bs)
+word_split_at : (space : Bool) (b : ℕ) (bs : List ℕ) → (b == 32) ≡ space → bs ≡ front_word bs ++ after_word bs
+    → b ∷ bs ≡ front_word (b ∷ bs) ++ after_word (b ∷ bs)
 word_split_at true b bs s rest = rw s refl
 word_split_at false b bs s rest = rw s (ap (λ t. b ∷ t) rest)
 
@@ -28,7 +30,8 @@ word_split : (text : List ℕ) → text ≡ front_word text ++ after_word text
 word_split [] = refl
 word_split (b ∷ bs) = word_split_at (b == 32) b bs refl (word_split bs)
 
-after_word_apart_at : (space : Bool) (b : ℕ) (bs : List ℕ) → (b == 32) ≡ space → IsApart (after_word bs) → IsApart (if space then b ∷ bs else after_word bs)
+after_word_apart_at : (space : Bool) (b : ℕ) (bs : List ℕ) → (b == 32) ≡ space → IsApart (after_word bs)
+    → IsApart (if space then b ∷ bs else after_word bs)
 after_word_apart_at true b bs s rest = eqb-true b 32 s
 after_word_apart_at false b bs s rest = rest
 
@@ -61,7 +64,8 @@ both_parts p xs ys h = and_parts (list_all p xs) (list_all p ys) (sym (list_all-
 pub all_behind : (p : ℕ → Bool) (text : List ℕ) → list_all p text ≡ true → list_all p (behind text) ≡ true
 all_behind p text h =
     let split = words_split text in
-    (both_parts p (word_at text) (behind text) (both_parts p (replicate split.0 32) (word_at text ++ behind text) (sym (ap (list_all p) split.1) ∙ h)).1).1
+    (both_parts p (word_at text) (behind text)
+    (both_parts p (replicate split.0 32) (word_at text ++ behind text) (sym (ap (list_all p) split.1) ∙ h)).1).1
 
 -- A blank text is spaces.
 pub spaces_blank : (n : ℕ) → is_blank (replicate n 32) ≡ true
@@ -99,7 +103,8 @@ pub record IsNext (text word rest : List ℕ) : Type 0 where
   pub word_is : word_at text ≡ word
   pub rest_is : behind text ≡ rest
 
-pub word_again : (n : ℕ) (text word rest : List ℕ) → text ≡ replicate n 32 ++ (word ++ rest) → HaveNoSpace word → word ≢ [] → IsApart rest → IsNext text word rest
+pub word_again : (n : ℕ) (text word rest : List ℕ) → text ≡ replicate n 32 ++ (word ++ rest) → HaveNoSpace word
+    → word ≢ [] → IsApart rest → IsNext text word rest
 unfolding word_at behind
 word_again n text word rest e bytes some apart =
     let there : after_spaces text ≡ word ++ rest = ap after_spaces e ∙ spaces_over n (word ++ rest) ∙ no_spaces_over word rest bytes some in

@@ -50,13 +50,25 @@ length_entry n = record { opcode = codes "dm"; operands = operand_words (decimal
 abbrev pub line_entry : Setup → List Move → Entry
 line_entry p moves = record { opcode = codes "pv"; operands = operand_words (line_texts p moves) }
 
+abbrev pub comment_entry : List ℕ → ℕ → List ℕ → Entry
+comment_entry front n back =
+    record { opcode = codes "c0"; operands = operand_words ((char "\"" ∷ (front ++ (decimal n ++ (back ++ codes "\"")))) ∷ []) }
+
 abbrev pub none_entry : ℕ → Entry
-none_entry bound = record { opcode = codes "c0"; operands = operand_words ((codes "\"no mate in " ++ decimal bound ++ codes "\"") ∷ []) }
+none_entry bound = comment_entry (codes "no mate in ") bound []
+
+abbrev pub undecided_entry : ℕ → Entry
+undecided_entry seconds = comment_entry (codes "not decided in ") seconds (codes " s")
 
 -- the operations of an answer: those that the record keeps, and those of the outcome, each at its place
 abbrev pub answer_entries : RecordValue → Outcome → List Entry
-answer_entries r (Mate dm keys pv) = with_entry (keys_entry r.position keys.items) (with_entry (length_entry dm) (with_entry (line_entry r.position pv.items) r.rest))
+answer_entries r (Mate dm keys pv) = with_entry (keys_entry r.position keys.items)
+    (with_entry (length_entry dm) (with_entry (line_entry r.position pv.items) r.rest))
 answer_entries r NoMate = with_entry (none_entry r.bound) r.rest
 
 unfoldable pub answer_text : RecordValue → Outcome → List ℕ
 answer_text r outcome = position_text r.position ++ entries_text (answer_entries r outcome)
+
+-- the answer to a record whose problem was not decided in so many seconds
+unfoldable pub undecided_text : RecordValue → ℕ → List ℕ
+undecided_text r seconds = position_text r.position ++ entries_text (with_entry (undecided_entry seconds) r.rest)

@@ -1,6 +1,7 @@
 -- What a line claims of its keys in `bm` (PGN Specification, section 16.2.5). Each operand claims a move, read as those of `am` are, or
 -- `#N`, a mate in N moves. That `#N` may stand there is own to this project.
-use Rattle.std.specs.Prelude.{◌≡◌, ◌≢◌, ◌⊎◌, ℕ, ◌==◌, nat_le, nat_lt, List, [], ◌∷◌, length, map, replicate, drop, codes, Contains, Bool, false, not, ◌&&◌, ◌||◌, Option, Some, None, if◌then◌else◌}
+use Rattle.std.specs.Prelude.{◌≡◌, ◌≢◌, ◌⊎◌, ℕ, ◌==◌, nat_le, nat_lt, List, [], ◌∷◌, length, map, replicate, drop}
+use Rattle.std.specs.Prelude.{codes, Contains, Bool, false, not, ◌&&◌, ◌||◌, Option, Some, None, if◌then◌else◌}
 use Rattle.std.specs.List.{list_all}
 use Rattle.std.specs.Option.{option_map_or}
 use Rattle.chess_board.specs.Characters.{char}
@@ -70,7 +71,8 @@ length_value word = digits_value (drop 1 word)
 -- the first length that is claimed, where it is a bound, or else the default
 abbrev pub length_claimed : List (List ℕ) → ℕ → ℕ
 length_claimed [] default = default
-length_claimed (word ∷ words) default = if is_length word then option_map_or (λ bound. bound) (bound_of (length_value word)) default else length_claimed words default
+length_claimed (word ∷ words) default = if is_length word then option_map_or (λ bound. bound)
+    (bound_of (length_value word)) default else length_claimed words default
 
 abbrev pub is_some_if_length : List ℕ → Bool
 is_some_if_length word = not (is_length word) || nat_lt 0 (length_value word)

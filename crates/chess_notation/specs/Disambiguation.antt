@@ -39,5 +39,6 @@ origin_text on_file on_rank square =
 abbrev pub disambiguation_text : Setup → Man → Move → List ℕ
 disambiguation_text p man m =
     if some_rival p man m (λ n. true)
-    then origin_text (some_rival p man m (λ n. file_of n.origin == file_of m.origin)) (some_rival p man m (λ n. rank_of n.origin == rank_of m.origin)) m.origin
+    then origin_text (some_rival p man m (λ n. file_of n.origin == file_of m.origin))
+    (some_rival p man m (λ n. rank_of n.origin == rank_of m.origin)) m.origin
     else []

@@ -7,7 +7,9 @@ use Rattle.chess_board.specs.Faults.{IsFirst, field_faults, fault_name}
 use Rattle.chess_board.specs.Positions.{Setup}
 use Rattle.chess_board.specs.Fens.{SpellsSetup, IsAmiss}
 use Rattle.chess_notation.specs.declared.epd_faults.EpdFault.{EpdFault}
-use Rattle.chess_notation.specs.declared.epd_faults.EpdFault.TheVariants.{TooLong, NotPrintable, Fen, BadOpcode, BadString, MissingSemicolon, DoubleOpcode, BadBound, BoundTooLarge, BadAvoid, NoMemory}
+use Rattle.chess_notation.specs.declared.epd_faults.EpdFault.TheVariants.{TooLong, NotPrintable, Fen, BadOpcode, BadString}
+use Rattle.chess_notation.specs.declared.epd_faults.EpdFault.TheVariants.{MissingSemicolon, DoubleOpcode, BadBound, BoundTooLarge}
+use Rattle.chess_notation.specs.declared.epd_faults.EpdFault.TheVariants.{BadAvoid, NoMemory}
 use Rattle.chess_notation.specs.Words.{word_at, behind, is_blank, words_in}
 use Rattle.chess_notation.specs.Segments.{Segments}
 use Rattle.chess_notation.specs.Quoting.{strings_fit}

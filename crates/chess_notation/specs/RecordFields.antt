@@ -22,7 +22,12 @@ fourth_word line = word_at (behind (behind (behind line)))
 
 -- the first four words
 unfoldable pub line_fields : List ℕ → Fields
-line_fields line = record { placement = word_at line; side = word_at (behind line); castling = word_at (behind (behind line)); target = fourth_word line }
+line_fields line = record {
+  placement = word_at line;
+  side = word_at (behind line);
+  castling = word_at (behind (behind line));
+  target = fourth_word line;
+}
 
 -- what follows the four fields
 unfoldable pub behind_fields : List ℕ → List ℕ

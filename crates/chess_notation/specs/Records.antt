@@ -55,7 +55,8 @@ field_words f = f.placement ∷ f.side ∷ f.castling ∷ f.target ∷ []
 -- Operations stand behind the fields, or behind FEN's two counters.
 abbrev pub SpellsRest : List ℕ → List Operation → Type 0
 SpellsRest text operations = SpellsOperations text operations
-    ⊎ ((halfmove : List ℕ) × (fullmove : List ℕ) × (tail : List ℕ) × SpellsWords IsCounter text (halfmove ∷ fullmove ∷ []) tail × SpellsOperations tail operations)
+    ⊎ ((halfmove : List ℕ) × (fullmove : List ℕ) × (tail : List ℕ)
+    × SpellsWords IsCounter text (halfmove ∷ fullmove ∷ []) tail × SpellsOperations tail operations)
 
 -- Each opcode stands once.
 abbrev pub AreOnce : List Operation → Type 0

@@ -7,7 +7,9 @@ ghost use Rattle.chess_notation.specs.Operations.{Entry};
 ghost use Rattle.chess_notation.specs.Opcodes.{IsBelow};
 ghost use Rattle.chess_notation.specs.SanText.{san_text};
 ghost use Rattle.chess_notation.specs.inside.Merging.{with_entries};
-ghost use Rattle.chess_notation.specs.Answers.{entry_text, entries_text, with_text, in_order, operand_words, line_texts, keys_entry, length_entry, line_entry, none_entry, answer_text as answer_text_of};
+ghost use Rattle.chess_notation.specs.Answers.{entry_text, entries_text, with_text, in_order, operand_words, line_texts, keys_entry};
+ghost use Rattle.chess_notation.specs.Answers.{length_entry, line_entry, none_entry, comment_entry, undecided_entry};
+ghost use Rattle.chess_notation.specs.Answers.{answer_text as answer_text_of, undecided_text as undecided_text_of};
 ghost use Rattle.chess_problems.specs.Outcomes.{AreLegal, IsPlayable};
 
 use crate::opcodes::comes_before;
@@ -199,14 +201,30 @@ fn push_line(
     Ok(())
 }
 
-/// Adds `c0`, the comment that there is no mate.
-fn push_none(alloc: Global, text: &mut String, bound: Bound) -> Result<(), AllocError>
-    ensures { OnOk result (string_bytes text.new ≡ string_bytes text.old ++ entry_text (none_entry bound)) }
+/// Adds `c0`, a comment with a number between two texts.
+fn push_comment(
+    alloc: Global,
+    text: &mut String,
+    front: &str,
+    number: u32,
+    back: &str,
+) -> Result<(), AllocError>
+    ensures { OnOk result (string_bytes text.new ≡ string_bytes text.old ++ entry_text (comment_entry front.now number back.now)) }
 {
-    text.push_str(" c0 \"no mate in ")?;
-    text.push_str(bound.get().to_string(alloc)?.as_str())?;
+    text.push_str(" c0 \"")?;
+    text.push_str(front)?;
+    text.push_str(number.to_string(alloc)?.as_str())?;
+    text.push_str(back)?;
     text.push_str("\";")?;
     Ok(())
+}
+
+/// A mate to tell of: its length, its keys and its line.
+#[derive(Clone, Copy)]
+struct Mate<'a> {
+    dm: Bound,
+    keys: &'a [Move],
+    pv: &'a [Move],
 }
 
 /// Adds the operations of a mate, each at its place among those that the record keeps.
@@ -215,31 +233,53 @@ fn push_mate(
     text: &mut String,
     rays: &Rays,
     record: &Record,
-    dm: Bound,
-    keys: &[Move],
-    pv: &[Move],
+    mate: Mate,
 ) -> Result<(), AllocError>
-    requires keys { AreLegal «record».now.position keys.now }
-    requires line { IsLine «record».now.position pv.now }
+    requires keys { AreLegal «record».now.position mate.keys.now }
+    requires line { IsLine «record».now.position mate.pv.now }
     ensures { OnOk result (string_bytes text.new ≡ string_bytes text.old
-        ++ entries_text (with_entries (keys_entry «record».now.position keys.now ∷ length_entry dm ∷ line_entry «record».now.position pv.now ∷ []) «record».now.rest)) }
+        ++ entries_text (with_entries (keys_entry «record».now.position mate.entry.keys.now ∷ length_entry mate.entry.dm
+        ∷ line_entry «record».now.position mate.entry.pv.now ∷ []) «record».now.rest)) }
 {
     let left = push_until(text, b"bm", record.rest.as_slice())?;
-    push_keys(alloc, text, rays, &record.position, keys)?;
+    push_keys(alloc, text, rays, &record.position, mate.keys)?;
     let left = push_until(text, b"dm", left)?;
-    push_length(alloc, text, dm)?;
+    push_length(alloc, text, mate.dm)?;
     let left = push_until(text, b"pv", left)?;
-    push_line(text, rays, &record.position, pv)?;
+    push_line(text, rays, &record.position, mate.pv)?;
     push_operations(text, left)?;
     Ok(())
 }
 
 /// Adds the operation of no mate at its place among those that the record keeps.
 fn push_no_mate(alloc: Global, text: &mut String, record: &Record) -> Result<(), AllocError>
-    ensures { OnOk result (string_bytes text.new ≡ string_bytes text.old ++ entries_text (with_entries (none_entry «record».now.bound ∷ []) «record».now.rest)) }
+    ensures { OnOk result (string_bytes text.new ≡ string_bytes text.old
+        ++ entries_text (with_entries (none_entry «record».now.bound ∷ []) «record».now.rest)) }
 {
     let left = push_until(text, b"c0", record.rest.as_slice())?;
-    push_none(alloc, text, record.bound)?;
+    push_comment(
+        alloc,
+        text,
+        "no mate in ",
+        u32::from(record.bound.get()),
+        "",
+    )?;
+    push_operations(text, left)?;
+    Ok(())
+}
+
+/// Adds the operation of a problem that was not decided in so many seconds, at its place among those that the record keeps.
+fn push_undecided(
+    alloc: Global,
+    text: &mut String,
+    record: &Record,
+    seconds: u32,
+) -> Result<(), AllocError>
+    ensures { OnOk result (string_bytes text.new ≡ string_bytes text.old
+        ++ entries_text (with_entries (undecided_entry seconds ∷ []) «record».now.rest)) }
+{
+    let left = push_until(text, b"c0", record.rest.as_slice())?;
+    push_comment(alloc, text, "not decided in ", seconds, " s")?;
     push_operations(text, left)?;
     Ok(())
 }
@@ -266,11 +306,26 @@ pub fn answer_text(
             &mut text,
             rays,
             record,
-            *dm,
-            keys.as_slice(),
-            pv.as_slice(),
+            Mate {
+                dm: *dm,
+                keys: keys.as_slice(),
+                pv: pv.as_slice(),
+            },
         )?,
         Outcome::NoMate => push_no_mate(alloc, &mut text, record)?,
     }
+    Ok(text)
+}
+
+/// The text that answers a record whose problem was not decided in so many seconds: the four fields of its position, and then in
+/// ASCII order of opcode the operations that it keeps and `c0`, which says so and claims nothing of the problem. Only a growth that is
+/// refused is an error.
+#[tactic(auto, unfolding(crate::specs::Answers::undecided_text))]
+pub fn undecided_text(alloc: Global, record: &Record, seconds: u32) -> Result<String, NoMemory>
+    ensures { IfOk result (λ text. string_bytes text ≡ undecided_text_of «record».now seconds) }
+{
+    let mut text = String::new(alloc);
+    text.push_str(record.position.text().as_str())?;
+    push_undecided(alloc, &mut text, record, seconds)?;
     Ok(text)
 }

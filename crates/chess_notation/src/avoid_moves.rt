@@ -1,30 +1,21 @@
 //! The moves that a line asks to avoid: the legal moves that the operands of `am` name.
 
-ghost use Rattle.std.specs.Prelude.{◌≡◌, ℕ, ◌≤◌, List, length, map, filter, true, false, not, ◌&&◌, IfSome, IfNone};
+ghost use Rattle.std.specs.Prelude.{◌≡◌, ◌≤◌, length, true, false, IfSome, IfNone};
 ghost use Rattle.std.specs.List.{list_any, list_all};
-ghost use Rattle.chess_moves.specs.inside.Listing.{legal_moves};
-ghost use Rattle.chess_notation.specs.SanText.{bare_text};
-ghost use Rattle.chess_notation.specs.Words.{words_in, is_blank as is_blank_text};
+ghost use Rattle.chess_notation.specs.Words.{words_in};
 ghost use Rattle.chess_notation.specs.Opcodes.{same_text};
 ghost use Rattle.chess_notation.specs.Records.{max_line};
-ghost use Rattle.chess_notation.specs.AvoidMoves.{is_suffix as is_suffix_byte, without_suffix as text_without_suffix, named};
+ghost use Rattle.chess_notation.specs.AvoidMoves.{is_suffix as is_suffix_byte, without_suffix as text_without_suffix};
+ghost use Rattle.chess_notation.specs.AvoidMoves.{names, is_name as does_name, named};
 ghost use Rattle.chess_notation.specs.EpdFaults.{are_names as do_words_name};
 
 use crate::opcodes::is_same_text;
 use crate::san_laws::bare_texts_apart;
 use crate::san_text::bare;
 use crate::words::{is_blank, word_at};
-use arrayvec::{ArrayString, ArrayVec};
 use chess_board::{Move, Position};
-use chess_moves::{Rays, legal, legal_listed, legal_rise};
+use chess_moves::{Rays, legal_listed, legal_moves, legal_rise};
 use chess_problems::AvoidList;
-
-/// A legal move and its text without the suffix.
-#[derive(Clone, Copy, Default)]
-pub(crate) struct Named {
-    pub(crate) m: Move,
-    pub(crate) text: ArrayString<8>,
-}
 
 /// Whether a byte is `+` or `#`.
 fn is_suffix(byte: u8) -> bool
@@ -45,43 +36,29 @@ pub(crate) fn without_suffix(word: &[u8]) -> &[u8]
     }
 }
 
-/// The legal moves with their texts.
-pub(crate) fn legal_names(rays: &Rays, position: &Position) -> ArrayVec<Named, 1024>
-    ensures moves { map (λ n. n.m) result.items ≡ legal_moves position.now }
-    ensures texts { map (λ n. n.text.bytes) result.items ≡ map (bare_text position.now) (legal_moves position.now) }
+/// Whether the word names a legal move. No list of moves is made.
+#[tactic(auto, unfolding(crate::specs::AvoidMoves::is_name))]
+pub(crate) fn is_name(rays: &Rays, position: &Position, word: &[u8]) -> bool
+    ensures { result ≡ does_name position.now word.now }
 {
-    let mut names = ArrayVec::new();
-    for m in legal(rays, position).as_slice() {
-        names.push(Named {
-            m: *m,
-            text: bare(rays, position, *m),
-        });
-    }
-    names
-}
-
-/// Whether the word names one of these moves.
-pub(crate) fn is_name(word: &[u8], names: &[Named]) -> bool
-    ensures { result ≡ list_any (λ n. same_text (text_without_suffix word.now) n.text.bytes) names.now }
-{
-    let bare = without_suffix(word);
-    for name in names {
-        if is_same_text(bare, name.text.as_str().as_bytes()) {
+    let text = without_suffix(word);
+    for m in legal_moves(rays, position) {
+        if is_same_text(text, bare(rays, position, m).as_str().as_bytes()) {
             return true;
         }
     }
     false
 }
 
-/// Whether each word names one of these moves.
+/// Whether each word names a legal move.
 #[tactic(auto, using(crate::proofs::WordLists::words_next, crate::proofs::WordLists::words_none, crate::proofs::WordLists::behind_shorter))]
-fn are_all_names(words: &[u8], names: &[Named]) -> bool
-    ensures { result ≡ list_all (λ word. list_any (λ n. same_text (text_without_suffix word) n.text.bytes) names.now) (words_in words.now) }
+fn are_all_names(rays: &Rays, position: &Position, words: &[u8]) -> bool
+    ensures { result ≡ list_all (does_name position.now) (words_in words.now) }
 {
     let mut rest = words;
     while !is_blank(rest) {
         let (word, back) = word_at(rest);
-        if !is_name(word, names) {
+        if !is_name(rays, position, word) {
             return false;
         }
         rest = back;
@@ -89,12 +66,11 @@ fn are_all_names(words: &[u8], names: &[Named]) -> bool
     true
 }
 
-/// Whether there are words, each of which names one of these moves.
-fn are_names(words: &[u8], names: &[Named]) -> bool
-    ensures { result ≡ (not (is_blank_text words.now)
-        && list_all (λ word. list_any (λ n. same_text (text_without_suffix word) n.text.bytes) names.now) (words_in words.now)) }
+/// Whether there are words, each of which names a legal move.
+fn are_names(rays: &Rays, position: &Position, words: &[u8]) -> bool
+    ensures { result ≡ do_words_name position.now words.now }
 {
-    !is_blank(words) && are_all_names(words, names)
+    !is_blank(words) && are_all_names(rays, position, words)
 }
 
 /// Whether a word names the move with this text.
@@ -113,15 +89,23 @@ pub(crate) fn have_name(words: &[u8], text: &[u8]) -> bool
     false
 }
 
-/// Those of these moves that a word names.
-fn moves_named(words: &[u8], names: &[Named]) -> AvoidList
-    requires { length (filter (λ n. list_any (λ word. same_text (text_without_suffix word) n.text.bytes) (words_in words.now)) names.now) ≤ 341 }
-    ensures { result.items ≡ map (λ n. n.m) (filter (λ n. list_any (λ word. same_text (text_without_suffix word) n.text.bytes) (words_in words.now)) names.now) }
+/// Whether one of the words names this legal move.
+pub(crate) fn is_named(rays: &Rays, position: &Position, words: &[u8], m: Move) -> bool
+    ensures { result ≡ list_any (λ word. names position.now word m) (words_in words.now) }
+{
+    have_name(words, bare(rays, position, m).as_str().as_bytes())
+}
+
+/// The legal moves that a word names.
+#[tactic(auto, unfolding(crate::specs::AvoidMoves::named))]
+fn moves_named(rays: &Rays, position: &Position, words: &[u8]) -> AvoidList
+    requires few { length (named position.now (words_in words.now)) ≤ 341 }
+    ensures { result.items ≡ named position.now (words_in words.now) }
 {
     let mut moves = AvoidList::new();
-    for name in names {
-        if have_name(words, name.text.as_str().as_bytes()) {
-            moves.push(name.m);
+    for m in legal_moves(rays, position) {
+        if is_named(rays, position, words, m) {
+            moves.push(m);
         }
     }
     moves
@@ -140,9 +124,8 @@ pub(crate) fn named_moves(rays: &Rays, position: &Position, words: &[u8]) -> Opt
     legal_listed();
     legal_rise();
     bare_texts_apart();
-    let names = legal_names(rays, position);
-    if are_names(words, names.as_slice()) {
-        Some(moves_named(words, names.as_slice()))
+    if are_names(rays, position, words) {
+        Some(moves_named(rays, position, words))
     } else {
         None
     }

@@ -1,22 +1,24 @@
 //! What a line claims of its keys: the operands of `bm`, moves and lengths.
 
-ghost use Rattle.std.specs.Prelude.{◌≡◌, ◌≤◌, ◌||◌, length, map, filter, min, IfOk, IfErr, OnOk, Some, None};
-ghost use Rattle.std.specs.List.{list_all, list_any};
+ghost use Rattle.std.specs.Prelude.{◌≡◌, min, IfOk, IfErr, OnOk, Some, None};
+ghost use Rattle.std.specs.List.{list_all};
 ghost use Rattle.chess_problems.specs.Outcomes.{AreLegal};
 ghost use Rattle.chess_notation.specs.Words.{words_in};
 ghost use Rattle.chess_notation.specs.Segments.{segments_of};
-ghost use Rattle.chess_notation.specs.Opcodes.{same_text};
-ghost use Rattle.chess_notation.specs.AvoidMoves.{without_suffix, named};
-ghost use Rattle.chess_notation.specs.Claims.{claim_fault_name, is_keys_segment as is_keys_of, keys_text_in, shut_byte as shut_byte_of, shut_from, claims_text as claims_text_of, is_length as is_length_word, length_value, length_claimed, is_some_if_length as is_some_length, is_small_if_length as is_small_length, claims_fault};
+ghost use Rattle.chess_notation.specs.AvoidMoves.{named};
+ghost use Rattle.chess_notation.specs.Claims.{claim_fault_name, is_keys_segment as is_keys_of, keys_text_in, shut_byte as shut_byte_of};
+ghost use Rattle.chess_notation.specs.Claims.{shut_from, claims_text as claims_text_of, is_length as is_length_word, length_value};
+ghost use Rattle.chess_notation.specs.Claims.{length_claimed, is_some_if_length as is_some_length, is_small_if_length as is_small_length};
+ghost use Rattle.chess_notation.specs.Claims.{is_claim as is_claim_of, claims_fault};
 
-use crate::avoid_moves::{Named, have_name, is_name, legal_names};
+use crate::avoid_moves::{is_name, is_named};
 use crate::opcodes::is_same_text;
 use crate::problem_operations::capped_value;
 use crate::record_fields::{is_number, operations_in};
 use crate::segments::{first_segment, inside_after};
 use crate::words::{is_blank, word_at};
 use chess_board::Position;
-use chess_moves::{MoveList, Rays, legal_listed};
+use chess_moves::{MoveList, Rays, legal_moves};
 use chess_problems::Bound;
 use std::alloc::{AllocError, Global};
 use thiserror::Error;
@@ -177,22 +179,22 @@ fn are_small_lengths(words: &[u8]) -> bool
     true
 }
 
-/// Whether a word is a length or names one of these moves.
-fn is_claim(word: &[u8], names: &[Named]) -> bool
-    ensures { result ≡ (is_length_word word.now || list_any (λ n. same_text (without_suffix word.now) n.text.bytes) names.now) }
+/// Whether a word is a length or names a legal move.
+fn is_claim(rays: &Rays, position: &Position, word: &[u8]) -> bool
+    ensures { result ≡ is_claim_of position.now word.now }
 {
-    is_length(word) || is_name(word, names)
+    is_length(word) || is_name(rays, position, word)
 }
 
-/// Whether each word is a length or names one of these moves.
+/// Whether each word is a length or names a legal move.
 #[tactic(auto, using(crate::proofs::WordLists::words_next, crate::proofs::WordLists::words_none, crate::proofs::WordLists::behind_shorter))]
-fn are_claims(words: &[u8], names: &[Named]) -> bool
-    ensures { result ≡ list_all (λ word. is_length_word word || list_any (λ n. same_text (without_suffix word) n.text.bytes) names.now) (words_in words.now) }
+fn are_claims(rays: &Rays, position: &Position, words: &[u8]) -> bool
+    ensures { result ≡ list_all (is_claim_of position.now) (words_in words.now) }
 {
     let mut rest = words;
     while !is_blank(rest) {
         let (word, back) = word_at(rest);
-        if !is_claim(word, names) {
+        if !is_claim(rays, position, word) {
             return false;
         }
         rest = back;
@@ -200,22 +202,22 @@ fn are_claims(words: &[u8], names: &[Named]) -> bool
     true
 }
 
-/// Those of these moves that a word names.
-fn moves_claimed(words: &[u8], names: &[Named]) -> MoveList
-    requires { length names.now ≤ 1024 }
-    ensures { result.items ≡ map (λ n. n.m) (filter (λ n. list_any (λ word. same_text (without_suffix word) n.text.bytes) (words_in words.now)) names.now) }
+/// The legal moves that a word names.
+#[tactic(auto, unfolding(crate::specs::AvoidMoves::named))]
+fn moves_claimed(rays: &Rays, position: &Position, words: &[u8]) -> MoveList
+    ensures { result.items ≡ named position.now (words_in words.now) }
 {
     let mut moves = MoveList::new();
-    for name in names {
-        if have_name(words, name.text.as_str().as_bytes()) {
-            moves.push(name.m);
+    for m in legal_moves(rays, position) {
+        if is_named(rays, position, words, m) {
+            moves.push(m);
         }
     }
     moves
 }
 
-/// The legal moves that are claimed, in the order of moves, or the first fault of the claims. It stands by itself, so that its lists
-/// take no room where a problem is solved.
+/// The legal moves that are claimed, in the order of moves, or the first fault of the claims. It stands by itself, so that its list
+/// takes no room where a problem is solved.
 #[inline(never)]
 pub fn claimed_moves(rays: &Rays, position: &Position, words: &[u8]) -> Result<MoveList, ClaimFault>
     ensures moves { IfOk result (λ moves. moves.items ≡ named position.now (words_in words.now)) }
@@ -229,9 +231,8 @@ pub fn claimed_moves(rays: &Rays, position: &Position, words: &[u8]) -> Result<M
     if !are_small_lengths(words) {
         return Err(ClaimFault::BoundTooLarge);
     }
-    let names = legal_names(rays, position);
-    if !are_claims(words, names.as_slice()) {
+    if !are_claims(rays, position, words) {
         return Err(ClaimFault::NoSuchMove);
     }
-    Ok(moves_claimed(words, names.as_slice()))
+    Ok(moves_claimed(rays, position, words))
 }

@@ -11,7 +11,8 @@ ghost use Rattle.chess_notation.specs.Segments.{segments_of};
 ghost use Rattle.chess_notation.specs.Quoting.{strings_fit as do_strings_fit};
 ghost use Rattle.chess_notation.specs.Words.{word_at as word_of_text};
 ghost use Rattle.chess_notation.specs.RecordFields.{line_fields, operations_in as text_of_operations};
-ghost use Rattle.chess_notation.specs.EpdFaults.{epd_fault_name, each_segment, has_opcode as does_have_opcode, differs_from, are_distinct, fault_number, IsAmissBy, IsFaultOf};
+ghost use Rattle.chess_notation.specs.EpdFaults.{epd_fault_name, each_segment, has_opcode as does_have_opcode, differs_from};
+ghost use Rattle.chess_notation.specs.EpdFaults.{are_distinct, fault_number, IsAmissBy, IsFaultOf};
 ghost use Rattle.chess_notation.specs.inside.RecordReading.{IsClearTo};
 
 use crate::opcodes::{is_opcode, is_same_text};

@@ -5,7 +5,7 @@
 //! `records` and `record_reading`, over `epd_faults` (the faults of a line, in their order), `words`, `record_fields`, `segments` (operations
 //! cut at their semicolons), `quoting`, `opcodes`, `problem_operations` (what `dm` and `am` ask), `avoid_moves`, `claims` (what `bm` says) and
 //! `operations`; at last `specs/Answers.antt` and `answers`. `san_laws` and `record_laws` say what holds of them. Only `read_record`,
-//! `claims_text`, `listed_text` and `answer_text` take memory.
+//! `claims_text`, `listed_text`, `answer_text` and `undecided_text` take memory.
 #![tactic(auto)]
 
 mod answers;
@@ -27,7 +27,7 @@ mod san_text;
 mod segments;
 mod words;
 
-pub use answers::{answer_text, listed_text};
+pub use answers::{answer_text, listed_text, undecided_text};
 pub use byte_streams::NoMemory;
 pub use chess_problems::{AvoidList, Bound, Outcome, Problem, Variation};
 pub use claims::{ClaimFault, bound_claimed, claimed_moves, claims_text};

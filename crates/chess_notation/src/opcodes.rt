@@ -2,7 +2,8 @@
 
 ghost use Rattle.std.specs.Prelude.{◌≡◌};
 ghost use Rattle.std.specs.List.{list_all};
-ghost use Rattle.chess_notation.specs.Operations.{is_letter as is_letter_byte, is_digit as is_digit_byte, is_opcode_byte as is_byte_of_opcode, is_opcode as is_opcode_text};
+ghost use Rattle.chess_notation.specs.Operations.{is_letter as is_letter_byte, is_digit as is_digit_byte};
+ghost use Rattle.chess_notation.specs.Operations.{is_opcode_byte as is_byte_of_opcode, is_opcode as is_opcode_text};
 ghost use Rattle.chess_notation.specs.Opcodes.{same_text, comes_before as does_come_before, is_own as is_own_opcode};
 
 pub(crate) fn is_digit(byte: u8) -> bool

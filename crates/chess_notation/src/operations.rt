@@ -1,6 +1,7 @@
 //! The operations that a record keeps, in ASCII order of opcode.
 
-ghost use Rattle.std.specs.Prelude.{◌≡◌, ◌≢◌, ℕ, ◌<◌, ◌≤◌, ◌++◌, ◌∷◌, List, [], IfOk, OnOk, OnErr, string_bytes, length, IsTrue, true, false, if◌then◌else◌};
+ghost use Rattle.std.specs.Prelude.{◌≡◌, ◌≢◌, ℕ, ◌<◌, ◌≤◌, ◌++◌, ◌∷◌, List, [], IfOk, OnOk, OnErr};
+ghost use Rattle.std.specs.Prelude.{string_bytes, length, IsTrue, true, false, if◌then◌else◌};
 ghost use Rattle.std.specs.List.{list_all, insert};
 ghost use Rattle.chess_notation.specs.Words.{word_at as word_of_text};
 ghost use Rattle.chess_notation.specs.Segments.{segments_of};

@@ -5,7 +5,9 @@ ghost use Rattle.std.specs.List.{list_all};
 ghost use Rattle.chess_board.specs.Fields.{digits_value};
 ghost use Rattle.chess_notation.specs.Words.{word_at as word_of_text, behind};
 ghost use Rattle.chess_notation.specs.Segments.{segments_of};
-ghost use Rattle.chess_notation.specs.EpdFaults.{is_bound_segment as is_bound_of, is_avoid_segment as is_avoid_of, has_number as does_have_number, has_number_if_bound, is_small_if_bound};
+ghost use Rattle.chess_notation.specs.EpdFaults.{is_bound_segment as is_bound_of, is_avoid_segment as is_avoid_of};
+ghost use Rattle.chess_notation.specs.EpdFaults.{has_number as does_have_number, has_number_if_bound};
+ghost use Rattle.chess_notation.specs.EpdFaults.{is_small_if_bound};
 ghost use Rattle.chess_notation.specs.inside.RecordReading.{bound_said, avoid_text_in};
 
 use crate::opcodes::is_same_text;

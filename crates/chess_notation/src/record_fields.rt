@@ -4,7 +4,8 @@ ghost use Rattle.std.specs.Prelude.{◌≡◌};
 ghost use Rattle.std.specs.List.{list_all};
 ghost use Rattle.chess_board.specs.Fens.{Fields};
 ghost use Rattle.chess_notation.specs.Operations.{is_digit as is_digit_byte, is_printable as is_printable_byte};
-ghost use Rattle.chess_notation.specs.RecordFields.{is_number as is_number_text, is_counter as is_counter_text, line_fields, behind_fields, behind_counters as text_behind_counters, operations_in as text_of_operations};
+ghost use Rattle.chess_notation.specs.RecordFields.{is_number as is_number_text, is_counter as is_counter_text, line_fields, behind_fields};
+ghost use Rattle.chess_notation.specs.RecordFields.{behind_counters as text_behind_counters, operations_in as text_of_operations};
 
 use crate::opcodes::is_digit;
 use crate::words::word_at;

@@ -46,7 +46,8 @@ fn record_of(
     ensures names { OnOk result (list_all (has_names_if_avoid position) (segments_of text.now).ended ≡ true) }
     ensures refused { IfErr result (λ fault.
         ((fault ≡ EpdFault.BadAvoid) × (list_all (has_names_if_avoid position) (segments_of text.now).ended ≡ false))
-        ⊎ ((fault ≡ EpdFault.NoMemory) × ((list_all (has_names_if_avoid position) (segments_of text.now).ended ≡ true) × (rest_of (segments_of text.now).ended ≢ [])))) }
+        ⊎ ((fault ≡ EpdFault.NoMemory) × ((list_all (has_names_if_avoid position) (segments_of text.now).ended ≡ true)
+        × (rest_of (segments_of text.now).ended ≢ [])))) }
 {
     // That the moves to avoid rise rests on this law.
     legal_rise();
@@ -81,7 +82,8 @@ pub fn read_record(
 ) -> Result<Record, EpdFault>
     ensures reads { IfOk result (λ r. Reads line.now default r) }
     ensures only { IfOk result (λ r. (other : RecordValue) → Reads line.now default other → r ≡ other) }
-    ensures refused { IfErr result (λ fault. IsFaultOf line.now fault ⊎ ((fault ≡ EpdFault.NoMemory) × ((r : RecordValue) × Reads line.now default r × (r.rest ≢ [])))) }
+    ensures refused { IfErr result (λ fault. IsFaultOf line.now fault
+        ⊎ ((fault ≡ EpdFault.NoMemory) × ((r : RecordValue) × Reads line.now default r × (r.rest ≢ [])))) }
 {
     // That the fields spell no other position, and what words name, rest on these laws.
     spells_one();

@@ -25,7 +25,8 @@ impl Model for Operation {
     ghost view = { λ o. record { opcode = o.opcode.bytes; operands = string_bytes o.operands } };
 }
 
-/// What a line of EPD says (PGN Specification, section 16.2): the position, the bound within which mate is asked for, the first moves to avoid, and the operations that
+/// What a line of EPD says (PGN Specification, section 16.2): the position, the bound within which mate is asked for, the first
+/// moves to avoid, and the operations that
 /// an answer copies. The moves rise by origin, then target, then promotion, each once. The operations rise by opcode, without
 /// repeats and without those that an answer writes itself: `bm`, `c0`, `dm` and `pv`.
 #[derive(Drop)]

@@ -3,7 +3,8 @@
 ghost use Rattle.std.specs.Prelude.{◌≡◌, ◌+◌, ◌++◌, ◌<◌, ◌≤◌, true};
 ghost use Rattle.arrayvec.specs.ArrayString.{array_string_len};
 ghost use Rattle.chess_board.specs.Legality.{is_legal};
-ghost use Rattle.chess_notation.specs.SanText.{is_capture as is_capture_in, becomes_text, pawn_text, piece_text, wing_text, bare_text, suffix_text, san_text};
+ghost use Rattle.chess_notation.specs.SanText.{is_capture as is_capture_in, becomes_text, pawn_text, piece_text};
+ghost use Rattle.chess_notation.specs.SanText.{wing_text, bare_text, suffix_text, san_text};
 
 use crate::disambiguation::{push_disambiguation, rivals_of};
 use arrayvec::ArrayString;

@@ -1,7 +1,8 @@
 //! A text cut at each semicolon outside a string.
 
 ghost use Rattle.std.specs.Prelude.{◌≡◌, ◌<◌, ◌++◌, ◌∷◌, length, [], IfSome, IfNone};
-ghost use Rattle.chess_notation.specs.Segments.{Segments, segments_of, with_segment, ends_segment as does_end_segment, inside_after as is_inside_after};
+ghost use Rattle.chess_notation.specs.Segments.{Segments, segments_of, with_segment, ends_segment as does_end_segment};
+ghost use Rattle.chess_notation.specs.Segments.{inside_after as is_inside_after};
 
 fn ends_segment(is_inside: bool, byte: u8) -> bool
     ensures { result ≡ does_end_segment is_inside byte }

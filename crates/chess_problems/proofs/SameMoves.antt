@@ -36,7 +36,8 @@ same_move_is m n h =
     let each = and_parts (m.origin == n.origin) (m.target == n.target) squares.0 in
     let origin : m.origin ≡ n.origin = eqb-true m.origin n.origin each.0 in
     let target : m.target ≡ n.target = eqb-true m.target n.target each.1 in
-    let promotion : m.promotion ≡ n.promotion = promotion_is m.promotion n.promotion (eqb-true (promotion_place m.promotion) (promotion_place n.promotion) squares.1) in
+    let promotion : m.promotion ≡ n.promotion =
+    promotion_is m.promotion n.promotion (eqb-true (promotion_place m.promotion) (promotion_place n.promotion) squares.1) in
     λ i. record { origin = origin i; target = target i; promotion = promotion i }
 
 pub same_move_self : (m : Move) → is_same_move m m ≡ true

@@ -39,6 +39,7 @@ same_reads law p q ps qs = (
       same_parts p q ((law p.position q.position ps qs).0 parts.0) (grind (arith, nat_tests, parts.1)) (same_list_is p.avoid q.avoid both.1)),
   (λ e.
       let bound : (p.bound == q.bound) ≡ true = grind (arith, nat_tests, ap (λ (r : ProblemValue). r.bound) e) in
-      let avoid : are_same_moves p.avoid q.avoid ≡ true = ap (λ (r : ProblemValue). are_same_moves p.avoid r.avoid) (sym e) ∙ same_list_self p.avoid in
+      let avoid : are_same_moves p.avoid q.avoid ≡ true =
+      ap (λ (r : ProblemValue). are_same_moves p.avoid r.avoid) (sym e) ∙ same_list_self p.avoid in
       and_holds _ _ (and_holds _ _ ((law p.position q.position ps qs).1 (ap (λ (r : ProblemValue). r.position) e)) bound) avoid),
 )

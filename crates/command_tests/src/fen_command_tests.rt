@@ -197,9 +197,11 @@ fn a_board_is_seen_from_either_side(rt: HostRuntime) -> Result<(), Fail> {
     let alloc = rt.alloc();
     let fen = "7k/8/5K2/8/8/8/8/6R1 b - - 0 1";
     let white =
-        "8  . . . . . . . k\n7  . . . . . . . .\n6  . . . . . K . .\n5  . . . . . . . .\n4  . . . . . . . .\n3  . . . . . . . .\n2  . . . . . . . .\n1  . . . . . . R .\n   a b c d e f g h\n";
+        "8  . . . . . . . k\n7  . . . . . . . .\n6  . . . . . K . .\n5  . . . . . . . .\n4  . . . . . . . .\n\
+        3  . . . . . . . .\n2  . . . . . . . .\n1  . . . . . . R .\n   a b c d e f g h\n";
     let black =
-        "1  . R . . . . . .\n2  . . . . . . . .\n3  . . . . . . . .\n4  . . . . . . . .\n5  . . . . . . . .\n6  . . K . . . . .\n7  . . . . . . . .\n8  k . . . . . . .\n   h g f e d c b a\n";
+        "1  . R . . . . . .\n2  . . . . . . . .\n3  . . . . . . . .\n4  . . . . . . . .\n5  . . . . . . . .\n\
+        6  . . K . . . . .\n7  . . . . . . . .\n8  k . . . . . . .\n   h g f e d c b a\n";
     for (words, board) in [
         (["look", "--board", fen, ""], white),
         (["look", fen, "--flip", "--board"], black),

@@ -34,7 +34,9 @@ fn each_line_is_answered_in_its_place(rt: HostRuntime) -> Result<(), Fail> {
         ("bad", "8/8"),
     ];
     let board =
-        "7k/8/5K2/8/8/8/8/R7 w - - 0 1\nno check\n8  . . . . . . . k\n7  . . . . . . . .\n6  . . . . . K . .\n5  . . . . . . . .\n4  . . . . . . . .\n3  . . . . . . . .\n2  . . . . . . . .\n1  R . . . . . . .\n   a b c d e f g h\nWhite to move\n";
+        "7k/8/5K2/8/8/8/8/R7 w - - 0 1\nno check\n8  . . . . . . . k\n7  . . . . . . . .\n6  . . . . . K . .\n\
+        5  . . . . . . . .\n4  . . . . . . . .\n3  . . . . . . . .\n2  . . . . . . . .\n1  R . . . . . . .\n   a b c d e f g h\n\
+        White to move\n";
     let rows = [
         ("look --lines lines", ALWAYS, 1, LOOKS),
         ("moves --lines lines", ALWAYS, 1, MOVES),

@@ -16,7 +16,8 @@ map_remove texts n =
 map_insert : (texts : List (Bor Text)) (n : ℕ) (text : Bor Text) → texts_of (insert texts n text) ≡ insert (texts_of texts) n text.now
 map_insert texts n text =
     map-append (λ (s : Bor Text). s.now) (take n texts) (text ∷ drop n texts)
-    ∙ ap₂ (λ (a b : List Text). a ++ text.now ∷ b) (sym (take-map (λ (s : Bor Text). s.now) n texts)) (sym (drop-map (λ (s : Bor Text). s.now) n texts))
+    ∙ ap₂ (λ (a b : List Text). a ++ text.now ∷ b) (sym (take-map (λ (s : Bor Text). s.now) n texts))
+    (sym (drop-map (λ (s : Bor Text). s.now) n texts))
 
 pub joined_no : (texts : List (Bor Text)) → None ≡ mark_of (texts_of texts) → texts_of texts ≡ joined (texts_of texts)
 unfolding joined

@@ -1,5 +1,6 @@
 -- What a parse says of what its words ask for, of any command line that is simple.
-use Rattle.std.proofs.Common.{◌≡◌, ◌≢◌, ◌∙◌, ◌||◌, Bool, List, [], ◌∷◌, None, Result, Ok, Err, refl, ap, sym, subst, true, false, inl, inr, IfOk, IfErr}
+use Rattle.std.proofs.Common.{◌≡◌, ◌≢◌, ◌∙◌, ◌||◌, Bool, List, [], ◌∷◌, None, Result, Ok, Err}
+use Rattle.std.proofs.Common.{refl, ap, sym, subst, true, false, inl, inr, IfOk, IfErr}
 use Rattle.std.specs.List.{list_all, list_any}
 use Rattle.std.proofs.Math.Bool.{and-false}
 use Rattle.std.specs.Prelude.{option_and_then}
@@ -66,7 +67,8 @@ not_all_display k [] among other = absurd among
 not_all_display k (x ∷ xs) (inl same) other = rw (← same, other) refl
 not_all_display k (x ∷ xs) (inr among) other = rw (not_all_display k xs among other) (and-false (is_display x))
 
-misuse_where : (kinds : Kinds) (e : Error) → HasKind kinds e → kind_of e ≢ kind.OutOfMemory → is_display (kind_of e) ≡ false → all_display kinds ≡ false
+misuse_where : (kinds : Kinds) (e : Error) → HasKind kinds e → kind_of e ≢ kind.OutOfMemory
+    → is_display (kind_of e) ≡ false → all_display kinds ≡ false
 misuse_where kinds e (inl memory) known other = absurd (known memory)
 misuse_where [] e (inr among) known other = refl
 misuse_where (k ∷ ks) e (inr among) known other = not_all_display (kind_of e) (k ∷ ks) among other
@@ -79,11 +81,14 @@ misuse_here a words (Err e) fails = misuse_where (fault_of a words) e fails
 pub misuse_at_err : (app a : App) → app ≡ a → (words : List Text) (r : Result ArgMatches Error) → FailsBy (fault_of app words) r
     → IfErr r (λ e. kind_of e ≢ kind.OutOfMemory → is_display (kind_of e) ≡ false → asks_display_in a words ≡ false)
 misuse_at_err app a same words r fails =
-    subst (λ (x : App). IfErr r (λ e. kind_of e ≢ kind.OutOfMemory → is_display (kind_of e) ≡ false → asks_display_in x words ≡ false)) same (misuse_here app words r fails)
+    subst (λ (x : App). IfErr r (λ e. kind_of e ≢ kind.OutOfMemory → is_display (kind_of e) ≡ false
+    → asks_display_in x words ≡ false)) same (misuse_here app words r fails)
 
-clear_here : (a : App) (words : List Text) (r : Result ArgMatches Error) → FailsBy (fault_of a words) r → IfOk r (λ _. asks_display_in a words ≡ false)
+clear_here : (a : App) (words : List Text) (r : Result ArgMatches Error) → FailsBy (fault_of a words) r
+    → IfOk r (λ _. asks_display_in a words ≡ false)
 clear_here a words (Ok m) fails = ap all_display fails
 clear_here a words (Err e) fails = tt
 
-pub clear_at_ok : (app a : App) → app ≡ a → (words : List Text) (r : Result ArgMatches Error) → FailsBy (fault_of app words) r → IfOk r (λ _. asks_display_in a words ≡ false)
+pub clear_at_ok : (app a : App) → app ≡ a → (words : List Text) (r : Result ArgMatches Error) → FailsBy (fault_of app words) r
+    → IfOk r (λ _. asks_display_in a words ≡ false)
 clear_at_ok app a same words r fails = subst (λ (x : App). IfOk r (λ _. asks_display_in x words ≡ false)) same (clear_here app words r fails)

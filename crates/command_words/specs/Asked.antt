@@ -1,5 +1,6 @@
 -- What the words of a command line ask for.
-use Rattle.std.specs.Prelude.{ℕ, ◌^◌, ◌==◌, ◌&&◌, Bool, List, [], ◌∷◌, Option, None, Some, true, false, codes, length, nat_lt, option_map, option_and_then, unwrap_or, if◌then◌else◌}
+use Rattle.std.specs.Prelude.{ℕ, ◌^◌, ◌==◌, ◌&&◌, Bool, List, [], ◌∷◌, Option, None, Some, true, false, codes}
+use Rattle.std.specs.Prelude.{length, nat_lt, option_map, option_and_then, unwrap_or, if◌then◌else◌}
 use Rattle.std.specs.List.{list_all, list_any}
 use Rattle.std.specs.Option.{option_map_or}
 use Rattle.std.specs.Char.{digit_value}
@@ -15,29 +16,35 @@ use Rattle.chess_board.specs.declared.men.Colour.TheVariants.{White, Black}
 use Rattle.chess_problems.specs.Problems.{bound_of}
 use Rattle.command_words.specs.CommandLine.{desk_app}
 use Rattle.command_words.specs.Limits.{depth_of}
-use Rattle.command_words.specs.Limits.{memo_size_of, workers_of}
+use Rattle.command_words.specs.Limits.{line_number_of, memo_size_of, workers_of}
 use Rattle.command_words.specs.LineCommands.{given}
 use Rattle.command_words.specs.declared.request.LineView.{LineView}
 use Rattle.command_words.specs.declared.request.LineView.TheVariants as shown
 use Rattle.command_words.specs.declared.request.MoveForm.{MoveForm}
 use Rattle.command_words.specs.declared.request.TreeForm.{TreeForm}
+use Rattle.command_words.specs.declared.request.SheetForm.{SheetForm}
 use Rattle.command_words.specs.declared.request.MoveForm.TheVariants.{San, Coordinates, SanFen, SanCoordinatesFen}
 
 -- a command with its arguments
 pub data Asked : Type 0 where
   look : Text → Asked
   board : Text → Colour → Asked
+  svg : Text → Asked
   play : Text → List Text → Asked
   moves : MoveForm → Text → Asked
   perft : Text → ℕ → Asked
   divide : Text → ℕ → Asked
   lines : LineView → List Text → Asked
-  solve : ℕ → ℕ → List Text → Asked
-  verify : ℕ → ℕ → List Text → Asked
-  tree : ℕ → TreeForm → List Text → Asked
+  solve : ℕ → ℕ → ℕ → List Text → Asked
+  limited : ℕ → ℕ → ℕ → ℕ → List Text → Asked
+  verify : ℕ → ℕ → ℕ → List Text → Asked
+  tree : ℕ → TreeForm → ℕ → List Text → Asked
+  sheet : ℕ → ℕ → SheetForm → Text → List Text → Asked
+  imports : Bool → List Text → Asked
   serve : ℕ → ℕ → ℕ → List Text → Asked
   replay : Text → Asked
   explain : Option Text → Asked
+  uci : Asked
 
 -- the number that a word stands for, which `clap` has read; none above the depths that are counted
 abbrev pub depth_in : List Row → Option ℕ
@@ -55,12 +62,17 @@ workers_in rows = workers_of (option_map_or byte_or_zero (one_of (codes "N") row
 abbrev pub number_or_zero : Text → ℕ
 number_or_zero text =
     let digits = without_leading_plus text in
-    if nat_lt 0 (length digits) && list_all (λ d. nat_lt (digit_value d) 10) digits && nat_lt (digits_value 10 digits) (2 ^ 32) then digits_value 10 digits
+    if nat_lt 0 (length digits) && list_all (λ d. nat_lt (digit_value d) 10) digits
+    && nat_lt (digits_value 10 digits) (2 ^ 32) then digits_value 10 digits
     else 0
 
 -- the number of `--memo`; none outside the numbers of entries of a memo
 abbrev pub memo_size_in : List Row → Option ℕ
 memo_size_in rows = memo_size_of (option_map_or number_or_zero (one_of (codes "M") rows) 0)
+
+-- the number of `--from`; none outside the numbers of lines
+abbrev pub from_in : List Row → Option ℕ
+from_in rows = line_number_of (option_map_or number_or_zero (one_of (codes "K") rows) 0)
 
 -- an option without a value is given: `clap` has the value `true` for it then, and else `false`
 abbrev pub is_given : Text → List Row → Bool
@@ -72,7 +84,8 @@ side_in rows = if is_given (codes "flip") rows then Black else White
 
 abbrev pub look_at : List Row → Text → Option Asked
 look_at rows fen =
-    if is_given (codes "board") rows then Some (board fen (side_in rows))
+    if is_given (codes "svg") rows then Some (svg fen)
+    else if is_given (codes "board") rows then Some (board fen (side_in rows))
     else if is_given (codes "flip") rows then None
     else Some (look fen)
 
@@ -111,17 +124,32 @@ look_lines_in rows = lines_in (if is_given (codes "board") rows then shown.Board
 abbrev pub perft_lines_in : List Row → Option Asked
 perft_lines_in rows = option_and_then (λ depth. lines_in (shown.Perft depth) rows) (depth_in rows)
 
--- what the arguments of `solve` ask for
-abbrev pub solve_in : List Row → Option Asked
-solve_in rows = option_and_then (λ bound. option_and_then (λ memo. option_map (λ names. solve bound memo names) (all_of (codes "FILE") rows)) (memo_size_in rows)) (bound_in rows)
-
--- what the arguments of `verify` ask for
-abbrev pub verify_in : List Row → Option Asked
-verify_in rows = option_and_then (λ bound. option_and_then (λ memo. option_map (λ names. verify bound memo names) (all_of (codes "FILE") rows)) (memo_size_in rows)) (bound_in rows)
-
 -- a number from 1 on, or none, for which 0 stands
 abbrev pub some_number : ℕ → Option ℕ
 some_number n = if n == 0 then None else Some n
+
+-- the seconds of `--limit`, or none
+abbrev pub limit_in : List Row → Option ℕ
+limit_in rows = some_number (option_map_or number_or_zero (one_of (codes "S") rows) 0)
+
+-- what `solve` asks for: of each record so many seconds at most, or as long as it takes
+abbrev pub solve_at : Option ℕ → ℕ → ℕ → ℕ → List Text → Asked
+solve_at None bound memo from names = solve bound memo from names
+solve_at (Some seconds) bound memo from names = limited seconds bound memo from names
+
+-- what the arguments of `solve` ask for
+abbrev pub solve_in : List Row → Option Asked
+solve_in rows =
+    option_and_then (λ bound. option_and_then
+    (λ memo. option_and_then (λ from. option_map (λ names. solve_at (limit_in rows) bound memo from names) (all_of (codes "FILE") rows))
+    (from_in rows)) (memo_size_in rows)) (bound_in rows)
+
+-- what the arguments of `verify` ask for
+abbrev pub verify_in : List Row → Option Asked
+verify_in rows =
+    option_and_then (λ bound. option_and_then
+    (λ memo. option_and_then (λ from. option_map (λ names. verify bound memo from names) (all_of (codes "FILE") rows))
+    (from_in rows)) (memo_size_in rows)) (bound_in rows)
 
 -- what is shown of a tree: how many moves, set play, tries, and how many lines
 abbrev pub tree_form_in : List Row → TreeForm
@@ -134,12 +162,30 @@ tree_form_in rows = record {
 
 -- what the arguments of `tree` ask for
 abbrev pub tree_in : List Row → Option Asked
-tree_in rows = option_and_then (λ bound. option_map (λ names. tree bound (tree_form_in rows) names) (all_of (codes "FILE") rows)) (bound_in rows)
+tree_in rows =
+    option_and_then (λ bound. option_and_then (λ from. option_map (λ names. tree bound (tree_form_in rows) from names) (all_of (codes "FILE") rows))
+    (from_in rows)) (bound_in rows)
+
+-- what a page has beside its diagrams
+abbrev pub sheet_form_in : List Row → SheetForm
+sheet_form_in rows = record { solutions = is_given (codes "solutions") rows; figurines = is_given (codes "figurines") rows }
+
+-- what the arguments of `sheet` ask for
+abbrev pub sheet_in : List Row → Option Asked
+sheet_in rows =
+    option_and_then (λ bound. option_and_then
+    (λ memo. option_and_then (λ title. option_map (λ names. sheet bound memo (sheet_form_in rows) title names)
+    (all_of (codes "FILE") rows)) (first_of (codes "T") rows)) (memo_size_in rows)) (bound_in rows)
+
+-- what the arguments of `import` ask for: whether what was changed is told, and files
+abbrev pub import_in : List Row → Option Asked
+import_in rows = option_map (imports (is_given (codes "keep") rows)) (all_of (codes "FILE") rows)
 
 -- what the arguments of `serve` ask for
 abbrev pub serve_in : List Row → Option Asked
 serve_in rows =
-    option_and_then (λ workers. option_and_then (λ bound. option_and_then (λ memo. option_map (λ names. serve workers bound memo names) (all_of (codes "FILE") rows))
+    option_and_then (λ workers. option_and_then
+    (λ bound. option_and_then (λ memo. option_map (λ names. serve workers bound memo names) (all_of (codes "FILE") rows))
     (memo_size_in rows)) (bound_in rows)) (workers_in rows)
 
 -- what the arguments of a command ask for, by its name
@@ -152,22 +198,27 @@ asked_by name rows =
     else if bytes_eq name (codes "solve") then solve_in rows
     else if bytes_eq name (codes "verify") then verify_in rows
     else if bytes_eq name (codes "tree") then tree_in rows
+    else if bytes_eq name (codes "sheet") then sheet_in rows
+    else if bytes_eq name (codes "import") then import_in rows
     else if bytes_eq name (codes "serve") then serve_in rows
     else if bytes_eq name (codes "replay") then option_map replay (first_of (codes "SCRIPT") rows)
     else if bytes_eq name (codes "explain") then Some (explain (first_of (codes "CODE") rows))
+    else if bytes_eq name (codes "uci") then Some uci
     else if bytes_eq name (codes "look --lines") then look_lines_in rows
     else if bytes_eq name (codes "moves --lines") then lines_in shown.Moves rows
     else if bytes_eq name (codes "perft --lines") then perft_lines_in rows
     else None
 
--- asks for `serve`, the one command that starts threads
-abbrev pub is_serve : Asked → Bool
-is_serve (serve workers bound memo names) = true
-is_serve _ = false
+-- asks for a command that starts threads
+abbrev pub is_threaded : Asked → Bool
+is_threaded (serve workers bound memo names) = true
+is_threaded (limited seconds bound memo from names) = true
+is_threaded uci = true
+is_threaded _ = false
 
-abbrev pub asks_serve : Option Asked → Bool
-asks_serve None = false
-asks_serve (Some asks) = is_serve asks
+abbrev pub asks_threads : Option Asked → Bool
+asks_threads None = false
+asks_threads (Some asks) = is_threaded asks
 
 -- what the matches of a whole command line ask for
 abbrev pub asked_of : ArgMatches → Option Asked

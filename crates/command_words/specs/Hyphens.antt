@@ -1,5 +1,6 @@
 -- A FEN that begins with a hyphen is a FEN, and no option.
-use Rattle.std.specs.Prelude.{◌==◌, ◌&&◌, ◌||◌, ◌+◌, ◌++◌, not, take, drop, slice_get, ℕ, Bool, List, [], ◌∷◌, Option, None, Some, false, codes, if◌then◌else◌}
+use Rattle.std.specs.Prelude.{◌==◌, ◌&&◌, ◌||◌, ◌+◌, ◌++◌, not, take, drop, slice_get, ℕ, Bool}
+use Rattle.std.specs.Prelude.{List, [], ◌∷◌, Option, None, Some, false, codes, if◌then◌else◌}
 use Rattle.std.specs.Option.{option_map_or}
 use Rattle.std.specs.Str.{bytes_eq}
 use Rattle.clap.specs.Words.{Text}
@@ -11,7 +12,7 @@ takes_fen name = bytes_eq name (codes "look") || bytes_eq name (codes "play") ||
 -- the options of these commands, which may stand before the FEN
 abbrev pub is_option_of : Text → Text → Bool
 is_option_of name word =
-    if bytes_eq name (codes "look") then bytes_eq word (codes "--board") || bytes_eq word (codes "--flip")
+    if bytes_eq name (codes "look") then bytes_eq word (codes "--board") || bytes_eq word (codes "--flip") || bytes_eq word (codes "--svg")
     else if bytes_eq name (codes "moves") then bytes_eq word (codes "--coordinates") || bytes_eq word (codes "--fen")
     else bytes_eq name (codes "perft") && bytes_eq word (codes "--divide")
 

@@ -1,4 +1,4 @@
--- The numbers that the command line bounds: the depth of `perft`, the workers of `serve`, and the entries of a memo.
+-- The numbers that the command line bounds: the depth of `perft`, the workers of `serve`, the entries of a memo, and numbers of lines.
 use Rattle.std.specs.Prelude.{ℕ, Option, Some, None, ◌&&◌, nat_le, if◌then◌else◌}
 
 abbrev pub max_depth : ℕ
@@ -21,3 +21,10 @@ max_memo_entries = 65536
 -- the number of entries of a memo, where the number is one
 abbrev pub memo_size_of : ℕ → Option ℕ
 memo_size_of n = if nat_le 1 n && nat_le n max_memo_entries then Some n else None
+
+abbrev pub max_line_number : ℕ
+max_line_number = 1000000000
+
+-- the number of a line, where the number is one
+abbrev pub line_number_of : ℕ → Option ℕ
+line_number_of n = if nat_le 1 n && nat_le n max_line_number then Some n else None

@@ -1,20 +1,27 @@
 -- What a request asks for.
 use Rattle.std.specs.Prelude.{[], map, option_map, unwrap_or}
-use Rattle.command_words.specs.Asked.{Asked, look, board, play, moves, perft, divide, lines, solve, verify, tree, serve, replay, explain}
+use Rattle.command_words.specs.Asked.{Asked, look, board, svg, play, moves, perft, divide, lines, solve}
+use Rattle.command_words.specs.Asked.{limited, verify, tree, sheet, imports, serve, replay, explain, uci}
 use Rattle.command_words.specs.declared.request.Request.{Request}
-use Rattle.command_words.specs.declared.request.Request.TheVariants.{Look, Board, Play, Moves, Perft, Divide, Lines, Solve, Verify, Tree, Serve, Replay, Explain}
+use Rattle.command_words.specs.declared.request.Request.TheVariants.{Look, Board, Svg, Play, Moves, Perft, Divide, Lines}
+use Rattle.command_words.specs.declared.request.Request.TheVariants.{Solve, Limited, Verify, Tree, Sheet, Import, Serve, Replay, Explain, Uci}
 
 abbrev pub plan_of : Request → Asked
 plan_of (Look fen) = look fen.now
 plan_of (Board fen side) = board fen.now side
+plan_of (Svg fen) = svg fen.now
 plan_of (Play fen names) = play fen.now (unwrap_or (option_map (λ names. map (λ s. s.now) names.now) names) [])
 plan_of (Moves form fen) = moves form fen.now
 plan_of (Perft fen depth) = perft fen.now depth
 plan_of (Divide fen depth) = divide fen.now depth
 plan_of (Lines view names) = lines view (map (λ s. s.now) names.now)
-plan_of (Solve bound memo names) = solve bound memo (map (λ s. s.now) names.now)
-plan_of (Verify bound memo names) = verify bound memo (map (λ s. s.now) names.now)
-plan_of (Tree bound form names) = tree bound form (map (λ s. s.now) names.now)
+plan_of (Solve bound memo files) = solve bound memo files.from (map (λ s. s.now) files.names.now)
+plan_of (Limited asked) = limited asked.seconds asked.bound asked.memo asked.files.from (map (λ s. s.now) asked.files.names.now)
+plan_of (Verify bound memo files) = verify bound memo files.from (map (λ s. s.now) files.names.now)
+plan_of (Tree bound form files) = tree bound form files.from (map (λ s. s.now) files.names.now)
+plan_of (Sheet bound memo form title names) = sheet bound memo form title.now (map (λ s. s.now) names.now)
+plan_of (Import keep names) = imports keep (map (λ s. s.now) names.now)
 plan_of (Serve workers bound memo names) = serve workers bound memo (map (λ s. s.now) names.now)
 plan_of (Replay name) = replay name.now
 plan_of (Explain code) = explain (option_map (λ s. s.now) code)
+plan_of Uci = uci

@@ -2,17 +2,25 @@
 
 ghost use Rattle.std.specs.Prelude.{◌≡◌, IfOk, codes, false};
 ghost use Rattle.clap.specs.Words.{app_of, new_rule, rule_of, with_rule, with_subcommand};
-ghost use Rattle.command_words.specs.CommandLine.{IsLocal, bare_app, bound_rule, depth_rule, desk_app, explain_app, files_rule, flag_rule, look_app, look_lines_app, memo_rule, most_lines_rule, moves_app, moves_lines_app, moves_rule, perft_app, perft_lines_app, play_app, replay_app, serve_app, shown_rule, solve_app, tree_app, verify_app, wanted, with_desk_apps, with_fen_apps, with_line_apps, with_other_apps, with_problem_apps, with_solving_options, with_tree_options, workers_rule};
+ghost use Rattle.command_words.specs.CommandLine.{IsLocal, bare_app, bound_rule, depth_rule, desk_app, explain_app, files_rule};
+ghost use Rattle.command_words.specs.CommandLine.{flag_rule, from_rule, import_app, limit_rule, look_app, look_lines_app, memo_rule, most_lines_rule, moves_app};
+ghost use Rattle.command_words.specs.CommandLine.{moves_lines_app, moves_rule, perft_app, perft_lines_app, play_app, replay_app};
+ghost use Rattle.command_words.specs.CommandLine.{serve_app, sheet_app, shown_rule, solve_app, title_rule, tree_app, uci_app, verify_app};
+ghost use Rattle.command_words.specs.CommandLine.{wanted, with_desk_apps, with_fen_apps, with_line_apps, with_lines_of_files};
+ghost use Rattle.command_words.specs.CommandLine.{with_other_apps, with_page_apps, with_problem_apps, with_record_apps, with_sheet_flags, with_sheet_options};
+ghost use Rattle.command_words.specs.CommandLine.{with_solving_options, with_tree_options, workers_rule};
 
 use crate::help::{
     ABOUT, ABOUT_BOARD, ABOUT_BOUND, ABOUT_CODE, ABOUT_COORDINATES, ABOUT_DEPTH, ABOUT_DIVIDE,
-    ABOUT_EXPLAIN, ABOUT_FEN, ABOUT_FENS, ABOUT_FILE, ABOUT_FLIP, ABOUT_LOOK, ABOUT_LOOK_LINES,
-    ABOUT_MEMO, ABOUT_MEMOS, ABOUT_MOST_LINES, ABOUT_MOVE, ABOUT_MOVES, ABOUT_MOVES_LINES,
-    ABOUT_PERFT, ABOUT_PERFT_LINES, ABOUT_PLAY, ABOUT_POSITIONS, ABOUT_REPLAY, ABOUT_SCRIPT,
-    ABOUT_SERVE, ABOUT_SET_PLAY, ABOUT_SHOWN, ABOUT_SOLVE, ABOUT_TREE, ABOUT_TRIES, ABOUT_VERIFY,
-    ABOUT_WORKERS, AFTER_EXPLAIN, AFTER_HELP, AFTER_LOOK, AFTER_LOOK_LINES, AFTER_MOVES,
-    AFTER_MOVES_LINES, AFTER_PERFT, AFTER_PERFT_LINES, AFTER_PLAY, AFTER_REPLAY, AFTER_SERVE,
-    AFTER_SOLVE, AFTER_TREE, AFTER_VERIFY, VERSION,
+    ABOUT_EXPLAIN, ABOUT_FEN, ABOUT_FENS, ABOUT_FIGURINES, ABOUT_FILE, ABOUT_FLIP, ABOUT_FROM,
+    ABOUT_IMPORT, ABOUT_KEEP, ABOUT_LIMIT, ABOUT_LOOK, ABOUT_LOOK_LINES, ABOUT_MEMO, ABOUT_MEMOS,
+    ABOUT_MOST_LINES, ABOUT_MOVE, ABOUT_MOVES, ABOUT_MOVES_LINES, ABOUT_PERFT, ABOUT_PERFT_LINES,
+    ABOUT_PLAY, ABOUT_POSITIONS, ABOUT_REPLAY, ABOUT_SCRIPT, ABOUT_SERVE, ABOUT_SET_PLAY,
+    ABOUT_SHEET, ABOUT_SHOWN, ABOUT_SOLUTIONS, ABOUT_SOLVE, ABOUT_SVG, ABOUT_TITLE, ABOUT_TREE,
+    ABOUT_TRIES, ABOUT_UCI, ABOUT_VERIFY, ABOUT_WORKERS, AFTER_EXPLAIN, AFTER_HELP, AFTER_IMPORT,
+    AFTER_LOOK, AFTER_LOOK_LINES, AFTER_MOVES, AFTER_MOVES_LINES, AFTER_PERFT, AFTER_PERFT_LINES,
+    AFTER_PLAY, AFTER_REPLAY, AFTER_SERVE, AFTER_SHEET, AFTER_SOLVE, AFTER_TREE, AFTER_UCI,
+    AFTER_VERIFY, VERSION,
 };
 use clap::{Arg, ArgAction, Command, value_parser};
 use std::alloc::{AllocError, Global};
@@ -67,6 +75,29 @@ fn memo_arg<'a>(alloc: Global, default: &'a str, help: &'a str) -> Arg<'a>
         .help(help)
 }
 
+/// The number of the line that is the first to be answered, 1 to 1,000,000,000.
+fn from_arg<'a>(alloc: Global) -> Arg<'a>
+    ensures rule { rule_of result ≡ from_rule }
+    ensures local { result.global ≡ false }
+{
+    Arg::new(alloc, "K")
+        .long("from")
+        .value_parser(value_parser!(u32).range(1..1_000_000_001))
+        .default_value("1")
+        .help(ABOUT_FROM)
+}
+
+/// How many seconds a record may take, 1 to 86,400.
+fn limit_arg<'a>(alloc: Global) -> Arg<'a>
+    ensures rule { rule_of result ≡ limit_rule }
+    ensures local { result.global ≡ false }
+{
+    Arg::new(alloc, "S")
+        .long("limit")
+        .value_parser(value_parser!(u32).range(1..86_401))
+        .help(ABOUT_LIMIT)
+}
+
 /// How many of the attacker's moves are shown of a tree, 1 to 15.
 fn shown_arg<'a>(alloc: Global) -> Arg<'a>
     ensures rule { rule_of result ≡ shown_rule }
@@ -98,6 +129,17 @@ fn flag_arg<'a>(alloc: Global, name: &'a str, help: &'a str) -> Arg<'a>
         .long(name)
         .action(ArgAction::SetTrue)
         .help(help)
+}
+
+/// The title of a page.
+fn title_arg<'a>(alloc: Global) -> Arg<'a>
+    ensures rule { rule_of result ≡ title_rule }
+    ensures local { result.global ≡ false }
+{
+    Arg::new(alloc, "T")
+        .long("title")
+        .default_value("Chess problems")
+        .help(ABOUT_TITLE)
 }
 
 /// The moves of `play`, none or more.
@@ -170,6 +212,14 @@ fn with_args<'a>(
     with_arg(command, second)
 }
 
+/// Adds what is read line by line: files, and the line that is the first to be answered.
+fn with_lines_of_files<'a>(alloc: Global, command: Command<'a>) -> Result<Command<'a>, AllocError>
+    requires local { IsLocal command }
+    ensures { IfOk result (λ c. (app_of c ≡ with_lines_of_files (app_of command.entry)) × IsLocal c) }
+{
+    with_args(command, from_arg(alloc), files_arg(alloc, ABOUT_FILE))
+}
+
 fn solve_command<'a>(alloc: Global) -> Result<Command<'a>, AllocError>
     ensures { IfOk result (λ c. (app_of c ≡ solve_app) × IsLocal c) }
 {
@@ -177,7 +227,8 @@ fn solve_command<'a>(alloc: Global) -> Result<Command<'a>, AllocError>
         .about(ABOUT_SOLVE)
         .after_help(AFTER_SOLVE);
     let command = with_solving_options(alloc, command, "65536", ABOUT_MEMO)?;
-    with_arg(command, files_arg(alloc, ABOUT_FILE))
+    let command = with_arg(command, limit_arg(alloc))?;
+    with_lines_of_files(alloc, command)
 }
 
 fn verify_command<'a>(alloc: Global) -> Result<Command<'a>, AllocError>
@@ -187,7 +238,7 @@ fn verify_command<'a>(alloc: Global) -> Result<Command<'a>, AllocError>
         .about(ABOUT_VERIFY)
         .after_help(AFTER_VERIFY);
     let command = with_solving_options(alloc, command, "65536", ABOUT_MEMO)?;
-    with_arg(command, files_arg(alloc, ABOUT_FILE))
+    with_lines_of_files(alloc, command)
 }
 
 /// Adds what may be given to `tree`: the bound, and what is shown.
@@ -209,7 +260,47 @@ fn tree_command<'a>(alloc: Global) -> Result<Command<'a>, AllocError>
         .about(ABOUT_TREE)
         .after_help(AFTER_TREE);
     let command = with_tree_options(alloc, command)?;
+    with_lines_of_files(alloc, command)
+}
+
+/// Adds what a page may have beside its diagrams.
+fn with_sheet_flags<'a>(alloc: Global, command: Command<'a>) -> Result<Command<'a>, AllocError>
+    requires local { IsLocal command }
+    ensures { IfOk result (λ c. (app_of c ≡ with_sheet_flags (app_of command.entry)) × IsLocal c) }
+{
+    let solutions = flag_arg(alloc, "solutions", ABOUT_SOLUTIONS);
+    let figurines = flag_arg(alloc, "figurines", ABOUT_FIGURINES);
+    with_args(command, solutions, figurines)
+}
+
+/// Adds what may be given to `sheet`: what a page has beside its diagrams, and its title.
+fn with_sheet_options<'a>(alloc: Global, command: Command<'a>) -> Result<Command<'a>, AllocError>
+    requires local { IsLocal command }
+    ensures { IfOk result (λ c. (app_of c ≡ with_sheet_options (app_of command.entry)) × IsLocal c) }
+{
+    let command = with_sheet_flags(alloc, command)?;
+    with_arg(command, title_arg(alloc))
+}
+
+fn sheet_command<'a>(alloc: Global) -> Result<Command<'a>, AllocError>
+    ensures { IfOk result (λ c. (app_of c ≡ sheet_app) × IsLocal c) }
+{
+    let command = Command::new(alloc, "sheet")
+        .about(ABOUT_SHEET)
+        .after_help(AFTER_SHEET);
+    let command = with_sheet_options(alloc, command)?;
+    let command = with_solving_options(alloc, command, "65536", ABOUT_MEMO)?;
     with_arg(command, files_arg(alloc, ABOUT_FILE))
+}
+
+fn import_command<'a>(alloc: Global) -> Result<Command<'a>, AllocError>
+    ensures { IfOk result (λ c. (app_of c ≡ import_app) × IsLocal c) }
+{
+    let command = Command::new(alloc, "import")
+        .about(ABOUT_IMPORT)
+        .after_help(AFTER_IMPORT);
+    let keep = flag_arg(alloc, "keep", ABOUT_KEEP);
+    with_args(command, keep, files_arg(alloc, ABOUT_FILE))
 }
 
 fn serve_command<'a>(alloc: Global) -> Result<Command<'a>, AllocError>
@@ -232,6 +323,14 @@ fn replay_command<'a>(alloc: Global) -> Result<Command<'a>, AllocError>
     with_arg(command, wanted_arg(alloc, "SCRIPT", ABOUT_SCRIPT))
 }
 
+fn uci_command<'a>(alloc: Global) -> Command<'a>
+    ensures { (app_of result ≡ uci_app) × IsLocal result }
+{
+    Command::new(alloc, "uci")
+        .about(ABOUT_UCI)
+        .after_help(AFTER_UCI)
+}
+
 fn look_command<'a>(alloc: Global) -> Result<Command<'a>, AllocError>
     ensures { IfOk result (λ c. (app_of c ≡ look_app) × IsLocal c) }
 {
@@ -241,7 +340,8 @@ fn look_command<'a>(alloc: Global) -> Result<Command<'a>, AllocError>
     let board = flag_arg(alloc, "board", ABOUT_BOARD);
     let flip = flag_arg(alloc, "flip", ABOUT_FLIP);
     let command = with_args(command, board, flip)?;
-    with_arg(command, wanted_arg(alloc, "FEN", ABOUT_FEN))
+    let svg = flag_arg(alloc, "svg", ABOUT_SVG);
+    with_args(command, svg, wanted_arg(alloc, "FEN", ABOUT_FEN))
 }
 
 fn play_command<'a>(alloc: Global) -> Result<Command<'a>, AllocError>
@@ -353,13 +453,21 @@ fn with_line_commands<'a>(alloc: Global, command: Command<'a>) -> Result<Command
     with_command(command, perft_lines_command(alloc)?)
 }
 
-/// Adds the commands that answer the records of files one after the other.
-fn with_problem_commands<'a>(alloc: Global, command: Command<'a>) -> Result<Command<'a>, AllocError>
-    ensures { IfOk result (λ c. app_of c ≡ with_problem_apps (app_of command.entry)) }
+/// Adds those that answer the records of files one after the other.
+fn with_record_commands<'a>(alloc: Global, command: Command<'a>) -> Result<Command<'a>, AllocError>
+    ensures { IfOk result (λ c. app_of c ≡ with_record_apps (app_of command.entry)) }
 {
     let command = with_command(command, solve_command(alloc)?)?;
     let command = with_command(command, verify_command(alloc)?)?;
     with_command(command, tree_command(alloc)?)
+}
+
+/// Adds these, and that which makes records.
+fn with_problem_commands<'a>(alloc: Global, command: Command<'a>) -> Result<Command<'a>, AllocError>
+    ensures { IfOk result (λ c. app_of c ≡ with_problem_apps (app_of command.entry)) }
+{
+    let command = with_record_commands(alloc, command)?;
+    with_command(command, import_command(alloc)?)
 }
 
 /// Adds those on threads, and at a desk.
@@ -367,7 +475,15 @@ fn with_desk_commands<'a>(alloc: Global, command: Command<'a>) -> Result<Command
     ensures { IfOk result (λ c. app_of c ≡ with_desk_apps (app_of command.entry)) }
 {
     let command = with_command(command, serve_command(alloc)?)?;
-    with_command(command, replay_command(alloc)?)
+    let command = with_command(command, replay_command(alloc)?)?;
+    with_command(command, uci_command(alloc))
+}
+
+/// Adds the command that makes a page of the records of files.
+fn with_page_command<'a>(alloc: Global, command: Command<'a>) -> Result<Command<'a>, AllocError>
+    ensures { IfOk result (λ c. app_of c ≡ with_page_apps (app_of command.entry)) }
+{
+    with_command(command, sheet_command(alloc)?)
 }
 
 /// The whole command line.
@@ -378,5 +494,6 @@ pub fn desk_command<'a>(alloc: Global) -> Result<Command<'a>, AllocError>
     let command = with_desk_commands(alloc, command)?;
     let command = with_fen_commands(alloc, command)?;
     let command = with_other_commands(alloc, command)?;
-    with_line_commands(alloc, command)
+    let command = with_line_commands(alloc, command)?;
+    with_page_command(alloc, command)
 }

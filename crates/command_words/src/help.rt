@@ -9,7 +9,7 @@ pub const ABOUT: &str =
 
 /// What stands below the list of commands: what a record and a FEN are, an example of each command, and the statuses.
 pub const AFTER_HELP: &str =
-    "A FILE of `solve`, `verify`, `tree` or `serve` has a problem on each line, as a record in Extended
+    "A FILE of `solve`, `verify`, `tree`, `sheet` or `serve` has a problem on each line, as a record in Extended
 Position Description: `matedesk solve --help` says what that is.
 
 FEN, the Forsyth-Edwards Notation of a position, is six fields with a space between
@@ -20,6 +20,7 @@ Examples:
   matedesk solve problems.epd
   matedesk verify problems.epd
   matedesk tree problems.epd
+  matedesk sheet problems.epd > page.html
   matedesk serve --workers 4 problems.epd
   matedesk replay small.script
   matedesk look \"rnbqkbnr/pppppppp/8/8/8/8/PPPPPPPP/RNBQKBNR w KQkq - 0 1\"
@@ -28,6 +29,7 @@ Examples:
   matedesk perft \"rnbqkbnr/pppppppp/8/8/8/8/PPPPPPPP/RNBQKBNR w KQkq - 0 1\" 3
   matedesk moves --lines positions.epd
   matedesk explain BadKings
+  matedesk uci
 
 Status:
   0  everything was answered
@@ -62,7 +64,9 @@ first move that mates soonest (a second one is a cook), `dm` the number of moves
 the mate takes, and `pv` one line that leads to it. Where there is no mate within its
 bound N, the answer says `c0 \"no mate in N\"`. A line that is no record is answered
 `# line K: CODE`: K is its number in its file, and CODE names its fault. A bound of
-many moves may take longer than one can wait, and the lines behind it wait too.
+many moves may take longer than one can wait, and the lines behind it wait too: with
+`--limit S` a record that isn't decided within S seconds is answered
+`c0 \"not decided in S s\"`, which claims nothing, and the next one is begun.
 
 What was found of positions is kept in a memo with room for M of them, so that it need not
 be found again. No answer depends on M: more room mostly takes less time and more memory.
@@ -79,7 +83,7 @@ Status:
   0  every line was answered
   1  a line was refused; all others were answered
   2  the words ask for nothing
-  3  no memory
+  3  no memory; with `--limit` also no thread
   4  a FILE can't be read, or the output can't be written
 At 3 and 4 the first of the answers may have been written.";
 
@@ -182,6 +186,78 @@ Status:
   4  a FILE can't be read, or the output can't be written
 At 3 and 4 the first of the answers may have been written.";
 
+/// `sheet` in one line.
+pub const ABOUT_SHEET: &str = "Makes a page of diagrams of the problems of files";
+
+/// What stands below the arguments of `sheet`: what a page has, an example, and the statuses.
+pub const AFTER_SHEET: &str =
+    "Each line is a record, as `matedesk solve --help` says. The page is one file of HTML, which
+any browser shows and prints; nothing is fetched. It has for each record, in order: its
+number, a diagram, `#N` (the bound), how many men each side has (7+5) and what `id` says; a
+black dot where Black moves; rights to castle and an en passant target in words; and the
+record, which a click copies. At its end stand the lines that are refused, by FILE:K CODE,
+and with --solutions, before them, of each problem the keys, the number of moves and one
+line of play, or that there is no mate within its bound. Nothing is solved without it.
+
+The page is made whole before any of it is written: where a file can't be read, nothing is.
+
+Example:
+  $ matedesk sheet --solutions --title \"Loyd in two\" loyd_in_2.epd > page.html
+
+The FILE `-` is standard input; a file by that name is `./-`.
+
+Status:
+  0  every line was a record or blank
+  1  a line was refused; the page has all others
+  2  no FILE, an unknown option, or a number outside its range
+  3  no memory
+  4  a file can't be read, or the output can't be written";
+
+/// The option `--solutions` in one line.
+pub const ABOUT_SOLUTIONS: &str = "Solves the problems, and has their solutions behind them";
+
+/// The option `--figurines` in one line.
+pub const ABOUT_FIGURINES: &str =
+    "Shows pieces as figurines in the solutions; goes with --solutions";
+
+/// The option `--title` in one line.
+pub const ABOUT_TITLE: &str = "What the page is called";
+
+/// The option `--svg` of `look` in one line.
+pub const ABOUT_SVG: &str = "Draws the board as an image in SVG, and says nothing else";
+
+/// `import` in one line.
+pub const ABOUT_IMPORT: &str =
+    "Makes records of the problems of files as collections have them: EPD that wants mending, PGN, Popeye";
+
+/// `--keep` in one line.
+pub const ABOUT_KEEP: &str = "Tell in an operation c9 of each record what was changed";
+
+/// What stands below the arguments of `import`: what is read, an example, and the statuses.
+pub const AFTER_IMPORT: &str =
+    "For each problem one record is printed, in order, as the other commands read it. Forms may
+stand in one file in any mixture:
+  - lines of EPD or FEN. Mended are letters beyond ASCII, tabs, a byte order mark, a missing
+    last semicolon, other quotation marks, `!` and `?` behind moves; `bm #N`, `#N` and
+    `mate in N` become `dm N`. A line that is a record and wants none of this is printed as it is
+  - lines that begin with `#`, `%` or `;`: dropped, as empty ones are
+  - games in PGN: the tag FEN makes the record, and White, Black, Event, Date and Annotator
+    its id; the moves are passed over
+  - Popeye's input, from BeginProblem to EndProblem, with stipulation `#N`
+What can't be read is printed as `# line K: CODE`, by the line where it begins; `matedesk
+explain CODE` says what that means.
+
+Example:
+  matedesk import magazine.txt > magazine.epd
+
+Status:
+  0  every problem was read
+  1  a problem was refused by its line and fault
+  2  the arguments are at fault
+  3  memory was refused
+  4  a FILE can't be read, or the output can't be written
+At 3 and 4 the first of the records may have been printed.";
+
 /// `serve` in one line.
 pub const ABOUT_SERVE: &str =
     "Solves the problems of up to 16 files on threads, and answers them as `solve` does";
@@ -214,6 +290,47 @@ At 3, and where a FILE can't be read, nothing was written.";
 
 /// The option `--workers` in one line.
 pub const ABOUT_WORKERS: &str = "How many threads solve, 1 to 16";
+
+/// `uci` in one line.
+pub const ABOUT_UCI: &str = "Answers a chess program as an engine that looks for mate";
+
+/// What stands below the arguments of `uci`: which commands are known, an example, and the statuses.
+pub const AFTER_UCI: &str =
+    "Speaks the Universal Chess Interface: a chess program starts it as an engine, and gives it
+commands on standard input, a line each, which it answers on standard output. It is for
+problems: it looks for a forced mate, and plays the first legal move where it finds none.
+
+  uci                    the engine's name and its options, then `uciok`
+  isready                `readyok`
+  setoption name NAME value N
+                         Hash N: megabytes of the memo, 1 to 10. Bound N: how many moves
+                         are looked at, 1 to 15. MultiPV N: how many keys have lines
+  ucinewgame             forgets what it found
+  position startpos|fen FEN [moves MOVE..]
+                         the position; `info string CODE` where it is refused, which leaves
+                         the one before: `matedesk explain CODE` says what CODE means
+  go [mate N] [depth N] [movetime MS] [nodes N] [infinite] [ponder] [wtime MS] [btime MS]
+     [winc MS] [binc MS] [movestogo N] [searchmoves MOVE..]
+                         looks for a mate in 1, in 2 and so on; `info` for each of them, and
+                         `bestmove`. `depth` counts moves of both sides
+  stop, ponderhit, quit  as the interface has them
+  d                      the board
+
+Example:
+  $ matedesk uci
+  position fen 7k/8/5K2/8/8/8/8/R7 w - - 0 1
+  go mate 2
+  info depth 1 nodes 0 time 0 nps 0
+  info depth 3 multipv 1 score mate 2 nodes 0 time 0 nps 0 pv f6g6 h8g8 a1a8
+  bestmove f6g6
+  quit
+
+What it says of a mate is as true as what `solve` says; what it writes of it is only tested.
+
+Status:
+  0  it was told to quit, or its input ended
+  3  no memory, or no thread
+  4  the input can't be read, or the output can't be written";
 
 /// `replay` in one line.
 pub const ABOUT_REPLAY: &str =
@@ -295,6 +412,14 @@ pub const ABOUT_MEMO: &str = "How many positions the memo has room for, 1 to 655
 
 /// The option `--memo` of `serve` in one line.
 pub const ABOUT_MEMOS: &str = "How many positions each worker's memo has room for, 1 to 65536";
+
+/// The option `--limit` in one line.
+pub const ABOUT_LIMIT: &str =
+    "How many seconds a record may take, 1 to 86400; one that isn't decided by then is answered so";
+
+/// The option `--from` in one line.
+pub const ABOUT_FROM: &str =
+    "The number of the line of the first FILE that is the first to be answered, 1 to 1000000000";
 
 /// The argument FILE in one line.
 pub const ABOUT_FILE: &str = "Files of records, each answered in its place; `-` is standard input";

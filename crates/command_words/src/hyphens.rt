@@ -23,7 +23,7 @@ pub(crate) fn is_option_of(name: &str, word: &str) -> bool
     ensures { result ≡ is_option_of name.now word.now }
 {
     if name == "look" {
-        word == "--board" || word == "--flip"
+        word == "--board" || word == "--flip" || word == "--svg"
     } else if name == "moves" {
         word == "--coordinates" || word == "--fen"
     } else {

@@ -11,6 +11,9 @@ mod limits;
 mod line_commands;
 mod request;
 
+pub use help::VERSION;
 pub use hyphens::escaped;
-pub use limits::{Depth, MemoSize, Workers};
-pub use request::{LineView, MoveForm, Request, TreeForm, parse, request_of};
+pub use limits::{Depth, LineNumber, MemoSize, Workers};
+pub use request::{
+    Files, LimitedSolve, LineView, MoveForm, Request, SheetForm, TreeForm, parse, request_of,
+};

@@ -1,7 +1,8 @@
-//! The numbers that the command line bounds: the depth of `perft`, the workers of `serve`, and the entries of a memo.
+//! The numbers that the command line bounds: the depth of `perft`, the workers of `serve`, the entries of a memo, and numbers of lines.
 
 ghost use Rattle.std.specs.Prelude.{◌≡◌, ◌≤◌, ℕ};
-ghost use Rattle.command_words.specs.Limits.{depth_of, max_depth, max_memo_entries, max_workers, memo_size_of, workers_of};
+ghost use Rattle.command_words.specs.Limits.{depth_of, line_number_of, max_depth, max_line_number, max_memo_entries};
+ghost use Rattle.command_words.specs.Limits.{max_workers, memo_size_of, workers_of};
 
 use std::marker::Model;
 
@@ -13,6 +14,9 @@ const MAX_WORKERS: u8 = 16;
 
 /// The most entries of a memo.
 const MAX_MEMO_ENTRIES: u32 = 65_536;
+
+/// The greatest number of a line that may be asked for.
+const MAX_LINE_NUMBER: u32 = 1_000_000_000;
 
 /// A number of moves from 0 to 6.
 #[derive(Clone, Copy, PartialEq, Eq)]
@@ -124,5 +128,50 @@ impl MemoSize {
         ensures few { result ≤ max_memo_entries }
     {
         self.entries
+    }
+}
+
+/// The number of a line in its file, from 1 to 1,000,000,000.
+#[derive(Clone, Copy, PartialEq, Eq)]
+pub struct LineNumber {
+    number: u32,
+}
+
+impl Model for LineNumber {
+    ghost Value = { ℕ };
+
+    ghost view = { λ l. l.number };
+
+    ghost invariant = { λ l. (1 ≤ l.number) × (l.number ≤ max_line_number) };
+
+    ghost inverse = { λ n. record { number = n } };
+}
+
+impl LineNumber {
+    /// This number; none outside 1 to 1,000,000,000.
+    pub fn new(number: u32) -> Option<LineNumber>
+        ensures { result ≡ line_number_of number }
+    {
+        if 1 <= number && number <= MAX_LINE_NUMBER {
+            Some(LineNumber { number })
+        } else {
+            None
+        }
+    }
+
+    /// That of the first line.
+    pub fn first() -> LineNumber
+        ensures { result ≡ 1 }
+    {
+        LineNumber { number: 1 }
+    }
+
+    /// The number.
+    pub fn get(self) -> u32
+        ensures number { result ≡ self }
+        ensures some { 1 ≤ result }
+        ensures few { result ≤ max_line_number }
+    {
+        self.number
     }
 }

@@ -4,11 +4,14 @@ ghost use Rattle.std.specs.Prelude.{◌≡◌, ◌≢◌, None, codes, IfOk, IfE
 ghost use Rattle.std.specs.Option.{option_map_or};
 ghost use Rattle.clap.specs.Walk.{byte_or_zero};
 ghost use Rattle.clap.specs.Words.{all_of, first_of, found_of, kind_of, one_of, rows_of};
-ghost use Rattle.command_words.specs.Asked.{asked_by, asked_exactly, bound_in, depth_in, form_in, is_given, lines_in, look_in, look_lines_in, memo_size_in, moves_in, number_or_zero, perft_in, perft_lines_in, play_in, side_in, workers_in, serve_in, solve_in, some_number, tree_form_in, tree_in, verify_in, asked_of, asks_display_exactly, is_display, may_display_exactly};
+ghost use Rattle.command_words.specs.Asked.{asked_by, asked_exactly, bound_in, depth_in, form_in, from_in, is_given, limit_in, lines_in, look_in};
+ghost use Rattle.command_words.specs.Asked.{look_lines_in, memo_size_in, moves_in, number_or_zero, perft_in, perft_lines_in, play_in};
+ghost use Rattle.command_words.specs.Asked.{side_in, workers_in, serve_in, solve_in, some_number, tree_form_in, tree_in, verify_in};
+ghost use Rattle.command_words.specs.Asked.{sheet_form_in, sheet_in, import_in, asked_of, asks_display_exactly, is_display, may_display_exactly};
 ghost use Rattle.command_words.specs.Request.{plan_of};
 
 use crate::command_line::desk_command;
-use crate::limits::{Depth, MemoSize, Workers};
+use crate::limits::{Depth, LineNumber, MemoSize, Workers};
 use chess_board::Colour;
 use chess_problems::Bound;
 use clap::error::ErrorKind;
@@ -54,6 +57,32 @@ pub struct TreeForm {
     pub lines: Option<u32>,
 }
 
+/// Files by their names, of the first of which the lines before one of such a number are passed over.
+#[derive(Clone, Copy)]
+pub struct Files<'m, 'a> {
+    pub names: &'m [&'a str],
+    pub from: LineNumber,
+}
+
+/// What is asked where each record may take so many seconds: the bound of records that say none, the size of the memo, and the files.
+#[derive(Clone, Copy)]
+pub struct LimitedSolve<'m, 'a> {
+    /// How many seconds, 1 to 86,400.
+    pub seconds: u32,
+    pub bound: Bound,
+    pub memo: MemoSize,
+    pub files: Files<'m, 'a>,
+}
+
+/// What a page has beside its diagrams.
+#[derive(Clone, Copy, Debug, PartialEq, Eq)]
+pub struct SheetForm {
+    /// Whether the problems are solved.
+    pub solutions: bool,
+    /// Whether pieces are figurines in the solutions, in place of letters.
+    pub figurines: bool,
+}
+
 /// A command with its arguments.
 #[derive(Clone, Copy)]
 pub enum Request<'m, 'a> {
@@ -61,6 +90,8 @@ pub enum Request<'m, 'a> {
     Look(&'a str),
     /// The same, with the board as it is seen from a side.
     Board(&'a str, Colour),
+    /// Draw the board of a FEN as an image.
+    Svg(&'a str),
     /// Make moves one after the other from a FEN, where any are given, and show the position reached.
     Play(&'a str, Option<&'m [&'a str]>),
     /// List the legal moves of a FEN in such a form, or say how the game has ended.
@@ -72,11 +103,18 @@ pub enum Request<'m, 'a> {
     /// Show this of the position on each line of files, in order.
     Lines(LineView, &'m [&'a str]),
     /// Answer the records of files, in order, over a memo of such a size; the bound is for records that say none.
-    Solve(Bound, MemoSize, &'m [&'a str]),
+    Solve(Bound, MemoSize, Files<'m, 'a>),
+    /// The same, where each record may take so many seconds.
+    Limited(LimitedSolve<'m, 'a>),
     /// Hold the records of files, in order, against their own claims, over a memo of such a size; the bound is for records that say none.
-    Verify(Bound, MemoSize, &'m [&'a str]),
+    Verify(Bound, MemoSize, Files<'m, 'a>),
     /// Tell the trees of the records of files, in order, in such a form; the bound is for records that say none.
-    Tree(Bound, TreeForm, &'m [&'a str]),
+    Tree(Bound, TreeForm, Files<'m, 'a>),
+    /// Make a page of the records of files, in order, in such a form and with such a title. Solutions are found over a memo of such a size;
+    /// the bound is for records that say none.
+    Sheet(Bound, MemoSize, SheetForm, &'a str, &'m [&'a str]),
+    /// Make records of the problems of files, in order; whether what was changed is told in them.
+    Import(bool, &'m [&'a str]),
     /// Answer the records of files by so many workers, each over a memo of such a size, all files at once; the bound is for records
     /// that say none.
     Serve(Workers, Bound, MemoSize, &'m [&'a str]),
@@ -84,6 +122,8 @@ pub enum Request<'m, 'a> {
     Replay(&'a str),
     /// Explain the fault of such a code, or list them all.
     Explain(Option<&'a str>),
+    /// Answer a board's questions, as an engine.
+    Uci,
 }
 
 /// The value of a positional.
@@ -121,7 +161,7 @@ fn depth_in(matches: &ArgMatches) -> Option<Depth>
     Depth::new(number_in(matches, "DEPTH"))
 }
 
-/// The bound of `solve`, `verify`, `tree` and `serve`. `clap` has kept it to its range.
+/// The bound of `solve`, `verify`, `tree`, `sheet` and `serve`. `clap` has kept it to its range.
 fn bound_in(matches: &ArgMatches) -> Option<Bound>
     ensures { result ≡ bound_in (rows_of (found_of matches.now)) }
 {
@@ -135,11 +175,28 @@ fn workers_in(matches: &ArgMatches) -> Option<Workers>
     Workers::new(number_in(matches, "N"))
 }
 
-/// The size of the memo of `solve` or `verify`, or of each worker of `serve`. `clap` has kept it to its range.
+/// The size of the memo of `solve`, `verify` or `sheet`, or of each worker of `serve`. `clap` has kept it to its range.
 fn memo_size_in(matches: &ArgMatches) -> Option<MemoSize>
     ensures { result ≡ memo_size_in (rows_of (found_of matches.now)) }
 {
     MemoSize::new(large_number_in(matches, "M"))
+}
+
+/// The number of the line that `solve`, `verify` or `tree` answers first. `clap` has kept it to its range.
+fn from_in(matches: &ArgMatches) -> Option<LineNumber>
+    ensures { result ≡ from_in (rows_of (found_of matches.now)) }
+{
+    LineNumber::new(large_number_in(matches, "K"))
+}
+
+/// How many seconds `solve` may take for each record. `clap` has kept them to their range, and has none where none are given.
+fn limit_in(matches: &ArgMatches) -> Option<u32>
+    ensures { result ≡ limit_in (rows_of (found_of matches.now)) }
+{
+    match large_number_in(matches, "S") {
+        0 => None,
+        seconds => Some(seconds),
+    }
 }
 
 /// Whether an option without a value is given. `clap` has the value `true` for it then, and else `false`.
@@ -168,7 +225,9 @@ fn look_in<'m, 'a>(matches: &'m ArgMatches<'a>) -> Option<Request<'m, 'a>>
     ensures { option_map plan_of result ≡ look_in (rows_of (found_of matches.now)) }
 {
     let fen = text_in(matches, "FEN")?;
-    if is_given(matches, "board") {
+    if is_given(matches, "svg") {
+        Some(Request::Svg(fen))
+    } else if is_given(matches, "board") {
         Some(Request::Board(fen, side_in(matches)))
     } else if is_given(matches, "flip") {
         None
@@ -252,7 +311,18 @@ fn solve_in<'m, 'a>(matches: &'m ArgMatches<'a>) -> Option<Request<'m, 'a>>
 {
     let bound = bound_in(matches)?;
     let memo = memo_size_in(matches)?;
-    names_in(matches, "FILE").map(|names| Request::Solve(bound, memo, names))
+    let from = from_in(matches)?;
+    let names = names_in(matches, "FILE")?;
+    let files = Files { names, from };
+    Some(match limit_in(matches) {
+        Some(seconds) => Request::Limited(LimitedSolve {
+            seconds,
+            bound,
+            memo,
+            files,
+        }),
+        None => Request::Solve(bound, memo, files),
+    })
 }
 
 /// What the arguments of `verify` ask for.
@@ -261,7 +331,9 @@ fn verify_in<'m, 'a>(matches: &'m ArgMatches<'a>) -> Option<Request<'m, 'a>>
 {
     let bound = bound_in(matches)?;
     let memo = memo_size_in(matches)?;
-    names_in(matches, "FILE").map(|names| Request::Verify(bound, memo, names))
+    let from = from_in(matches)?;
+    let names = names_in(matches, "FILE")?;
+    Some(Request::Verify(bound, memo, Files { names, from }))
 }
 
 /// How many of the attacker's moves are shown of a tree. `clap` has kept them to their range, and has none where none are given.
@@ -301,8 +373,40 @@ fn tree_in<'m, 'a>(matches: &'m ArgMatches<'a>) -> Option<Request<'m, 'a>>
     ensures { option_map plan_of result ≡ tree_in (rows_of (found_of matches.now)) }
 {
     let bound = bound_in(matches)?;
+    let from = from_in(matches)?;
     let form = tree_form_in(matches);
-    names_in(matches, "FILE").map(|names| Request::Tree(bound, form, names))
+    let names = names_in(matches, "FILE")?;
+    Some(Request::Tree(bound, form, Files { names, from }))
+}
+
+/// What a page has beside its diagrams.
+fn sheet_form_in(matches: &ArgMatches) -> SheetForm
+    ensures { result ≡ sheet_form_in (rows_of (found_of matches.now)) }
+{
+    SheetForm {
+        solutions: is_given(matches, "solutions"),
+        figurines: is_given(matches, "figurines"),
+    }
+}
+
+/// What the arguments of `sheet` ask for.
+fn sheet_in<'m, 'a>(matches: &'m ArgMatches<'a>) -> Option<Request<'m, 'a>>
+    ensures { option_map plan_of result ≡ sheet_in (rows_of (found_of matches.now)) }
+{
+    let bound = bound_in(matches)?;
+    let memo = memo_size_in(matches)?;
+    let title = text_in(matches, "T")?;
+    let form = sheet_form_in(matches);
+    let names = names_in(matches, "FILE")?;
+    Some(Request::Sheet(bound, memo, form, title, names))
+}
+
+/// What the arguments of `import` ask for.
+fn import_in<'m, 'a>(matches: &'m ArgMatches<'a>) -> Option<Request<'m, 'a>>
+    ensures { option_map plan_of result ≡ import_in (rows_of (found_of matches.now)) }
+{
+    let keep = is_given(matches, "keep");
+    names_in(matches, "FILE").map(|names| Request::Import(keep, names))
 }
 
 /// What the arguments of `serve` ask for.
@@ -334,12 +438,18 @@ fn request_by<'m, 'a>(name: &str, matches: &'m ArgMatches<'a>) -> Option<Request
         verify_in(matches)
     } else if name == "tree" {
         tree_in(matches)
+    } else if name == "sheet" {
+        sheet_in(matches)
+    } else if name == "import" {
+        import_in(matches)
     } else if name == "serve" {
         serve_in(matches)
     } else if name == "replay" {
         text_in(matches, "SCRIPT").map(Request::Replay)
     } else if name == "explain" {
         Some(Request::Explain(text_in(matches, "CODE")))
+    } else if name == "uci" {
+        Some(Request::Uci)
     } else if name == "look --lines" {
         look_lines_in(matches)
     } else if name == "moves --lines" {
@@ -365,7 +475,8 @@ pub fn parse<'a>(alloc: Global, words: &'a [&'a str]) -> Result<ArgMatches<'a>, 
     ensures clear { IfOk result (λ _. asks_display_exactly (map (λ s. s.now) words.entry.now) ≡ false) }
     ensures err { IfErr result (λ e. kind_of e ≢ ErrorKind.OutOfMemory → asked_exactly (map (λ s. s.now) words.entry.now) ≡ None) }
     ensures display { IfErr result (λ e. is_display (kind_of e) ≡ true → may_display_exactly (map (λ s. s.now) words.entry.now) ≡ true) }
-    ensures misuse { IfErr result (λ e. kind_of e ≢ ErrorKind.OutOfMemory → is_display (kind_of e) ≡ false → asks_display_exactly (map (λ s. s.now) words.entry.now) ≡ false) }
+    ensures misuse { IfErr result (λ e. kind_of e ≢ ErrorKind.OutOfMemory → is_display (kind_of e) ≡ false
+        → asks_display_exactly (map (λ s. s.now) words.entry.now) ≡ false) }
 {
     desk_command(alloc)?.try_get_matches_from(words)
 }

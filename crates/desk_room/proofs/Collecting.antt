@@ -32,36 +32,45 @@ collects_then c d e a b = record {
 }
 
 -- The same parts, under other names.
-pub moved : (default other : ℕ) (lines : List (List ℕ)) (sent posted got had : List RecordValue) (text all : List ℕ) (pending after : List (List ℕ)) (refused many : ℕ)
+pub moved : (default other : ℕ) (lines : List (List ℕ)) (sent posted got had : List RecordValue) (text all : List ℕ)
+    (pending after : List (List ℕ)) (refused many : ℕ)
     → other ≡ default → posted ≡ sent → had ≡ got → all ≡ text → after ≡ pending → many ≡ refused
     → Progress default lines sent got text pending refused → Progress other lines posted had all after many
 moved default other lines sent posted got had text all pending after refused many a b c d e f progress = rw (a, b, c, d, e, f) progress
 
 pub collects_one : (c d : Submitter) (r : RecordValue) (replies : Vec ℕ Global)
     → SameWindow c.window d.window → letters_sent d.window ≡ letters_sent c.window → collected d.window ≡ collected c.window ++ Answer r ∷ []
-    → c.pending_replies.items ≡ replies ∷ d.pending_replies.items → d.text.items ≡ c.text.items ++ (answer_line r ++ replies.items) → d.refused ≡ c.refused → Collects c d
+    → c.pending_replies.items ≡ replies ∷ d.pending_replies.items
+    → d.text.items ≡ c.text.items ++ (answer_line r ++ replies.items) → d.refused ≡ c.refused → Collects c d
 collects_one c d r replies window sent got is text refused = record {
   window = window;
   refused = refused;
   handled = λ lines old.
       let items : List (Vec ℕ Global) → List (List ℕ) = map (λ t. t.items) in
-      let before : Progress (default_of c.window) lines (records (letters_sent c.window)) (map asked (collected c.window)) c.text.items (replies.items ∷ items d.pending_replies.items) c.refused =
-      subst (λ l. Progress (default_of c.window) lines (records (letters_sent c.window)) (map asked (collected c.window)) c.text.items l c.refused) (ap items is) old in
-      moved (default_of c.window) (default_of d.window) lines (records (letters_sent c.window)) (records (letters_sent d.window)) (map asked (collected c.window) ++ r ∷ [])
-      (map asked (collected d.window)) (c.text.items ++ (answer_line r ++ replies.items)) d.text.items (items d.pending_replies.items) (items d.pending_replies.items) c.refused d.refused
+      let before : Progress (default_of c.window) lines (records (letters_sent c.window))
+      (map asked (collected c.window)) c.text.items (replies.items ∷ items d.pending_replies.items) c.refused =
+      subst (λ l. Progress (default_of c.window) lines (records (letters_sent c.window))
+      (map asked (collected c.window)) c.text.items l c.refused) (ap items is) old in
+      moved (default_of c.window) (default_of d.window) lines (records (letters_sent c.window)) (records (letters_sent d.window))
+      (map asked (collected c.window) ++ r ∷ [])
+      (map asked (collected d.window)) (c.text.items ++ (answer_line r ++ replies.items)) d.text.items
+      (items d.pending_replies.items) (items d.pending_replies.items) c.refused d.refused
       window.3 (ap records sent) (ap (map asked) got ∙ map-append asked (collected c.window) (Answer r ∷ [])) text refl refused
-      (progress_answer (default_of c.window) c.refused lines (records (letters_sent c.window)) (map asked (collected c.window)) r c.text.items replies.items (items d.pending_replies.items) before);
+      (progress_answer (default_of c.window) c.refused lines (records (letters_sent c.window))
+      (map asked (collected c.window)) r c.text.items replies.items (items d.pending_replies.items) before);
 }
 
 -- Nothing went by the window.
-pub collects_none : (c d : Submitter) → SameWindow c.window d.window → letters_sent d.window ≡ letters_sent c.window → collected d.window ≡ collected c.window
+pub collects_none : (c d : Submitter) → SameWindow c.window d.window → letters_sent d.window ≡ letters_sent c.window
+    → collected d.window ≡ collected c.window
     → d.text ≡ c.text → d.pending_replies ≡ c.pending_replies → d.refused ≡ c.refused → Collects c d
 collects_none c d window sent got text pending refused = record {
   window = window;
   refused = refused;
   handled = λ lines old.
       let items : List (Vec ℕ Global) → List (List ℕ) = map (λ t. t.items) in
-      moved (default_of c.window) (default_of d.window) lines (records (letters_sent c.window)) (records (letters_sent d.window)) (map asked (collected c.window)) (map asked (collected d.window))
+      moved (default_of c.window) (default_of d.window) lines (records (letters_sent c.window)) (records (letters_sent d.window))
+      (map asked (collected c.window)) (map asked (collected d.window))
       c.text.items d.text.items (items c.pending_replies.items) (items d.pending_replies.items) c.refused d.refused
       window.3 (ap records sent) (ap (map asked) got) (ap (λ t. t.items) text) (ap (λ b. items b.items) pending) refused old;
 }

@@ -1,5 +1,6 @@
 -- How many entries of a desk pass a test.
-use Rattle.std.proofs.Common.{◌≡◌, ℕ, zero, suc, ◌+◌, Bool, true, false, cond, List, [], ◌∷◌, ◌++◌, map, flat_map, refl, sym, ap, ◌∙◌, arith, count_by}
+use Rattle.std.proofs.Common.{◌≡◌, ℕ, zero, suc, ◌+◌, Bool, true, false, cond, List, [], ◌∷◌}
+use Rattle.std.proofs.Common.{◌++◌, map, flat_map, refl, sym, ap, ◌∙◌, arith, count_by}
 use Rattle.std.specs.List.{list_any}
 use Rattle.std.proofs.lemmas.List.Sums.{sum_by-cons}
 use Rattle.mate_desk.specs.Content.{Content, QueueValue, EntryValue, entries}
@@ -49,32 +50,40 @@ pub none_counted : (p : EntryValue → Bool) (c : Content) → list_any p (entri
 none_counted p c h = sym (joined_is p c.queues) ∙ any_count p (entries c) h
 
 -- Counts where each entry was changed.
-count_in_less : (p q r : EntryValue → Bool) (f : EntryValue → EntryValue) → ((e : EntryValue) → one_if (p (f e)) + one_if (r e) ≡ one_if (q e)) → (es : List EntryValue) → count_in p (map f es) + count_in r es ≡ count_in q es
+count_in_less : (p q r : EntryValue → Bool) (f : EntryValue → EntryValue) → ((e : EntryValue) → one_if (p (f e)) + one_if (r e)
+    ≡ one_if (q e)) → (es : List EntryValue) → count_in p (map f es) + count_in r es ≡ count_in q es
 count_in_less p q r f each [] = refl
 count_in_less p q r f each (e ∷ es) = omega (arith, each e, count_in_less p q r f each es)
 
-pub count_less : (p q r : EntryValue → Bool) (f : EntryValue → EntryValue) → ((e : EntryValue) → one_if (p (f e)) + one_if (r e) ≡ one_if (q e)) → (qs : List QueueValue) → count_all p (map (in_queue f) qs) + count_all r qs ≡ count_all q qs
+pub count_less : (p q r : EntryValue → Bool) (f : EntryValue → EntryValue) → ((e : EntryValue) → one_if (p (f e)) + one_if (r e)
+    ≡ one_if (q e)) → (qs : List QueueValue) → count_all p (map (in_queue f) qs) + count_all r qs ≡ count_all q qs
 count_less p q r f each [] = refl
 count_less p q r f each (x ∷ qs) = omega (arith, count_in_less p q r f each x.pending, count_less p q r f each qs)
 
-count_in_more : (p q r : EntryValue → Bool) (f : EntryValue → EntryValue) → ((e : EntryValue) → one_if (p (f e)) ≡ one_if (q e) + one_if (r e)) → (es : List EntryValue) → count_in p (map f es) ≡ count_in q es + count_in r es
+count_in_more : (p q r : EntryValue → Bool) (f : EntryValue → EntryValue) → ((e : EntryValue) → one_if (p (f e))
+    ≡ one_if (q e) + one_if (r e)) → (es : List EntryValue) → count_in p (map f es) ≡ count_in q es + count_in r es
 count_in_more p q r f each [] = refl
 count_in_more p q r f each (e ∷ es) = omega (arith, each e, count_in_more p q r f each es)
 
-pub count_more : (p q r : EntryValue → Bool) (f : EntryValue → EntryValue) → ((e : EntryValue) → one_if (p (f e)) ≡ one_if (q e) + one_if (r e)) → (qs : List QueueValue) → count_all p (map (in_queue f) qs) ≡ count_all q qs + count_all r qs
+pub count_more : (p q r : EntryValue → Bool) (f : EntryValue → EntryValue)
+    → ((e : EntryValue) → one_if (p (f e)) ≡ one_if (q e) + one_if (r e)) → (qs : List QueueValue)
+    → count_all p (map (in_queue f) qs) ≡ count_all q qs + count_all r qs
 count_more p q r f each [] = refl
 count_more p q r f each (x ∷ qs) = omega (arith, count_in_more p q r f each x.pending, count_more p q r f each qs)
 
-count_in_same : (p q : EntryValue → Bool) (f : EntryValue → EntryValue) → ((e : EntryValue) → p (f e) ≡ q e) → (es : List EntryValue) → count_in p (map f es) ≡ count_in q es
+count_in_same : (p q : EntryValue → Bool) (f : EntryValue → EntryValue) → ((e : EntryValue) → p (f e) ≡ q e)
+    → (es : List EntryValue) → count_in p (map f es) ≡ count_in q es
 count_in_same p q f each [] = refl
 count_in_same p q f each (e ∷ es) = omega (arith, ap one_if (each e), count_in_same p q f each es)
 
-pub count_same : (p q : EntryValue → Bool) (f : EntryValue → EntryValue) → ((e : EntryValue) → p (f e) ≡ q e) → (qs : List QueueValue) → count_all p (map (in_queue f) qs) ≡ count_all q qs
+pub count_same : (p q : EntryValue → Bool) (f : EntryValue → EntryValue) → ((e : EntryValue) → p (f e) ≡ q e)
+    → (qs : List QueueValue) → count_all p (map (in_queue f) qs) ≡ count_all q qs
 count_same p q f each [] = refl
 count_same p q f each (x ∷ qs) = omega (arith, count_in_same p q f each x.pending, count_same p q f each qs)
 
 -- Counts where one queue was changed.
-pub count_change : (p : EntryValue → Bool) (g : QueueValue → QueueValue) (n : ℕ) (qs : List QueueValue) → ((q : QueueValue) → count_in p (g q).pending ≡ count_in p q.pending) → count_all p (change_at n g qs) ≡ count_all p qs
+pub count_change : (p : EntryValue → Bool) (g : QueueValue → QueueValue) (n : ℕ) (qs : List QueueValue)
+    → ((q : QueueValue) → count_in p (g q).pending ≡ count_in p q.pending) → count_all p (change_at n g qs) ≡ count_all p qs
 count_change p g zero [] each = refl
 count_change p g (suc n) [] each = refl
 count_change p g zero (q ∷ qs) each = ap (λ k. k + count_all p qs) (each q)

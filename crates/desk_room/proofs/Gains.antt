@@ -1,14 +1,17 @@
 -- The counts of a turn are what its lists gained.
-use Rattle.std.proofs.Common.{◌≡◌, ◌<◌, ◌≤◌, true≢false, ℕ, zero, suc, ◌+◌, ◌-◌, Bool, true, false, nat_lt, nat_le, if◌then◌else◌, List, [], ◌∷◌, ◌++◌, length, slice_get, is_none, Some, None, refl, sym, ap, ◌∙◌, arith, length-append}
+use Rattle.std.proofs.Common.{◌≡◌, ◌<◌, ◌≤◌, true≢false, ℕ, zero, suc, ◌+◌, ◌-◌, Bool, true, false, nat_lt, nat_le, if◌then◌else◌, List}
+use Rattle.std.proofs.Common.{[], ◌∷◌, ◌++◌, length, slice_get, is_none, Some, None, refl, sym, ap, ◌∙◌, arith, length-append}
 use Rattle.std.proofs.lemmas.Bool.Decides.{nat_tests}
 use Rattle.mate_desk.specs.Content.{QueueValue, EntryValue, Phase, Waiting, Out, Finished, waits_as, is_out_with}
-use Rattle.mate_desk.specs.Calls.{change_at, into_phase, has_out, with_entry, withdrawn, withdrawn_at, withdraw_refusal_of, withdraw_refusal_by, ready_first}
+use Rattle.mate_desk.specs.Calls.{change_at, into_phase, has_out, with_entry, withdrawn, withdrawn_at}
+use Rattle.mate_desk.specs.Calls.{withdraw_refusal_of, withdraw_refusal_by, ready_first}
 use Rattle.mate_desk.specs.Deliveries.{delivery, delivery_of}
 use Rattle.mate_desk.specs.declared.refusals.WithdrawRefusal.TheVariants as refusal
 use Rattle.mate_jobs.specs.declared.deliveries.Delivery.{Delivery}
 use Rattle.mate_jobs.specs.declared.deliveries.Delivery.TheVariants.{Answer, Notice}
 use Rattle.room_ends.specs.Letters.{records, farewells}
-use Rattle.desk_room.specs.Events.{RoomLists, Event, Takes, Gives, Orders, Hears, May, after, one_more, one_if, tally, is_heard, is_taken, is_ordered, is_given, accepted_by, byes_by, withdrawn_by, solved_by, returned_by, strangers_by}
+use Rattle.desk_room.specs.Events.{RoomLists, Event, Takes, Gives, Orders, Hears, May, after, one_more, one_if, tally, is_heard, is_taken}
+use Rattle.desk_room.specs.Events.{is_ordered, is_given, accepted_by, byes_by, withdrawn_by, solved_by, returned_by, strangers_by}
 use Rattle.desk_room.specs.Kept.{is_withdrawn}
 use Rattle.desk_room.specs.Turns.{Turned, AreGains, total, notices, withdrawals, pending_at}
 use Rattle.desk_room.specs.declared.turns.Turn.{Turn}
@@ -20,16 +23,21 @@ use Rattle.desk_room.proofs.LetterCounts.{records_append, farewells_count}
 use Rattle.desk_room.proofs.Places.{change_past}
 use Rattle.desk_room.proofs.Counting.{count_in, count_all, count_entries, count_same, count_change, count_snoc}
 use Rattle.desk_room.proofs.Queues.{ready_at, gone, first_is, collected_is}
-use Rattle.desk_room.proofs.Leaving.{run_same, run_keeps, run_adds, run_counts, heard_taken, heard_put, heard_orders, taken_put, taken_heard, taken_orders, ordered_taken, ordered_put, ordered_heard, given_taken, given_heard, given_orders, closed_kept}
+use Rattle.desk_room.proofs.Leaving.{run_same, run_keeps, run_adds, run_counts, heard_taken, heard_put, heard_orders}
+use Rattle.desk_room.proofs.Leaving.{taken_put, taken_heard, taken_orders, ordered_taken, ordered_put, ordered_heard}
+use Rattle.desk_room.proofs.Leaving.{given_taken, given_heard, given_orders, closed_kept}
 
-total_change : {A : Type 0} (h : A → ℕ) (g : A → A) (k n : ℕ) (xs : List A) → ((a : A) → h (g a) ≡ h a + k) → n < length xs → total h (change_at n g xs) ≡ total h xs + k
+total_change : {A : Type 0} (h : A → ℕ) (g : A → A) (k n : ℕ) (xs : List A) → ((a : A) → h (g a) ≡ h a + k) → n < length xs
+    → total h (change_at n g xs) ≡ total h xs + k
 total_change h g k n [] each m = absurd (omega arith)
 total_change h g k zero (x ∷ xs) each m = omega (arith, each x)
 total_change h g k (suc n) (x ∷ xs) each m = omega (arith, total_change h g k n xs each (omega arith))
 
-adds_records : (e : Event) (s : RoomLists) → is_taken e ≡ true → May e s → total (λ l. length (records l)) (after e s).taken ≡ total (λ l. length (records l)) s.taken + accepted_by e s
+adds_records : (e : Event) (s : RoomLists) → is_taken e ≡ true → May e s
+    → total (λ l. length (records l)) (after e s).taken ≡ total (λ l. length (records l)) s.taken + accepted_by e s
 adds_records (Hears b x) s k m = absurd (true≢false (sym k))
-adds_records (Takes n x) s k m = total_change (λ l. length (records l)) (one_more x) (length (records (x ∷ []))) n s.taken (λ a. omega (arith, ap length (records_append a (x ∷ [])), length-append (records a) (records (x ∷ [])))) m.0
+adds_records (Takes n x) s k m = total_change (λ l. length (records l)) (one_more x) (length (records (x ∷ []))) n s.taken
+    (λ a. omega (arith, ap length (records_append a (x ∷ [])), length-append (records a) (records (x ∷ [])))) m.0
 adds_records (Orders job) s k m = absurd (true≢false (sym k))
 adds_records (Gives n d) s k m = absurd (true≢false (sym k))
 
@@ -70,7 +78,12 @@ tally_sum (e ∷ es) s = omega (arith, tally_sum es (after e s))
 
 -- how many are withdrawn
 withdrawn_in : (p : EntryValue → Bool) (ph : Phase) (e : EntryValue) → is_withdrawn (into_phase p ph e) ≡ is_withdrawn e
-withdrawn_in p ph e = elim (p e) as (λ b. is_withdrawn (if b then record { ticket = e.ticket; asked = e.asked; phase = ph; withdrawn = e.withdrawn } else e) ≡ e.withdrawn) [ true ↦ refl | false ↦ refl ]
+withdrawn_in p ph e = elim (p e) as (λ b. is_withdrawn (if b then record {
+  ticket = e.ticket;
+  asked = e.asked;
+  phase = ph;
+  withdrawn = e.withdrawn;
+} else e) ≡ e.withdrawn) [ true ↦ refl | false ↦ refl ]
 
 abbrev all_withdrawn : RoomLists → ℕ
 all_withdrawn s = count_all is_withdrawn s.content.queues + total notices s.put
@@ -79,8 +92,10 @@ withdrawals_are : (s : RoomLists) → withdrawals s ≡ all_withdrawn s
 withdrawals_are s = ap (λ n. n + total notices s.put) (count_entries is_withdrawn s.content)
 
 heard_withdrawn : (e : Event) (s : RoomLists) → is_heard e ≡ true → May e s → all_withdrawn (after e s) ≡ all_withdrawn s
-heard_withdrawn (Hears b (Solved d)) s k m = ap (λ n. n + total notices s.put) (count_same is_withdrawn is_withdrawn _ (withdrawn_in (is_out_with d) Finished) s.content.queues)
-heard_withdrawn (Hears b (Returned j)) s k m = ap (λ n. n + total notices s.put) (count_same is_withdrawn is_withdrawn _ (withdrawn_in (is_out_with j) Waiting) s.content.queues)
+heard_withdrawn (Hears b (Solved d)) s k m = ap (λ n. n + total notices s.put)
+    (count_same is_withdrawn is_withdrawn _ (withdrawn_in (is_out_with d) Finished) s.content.queues)
+heard_withdrawn (Hears b (Returned j)) s k m = ap (λ n. n + total notices s.put)
+    (count_same is_withdrawn is_withdrawn _ (withdrawn_in (is_out_with j) Waiting) s.content.queues)
 heard_withdrawn (Takes n x) s k m = absurd (true≢false (sym k))
 heard_withdrawn (Orders job) s k m = absurd (true≢false (sym k))
 heard_withdrawn (Gives n d) s k m = absurd (true≢false (sym k))
@@ -88,7 +103,8 @@ heard_withdrawn (Gives n d) s k m = absurd (true≢false (sym k))
 ordered_withdrawn : (e : Event) (s : RoomLists) → is_ordered e ≡ true → May e s → all_withdrawn (after e s) ≡ all_withdrawn s
 ordered_withdrawn (Hears b x) s k m = absurd (true≢false (sym k))
 ordered_withdrawn (Takes n x) s k m = absurd (true≢false (sym k))
-ordered_withdrawn (Orders job) s k m = ap (λ n. n + total notices s.put) (count_same is_withdrawn is_withdrawn _ (withdrawn_in (waits_as job) Out) s.content.queues)
+ordered_withdrawn (Orders job) s k m = ap (λ n. n + total notices s.put)
+    (count_same is_withdrawn is_withdrawn _ (withdrawn_in (waits_as job) Out) s.content.queues)
 ordered_withdrawn (Gives n d) s k m = absurd (true≢false (sym k))
 
 notices_append : (xs ys : List Delivery) → notices (xs ++ ys) ≡ notices xs + notices ys
@@ -103,12 +119,14 @@ notice_is d i h = own i.withdrawn ∙ ap (λ x. notices (x ∷ [])) h
     own true = refl
     own false = refl
 
-gone_withdrawn : (d : Delivery) (q : QueueValue) → delivery (ready_first q.pending) ≡ Some d → count_in is_withdrawn (gone q).pending + notices (d ∷ []) ≡ count_in is_withdrawn q.pending
+gone_withdrawn : (d : Delivery) (q : QueueValue) → delivery (ready_first q.pending) ≡ Some d
+    → count_in is_withdrawn (gone q).pending + notices (d ∷ []) ≡ count_in is_withdrawn q.pending
 gone_withdrawn d q h =
     let f = first_is d q.pending h in
     rw (f.there) (omega (arith, notice_is d f.entry f.given))
 
-all_gone : (n : ℕ) (d : Delivery) (qs : List QueueValue) → delivery (ready_first (pending_at n qs)) ≡ Some d → count_all is_withdrawn (change_at n gone qs) + notices (d ∷ []) ≡ count_all is_withdrawn qs
+all_gone : (n : ℕ) (d : Delivery) (qs : List QueueValue) → delivery (ready_first (pending_at n qs)) ≡ Some d
+    → count_all is_withdrawn (change_at n gone qs) + notices (d ∷ []) ≡ count_all is_withdrawn qs
 all_gone zero d [] h = absurd (cc)
 all_gone (suc n) d [] h = absurd (cc)
 all_gone zero d (q ∷ qs) h = omega (arith, gone_withdrawn d q h)
@@ -128,7 +146,8 @@ given_withdrawn (Gives n d) s k m =
     )
 
 -- of a withdrawal
-mark_counts : (j : ℕ) (es : List EntryValue) → j < length es → count_in is_withdrawn (change_at j withdrawn es) ≡ count_in is_withdrawn es + one_if (is_none (withdraw_refusal_by (slice_get es j)))
+mark_counts : (j : ℕ) (es : List EntryValue) → j < length es → count_in is_withdrawn (change_at j withdrawn es)
+    ≡ count_in is_withdrawn es + one_if (is_none (withdraw_refusal_by (slice_get es j)))
 mark_counts j [] h = absurd (omega arith)
 mark_counts zero (e ∷ es) h = here e.withdrawn (count_in is_withdrawn es)
   where
@@ -137,7 +156,8 @@ mark_counts zero (e ∷ es) h = here e.withdrawn (count_in is_withdrawn es)
     here false n = omega arith
 mark_counts (suc j) (e ∷ es) h = omega (arith, mark_counts j es (omega arith))
 
-nth_counts : (m : ℕ) (q : QueueValue) → count_in is_withdrawn (withdrawn_at m q).pending ≡ count_in is_withdrawn q.pending + one_if (is_none (withdraw_refusal_of (Some q) m))
+nth_counts : (m : ℕ) (q : QueueValue) → count_in is_withdrawn (withdrawn_at m q).pending
+    ≡ count_in is_withdrawn q.pending + one_if (is_none (withdraw_refusal_of (Some q) m))
 nth_counts m q = by_tests (nat_lt m q.delivered) refl (nat_le (q.delivered + length q.pending) m) refl
   where
     past : (d l : ℕ) → nat_le (d + l) m ≡ true → l ≤ m - d
@@ -149,13 +169,19 @@ nth_counts m q = by_tests (nat_lt m q.delivered) refl (nat_le (q.delivered + len
     both : (d l : ℕ) → nat_le (d + l) m ≡ true → nat_lt m d ≡ true → ⊥
     both d l h k = let g : d + l ≤ m = grind (arith, nat_tests, h) in let i : m < d = grind (arith, nat_tests, k) in absurd (omega (arith, g, i))
 
-    by_tests : (c : Bool) → nat_lt m q.delivered ≡ c → (b : Bool) → nat_le (q.delivered + length q.pending) m ≡ b → count_in is_withdrawn (withdrawn_at m q).pending ≡ count_in is_withdrawn q.pending + one_if (is_none (withdraw_refusal_of (Some q) m))
+    by_tests : (c : Bool) → nat_lt m q.delivered ≡ c → (b : Bool) → nat_le (q.delivered + length q.pending) m ≡ b
+        → count_in is_withdrawn (withdrawn_at m q).pending
+        ≡ count_in is_withdrawn q.pending + one_if (is_none (withdraw_refusal_of (Some q) m))
     by_tests true k true h = absurd (both q.delivered (length q.pending) h k)
     by_tests true k false h = rw (h, k) (omega arith)
-    by_tests false k true h = rw (h, k) (omega (arith, ap (count_in is_withdrawn) (change_past (m - q.delivered) withdrawn q.pending (past q.delivered (length q.pending) h))))
+    by_tests false k true h = rw (h, k) (omega (
+      arith,
+      ap (count_in is_withdrawn) (change_past (m - q.delivered) withdrawn q.pending (past q.delivered (length q.pending) h)),
+    ))
     by_tests false k false h = rw (h, k) (mark_counts (m - q.delivered) q.pending (inside q.delivered (length q.pending) h k))
 
-all_marked : (n m : ℕ) (qs : List QueueValue) → count_all is_withdrawn (change_at n (withdrawn_at m) qs) ≡ count_all is_withdrawn qs + one_if (is_none (withdraw_refusal_of (slice_get qs n) m))
+all_marked : (n m : ℕ) (qs : List QueueValue) → count_all is_withdrawn (change_at n (withdrawn_at m) qs)
+    ≡ count_all is_withdrawn qs + one_if (is_none (withdraw_refusal_of (slice_get qs n) m))
 all_marked zero m [] = refl
 all_marked (suc n) m [] = refl
 all_marked zero m (q ∷ qs) = omega (arith, nth_counts m q)
@@ -163,7 +189,12 @@ all_marked (suc n) m (q ∷ qs) = omega (arith, all_marked n m qs)
 
 adds_withdrawn : (e : Event) (s : RoomLists) → is_taken e ≡ true → May e s → all_withdrawn (after e s) ≡ all_withdrawn s + withdrawn_by e s
 adds_withdrawn (Hears b x) s k m = absurd (true≢false (sym k))
-adds_withdrawn (Takes n (Record r)) s k m = omega (arith, count_change is_withdrawn (with_entry s.content.next r) n s.content.queues (λ q. count_snoc is_withdrawn q.pending (record { ticket = s.content.next; asked = r; phase = Waiting; withdrawn = false }) refl))
+adds_withdrawn (Takes n (Record r)) s k m =
+    omega (
+      arith,
+      count_change is_withdrawn (with_entry s.content.next r) n s.content.queues (λ q.
+          count_snoc is_withdrawn q.pending (record { ticket = s.content.next; asked = r; phase = Waiting; withdrawn = false }) refl),
+    )
 adds_withdrawn (Takes n (Withdrawal j)) s k m = omega (arith, all_marked n j s.content.queues)
 adds_withdrawn (Takes n Farewell) s k m = omega arith
 adds_withdrawn (Orders job) s k m = absurd (true≢false (sym k))

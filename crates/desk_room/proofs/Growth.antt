@@ -34,7 +34,8 @@ none_gained [] = refl
 none_gained (o ∷ os) = ap (λ l. l ++ gained os os) (ap (drop (length o)) (sym (nil_append o)) ∙ drop_all o []) ∙ none_gained os
 
 -- What one list gained first stands among all that was gained.
-pub any_more : {A : Type 0} (p : A → Bool) (x : A) (b : ℕ) (os ns : List (List A)) → b < length os → Grown (change_at b (one_more x) os) ns → list_any p (gained os ns) ≡ (p x || list_any p (gained (change_at b (one_more x) os) ns))
+pub any_more : {A : Type 0} (p : A → Bool) (x : A) (b : ℕ) (os ns : List (List A)) → b < length os → Grown
+    (change_at b (one_more x) os) ns → list_any p (gained os ns) ≡ (p x || list_any p (gained (change_at b (one_more x) os) ns))
 any_more p x b [] ns h g = absurd (omega arith)
 any_more p x zero (o ∷ os) [] h g = absurd g
 any_more p x (suc b) (o ∷ os) [] h g = absurd g

@@ -23,7 +23,8 @@ reports_snoc (v ∷ vs) (i ∷ is) [] w input r all one = absurd all
 reports_snoc (v ∷ vs) (i ∷ is) (q ∷ qs) w input r all one = (all.0, reports_snoc vs is qs w input r all.1 one)
 
 pub reports_more : (windows ws : List Window) (all inputs : List (List ℕ)) (reports rs : List Report) (w : Window) (input : List ℕ) (r : Report)
-    → windows ≡ ws ++ w ∷ [] → all ≡ inputs ++ input ∷ [] → reports ≡ rs ++ r ∷ [] → AllReport ws inputs rs → Reports w input r → AllReport windows all reports
+    → windows ≡ ws ++ w ∷ [] → all ≡ inputs ++ input ∷ [] → reports ≡ rs ++ r ∷ [] → AllReport ws inputs rs
+    → Reports w input r → AllReport windows all reports
 reports_more windows ws all inputs reports rs w input r p q s rest one = rw (p, q, s) (reports_snoc ws inputs rs w input r rest one)
 
 pub fresh_front : (ws : List Window) (w : Window) → AllFresh (ws ++ w ∷ []) → AllFresh ws × IsFreshWindow w
@@ -48,7 +49,8 @@ of_from ring bound front [] k m (i ∷ is) (r ∷ rs) opened room all = absurd a
 of_from ring bound front (w ∷ ws) k m [] (r ∷ rs) opened room all = absurd all
 of_from ring bound front (w ∷ ws) k m (i ∷ is) (r ∷ rs) opened room all = (
   of_window w r.window m (of_then w k m (opened_of ring bound front w ws (front ++ w ∷ ws) k refl opened) room) all.0.window,
-  of_from ring bound (front ++ w ∷ []) ws k m is rs (subst (λ l. AreOpened ring bound 0 l k.lines.items) (sym (append_assoc front (w ∷ []) ws)) opened) room all.1,
+  of_from ring bound (front ++ w ∷ []) ws k m is rs
+      (subst (λ l. AreOpened ring bound 0 l k.lines.items) (sym (append_assoc front (w ∷ []) ws)) opened) room all.1,
 )
 
 pub all_of : (ring bound : ℕ) (ws : List Window) (k m : Keeper) (inputs : List (List ℕ)) (rs : List Report)
@@ -83,7 +85,8 @@ pub all_later : (k m : Keeper) (rs : List Report) → SameRoom k m → AllOf k r
 all_later k m [] room all = tt
 all_later k m (r ∷ rs) room all = (of_then r.window k m all.0 room, all_later k m rs room all.1)
 
-settled_snoc : (rs : List Report) (os : List Output) (r : Report) (o : Output) → AllSettled rs os → IsSettled r o → AllSettled (rs ++ r ∷ []) (os ++ o ∷ [])
+settled_snoc : (rs : List Report) (os : List Output) (r : Report) (o : Output) → AllSettled rs os → IsSettled r o
+    → AllSettled (rs ++ r ∷ []) (os ++ o ∷ [])
 settled_snoc [] [] r o all one = (one, tt)
 settled_snoc [] (p ∷ ps) r o all one = absurd all
 settled_snoc (q ∷ qs) [] r o all one = absurd all

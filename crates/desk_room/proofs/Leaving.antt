@@ -1,25 +1,31 @@
 -- What runs of events leave as it was, and what they add.
 use Rattle.std.proofs.Common.{◌≡◌, true≢false, ℕ, ◌+◌, Bool, true, List, [], ◌∷◌, length, refl, sym, ap, ◌∙◌, arith}
-use Rattle.desk_room.specs.Events.{RoomLists, Event, Takes, Gives, Orders, Hears, May, after, Leads, AllOf, tally, is_heard, is_taken, is_ordered, is_given}
+use Rattle.desk_room.specs.Events.{RoomLists, Event, Takes, Gives, Orders, Hears, May, after, Leads}
+use Rattle.desk_room.specs.Events.{AllOf, tally, is_heard, is_taken, is_ordered, is_given}
 use Rattle.room_ends.specs.declared.letters.Letter.TheVariants.{Record, Withdrawal, Farewell}
 use Rattle.room_ends.specs.declared.letters.Back.TheVariants.{Solved, Returned}
 
 -- What each event of a kind leaves, their run leaves.
-pub run_same : {X : Type 0} (f : RoomLists → X) (kind : Event → Bool) → ((e : Event) (s : RoomLists) → kind e ≡ true → May e s → f (after e s) ≡ f s) → (es : List Event) (s t : RoomLists) → AllOf kind es → Leads es s t → f t ≡ f s
+pub run_same : {X : Type 0} (f : RoomLists → X) (kind : Event → Bool) → ((e : Event) (s : RoomLists) → kind e ≡ true → May e s
+    → f (after e s) ≡ f s) → (es : List Event) (s t : RoomLists) → AllOf kind es → Leads es s t → f t ≡ f s
 run_same f kind each [] s t a r = ap f r
 run_same f kind each (e ∷ es) s t a r = run_same f kind each es (after e s) t a.1 r.1 ∙ each e s a.0 r.0
 
 -- what any event leaves
-pub run_keeps : {X : Type 0} (f : RoomLists → X) → ((e : Event) (s : RoomLists) → f (after e s) ≡ f s) → (es : List Event) (s t : RoomLists) → Leads es s t → f t ≡ f s
+pub run_keeps : {X : Type 0} (f : RoomLists → X) → ((e : Event) (s : RoomLists) → f (after e s) ≡ f s)
+    → (es : List Event) (s t : RoomLists) → Leads es s t → f t ≡ f s
 run_keeps f each [] s t r = ap f r
 run_keeps f each (e ∷ es) s t r = run_keeps f each es (after e s) t r.1 ∙ each e s
 
 -- what each event of a kind adds, added up
-pub run_adds : (f : RoomLists → ℕ) (g : Event → RoomLists → ℕ) (kind : Event → Bool) → ((e : Event) (s : RoomLists) → kind e ≡ true → May e s → f (after e s) ≡ f s + g e s) → (es : List Event) (s t : RoomLists) → AllOf kind es → Leads es s t → f t ≡ f s + tally g es s
+pub run_adds : (f : RoomLists → ℕ) (g : Event → RoomLists → ℕ) (kind : Event → Bool)
+    → ((e : Event) (s : RoomLists) → kind e ≡ true → May e s → f (after e s) ≡ f s + g e s)
+    → (es : List Event) (s t : RoomLists) → AllOf kind es → Leads es s t → f t ≡ f s + tally g es s
 run_adds f g kind each [] s t a r = omega (arith, ap f r)
 run_adds f g kind each (e ∷ es) s t a r = omega (arith, run_adds f g kind each es (after e s) t a.1 r.1, each e s a.0 r.0)
 
-pub run_counts : (f : RoomLists → ℕ) (kind : Event → Bool) → ((e : Event) (s : RoomLists) → kind e ≡ true → May e s → f (after e s) ≡ f s + 1) → (es : List Event) (s t : RoomLists) → AllOf kind es → Leads es s t → f t ≡ f s + length es
+pub run_counts : (f : RoomLists → ℕ) (kind : Event → Bool) → ((e : Event) (s : RoomLists) → kind e ≡ true → May e s
+    → f (after e s) ≡ f s + 1) → (es : List Event) (s t : RoomLists) → AllOf kind es → Leads es s t → f t ≡ f s + length es
 run_counts f kind each [] s t a r = omega (arith, ap f r)
 run_counts f kind each (e ∷ es) s t a r = omega (arith, run_counts f kind each es (after e s) t a.1 r.1, each e s a.0 r.0)
 

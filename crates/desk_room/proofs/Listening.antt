@@ -19,15 +19,18 @@ backs_then k l m f g = λ b. prefix_then _ _ _ (f b) (g b)
 -- where nothing was done at the back rings
 pub backs_ears : (k m : Keeper) → m.receivers ≡ k.receivers → BacksAhead k m
 unfolding BacksAhead
-backs_ears k m e = λ b. subst (λ v. Longer (map heard k.receivers.items) (map back_known k.receivers.items) (map heard v.items) (map back_known v.items) b) (sym e) (prefix_same _)
+backs_ears k m e = λ b. subst (λ v. Longer (map heard k.receivers.items) (map back_known k.receivers.items) (map heard v.items)
+    (map back_known v.items) b) (sym e) (prefix_same _)
 
 pub none_listened : (k : Keeper) (b : ℕ) → b < 0 → get_or (backs_known k) b [] ≡ []
 none_listened k b h = absurd (omega (arith, h))
 
 -- one ring more was heard out
-pub listened_more : (n : ℕ) (k m : Keeper) → ((i : ℕ) → i < n → get_or (backs_known k) i [] ≡ []) → Untouched n (backs_known k) (backs_known m) → get_or (backs_known m) n [] ≡ [] → (i : ℕ) → i < n + 1 → get_or (backs_known m) i [] ≡ []
+pub listened_more : (n : ℕ) (k m : Keeper) → ((i : ℕ) → i < n → get_or (backs_known k) i [] ≡ []) → Untouched n (backs_known k)
+    (backs_known m) → get_or (backs_known m) n [] ≡ [] → (i : ℕ) → i < n + 1 → get_or (backs_known m) i [] ≡ []
 unfolding Untouched
-listened_more n k m all same now i h = ⊎_elim (λ (q : i < n). same i (λ e. absurd (omega (arith, q, e))) ∙ all i q) (λ (q : i ≡ n). subst (λ j. get_or (backs_known m) j [] ≡ []) (sym q) now) (below_or i n h)
+listened_more n k m all same now i h = ⊎_elim (λ (q : i < n). same i (λ e. absurd (omega (arith, q, e))) ∙ all i q)
+    (λ (q : i ≡ n). subst (λ j. get_or (backs_known m) j [] ≡ []) (sym q) now) (below_or i n h)
 
 past_the_last : (es : List BackReceiver) (b : ℕ) → length es ≤ b → get_or (map back_known es) b [] ≡ []
 past_the_last [] b h = refl
@@ -35,5 +38,7 @@ past_the_last (e ∷ es) zero h = absurd (omega arith)
 past_the_last (e ∷ es) (suc b) h = past_the_last es b (omega arith)
 
 -- every ring was
-pub all_listened : (n : ℕ) (k : Keeper) → n ≡ length k.receivers.items → ((i : ℕ) → i < n → get_or (backs_known k) i [] ≡ []) → (i : ℕ) → get_or (backs_known k) i [] ≡ []
-all_listened n k e all i = ⊎_elim (λ (q : i < n). all i q) (λ (q : n ≤ i). past_the_last k.receivers.items i (omega (arith, q, e))) (below_or_past i n)
+pub all_listened : (n : ℕ) (k : Keeper) → n ≡ length k.receivers.items → ((i : ℕ) → i < n → get_or (backs_known k) i [] ≡ [])
+    → (i : ℕ) → get_or (backs_known k) i [] ≡ []
+all_listened n k e all i =
+    ⊎_elim (λ (q : i < n). all i q) (λ (q : n ≤ i). past_the_last k.receivers.items i (omega (arith, q, e))) (below_or_past i n)

@@ -1,5 +1,6 @@
 -- Each event keeps that withdrawals are marked.
-use Rattle.std.proofs.Common.{◌≡◌, ◌<◌, ◌≤◌, ℕ, zero, suc, ◌+◌, ◌-◌, Bool, true, false, ◌||◌, nat_lt, if◌then◌else◌, List, [], ◌∷◌, ◌++◌, length, map, drop, Some, refl, sym, ap, ◌∙◌, subst, arith, length-append}
+use Rattle.std.proofs.Common.{◌≡◌, ◌<◌, ◌≤◌, ℕ, zero, suc, ◌+◌, ◌-◌, Bool, true, false, ◌||◌, nat_lt, if◌then◌else◌, List}
+use Rattle.std.proofs.Common.{[], ◌∷◌, ◌++◌, length, map, drop, Some, refl, sym, ap, ◌∙◌, subst, arith, length-append}
 use Rattle.std.proofs.Math.Logic.{∥∥₁_map}
 use Rattle.std.proofs.lemmas.List.{map-append}
 use Rattle.std.proofs.lemmas.Bool.Decides.{nat_tests}
@@ -21,8 +22,10 @@ use Rattle.desk_room.proofs.Places.{map_length, change_id, change_length}
 use Rattle.desk_room.proofs.Tests.{and_both, and_make, or_left}
 use Rattle.desk_room.proofs.Queues.{ready_at, gone, first_is, collected_is}
 
-marked_change : (g : List Letter → List Letter) (f : List Delivery → List Delivery) (h : QueueValue → QueueValue) (ts : List (List Letter)) (ps : List (List Delivery)) (qs : List QueueValue) (n : ℕ)
-    → ((t : List Letter) (p : List Delivery) (q : QueueValue) → q.pending ≡ pending_at n qs → IsMarked t p q → IsMarked (g t) (f p) (h q)) → EachIsMarked ts ps qs → EachIsMarked (change_at n g ts) (change_at n f ps) (change_at n h qs)
+marked_change : (g : List Letter → List Letter) (f : List Delivery → List Delivery) (h : QueueValue → QueueValue)
+    (ts : List (List Letter)) (ps : List (List Delivery)) (qs : List QueueValue) (n : ℕ)
+    → ((t : List Letter) (p : List Delivery) (q : QueueValue) → q.pending ≡ pending_at n qs → IsMarked t p q → IsMarked (g t)
+    (f p) (h q)) → EachIsMarked ts ps qs → EachIsMarked (change_at n g ts) (change_at n f ps) (change_at n h qs)
 marked_change g f h [] [] [] zero each a = tt
 marked_change g f h [] [] [] (suc n) each a = tt
 marked_change g f h [] [] (q ∷ qs) n each a = absurd a
@@ -34,9 +37,12 @@ marked_change g f h (t ∷ ts) (p ∷ ps) (q ∷ qs) (suc n) each a = (a.0, mark
 
 withdrawn_moved : (p : EntryValue → Bool) (ph : Phase) (es : List EntryValue) → map is_withdrawn (map (into_phase p ph) es) ≡ map is_withdrawn es
 withdrawn_moved p ph [] = refl
-withdrawn_moved p ph (e ∷ es) = ap (λ b. b ∷ map is_withdrawn (map (into_phase p ph) es)) (elim (p e) as (λ b. is_withdrawn (if b then record { ticket = e.ticket; asked = e.asked; phase = ph; withdrawn = e.withdrawn } else e) ≡ e.withdrawn) [ true ↦ refl | false ↦ refl ]) ∙ ap (λ l. e.withdrawn ∷ l) (withdrawn_moved p ph es)
+withdrawn_moved p ph (e ∷ es) = ap (λ b. b ∷ map is_withdrawn (map (into_phase p ph) es)) (elim (p e) as (λ b.
+    is_withdrawn (if b then record { ticket = e.ticket; asked = e.asked; phase = ph; withdrawn = e.withdrawn } else e)
+    ≡ e.withdrawn) [ true ↦ refl | false ↦ refl ]) ∙ ap (λ l. e.withdrawn ∷ l) (withdrawn_moved p ph es)
 
-marked_moved : (f : EntryValue → Bool) (ph : Phase) (ts : List (List Letter)) (ps : List (List Delivery)) (qs : List QueueValue) → EachIsMarked ts ps qs → EachIsMarked ts ps (map (in_queue (into_phase f ph)) qs)
+marked_moved : (f : EntryValue → Bool) (ph : Phase) (ts : List (List Letter)) (ps : List (List Delivery)) (qs : List QueueValue)
+    → EachIsMarked ts ps qs → EachIsMarked ts ps (map (in_queue (into_phase f ph)) qs)
 marked_moved f ph [] [] [] a = tt
 marked_moved f ph [] [] (q ∷ qs) a = absurd a
 marked_moved f ph [] (p ∷ ps) qs a = absurd a
@@ -106,13 +112,21 @@ drop_high (suc k) (suc n) zero [] h = refl
 drop_high (suc k) (suc n) (suc j) [] h = refl
 drop_high (suc k) (suc n) j (m ∷ ms) h = drop_high k n j ms (omega (arith, h))
 
-marked_record : (r : RecordValue) (k : ℕ) (t : List Letter) (p : List Delivery) (q : QueueValue) → IsMarked t p q → IsMarked (t ++ Record r ∷ []) p (with_entry k r q)
+marked_record : (r : RecordValue) (k : ℕ) (t : List Letter) (p : List Delivery) (q : QueueValue) → IsMarked t p q
+    → IsMarked (t ++ Record r ∷ []) p (with_entry k r q)
 marked_record r k t p q a =
     let e : marks (t ++ Record r ∷ []) ≡ marks t ++ false ∷ [] = marks_append [] t (Record r ∷ []) in
     record {
       delivered = a.delivered;
-      counted = omega (arith, a.counted, ap length e, length-append (marks t) (false ∷ []), length-append q.pending (record { ticket = k; asked = r; phase = Waiting; withdrawn = false } ∷ []));
-      withdrawn = map-append is_withdrawn q.pending _ ∙ (ap (λ l. l ++ false ∷ []) a.withdrawn ∙ (sym (drop_snoc (length p) (marks t) false (omega (arith, a.counted))) ∙ ap (drop (length p)) (sym e)));
+      counted = omega (
+        arith,
+        a.counted,
+        ap length e,
+        length-append (marks t) (false ∷ []),
+        length-append q.pending (record { ticket = k; asked = r; phase = Waiting; withdrawn = false } ∷ []),
+      );
+      withdrawn = map-append is_withdrawn q.pending _ ∙ (ap (λ l. l ++ false ∷ []) a.withdrawn
+          ∙ (sym (drop_snoc (length p) (marks t) false (omega (arith, a.counted))) ∙ ap (drop (length p)) (sym e)));
       notices = ap (are_notices_marked p) e ∙ notices_snoc p (marks t) false a.notices;
     }
 
@@ -126,10 +140,12 @@ marked_farewell t p q a =
       notices = ap (are_notices_marked p) e ∙ a.notices;
     }
 
-marked_withdrawal : (m : ℕ) (t : List Letter) (p : List Delivery) (q : QueueValue) → IsMarked t p q → IsMarked (t ++ Withdrawal m ∷ []) p (withdrawn_at m q)
+marked_withdrawal : (m : ℕ) (t : List Letter) (p : List Delivery) (q : QueueValue) → IsMarked t p q
+    → IsMarked (t ++ Withdrawal m ∷ []) p (withdrawn_at m q)
 marked_withdrawal m t p q a =
     let e : marks (t ++ Withdrawal m ∷ []) ≡ mark m (marks t) = marks_append [] t (Withdrawal m ∷ []) in
-    (elim (nat_lt m q.delivered) as (λ b. nat_lt m q.delivered ≡ b → IsMarked (t ++ Withdrawal m ∷ []) p (if b then q else record { room = q.room; delivered = q.delivered; pending = change_at (m - q.delivered) withdrawn q.pending })) [
+    (elim (nat_lt m q.delivered) as (λ b. nat_lt m q.delivered ≡ b → IsMarked (t ++ Withdrawal m ∷ []) p (if b then q
+    else record { room = q.room; delivered = q.delivered; pending = change_at (m - q.delivered) withdrawn q.pending })) [
       | true ↦ λ l.
           let low : m < length p = below m q.delivered (length p) l a.delivered in
           record {
@@ -143,7 +159,8 @@ marked_withdrawal m t p q a =
           record {
             delivered = a.delivered;
             counted = omega (arith, a.counted, ap length e, mark_length m (marks t), change_length (m - q.delivered) withdrawn q.pending);
-            withdrawn = marks_entries (m - q.delivered) q.pending ∙ (ap (mark (m - q.delivered)) a.withdrawn ∙ (sym (drop_high (length p) m (m - q.delivered) (marks t) high) ∙ ap (drop (length p)) (sym e)));
+            withdrawn = marks_entries (m - q.delivered) q.pending ∙ (ap (mark (m - q.delivered)) a.withdrawn
+                ∙ (sym (drop_high (length p) m (m - q.delivered) (marks t) high) ∙ ap (drop (length p)) (sym e)));
             notices = ap (are_notices_marked p) e ∙ notices_mark m p (marks t) a.notices;
           }
     ]) refl
@@ -162,11 +179,13 @@ drop_next (suc k) (x ∷ xs) = drop_next k xs
 drop_more : {A : Type 0} (k j : ℕ) (xs : List A) → j ≡ suc k → drop j xs ≡ drop 1 (drop k xs)
 drop_more k j xs e = ap (λ n. drop n xs) e ∙ drop_next k xs
 
-notices_last : (ds : List Delivery) (d : Delivery) (ms : List Bool) (m : Bool) (rest : List Bool) → drop (length ds) ms ≡ m ∷ rest → are_notices_marked ds ms ≡ true → (is_answer d || m) ≡ true → are_notices_marked (ds ++ d ∷ []) ms ≡ true
+notices_last : (ds : List Delivery) (d : Delivery) (ms : List Bool) (m : Bool) (rest : List Bool) → drop (length ds) ms ≡ m ∷ rest
+    → are_notices_marked ds ms ≡ true → (is_answer d || m) ≡ true → are_notices_marked (ds ++ d ∷ []) ms ≡ true
 notices_last [] d [] m rest e f g = absurd (cc)
 notices_last [] d (x ∷ ms) m rest e f g = let y : x ≡ m = cc in and_make (is_answer d || x) true (ap (λ b. is_answer d || b) y ∙ g) refl
 notices_last (c ∷ ds) d [] m rest e f g = absurd (cc)
-notices_last (c ∷ ds) d (x ∷ ms) m rest e f g = let y = and_both (is_answer c || x) _ f in and_make (is_answer c || x) _ y.0 (notices_last ds d ms m rest e y.1 g)
+notices_last (c ∷ ds) d (x ∷ ms) m rest e f g = let y = and_both (is_answer c || x) _ f in
+    and_make (is_answer c || x) _ y.0 (notices_last ds d ms m rest e y.1 g)
 
 fair : (d : Delivery) (i : EntryValue) → delivery_of i ≡ d → (is_answer d || i.withdrawn) ≡ true
 fair d i h = ap (λ x. is_answer x || i.withdrawn) (sym h) ∙ own i.withdrawn
@@ -175,7 +194,8 @@ fair d i h = ap (λ x. is_answer x || i.withdrawn) (sym h) ∙ own i.withdrawn
     own true = refl
     own false = refl
 
-marked_first : (d : Delivery) (t : List Letter) (p : List Delivery) (q : QueueValue) → delivery (ready_first q.pending) ≡ Some d → IsMarked t p q → IsMarked t (p ++ d ∷ []) (gone q)
+marked_first : (d : Delivery) (t : List Letter) (p : List Delivery) (q : QueueValue) → delivery (ready_first q.pending) ≡ Some d
+    → IsMarked t p q → IsMarked t (p ++ d ∷ []) (gone q)
 marked_first d t p q r a =
     let f = first_is d q.pending r in
     let len = length-append p (d ∷ []) in
@@ -183,7 +203,8 @@ marked_first d t p q r a =
     record {
       delivered = omega (arith, a.delivered, len);
       counted = omega (arith, a.counted, len, ap length f.there, ap (λ l. length (drop 1 l)) f.there);
-      withdrawn = ap (λ l. map is_withdrawn (drop 1 l)) f.there ∙ (ap (drop 1) m ∙ sym (drop_more (length p) (length (p ++ d ∷ [])) (marks t) (omega (arith, len))));
+      withdrawn = ap (λ l. map is_withdrawn (drop 1 l)) f.there
+          ∙ (ap (drop 1) m ∙ sym (drop_more (length p) (length (p ++ d ∷ [])) (marks t) (omega (arith, len))));
       notices = notices_last p d (marks t) f.entry.withdrawn (map is_withdrawn f.rest) (sym m) a.notices (fair d f.entry f.given);
     }
 
@@ -193,20 +214,25 @@ marked_after (Hears b (Solved d)) s m a = marked_moved _ _ s.taken s.put s.conte
 marked_after (Hears b (Returned j)) s m a = marked_moved _ _ s.taken s.put s.content.queues a
 marked_after (Orders job) s m a = marked_moved _ _ s.taken s.put s.content.queues a
 marked_after (Takes n (Record r)) s m a =
-    subst (λ (ps : List (List Delivery)). EachIsMarked (change_at n (one_more (Record r)) s.taken) ps (change_at n (with_entry s.content.next r) s.content.queues)) (change_id n s.put)
-    (marked_change (one_more (Record r)) (λ p. p) (with_entry s.content.next r) s.taken s.put s.content.queues n (λ t p q h. marked_record r s.content.next t p q) a)
+    subst (λ (ps : List (List Delivery)). EachIsMarked (change_at n (one_more (Record r)) s.taken) ps
+    (change_at n (with_entry s.content.next r) s.content.queues)) (change_id n s.put)
+    (marked_change (one_more (Record r)) (λ p. p) (with_entry s.content.next r) s.taken s.put s.content.queues n
+    (λ t p q h. marked_record r s.content.next t p q) a)
 marked_after (Takes n (Withdrawal k)) s m a =
-    subst (λ (ps : List (List Delivery)). EachIsMarked (change_at n (one_more (Withdrawal k)) s.taken) ps (change_at n (withdrawn_at k) s.content.queues)) (change_id n s.put)
+    subst (λ (ps : List (List Delivery)). EachIsMarked (change_at n (one_more (Withdrawal k)) s.taken) ps
+    (change_at n (withdrawn_at k) s.content.queues)) (change_id n s.put)
     (marked_change (one_more (Withdrawal k)) (λ p. p) (withdrawn_at k) s.taken s.put s.content.queues n (λ t p q h. marked_withdrawal k t p q) a)
 marked_after (Takes n Farewell) s m a =
     subst (λ (ps : List (List Delivery)). EachIsMarked (change_at n (one_more Farewell) s.taken) ps s.content.queues) (change_id n s.put)
-    (subst (λ (qs : List QueueValue). EachIsMarked (change_at n (one_more Farewell) s.taken) (change_at n (λ p. p) s.put) qs) (change_id n s.content.queues)
+    (subst (λ (qs : List QueueValue). EachIsMarked (change_at n (one_more Farewell) s.taken) (change_at n (λ p. p) s.put) qs)
+    (change_id n s.content.queues)
     (marked_change (one_more Farewell) (λ p. p) (λ q. q) s.taken s.put s.content.queues n (λ t p q h. marked_farewell t p q) a))
 marked_after (Gives n d) s m a =
     let r : delivery (ready_first (pending_at n s.content.queues)) ≡ Some d = ap delivery (sym (ready_at n s.content.queues)) ∙ m.1 in
     subst (λ (qs : List QueueValue). EachIsMarked s.taken (change_at n (one_more d) s.put) qs) (sym (collected_is n d s.content.queues r))
     (subst (λ (ts : List (List Letter)). EachIsMarked ts (change_at n (one_more d) s.put) (change_at n gone s.content.queues)) (change_id n s.taken)
-    (marked_change (λ t. t) (one_more d) gone s.taken s.put s.content.queues n (λ t p q h. marked_first d t p q (ap (λ l. delivery (ready_first l)) h ∙ r)) a))
+    (marked_change (λ t. t) (one_more d) gone s.taken s.put s.content.queues n
+    (λ t p q h. marked_first d t p q (ap (λ l. delivery (ready_first l)) h ∙ r)) a))
 
 pub marked_run : (es : List Event) (s t : RoomLists) → Leads es s t → AreMarked s → AreMarked t
 marked_run [] s t r a = subst AreMarked (sym r) a

@@ -18,7 +18,8 @@ of_window w v k h s = (h.0, ap (slice_get k.lines.items) s.2 ∙ h.1, ends_stay 
 
 -- the window behind so many others
 opened_at : (ring bound n : ℕ) (front : List Window) (w : Window) (back : List Window) (ls : List Line)
-    → AreOpened ring bound n (front ++ w ∷ back) ls → (line : Line) × (slice_get ls (length front) ≡ Some line) × AreEnds w line × (number_of w ≡ n + length front)
+    → AreOpened ring bound n (front ++ w ∷ back) ls
+    → (line : Line) × (slice_get ls (length front) ≡ Some line) × AreEnds w line × (number_of w ≡ n + length front)
 opened_at ring bound n [] w back [] h = absurd h
 opened_at ring bound n [] w back (l ∷ ls) h = (l, refl, h.0.ends, h.0.number ∙ omega arith)
 opened_at ring bound n (v ∷ front) w back [] h = absurd h

@@ -13,14 +13,17 @@ owed_new : (n room : ℕ) → map records (replicate n []) ≡ owed (replicate n
 owed_new zero room = refl
 owed_new (suc n) room = ap (λ l. [] ∷ l) (owed_new n room)
 
-pub owed_fresh : (n room : ℕ) (ts : List (List Letter)) (ps : List (List Delivery)) (qs : List QueueValue) → ts ≡ replicate n [] → ps ≡ replicate n [] → qs ≡ replicate n (no_queue room) → map records ts ≡ owed ps qs
-owed_fresh n room ts ps qs e f g = ap (map records) e ∙ (owed_new n room ∙ (ap (λ p. owed p (replicate n (no_queue room))) (sym f) ∙ ap (owed ps) (sym g)))
+pub owed_fresh : (n room : ℕ) (ts : List (List Letter)) (ps : List (List Delivery)) (qs : List QueueValue) → ts ≡ replicate n []
+    → ps ≡ replicate n [] → qs ≡ replicate n (no_queue room) → map records ts ≡ owed ps qs
+owed_fresh n room ts ps qs e f g = ap (map records) e
+    ∙ (owed_new n room ∙ (ap (λ p. owed p (replicate n (no_queue room))) (sym f) ∙ ap (owed ps) (sym g)))
 
 marked_new : (n room : ℕ) → EachIsMarked (replicate n []) (replicate n []) (replicate n (no_queue room))
 marked_new zero room = tt
 marked_new (suc n) room = (record { delivered = refl; counted = refl; withdrawn = refl; notices = refl }, marked_new n room)
 
-pub marked_fresh : (n room : ℕ) (ts : List (List Letter)) (ps : List (List Delivery)) (qs : List QueueValue) → ts ≡ replicate n [] → ps ≡ replicate n [] → qs ≡ replicate n (no_queue room) → EachIsMarked ts ps qs
+pub marked_fresh : (n room : ℕ) (ts : List (List Letter)) (ps : List (List Delivery)) (qs : List QueueValue) → ts ≡ replicate n []
+    → ps ≡ replicate n [] → qs ≡ replicate n (no_queue room) → EachIsMarked ts ps qs
 marked_fresh n room ts ps qs e f g = rw (e, f, g) (marked_new n room)
 
 pub queues_fresh : {A : Type 0} (n : ℕ) (a : A) → length (replicate n a) ≡ n

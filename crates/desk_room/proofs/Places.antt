@@ -1,5 +1,6 @@
 -- A list with one place changed.
-use Rattle.std.proofs.Common.{◌≡◌, ◌≢◌, ◌<◌, ◌≤◌, ◌⊎◌, inl, inr, ⊎_elim, ℕ, zero, suc, ◌+◌, List, [], ◌∷◌, ◌++◌, length, map, set, get_or, drop, refl, sym, ap, ◌∙◌, arith}
+use Rattle.std.proofs.Common.{◌≡◌, ◌≢◌, ◌<◌, ◌≤◌, ◌⊎◌, inl, inr, ⊎_elim, ℕ, zero, suc, ◌+◌, List, []}
+use Rattle.std.proofs.Common.{◌∷◌, ◌++◌, length, map, set, get_or, drop, refl, sym, ap, ◌∙◌, arith}
 use Rattle.mate_desk.specs.Calls.{change_at}
 
 pub nil_append : {A : Type 0} (xs : List A) → xs ++ [] ≡ xs
@@ -37,12 +38,14 @@ change_past (suc j) f [] h = refl
 change_past zero f (x ∷ xs) h = absurd (omega arith)
 change_past (suc j) f (x ∷ xs) h = ap (λ l. x ∷ l) (change_past j f xs (omega arith))
 
-pub map_change : {A B : Type 0} (f : A → B) (g : B → B) (ls : List A) (n : ℕ) (l m : A) → n < length ls → l ≡ get_or ls n l → f m ≡ g (f l) → map f (set ls n m) ≡ change_at n g (map f ls)
+pub map_change : {A B : Type 0} (f : A → B) (g : B → B) (ls : List A) (n : ℕ) (l m : A) → n < length ls → l ≡ get_or ls n l
+    → f m ≡ g (f l) → map f (set ls n m) ≡ change_at n g (map f ls)
 map_change f g [] n l m h e s = absurd (omega arith)
 map_change f g (x ∷ xs) zero l m h e s = ap (λ b. b ∷ map f xs) (s ∙ ap (λ a. g (f a)) e)
 map_change f g (x ∷ xs) (suc n) l m h e s = ap (λ bs. f x ∷ bs) (map_change f g xs n l m (omega arith) e s)
 
-pub map_same : {A B : Type 0} (f : A → B) (ls : List A) (n : ℕ) (l m : A) → n < length ls → l ≡ get_or ls n l → f m ≡ f l → map f (set ls n m) ≡ map f ls
+pub map_same : {A B : Type 0} (f : A → B) (ls : List A) (n : ℕ) (l m : A) → n < length ls → l ≡ get_or ls n l
+    → f m ≡ f l → map f (set ls n m) ≡ map f ls
 map_same f [] n l m h e s = absurd (omega arith)
 map_same f (x ∷ xs) zero l m h e s = ap (λ b. b ∷ map f xs) (s ∙ ap f e)
 map_same f (x ∷ xs) (suc n) l m h e s = ap (λ bs. f x ∷ bs) (map_same f xs n l m (omega arith) e s)

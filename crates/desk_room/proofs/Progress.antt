@@ -1,24 +1,30 @@
 -- What a submitter has handled, one step more.
-use Rattle.std.proofs.Common.{◌≡◌, ℕ, ◌+◌, ◌≤◌, List, [], ◌∷◌, ◌++◌, length, refl, ap, sym, ◌∙◌, subst, arith, append_assoc, append-nil, length-append}
+use Rattle.std.proofs.Common.{◌≡◌, ℕ, ◌+◌, ◌≤◌, List, [], ◌∷◌, ◌++◌, length, refl, ap, sym}
+use Rattle.std.proofs.Common.{◌∙◌, subst, arith, append_assoc, append-nil, length-append}
 use Rattle.chess_notation.specs.Records.{RecordValue}
 use Rattle.text_lines.specs.Lines.{without_cr}
 use Rattle.mate_answers.specs.InputReplies.{answer_line, IsLineReply, IsReplyFrom, RepliesGoOn}
 use Rattle.desk_room.specs.inside.Submitters.{woven, Progress}
 
-woven_snoc : (rs : List RecordValue) (ts : List (List ℕ)) (r : RecordValue) → length ts ≡ length rs → woven (rs ++ r ∷ []) (ts ++ [] ∷ []) ≡ woven rs ts ++ answer_line r
+woven_snoc : (rs : List RecordValue) (ts : List (List ℕ)) (r : RecordValue) → length ts ≡ length rs
+    → woven (rs ++ r ∷ []) (ts ++ [] ∷ []) ≡ woven rs ts ++ answer_line r
 woven_snoc [] [] r is = append-nil (answer_line r ++ []) ∙ append-nil (answer_line r)
 woven_snoc [] (t ∷ ts) r is = absurd (omega (arith, is))
 woven_snoc (q ∷ qs) [] r is = absurd (omega (arith, is))
 woven_snoc (q ∷ qs) (t ∷ ts) r is =
-    ap (λ l. (answer_line q ++ t) ++ l) (woven_snoc qs ts r (omega (arith, is))) ∙ sym (append_assoc (answer_line q ++ t) (woven qs ts) (answer_line r))
+    ap (λ l. (answer_line q ++ t) ++ l) (woven_snoc qs ts r (omega (arith, is)))
+    ∙ sym (append_assoc (answer_line q ++ t) (woven qs ts) (answer_line r))
 
-woven_behind : (rs : List RecordValue) (ts : List (List ℕ)) (t more : List ℕ) → length rs ≡ length ts + 1 → woven rs (ts ++ (t ++ more) ∷ []) ≡ woven rs (ts ++ t ∷ []) ++ more
+woven_behind : (rs : List RecordValue) (ts : List (List ℕ)) (t more : List ℕ) → length rs ≡ length ts + 1
+    → woven rs (ts ++ (t ++ more) ∷ []) ≡ woven rs (ts ++ t ∷ []) ++ more
 woven_behind [] ts t more is = absurd (omega (arith, is))
 woven_behind (r ∷ []) [] t more is =
-    append-nil (answer_line r ++ (t ++ more)) ∙ sym (append_assoc (answer_line r) t more) ∙ ap (λ l. l ++ more) (sym (append-nil (answer_line r ++ t)))
+    append-nil (answer_line r ++ (t ++ more)) ∙ sym (append_assoc (answer_line r) t more)
+    ∙ ap (λ l. l ++ more) (sym (append-nil (answer_line r ++ t)))
 woven_behind (r ∷ q ∷ rs) [] t more is = absurd (omega (arith, is))
 woven_behind (r ∷ rs) (s ∷ ts) t more is =
-    ap (λ l. (answer_line r ++ s) ++ l) (woven_behind rs ts t more (omega (arith, is))) ∙ sym (append_assoc (answer_line r ++ s) (woven rs (ts ++ t ∷ [])) more)
+    ap (λ l. (answer_line r ++ s) ++ l) (woven_behind rs ts t more (omega (arith, is)))
+    ∙ sym (append_assoc (answer_line r ++ s) (woven rs (ts ++ t ∷ [])) more)
 
 woven_none : (rs : List RecordValue) → woven rs [] ≡ []
 woven_none [] = refl
@@ -38,7 +44,8 @@ ends_so (s ∷ ss) (g ∷ gs) rest r few is =
     let first : s ≡ g = cc (is) in
     record { before = more.before; is = more.is; follows = ap (λ x. x ∷ ss) first ∙ ap (λ l. g ∷ l) more.follows }
 
-pub progress_answer : (default refused : ℕ) (lines : List (List ℕ)) (sent got : List RecordValue) (a : RecordValue) (text b : List ℕ) (bs : List (List ℕ))
+pub progress_answer : (default refused : ℕ) (lines : List (List ℕ)) (sent got : List RecordValue)
+    (a : RecordValue) (text b : List ℕ) (bs : List (List ℕ))
     → Progress default lines sent got text (b ∷ bs) refused → Progress default lines sent (got ++ a ∷ []) (text ++ (answer_line a ++ b)) bs refused
 progress_answer default refused lines sent got a text b bs old = record {
   awaited = omega (arith, old.awaited, length-append got (a ∷ []));
@@ -47,19 +54,24 @@ progress_answer default refused lines sent got a text b bs old = record {
       (old.replied (a ∷ rest) (is ∙ append_assoc got (a ∷ []) rest));
 }
 
-pub progress_record : RepliesGoOn → (default refused : ℕ) (lines : List (List ℕ)) (line : List ℕ) (sent got : List RecordValue) (r : RecordValue) (text : List ℕ) (pending : List (List ℕ))
+pub progress_record : RepliesGoOn → (default refused : ℕ) (lines : List (List ℕ)) (line : List ℕ) (sent got : List RecordValue)
+    (r : RecordValue) (text : List ℕ) (pending : List (List ℕ))
     → IsLineReply default (length lines + 1) (without_cr line) (answer_line r) 0
-    → Progress default lines sent got text pending refused → Progress default (lines ++ line ∷ []) (sent ++ r ∷ []) got text (pending ++ [] ∷ []) refused
+    → Progress default lines sent got text pending refused
+    → Progress default (lines ++ line ∷ []) (sent ++ r ∷ []) got text (pending ++ [] ∷ []) refused
 progress_record go_on default refused lines line sent got r text pending reply old = record {
   awaited = omega (arith, old.awaited, length-append pending ([] ∷ []), length-append sent (r ∷ []));
   replied = λ rest is.
       let ends = ends_so sent got rest r (omega (arith, old.awaited)) is in
       let few : length pending ≡ length ends.before = omega (arith, old.awaited, ap length ends.follows, length-append got ends.before) in
       let next : IsReplyFrom default 1 (lines ++ line ∷ []) ((text ++ woven ends.before pending) ++ answer_line r) (refused + 0) =
-      go_on default (length lines + 1) lines line (text ++ woven ends.before pending) (answer_line r) refused 0 refl (old.replied ends.before ends.follows) reply in
+      go_on default (length lines + 1) lines line (text ++ woven ends.before pending) (answer_line r) refused 0 refl
+      (old.replied ends.before ends.follows) reply in
       let is_text : (text ++ woven ends.before pending) ++ answer_line r ≡ text ++ woven rest (pending ++ [] ∷ []) =
-      append_assoc text (woven ends.before pending) (answer_line r) ∙ ap (λ l. text ++ l) (sym (woven_snoc ends.before pending r few) ∙ ap (λ l. woven l (pending ++ [] ∷ [])) (sym ends.is)) in
-      subst (λ t. IsReplyFrom default 1 (lines ++ line ∷ []) t refused) is_text (subst (λ n. IsReplyFrom default 1 (lines ++ line ∷ []) ((text ++ woven ends.before pending) ++ answer_line r) n) (omega arith) next);
+      append_assoc text (woven ends.before pending) (answer_line r) ∙ ap (λ l. text ++ l)
+      (sym (woven_snoc ends.before pending r few) ∙ ap (λ l. woven l (pending ++ [] ∷ [])) (sym ends.is)) in
+      subst (λ t. IsReplyFrom default 1 (lines ++ line ∷ []) t refused) is_text (subst (λ n. IsReplyFrom default 1
+      (lines ++ line ∷ []) ((text ++ woven ends.before pending) ++ answer_line r) n) (omega arith) next);
 }
 
 pub progress_refusal : RepliesGoOn → (default refused : ℕ) (lines : List (List ℕ)) (line here : List ℕ) (sent got : List RecordValue) (text : List ℕ)
@@ -70,13 +82,16 @@ progress_refusal go_on default refused lines line here sent got text reply old =
   replied = λ rest is.
       let before : IsReplyFrom default 1 lines text refused =
       subst (λ t. IsReplyFrom default 1 lines t refused) (ap (λ l. text ++ l) (woven_none rest) ∙ append-nil text) (old.replied rest is) in
-      subst (λ t. IsReplyFrom default 1 (lines ++ line ∷ []) t (refused + 1)) (sym (ap (λ l. (text ++ here) ++ l) (woven_none rest) ∙ append-nil (text ++ here)))
+      subst (λ t. IsReplyFrom default 1 (lines ++ line ∷ []) t (refused + 1))
+      (sym (ap (λ l. (text ++ here) ++ l) (woven_none rest) ∙ append-nil (text ++ here)))
       (go_on default (length lines + 1) lines line text here refused 1 refl before reply);
 }
 
-pub progress_refusal_behind : RepliesGoOn → (default refused : ℕ) (lines : List (List ℕ)) (line here : List ℕ) (sent got : List RecordValue) (text b : List ℕ) (bs : List (List ℕ))
+pub progress_refusal_behind : RepliesGoOn → (default refused : ℕ) (lines : List (List ℕ)) (line here : List ℕ)
+    (sent got : List RecordValue) (text b : List ℕ) (bs : List (List ℕ))
     → IsLineReply default (length lines + 1) (without_cr line) here 1
-    → Progress default lines sent got text (bs ++ b ∷ []) refused → Progress default (lines ++ line ∷ []) sent got text (bs ++ (b ++ here) ∷ []) (refused + 1)
+    → Progress default lines sent got text (bs ++ b ∷ []) refused
+    → Progress default (lines ++ line ∷ []) sent got text (bs ++ (b ++ here) ∷ []) (refused + 1)
 progress_refusal_behind go_on default refused lines line here sent got text b bs reply old = record {
   awaited = omega (arith, old.awaited, length-append bs (b ∷ []), length-append bs ((b ++ here) ∷ []));
   replied = λ rest is.
@@ -86,7 +101,8 @@ progress_refusal_behind go_on default refused lines line here sent got text b bs
       (go_on default (length lines + 1) lines line (text ++ woven rest (bs ++ b ∷ [])) here refused 1 refl (old.replied rest is) reply);
 }
 
-pub progress_blank : RepliesGoOn → (default refused : ℕ) (lines : List (List ℕ)) (line : List ℕ) (sent got : List RecordValue) (text : List ℕ) (pending : List (List ℕ))
+pub progress_blank : RepliesGoOn → (default refused : ℕ) (lines : List (List ℕ)) (line : List ℕ) (sent got : List RecordValue)
+    (text : List ℕ) (pending : List (List ℕ))
     → IsLineReply default (length lines + 1) (without_cr line) [] 0
     → Progress default lines sent got text pending refused → Progress default (lines ++ line ∷ []) sent got text pending refused
 progress_blank go_on default refused lines line sent got text pending reply old = record {

@@ -1,5 +1,6 @@
 -- What a window has pending, where one queue changes.
-use Rattle.std.proofs.Common.{◌≡◌, ◌≢◌, ℕ, zero, suc, ◌+◌, true, false, if◌then◌else◌, List, [], ◌∷◌, length, map, drop, slice_get, Option, Some, None, refl, ap, arith}
+use Rattle.std.proofs.Common.{◌≡◌, ◌≢◌, ℕ, zero, suc, ◌+◌, true, false, if◌then◌else◌, List, [], ◌∷◌}
+use Rattle.std.proofs.Common.{length, map, drop, slice_get, Option, Some, None, refl, ap, arith}
 use Rattle.mate_desk.specs.Content.{QueueValue, EntryValue, is_ready}
 use Rattle.mate_desk.specs.Calls.{change_at, in_queue, ready_first, ready_of, collected, collected_by}
 use Rattle.mate_desk.specs.Deliveries.{delivery, delivery_of}
@@ -51,7 +52,8 @@ gone_is d q h = by_first (ready_first q.pending) h
     by_first None g = absurd (cc)
     by_first (Some e) g = refl
 
-pub collected_is : (n : ℕ) (d : Delivery) (qs : List QueueValue) → delivery (ready_first (pending_at n qs)) ≡ Some d → change_at n collected qs ≡ change_at n gone qs
+pub collected_is : (n : ℕ) (d : Delivery) (qs : List QueueValue) → delivery (ready_first (pending_at n qs)) ≡ Some d
+    → change_at n collected qs ≡ change_at n gone qs
 collected_is zero d [] h = refl
 collected_is (suc n) d [] h = refl
 collected_is zero d (q ∷ qs) h = ap (λ x. x ∷ qs) (gone_is d q h)

@@ -20,17 +20,22 @@ pub at_number : {A B : Type 0} (f : A → B) (xs : List A) (n m : ℕ) (x : A) (
 at_number f xs n m x d e h = ap (λ i. get_or (map f (set xs n x)) i d) e ∙ at_same f xs n x d h
 
 -- of one window
-owed_list : (n : ℕ) (ts : List (List Letter)) (ps : List (List Delivery)) (qs : List QueueValue) → n < length ts → map records ts ≡ owed ps qs → records (get_or ts n []) ≡ map asked (get_or ps n []) ++ map asked_of (pending_at n qs)
+owed_list : (n : ℕ) (ts : List (List Letter)) (ps : List (List Delivery)) (qs : List QueueValue) → n < length ts
+    → map records ts ≡ owed ps qs → records (get_or ts n []) ≡ map asked (get_or ps n []) ++ map asked_of (pending_at n qs)
 owed_list n [] ps qs h e = absurd (omega arith)
 owed_list n (t ∷ ts) [] qs h e = absurd (cc)
 owed_list n (t ∷ ts) (p ∷ ps) [] h e = absurd (cc)
 owed_list zero (t ∷ ts) (p ∷ ps) (q ∷ qs) h e = head_is [] (records t) (map asked p ++ map asked_of q.pending) _ _ e
-owed_list (suc n) (t ∷ ts) (p ∷ ps) (q ∷ qs) h e = owed_list n ts ps qs (omega arith) (tail_is (records t) (map asked p ++ map asked_of q.pending) (map records ts) (owed ps qs) e)
+owed_list (suc n) (t ∷ ts) (p ∷ ps) (q ∷ qs) h e = owed_list n ts ps qs (omega arith)
+    (tail_is (records t) (map asked p ++ map asked_of q.pending) (map records ts) (owed ps qs) e)
 
-pub settled_at : (n : ℕ) (ts : List (List Letter)) (ps : List (List Delivery)) (qs : List QueueValue) (sent known : List Letter) (found : List Delivery) → n < length ts → map records ts ≡ owed ps qs → sent ≡ get_or ts n [] ++ known → get_or ps n [] ≡ found
+pub settled_at : (n : ℕ) (ts : List (List Letter)) (ps : List (List Delivery)) (qs : List QueueValue) (sent known : List Letter)
+    (found : List Delivery) → n < length ts → map records ts ≡ owed ps qs
+    → sent ≡ get_or ts n [] ++ known → get_or ps n [] ≡ found
     → records sent ≡ (map asked found ++ map asked_of (pending_at n qs)) ++ records known
 settled_at n ts ps qs sent known found h o s d =
-    ap records s ∙ (records_append (get_or ts n []) known ∙ ap (λ l. l ++ records known) (owed_list n ts ps qs h o ∙ ap (λ l. map asked l ++ map asked_of (pending_at n qs)) d))
+    ap records s ∙ (records_append (get_or ts n []) known
+    ∙ ap (λ l. l ++ records known) (owed_list n ts ps qs h o ∙ ap (λ l. map asked l ++ map asked_of (pending_at n qs)) d))
 
 none_pending : (n : ℕ) (qs : List QueueValue) → list_all (λ q. length q.pending == 0) qs ≡ true → pending_at n qs ≡ []
 none_pending n [] h = refl
@@ -41,10 +46,14 @@ none_pending zero (q ∷ qs) h = empty q.pending (and_both (length q.pending == 
     empty (x ∷ es) e = absurd (let g : length (x ∷ es) ≡ 0 = grind (arith, nat_tests, e) in omega (arith, g))
 none_pending (suc n) (q ∷ qs) h = none_pending n qs (and_both (length q.pending == 0) _ h).1
 
-pub drained_at : (n : ℕ) (c : Content) (sent known : List Letter) (found : List Delivery) → is_drained c ≡ true → records sent ≡ (map asked found ++ map asked_of (pending_at n c.queues)) ++ records known → records sent ≡ map asked found ++ records known
-drained_at n c sent known found h e = e ∙ ap (λ l. l ++ records known) (ap (λ es. map asked found ++ map asked_of es) (none_pending n c.queues h) ∙ nil_append (map asked found))
+pub drained_at : (n : ℕ) (c : Content) (sent known : List Letter) (found : List Delivery) → is_drained c ≡ true
+    → records sent ≡ (map asked found ++ map asked_of (pending_at n c.queues)) ++ records known
+    → records sent ≡ map asked found ++ records known
+drained_at n c sent known found h e = e ∙ ap (λ l. l ++ records known)
+    (ap (λ es. map asked found ++ map asked_of es) (none_pending n c.queues h) ∙ nil_append (map asked found))
 
-pub marked_notices : (n : ℕ) (ts : List (List Letter)) (ps : List (List Delivery)) (qs : List QueueValue) → EachIsMarked ts ps qs → are_notices_marked (get_or ps n []) (marks (get_or ts n [])) ≡ true
+pub marked_notices : (n : ℕ) (ts : List (List Letter)) (ps : List (List Delivery)) (qs : List QueueValue) → EachIsMarked ts ps qs
+    → are_notices_marked (get_or ps n []) (marks (get_or ts n [])) ≡ true
 marked_notices n [] [] [] a = refl
 marked_notices n [] [] (q ∷ qs) a = absurd a
 marked_notices n [] (p ∷ ps) qs a = absurd a

@@ -1,7 +1,8 @@
 -- The windows and the deque of a room stay those that they were.
 use Rattle.std.proofs.lemmas.List.Sums.{sum_by-cons, count_by_more_yes, count_by_more_no}
 use Rattle.room_ends.specs.Letters.{farewells}
-use Rattle.std.proofs.Common.{take, Bool, true, false, if◌then◌else◌, count_by, cond, nat_lt, ◌+◌, ◌≡◌, ◌≢◌, ◌<◌, ◌⊎◌, inl, inr, ℕ, zero, suc, List, [], ◌∷◌, length, map, set, get_or, slice_get, Some, refl, sym, ap, ◌∙◌, subst, arith}
+use Rattle.std.proofs.Common.{take, Bool, true, false, if◌then◌else◌, count_by, cond, nat_lt, ◌+◌, ◌≡◌, ◌≢◌, ◌<◌, ◌⊎◌, inl, inr, ℕ, zero}
+use Rattle.std.proofs.Common.{suc, List, [], ◌∷◌, length, map, set, get_or, slice_get, Some, refl, sym, ap, ◌∙◌, subst, arith}
 use Rattle.room_ends.specs.Orders.{SameDeque}
 use Rattle.room_ends.specs.Windows.{number_of}
 use Rattle.room_ends.specs.WindowRings.{letters_taken, has_farewell, SameLine, AreEnds}
@@ -46,14 +47,18 @@ got_is zero (z ∷ xs) x y g e = let h : z ≡ y = cc in sym h ∙ sym e
 got_is (suc n) (z ∷ xs) x y g e = got_is n xs x y g e
 
 -- one line, of which the ends stay the same
-pub room_set : (k m : Keeper) (n : ℕ) (l x : Line) → n < length k.lines.items → l ≡ get_or k.lines.items n l → SameLine l x → m.lines.items ≡ set k.lines.items n x → m.producer ≡ k.producer → SameRoom k m
+pub room_set : (k m : Keeper) (n : ℕ) (l x : Line) → n < length k.lines.items → l ≡ get_or k.lines.items n l → SameLine l x
+    → m.lines.items ≡ set k.lines.items n x → m.producer ≡ k.producer → SameRoom k m
 unfolding SameRoom
 room_set k m n l x h e s q d = ((λ w p. pick w p (is_or_not (number_of w) n)), deque_same k.producer m.producer d)
   where
     pick : (w : Window) → IsOf w k → ((number_of w ≡ n) ⊎ (number_of w ≢ n)) → IsOf w m
     pick w p (inl i) =
-        let own : p.0 ≡ l = got_is n k.lines.items l p.0 (ap (slice_get k.lines.items) (sym i) ∙ p.1) e in
-        (x, ap (λ ls. slice_get ls (number_of w)) q ∙ (ap (slice_get (set k.lines.items n x)) i ∙ got_same n k.lines.items x h), ends_stay w w l x (subst (λ y. AreEnds w y) own p.2) (same_window w) s)
+        let own : p.0 ≡ l = got_is n k.lines.items l p.0 (ap (slice_get k.lines.items) (sym i) ∙ p.1) e in (
+          x,
+          ap (λ ls. slice_get ls (number_of w)) q ∙ (ap (slice_get (set k.lines.items n x)) i ∙ got_same n k.lines.items x h),
+          ends_stay w w l x (subst (λ y. AreEnds w y) own p.2) (same_window w) s,
+        )
     pick w p (inr i) = (p.0, ap (λ ls. slice_get ls (number_of w)) q ∙ (got_other n (number_of w) k.lines.items x i ∙ p.1), p.2)
 
 -- as many windows are gone as have a farewell among the letters taken
@@ -69,11 +74,13 @@ got_inside n [] x g = absurd (cc)
 got_inside zero (y ∷ xs) x g = omega arith
 got_inside (suc n) (y ∷ xs) x g = omega (arith, got_inside n xs x g)
 
-pub stays_lines : (k m : Keeper) → m.lines ≡ k.lines → length m.receivers.items ≡ length k.receivers.items → m.ring ≡ k.ring → SameDeque k.producer m.producer → Stays k m
+pub stays_lines : (k m : Keeper) → m.lines ≡ k.lines → length m.receivers.items ≡ length k.receivers.items → m.ring ≡ k.ring
+    → SameDeque k.producer m.producer → Stays k m
 stays_lines k m e f g d = record { windows = ap (λ v. length v.items) e; benches = f; ring = g; room = room_lines k m e d }
 
 -- one line more was counted
-pub gone_more : (ls : List Line) (n : ℕ) (l : Line) (k : ℕ) → n < length ls → l ≡ get_or ls n l → k ≡ count_by has_farewell (take n ls) → count_by has_farewell (take (n + 1) ls) ≡ (if has_farewell l then k + 1 else k)
+pub gone_more : (ls : List Line) (n : ℕ) (l : Line) (k : ℕ) → n < length ls → l ≡ get_or ls n l
+    → k ≡ count_by has_farewell (take n ls) → count_by has_farewell (take (n + 1) ls) ≡ (if has_farewell l then k + 1 else k)
 gone_more ls n l k h e c = by_mark (has_farewell l) refl
   where
     by_mark : (b : Bool) → has_farewell l ≡ b → count_by has_farewell (take (n + 1) ls) ≡ (if b then k + 1 else k)

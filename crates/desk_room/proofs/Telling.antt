@@ -1,9 +1,11 @@
 -- What the desk was told, and where that changes nothing.
-use Rattle.std.proofs.Common.{◌≡◌, ◌≤◌, ℕ, zero, suc, ◌+◌, ◌-◌, Bool, true, false, nat_lt, nat_le, if◌then◌else◌, List, [], ◌∷◌, length, slice_get, Option, Some, None, is_some, refl, sym, ap, ◌∙◌, arith}
+use Rattle.std.proofs.Common.{◌≡◌, ◌≤◌, ℕ, zero, suc, ◌+◌, ◌-◌, Bool, true, false, nat_lt, nat_le, if◌then◌else◌, List}
+use Rattle.std.proofs.Common.{[], ◌∷◌, length, slice_get, Option, Some, None, is_some, refl, sym, ap, ◌∙◌, arith}
 use Rattle.std.proofs.lemmas.Bool.Decides.{nat_tests}
 use Rattle.mate_jobs.specs.Jobs.{Task}
 use Rattle.mate_desk.specs.Content.{Content, QueueValue, EntryValue, Phase, Waiting, Finished, entries, waits, lower, lowest, is_out_with}
-use Rattle.mate_desk.specs.Calls.{change_at, has_out, after_return, withdrawn, withdrawn_at, withdraw_refusal, withdraw_refusal_of, withdraw_refusal_by, after_withdraw}
+use Rattle.mate_desk.specs.Calls.{change_at, has_out, after_return, withdrawn, withdrawn_at, withdraw_refusal}
+use Rattle.mate_desk.specs.Calls.{withdraw_refusal_of, withdraw_refusal_by, after_withdraw}
 use Rattle.mate_desk.specs.declared.refusals.WithdrawRefusal.{WithdrawRefusal}
 use Rattle.mate_desk.specs.declared.refusals.WithdrawRefusal.TheVariants as refusal
 use Rattle.desk_room.specs.Events.{one_if, job_of, hearing, solved_in, returned_in, stranger_in}
@@ -52,13 +54,15 @@ refused_queue m q r h = by_tests (nat_lt m q.delivered) refl (nat_le (q.delivere
     with_pending es = record { room = q.room; delivered = q.delivered; pending = es }
 
     by_tests : (a : Bool) → nat_lt m q.delivered ≡ a → (b : Bool) → nat_le (q.delivered + length q.pending) m ≡ b
-        → (if b then Some refusal.NotAccepted else (if a then Some refusal.Delivered else withdraw_refusal_by (slice_get q.pending (m - q.delivered)))) ≡ Some r
+        → (if b then Some refusal.NotAccepted
+        else (if a then Some refusal.Delivered else withdraw_refusal_by (slice_get q.pending (m - q.delivered)))) ≡ Some r
         → withdrawn_at m q ≡ q
     by_tests true k b l g = rw k refl
     by_tests false k true l g = rw k (ap with_pending (change_past (m - q.delivered) withdrawn q.pending (past q.delivered (length q.pending) l)))
     by_tests false k false l g = rw k (ap with_pending (marked_before (m - q.delivered) q.pending r g))
 
-refused_all : (n m : ℕ) (qs : List QueueValue) (r : WithdrawRefusal) → withdraw_refusal_of (slice_get qs n) m ≡ Some r → change_at n (withdrawn_at m) qs ≡ qs
+refused_all : (n m : ℕ) (qs : List QueueValue) (r : WithdrawRefusal)
+    → withdraw_refusal_of (slice_get qs n) m ≡ Some r → change_at n (withdrawn_at m) qs ≡ qs
 refused_all zero m [] r h = refl
 refused_all (suc n) m [] r h = refl
 refused_all zero m (q ∷ qs) r h = ap (λ x. x ∷ qs) (refused_queue m q r h)
@@ -81,7 +85,8 @@ none_in : (es : List EntryValue) → lowest es ≡ None → count_in waits es �
 none_in [] h = refl
 none_in (e ∷ es) h = by_test (waits e) refl h (none_in es)
   where
-    by_test : (b : Bool) → waits e ≡ b → (if b then lower e.ticket (lowest es) else lowest es) ≡ None → (lowest es ≡ None → count_in waits es ≡ 0) → count_in waits (e ∷ es) ≡ 0
+    by_test : (b : Bool) → waits e ≡ b → (if b then lower e.ticket (lowest es) else lowest es) ≡ None
+        → (lowest es ≡ None → count_in waits es ≡ 0) → count_in waits (e ∷ es) ≡ 0
     by_test true p g rest = absurd (lower_some e.ticket (lowest es) g)
     by_test false p g rest = omega (arith, ap one_if p, rest g)
 

@@ -2,7 +2,8 @@
 use Rattle.std.specs.Prelude.{◌≡◌, ℕ, ◌+◌, ◌<◌, Bool, true, false, if◌then◌else◌, List, [], ◌∷◌, ◌++◌, length, count_by, is_none, Some}
 use Rattle.mate_jobs.specs.Jobs.{Task}
 use Rattle.mate_desk.specs.Content.{Content, Waiting, Finished, entries, lowest, waits_as, is_out_with}
-use Rattle.mate_desk.specs.Calls.{change_at, submit_refusal, after_submit, after_take, has_out, after_return, ready, after_collect, withdraw_refusal, after_withdraw}
+use Rattle.mate_desk.specs.Calls.{change_at, submit_refusal, after_submit, after_take, has_out, after_return}
+use Rattle.mate_desk.specs.Calls.{ready, after_collect, withdraw_refusal, after_withdraw}
 use Rattle.mate_desk.specs.Deliveries.{delivery}
 use Rattle.mate_jobs.specs.declared.deliveries.Delivery.{Delivery}
 use Rattle.room_ends.specs.Letters.{records, farewells}
@@ -56,15 +57,40 @@ accepts c n = is_none (submit_refusal c n)
 abbrev pub May : Event → RoomLists → Type 0
 May (Hears b x) s = b < length s.heard
 May (Takes n x) s = (n < length s.taken) × (accepts s.content n ≡ true)
-May (Orders job) s = (lowest (entries s.content) ≡ Some job.ticket) × (count_by (waits_as job) (entries s.content) ≡ 1) × (count_by (is_out_with job) (entries s.content) ≡ 0)
+May (Orders job) s = (lowest (entries s.content) ≡ Some job.ticket) × (count_by (waits_as job) (entries s.content) ≡ 1)
+    × (count_by (is_out_with job) (entries s.content) ≡ 0)
 May (Gives n d) s = (n < length s.put) × (delivery (ready s.content n) ≡ Some d)
 
 -- This is so after it.
 abbrev pub after : Event → RoomLists → RoomLists
-after (Hears b x) s = record { taken = s.taken; put = s.put; heard = change_at b (one_more x) s.heard; orders = s.orders; content = hearing x s.content }
-after (Takes n x) s = record { taken = change_at n (one_more x) s.taken; put = s.put; heard = s.heard; orders = s.orders; content = taking n x s.content }
-after (Orders job) s = record { taken = s.taken; put = s.put; heard = s.heard; orders = s.orders ++ Solve job ∷ []; content = after_take s.content job }
-after (Gives n d) s = record { taken = s.taken; put = change_at n (one_more d) s.put; heard = s.heard; orders = s.orders; content = after_collect s.content n }
+after (Hears b x) s = record {
+  taken = s.taken;
+  put = s.put;
+  heard = change_at b (one_more x) s.heard;
+  orders = s.orders;
+  content = hearing x s.content;
+}
+after (Takes n x) s = record {
+  taken = change_at n (one_more x) s.taken;
+  put = s.put;
+  heard = s.heard;
+  orders = s.orders;
+  content = taking n x s.content;
+}
+after (Orders job) s = record {
+  taken = s.taken;
+  put = s.put;
+  heard = s.heard;
+  orders = s.orders ++ Solve job ∷ [];
+  content = after_take s.content job;
+}
+after (Gives n d) s = record {
+  taken = s.taken;
+  put = change_at n (one_more d) s.put;
+  heard = s.heard;
+  orders = s.orders;
+  content = after_collect s.content n;
+}
 
 -- These events lead from the one to the other, one by one.
 abbrev pub Leads : List Event → RoomLists → RoomLists → Type 0

@@ -29,7 +29,13 @@ producer_of k = k.producer
 
 -- its lists, and what its desk holds
 abbrev pub lists : Keeper → RoomLists
-lists k = record { taken = map letters_taken k.lines.items; put = map deliveries_put k.lines.items; heard = map heard k.receivers.items; orders = orders k.producer; content = k.desk }
+lists k = record {
+  taken = map letters_taken k.lines.items;
+  put = map deliveries_put k.lines.items;
+  heard = map heard k.receivers.items;
+  orders = orders k.producer;
+  content = k.desk;
+}
 
 -- how many windows and benches it has, and how many places each of their rings has
 abbrev pub windows_of : Keeper → ℕ
@@ -79,7 +85,8 @@ Ahead k m = (n : ℕ) → IsPrefix (get_or (lists k).taken n [] ++ get_or (known
 
 -- The same of each bench: what was heard of it and is known to lie in its back ring.
 unfoldable pub BacksAhead : Keeper → Keeper → Type 0
-BacksAhead k m = (b : ℕ) → IsPrefix (get_or (lists k).heard b [] ++ get_or (backs_known k) b []) (get_or (lists m).heard b [] ++ get_or (backs_known m) b [])
+BacksAhead k m = (b : ℕ) → IsPrefix (get_or (lists k).heard b [] ++ get_or (backs_known k) b [])
+    (get_or (lists m).heard b [] ++ get_or (backs_known m) b [])
 
 -- what is so of the other windows stays so
 unfoldable pub OthersRead : ℕ → Keeper → Keeper → Type 0

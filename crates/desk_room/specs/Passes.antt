@@ -1,6 +1,7 @@
 -- The four passes of a turn: each is a run of events of one kind, and counts them.
 use Rattle.std.specs.Prelude.{◌≡◌, ℕ, List, length}
-use Rattle.desk_room.specs.Events.{RoomLists, Event, Leads, AllOf, tally, is_heard, is_taken, is_ordered, is_given, accepted_by, byes_by, withdrawn_by, solved_by, returned_by, strangers_by}
+use Rattle.desk_room.specs.Events.{RoomLists, Event, Leads, AllOf, tally, is_heard, is_taken, is_ordered, is_given}
+use Rattle.desk_room.specs.Events.{accepted_by, byes_by, withdrawn_by, solved_by, returned_by, strangers_by}
 
 -- So much came back: solved, returned, and of jobs that were not out.
 pub record Hearing (s t : RoomLists) (solved returned strangers : ℕ) : Type 0 where

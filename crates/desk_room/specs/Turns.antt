@@ -1,5 +1,6 @@
 -- What a turn is, and what is said of it.
-use Rattle.std.specs.Prelude.{◌≡◌, ◌≤◌, ◌⊎◌, ℕ, zero, suc, ◌+◌, ◌^◌, ◌-◌, ◌==◌, Bool, true, false, not, ◌&&◌, if◌then◌else◌, List, [], ◌∷◌, ◌++◌, length, drop, get_or, count_by}
+use Rattle.std.specs.Prelude.{◌≡◌, ◌≤◌, ◌⊎◌, ℕ, zero, suc, ◌+◌, ◌^◌, ◌-◌, ◌==◌, Bool, true, false, not}
+use Rattle.std.specs.Prelude.{◌&&◌, if◌then◌else◌, List, [], ◌∷◌, ◌++◌, length, drop, get_or, count_by}
 use Rattle.std.specs.List.{list_any}
 use Rattle.mate_desk.specs.Content.{Content, EntryValue, QueueValue, entries, has_ticket, has_task, is_out, is_finished, waits}
 use Rattle.mate_jobs.specs.declared.deliveries.Delivery.{Delivery}
@@ -123,6 +124,7 @@ abbrev pub AreFinishedBy : List Back → List Delivery → List EntryValue → L
 AreFinishedBy backs [] [] [] = Unit {0}
 AreFinishedBy backs [] [] (j ∷ js) = (is_finished j.phase ≡ false) × AreFinishedBy backs [] [] js
 AreFinishedBy backs [] (i ∷ is) [] = ⊥
-AreFinishedBy backs [] (i ∷ is) (j ∷ js) = (j.ticket ≡ i.ticket) × (j.asked ≡ i.asked) × (is_finished j.phase ≡ true → MayBeFinished backs i) × AreFinishedBy backs [] is js
+AreFinishedBy backs [] (i ∷ is) (j ∷ js) = (j.ticket ≡ i.ticket) × (j.asked ≡ i.asked)
+    × (is_finished j.phase ≡ true → MayBeFinished backs i) × AreFinishedBy backs [] is js
 AreFinishedBy backs (d ∷ ds) [] js = (is_answer d ≡ false) × AreFinishedBy backs ds [] js
 AreFinishedBy backs (d ∷ ds) (i ∷ is) js = (is_answer d ≡ true → MayBeFinished backs i) × AreFinishedBy backs ds is js

@@ -70,12 +70,19 @@ pub fn open_room(
     ensures benches { IfOk result (λ room. length room.benches.items ≡ benches) }
     ensures opened { IfOk result (λ room. AreOpened ring default 0 room.windows.items (lines_of room.keeper)) }
     ensures idle { IfOk result (λ room. AreIdle (producer_of room.keeper) ring room.benches.items (receivers_of room.keeper)) }
-    ensures lists { IfOk result (λ room. lists room.keeper ≡ record { taken = replicate windows []; put = replicate windows []; heard = replicate benches []; orders = []; content = empty windows ring 0 }) }
+    ensures lists { IfOk result (λ room. lists room.keeper ≡ record {
+      taken = replicate windows [];
+      put = replicate windows [];
+      heard = replicate benches [];
+      orders = [];
+      content = empty windows ring 0;
+    }) }
     ensures ring { IfOk result (λ room. ring_of room.keeper ≡ ring) }
     ensures here { IfOk result (λ room. is_home room.keeper ≡ false) }
     ensures bad_windows { (result ≡ Err fault.BadWindows) ↔ ((windows ≡ 0) ⊎ (16 < windows)) }
     ensures bad_benches { (result ≡ Err fault.BadBenches) ↔ (((1 ≤ windows) × (windows ≤ 16)) × ((benches ≡ 0) ⊎ (16 < benches))) }
-    ensures bad_ring { (result ≡ Err fault.BadRing) ↔ (((1 ≤ windows) × (windows ≤ 16)) × ((1 ≤ benches) × (benches ≤ 16)) × ((ring ≡ 0) ⊎ (64 < ring))) }
+    ensures bad_ring { (result ≡ Err fault.BadRing)
+        ↔ (((1 ≤ windows) × (windows ≤ 16)) × ((1 ≤ benches) × (benches ≤ 16)) × ((ring ≡ 0) ⊎ (64 < ring))) }
     ensures no_thread { result ≢ Err fault.NoThread }
 {
     if windows == 0 || 16 < windows {
@@ -108,7 +115,13 @@ fn open(
     ensures benches { IfOk result (λ room. length room.benches.items ≡ benches) }
     ensures opened { IfOk result (λ room. AreOpened ring default 0 room.windows.items (lines_of room.keeper)) }
     ensures idle { IfOk result (λ room. AreIdle (producer_of room.keeper) ring room.benches.items (receivers_of room.keeper)) }
-    ensures lists { IfOk result (λ room. lists room.keeper ≡ record { taken = replicate windows []; put = replicate windows []; heard = replicate benches []; orders = []; content = empty windows ring 0 }) }
+    ensures lists { IfOk result (λ room. lists room.keeper ≡ record {
+      taken = replicate windows [];
+      put = replicate windows [];
+      heard = replicate benches [];
+      orders = [];
+      content = empty windows ring 0;
+    }) }
     ensures ring { IfOk result (λ room. ring_of room.keeper ≡ ring) }
     ensures here { IfOk result (λ room. is_home room.keeper ≡ false) }
 {

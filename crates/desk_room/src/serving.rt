@@ -1,6 +1,7 @@
 //! Inputs served by threads.
 //!
-//! To read: `solve_gates`; `signals`, `park_words` and `backoff`, how the threads end, wait and are woken; `submitters`, one at each window; what each thread does,
+//! To read: `solve_gates`; `signals`, `park_words` and `backoff`, how the threads end, wait and are woken; `submitters`, one at
+//! each window; what each thread does,
 //! `window_thread`, `bench_thread` and `keeper_thread`; and `thread_groups`.
 
 ghost use Rattle.std.specs.Prelude.{◌≡◌, ◌≢◌, ◌↔◌, ◌⊎◌, ◌<◌, ◌≤◌, length, map, vec_len, IfOk, IfSome, Err};
@@ -200,7 +201,8 @@ pub fn serve_with_memo<R: Threads + Wait + Sync, G: Gate>(
     requires { (1 ≤ entries) × (entries ≤ 65536) }
     ensures replies { IfOk result (λ outputs. AreReplies default (map (λ input. input.items) inputs.now) outputs.items) }
     ensures bad_windows { (result ≡ Err fault.BadWindows) ↔ ((length inputs.now ≡ 0) ⊎ (16 < length inputs.now)) }
-    ensures bad_benches { (result ≡ Err fault.BadBenches) ↔ (((1 ≤ length inputs.now) × (length inputs.now ≤ 16)) × ((benches ≡ 0) ⊎ (16 < benches))) }
+    ensures bad_benches { (result ≡ Err fault.BadBenches)
+        ↔ (((1 ≤ length inputs.now) × (length inputs.now ≤ 16)) × ((benches ≡ 0) ⊎ (16 < benches))) }
     ensures good_ring { result ≢ Err fault.BadRing }
 {
     let room = open_room(alloc, inputs.len(), benches, RING, default)?;
@@ -234,7 +236,8 @@ pub fn serve<R: Threads + Wait + Sync, G: Gate>(
 ) -> Result<Vec<Output>, RoomFault>
     ensures replies { IfOk result (λ outputs. AreReplies default (map (λ input. input.items) inputs.now) outputs.items) }
     ensures bad_windows { (result ≡ Err fault.BadWindows) ↔ ((length inputs.now ≡ 0) ⊎ (16 < length inputs.now)) }
-    ensures bad_benches { (result ≡ Err fault.BadBenches) ↔ (((1 ≤ length inputs.now) × (length inputs.now ≤ 16)) × ((benches ≡ 0) ⊎ (16 < benches))) }
+    ensures bad_benches { (result ≡ Err fault.BadBenches)
+        ↔ (((1 ≤ length inputs.now) × (length inputs.now ≤ 16)) × ((benches ≡ 0) ⊎ (16 < benches))) }
     ensures good_ring { result ≢ Err fault.BadRing }
 {
     serve_with_memo(rt, alloc, rays, inputs, default, benches, ENTRIES, gate)

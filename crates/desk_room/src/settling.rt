@@ -22,13 +22,19 @@ impl Keeper {
     /// to the first of the records that it sent, in order, or the notices of those that it withdrew.
     pub fn settle(&mut self, window: &mut Window) -> Settled
         requires { IsOf window.old self.old }
-        ensures letters { letters_sent window.new ≡ get_or (lists self.new).taken (number_of window.new) [] ++ get_or (known self.new) (number_of window.new) [] }
+        ensures letters { letters_sent window.new ≡ get_or (lists self.new).taken (number_of window.new) []
+            ++ get_or (known self.new) (number_of window.new) [] }
         ensures deliveries { get_or (lists self.new).put (number_of window.new) [] ≡ collected window.new ++ deliveries_known window.new }
         ensures left { result.left ≡ length (records (get_or (known self.new) (number_of window.new) [])) }
         ensures uncollected { result.uncollected ≡ length (deliveries_known window.new) }
-        ensures settled { records (letters_sent window.new) ≡ (map asked (collected window.new ++ deliveries_known window.new) ++ map asked_of (pending_at (number_of window.new) (lists self.new).content.queues)) ++ records (get_or (known self.new) (number_of window.new) []) }
-        ensures drained { is_drained_content (lists self.new).content ≡ true → records (letters_sent window.new) ≡ map asked (collected window.new ++ deliveries_known window.new) ++ records (get_or (known self.new) (number_of window.new) []) }
-        ensures notices { are_notices_marked (collected window.new ++ deliveries_known window.new) (marks (get_or (lists self.new).taken (number_of window.new) [])) ≡ true }
+        ensures settled { records (letters_sent window.new) ≡ (map asked (collected window.new ++ deliveries_known window.new)
+            ++ map asked_of (pending_at (number_of window.new) (lists self.new).content.queues))
+            ++ records (get_or (known self.new) (number_of window.new) []) }
+        ensures drained { is_drained_content (lists self.new).content ≡ true
+            → records (letters_sent window.new) ≡ map asked (collected window.new ++ deliveries_known window.new)
+            ++ records (get_or (known self.new) (number_of window.new) []) }
+        ensures notices { are_notices_marked (collected window.new ++ deliveries_known window.new)
+            (marks (get_or (lists self.new).taken (number_of window.new) [])) ≡ true }
         ensures lists { lists self.new ≡ lists self.old }
         ensures ahead { Ahead self.old self.new }
         ensures backs_known { backs_known self.new ≡ backs_known self.old }

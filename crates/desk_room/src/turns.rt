@@ -30,8 +30,10 @@ pub struct Turn {
 
 impl Keeper {
     ghost use Rattle.std.specs.Prelude.{◌≡◌, ◌<◌, ◌≤◌, ◌+◌, ◌⊎◌, ℕ, [], length, drop, get_or, true};
-    ghost use Rattle.desk_room.specs.Keepers.{lists, known, backs_known, windows_of, ring_of, order_places, is_home, IsServed, Ahead, BacksAhead, Stays};
-    ghost use Rattle.desk_room.specs.Turns.{Turned, AreGains, AreFew, IsFilled, gained, pending_at, waiting, outs, still_out, times_ordered, AreFinishedBy};
+    ghost use Rattle.desk_room.specs.Keepers.{lists, known, backs_known, windows_of, ring_of, order_places};
+    ghost use Rattle.desk_room.specs.Keepers.{is_home, IsServed, Ahead, BacksAhead, Stays};
+    ghost use Rattle.desk_room.specs.Turns.{Turned, AreGains, AreFew, IsFilled, gained, pending_at};
+    ghost use Rattle.desk_room.specs.Turns.{waiting, outs, still_out, times_ordered, AreFinishedBy};
 
     /// One turn: hears what the benches gave back, takes the windows' letters, orders the jobs that wait, and gives the windows what
     /// is ready. It never waits.
@@ -39,8 +41,12 @@ impl Keeper {
         ensures passes { Turned (lists self.old) (lists self.new) result }
         ensures gains { AreGains (lists self.old) (lists self.new) result }
         ensures few { AreFew (ring_of self.old) (lists self.old) (lists self.new) }
-        ensures out { (ticket : ℕ) → outs ticket (lists self.new).content ≡ times_ordered ticket (drop (length (lists self.old).orders) (lists self.new).orders) + still_out ticket (gained (lists self.old).heard (lists self.new).heard) (lists self.old).content }
-        ensures finished { (n : ℕ) → AreFinishedBy (gained (lists self.old).heard (lists self.new).heard) (drop (length (get_or (lists self.old).put n [])) (get_or (lists self.new).put n [])) (pending_at n (lists self.old).content.queues) (pending_at n (lists self.new).content.queues) }
+        ensures out { (ticket : ℕ) → outs ticket (lists self.new).content
+            ≡ times_ordered ticket (drop (length (lists self.old).orders) (lists self.new).orders)
+            + still_out ticket (gained (lists self.old).heard (lists self.new).heard) (lists self.old).content }
+        ensures finished { (n : ℕ) → AreFinishedBy (gained (lists self.old).heard (lists self.new).heard)
+            (drop (length (get_or (lists self.old).put n [])) (get_or (lists self.new).put n []))
+            (pending_at n (lists self.old).content.queues) (pending_at n (lists self.new).content.queues) }
         ensures served { (n : ℕ) → n < windows_of self.new → IsServed n self.new }
         ensures ahead { Ahead self.old self.new }
         ensures read { (n : ℕ) → n < windows_of self.new → (get_or (known self.new) n [] ≡ []) ⊎ IsFilled n (lists self.old) (lists self.new) }
@@ -48,7 +54,8 @@ impl Keeper {
         ensures closed { (lists self.new).content.closed ≡ (lists self.old).content.closed }
         ensures listened { (b : ℕ) → get_or (backs_known self.new) b [] ≡ [] }
         ensures backs_ahead { BacksAhead self.old self.new }
-        ensures waits { (waiting (lists self.new).content ≡ 0) ⊎ (is_home self.new ≡ true) ⊎ (order_places self.old ≤ length (lists self.new).orders) }
+        ensures waits { (waiting (lists self.new).content ≡ 0) ⊎ (is_home self.new ≡ true)
+            ⊎ (order_places self.old ≤ length (lists self.new).orders) }
         ensures not_the_first { (waiting (lists self.new).content ≡ 0) ⊎ (0 < length (lists self.new).orders) }
         ensures none_once_home { is_home self.old ≡ true → (lists self.new).orders ≡ (lists self.old).orders }
         ensures home { is_home self.new ≡ is_home self.old }

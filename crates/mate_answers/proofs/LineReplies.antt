@@ -34,5 +34,6 @@ none_before line fault.NoMemory less = absurd (omega (arith, less))
 pub long_refused : {X E : Type 0} (default number : ℕ) (text : X → List ℕ) (count : X → ℕ) (r : Result X E)
     → IfOk r (λ x. text x ≡ fault_line number fault.TooLong) → IfOk r (λ x. count x ≡ 1)
     → IfOk r (λ x. (line : List ℕ) → is_blank line ≡ false → max_line < length line → IsLineReply default number line (text x) (count x))
-long_refused default number text count (Ok x) is one = λ line some long. rw (is, one) (refused fault.TooLong some (record { applies = long; first = none_before line }))
+long_refused default number text count (Ok x) is one =
+    λ line some long. rw (is, one) (refused fault.TooLong some (record { applies = long; first = none_before line }))
 long_refused default number text count (Err e) is one = tt

@@ -1,1 +1,2 @@
 pub mod InputReplies
+pub mod LimitedReplies

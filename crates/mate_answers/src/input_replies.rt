@@ -33,9 +33,9 @@ fn record_text(
 
 /// What answers lines that say records, over one memo. A record without a bound has the default.
 #[derive(Clone, Copy)]
-struct Answers<'a> {
-    rays: &'a Rays,
-    default: Bound,
+pub struct Answers<'a> {
+    pub rays: &'a Rays,
+    pub default: Bound,
 }
 
 impl LineHandler for Answers<'_> {

@@ -1,5 +1,6 @@
 -- What is told of a line: by a fault of its record, by one of its claims, or by the verdict.
-use Rattle.std.proofs.Common.{◌≡◌, ◌≢◌, ◌⊎◌, ◌<◌, ◌++◌, ℕ, List, [], Option, Some, None, Result, Ok, Err, IfOk, inl, inr, refl, ap, sym, ◌∙◌, subst, arith, length, decimal, false}
+use Rattle.std.proofs.Common.{◌≡◌, ◌≢◌, ◌⊎◌, ◌<◌, ◌++◌, ℕ, List, [], Option, Some, None, Result, Ok, Err}
+use Rattle.std.proofs.Common.{IfOk, inl, inr, refl, ap, sym, ◌∙◌, subst, arith, length, decimal, false}
 use Rattle.chess_board.specs.Positions.{Setup}
 use Rattle.chess_board.specs.Moves.{Move}
 use Rattle.chess_problems.specs.declared.outcomes.Outcome.{Outcome}
@@ -18,7 +19,8 @@ use Rattle.mate_claims.specs.Rows.{record_row, refused_row}
 use Rattle.mate_claims.specs.ClaimReplies.{IsClaimReply, IsTold, ReadsClaimed, claimed_in, refusals_of, no_record, no_claims, judged, told}
 
 -- A line with this fault, which is not want of memory, says no record.
-pub fault_told : {X E : Type 0} (place : List ℕ) (default bound : ℕ) (line : List ℕ) (kind : EpdFault) (row : X → List ℕ) (verdict : X → Option Verdict) (r : Result X E)
+pub fault_told : {X E : Type 0} (place : List ℕ) (default bound : ℕ) (line : List ℕ) (kind : EpdFault) (row : X → List ℕ)
+    (verdict : X → Option Verdict) (r : Result X E)
     → IsFaultOf line kind ⊎ ((kind ≡ fault.NoMemory) × ((r : RecordValue) × Reads line bound r × (r.rest ≢ [])))
     → IfOk r (λ x. kind ≢ fault.NoMemory) → IfOk r (λ x. row x ≡ refused_row place (epd_fault_name kind)) → IfOk r (λ x. verdict x ≡ None)
     → IfOk r (λ x. IsTold place default line (row x) (verdict x))
@@ -26,25 +28,35 @@ fault_told place default bound line kind row verdict (Ok x) (inl first) other is
 fault_told place default bound line kind row verdict (Ok x) (inr memory) other is none = absurd (other memory.0)
 fault_told place default bound line kind row verdict (Err e) why other is none = tt
 
-pub claims_told : (place : List ℕ) (default : ℕ) (line : List ℕ) (r : RecordValue) (p : Setup) (words : List (List ℕ)) (kind : ClaimFault) (row : List ℕ) → p ≡ r.position
-    → ReadsClaimed line default r → words ≡ claim_words line → claims_fault p words ≡ Some kind → row ≡ refused_row place (claim_fault_name kind) → IsTold place default line row None
+pub claims_told : (place : List ℕ) (default : ℕ) (line : List ℕ) (r : RecordValue) (p : Setup) (words : List (List ℕ))
+    (kind : ClaimFault) (row : List ℕ) → p ≡ r.position
+    → ReadsClaimed line default r → words ≡ claim_words line → claims_fault p words ≡ Some kind
+    → row ≡ refused_row place (claim_fault_name kind) → IsTold place default line row None
 claims_told place default line r p words kind row at reads same refused is =
-    let here : claims_fault p words ≡ claims_fault r.position (claim_words line) = ap (λ q. claims_fault q words) at ∙ ap (claims_fault r.position) same in
+    let here : claims_fault p words ≡ claims_fault r.position (claim_words line) =
+    ap (λ q. claims_fault q words) at ∙ ap (claims_fault r.position) same in
     rw is (no_claims r kind reads (sym here ∙ refused))
 
-pub verdict_told : (place : List ℕ) (default : ℕ) (line : List ℕ) (r : RecordValue) (p : Setup) (bound : ℕ) (words : List (List ℕ)) (claimed : List Move) (outcome : Outcome) (row : List ℕ)
-    (verdict : Verdict) → p ≡ r.position → bound ≡ r.bound → ReadsClaimed line default r → words ≡ claim_words line → claims_fault p words ≡ None → claimed ≡ named p words
-    → outcome ≡ truth (problem_of r) → row ≡ record_row place r claimed outcome → verdict ≡ verdict_of bound claimed outcome → IsTold place default line row (Some verdict)
+pub verdict_told : (place : List ℕ) (default : ℕ) (line : List ℕ) (r : RecordValue) (p : Setup) (bound : ℕ)
+    (words : List (List ℕ)) (claimed : List Move) (outcome : Outcome) (row : List ℕ)
+    (verdict : Verdict) → p ≡ r.position → bound ≡ r.bound → ReadsClaimed line default r → words ≡ claim_words line
+    → claims_fault p words ≡ None → claimed ≡ named p words
+    → outcome ≡ truth (problem_of r) → row ≡ record_row place r claimed outcome → verdict ≡ verdict_of bound claimed outcome
+    → IsTold place default line row (Some verdict)
 verdict_told place default line r p bound words claimed outcome row verdict at asked reads same clear moves true_of is judged_is =
-    let same_fault : claims_fault p words ≡ claims_fault r.position (claim_words line) = ap (λ q. claims_fault q words) at ∙ ap (claims_fault r.position) same in
+    let same_fault : claims_fault p words ≡ claims_fault r.position (claim_words line) =
+    ap (λ q. claims_fault q words) at ∙ ap (claims_fault r.position) same in
     let here : claimed ≡ claimed_in line r = moves ∙ ap (λ q. named q words) at ∙ ap (named r.position) same in
-    let row_is : row ≡ record_row place r (claimed_in line r) (truth (problem_of r)) = is ∙ ap (λ ms. record_row place r ms outcome) here ∙ ap (record_row place r (claimed_in line r)) true_of in
+    let row_is : row ≡ record_row place r (claimed_in line r) (truth (problem_of r)) =
+    is ∙ ap (λ ms. record_row place r ms outcome) here ∙ ap (record_row place r (claimed_in line r)) true_of in
     let verdict_is : verdict ≡ verdict_of r.bound (claimed_in line r) (truth (problem_of r)) =
-    judged_is ∙ ap (λ b. verdict_of b claimed outcome) asked ∙ ap (λ ms. verdict_of r.bound ms outcome) here ∙ ap (verdict_of r.bound (claimed_in line r)) true_of in
+    judged_is ∙ ap (λ b. verdict_of b claimed outcome) asked ∙ ap (λ ms. verdict_of r.bound ms outcome) here
+    ∙ ap (verdict_of r.bound (claimed_in line r)) true_of in
     rw (row_is, verdict_is) (judged r reads (sym same_fault ∙ clear))
 
 -- What is told of a line is its reply.
-pub told_reply : (prefix place : List ℕ) (default number : ℕ) (line row : List ℕ) (verdict : Option Verdict) (refusals : ℕ) → is_blank line ≡ false → place ≡ prefix ++ decimal number
+pub told_reply : (prefix place : List ℕ) (default number : ℕ) (line row : List ℕ) (verdict : Option Verdict) (refusals : ℕ)
+    → is_blank line ≡ false → place ≡ prefix ++ decimal number
     → IsTold place default line row verdict → refusals ≡ refusals_of verdict → IsClaimReply prefix default number line row refusals
 told_reply prefix place default number line row verdict refusals filled at is count =
     rw count (told row verdict filled (subst (λ p. IsTold p default line row verdict) at is))
@@ -63,7 +75,9 @@ none_before line fault.BadAvoid less = absurd (omega (arith, less))
 none_before line fault.NoMemory less = absurd (omega (arith, less))
 
 -- A line that is too long is refused by that, whatever else is amiss.
-pub long_reply : (prefix place : List ℕ) (default number : ℕ) (line row : List ℕ) → is_blank line ≡ false → max_line < length line → place ≡ prefix ++ decimal number
+pub long_reply : (prefix place : List ℕ) (default number : ℕ) (line row : List ℕ) → is_blank line ≡ false
+    → max_line < length line → place ≡ prefix ++ decimal number
     → row ≡ refused_row place (epd_fault_name fault.TooLong) → IsClaimReply prefix default number line row 1
 long_reply prefix place default number line row filled long at is =
-    told_reply prefix place default number line row None 1 filled at (rw is (no_record fault.TooLong (record { applies = long; first = none_before line }))) refl
+    told_reply prefix place default number line row None 1 filled at
+    (rw is (no_record fault.TooLong (record { applies = long; first = none_before line }))) refl

@@ -28,7 +28,8 @@ pub data IsTold (place : List ℕ) (default : ℕ) (line : List ℕ) : List ℕ 
   no_claims : (r : RecordValue) (fault : ClaimFault) → ReadsClaimed line default r → claims_fault r.position (claim_words line) ≡ Some fault
       → IsTold place default line (refused_row place (claim_fault_name fault)) None
   judged : (r : RecordValue) → ReadsClaimed line default r → claims_fault r.position (claim_words line) ≡ None
-      → IsTold place default line (record_row place r (claimed_in line r) (truth (problem_of r))) (Some (verdict_of r.bound (claimed_in line r) (truth (problem_of r))))
+      → IsTold place default line (record_row place r (claimed_in line r) (truth (problem_of r)))
+      (Some (verdict_of r.bound (claimed_in line r) (truth (problem_of r))))
 
 -- a line that isn't sound is refused by its claims
 abbrev pub refusals_of : Option Verdict → ℕ

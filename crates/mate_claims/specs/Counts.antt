@@ -1,5 +1,5 @@
 -- How many lines came to which verdict.
-use Rattle.std.specs.Prelude.{ℕ, ◌+◌, List, ◌++◌, codes, decimal, min, Option, Some, None}
+use Rattle.std.specs.Prelude.{ℕ, ◌+◌, ◌-◌, List, ◌++◌, codes, decimal, min, Option, Some, None}
 use Rattle.mate_claims.specs.declared.verdicts.Verdict.{Verdict}
 use Rattle.mate_claims.specs.declared.verdicts.Verdict.TheVariants.{Sound, Cooked, Wrong, Short, Unsolvable}
 use Rattle.mate_claims.specs.declared.counts.Counts.{Counts}
@@ -22,6 +22,10 @@ with_refusals count c = record c { refused = min (c.refused + count) 18446744073
 
 abbrev pub not_sound_in : Counts → ℕ
 not_sound_in c = c.cooked + c.wrong + c.short + c.unsolvable + c.refused
+
+-- with what is missing of so many lines that aren't sound, since there were so many before
+abbrev pub with_unread : ℕ → ℕ → Counts → Counts
+with_unread before unsound c = with_refusals (unsound - (min (not_sound_in c) 18446744073709551615 - before)) c
 
 -- a count behind its name
 abbrev pub count_text : List ℕ → ℕ → List ℕ

@@ -8,7 +8,7 @@ ghost use Rattle.chess_notation.specs.Words.{is_blank};
 ghost use Rattle.chess_notation.specs.Records.{max_line};
 ghost use Rattle.text_lines.specs.Replies.{IsReply, IsReplyToFirst};
 ghost use Rattle.mate_claims.specs.ClaimReplies.{IsClaimReply, IsTold, refusals_of};
-ghost use Rattle.mate_claims.specs.Counts.{with_one};
+ghost use Rattle.mate_claims.specs.Counts.{with_one, with_unread};
 
 use crate::claim_replies::{Told, told_of};
 use crate::counts::Counts;
@@ -37,6 +37,18 @@ pub struct ClaimRows<'a> {
 pub struct ClaimMemory {
     pub memo: Memo,
     pub counts: Counts,
+}
+
+impl ClaimMemory {
+    /// Counts as refused what is missing of so many lines that aren't sound, since there were so many before: a line that is too long is
+    /// refused unread, and no count has it yet.
+    pub fn count_unread(&mut self, before: usize, unsound: usize)
+        ensures memo { self.new.memo ≡ self.old.memo }
+        ensures counts { self.new.counts ≡ with_unread before unsound self.old.counts }
+    {
+        let counted = self.counts.not_sound().saturating_sub(before);
+        self.counts = self.counts.with_refused(unsound.saturating_sub(counted));
+    }
 }
 
 /// The place of a line, by its number.
@@ -135,17 +147,17 @@ pub fn claim_input<I: Input + Drop, O: Write>(
     memory: &mut ClaimMemory,
     out: &mut O,
 ) -> Result<usize, Stop>
-    ensures ok { IfOk result (λ refused. (bytes : List ℕ) × (text : List ℕ) × MayBe (I.left input) bytes × IsReply (IsClaimReply rows.now.prefix.now rows.now.default) bytes text refused
+    ensures ok { IfOk result (λ refused. (bytes : List ℕ) × (text : List ℕ) × MayBe (I.left input) bytes
+        × IsReply (IsClaimReply rows.now.prefix.now rows.now.default) bytes text refused
         × Appends (O.contents out.old) (O.contents out.new) text) }
-    ensures err { IfErr result (λ stop. (bytes : List ℕ) × (text : List ℕ) × MayBe (I.left input) bytes × IsReplyToFirst (IsClaimReply rows.now.prefix.now rows.now.default) bytes text
+    ensures err { IfErr result (λ stop. (bytes : List ℕ) × (text : List ℕ) × MayBe (I.left input) bytes
+        × IsReplyToFirst (IsClaimReply rows.now.prefix.now rows.now.default) bytes text
         × AppendsBy stop (O.contents out.old) (O.contents out.new) text) }
     ensures unreadable { IfErr result (λ stop. stop ≡ Stop.Unreadable → I.breaks input) }
     ensures room { memory.new.memo.room ≡ memory.old.memo.room }
 {
     let before = memory.counts.not_sound();
     let count = answer_input(alloc, rows, input, memory, out)?;
-    // A line that is too long is refused unread, so that no count has it yet.
-    let counted = memory.counts.not_sound().saturating_sub(before);
-    memory.counts = memory.counts.with_refused(count.saturating_sub(counted));
+    memory.count_unread(before, count);
     Ok(count)
 }

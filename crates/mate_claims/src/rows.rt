@@ -3,7 +3,8 @@
 ghost use Rattle.std.specs.Prelude.{◌≡◌, ◌++◌, IfOk, OnOk, codes, drop};
 ghost use Rattle.chess_notation.specs.Opcodes.{operands_under};
 ghost use Rattle.chess_problems.specs.Outcomes.{AreLegal, IsPlayable};
-ghost use Rattle.mate_claims.specs.Rows.{or_hyphen as text_or_hyphen, field, moves_field, length_field, found_field, keys_field, unquoted, record_row as record_row_of, refused_row as refused_row_of};
+ghost use Rattle.mate_claims.specs.Rows.{or_hyphen as text_or_hyphen, field, moves_field, length_field, found_field, keys_field};
+ghost use Rattle.mate_claims.specs.Rows.{unquoted, record_row as record_row_of, refused_row as refused_row_of};
 
 use crate::verdicts::judge;
 use byte_streams::NoMemory;

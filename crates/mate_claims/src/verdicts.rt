@@ -3,7 +3,8 @@
 ghost use Rattle.std.specs.Prelude.{◌≡◌};
 ghost use Rattle.std.specs.List.{list_any};
 ghost use Rattle.chess_problems.specs.SameProblems.{is_same_move as are_same_move};
-ghost use Rattle.mate_claims.specs.Verdicts.{verdict_name, verdict_of, keys_verdict as verdict_by_keys, are_among as are_all_among, is_cooked as is_cooked_by};
+ghost use Rattle.mate_claims.specs.Verdicts.{verdict_name, verdict_of, keys_verdict as verdict_by_keys};
+ghost use Rattle.mate_claims.specs.Verdicts.{are_among as are_all_among, is_cooked as is_cooked_by};
 
 use chess_board::Move;
 use chess_problems::{Bound, Outcome, is_same_move};

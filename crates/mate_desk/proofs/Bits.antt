@@ -13,10 +13,11 @@ has_set word k p l h = (elim (eqb p k) as (λ b. eqb p k ≡ b → has_place (bi
 ]) refl
 
 pub has_clear : (word k p : ℕ) → k < 64 → p < 64 → has_place (bit_and word (bit_not w64 (1 * 2 ^ k % 2 ^ 64))) p ≡ (not (eqb p k) && has_place word p)
-has_clear word k p l h = (elim (eqb p k) as (λ b. eqb p k ≡ b → has_place (bit_and word (bit_not w64 (1 * 2 ^ k % 2 ^ 64))) p ≡ (not b && has_place word p)) [
-  | true ↦ λ e. let same = eqb-true p k e in rw same (rw (bit_at_clear_same w64 word k l))
-  | false ↦ λ e. rw (bit_at_clear_other w64 word k l p h (eqb-false p k e))
-]) refl
+has_clear word k p l h = (elim (eqb p k) as (λ b. eqb p k ≡ b
+    → has_place (bit_and word (bit_not w64 (1 * 2 ^ k % 2 ^ 64))) p ≡ (not b && has_place word p)) [
+      | true ↦ λ e. let same = eqb-true p k e in rw same (rw (bit_at_clear_same w64 word k l))
+      | false ↦ λ e. rw (bit_at_clear_other w64 word k l p h (eqb-false p k e))
+    ]) refl
 
 -- No place is in the word 0.
 pub none_has : (p : ℕ) → has_place 0 p ≡ false

@@ -1,5 +1,6 @@
 -- A list of entries with one of them changed.
-use Rattle.std.proofs.Common.{◌≡◌, ◌≢◌, ℕ, zero, suc, ◌+◌, ◌<◌, ◌≤◌, List, [], ◌∷◌, ◌++◌, length, map, get_or, set, Bool, true, false, ◌&&◌, ap, refl, sym, ◌∙◌, arith, None, Some, slice_get}
+use Rattle.std.proofs.Common.{◌≡◌, ◌≢◌, ℕ, zero, suc, ◌+◌, ◌<◌, ◌≤◌, List, [], ◌∷◌, ◌++◌, length, map, get_or}
+use Rattle.std.proofs.Common.{set, Bool, true, false, ◌&&◌, ap, refl, sym, ◌∙◌, arith, None, Some, slice_get}
 use Rattle.std.proofs.lemmas.Bool.Decides.{nat_tests}
 use Rattle.std.proofs.lemmas.Option.{slice_get-get_or}
 use Rattle.mate_jobs.specs.Jobs.{Task}
@@ -54,20 +55,24 @@ rises_at low [] n e r g = cc
 rises_at low (x ∷ xs) zero e r g = omega (arith, ap (λ (z : EntryValue). z.ticket) (got_one x e g), r.0)
 rises_at low (x ∷ xs) (suc n) e r g = omega (arith, rises_at (x.ticket + 1) xs n e r.1 g, r.0)
 
-pub rises_set : (low : ℕ) (es : List EntryValue) (n : ℕ) (e y : EntryValue) → Rises low es → slice_get es n ≡ Some e → y.ticket ≡ e.ticket → Rises low (set es n y)
+pub rises_set : (low : ℕ) (es : List EntryValue) (n : ℕ) (e y : EntryValue) → Rises low es → slice_get es n ≡ Some e
+    → y.ticket ≡ e.ticket → Rises low (set es n y)
 rises_set low [] n e y r g t = cc
-rises_set low (x ∷ xs) zero e y r g t = let q : y.ticket ≡ x.ticket = t ∙ ap (λ (z : EntryValue). z.ticket) (sym (got_one x e g)) in (omega (arith, q, r.0), rw q r.1)
+rises_set low (x ∷ xs) zero e y r g t = let q : y.ticket ≡ x.ticket =
+    t ∙ ap (λ (z : EntryValue). z.ticket) (sym (got_one x e g)) in (omega (arith, q, r.0), rw q r.1)
 rises_set low (x ∷ xs) (suc n) e y r g t = (r.0, rises_set (x.ticket + 1) xs n e y r.1 g t)
 
 -- A change that leaves all other tickets alone is one at the place of its ticket.
-map_below : (low ticket : ℕ) (f : EntryValue → EntryValue) (es : List EntryValue) → ((x : EntryValue) → x.ticket ≢ ticket → f x ≡ x) → Rises low es → ticket < low → map f es ≡ es
+map_below : (low ticket : ℕ) (f : EntryValue → EntryValue) (es : List EntryValue)
+    → ((x : EntryValue) → x.ticket ≢ ticket → f x ≡ x) → Rises low es → ticket < low → map f es ≡ es
 map_below low ticket f [] others r h = refl
 map_below low ticket f (x ∷ xs) others r h =
     let here = others x (λ p. omega (arith, p, r.0)) in
     let rest = map_below (x.ticket + 1) ticket f xs others r.1 (omega (arith, r.0)) in
     cc
 
-pub map_at : (low : ℕ) (f : EntryValue → EntryValue) (es : List EntryValue) (n : ℕ) (e : EntryValue) → ((x : EntryValue) → x.ticket ≢ e.ticket → f x ≡ x) → Rises low es → slice_get es n ≡ Some e → map f es ≡ set es n (f e)
+pub map_at : (low : ℕ) (f : EntryValue → EntryValue) (es : List EntryValue) (n : ℕ) (e : EntryValue)
+    → ((x : EntryValue) → x.ticket ≢ e.ticket → f x ≡ x) → Rises low es → slice_get es n ≡ Some e → map f es ≡ set es n (f e)
 map_at low f [] n e others r g = cc
 map_at low f (x ∷ xs) zero e others r g =
     let q : x ≡ e = got_one x e g in
@@ -100,7 +105,8 @@ waits_own task x n = and_last_fails (waits x) _ (task_own task x n)
 pub out_own : (task : Task) → OfTicket task.ticket (is_out_with task)
 out_own task x n = and_last_fails (is_out x.phase) _ (task_own task x n)
 
-pub phase_other : (ticket : ℕ) (test : EntryValue → Bool) (phase : Phase) → OfTicket ticket test → (x : EntryValue) → x.ticket ≢ ticket → into_phase test phase x ≡ x
+pub phase_other : (ticket : ℕ) (test : EntryValue → Bool) (phase : Phase) → OfTicket ticket test → (x : EntryValue)
+    → x.ticket ≢ ticket → into_phase test phase x ≡ x
 phase_other ticket test phase own x n = rw (own x n) refl
 
 -- what the tests of a job say
@@ -112,11 +118,13 @@ pub told : (task : Task) (e : EntryValue) → has_task task e ≡ true → Told 
 told task e h = let both = and_tells (has_ticket task.ticket e) _ h in record { ticket = equal_tells _ _ both.0; named = both.0 }
 
 -- An entry that comes into a phase at its place is what passes the test everywhere in its queue.
-pub comes_in : (q : QueueValue) (n : ℕ) (e y : EntryValue) (test : EntryValue → Bool) (phase : Phase) → Rises 0 q.pending → slice_get q.pending n ≡ Some e → test e ≡ true → OfTicket e.ticket test
+pub comes_in : (q : QueueValue) (n : ℕ) (e y : EntryValue) (test : EntryValue → Bool) (phase : Phase) → Rises 0 q.pending
+    → slice_get q.pending n ≡ Some e → test e ≡ true → OfTicket e.ticket test
     → y ≡ record { ticket = e.ticket; asked = e.asked; phase = phase; withdrawn = e.withdrawn }
     → record { room = q.room; delivered = q.delivered; pending = set q.pending n y } ≡ in_queue (into_phase test phase) q
 comes_in q n e y test phase r g t own is =
-    let all : map (into_phase test phase) q.pending ≡ set q.pending n (into_phase test phase e) = map_at 0 (into_phase test phase) q.pending n e (phase_other e.ticket test phase own) r g in
+    let all : map (into_phase test phase) q.pending ≡ set q.pending n (into_phase test phase e) =
+    map_at 0 (into_phase test phase) q.pending n e (phase_other e.ticket test phase own) r g in
     let here : into_phase test phase e ≡ y = rw t (sym is) in
     ap (λ (es : List EntryValue). record { room = q.room; delivered = q.delivered; pending = es }) (sym (all ∙ ap (set q.pending n) here))
 

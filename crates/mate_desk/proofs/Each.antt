@@ -23,7 +23,8 @@ pub map_same : {A : Type 0} (f e : ℕ → A) (k n : ℕ) → ((i : ℕ) → k �
 map_same f e k zero h = refl
 map_same f e k (suc n) h = let a = h k (omega arith) in let b = map_same f e (k + 1) n (λ i q. h i (omega arith)) in cc
 
-pub change_from : (f e : ℕ → QueueValue) (g : QueueValue → QueueValue) (k n s : ℕ) → ((i : ℕ) → i ≢ k + s → f i ≡ e i) → g (f (k + s)) ≡ e (k + s) → change_at s g (map f (from k n)) ≡ map e (from k n)
+pub change_from : (f e : ℕ → QueueValue) (g : QueueValue → QueueValue) (k n s : ℕ) → ((i : ℕ) → i ≢ k + s → f i ≡ e i)
+    → g (f (k + s)) ≡ e (k + s) → change_at s g (map f (from k n)) ≡ map e (from k n)
 change_from f e g k zero s h w = refl
 change_from f e g k (suc n) zero h w =
     let p : k + 0 ≡ k = omega arith in
@@ -37,7 +38,8 @@ change_from f e g k (suc n) (suc s) h w =
     cc
 
 -- a test that some queue passes
-pub any_from : (p : QueueValue → Bool) (f : ℕ → QueueValue) (k n : ℕ) (P : Type 0) → ((i : ℕ) → p (f i) ≡ true → P) → list_any p (map f (from k n)) ≡ true → P
+pub any_from : (p : QueueValue → Bool) (f : ℕ → QueueValue) (k n : ℕ) (P : Type 0) → ((i : ℕ) → p (f i) ≡ true → P)
+    → list_any p (map f (from k n)) ≡ true → P
 any_from p f k zero P h e = cc
 any_from p f k (suc n) P h e = (elim (p (f k)) as (λ b. p (f k) ≡ b → (b || list_any p (map f (from (k + 1) n))) ≡ true → P) [
   | true ↦ λ w g. h k w

@@ -1,5 +1,6 @@
 -- Whether something happened in a history, and what was said last.
-use Rattle.std.proofs.Common.{◌≡◌, ◌≢◌, ◌⊎◌, ◌+◌, ℕ, ap, refl, sym, ◌∙◌, arith, [], ◌∷◌, ◌++◌, cond, Bool, true, false, ◌||◌, ◌&&◌, if◌then◌else◌, ◌==◌, inl, inr}
+use Rattle.std.proofs.Common.{◌≡◌, ◌≢◌, ◌⊎◌, ◌+◌, ℕ, ap, refl, sym, ◌∙◌, arith, [], ◌∷◌, ◌++◌, cond}
+use Rattle.std.proofs.Common.{Bool, true, false, ◌||◌, ◌&&◌, if◌then◌else◌, ◌==◌, inl, inr}
 use Rattle.std.specs.List.{list_any}
 use Rattle.std.proofs.lemmas.Bool.Decides.{nat_tests}
 use Rattle.std.proofs.lemmas.List.Recursion.{is_count_by}
@@ -18,12 +19,14 @@ both : (a b : Bool) → (a && b) ≡ true → (a ≡ true) × (b ≡ true)
 both true b e = (refl, e)
 both false b e = cc
 
-withdraws_one : (st : Step) (r : Reply) (s j : ℕ) → withdraws st r s j ≡ true → (let e : Event = record { step = st; reply = r } in e) ≡ record { step = step.Withdraw s j; reply = reply.Withdrawn }
+withdraws_one : (st : Step) (r : Reply) (s j : ℕ) → withdraws st r s j ≡ true
+    → (let e : Event = record { step = st; reply = r } in e) ≡ record { step = step.Withdraw s j; reply = reply.Withdrawn }
 withdraws_one (step.Withdraw n k) reply.Withdrawn s j e =
     let h = both (s == n) (j == k) e in
     let p : n ≡ s = grind (arith, nat_tests, h.0) in
     let q : k ≡ j = grind (arith, nat_tests, h.1) in
-    ap (λ n. record { step = step.Withdraw n k; reply = reply.Withdrawn }) p ∙ ap (λ k. record { step = step.Withdraw s k; reply = reply.Withdrawn }) q
+    ap (λ n. record { step = step.Withdraw n k; reply = reply.Withdrawn }) p
+    ∙ ap (λ k. record { step = step.Withdraw s k; reply = reply.Withdrawn }) q
 withdraws_one (step.Withdraw n k) (reply.Ticket t) s j e = cc
 withdraws_one (step.Withdraw n k) (reply.Refused x) s j e = cc
 withdraws_one (step.Withdraw n k) (reply.BadRecord x) s j e = cc
@@ -62,14 +65,16 @@ find_withdrawn (x ∷ h) s j e = elim (or_one (withdraws x.step x.reply s j) (wi
   | inr past ↦ (let a = find_withdrawn h s j past in (a.0, (x ∷ a.1.0, ap (λ l. x ∷ l) a.1.1)))
 ]
 
-read_withdrawn : (later before : History) (s j : ℕ) → withdrawn (later ++ record { step = step.Withdraw s j; reply = reply.Withdrawn } ∷ before) s j ≡ true
+read_withdrawn : (later before : History) (s j : ℕ)
+    → withdrawn (later ++ record { step = step.Withdraw s j; reply = reply.Withdrawn } ∷ before) s j ≡ true
 read_withdrawn [] before s j = rw (same s, same j) refl
 read_withdrawn (x ∷ later) before s j = or_last (withdraws x.step x.reply s j) _ (read_withdrawn later before s j)
 
 pub withdrawn_reads : WithdrawnReads
 withdrawn_reads h s j = (find_withdrawn h s j, λ a. ap (λ l. withdrawn l s j) a.1.1 ∙ read_withdrawn a.1.0 a.0 s j)
 
-closes_one : (st : Step) (r : Reply) → closes st ≡ true → (let e : Event = record { step = st; reply = r } in e) ≡ record { step = step.Close; reply = r }
+closes_one : (st : Step) (r : Reply) → closes st ≡ true
+    → (let e : Event = record { step = st; reply = r } in e) ≡ record { step = step.Close; reply = r }
 closes_one step.Close r e = refl
 closes_one (step.Submit n text) r e = cc
 closes_one step.Take r e = cc
@@ -94,10 +99,11 @@ pub closed_reads : ClosedReads
 closed_reads h = (find_closed h, λ a. ap closed a.2.1 ∙ read_closed a.2.0 a.0 a.1)
 
 count_more : (e : Event) (h : History) → count_accepted (e ∷ h) ≡ cond (is_ticket e.reply) (1 + count_accepted h) (count_accepted h)
-count_more e h = elim (is_ticket e.reply) as (λ b. (if b then count_accepted h + 1 else count_accepted h) ≡ cond b (1 + count_accepted h) (count_accepted h)) [
-  | true ↦ omega arith
-  | false ↦ refl
-]
+count_more e h = elim (is_ticket e.reply) as (λ b. (if b then count_accepted h + 1 else count_accepted h)
+    ≡ cond b (1 + count_accepted h) (count_accepted h)) [
+      | true ↦ omega arith
+      | false ↦ refl
+    ]
 
 pub count_reads : CountReads
 count_reads h = is_count_by count_accepted (λ e. is_ticket e.reply) refl count_more h
@@ -164,15 +170,17 @@ find_last : (t : ℕ) (p : Phase) (r : Reply) → SaysBy t p r → Waiting ≢ p
 find_last t p r says first [] e = absurd (first e)
 find_last t p r says first (x ∷ h) e = (elim (says_by x.reply t) as (λ b. says_by x.reply t ≡ b → IsLast t r (x ∷ h)) [
   | true ↦ λ w. ([], x.step, h, ap (λ q. (let y : Event = record { step = x.step; reply = q } in y) ∷ h) (says x.reply (phase h t) w e), refl)
-  | false ↦ λ w. (let a = find_last t p r says first h (sym (quiet x.reply t (phase h t) w) ∙ e) in (x ∷ a.0, a.1, a.2, ap (λ l. x ∷ l) a.3, rw w a.4))
+  | false ↦ λ w. (let a = find_last t p r says first h (sym (quiet x.reply t (phase h t) w) ∙ e) in
+      (x ∷ a.0, a.1, a.2, ap (λ l. x ∷ l) a.3, rw w a.4))
 ]) refl
 
 phase_after : (later h : History) (t : ℕ) → NoneSays t later → phase (later ++ h) t ≡ phase h t
 phase_after [] h t none = refl
-phase_after (x ∷ later) h t none = (elim (says_by x.reply t) as (λ b. says_by x.reply t ≡ b → (b || list_any (says_phase t) later) ≡ false → phase ((x ∷ later) ++ h) t ≡ phase h t) [
-  | true ↦ λ w n. cc
-  | false ↦ λ w n. quiet x.reply t (phase (later ++ h) t) w ∙ phase_after later h t n
-]) refl none
+phase_after (x ∷ later) h t none = (elim (says_by x.reply t) as (λ b. says_by x.reply t ≡ b
+    → (b || list_any (says_phase t) later) ≡ false → phase ((x ∷ later) ++ h) t ≡ phase h t) [
+      | true ↦ λ w n. cc
+      | false ↦ λ w n. quiet x.reply t (phase (later ++ h) t) w ∙ phase_after later h t n
+    ]) refl none
 
 pub phase_reads : PhaseReads
 phase_reads h t = (

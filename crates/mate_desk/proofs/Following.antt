@@ -1,5 +1,7 @@
 -- What a desk keeps where one of its queues follows another.
-use Rattle.std.proofs.Common.{◌≡◌, ℕ, zero, suc, ◌+◌, ◌-◌, ◌<◌, ◌≤◌, ◌==◌, nat_lt, List, [], ◌∷◌, ◌++◌, length, map, set, replicate, Bool, true, false, if◌then◌else◌, ap, refl, subst, arith, None, Some, slice_get, count_by, length-set, length-append}
+use Rattle.std.proofs.Common.{◌≡◌, ℕ, zero, suc, ◌+◌, ◌-◌, ◌<◌, ◌≤◌, ◌==◌, nat_lt, List, [], ◌∷◌, ◌++◌}
+use Rattle.std.proofs.Common.{length, map, set, replicate, Bool, true, false, if◌then◌else◌, ap, refl, subst}
+use Rattle.std.proofs.Common.{arith, None, Some, slice_get, count_by, length-set, length-append}
 use Rattle.std.proofs.lemmas.Bool.Decides.{nat_tests}
 use Rattle.std.proofs.lemmas.List.{length-map}
 use Rattle.chess_notation.specs.Records.{RecordValue}
@@ -11,7 +13,8 @@ use Rattle.mate_desk.proofs.Changes.{got_one, rises_push, rises_lower}
 use Rattle.mate_desk.proofs.Joined.{joined}
 use Rattle.mate_desk.proofs.Distinct.{one_if, count_cons, count_append, count_joined, count_set}
 
-each_set : {P : QueueValue → Type 0} (qs : List QueueValue) (n : ℕ) (r : QueueValue) → ((s : ℕ) (q : QueueValue) → slice_get qs s ≡ Some q → P q) → P r
+each_set : {P : QueueValue → Type 0} (qs : List QueueValue) (n : ℕ) (r : QueueValue)
+    → ((s : ℕ) (q : QueueValue) → slice_get qs s ≡ Some q → P q) → P r
     → (s : ℕ) (q : QueueValue) → slice_get (set qs n r) s ≡ Some q → P q
 each_set [] n r each p s q g = cc
 each_set {P} (k ∷ ks) zero r each p zero q g = subst P (got_one r q g) p
@@ -28,7 +31,8 @@ pub record Follows (q r : QueueValue) : Type 0 where
   pub given : (next : ℕ) → AreBelow next q.pending → AreBelow next r.pending
   pub count : (ticket : ℕ) → count_by (has_ticket ticket) r.pending ≤ count_by (has_ticket ticket) q.pending
 
-pub kept_follows : (next : ℕ) (qs : List QueueValue) (n : ℕ) (q r : QueueValue) → AreKept next qs → slice_get qs n ≡ Some q → Follows q r → AreKept next (set qs n r)
+pub kept_follows : (next : ℕ) (qs : List QueueValue) (n : ℕ) (q r : QueueValue) → AreKept next qs → slice_get qs n ≡ Some q
+    → Follows q r → AreKept next (set qs n r)
 kept_follows next qs n q r kept g follows =
     let o : IsOrdered next q = kept.ordered n q g in
     record {
@@ -51,7 +55,12 @@ abbrev pub KeepsTickets : (EntryValue → EntryValue) → Type 0
 KeepsTickets f = (e : EntryValue) → (f e).ticket ≡ e.ticket
 
 pub phase_keeps : (test : EntryValue → Bool) (phase : Phase) → KeepsTickets (into_phase test phase)
-phase_keeps test phase e = elim (test e) as (λ b. (if b then record { ticket = e.ticket; asked = e.asked; phase = phase; withdrawn = e.withdrawn } else e).ticket ≡ e.ticket) [ true ↦ refl | false ↦ refl ]
+phase_keeps test phase e = elim (test e) as (λ b. (if b then record {
+  ticket = e.ticket;
+  asked = e.asked;
+  phase = phase;
+  withdrawn = e.withdrawn;
+} else e).ticket ≡ e.ticket) [ true ↦ refl | false ↦ refl ]
 
 rises_map : (low : ℕ) (f : EntryValue → EntryValue) (es : List EntryValue) → KeepsTickets f → Rises low es → Rises low (map f es)
 rises_map low f [] keeps r = tt
@@ -61,7 +70,8 @@ below_map : (high : ℕ) (f : EntryValue → EntryValue) (es : List EntryValue) 
 below_map high f [] keeps b = tt
 below_map high f (e ∷ es) keeps b = (omega (arith, keeps e, b.0), below_map high f es keeps b.1)
 
-count_map : (ticket : ℕ) (f : EntryValue → EntryValue) (es : List EntryValue) → KeepsTickets f → count_by (has_ticket ticket) (map f es) ≡ count_by (has_ticket ticket) es
+count_map : (ticket : ℕ) (f : EntryValue → EntryValue) (es : List EntryValue) → KeepsTickets f
+    → count_by (has_ticket ticket) (map f es) ≡ count_by (has_ticket ticket) es
 count_map ticket f [] keeps = refl
 count_map ticket f (e ∷ es) keeps =
     let here : one_if (has_ticket ticket (f e)) ≡ one_if (has_ticket ticket e) = ap (λ t. one_if (t == ticket)) (keeps e) in
@@ -88,30 +98,38 @@ rises_change low n f [] keeps r = tt
 rises_change low zero f (e ∷ es) keeps r = (omega (arith, keeps e, r.0), rw (keeps e) r.1)
 rises_change low (suc n) f (e ∷ es) keeps r = (r.0, rises_change (e.ticket + 1) n f es keeps r.1)
 
-below_change : (high n : ℕ) (f : EntryValue → EntryValue) (es : List EntryValue) → KeepsTickets f → AreBelow high es → AreBelow high (change_at n f es)
+below_change : (high n : ℕ) (f : EntryValue → EntryValue) (es : List EntryValue) → KeepsTickets f
+    → AreBelow high es → AreBelow high (change_at n f es)
 below_change high n f [] keeps b = tt
 below_change high zero f (e ∷ es) keeps b = (omega (arith, keeps e, b.0), b.1)
 below_change high (suc n) f (e ∷ es) keeps b = (b.0, below_change high n f es keeps b.1)
 
-count_change : (ticket n : ℕ) (f : EntryValue → EntryValue) (es : List EntryValue) → KeepsTickets f → count_by (has_ticket ticket) (change_at n f es) ≡ count_by (has_ticket ticket) es
+count_change : (ticket n : ℕ) (f : EntryValue → EntryValue) (es : List EntryValue) → KeepsTickets f
+    → count_by (has_ticket ticket) (change_at n f es) ≡ count_by (has_ticket ticket) es
 count_change ticket n f [] keeps = refl
 count_change ticket zero f (e ∷ es) keeps =
     let here : one_if (has_ticket ticket (f e)) ≡ one_if (has_ticket ticket e) = ap (λ t. one_if (t == ticket)) (keeps e) in
     omega (arith, here, count_cons (has_ticket ticket) (f e) es, count_cons (has_ticket ticket) e es)
-count_change ticket (suc n) f (e ∷ es) keeps = omega (arith, count_change ticket n f es keeps, count_cons (has_ticket ticket) e (change_at n f es), count_cons (has_ticket ticket) e es)
+count_change ticket (suc n) f (e ∷ es) keeps = omega (
+  arith,
+  count_change ticket n f es keeps,
+  count_cons (has_ticket ticket) e (change_at n f es),
+  count_cons (has_ticket ticket) e es,
+)
 
 pub follows_withdrawn : (n : ℕ) (q : QueueValue) → Follows q (withdrawn_at n q)
-follows_withdrawn n q = elim (nat_lt n q.delivered) as (λ b. Follows q (if b then q else record { room = q.room; delivered = q.delivered; pending = change_at (n - q.delivered) withdrawn q.pending })) [
-  | true ↦ follows_same q
-  | false ↦ record {
-    room = refl;
-    fewer = omega (arith, length_change (n - q.delivered) withdrawn q.pending);
-    counted = omega (arith, length_change (n - q.delivered) withdrawn q.pending);
-    rises = rises_change 0 (n - q.delivered) withdrawn q.pending (λ e. refl);
-    given = λ next. below_change next (n - q.delivered) withdrawn q.pending (λ e. refl);
-    count = λ ticket. omega (arith, count_change ticket (n - q.delivered) withdrawn q.pending (λ e. refl));
-  }
-]
+follows_withdrawn n q = elim (nat_lt n q.delivered) as (λ b. Follows q (if b then q
+    else record { room = q.room; delivered = q.delivered; pending = change_at (n - q.delivered) withdrawn q.pending })) [
+      | true ↦ follows_same q
+      | false ↦ record {
+        room = refl;
+        fewer = omega (arith, length_change (n - q.delivered) withdrawn q.pending);
+        counted = omega (arith, length_change (n - q.delivered) withdrawn q.pending);
+        rises = rises_change 0 (n - q.delivered) withdrawn q.pending (λ e. refl);
+        given = λ next. below_change next (n - q.delivered) withdrawn q.pending (λ e. refl);
+        count = λ ticket. omega (arith, count_change ticket (n - q.delivered) withdrawn q.pending (λ e. refl));
+      }
+    ]
 
 -- the first entry gone
 follows_rest : (room delivered : ℕ) (e : EntryValue) (es : List EntryValue)
@@ -125,7 +143,11 @@ follows_rest room delivered e es = record {
   count = λ ticket. omega (arith, count_cons (has_ticket ticket) e es);
 }
 
-follows_parts : (room delivered : ℕ) (es : List EntryValue) → Follows (record { room = room; delivered = delivered; pending = es }) (collected (record { room = room; delivered = delivered; pending = es }))
+follows_parts : (room delivered : ℕ) (es : List EntryValue) → Follows (record {
+  room = room;
+  delivered = delivered;
+  pending = es;
+}) (collected (record { room = room; delivered = delivered; pending = es }))
 follows_parts room delivered [] = follows_same (record { room = room; delivered = delivered; pending = [] })
 follows_parts room delivered (e ∷ es) =
     let q : QueueValue = record { room = room; delivered = delivered; pending = e ∷ es } in
@@ -164,7 +186,8 @@ one_more next ticket before after whole few none is = (elim (next == ticket) as 
   | false ↦ λ t e. omega (arith, few, e)
 ]) refl is
 
-pub kept_submit : (next : ℕ) (qs : List QueueValue) (n : ℕ) (q : QueueValue) (asked : RecordValue) → AreKept next qs → slice_get qs n ≡ Some q → length q.pending < q.room
+pub kept_submit : (next : ℕ) (qs : List QueueValue) (n : ℕ) (q : QueueValue) (asked : RecordValue) → AreKept next qs
+    → slice_get qs n ≡ Some q → length q.pending < q.room
     → AreKept (next + 1) (set qs n (with_entry next asked q))
 kept_submit next qs n q asked kept g room =
     let e : EntryValue = record { ticket = next; asked = asked; phase = Waiting; withdrawn = false } in
@@ -174,8 +197,10 @@ kept_submit next qs n q asked kept g room =
     record {
       served = rw (length-set qs n r) kept.served;
       distinct = λ ticket.
-          let mine : count_by (has_ticket ticket) r.pending ≡ count_by (has_ticket ticket) q.pending + one_if (next == ticket) = omega (arith, count_append (has_ticket ticket) q.pending (e ∷ []), count_cons (has_ticket ticket) e []) in
-          one_more next ticket 0 (count_by (has_ticket ticket) (joined (set qs n r))) (count_by (has_ticket ticket) (joined qs)) (kept.distinct ticket)
+          let mine : count_by (has_ticket ticket) r.pending ≡ count_by (has_ticket ticket) q.pending + one_if (next == ticket) =
+          omega (arith, count_append (has_ticket ticket) q.pending (e ∷ []), count_cons (has_ticket ticket) e []) in
+          one_more next ticket 0 (count_by (has_ticket ticket) (joined (set qs n r)))
+          (count_by (has_ticket ticket) (joined qs)) (kept.distinct ticket)
           (λ same. rw same (none_pending next qs kept.ordered)) (omega (arith, count_set (has_ticket ticket) qs n q r g, mine));
       ordered = each_set qs n r (λ s k h. more k (kept.ordered s k h)) (record {
         rises = rises_push 0 q.pending e o.rises o.given (omega arith);

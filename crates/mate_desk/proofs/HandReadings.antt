@@ -22,10 +22,11 @@ without_it t (u ∷ us) = (elim (u == t) as (λ b. (u == t) ≡ b → has t (con
 
 without_other : (t u : ℕ) (ts : List ℕ) → (t == u) ≡ false → has t (without u ts) ≡ has t ts
 without_other t u [] n = refl
-without_other t u (v ∷ vs) n = (elim (v == u) as (λ b. (v == u) ≡ b → has t (cond (not b) (v ∷ without u vs) (without u vs)) ≡ ((v == t) || has t vs)) [
-  | true ↦ λ w. (let q : (v == t) ≡ false = grind (arith, nat_tests, w, n) in rw q (without_other t u vs n))
-  | false ↦ λ w. ap (λ b. (v == t) || b) (without_other t u vs n)
-]) refl
+without_other t u (v ∷ vs) n =
+    (elim (v == u) as (λ b. (v == u) ≡ b → has t (cond (not b) (v ∷ without u vs) (without u vs)) ≡ ((v == t) || has t vs)) [
+      | true ↦ λ w. (let q : (v == t) ≡ false = grind (arith, nat_tests, w, n) in rw q (without_other t u vs n))
+      | false ↦ λ w. ap (λ b. (v == t) || b) (without_other t u vs n)
+    ]) refl
 
 one_more : (t u : ℕ) (ts : List ℕ) → has t (ts ++ u ∷ []) ≡ (has t ts || ((u == t) || false))
 one_more t u ts = list_any-append (λ v. v == t) ts (u ∷ [])
@@ -49,11 +50,13 @@ in_hand (reply.Job u) t ts e = elim (or_one (has t ts) (u == t) (sym (one_more t
   | inr p ↦ (let z : u ≡ t = grind (arith, nat_tests, p) in inl (ap (λ k. reply.Job k) z))
 ]
 in_hand (reply.Done u) t ts e = (elim (t == u) as (λ b. (t == u) ≡ b → ((reply.Done u) ≡ reply.Job t) ⊎ ((has t ts ≡ true) × (b ≡ false))) [
-  | true ↦ λ w. (let z : t ≡ u = grind (arith, nat_tests, w) in let n : has t (without u ts) ≡ false = ap (λ k. has t (without k ts)) (sym z) ∙ without_it t ts in cc)
+  | true ↦ λ w. (let z : t ≡ u = grind (arith, nat_tests, w) in
+      let n : has t (without u ts) ≡ false = ap (λ k. has t (without k ts)) (sym z) ∙ without_it t ts in cc)
   | false ↦ λ w. inr (sym (without_other t u ts w) ∙ e, refl)
 ]) refl
 in_hand (reply.Back u) t ts e = (elim (t == u) as (λ b. (t == u) ≡ b → ((reply.Back u) ≡ reply.Job t) ⊎ ((has t ts ≡ true) × (b ≡ false))) [
-  | true ↦ λ w. (let z : t ≡ u = grind (arith, nat_tests, w) in let n : has t (without u ts) ≡ false = ap (λ k. has t (without k ts)) (sym z) ∙ without_it t ts in cc)
+  | true ↦ λ w. (let z : t ≡ u = grind (arith, nat_tests, w) in
+      let n : has t (without u ts) ≡ false = ap (λ k. has t (without k ts)) (sym z) ∙ without_it t ts in cc)
   | false ↦ λ w. inr (sym (without_other t u ts w) ∙ e, refl)
 ]) refl
 in_hand (reply.Ticket u) t ts e = inr (e, refl)
@@ -88,7 +91,8 @@ stays (reply.NotWithdrawn x) t ts n e = e
 stays (reply.Drained b) t ts n e = e
 stays reply.Closed t ts n e = e
 
-find_job : (h : History) (t : ℕ) → has t (hand h) ≡ true → (later : History) × (s : Step) × (before : History) × (h ≡ later ++ record { step = s; reply = reply.Job t } ∷ before) × (list_any (puts_down t) later ≡ false)
+find_job : (h : History) (t : ℕ) → has t (hand h) ≡ true → (later : History) × (s : Step) × (before : History)
+    × (h ≡ later ++ record { step = s; reply = reply.Job t } ∷ before) × (list_any (puts_down t) later ≡ false)
 find_job [] t e = cc
 find_job (x ∷ h) t e = elim (in_hand x.reply t (hand h) e) [
   | inl now ↦ ([], x.step, h, ap (λ q. (let y : Event = record { step = x.step; reply = q } in y) ∷ h) now, refl)
@@ -97,13 +101,18 @@ find_job (x ∷ h) t e = elim (in_hand x.reply t (hand h) e) [
 
 still : (later h : History) (t : ℕ) → list_any (puts_down t) later ≡ false → has t (hand h) ≡ true → has t (hand (later ++ h)) ≡ true
 still [] h t n e = e
-still (x ∷ later) h t n e = (elim (puts_down_by x.reply t) as (λ b. puts_down_by x.reply t ≡ b → (b || list_any (puts_down t) later) ≡ false → has t (hand_by x.reply (hand (later ++ h))) ≡ true) [
-  | true ↦ λ w m. cc
-  | false ↦ λ w m. stays x.reply t (hand (later ++ h)) w (still later h t m e)
-]) refl n
+still (x ∷ later) h t n e = (elim (puts_down_by x.reply t) as (λ b. puts_down_by x.reply t ≡ b
+    → (b || list_any (puts_down t) later) ≡ false → has t (hand_by x.reply (hand (later ++ h))) ≡ true) [
+      | true ↦ λ w m. cc
+      | false ↦ λ w m. stays x.reply t (hand (later ++ h)) w (still later h t m e)
+    ]) refl n
 
 same : (n : ℕ) → (n == n) ≡ true
 same n = grind (arith, nat_tests)
 
 pub hand_reads : HandReads
-hand_reads h t = (find_job h t, λ a. ap (λ l. has t (hand l)) a.3 ∙ still a.0 _ t a.4 (one_more t t (hand a.2) ∙ or_last (has t (hand a.2)) _ (same t)))
+hand_reads h t = (
+  find_job h t,
+  λ a. ap (λ l. has t (hand l)) a.3
+      ∙ still a.0 _ t a.4 (one_more t t (hand a.2) ∙ or_last (has t (hand a.2)) _ (same t)),
+)

@@ -1,5 +1,6 @@
 -- The jobs in hand.
-use Rattle.std.proofs.Common.{◌≡◌, ◌≢◌, ℕ, zero, suc, ◌≤◌, List, [], ◌∷◌, ◌++◌, length, map, filter, slice_get, true, false, not, ap, refl, sym, ◌∙◌, subst, arith, None, Some, cond, ◌||◌, ◌&&◌, ◌==◌, ◌+◌, Bool}
+use Rattle.std.proofs.Common.{◌≡◌, ◌≢◌, ℕ, zero, suc, ◌≤◌, List, [], ◌∷◌, ◌++◌, length, map, filter, slice_get, true, false}
+use Rattle.std.proofs.Common.{not, ap, refl, sym, ◌∙◌, subst, arith, None, Some, cond, ◌||◌, ◌&&◌, ◌==◌, ◌+◌, Bool}
 use Rattle.std.specs.List.{list_any, remove}
 use Rattle.std.proofs.lemmas.Bool.Decides.{nat_tests}
 use Rattle.mate_jobs.specs.Jobs.{Task}
@@ -10,23 +11,27 @@ use Rattle.mate_desk.specs.History.{without}
 use Rattle.mate_desk.specs.Calls.{has_out}
 use Rattle.mate_desk.specs.inside.Mirrors.{AreApart, AreOut}
 
-pub any_get : (t : ℕ) (jobs : List Task) (i : ℕ) (job : Task) → slice_get jobs i ≡ Some job → t ≡ job.ticket → list_any (λ v. v == t) (map (λ j. j.ticket) jobs) ≡ true
+pub any_get : (t : ℕ) (jobs : List Task) (i : ℕ) (job : Task) → slice_get jobs i ≡ Some job → t ≡ job.ticket
+    → list_any (λ v. v == t) (map (λ j. j.ticket) jobs) ≡ true
 any_get t [] i job e q = cc
 any_get t (k ∷ ks) zero job e q =
     let p : k.ticket ≡ t = (let r : k ≡ job = cc in ap (λ (j : Task). j.ticket) r) ∙ sym q in
     let w : (k.ticket == t) ≡ true = grind (arith, nat_tests, p) in
     rw w refl
-any_get t (k ∷ ks) (suc i) job e q = let w = any_get t ks i job e q in (elim (k.ticket == t) as (λ b. (b || list_any (λ v. v == t) (map (λ j. j.ticket) ks)) ≡ true) [ true ↦ refl | false ↦ w ])
+any_get t (k ∷ ks) (suc i) job e q = let w = any_get t ks i job e q in
+    (elim (k.ticket == t) as (λ b. (b || list_any (λ v. v == t) (map (λ j. j.ticket) ks)) ≡ true) [ true ↦ refl | false ↦ w ])
 
 filter_none : (t : ℕ) (ts : List ℕ) → list_any (λ v. v == t) ts ≡ false → filter (λ u. not (u == t)) ts ≡ ts
 filter_none t [] e = refl
-filter_none t (u ∷ us) e = (elim (u == t) as (λ b. (b || list_any (λ v. v == t) us) ≡ false → cond (not b) (u ∷ filter (λ u. not (u == t)) us) (filter (λ u. not (u == t)) us) ≡ u ∷ us) [
-  | true ↦ λ f. cc
-  | false ↦ λ f. ap (λ vs. u ∷ vs) (filter_none t us f)
-]) e
+filter_none t (u ∷ us) e = (elim (u == t) as (λ b. (b || list_any (λ v. v == t) us) ≡ false
+    → cond (not b) (u ∷ filter (λ u. not (u == t)) us) (filter (λ u. not (u == t)) us) ≡ u ∷ us) [
+      | true ↦ λ f. cc
+      | false ↦ λ f. ap (λ vs. u ∷ vs) (filter_none t us f)
+    ]) e
 
 -- the rest of the hand once a job left it
-pub filter_removed : (jobs : List Task) (i : ℕ) (job : Task) → AreApart (map (λ j. j.ticket) jobs) → slice_get jobs i ≡ Some job → filter (λ u. not (u == job.ticket)) (map (λ j. j.ticket) jobs) ≡ map (λ j. j.ticket) (remove jobs i)
+pub filter_removed : (jobs : List Task) (i : ℕ) (job : Task) → AreApart (map (λ j. j.ticket) jobs) → slice_get jobs i ≡ Some job
+    → filter (λ u. not (u == job.ticket)) (map (λ j. j.ticket) jobs) ≡ map (λ j. j.ticket) (remove jobs i)
 filter_removed [] i job a e = cc
 filter_removed (k ∷ ks) zero job a e =
     let p : k.ticket ≡ job.ticket = let r : k ≡ job = cc in ap (λ (j : Task). j.ticket) r in
@@ -39,13 +44,15 @@ filter_removed (k ∷ ks) (suc i) job a e =
 
 any_removed : (t : ℕ) (ts : List ℕ) (u : ℕ) → list_any (λ v. v == t) ts ≡ false → list_any (λ v. v == t) (filter (λ v. not (v == u)) ts) ≡ false
 any_removed t [] u e = refl
-any_removed t (s ∷ ss) u e = (elim (s == t) as (λ b. (s == t) ≡ b → (b || list_any (λ v. v == t) ss) ≡ false → list_any (λ v. v == t) (filter (λ v. not (v == u)) (s ∷ ss)) ≡ false) [
-  | true ↦ λ w f. cc
-  | false ↦ λ w f. (elim (s == u) as (λ b. list_any (λ v. v == t) (cond (not b) (s ∷ filter (λ v. not (v == u)) ss) (filter (λ v. not (v == u)) ss)) ≡ false) [
-    | true ↦ any_removed t ss u f
-    | false ↦ rw w (any_removed t ss u f)
-  ])
-]) refl e
+any_removed t (s ∷ ss) u e = (elim (s == t) as (λ b. (s == t) ≡ b → (b || list_any (λ v. v == t) ss) ≡ false
+    → list_any (λ v. v == t) (filter (λ v. not (v == u)) (s ∷ ss)) ≡ false) [
+      | true ↦ λ w f. cc
+      | false ↦ λ w f. (elim (s == u) as (λ b.
+          list_any (λ v. v == t) (cond (not b) (s ∷ filter (λ v. not (v == u)) ss) (filter (λ v. not (v == u)) ss)) ≡ false) [
+            | true ↦ any_removed t ss u f
+            | false ↦ rw w (any_removed t ss u f)
+          ])
+    ]) refl e
 
 pub apart_removed : (ts : List ℕ) (u : ℕ) → AreApart ts → AreApart (filter (λ v. not (v == u)) ts)
 apart_removed [] u a = tt
@@ -65,7 +72,8 @@ pub apart_push : (ts : List ℕ) (u : ℕ) → AreApart ts → list_any (λ v. v
 apart_push [] u a e = (refl, tt)
 apart_push (t ∷ ts) u a e = (elim (t == u) as (λ b. (t == u) ≡ b → (b || list_any (λ v. v == u) ts) ≡ false → AreApart ((t ∷ ts) ++ u ∷ [])) [
   | true ↦ λ w f. cc
-  | false ↦ λ w f. let n : u ≢ t = λ p. (let v : (t == u) ≡ true = grind (arith, nat_tests, p) in cc) in (any_push t ts u a.0 n, apart_push ts u a.1 f)
+  | false ↦ λ w f. let n : u ≢ t = λ p. (let v : (t == u) ≡ true = grind (arith, nat_tests, p) in cc) in
+      (any_push t ts u a.0 n, apart_push ts u a.1 f)
 ]) refl e
 
 -- where each job that was out is out
@@ -78,19 +86,26 @@ out_push c [] job a h = (h, tt)
 out_push c (k ∷ ks) job a h = (a.0, out_push c ks job a.1 h)
 
 -- a job whose ticket is none of these
-pub not_among : (c : Content) (t : ℕ) (jobs : List Task) → ((task : Task) → has_out c task ≡ true → task.ticket ≢ t) → AreOut c jobs → list_any (λ v. v == t) (map (λ j. j.ticket) jobs) ≡ false
+pub not_among : (c : Content) (t : ℕ) (jobs : List Task) → ((task : Task) → has_out c task ≡ true → task.ticket ≢ t)
+    → AreOut c jobs → list_any (λ v. v == t) (map (λ j. j.ticket) jobs) ≡ false
 not_among c t [] k a = refl
-not_among c t (job ∷ jobs) k a = let n = k job a.0 in let w : (job.ticket == t) ≡ false = grind (arith, nat_tests, n) in rw w (not_among c t jobs k a.1)
+not_among c t (job ∷ jobs) k a = let n = k job a.0 in let w : (job.ticket == t) ≡ false =
+    grind (arith, nat_tests, n) in rw w (not_among c t jobs k a.1)
 
-out_others : (c d : Content) (jobs : List Task) (t : ℕ) → list_any (λ u. u == t) (map (λ j. j.ticket) jobs) ≡ false → ((task : Task) → task.ticket ≢ t → has_out c task ≡ true → has_out d task ≡ true) → AreOut c jobs → AreOut d jobs
+out_others : (c d : Content) (jobs : List Task) (t : ℕ) → list_any (λ u. u == t) (map (λ j. j.ticket) jobs) ≡ false
+    → ((task : Task) → task.ticket ≢ t → has_out c task ≡ true → has_out d task ≡ true) → AreOut c jobs → AreOut d jobs
 out_others c d [] t e k o = tt
-out_others c d (job ∷ jobs) t e k o = (elim (job.ticket == t) as (λ b. (job.ticket == t) ≡ b → (b || list_any (λ u. u == t) (map (λ j. j.ticket) jobs)) ≡ false → AreOut d (job ∷ jobs)) [
-  | true ↦ λ w f. cc
-  | false ↦ λ w f. let n : job.ticket ≢ t = λ p. (let v : (job.ticket == t) ≡ true = grind (arith, nat_tests, p) in cc) in (k job n o.0, out_others c d jobs t f k o.1)
-]) refl e
+out_others c d (job ∷ jobs) t e k o = (elim (job.ticket == t) as (λ b. (job.ticket == t) ≡ b
+    → (b || list_any (λ u. u == t) (map (λ j. j.ticket) jobs)) ≡ false → AreOut d (job ∷ jobs)) [
+      | true ↦ λ w f. cc
+      | false ↦ λ w f. let n : job.ticket ≢ t = λ p. (let v : (job.ticket == t) ≡ true = grind (arith, nat_tests, p) in cc) in
+          (k job n o.0, out_others c d jobs t f k o.1)
+    ]) refl e
 
 -- what is out once a job left the hand
-pub out_removed : (c d : Content) (jobs : List Task) (i : ℕ) (job : Task) → AreApart (map (λ j. j.ticket) jobs) → slice_get jobs i ≡ Some job → ((task : Task) → task.ticket ≢ job.ticket → has_out c task ≡ true → has_out d task ≡ true) → AreOut c jobs → AreOut d (remove jobs i)
+pub out_removed : (c d : Content) (jobs : List Task) (i : ℕ) (job : Task) → AreApart (map (λ j. j.ticket) jobs)
+    → slice_get jobs i ≡ Some job → ((task : Task) → task.ticket ≢ job.ticket → has_out c task ≡ true → has_out d task ≡ true)
+    → AreOut c jobs → AreOut d (remove jobs i)
 out_removed c d [] i job a e k o = cc
 out_removed c d (j ∷ js) zero job a e k o =
     let r : j ≡ job = cc in
@@ -132,12 +147,13 @@ AreFound es (t ∷ ts) = (list_any (has_ticket t) es ≡ true) × AreFound es ts
 
 found_rest : (e : EntryValue) (es : List EntryValue) (ts : List ℕ) → AreFound (e ∷ es) ts → AreFound es (without e.ticket ts)
 found_rest e es [] f = tt
-found_rest e es (t ∷ ts) f = (elim (t == e.ticket) as (λ b. (t == e.ticket) ≡ b → AreFound es (cond (not b) (t ∷ without e.ticket ts) (without e.ticket ts))) [
-  | true ↦ λ w. found_rest e es ts f.1
-  | false ↦ λ w.
-      let other : (e.ticket == t) ≡ false = grind (arith, nat_tests, w) in
-      (subst (λ b. (b || list_any (has_ticket t) es) ≡ true) other f.0, found_rest e es ts f.1)
-]) refl
+found_rest e es (t ∷ ts) f = (elim (t == e.ticket) as (λ b. (t == e.ticket) ≡ b
+    → AreFound es (cond (not b) (t ∷ without e.ticket ts) (without e.ticket ts))) [
+      | true ↦ λ w. found_rest e es ts f.1
+      | false ↦ λ w.
+          let other : (e.ticket == t) ≡ false = grind (arith, nat_tests, w) in
+          (subst (λ b. (b || list_any (has_ticket t) es) ≡ true) other f.0, found_rest e es ts f.1)
+    ]) refl
 
 -- So many tickets, no two of them the same, need so many entries.
 pub found_few : (es : List EntryValue) (ts : List ℕ) → AreApart ts → AreFound es ts → length ts ≤ length es
@@ -150,10 +166,12 @@ found_few (e ∷ es) (t ∷ ts) a f =
 
 out_found : (task : Task) (es : List EntryValue) → list_any (is_out_with task) es ≡ true → list_any (has_ticket task.ticket) es ≡ true
 out_found task [] o = cc
-out_found task (e ∷ es) o = (elim (has_ticket task.ticket e) as (λ b. ((is_out e.phase && (b && is_same_problem (problem_of e.asked) task.problem)) || list_any (is_out_with task) es) ≡ true → (b || list_any (has_ticket task.ticket) es) ≡ true) [
-  | true ↦ λ f. refl
-  | false ↦ λ f. out_found task es (subst (λ b. (b || list_any (is_out_with task) es) ≡ true) (and_nothing (is_out e.phase)) f)
-]) o
+out_found task (e ∷ es) o =
+    (elim (has_ticket task.ticket e) as (λ b. ((is_out e.phase && (b && is_same_problem (problem_of e.asked) task.problem))
+    || list_any (is_out_with task) es) ≡ true → (b || list_any (has_ticket task.ticket) es) ≡ true) [
+      | true ↦ λ f. refl
+      | false ↦ λ f. out_found task es (subst (λ b. (b || list_any (is_out_with task) es) ≡ true) (and_nothing (is_out e.phase)) f)
+    ]) o
   where
     and_nothing : (b : Bool) → (b && false) ≡ false
     and_nothing true = refl

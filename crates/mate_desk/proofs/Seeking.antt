@@ -1,5 +1,6 @@
 -- Where in a queue a record is out with a job: at the first ticket that is not below the job's, or nowhere.
-use Rattle.std.proofs.Common.{◌≡◌, ◌≢◌, ℕ, zero, suc, ◌+◌, ◌<◌, ◌≤◌, nat_lt, List, [], ◌∷◌, length, get_or, Bool, true, false, refl, arith, Some, slice_get}
+use Rattle.std.proofs.Common.{◌≡◌, ◌≢◌, ℕ, zero, suc, ◌+◌, ◌<◌, ◌≤◌, nat_lt, List, [], ◌∷◌, length}
+use Rattle.std.proofs.Common.{get_or, Bool, true, false, refl, arith, Some, slice_get}
 use Rattle.std.specs.List.{list_any}
 use Rattle.std.specs.List.Sorted.{IsPartitionedBy}
 use Rattle.std.proofs.lemmas.Bool.Decides.{nat_tests}
@@ -14,7 +15,8 @@ order_from low [] j d r h = absurd (omega arith)
 order_from low (x ∷ xs) zero d r h = r.0
 order_from low (x ∷ xs) (suc j) d r h = omega (arith, order_from (x.ticket + 1) xs j d r.1 (omega arith), r.0)
 
-in_order : (low : ℕ) (es : List EntryValue) (i j : ℕ) (d : EntryValue) → Rises low es → i ≤ j → j < length es → (get_or es i d).ticket ≤ (get_or es j d).ticket
+in_order : (low : ℕ) (es : List EntryValue) (i j : ℕ) (d : EntryValue) → Rises low es → i ≤ j → j < length es
+    → (get_or es i d).ticket ≤ (get_or es j d).ticket
 in_order low [] i j d r h l = absurd (omega arith)
 in_order low (x ∷ xs) zero zero d r h l = omega arith
 in_order low (x ∷ xs) zero (suc j) d r h l = omega (arith, order_from (x.ticket + 1) xs j d r.1 (omega arith))
@@ -46,4 +48,5 @@ none_out low task (x ∷ xs) zero r before behind here =
 none_out low task (x ∷ xs) (suc n) r before behind here =
     let below : nat_lt x.ticket task.ticket ≡ true = before 0 x (omega arith) in
     let other : x.ticket ≢ task.ticket = grind (arith, nat_tests, below) in
-    or_fails _ _ (out_own task x other) (none_out (x.ticket + 1) task xs n r.1 (λ k d h. before (suc k) d (omega (arith, h))) (λ k d h l. behind (suc k) d (omega (arith, h)) (omega (arith, l))) here)
+    or_fails _ _ (out_own task x other) (none_out (x.ticket + 1) task xs n r.1 (λ k d h. before (suc k) d (omega (arith, h)))
+    (λ k d h l. behind (suc k) d (omega (arith, h)) (omega (arith, l))) here)

@@ -1,10 +1,15 @@
 -- What a change of one queue is to the whole desk.
-use Rattle.std.proofs.Common.{◌≡◌, ◌≢◌, ℕ, zero, suc, [], ◌∷◌, is_some, ◌<◌, ◌+◌, ◌≤◌, ◌==◌, nat_le, List, length, set, get_or, Bool, true, false, ap, refl, sym, ◌∙◌, subst, arith, None, Some, Option, slice_get, count_by, IfNone, IfSome, IfOk, IfErr, Result, Ok, Err}
+use Rattle.std.proofs.Common.{◌≡◌, ◌≢◌, ℕ, zero, suc, [], ◌∷◌, is_some, ◌<◌, ◌+◌, ◌≤◌, ◌==◌, nat_le, List, length}
+use Rattle.std.proofs.Common.{set, get_or, Bool, true, false, ap, refl, sym, ◌∙◌, subst, arith, None, Some, Option}
+use Rattle.std.proofs.Common.{slice_get, count_by, IfNone, IfSome, IfOk, IfErr, Result, Ok, Err}
 use Rattle.std.specs.List.{list_any}
 use Rattle.std.proofs.lemmas.Bool.Decides.{nat_tests}
 use Rattle.mate_jobs.specs.Jobs.{Task}
-use Rattle.mate_desk.specs.Content.{Content, EntryValue, QueueValue, Phase, Waiting, Out, Finished, is_waiting, is_out, waits, has_ticket, waits_as, is_out_with, entries, lowest}
-use Rattle.mate_desk.specs.Calls.{with_queue, in_queue, everywhere, into_phase, has_out, after_take, after_return, submit_refusal, withdraw_refusal, withdraw_refusal_of, withdrawn_at, after_withdraw, change_at, ready, ready_of, ready_first, collected, collected_by, after_collect}
+use Rattle.mate_desk.specs.Content.{Content, EntryValue, QueueValue, Phase, Waiting, Out, Finished, is_waiting}
+use Rattle.mate_desk.specs.Content.{is_out, waits, has_ticket, waits_as, is_out_with, entries, lowest}
+use Rattle.mate_desk.specs.Calls.{with_queue, in_queue, everywhere, into_phase, has_out, after_take, after_return, submit_refusal}
+use Rattle.mate_desk.specs.Calls.{withdraw_refusal, withdraw_refusal_of, withdrawn_at, after_withdraw, change_at, ready}
+use Rattle.mate_desk.specs.Calls.{ready_of, ready_first, collected, collected_by, after_collect}
 use Rattle.mate_desk.specs.Laws.{AreKept}
 use Rattle.mate_desk.specs.inside.Keeping.{IsOutAt, IsOutIn}
 use Rattle.mate_desk.specs.declared.refusals.WithdrawRefusal.{WithdrawRefusal}
@@ -36,27 +41,33 @@ waits_apart task e t =
     rw in_hand refl
 
 -- Entries of one ticket that come into a phase in one queue do so everywhere.
-pub phase_at : (next : ℕ) (closed : Bool) (qs : List QueueValue) (n : ℕ) (q m : QueueValue) (ticket : ℕ) (test : EntryValue → Bool) (phase : Phase) → AreKept next qs → slice_get qs n ≡ Some q
+pub phase_at : (next : ℕ) (closed : Bool) (qs : List QueueValue) (n : ℕ) (q m : QueueValue) (ticket : ℕ)
+    (test : EntryValue → Bool) (phase : Phase) → AreKept next qs → slice_get qs n ≡ Some q
     → OfTicket ticket test → 1 ≤ count_by (has_ticket ticket) q.pending → m ≡ in_queue (into_phase test phase) q
     → holding (set qs n m) next closed ≡ everywhere (into_phase test phase) (holding qs next closed)
 phase_at next closed qs n q m ticket test phase kept g own some is =
-    ap (λ (rs : List QueueValue). holding rs next closed) (ap (set qs n) is ∙ queues_at ticket (into_phase test phase) qs n q (phase_other ticket test phase own) g some (kept.distinct ticket))
+    ap (λ (rs : List QueueValue). holding rs next closed) (ap (set qs n) is
+    ∙ queues_at ticket (into_phase test phase) qs n q (phase_other ticket test phase own) g some (kept.distinct ticket))
 
 -- a job given out
-pub take_follows : (q m : QueueValue) (r : Option Task) → IfNone r ((lowest q.pending ≡ None) × (m ≡ q)) → IfSome r (λ job. m ≡ in_queue (into_phase (waits_as job) Out) q) → Follows q m
+pub take_follows : (q m : QueueValue) (r : Option Task) → IfNone r ((lowest q.pending ≡ None) × (m ≡ q))
+    → IfSome r (λ job. m ≡ in_queue (into_phase (waits_as job) Out) q) → Follows q m
 take_follows q m None none out = subst (Follows q) (sym none.1) (follows_same q)
 take_follows q m (Some job) none out = subst (Follows q) (sym out) (follows_map (into_phase (waits_as job) Out) q (phase_keeps (waits_as job) Out))
 
-pub take_none : (whole : Option ℕ) (q m : QueueValue) (r : Option Task) → lowest q.pending ≡ whole → IfNone r ((lowest q.pending ≡ None) × (m ≡ q)) → IfNone r (whole ≡ None)
+pub take_none : (whole : Option ℕ) (q m : QueueValue) (r : Option Task) → lowest q.pending ≡ whole
+    → IfNone r ((lowest q.pending ≡ None) × (m ≡ q)) → IfNone r (whole ≡ None)
 take_none whole q m None low none = sym low ∙ none.0
 take_none whole q m (Some job) low none = tt
 
-pub take_unchanged : (next : ℕ) (closed : Bool) (qs : List QueueValue) (n : ℕ) (q m : QueueValue) (r : Option Task) → slice_get qs n ≡ Some q → IfNone r ((lowest q.pending ≡ None) × (m ≡ q))
+pub take_unchanged : (next : ℕ) (closed : Bool) (qs : List QueueValue) (n : ℕ) (q m : QueueValue) (r : Option Task)
+    → slice_get qs n ≡ Some q → IfNone r ((lowest q.pending ≡ None) × (m ≡ q))
     → IfNone r (holding (set qs n m) next closed ≡ holding qs next closed)
 take_unchanged next closed qs n q m None g none = ap (λ (rs : List QueueValue). holding rs next closed) (ap (set qs n) none.1 ∙ set_same n qs q g)
 take_unchanged next closed qs n q m (Some job) g none = tt
 
-pub take_lowest : (whole : Option ℕ) (q : QueueValue) (r : Option Task) → lowest q.pending ≡ whole → IfSome r (λ job. lowest q.pending ≡ Some job.ticket) → IfSome r (λ job. whole ≡ Some job.ticket)
+pub take_lowest : (whole : Option ℕ) (q : QueueValue) (r : Option Task) → lowest q.pending ≡ whole
+    → IfSome r (λ job. lowest q.pending ≡ Some job.ticket) → IfSome r (λ job. whole ≡ Some job.ticket)
 take_lowest whole q None low is = tt
 take_lowest whole q (Some job) low is = sym low ∙ is
 
@@ -68,14 +79,16 @@ pub record GivenOut (old new : Content) (job : Task) : Type 0 where
   pub none_was_out : count_by (is_out_with job) (entries old) ≡ 0
   pub given : has_out new job ≡ true
 
-pub given_out : (next : ℕ) (closed : Bool) (qs : List QueueValue) (n : ℕ) (q m : QueueValue) (r : Option Task) → AreKept next qs → slice_get qs n ≡ Some q
+pub given_out : (next : ℕ) (closed : Bool) (qs : List QueueValue) (n : ℕ) (q m : QueueValue) (r : Option Task)
+    → AreKept next qs → slice_get qs n ≡ Some q
     → IfSome r (λ job. m ≡ in_queue (into_phase (waits_as job) Out) q) → IfSome r (λ job. m ≡ in_queue (into_phase (has_ticket job.ticket) Out) q)
     → IfSome r (λ job. list_any (waits_as job) q.pending ≡ true) → IfSome r (λ job. list_any (is_out_with job) m.pending ≡ true)
     → IfSome r (λ job. GivenOut (holding qs next closed) (holding (set qs n m) next closed) job)
 given_out next closed qs n q m None kept g out by_ticket waited given = tt
 given_out next closed qs n q m (Some job) kept g out by_ticket waited given =
     let some : 1 ≤ count_by (waits_as job) q.pending = count_any (waits_as job) q.pending waited in
-    let named : count_by (waits_as job) q.pending ≤ count_by (has_ticket job.ticket) q.pending = count_le (waits_as job) (has_ticket job.ticket) q.pending (waits_named job) in
+    let named : count_by (waits_as job) q.pending ≤ count_by (has_ticket job.ticket) q.pending =
+    count_le (waits_as job) (has_ticket job.ticket) q.pending (waits_named job) in
     let here : 1 ≤ count_by (has_ticket job.ticket) q.pending = omega (arith, some, named) in
     let there : count_by (waits_as job) q.pending ≤ count_by (waits_as job) (joined qs) = count_at (waits_as job) qs n q g in
     let both : count_by (waits_as job) (joined qs) + count_by (is_out_with job) (joined qs) ≤ count_by (has_ticket job.ticket) (joined qs) =
@@ -95,7 +108,8 @@ pub record CameBack (old new : Content) (job : Task) (phase : Phase) : Type 0 wh
   pub back : new ≡ after_return old job phase
   pub by_ticket : new ≡ everywhere (into_phase (has_ticket job.ticket) phase) old
 
-pub came_back : (next : ℕ) (closed : Bool) (qs : List QueueValue) (n place : ℕ) (q m : QueueValue) (job : Task) (phase : Phase) → AreKept next qs → slice_get qs n ≡ Some q → IsOutAt job place q.pending
+pub came_back : (next : ℕ) (closed : Bool) (qs : List QueueValue) (n place : ℕ) (q m : QueueValue) (job : Task) (phase : Phase)
+    → AreKept next qs → slice_get qs n ≡ Some q → IsOutAt job place q.pending
     → m ≡ in_queue (into_phase (is_out_with job) phase) q → m ≡ in_queue (into_phase (has_ticket job.ticket) phase) q
     → CameBack (holding qs next closed) (holding (set qs n m) next closed) job phase
 came_back next closed qs n place q m job phase kept g at back by_ticket =
@@ -109,31 +123,37 @@ came_back next closed qs n place q m job phase kept g at back by_ticket =
     }
 
 -- one queue changed
-pub one_changed : (next : ℕ) (closed : Bool) (qs : List QueueValue) (n : ℕ) (q m : QueueValue) (f : QueueValue → QueueValue) → slice_get qs n ≡ Some q → m ≡ f q
+pub one_changed : (next : ℕ) (closed : Bool) (qs : List QueueValue) (n : ℕ) (q m : QueueValue) (f : QueueValue → QueueValue)
+    → slice_get qs n ≡ Some q → m ≡ f q
     → holding (set qs n m) next closed ≡ with_queue n f (holding qs next closed)
 one_changed next closed qs n q m f g is = ap (λ (rs : List QueueValue). holding rs next closed) (ap (set qs n) is ∙ sym (change_set n f qs q g))
 
 -- a record withdrawn, or not
-pub withdraw_follows : {A : Type 0} (q m : QueueValue) (n : ℕ) (r : Result A WithdrawRefusal) → IfOk r (λ _. m ≡ withdrawn_at n q) → IfErr r (λ _. m ≡ q) → Follows q m
+pub withdraw_follows : {A : Type 0} (q m : QueueValue) (n : ℕ) (r : Result A WithdrawRefusal)
+    → IfOk r (λ _. m ≡ withdrawn_at n q) → IfErr r (λ _. m ≡ q) → Follows q m
 withdraw_follows q m n (Ok a) ok err = subst (Follows q) (sym ok) (follows_withdrawn n q)
 withdraw_follows q m n (Err e) ok err = subst (Follows q) (sym err) (follows_same q)
 
-pub withdraw_accepted : {A : Type 0} (next : ℕ) (closed : Bool) (qs : List QueueValue) (s n : ℕ) (q : QueueValue) (r : Result A WithdrawRefusal) → slice_get qs s ≡ Some q
+pub withdraw_accepted : {A : Type 0} (next : ℕ) (closed : Bool) (qs : List QueueValue) (s n : ℕ) (q : QueueValue)
+    (r : Result A WithdrawRefusal) → slice_get qs s ≡ Some q
     → IfOk r (λ _. withdraw_refusal_of (Some q) n ≡ None) → IfOk r (λ _. withdraw_refusal (holding qs next closed) s n ≡ None)
 withdraw_accepted next closed qs s n q (Ok a) g ok = ap (λ o. withdraw_refusal_of o n) g ∙ ok
 withdraw_accepted next closed qs s n q (Err e) g ok = tt
 
-pub withdraw_refused : {A : Type 0} (next : ℕ) (closed : Bool) (qs : List QueueValue) (s n : ℕ) (q : QueueValue) (r : Result A WithdrawRefusal) → slice_get qs s ≡ Some q
+pub withdraw_refused : {A : Type 0} (next : ℕ) (closed : Bool) (qs : List QueueValue) (s n : ℕ) (q : QueueValue)
+    (r : Result A WithdrawRefusal) → slice_get qs s ≡ Some q
     → IfErr r (λ e. withdraw_refusal_of (Some q) n ≡ Some e) → IfErr r (λ e. withdraw_refusal (holding qs next closed) s n ≡ Some e)
 withdraw_refused next closed qs s n q (Ok a) g err = tt
 withdraw_refused next closed qs s n q (Err e) g err = ap (λ o. withdraw_refusal_of o n) g ∙ err
 
-pub withdraw_changed : {A : Type 0} (next : ℕ) (closed : Bool) (qs : List QueueValue) (s n : ℕ) (q m : QueueValue) (r : Result A WithdrawRefusal) → slice_get qs s ≡ Some q
+pub withdraw_changed : {A : Type 0} (next : ℕ) (closed : Bool) (qs : List QueueValue) (s n : ℕ) (q m : QueueValue)
+    (r : Result A WithdrawRefusal) → slice_get qs s ≡ Some q
     → IfOk r (λ _. m ≡ withdrawn_at n q) → IfOk r (λ _. holding (set qs s m) next closed ≡ after_withdraw (holding qs next closed) s n)
 withdraw_changed next closed qs s n q m (Ok a) g ok = one_changed next closed qs s q m (withdrawn_at n) g ok
 withdraw_changed next closed qs s n q m (Err e) g ok = tt
 
-pub withdraw_unchanged : {A : Type 0} (next : ℕ) (closed : Bool) (qs : List QueueValue) (s : ℕ) (q m : QueueValue) (r : Result A WithdrawRefusal) → slice_get qs s ≡ Some q
+pub withdraw_unchanged : {A : Type 0} (next : ℕ) (closed : Bool) (qs : List QueueValue) (s : ℕ) (q m : QueueValue)
+    (r : Result A WithdrawRefusal) → slice_get qs s ≡ Some q
     → IfErr r (λ _. m ≡ q) → IfErr r (λ _. holding (set qs s m) next closed ≡ holding qs next closed)
 withdraw_unchanged next closed qs s q m (Ok a) g err = tt
 withdraw_unchanged next closed qs s q m (Err e) g err = ap (λ (rs : List QueueValue). holding rs next closed) (ap (set qs s) err ∙ set_same s qs q g)
@@ -148,14 +168,16 @@ pub record FoundOut (task : Task) (place : ℕ) (qs : List QueueValue) (s : ℕ)
   pub there : slice_get qs s ≡ Some q
   pub here : IsOutAt task place q.pending
 
-pub found_out : (task : Task) (place : ℕ) (qs : List QueueValue) (s : ℕ) (q : QueueValue) → IsOutIn task s place qs → q ≡ get_or qs s q → FoundOut task place qs s q
+pub found_out : (task : Task) (place : ℕ) (qs : List QueueValue) (s : ℕ) (q : QueueValue) → IsOutIn task s place qs
+    → q ≡ get_or qs s q → FoundOut task place qs s q
 found_out task place qs s q at e =
     let there : slice_get qs s ≡ Some q = got qs s q (got_inside qs s at.queue at.there) e in
     let same : at.queue ≡ q = got_one at.queue q (sym at.there ∙ there) in
     record { there = there; here = subst (λ (k : QueueValue). IsOutAt task place k.pending) same at.here }
 
 -- why a record is not refused
-pub none_refuses : (next : ℕ) (qs : List QueueValue) (s : ℕ) (q : QueueValue) → slice_get qs s ≡ Some q → nat_le q.room (length q.pending) ≡ false → next ≢ 18446744073709551615
+pub none_refuses : (next : ℕ) (qs : List QueueValue) (s : ℕ) (q : QueueValue) → slice_get qs s ≡ Some q
+    → nat_le q.room (length q.pending) ≡ false → next ≢ 18446744073709551615
     → submit_refusal (holding qs next false) s ≡ None
 none_refuses next qs s q g room few =
     let given : (next == 18446744073709551615) ≡ false = grind (arith, nat_tests, few) in
@@ -176,7 +198,8 @@ is_none_ready None h = refl
 is_none_ready (Some e) h = cc
 
 pub none_collected : (c : Content) (n : ℕ) → is_some (ready c n) ≡ false → c ≡ after_collect c n
-none_collected c n h = ap (λ (qs : List QueueValue). record { queues = qs; next = c.next; closed = c.closed }) (sym (stays_all n c.queues (is_none_ready (ready c n) h)))
+none_collected c n h = ap (λ (qs : List QueueValue). record { queues = qs; next = c.next; closed = c.closed })
+    (sym (stays_all n c.queues (is_none_ready (ready c n) h)))
 
 -- Where something is ready, there is the submitter.
 pub ready_inside : (qs : List QueueValue) (n : ℕ) → is_some (ready_of (slice_get qs n)) ≡ true → n < length qs

@@ -8,5 +8,6 @@ use Rattle.mate_desk.specs.Content.{EntryValue, has_task}
 use Rattle.mate_desk.proofs.Tests.{and_holds, same_number}
 
 -- An entry is the job of its own ticket and problem.
-pub own_task : SameProblemReads → (e : EntryValue) (task : Task) → IsSound e.asked.position → task ≡ record { ticket = e.ticket; problem = problem_of e.asked } → has_task task e ≡ true
+pub own_task : SameProblemReads → (e : EntryValue) (task : Task) → IsSound e.asked.position
+    → task ≡ record { ticket = e.ticket; problem = problem_of e.asked } → has_task task e ≡ true
 own_task law e task sound is = rw is (and_holds _ _ (same_number e.ticket) ((law (problem_of e.asked) (problem_of e.asked) sound sound).1 refl))

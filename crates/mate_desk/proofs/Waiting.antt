@@ -1,5 +1,6 @@
 -- The places of the records that wait, and the lowest ticket among them.
-use Rattle.std.proofs.Common.{◌≡◌, ◌≢◌, ℕ, zero, suc, ◌+◌, ◌^◌, ◌<◌, ◌≤◌, ◌==◌, nat_lt, List, [], ◌∷◌, ◌++◌, length, set, true, false, not, ◌&&◌, ◌||◌, if◌then◌else◌, ap, refl, sym, ◌∙◌, arith, None, Some, Option, MatchOption, slice_get, add-one}
+use Rattle.std.proofs.Common.{◌≡◌, ◌≢◌, ℕ, zero, suc, ◌+◌, ◌^◌, ◌<◌, ◌≤◌, ◌==◌, nat_lt, List, [], ◌∷◌, ◌++◌, length, set, true, false, not}
+use Rattle.std.proofs.Common.{◌&&◌, ◌||◌, if◌then◌else◌, ap, refl, sym, ◌∙◌, arith, None, Some, Option, MatchOption, slice_get, add-one}
 use Rattle.std.proofs.lemmas.Bool.Decides.{nat_tests}
 use Rattle.std.proofs.lemmas.Nat.Bits.{bit_at_above}
 use Rattle.mate_desk.specs.Content.{EntryValue, waits, lower, lowest}
@@ -45,7 +46,8 @@ waits_push (x ∷ xs) e (suc p) w =
     waits_push xs e p w ∙ ap (λ b. b || waits_at xs p) (sym q)
 
 -- What a changed word and a changed list of entries agree on.
-pub marks_same : (word : ℕ) (es : List EntryValue) (n : ℕ) (e y : EntryValue) → Marks word es → slice_get es n ≡ Some e → waits y ≡ waits e → Marks word (set es n y)
+pub marks_same : (word : ℕ) (es : List EntryValue) (n : ℕ) (e y : EntryValue) → Marks word es → slice_get es n ≡ Some e
+    → waits y ≡ waits e → Marks word (set es n y)
 marks_same word es n e y m g w p h = m p h ∙ (elim (p == n) as (λ b. (p == n) ≡ b → waits_at es p ≡ waits_at (set es n y) p) [
   | true ↦ λ t. let q : p ≡ n = grind (arith, nat_tests, t) in rw q (waits_got es n e g ∙ (sym w ∙ sym (waits_set_same es n e y g)))
   | false ↦ λ t. let q : p ≢ n = grind (arith, nat_tests, t) in sym (waits_set_other es n p y q)
@@ -60,10 +62,11 @@ marks_with word new es n e y m g w with p h = with p h ∙ (elim (p == n) as (λ
 
 pub marks_without : (word new : ℕ) (es : List EntryValue) (n : ℕ) (e y : EntryValue) → Marks word es → slice_get es n ≡ Some e → waits y ≡ false
     → ((p : ℕ) → p < 64 → has_place new p ≡ (not (p == n) && has_place word p)) → Marks new (set es n y)
-marks_without word new es n e y m g w without p h = without p h ∙ (elim (p == n) as (λ b. (p == n) ≡ b → (not b && has_place word p) ≡ waits_at (set es n y) p) [
-  | true ↦ λ t. let q : p ≡ n = grind (arith, nat_tests, t) in rw q (sym (waits_set_same es n e y g ∙ w))
-  | false ↦ λ t. let q : p ≢ n = grind (arith, nat_tests, t) in m p h ∙ sym (waits_set_other es n p y q)
-]) refl
+marks_without word new es n e y m g w without p h =
+    without p h ∙ (elim (p == n) as (λ b. (p == n) ≡ b → (not b && has_place word p) ≡ waits_at (set es n y) p) [
+      | true ↦ λ t. let q : p ≡ n = grind (arith, nat_tests, t) in rw q (sym (waits_set_same es n e y g ∙ w))
+      | false ↦ λ t. let q : p ≢ n = grind (arith, nat_tests, t) in m p h ∙ sym (waits_set_other es n p y q)
+    ]) refl
 
 pub marks_push : (word new : ℕ) (es : List EntryValue) (e : EntryValue) → Marks word es → waits e ≡ true
     → ((p : ℕ) → p < 64 → has_place new p ≡ (p == length es || has_place word p)) → Marks new (es ++ e ∷ [])
@@ -71,10 +74,12 @@ marks_push word new es e m w with p h = with p h ∙ (ap (λ b. p == length es |
 
 pub marks_lower : (word new : ℕ) (e : EntryValue) (es : List EntryValue) → word < 2 ^ 64 → length es < 64 → Marks word (e ∷ es)
     → ((p : ℕ) → p < 64 → has_place new p ≡ has_place word (p + 1)) → Marks new es
-marks_lower word new e es fits few m lower p h = lower p h ∙ (elim (nat_lt (p + 1) 64) as (λ b. nat_lt (p + 1) 64 ≡ b → has_place word (p + 1) ≡ waits_at es p) [
-  | true ↦ λ t. let q : p + 1 < 64 = grind (arith, nat_tests, t) in m (p + 1) q ∙ rw add-one refl
-  | false ↦ λ t. let q : 64 ≤ p + 1 = grind (arith, nat_tests, t) in is_absent _ (bit_at_above word 64 (p + 1) fits q) ∙ sym (waits_past es p (omega (arith, q, few)))
-]) refl
+marks_lower word new e es fits few m lower p h =
+    lower p h ∙ (elim (nat_lt (p + 1) 64) as (λ b. nat_lt (p + 1) 64 ≡ b → has_place word (p + 1) ≡ waits_at es p) [
+      | true ↦ λ t. let q : p + 1 < 64 = grind (arith, nat_tests, t) in m (p + 1) q ∙ rw add-one refl
+      | false ↦ λ t. let q : 64 ≤ p + 1 = grind (arith, nat_tests, t) in
+          is_absent _ (bit_at_above word 64 (p + 1) fits q) ∙ sym (waits_past es p (omega (arith, q, few)))
+    ]) refl
 
 pub marks_none : (es : List EntryValue) → length es ≡ 0 → Marks 0 es
 marks_none es h p b = none_has p ∙ sym (waits_past es p (omega (arith, h)))
@@ -88,7 +93,8 @@ above_more : (low more : ℕ) (o : Option ℕ) → MatchOption o (Unit {0}) (λ 
 above_more low more None h l = tt
 above_more low more (Some t) h l = omega (arith, h, l)
 
-lower_above : (low ticket : ℕ) (o : Option ℕ) → low ≤ ticket → MatchOption o (Unit {0}) (λ t. low ≤ t) → MatchOption (lower ticket o) (Unit {0}) (λ t. low ≤ t)
+lower_above : (low ticket : ℕ) (o : Option ℕ) → low ≤ ticket → MatchOption o (Unit {0}) (λ t. low ≤ t)
+    → MatchOption (lower ticket o) (Unit {0}) (λ t. low ≤ t)
 lower_above low ticket None h m = h
 lower_above low ticket (Some t) h m = elim (nat_lt t ticket) as (λ b. low ≤ (if b then t else ticket)) [ true ↦ m | false ↦ h ]
 
@@ -111,7 +117,8 @@ lowest_first low [] n e r g w none = cc
 lowest_first low (x ∷ xs) zero e r g w none =
     let q : x ≡ e = got_one x e g in
     let t : waits x ≡ true = ap waits q ∙ w in
-    let least : lower x.ticket (lowest xs) ≡ Some x.ticket = lower_least x.ticket (lowest xs) (above_next x.ticket (lowest xs) (lowest_above (x.ticket + 1) xs r.1)) in
+    let least : lower x.ticket (lowest xs) ≡ Some x.ticket =
+    lower_least x.ticket (lowest xs) (above_next x.ticket (lowest xs) (lowest_above (x.ticket + 1) xs r.1)) in
     rw t (least ∙ ap (λ (z : EntryValue). Some z.ticket) q)
 lowest_first low (x ∷ xs) (suc n) e r g w none =
     let t : waits x ≡ false = none 0 (omega arith) in
@@ -142,7 +149,8 @@ first_found word es place m found none =
 pub none_found : (word : ℕ) (es : List EntryValue) → Marks word es → length es ≤ 64 → ((p : ℕ) → p < 64 → has_place word p ≡ false) → lowest es ≡ None
 none_found word es m few none = lowest_none es (λ p h. sym (m p (omega (arith, h, few))) ∙ none p (omega (arith, h, few)))
 
-pub first_lowest : (es : List EntryValue) (place : ℕ) (e : EntryValue) → Rises 0 es → First es place → slice_get es place ≡ Some e → (waits e ≡ true) × (lowest es ≡ Some e.ticket)
+pub first_lowest : (es : List EntryValue) (place : ℕ) (e : EntryValue) → Rises 0 es → First es place → slice_get es place ≡ Some e
+    → (waits e ≡ true) × (lowest es ≡ Some e.ticket)
 first_lowest es place e r first g =
     let w : waits e ≡ true = sym (waits_got es place e g) ∙ first.waits in
     (w, lowest_first 0 es place e r g w first.none)

@@ -1,5 +1,6 @@
 -- What the calls of a desk answer, and what they leave behind.
-use Rattle.std.specs.Prelude.{ℕ, zero, suc, ◌+◌, ◌-◌, ◌^◌, ◌==◌, nat_lt, nat_le, Bool, true, false, if◌then◌else◌, List, [], ◌∷◌, ◌++◌, length, map, drop, replicate, slice_get, Option, None, Some}
+use Rattle.std.specs.Prelude.{ℕ, zero, suc, ◌+◌, ◌-◌, ◌^◌, ◌==◌, nat_lt, nat_le, Bool, true, false, if◌then◌else◌}
+use Rattle.std.specs.Prelude.{List, [], ◌∷◌, ◌++◌, length, map, drop, replicate, slice_get, Option, None, Some}
 use Rattle.std.specs.List.{list_any, list_all}
 use Rattle.chess_notation.specs.Records.{RecordValue}
 use Rattle.mate_jobs.specs.Jobs.{Task}
@@ -11,7 +12,8 @@ use Rattle.mate_desk.specs.declared.refusals.WithdrawRefusal.TheVariants as with
 
 -- a new desk
 abbrev pub empty : ℕ → ℕ → ℕ → Content
-empty submitters room first = record { queues = replicate submitters (record { room = room; delivered = 0; pending = [] }); next = first; closed = false }
+empty submitters room first =
+    record { queues = replicate submitters (record { room = room; delivered = 0; pending = [] }); next = first; closed = false }
 
 -- the n-th element changed so; nothing where there is no n-th
 abbrev pub change_at : {A : Type 0} → ℕ → (A → A) → List A → List A
@@ -49,7 +51,11 @@ submit_refusal c s = submit_refusal_by c.closed c.next (slice_get c.queues s)
 
 -- A record is accepted: it waits, behind the others of its submitter, under the next ticket.
 abbrev pub with_entry : ℕ → RecordValue → QueueValue → QueueValue
-with_entry ticket asked q = record { room = q.room; delivered = q.delivered; pending = q.pending ++ record { ticket = ticket; asked = asked; phase = Waiting; withdrawn = false } ∷ [] }
+with_entry ticket asked q = record {
+  room = q.room;
+  delivered = q.delivered;
+  pending = q.pending ++ record { ticket = ticket; asked = asked; phase = Waiting; withdrawn = false } ∷ [];
+}
 
 abbrev pub after_submit : Content → ℕ → RecordValue → Content
 after_submit c s asked = record { queues = change_at s (with_entry c.next asked) c.queues; next = c.next + 1; closed = c.closed }
@@ -111,7 +117,8 @@ abbrev pub withdrawn : EntryValue → EntryValue
 withdrawn e = record { ticket = e.ticket; asked = e.asked; phase = e.phase; withdrawn = true }
 
 abbrev pub withdrawn_at : ℕ → QueueValue → QueueValue
-withdrawn_at n q = if nat_lt n q.delivered then q else record { room = q.room; delivered = q.delivered; pending = change_at (n - q.delivered) withdrawn q.pending }
+withdrawn_at n q = if nat_lt n q.delivered then q
+    else record { room = q.room; delivered = q.delivered; pending = change_at (n - q.delivered) withdrawn q.pending }
 
 abbrev pub after_withdraw : Content → ℕ → ℕ → Content
 after_withdraw c s n = with_queue s (withdrawn_at n) c

@@ -8,7 +8,8 @@ use Rattle.mate_desk.specs.declared.steps_and_replies.Step.{Step}
 use Rattle.mate_desk.specs.declared.steps_and_replies.Step.TheVariants as step
 use Rattle.mate_desk.specs.declared.steps_and_replies.Reply.{Reply}
 use Rattle.mate_desk.specs.declared.steps_and_replies.Reply.TheVariants as reply
-use Rattle.mate_desk.specs.History.{History, Event, Claim, accepted, Answered, Noticed, delivered, phase, withdrawn, hand, is_ticket, count_accepted, closed}
+use Rattle.mate_desk.specs.History.{History, Event, Claim, accepted, Answered, Noticed, delivered}
+use Rattle.mate_desk.specs.History.{phase, withdrawn, hand, is_ticket, count_accepted, closed}
 
 -- The step was made with this reply, after this history.
 abbrev pub WasMade : History → Step → Reply → History → Type 0
@@ -18,7 +19,8 @@ WasMade h s r before = (later : History) × (h ≡ later ++ record { step = s; r
 -- step whose reply is a ticket.
 abbrev pub AcceptedReads : Type 0
 AcceptedReads = (h : History) (s k : ℕ) (claim : Claim) → (slice_get (accepted h s) k ≡ Some claim) ↔
-    ((before : History) × (text : Vec ℕ Global) × WasMade h (step.Submit s text) (reply.Ticket claim.ticket) before × (text.items ≡ claim.line) × (length (accepted before s) ≡ k))
+    ((before : History) × (text : Vec ℕ Global) × WasMade h (step.Submit s text) (reply.Ticket claim.ticket) before
+    × (text.items ≡ claim.line) × (length (accepted before s) ≡ k))
 
 -- The k-th thing that a submitter got is the answer, or the notice, in the reply to the step in which it collected when it had got k.
 abbrev pub DeliveredReads : Type 0
@@ -75,4 +77,5 @@ puts_down t e = puts_down_by e.reply t
 -- A job is in hand where it was taken, and since then neither finished nor handed back.
 abbrev pub HandReads : Type 0
 HandReads = (h : History) (t : ℕ) → (list_any (λ u. u == t) (hand h) ≡ true) ↔
-    ((later : History) × (s : Step) × (before : History) × (h ≡ later ++ record { step = s; reply = reply.Job t } ∷ before) × (list_any (puts_down t) later ≡ false))
+    ((later : History) × (s : Step) × (before : History) × (h ≡ later ++ record { step = s; reply = reply.Job t } ∷ before)
+    × (list_any (puts_down t) later ≡ false))

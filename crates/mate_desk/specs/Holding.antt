@@ -6,7 +6,17 @@ use Rattle.chess_notation.specs.Records.{RecordValue}
 -- No place of a held answer is empty, so this is asked of none.
 abbrev pub nothing : RecordValue
 nothing = record {
-  position = record { men = []; side = White; rights = record { white_king_side = false; white_queen_side = false; black_king_side = false; black_queen_side = false }; target = None };
+  position = record {
+    men = [];
+    side = White;
+    rights = record {
+      white_king_side = false;
+      white_queen_side = false;
+      black_king_side = false;
+      black_queen_side = false;
+    };
+    target = None;
+  };
   bound = 0;
   avoid = [];
   rest = [];

@@ -6,7 +6,9 @@ use Rattle.chess_notation.specs.EpdFaults.{epd_fault_name}
 use Rattle.mate_search.specs.inside.Truth.{truth}
 use Rattle.mate_desk.specs.Refusals.{submit_refusal_name, withdraw_refusal_name}
 use Rattle.mate_desk.specs.declared.steps_and_replies.Reply.{Reply}
-use Rattle.mate_desk.specs.declared.steps_and_replies.Reply.TheVariants.{Ticket, Refused, BadRecord, Job, Nothing, Done, NoJob, Back, Answer, Notice, Empty, NoSuchSubmitter, Withdrawn, NotWithdrawn, Drained, Closed}
+use Rattle.mate_desk.specs.declared.steps_and_replies.Reply.TheVariants.{Ticket, Refused, BadRecord, Job, Nothing, Done}
+use Rattle.mate_desk.specs.declared.steps_and_replies.Reply.TheVariants.{NoJob, Back, Answer, Notice, Empty, NoSuchSubmitter}
+use Rattle.mate_desk.specs.declared.steps_and_replies.Reply.TheVariants.{Withdrawn, NotWithdrawn, Drained, Closed}
 
 -- An answer prints as the record with what is true of its problem, a refusal as the word `refused` and its name.
 unfoldable pub reply_text : Reply → List ℕ

@@ -1,8 +1,12 @@
 //! The desk.
 
-ghost use Rattle.std.specs.Prelude.{ℕ, ◌≡◌, ◌↔◌, ◌⊎◌, ◌<◌, ◌≤◌, ◌^◌, true, false, length, count_by, slice_get, IfOk, IfErr, IfNone, IfSome, Some, None, Ok, Err, is_none, is_some};
-ghost use Rattle.mate_desk.specs.Content.{entries, lowest, waits, waits_as, has_ticket, is_out_with, Waiting as waiting_phase, Out as out, Finished as finished};
-ghost use Rattle.mate_desk.specs.Calls.{empty, everywhere, into_phase, submit_refusal, after_submit, after_take, has_out, after_return, ready, after_collect, withdraw_refusal, after_withdraw, after_close, pending_of, is_drained as is_drained_content};
+ghost use Rattle.std.specs.Prelude.{ℕ, ◌≡◌, ◌↔◌, ◌⊎◌, ◌<◌, ◌≤◌, ◌^◌, true, false, length, count_by, slice_get};
+ghost use Rattle.std.specs.Prelude.{IfOk, IfErr, IfNone, IfSome, Some, None, Ok, Err, is_none, is_some};
+ghost use Rattle.mate_desk.specs.Content.{entries, lowest, waits, waits_as, has_ticket, is_out_with, Waiting as waiting_phase};
+ghost use Rattle.mate_desk.specs.Content.{Out as out, Finished as finished};
+ghost use Rattle.mate_desk.specs.Calls.{empty, everywhere, into_phase, submit_refusal, after_submit, after_take};
+ghost use Rattle.mate_desk.specs.Calls.{has_out, after_return, ready, after_collect, withdraw_refusal, after_withdraw};
+ghost use Rattle.mate_desk.specs.Calls.{after_close, pending_of, is_drained as is_drained_content};
 ghost use Rattle.mate_desk.specs.Deliveries.{delivery};
 ghost use Rattle.mate_desk.specs.Laws.{AreKept};
 ghost use Rattle.mate_desk.specs.Refusals.{AreServed, IsRoom};

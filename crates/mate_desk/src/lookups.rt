@@ -15,7 +15,8 @@ pub(crate) fn place_out(
     ticket: Ticket,
     problem: &Problem,
 ) -> Option<(usize, usize)>
-    ensures none { IfNone result (list_any (is_out_with (record { ticket = ticket; problem = problem.now })) (flat_map (λ q. q.pending) queues.now) ≡ false) }
+    ensures none { IfNone result (list_any (is_out_with (record { ticket = ticket; problem = problem.now }))
+        (flat_map (λ q. q.pending) queues.now) ≡ false) }
     ensures some { IfSome result (λ at. IsOutIn (record { ticket = ticket; problem = problem.now }) at.0 at.1 queues.now) }
 {
     for (s, queue) in queues.iter().enumerate() {
@@ -30,7 +31,8 @@ pub(crate) fn place_out(
 pub(crate) fn first_waiting(queues: &[Queue]) -> Option<usize>
     ensures none { IfNone result (lowest (flat_map (λ q. q.pending) queues.now) ≡ None) }
     ensures inside { IfSome result (λ s. s < length queues.now) }
-    ensures lowest { IfSome result (λ s. (q : QueueValue) → slice_get queues.now s ≡ Some q → lowest q.pending ≡ lowest (flat_map (λ q. q.pending) queues.now)) }
+    ensures lowest { IfSome result (λ s. (q : QueueValue) → slice_get queues.now s ≡ Some q
+        → lowest q.pending ≡ lowest (flat_map (λ q. q.pending) queues.now)) }
 {
     let mut first = 0;
     let mut least: Option<u64> = None;

@@ -1,8 +1,10 @@
 //! What one submitter has pending.
 
-ghost use Rattle.std.specs.Prelude.{◌≡◌, ◌+◌, ◌<◌, ◌≤◌, ◌^◌, [], true, false, length, nat_le, count_by, Some, None, is_some, IfOk, IfErr, IfNone, IfSome};
+ghost use Rattle.std.specs.Prelude.{◌≡◌, ◌+◌, ◌<◌, ◌≤◌, ◌^◌, [], true, false, length, nat_le, count_by};
+ghost use Rattle.std.specs.Prelude.{Some, None, is_some, IfOk, IfErr, IfNone, IfSome};
 ghost use Rattle.std.specs.List.{list_any};
-ghost use Rattle.mate_desk.specs.Content.{EntryValue, lowest, waits, waits_as, has_ticket, is_out_with, Waiting as waiting_phase, Out as out, Finished as finished};
+ghost use Rattle.mate_desk.specs.Content.{EntryValue, lowest, waits, waits_as, has_ticket, is_out_with};
+ghost use Rattle.mate_desk.specs.Content.{Waiting as waiting_phase, Out as out, Finished as finished};
 ghost use Rattle.mate_desk.specs.Calls.{in_queue, into_phase, with_entry, ready_first, collected, withdraw_refusal_of, withdrawn_at};
 ghost use Rattle.mate_desk.specs.Deliveries.{delivery};
 ghost use Rattle.mate_desk.specs.Laws.{AreBelow};

@@ -4,7 +4,8 @@ ghost use Rattle.std.specs.Prelude.{◌≡◌, ◌⊎◌, ◌↔◌, ◌<◌, �
 ghost use Rattle.mate_desk.specs.Refusals.{AreServed, IsRoom};
 ghost use Rattle.mate_desk.specs.History.{past};
 ghost use Rattle.mate_desk.specs.Replies.{AreReplies};
-ghost use Rattle.mate_desk.specs.Headline.{AfterEachPrefix, DeliversInOrder, GivesNoticeOfWithdrawn, DeliversAllOnceDrained, AcceptsNoneAfterClose, AnswersAreTrue};
+ghost use Rattle.mate_desk.specs.Headline.{AfterEachPrefix, DeliversInOrder, GivesNoticeOfWithdrawn, DeliversAllOnceDrained};
+ghost use Rattle.mate_desk.specs.Headline.{AcceptsNoneAfterClose, AnswersAreTrue};
 ghost use Rattle.mate_desk.specs.RunFaults.{run_fault_name};
 ghost use Rattle.mate_desk.specs.inside.Stepping.{collects, finishes};
 ghost use Rattle.mate_desk.specs.declared.runs.RunFault.TheVariants as fault;
@@ -12,7 +13,7 @@ ghost use Rattle.mate_desk.specs.declared.runs.RunFault.TheVariants as fault;
 use crate::desks::Desk;
 use crate::held_answers::new_places;
 use crate::refusals::DeskFault;
-use crate::stepping::make;
+use crate::stepping::{Reader, make};
 use crate::steps_and_replies::{Reply, Step};
 use chess_moves::Rays;
 use chess_problems::Bound;
@@ -119,17 +120,13 @@ pub fn run(
     let Ok(mut places) = new_places(alloc, most_answers(steps)) else {
         return Err(RunFault::NoMemory);
     };
+    let reader = Reader {
+        alloc,
+        rays,
+        default,
+    };
     for step in steps {
-        let reply = make(
-            alloc,
-            rays,
-            default,
-            &mut desk,
-            &mut hand,
-            &mut places,
-            step,
-            memo,
-        );
+        let reply = make(&reader, &mut desk, &mut hand, &mut places, step, memo);
         replies.push_reserved(reply);
     }
     Ok(replies)

@@ -17,11 +17,17 @@ use mate_jobs::{Delivery, Job};
 use mate_search::Memo;
 use std::alloc::Global;
 
+/// What lines are read with.
+#[derive(Clone, Copy)]
+pub(crate) struct Reader<'a> {
+    pub(crate) alloc: Global,
+    pub(crate) rays: &'a Rays,
+    pub(crate) default: Bound,
+}
+
 /// Makes one step. An answer is held in one of the places.
 pub(crate) fn make(
-    alloc: Global,
-    rays: &Rays,
-    default: Bound,
+    reader: &Reader,
     desk: &mut Desk,
     hand: &mut Vec<Job>,
     places: &mut Vec<Place>,
@@ -31,7 +37,7 @@ pub(crate) fn make(
     requires room { (t : ℕ) → lowest (entries desk.old) ≡ Some t → vec_len hand.old < vec_capacity hand.old }
     requires few { desk.old.next < 2 ^ 64 - 1 }
     requires place { collects step.now ≡ true → 0 < count_done desk.old → 0 < vec_len places.old }
-    ensures makes { Makes default step.now result desk.old hand.old.items desk.new hand.new.items }
+    ensures makes { Makes reader.now.default step.now result desk.old hand.old.items desk.new hand.new.items }
     ensures room { vec_capacity hand.new ≡ vec_capacity hand.old }
     ensures grows { vec_len hand.new ≤ vec_len hand.old + 1 }
     ensures few { desk.new.next ≤ desk.old.next + 1 }
@@ -44,9 +50,9 @@ pub(crate) fn make(
     // That a memo keeps no more than it has room for is this call's clause.
     memo.len();
     match step {
-        Step::Submit(s, line) => submit(alloc, rays, default, desk, *s, line),
+        Step::Submit(s, line) => submit(reader, desk, *s, line),
         Step::Take => take(desk, hand),
-        Step::Finish(i) => finish(rays, desk, hand, *i, memo),
+        Step::Finish(i) => finish(reader.rays, desk, hand, *i, memo),
         Step::HandBack(i) => hand_back(desk, hand, *i),
         Step::Collect(s) => collect(desk, places, *s),
         Step::Withdraw(s, n) => withdraw(desk, *s, *n),
@@ -56,21 +62,14 @@ pub(crate) fn make(
 }
 
 /// Hands in the record that a line says.
-fn submit(
-    alloc: Global,
-    rays: &Rays,
-    default: Bound,
-    desk: &mut Desk,
-    s: usize,
-    line: &Vec<u8>,
-) -> Reply
+fn submit(reader: &Reader, desk: &mut Desk, s: usize, line: &Vec<u8>) -> Reply
     requires { desk.old.next < 2 ^ 64 - 1 }
-    ensures makes { (jobs : List Task) → Makes default (step.Submit s line.now) result desk.old jobs desk.new jobs }
+    ensures makes { (jobs : List Task) → Makes reader.now.default (step.Submit s line.now) result desk.old jobs desk.new jobs }
     ensures few { desk.new.next ≤ desk.old.next + 1 }
     ensures no_answer { answers result ≡ 0 }
     ensures finished { count_done desk.new ≤ count_done desk.old }
 {
-    let asked = match read_record(alloc, rays, line, default) {
+    let asked = match read_record(reader.alloc, reader.rays, line, reader.default) {
         Ok(asked) => asked,
         Err(fault) => return Reply::BadRecord(fault),
     };

@@ -26,7 +26,8 @@ begins same avoid m = (
       cc)),
   (λ absent. (elim (list_any (is_same_move m) avoid) as (λ b. list_any (is_same_move m) avoid ≡ b → not b ≡ true) [
     | false ↦ λ is. refl
-    | true ↦ λ is. let found = any_contains (is_same_move m) avoid is in absurd (absent (subst (Contains avoid) (sym ((same m found.0).0 found.2)) found.1))
+    | true ↦ λ is. let found = any_contains (is_same_move m) avoid is in
+        absurd (absent (subst (Contains avoid) (sym ((same m found.0).0 found.2)) found.1))
   ]) refl),
 )
 
@@ -35,7 +36,8 @@ unfolding first_moves
 first_moves_are same rise q = (
   λ m. (
     (λ c. (
-      All-contains (Contains (legal_moves q.position)) _ m (All-filter (may_begin q.avoid) (Contains (legal_moves q.position)) (legal_moves q.position) (All-contains_itself (legal_moves q.position))) c,
+      All-contains (Contains (legal_moves q.position)) _ m (All-filter (may_begin q.avoid) (Contains (legal_moves q.position))
+          (legal_moves q.position) (All-contains_itself (legal_moves q.position))) c,
       (begins same q.avoid m).0 (All-contains (λ x. may_begin q.avoid x ≡ true) _ m (filter_passes (may_begin q.avoid) (legal_moves q.position)) c),
     )),
     (λ h. filter_keeps (may_begin q.avoid) (legal_moves q.position) m h.0 ((begins same q.avoid m).1 h.1)),
@@ -62,7 +64,8 @@ truth_of_all q none = ap (λ first. truth_among first q.position q.bound) (sym (
 
 pub first_moves_legal : (q : ProblemValue) → All (Contains (legal_moves q.position)) (first_moves q)
 unfolding first_moves
-first_moves_legal q = All-filter (may_begin q.avoid) (Contains (legal_moves q.position)) (legal_moves q.position) (All-contains_itself (legal_moves q.position))
+first_moves_legal q = All-filter (may_begin q.avoid) (Contains (legal_moves q.position)) (legal_moves q.position)
+    (All-contains_itself (legal_moves q.position))
 
 pub first_moves_each : (q : ProblemValue) → All (λ m. is_legal q.position m ≡ true) (first_moves q)
 unfolding first_moves

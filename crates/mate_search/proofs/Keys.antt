@@ -1,5 +1,6 @@
 -- The keys in place of all first moves: there is a mate where there is a key, and the variation begins with the first of them.
-use Rattle.std.proofs.Common.{◌≡◌, ℕ, zero, suc, ◌+◌, ◌-◌, ◌<◌, Bool, true, false, List, [], ◌∷◌, length, filter, find, None, Some, refl, sym, arith, nat_lt, ◌∙◌}
+use Rattle.std.proofs.Common.{◌≡◌, ℕ, zero, suc, ◌+◌, ◌-◌, ◌<◌, Bool, true, false, List, [], ◌∷◌}
+use Rattle.std.proofs.Common.{length, filter, find, None, Some, refl, sym, arith, nat_lt, ◌∙◌}
 use Rattle.std.proofs.lemmas.Bool.{lt-ltb}
 use Rattle.std.specs.List.{All, list_any}
 use Rattle.std.proofs.lemmas.List.Elements.{All-filter}
@@ -30,7 +31,8 @@ win_by_keys : (first : List Move) (p : Setup) (k : ℕ) → win_among first (k +
 win_by_keys first p k = win_among_step first (k + 1) p (omega arith) ∙ any_kept (leaves_lost (k + 1 - 1) p) first
 
 -- Where none mates within k moves, a key of a mate in one more makes that the least number, and where there is no key, none mates so.
-pub dist_by_key : (first : List Move) (p : Setup) (k b : ℕ) → dist first p k ≡ None → 0 < length (keys first p (k + 1)) → k < b → dist first p b ≡ Some (k + 1)
+pub dist_by_key : (first : List Move) (p : Setup) (k b : ℕ) → dist first p k ≡ None
+    → 0 < length (keys first p (k + 1)) → k < b → dist first p b ≡ Some (k + 1)
 dist_by_key first p k b none some h = dist_found first p k b none (win_by_keys first p k ∙ lt-ltb 0 (length (keys first p (k + 1))) some) h
 
 pub dist_no_key : (first : List Move) (p : Setup) (k : ℕ) → dist first p k ≡ None → length (keys first p (k + 1)) ≡ 0 → dist first p (k + 1) ≡ None

@@ -1,5 +1,7 @@
 -- What an entry says of more and of fewer moves, and what stays true of the entries of a cache.
-use Rattle.std.proofs.Common.{◌≡◌, ℕ, zero, suc, ◌+◌, ◌-◌, ◌≤◌, true, false, List, Some, None, refl, sym, ◌∙◌, subst, inl, inr, arith, zero-add, suc-add, Result, Ok, Err, OnOk, OnErr}
+use Rattle.std.proofs.Common.{◌≡◌, ℕ, zero, suc, ◌+◌, ◌-◌, ◌<◌, ◌≤◌, true, false, List, Option, Some, None, refl}
+use Rattle.std.proofs.Common.{sym, ◌∙◌, subst, inl, inr, arith, zero-add, suc-add, Result, Ok, Err, OnOk, OnErr}
+use Rattle.std.specs.Option.{IfSome}
 use Rattle.std.specs.Map.{lookup}
 use Rattle.lru.specs.LruCache.{LruCache, lru_cache, promoted, put_entries}
 use Rattle.lru.proofs.CallerLemmas.{Contains-lookup, Contains-promoted, Contains-put_entries}
@@ -31,8 +33,15 @@ no_win_within_fewer k n p h l = (elim (win n p) as (λ b. win n p ≡ b → b �
   | true ↦ λ t. let w = win_within_more n k p h t in cc
 ]) refl
 
+-- What is said of the least number of moves, where it was found.
+pub least_found : (n : ℕ) (p : Setup) (least : Option ℕ) (k : ℕ) → least ≡ Some k →
+    IfSome least (λ j. (0 < j) × (j ≤ n) × (win (j - 1) p ≡ false) × (win j p ≡ true)) →
+    (0 < k) × (k ≤ n) × (win (k - 1) p ≡ false) × (win k p ≡ true)
+least_found n p least k is said = subst (λ (o : Option ℕ). IfSome o (λ j. (0 < j) × (j ≤ n) × (win (j - 1) p ≡ false) × (win j p ≡ true))) is said
+
 -- What a look-up finds is true of the position that was asked for.
-pub found_true : EqualReads → (p : Setup) (es : List (Setup × Entry)) (v : Entry) → IsSound p → AreTrue es → lookup (are_equal p) es ≡ Some v → IsTrueOf p v
+pub found_true : EqualReads → (p : Setup) (es : List (Setup × Entry)) (v : Entry) → IsSound p → AreTrue es
+    → lookup (are_equal p) es ≡ Some v → IsTrueOf p v
 found_true equal p es v sound all h =
     let at = Contains-lookup (are_equal p) es v h in
     let there = all (at.0, v) at.1 in
@@ -52,13 +61,19 @@ put_true equal c p v all h e m = elim (Contains-put_entries are_equal c p v e m)
 
 -- A put that is refused changes nothing, and one that is not leaves old entries and the new one, and the room.
 pub kept_after : {A E : Type 0} → EqualReads → (r : Result A E) (old new : LruCache Setup Entry) (p : Setup) (v : Entry)
-    → OnOk r (new ≡ lru_cache (put_entries are_equal old p v) old.cap) → OnErr r (new ≡ old) → IsTrueMemo old.entries old.cap → IsTrueOf p v → IsTrueMemo new.entries new.cap
+    → OnOk r (new ≡ lru_cache (put_entries are_equal old p v) old.cap) → OnErr r (new ≡ old) → IsTrueMemo old.entries old.cap
+    → IsTrueOf p v → IsTrueMemo new.entries new.cap
 kept_after equal (Ok a) old new p v ok err h is = subst (λ (c : LruCache Setup Entry). IsTrueMemo c.entries c.cap) (sym ok)
-    (record { each_true = put_true equal old p v h.each_true is; within = put_within are_equal old p v h.within h.some_room; some_room = h.some_room })
+    (record {
+      each_true = put_true equal old p v h.each_true is;
+      within = put_within are_equal old p v h.within h.some_room;
+      some_room = h.some_room;
+    })
 kept_after equal (Err a) old new p v ok err h is = subst (λ (c : LruCache Setup Entry). IsTrueMemo c.entries c.cap) (sym err) h
 
 -- A look-up moves an entry to the front.
-pub kept_promoted : (old new : LruCache Setup Entry) (p : Setup) → new ≡ lru_cache (promoted (are_equal p) old.entries) old.cap → IsTrueMemo old.entries old.cap → IsTrueMemo new.entries new.cap
+pub kept_promoted : (old new : LruCache Setup Entry) (p : Setup) → new ≡ lru_cache (promoted (are_equal p) old.entries) old.cap
+    → IsTrueMemo old.entries old.cap → IsTrueMemo new.entries new.cap
 kept_promoted old new p is h = subst (λ (c : LruCache Setup Entry). IsTrueMemo c.entries c.cap) (sym is) (record {
   each_true = λ e m. h.each_true e (Contains-promoted (are_equal p) old.entries e m);
   within = omega (arith, length-promoted (are_equal p) old.entries, h.within);
@@ -67,4 +82,5 @@ kept_promoted old new p is h = subst (λ (c : LruCache Setup Entry). IsTrueMemo 
 
 -- Within as many moves as an entry rules out, there is no mate to find.
 pub none_found_within : (p : Setup) (entry : Entry) → IsTrueOf p entry → dist (legal_moves p) p entry.none_within ≡ None
-none_found_within p entry h = none_dist (legal_moves p) p entry.none_within (λ k l. all_among k p ∙ no_win_within_fewer entry.none_within k p l h.none)
+none_found_within p entry h =
+    none_dist (legal_moves p) p entry.none_within (λ k l. all_among k p ∙ no_win_within_fewer entry.none_within k p l h.none)

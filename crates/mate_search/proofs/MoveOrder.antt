@@ -1,5 +1,6 @@
 -- What is found first in a list that rises comes first in the order of moves.
-use Rattle.std.proofs.Common.{◌≡◌, ◌∙◌, ◌-◌, ℕ, zero, suc, ◌<◌, ◌≤◌, Bool, true, false, not, cond, List, [], ◌∷◌, filter, find, Some, refl, ap, arith, inl, inr}
+use Rattle.std.proofs.Common.{◌≡◌, ◌∙◌, ◌-◌, ℕ, zero, suc, ◌<◌, ◌≤◌, Bool, true, false, not, cond}
+use Rattle.std.proofs.Common.{List, [], ◌∷◌, filter, find, Some, refl, ap, arith, inl, inr}
 use Rattle.std.specs.List.{Contains}
 use Rattle.std.proofs.lemmas.Bool.{cases_lt}
 use Rattle.std.proofs.lemmas.List.Elements.{All-contains_itself}
@@ -70,7 +71,8 @@ first_key first p n m rise e =
     )
 
 -- The first reply that no mate within j meets is the longest defence of a defender that is lost with j + 1.
-pub lasts_longest : LegalRise → (q : Setup) (j : ℕ) (r : Move) → ((s : Move) → Contains (legal_moves q) s → win (suc j) (after_setup q s) ≡ true) → longest_defence q j ≡ Some r → IsLongestDefence q r
+pub lasts_longest : LegalRise → (q : Setup) (j : ℕ) (r : Move) → ((s : Move) → Contains (legal_moves q) s
+    → win (suc j) (after_setup q s) ≡ true) → longest_defence q j ≡ Some r → IsLongestDefence q r
 lasts_longest rise q j r each e =
     let test : Move → Bool = λ x. not (win j (after_setup q x)) in
     let among = found_has (Contains (legal_moves q)) test (legal_moves q) r (All-contains_itself (legal_moves q)) e in

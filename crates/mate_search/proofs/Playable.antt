@@ -21,18 +21,24 @@ module _ (law : LegalListed) where
   defence_playable zero rest q h = tt
   defence_playable (suc j) rest q h = (elim (longest_defence q j) as (λ o. longest_defence q j ≡ o → IsLine q (defence (suc j) rest q)) [
     | None ↦ λ is. rw is tt
-    | Some r ↦ λ is. rw is ((law q r).0 (found_has (Contains (legal_moves q)) _ (legal_moves q) r (All-contains_itself (legal_moves q)) is), h (after_setup q r))
+    | Some r ↦ λ is. rw is (
+      (law q r).0
+          (found_has (Contains (legal_moves q)) _ (legal_moves q) r (All-contains_itself (legal_moves q)) is),
+      h (after_setup q r),
+    )
   ]) refl
 
   variation_playable : (first : List Move) (n : ℕ) (p : Setup) → All (Contains (legal_moves p)) first → IsLine p (variation first p n)
   unfolding variation
   variation_playable first zero p h = tt
-  variation_playable first (suc n) p h = (elim (least_key first p (suc n)) as (λ o. least_key first p (suc n) ≡ o → IsLine p (variation first p (suc n))) [
-    | None ↦ λ is. rw is tt
-    | Some m ↦ λ is.
-        let rest = defence_playable n (λ s. variation (legal_moves s) s n) (after_setup p m) (λ s. variation_playable (legal_moves s) n s (All-contains_itself (legal_moves s))) in
-        rw is ((law p m).0 (found_has (Contains (legal_moves p)) _ first m h is), rest)
-  ]) refl
+  variation_playable first (suc n) p h =
+      (elim (least_key first p (suc n)) as (λ o. least_key first p (suc n) ≡ o → IsLine p (variation first p (suc n))) [
+        | None ↦ λ is. rw is tt
+        | Some m ↦ λ is.
+            let rest = defence_playable n (λ s. variation (legal_moves s) s n) (after_setup p m)
+            (λ s. variation_playable (legal_moves s) n s (All-contains_itself (legal_moves s))) in
+            rw is ((law p m).0 (found_has (Contains (legal_moves p)) _ first m h is), rest)
+      ]) refl
 
 each_legal : (p : Setup) (ms : List Move) → All (Contains (legal_moves p)) ms → AreLegal p ms
 each_legal p [] h = tt
@@ -43,7 +49,10 @@ among_playable : LegalListed → (first : List Move) (p : Setup) (b : ℕ) → A
 unfolding truth_among IsPlayable
 among_playable law first p b legal = (elim (dist first p b) as (λ o. dist first p b ≡ o → IsPlayable p (truth_among first p b)) [
   | None ↦ λ is. rw is tt
-  | Some n ↦ λ is. rw is (each_legal p _ (All-filter (leaves_lost (n - 1) p) (Contains (legal_moves p)) first legal), variation_playable law first n p legal)
+  | Some n ↦ λ is. rw is (
+    each_legal p _ (All-filter (leaves_lost (n - 1) p) (Contains (legal_moves p)) first legal),
+    variation_playable law first n p legal,
+  )
 ]) refl
 
 -- What there is to say of a problem can be played.

@@ -31,7 +31,8 @@ no_key first p (suc k) some none m key =
     cc
 
 module _ (rise : LegalRise) where
-  best_play : (first : List Move) (n : ℕ) (p : Setup) → IsRising first → win_among first (suc n) p ≡ true → win_among first n p ≡ false → IsPrincipalVariation first p (suc n) (variation first p (suc n))
+  best_play : (first : List Move) (n : ℕ) (p : Setup) → IsRising first → win_among first (suc n) p ≡ true
+      → win_among first n p ≡ false → IsPrincipalVariation first p (suc n) (variation first p (suc n))
   unfolding win_among variation
   best_play first zero p rising w l =
       let found = any_found (leaves_lost zero p) first w in
@@ -51,7 +52,8 @@ module _ (rise : LegalRise) where
       let rest = best_play (legal_moves s) j s (rise s) (rw (all_among (suc j) s) wins) (rw (all_among j s) reply.2) in
       let longest = lasts_longest rise q j r (λ x c. all_contains (λ y. win (suc j) (after_setup q y)) (legal_moves q) x each.1 c) reply.1 in
       let all : IsPrincipalVariation first p (suc (suc j)) (m ∷ r ∷ variation (legal_moves s) s (suc j)) =
-      rw (← (add-one (suc j))) (goes_on first p q s (suc j) m r _ (omega arith) (rw (add-one (suc j)) (first_key first p (suc (suc j)) m rising key)) refl longest refl rest) in
+      rw (← (add-one (suc j))) (goes_on first p q s (suc j) m r _ (omega arith)
+      (rw (add-one (suc j)) (first_key first p (suc (suc j)) m rising key)) refl longest refl rest) in
       rw key (rw reply.1 all)
 
   pub line_reads : LineReads

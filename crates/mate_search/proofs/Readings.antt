@@ -1,5 +1,6 @@
 -- The definitions read with their moves named.
-use Rattle.std.proofs.Common.{◌≡◌, ℕ, zero, suc, ◌+◌, ◌-◌, ◌<◌, ◌≤◌, Bool, true, false, ◌&&◌, ◌||◌, List, [], ◌∷◌, length, Some, None, refl, sym, ◌∙◌, arith, add-one, inl, inr}
+use Rattle.std.proofs.Common.{◌≡◌, ℕ, zero, suc, ◌+◌, ◌-◌, ◌<◌, ◌≤◌, Bool, true, false, ◌&&◌, ◌||◌, List}
+use Rattle.std.proofs.Common.{[], ◌∷◌, length, Some, None, refl, sym, ◌∙◌, arith, add-one, inl, inr}
 use Rattle.std.specs.Prelude.{nat_lt, ◌⊎◌}
 use Rattle.std.specs.List.{Contains, list_any, list_all}
 use Rattle.std.proofs.lemmas.Bool.Decides.{nat_tests}
@@ -47,19 +48,22 @@ one_left (suc k) q w = omega arith
 
 pub lost_reads : LostReads
 lost_reads k q = (
-  (λ l. (elim (is_mate q) as (λ b. is_mate q ≡ b → (is_mate q ≡ true) ⊎ ((1 ≤ k) × ((r : Move) × Contains (legal_moves q) r) × ((r : Move) → Contains (legal_moves q) r → win k (after_setup q r) ≡ true))) [
-    | true ↦ λ t. inl t
-    | false ↦ λ t.
-        let each = each_wins (win k) q t l in
-        let has = some_one (legal_moves q) each.0 in
-        let met : (r : Move) → Contains (legal_moves q) r → win k (after_setup q r) ≡ true = λ r c. all_contains (λ x. win k (after_setup q x)) (legal_moves q) r each.1 c in
-        inr (one_left k (after_setup q has.0) (met has.0 has.1), has, met)
-  ]) refl),
+  (λ l. (elim (is_mate q) as (λ b. is_mate q ≡ b → (is_mate q ≡ true) ⊎ ((1 ≤ k) × ((r : Move) × Contains (legal_moves q) r)
+      × ((r : Move) → Contains (legal_moves q) r → win k (after_setup q r) ≡ true))) [
+        | true ↦ λ t. inl t
+        | false ↦ λ t.
+            let each = each_wins (win k) q t l in
+            let has = some_one (legal_moves q) each.0 in
+            let met : (r : Move) → Contains (legal_moves q) r → win k (after_setup q r) ≡ true =
+            λ r c. all_contains (λ x. win k (after_setup q x)) (legal_moves q) r each.1 c in
+            inr (one_left k (after_setup q has.0) (met has.0 has.1), has, met)
+      ]) refl),
   (λ h. elim h [
     | inl mated ↦ rw mated refl
     | inr met ↦
         let has : has_legal_move q ≡ true = is_some (legal_moves q) met.1.0 met.1.1 in
-        let all : list_all (λ r. win k (after_setup q r)) (legal_moves q) ≡ true = contains_all (λ r. win k (after_setup q r)) (legal_moves q) met.2 in
+        let all : list_all (λ r. win k (after_setup q r)) (legal_moves q) ≡ true =
+        contains_all (λ r. win k (after_setup q r)) (legal_moves q) met.2 in
         lost_by (is_mate q) (has_legal_move q) (list_all (λ r. win k (after_setup q r)) (legal_moves q)) has all
   ]),
 )

@@ -13,7 +13,8 @@ module _ {K V : Type 0} (test : K → Bool) where
     | false ↦ λ t. let rest = length-removed es e (rw t at h) in omega (arith, rest)
   ]) refl
 
-  to_front : (es : List (K × V)) (o : Option (K × V)) → lookup_entry test es ≡ o → length (option_map_or (λ e. e ∷ remove_entry test es) o es) ≡ length es
+  to_front : (es : List (K × V)) (o : Option (K × V)) → lookup_entry test es ≡ o
+      → length (option_map_or (λ e. e ∷ remove_entry test es) o es) ≡ length es
   to_front es None h = refl
   to_front es (Some e) h = omega (arith, length-removed es e h)
 

@@ -1,12 +1,14 @@
 -- Finds, filters and tests over lists.
-use Rattle.std.proofs.Common.{◌≡◌, ℕ, zero, suc, ◌+◌, ◌<◌, Bool, true, false, cond, not, ◌||◌, List, [], ◌∷◌, ◌++◌, length, take, get_or, Some, None, refl, sym, ap, arith, filter, find, add-one, append-nil, ◌∙◌}
+use Rattle.std.proofs.Common.{◌≡◌, ℕ, zero, suc, ◌+◌, ◌<◌, Bool, true, false, cond, not, ◌||◌, List, [], ◌∷◌, ◌++◌, length}
+use Rattle.std.proofs.Common.{take, get_or, Some, None, refl, sym, ap, arith, filter, find, add-one, append-nil, ◌∙◌}
 use Rattle.std.specs.List.{All, Contains, list_any, list_all}
 use Rattle.std.proofs.lemmas.List.Elements.{filter_more, All-head, All-tail, All-contains_itself, Contains-append_right}
 use Rattle.std.proofs.lemmas.List.Folds.{list_any_at}
 use Rattle.std.proofs.lemmas.Bool.{and_parts}
 
 -- the first element that passes, where none before it does
-pub find_here : {X : Type 0} (p : X → Bool) (xs : List X) (i : ℕ) (d : X) → i < length xs → find p (take i xs) ≡ None → p (get_or xs i d) ≡ true → find p xs ≡ Some (get_or xs i d)
+pub find_here : {X : Type 0} (p : X → Bool) (xs : List X) (i : ℕ) (d : X) → i < length xs → find p (take i xs) ≡ None
+    → p (get_or xs i d) ≡ true → find p xs ≡ Some (get_or xs i d)
 find_here p [] i d h none passes = absurd (omega arith)
 find_here p (x ∷ xs) zero d h none passes = rw passes
 find_here p (x ∷ xs) (suc i) d h none passes = (elim (p x) as (λ b. p x ≡ b → find p (x ∷ xs) ≡ Some (get_or xs i d)) [
@@ -14,7 +16,8 @@ find_here p (x ∷ xs) (suc i) d h none passes = (elim (p x) as (λ b. p x ≡ b
   | false ↦ λ t. let n = rw t at none in rw t (find_here p xs i d (omega arith) n passes)
 ]) refl
 
-find_none_suc : {X : Type 0} (p : X → Bool) (xs : List X) (i : ℕ) (d : X) → i < length xs → find p (take i xs) ≡ None → p (get_or xs i d) ≡ false → find p (take (suc i) xs) ≡ None
+find_none_suc : {X : Type 0} (p : X → Bool) (xs : List X) (i : ℕ) (d : X) → i < length xs → find p (take i xs) ≡ None
+    → p (get_or xs i d) ≡ false → find p (take (suc i) xs) ≡ None
 find_none_suc p [] i d h none fails = absurd (omega arith)
 find_none_suc p (x ∷ xs) zero d h none fails = rw fails
 find_none_suc p (x ∷ xs) (suc i) d h none fails = (elim (p x) as (λ b. p x ≡ b → find p (x ∷ take (suc i) xs) ≡ None) [
@@ -23,7 +26,8 @@ find_none_suc p (x ∷ xs) (suc i) d h none fails = (elim (p x) as (λ b. p x �
 ]) refl
 
 -- one more element that does not
-pub find_none_more : {X : Type 0} (p : X → Bool) (xs : List X) (i : ℕ) (d : X) → i < length xs → find p (take i xs) ≡ None → p (get_or xs i d) ≡ false → find p (take (i + 1) xs) ≡ None
+pub find_none_more : {X : Type 0} (p : X → Bool) (xs : List X) (i : ℕ) (d : X) → i < length xs → find p (take i xs) ≡ None
+    → p (get_or xs i d) ≡ false → find p (take (i + 1) xs) ≡ None
 find_none_more p xs i d h none fails = rw (add-one i) (find_none_suc p xs i d h none fails)
 
 pub any_weaker : {X : Type 0} (p q : X → Bool) (xs : List X) → ((x : X) → p x ≡ true → q x ≡ true) → list_any p xs ≡ true → list_any q xs ≡ true
@@ -76,10 +80,12 @@ all_fails {X} p (x ∷ xs) e = (elim (p x) as (λ b. p x ≡ b → (y : X) × (f
 ]) refl
 
 -- one more element that a filter keeps, or leaves out
-pub kept_more : {X : Type 0} (p : X → Bool) (xs : List X) (i : ℕ) (x : X) (old new : List X) → i < length xs → x ≡ get_or xs i x → p x ≡ true → old ≡ filter p (take i xs) → new ≡ old ++ x ∷ [] → new ≡ filter p (take (i + 1) xs)
+pub kept_more : {X : Type 0} (p : X → Bool) (xs : List X) (i : ℕ) (x : X) (old new : List X) → i < length xs → x ≡ get_or xs i x
+    → p x ≡ true → old ≡ filter p (take i xs) → new ≡ old ++ x ∷ [] → new ≡ filter p (take (i + 1) xs)
 kept_more p xs i x old new on is passes e n = rw (filter_more p xs i x on) (rw (← is) (rw passes (rw (← e) n)))
 
-pub left_out : {X : Type 0} (p : X → Bool) (xs : List X) (i : ℕ) (x : X) (old : List X) → i < length xs → x ≡ get_or xs i x → p x ≡ false → old ≡ filter p (take i xs) → old ≡ filter p (take (i + 1) xs)
+pub left_out : {X : Type 0} (p : X → Bool) (xs : List X) (i : ℕ) (x : X) (old : List X) → i < length xs → x ≡ get_or xs i x
+    → p x ≡ false → old ≡ filter p (take i xs) → old ≡ filter p (take (i + 1) xs)
 left_out p xs i x old on is fails e = rw (filter_more p xs i x on) (rw (← is) (rw fails (rw (append-nil (filter p (take i xs))) e)))
 
 -- What is found is one of the list.

@@ -26,7 +26,11 @@ all_legal p = all_kept (is_legal p) (moves_below 64)
   where
     all_kept : (f : Move → Bool) (xs : List Move) → list_all f (filter f xs) ≡ true
     all_kept f [] = refl
-    all_kept f (x ∷ xs) = (elim (f x) as (λ b. f x ≡ b → list_all f (cond b (x ∷ filter f xs) (filter f xs)) ≡ true) [ true ↦ λ e. rw e (all_kept f xs) | false ↦ λ e. all_kept f xs ]) refl
+    all_kept f (x ∷ xs) = (elim (f x) as (λ b. f x ≡ b → list_all f (cond b (x ∷ filter f xs) (filter f xs)) ≡ true) [
+      | true ↦ λ e.
+          rw e (all_kept f xs)
+      | false ↦ λ e. all_kept f xs
+    ]) refl
 
 pub win_none : (n : ℕ) (p : Setup) → n ≡ 0 → win n p ≡ false
 unfolding win
@@ -57,15 +61,17 @@ or_false false b e = e
 
 -- Where the attacker has no more moves, only a mated defender is lost.
 pub lost_none : (k : ℕ) (q : Setup) → k ≡ 0 → lost k q ≡ is_mate q
-lost_none k q h = or_false (is_mate q) (has_legal_move q && list_all (λ r. win k (after_setup q r)) (legal_moves q)) (none_left (λ r. win k (after_setup q r)) (legal_moves q) (λ r. win_none k (after_setup q r) h))
+lost_none k q h = or_false (is_mate q) (has_legal_move q && list_all (λ r. win k (after_setup q r)) (legal_moves q))
+    (none_left (λ r. win k (after_setup q r)) (legal_moves q) (λ r. win_none k (after_setup q r) h))
 
 loses_weaker : (f g : Setup → Bool) (p : Setup) → ((q : Setup) → f q ≡ true → g q ≡ true) → loses_by f p ≡ true → loses_by g p ≡ true
 loses_weaker f g p h e = (elim (is_mate p) as (λ b. is_mate p ≡ b → loses_by g p ≡ true) [
   | true ↦ λ t. rw t
-  | false ↦ λ t. let e' = rw t at e in rw t ((elim (has_legal_move p) as (λ b. has_legal_move p ≡ b → (has_legal_move p && list_all (λ r. g (after_setup p r)) (legal_moves p)) ≡ true) [
-    | true ↦ λ u. rw u (all_weaker _ _ (legal_moves p) (λ r. h (after_setup p r)) (rw u at e'))
-    | false ↦ λ u. let n = rw u at e' in cc
-  ]) refl)
+  | false ↦ λ t. let e' = rw t at e in rw t ((elim (has_legal_move p) as (λ b. has_legal_move p ≡ b
+      → (has_legal_move p && list_all (λ r. g (after_setup p r)) (legal_moves p)) ≡ true) [
+        | true ↦ λ u. rw u (all_weaker _ _ (legal_moves p) (λ r. h (after_setup p r)) (rw u at e'))
+        | false ↦ λ u. let n = rw u at e' in cc
+      ]) refl)
 ]) refl
 
 pub win_more : (n : ℕ) (p : Setup) → win n p ≡ true → win (suc n) p ≡ true
@@ -85,7 +91,8 @@ win_one p =
     any_same f g (x ∷ xs) h = rw (h x, any_same f g xs h)
 
 -- One legal reply after which the attacker does not win refutes.
-pub refuted_by : LegalListed → (k : ℕ) (q : Setup) (r : Move) → r.origin < 64 → r.target < 64 → is_legal q r ≡ true → win k (after_setup q r) ≡ false → lost k q ≡ false
+pub refuted_by : LegalListed → (k : ℕ) (q : Setup) (r : Move) → r.origin < 64 → r.target < 64 → is_legal q r ≡ true
+    → win k (after_setup q r) ≡ false → lost k q ≡ false
 refuted_by listed k q r from to legal fails =
     let there : Contains (legal_moves q) r = (listed q r).1 (from, to, legal) in
     let some : has_legal_move q ≡ true = found (legal_moves q) there in

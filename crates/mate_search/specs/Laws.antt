@@ -40,7 +40,8 @@ HaveNoKeyBelow first p n = (k : ℕ) → 1 ≤ k → k < n → (m : Move) → ¬
 -- A mate is told with the least number of moves within which there is one that begins with one of these, at most the bound, with
 -- its keys and its line of play. That there is none is told where there is none within the bound.
 abbrev pub IsTold : List Move → Setup → ℕ → Outcome → Type 0
-IsTold first p b (Mate n found pv) = (1 ≤ n) × (n ≤ b) × HaveNoKeyBelow first p n × AreKeys first p n found.items × IsPrincipalVariation first p n pv.items
+IsTold first p b (Mate n found pv) =
+    (1 ≤ n) × (n ≤ b) × HaveNoKeyBelow first p n × AreKeys first p n found.items × IsPrincipalVariation first p n pv.items
 IsTold first p b NoMate = HaveNoKeyBelow first p (b + 1)
 
 -- The attacker may begin with the legal moves that are not to be avoided, in the order of moves.

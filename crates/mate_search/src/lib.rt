@@ -4,10 +4,11 @@
 //! `specs/Wins.antt`, keys and the principal variation in `specs/PrincipalVariation.antt`, and what there is to say of a problem in
 //! `specs/Laws.antt`; an outcome is exactly that.
 //!
-//! To read: `memo_entries`, `killers`, `memo`, `searching`, `principal_variation`, `solving`; `laws` says of the definitions what they
-//! are meant to say. `solve` takes memory for its memo alone, and never fails for want of it.
+//! To read: `memo_entries`, `killers`, `memo`, `halting`, `searching`, `principal_variation`, `solving`; `laws` says of the definitions
+//! what they are meant to say. `solve` takes memory for its memo alone, and never fails for want of it; `solve_until` can be stopped.
 #![tactic(auto)]
 
+mod halting;
 mod killers;
 mod laws;
 mod memo;
@@ -16,9 +17,10 @@ mod principal_variation;
 mod searching;
 mod solving;
 
+pub use halting::{Halt, Stopped};
 pub use laws::{
     among_all, dist_reads, keys_read, keys_rise, line_mates, line_reads, lost_reads, no_dist_reads,
     truth_playable, truth_reads, win_grows, win_reads,
 };
 pub use memo::{Memo, MemoFault};
-pub use solving::solve;
+pub use solving::{solve, solve_until};

@@ -1,6 +1,6 @@
 //! Problems solved.
 
-ghost use Rattle.std.specs.Prelude.{◌≡◌, ◌<◌, ◌≤◌, true, All, length, None};
+ghost use Rattle.std.specs.Prelude.{◌≡◌, ◌<◌, ◌≤◌, true, All, IfErr, IfOk, length, None};
 ghost use Rattle.chess_board.specs.Legality.{is_legal};
 ghost use Rattle.mate_search.specs.inside.Variation.{variation};
 ghost use Rattle.chess_board.specs.Positions.{Setup};
@@ -11,6 +11,7 @@ ghost use Rattle.std.specs.List.{list_any};
 ghost use Rattle.mate_search.specs.inside.MemoEntries.{IsTrueOf};
 ghost use Rattle.chess_problems.specs.Outcomes.{IsPlayable};
 
+use crate::halting::{Guide, Halt, Never, Stopped};
 use crate::memo::Memo;
 use crate::memo_entries::Entry;
 use crate::principal_variation::{keys_among, push_variation};
@@ -20,64 +21,105 @@ use chess_problems::{Bound, Outcome, Problem, Variation, is_same_move};
 
 /// What there is to say of a problem: the least number of the attacker's moves within which it mates with none of the moves to avoid
 /// for its first, all keys in the order of moves, and one line of play; or that there is no mate within the bound. It never fails.
-#[tactic(auto, using(crate::proofs::Playable::told_playable))]
 pub fn solve(rays: &Rays, problem: &Problem, memo: &mut Memo) -> Outcome
     ensures truth { result ≡ truth problem.now }
     ensures playable { IsPlayable problem.now.position result }
     ensures room { memo.new.room ≡ memo.old.room }
     ensures within { memo.new.kept ≤ memo.new.room }
 {
+    match solve_until(rays, problem, memo, &Never) {
+        Ok(outcome) => outcome,
+        Err(_) => unreachable!(),
+    }
+}
+
+/// The same, unless it is told to stop, about which it asks once for each position that it searches for more than a mate in one. What a
+/// memo keeps of a search that was stopped is as true as what it keeps of any.
+pub fn solve_until<H: Halt>(
+    rays: &Rays,
+    problem: &Problem,
+    memo: &mut Memo,
+    halt: &H,
+) -> Result<Outcome, Stopped>
+    ensures truth { IfOk result (λ outcome. outcome ≡ truth problem.now) }
+    ensures playable { IfOk result (λ outcome. IsPlayable problem.now.position outcome) }
+    ensures stopped { IfErr result (λ _. H.may_stop halt.now) }
+    ensures room { memo.new.room ≡ memo.old.room }
+    ensures within { memo.new.kept ≤ memo.new.room }
+{
     // What can be played rests on this law.
     legal_listed();
+    let outcome = solve_by(&Guide { rays, halt }, problem, memo);
+    // That a memo keeps no more than it has room for is this call's clause.
+    let _kept = memo.len();
+    outcome
+}
+
+/// The same, by where a move is to be avoided.
+fn solve_by<H: Halt>(
+    guide: &Guide<H>,
+    problem: &Problem,
+    memo: &mut Memo,
+) -> Result<Outcome, Stopped>
+    ensures truth { IfOk result (λ outcome. outcome ≡ truth problem.now) }
+    ensures stopped { IfErr result (λ _. H.may_stop guide.now.halt.now) }
+    ensures room { memo.new.room ≡ memo.old.room }
+{
     if problem.avoid.is_empty() {
-        solve_all(rays, &problem.position, problem.bound, memo)
+        solve_all(guide, &problem.position, problem.bound, memo)
     } else {
-        solve_rest(rays, problem, memo)
+        solve_rest(guide, problem, memo)
     }
 }
 
 /// Where nothing is to be avoided: the memo may know of the position itself, and keeps what was found of it.
 #[tactic(auto, using(crate::proofs::Wins::legal_each))]
-fn solve_all(rays: &Rays, position: &Position, bound: Bound, memo: &mut Memo) -> Outcome
-    ensures truth { result ≡ truth_among (legal_moves position.now) position.now bound }
+fn solve_all<H: Halt>(
+    guide: &Guide<H>,
+    position: &Position,
+    bound: Bound,
+    memo: &mut Memo,
+) -> Result<Outcome, Stopped>
+    ensures truth { IfOk result (λ outcome. outcome ≡ truth_among (legal_moves position.now) position.now bound) }
+    ensures stopped { IfErr result (λ _. H.may_stop guide.now.halt.now) }
     ensures room { memo.new.room ≡ memo.old.room }
-    ensures within { memo.new.kept ≤ memo.new.room }
 {
     let known = memo.entry(position);
-    let first = legal(rays, position);
+    let first = legal(guide.rays, position);
     let outcome = solve_among(
-        rays,
+        guide,
         position,
         first.as_slice(),
         known.none_within,
         bound,
         memo,
-    );
+    )?;
     memo.keep(position, learned(known, &outcome, bound));
-    outcome
+    Ok(outcome)
 }
 
 /// Where moves are to be avoided: what is found of the position so is not what a memo keeps, so it is not asked about it. Its list of
 /// moves takes room only where it is called.
 #[inline(never)]
 #[tactic(auto, unfolding(crate::specs::inside::Truth::dist, crate::specs::inside::Truth::truth))]
-fn solve_rest(rays: &Rays, problem: &Problem, memo: &mut Memo) -> Outcome
-    ensures truth { result ≡ truth problem.now }
+fn solve_rest<H: Halt>(
+    guide: &Guide<H>,
+    problem: &Problem,
+    memo: &mut Memo,
+) -> Result<Outcome, Stopped>
+    ensures truth { IfOk result (λ outcome. outcome ≡ truth problem.now) }
+    ensures stopped { IfErr result (λ _. H.may_stop guide.now.halt.now) }
     ensures room { memo.new.room ≡ memo.old.room }
-    ensures within { memo.new.kept ≤ memo.new.room }
 {
-    let first = first_moves(rays, problem);
-    let outcome = solve_among(
-        rays,
+    let first = first_moves(guide.rays, problem);
+    solve_among(
+        guide,
         &problem.position,
         first.as_slice(),
         0,
         problem.bound,
         memo,
-    );
-    // That a memo keeps no more than it has room for is this call's clause.
-    let _kept = memo.len();
-    outcome
+    )
 }
 
 /// Whether the move is one of these.
@@ -119,48 +161,50 @@ fn learned(known: Entry, outcome: &Outcome, bound: Bound) -> Entry
 /// What there is to say where the attacker's first move is one of these, with none of which it mates within `none` moves: looks for
 /// keys of a mate in one move more, two, and so on up to the bound.
 #[tactic(auto, unfolding(crate::specs::inside::Truth::truth_among), using(crate::proofs::Keys::dist_by_key, crate::proofs::Keys::dist_no_key, crate::proofs::Least::dist_fewer, crate::proofs::Keys::keys_legal, crate::proofs::Keys::variation_of_keys))]
-fn solve_among(
-    rays: &Rays,
+fn solve_among<H: Halt>(
+    guide: &Guide<H>,
     position: &Position,
     first: &[Move],
     none: u8,
     bound: Bound,
     memo: &mut Memo,
-) -> Outcome
+) -> Result<Outcome, Stopped>
     requires none { dist first.now position.now none ≡ None }
     requires few { length first.now ≤ 1024 }
     requires legal { All (λ m. is_legal position.now m ≡ true) first.now }
-    ensures truth { result ≡ truth_among first.now position.now bound }
+    ensures truth { IfOk result (λ outcome. outcome ≡ truth_among first.now position.now bound) }
+    ensures stopped { IfErr result (λ _. H.may_stop guide.now.halt.now) }
     ensures room { memo.new.room ≡ memo.old.room }
 {
     for k in none..bound.get() {
-        let keys = keys_among(rays, position, first, k + 1, memo);
+        let keys = keys_among(guide, position, first, k + 1, memo)?;
         if !keys.is_empty() {
             let Some(dm) = Bound::new(k + 1) else {
                 unreachable!();
             };
-            let pv = line_of_play(rays, position, keys.as_slice(), k + 1, memo);
-            return Outcome::Mate { dm, keys, pv };
+            let pv = line_of_play(guide, position, keys.as_slice(), k + 1, memo)?;
+            return Ok(Outcome::Mate { dm, keys, pv });
         }
     }
-    Outcome::NoMate
+    Ok(Outcome::NoMate)
 }
 
 /// The line of play of a mate within `n` moves, the first of which is one of these.
-fn line_of_play(
-    rays: &Rays,
+fn line_of_play<H: Halt>(
+    guide: &Guide<H>,
     position: &Position,
     keys: &[Move],
     n: u8,
     memo: &mut Memo,
-) -> Variation
+) -> Result<Variation, Stopped>
     requires some { 0 < n }
     requires bounded { n ≤ 15 }
     requires legal { All (λ m. is_legal position.now m ≡ true) keys.now }
-    ensures line { result.items ≡ variation keys.now position.now n }
+    ensures line { IfOk result (λ line. line.items ≡ variation keys.now position.now n) }
+    ensures stopped { IfErr result (λ _. H.may_stop guide.now.halt.now) }
     ensures room { memo.new.room ≡ memo.old.room }
 {
     let mut pv = Variation::new();
-    push_variation(rays, position, keys, n, memo, &mut pv);
-    pv
+    push_variation(guide, position, keys, n, memo, &mut pv)?;
+    Ok(pv)
 }

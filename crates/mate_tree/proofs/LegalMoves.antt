@@ -17,7 +17,8 @@ pub legal_at : LegalListed → (p : Setup) (ms : List Move) (i : ℕ) (m : Move)
 legal_at listed p ms i m here at legal =
     (((listed p m).0) (subst (λ (n : Move). Contains (legal_moves p) n) (sym at) (listed_at p ms i m here legal))).2
 
-pub legal_item : LegalListed → (p : Setup) (ms : List Move) (i : ℕ) (m : Move) → i < length ms → m ≡ get_or ms i m → ms ≡ legal_moves p → is_legal p m ≡ true
+pub legal_item : LegalListed → (p : Setup) (ms : List Move) (i : ℕ) (m : Move) → i < length ms → m ≡ get_or ms i m
+    → ms ≡ legal_moves p → is_legal p m ≡ true
 legal_item listed p ms i m here at all =
     let own = subst (λ (n : Move). Contains ms n) (sym at) (All-contains_itself ms i m here) in
     ((listed p m).0 (subst (λ (ns : List Move). Contains ns m) all own)).2

@@ -1,5 +1,6 @@
 -- A side passes: the fields of the position it leaves.
-use Rattle.std.proofs.Common.{◌≡◌, ◌≢◌, ◌∙◌, Result, Ok, Err, ℕ, ◌+◌, ◌-◌, ◌<◌, ◌≤◌, ◌==◌, List, [], ◌∷◌, ◌++◌, true, false, Some, None, length, take, drop, get_or, refl, sym, ap, arith, append_assoc, take-append-drop}
+use Rattle.std.proofs.Common.{◌≡◌, ◌≢◌, ◌∙◌, Result, Ok, Err, ℕ, ◌+◌, ◌-◌, ◌<◌, ◌≤◌, ◌==◌, List, [], ◌∷◌, ◌++◌, true, false}
+use Rattle.std.proofs.Common.{Some, None, length, take, drop, get_or, refl, sym, ap, arith, append_assoc, take-append-drop}
 use Rattle.std.specs.List.{slice_split, All}
 use Rattle.std.proofs.lemmas.Bool.Decides.{nat_tests}
 use Rattle.std.proofs.lemmas.List.{drop_more, take_rest}
@@ -31,7 +32,8 @@ words_one text lacks = slice_split_none (λ b. b == 32) text (λ k d inside. oth
 pub words_cut : (text : List ℕ) (at : ℕ) → at < length text → All (λ b. b ≢ 32) (take at text) → get_or text at 0 ≡ 32
     → words text ≡ take at text ∷ words (take (length text - (at + 1)) (drop (at + 1) text))
 words_cut text at inside lacks here =
-    let whole : take at text ++ get_or text at 0 ∷ drop (at + 1) text ≡ text = ap (λ t. take at text ++ t) (sym (drop_more text at 0 inside)) ∙ take-append-drop at text in
+    let whole : take at text ++ get_or text at 0 ∷ drop (at + 1) text ≡ text =
+    ap (λ t. take at text ++ t) (sym (drop_more text at 0 inside)) ∙ take-append-drop at text in
     ap words (sym whole)
     ∙ slice_split_at (λ b. b == 32) (take at text) (get_or text at 0) (drop (at + 1) text)
     (λ k d below. other_byte (get_or (take at text) k d) 32 (lacks k d below)) (same_byte (get_or text at 0) 32 here)
@@ -93,7 +95,12 @@ passed_in_check p check = rw check refl
 
 -- The fields with the other side to move and no target spell it.
 pub passed_spelt : (p : Setup) → ArePrinted p
-    → SpellsSetup (record { placement = placement_text p.men; side = side_text (other_side p.side); castling = castling_text p.rights; target = 45 ∷ [] }) (passed_setup p)
+    → SpellsSetup (record {
+      placement = placement_text p.men;
+      side = side_text (other_side p.side);
+      castling = castling_text p.rights;
+      target = 45 ∷ [];
+    }) (passed_setup p)
 passed_spelt p printed = record { placement = printed.spelt.placement; side = refl; castling = printed.spelt.castling; target = (tt, refl) }
 
 other_twice : (c : Colour) → other_side (other_side c) ≡ c
@@ -119,7 +126,8 @@ no_fault r fault y is same = cc
 
 -- What spells it by the text's words that were cut off.
 pub read_spelt : (p : Setup) (text placement rest side rest' castling last letter : List ℕ) → ArePrinted p → text ≡ position_text p
-    → words text ≡ placement ∷ words rest → words rest ≡ side ∷ words rest' → words rest' ≡ castling ∷ words last → letter ≡ side_text (other_side p.side)
+    → words text ≡ placement ∷ words rest → words rest ≡ side ∷ words rest' → words rest' ≡ castling ∷ words last
+    → letter ≡ side_text (other_side p.side)
     → SpellsSetup (record { placement = placement; side = letter; castling = castling; target = 45 ∷ [] }) (passed_setup p)
 read_spelt p text placement rest side rest' castling last letter printed is first second third other =
     let four = ap words is ∙ four_words p printed in
@@ -132,6 +140,8 @@ pub three_words : (p : Setup) (text placement rest : List ℕ) → ArePrinted p 
     → words rest ≡ side_text p.side ∷ castling_text p.rights ∷ target_text p.target ∷ []
 three_words p text placement rest printed is first = (first_is text placement rest _ _ _ _ (ap words is ∙ four_words p printed) first).1
 
-pub two_words : (p : Setup) (text placement rest side rest' : List ℕ) → ArePrinted p → text ≡ position_text p → words text ≡ placement ∷ words rest → words rest ≡ side ∷ words rest'
+pub two_words : (p : Setup) (text placement rest side rest' : List ℕ) → ArePrinted p → text ≡ position_text p
+    → words text ≡ placement ∷ words rest → words rest ≡ side ∷ words rest'
     → words rest' ≡ castling_text p.rights ∷ target_text p.target ∷ []
-two_words p text placement rest side rest' printed is first second = second_is rest side rest' _ _ _ (three_words p text placement rest printed is first) second
+two_words p text placement rest side rest' printed is first second =
+    second_is rest side rest' _ _ _ (three_words p text placement rest printed is first) second

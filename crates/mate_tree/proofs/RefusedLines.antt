@@ -11,7 +11,8 @@ use Rattle.mate_tree.specs.Lines.{line}
 use Rattle.mate_tree.specs.TreeReplies.{IsTreeReply, refused}
 
 -- A line with this fault, which is not want of memory, is refused by it.
-pub reply_refused : {X E : Type 0} (form : Form) (default number : ℕ) (said : List ℕ) (f : EpdFault) (text : X → List ℕ) (count : X → ℕ) (r : Result X E)
+pub reply_refused : {X E : Type 0} (form : Form) (default number : ℕ) (said : List ℕ) (f : EpdFault)
+    (text : X → List ℕ) (count : X → ℕ) (r : Result X E)
     → is_blank said ≡ false → IsFaultOf said f ⊎ ((f ≡ fault.NoMemory) × ((r : RecordValue) × Reads said default r × (r.rest ≢ [])))
     → IfOk r (λ x. f ≢ fault.NoMemory) → IfOk r (λ x. text x ≡ fault_line number f ++ line []) → IfOk r (λ x. count x ≡ 1)
     → IfOk r (λ x. IsTreeReply form default number said (text x) (count x))
@@ -36,5 +37,6 @@ none_before said fault.NoMemory less = absurd (omega (arith, less))
 pub long_refused : {X E : Type 0} (form : Form) (default number : ℕ) (text : X → List ℕ) (count : X → ℕ) (r : Result X E)
     → IfOk r (λ x. text x ≡ fault_line number fault.TooLong ++ line []) → IfOk r (λ x. count x ≡ 1)
     → IfOk r (λ x. (said : List ℕ) → is_blank said ≡ false → max_line < length said → IsTreeReply form default number said (text x) (count x))
-long_refused form default number text count (Ok x) is one = λ said some long. rw (is, one) (refused fault.TooLong some (record { applies = long; first = none_before said }))
+long_refused form default number text count (Ok x) is one =
+    λ said some long. rw (is, one) (refused fault.TooLong some (record { applies = long; first = none_before said }))
 long_refused form default number text count (Err e) is one = tt

@@ -1,5 +1,6 @@
 -- What mates soonest, by the laws of the search.
-use Rattle.std.proofs.Common.{◌≡◌, ◌∙◌, ◌⊎◌, inl, inr, ℕ, zero, suc, ◌+◌, ◌-◌, ◌<◌, ◌≤◌, Bool, true, false, not, ◌&&◌, List, [], ◌∷◌, length, drop, get_or, Contains, refl, sym, ap, subst, arith}
+use Rattle.std.proofs.Common.{◌≡◌, ◌∙◌, ◌⊎◌, inl, inr, ℕ, zero, suc, ◌+◌, ◌-◌, ◌<◌, ◌≤◌, Bool, true, false, not}
+use Rattle.std.proofs.Common.{◌&&◌, List, [], ◌∷◌, length, drop, get_or, Contains, refl, sym, ap, subst, arith}
 use Rattle.std.specs.Prelude.{nat_lt}
 use Rattle.chess_board.specs.Positions.{Setup}
 use Rattle.chess_board.specs.Moves.{Move}
@@ -35,7 +36,8 @@ not_told reads (suc k) p first are none wins =
     let fewer : suc k - 1 ≡ k = omega arith in
     none (suc k) (omega arith) (omega arith) m ((are.0 m).1 (legal, none_avoided m), ap (λ j. lost j (after_setup p m)) fewer ∙ loses)
 
-told_by : WinReads → (k : ℕ) (p : Setup) (o : Outcome) (first : List Move) → AreFirstMoves (asked k p) first → IsTold first p k o → win k p ≡ true → is_no_mate o ≡ false
+told_by : WinReads → (k : ℕ) (p : Setup) (o : Outcome) (first : List Move) → AreFirstMoves (asked k p) first
+    → IsTold first p k o → win k p ≡ true → is_no_mate o ≡ false
 told_by reads k p (Mate n keys pv) first are told wins = refl
 told_by reads k p NoMate first are told wins = absurd (not_told reads k p first are told wins)
 
@@ -52,14 +54,16 @@ win_more grows (suc j) n p wins = let e : n + suc j ≡ n + j + 1 = omega arith 
 win_within : WinGrows → (n k : ℕ) (p : Setup) → n ≤ k → win n p ≡ true → win k p ≡ true
 win_within grows n k p few wins = let e : n + (k - n) ≡ k = omega arith in subst (λ j. win j p ≡ true) e (win_more grows (k - n) n p wins)
 
-wins_by : WinReads → (n : ℕ) (p : Setup) (first : List Move) (m : Move) → 1 ≤ n → ((x : Move) → Contains first x → Contains (legal_moves p) x) → IsKey first p n m → win n p ≡ true
+wins_by : WinReads → (n : ℕ) (p : Setup) (first : List Move) (m : Move) → 1 ≤ n
+    → ((x : Move) → Contains first x → Contains (legal_moves p) x) → IsKey first p n m → win n p ≡ true
 wins_by reads zero p first m some legal key = absurd (omega (arith, some))
 wins_by reads (suc n) p first m some legal key =
     let fewer : suc n - 1 ≡ n = omega arith in
     let next : n + 1 ≡ suc n = omega arith in
     subst (λ j. win j p ≡ true) next ((reads n p).1.1 (m, legal m key.0, ap (λ j. lost j (after_setup p m)) (sym fewer) ∙ key.1))
 
-told_wins : WinReads → WinGrows → (k : ℕ) (p : Setup) (o : Outcome) (first : List Move) → AreFirstMoves (asked k p) first → IsTold first p k o → is_no_mate o ≡ false → win k p ≡ true
+told_wins : WinReads → WinGrows → (k : ℕ) (p : Setup) (o : Outcome) (first : List Move) → AreFirstMoves (asked k p) first
+    → IsTold first p k o → is_no_mate o ≡ false → win k p ≡ true
 told_wins reads grows k p NoMate first are told some = cc
 told_wins reads grows k p (Mate n keys pv) first are told some =
     let (m, key) = begins first p n pv.items told.4 in
@@ -107,7 +111,8 @@ defences_answered truths reads soon q m r has legal =
     let (some, loses) = key_leaves q.position q.bound (truth q) first m told has in
     (soon k (after_setup next r)).1 (answered k next ((reads k next).0 loses) legal)
   where
-    answered : (j : ℕ) (p : Setup) → (is_mate p ≡ true) ⊎ ((1 ≤ j) × ((x : Move) × Contains (legal_moves p) x) × ((x : Move) → Contains (legal_moves p) x → win j (after_setup p x) ≡ true))
+    answered : (j : ℕ) (p : Setup) → (is_mate p ≡ true) ⊎ ((1 ≤ j) × ((x : Move) × Contains (legal_moves p) x)
+        × ((x : Move) → Contains (legal_moves p) x → win j (after_setup p x) ≡ true))
         → Contains (legal_moves p) r → win j (after_setup p r) ≡ true
     answered j p (inl mated) here = absurd (not_mated p r here mated)
     answered j p (inr (_, _, each)) here = each r here
@@ -121,12 +126,14 @@ pub record Begins (first : List Move) (p : Setup) (n : ℕ) (m r next : Move) : 
   pub reply : IsLongestDefence (after_setup p m) r
   pub on : IsKey (legal_moves (after_setup (after_setup p m) r)) (after_setup (after_setup p m) r) (n - 1) next
 
-first_of : (first : List Move) (p : Setup) (n : ℕ) (line : List Move) (m : Move) (rest : List Move) → line ≡ m ∷ rest → IsPrincipalVariation first p n line → IsKey first p n m
+first_of : (first : List Move) (p : Setup) (n : ℕ) (line : List Move) (m : Move) (rest : List Move) → line ≡ m ∷ rest
+    → IsPrincipalVariation first p n line → IsKey first p n m
 first_of first p n line m rest is (mates _ _ x key) = subst (λ (z : Move). IsKey first p 1 z) (ap (λ xs. get_or xs 0 x) is) key.0
 first_of first p n line m rest is (goes_on _ _ q s j x y more some key after defence on others) =
     subst (λ (z : Move). IsKey first p (j + 1) z) (ap (λ xs. get_or xs 0 x) is) key.0
 
-line_begins : (first : List Move) (p : Setup) (n : ℕ) (line : List Move) (m r next : Move) (rest : List Move) → line ≡ m ∷ r ∷ next ∷ rest → IsPrincipalVariation first p n line
+line_begins : (first : List Move) (p : Setup) (n : ℕ) (line : List Move) (m r next : Move) (rest : List Move)
+    → line ≡ m ∷ r ∷ next ∷ rest → IsPrincipalVariation first p n line
     → Begins first p n m r next
 line_begins first p n line m r next rest is (mates _ _ x key) = absurd (omega (arith, ap length is))
 line_begins first p n line m r next rest is (goes_on _ _ q s j x y more some key after defence on others) =
@@ -158,7 +165,8 @@ key_within reads first p n k m r key longest some met =
     (key.0, ap (λ j. lost j (after_setup p m)) fewer ∙ (reads k (after_setup p m)).1 (inr (some, (r, longest.0), each)))
 
 -- What mates soonest from there is what the line goes on with.
-goes_on_soonest : WinReads → LostReads → (first : List Move) (p : Setup) (n : ℕ) (m r next : Move) → HaveNoKeyBelow first p n → Begins first p n m r next
+goes_on_soonest : WinReads → LostReads → (first : List Move) (p : Setup) (n : ℕ) (m r next : Move)
+    → HaveNoKeyBelow first p n → Begins first p n m r next
     → (others : List Move) (o : Outcome) → AreFirstMoves (asked (n - 1) (after_setup (after_setup p m) r)) others
     → IsTold others (after_setup (after_setup p m) r) (n - 1) o → Contains (keys_of o) next
 goes_on_soonest wins reads first p n m r next none line others NoMate are told =
@@ -167,7 +175,8 @@ goes_on_soonest wins reads first p n m r next none line others (Mate l keys pv) 
     let s = after_setup (after_setup p m) r in
     let (x, key) = begins others s l pv.items told.4 in
     let met = wins_by wins l s others x told.0 (λ y has. ((are.0 y).0 has).0) key in
-    let long : n - 1 ≤ l = not_below (n - 1) l (λ shorter. none (l + 1) (omega arith) (omega (arith, shorter)) m (key_within reads first p n l m r line.key line.reply told.0 met)) in
+    let long : n - 1 ≤ l = not_below (n - 1) l (λ shorter. none (l + 1) (omega arith) (omega (arith, shorter)) m
+    (key_within reads first p n l m r line.key line.reply told.0 met)) in
     let same : n - 1 ≡ l = omega (arith, long, told.1) in
     (told.3.0 next).1 ((are.0 next).1 (line.on.0, none_avoided next), ap (λ k. lost (k - 1) (after_setup s next)) (sym same) ∙ line.on.1)
   where
@@ -186,5 +195,9 @@ line_branches truths wins reads q m r next rest is =
     branch NoMate first told is = absurd (omega (arith, ap length is))
     branch (Mate n keys pv) first told is =
         let line = line_begins first q.position n pv.items m r next rest is told.4 in
-        let (others, are, after) = truths (asked (n - 1) (after_setup (after_setup q.position m) r)) in
-        ((told.3.0 m).1 line.key, line.reply.0, goes_on_soonest wins reads first q.position n m r next told.2 line others (truth (asked (n - 1) (after_setup (after_setup q.position m) r))) are after)
+        let (others, are, after) = truths (asked (n - 1) (after_setup (after_setup q.position m) r)) in (
+          (told.3.0 m).1 line.key,
+          line.reply.0,
+          goes_on_soonest wins reads first q.position n m r next told.2 line others
+              (truth (asked (n - 1) (after_setup (after_setup q.position m) r))) are after,
+        )

@@ -1,5 +1,6 @@
 -- Lines written one by one.
-use Rattle.std.proofs.Common.{◌≡◌, ◌∙◌, ℕ, zero, suc, ◌+◌, ◌-◌, ◌<◌, ◌≤◌, ◌==◌, Bool, true, false, ◌||◌, List, [], ◌∷◌, ◌++◌, Option, Some, None, length, take, drop, get_or, codes, refl, sym, ap, arith, append_assoc, append-nil, take-append-drop}
+use Rattle.std.proofs.Common.{◌≡◌, ◌∙◌, ℕ, zero, suc, ◌+◌, ◌-◌, ◌<◌, ◌≤◌, ◌==◌, Bool, true, false, ◌||◌, List, [], ◌∷◌, ◌++◌, Option, Some}
+use Rattle.std.proofs.Common.{None, length, take, drop, get_or, codes, refl, sym, ap, arith, append_assoc, append-nil, take-append-drop}
 use Rattle.std.specs.Prelude.{nat_lt, cond}
 use Rattle.std.specs.List.{flat_map}
 use Rattle.std.proofs.lemmas.Bool.Decides.{nat_tests}
@@ -27,7 +28,8 @@ unfolding written
 written_append s [] ys = refl
 written_append s (x ∷ xs) ys = written_append (with_line s x) xs ys
 
-pub written_three : (s t u v : SheetValue) (xs ys zs : List (List ℕ)) → t ≡ written s xs → u ≡ written t ys → v ≡ written u zs → v ≡ written s (xs ++ ys ++ zs)
+pub written_three : (s t u v : SheetValue) (xs ys zs : List (List ℕ)) → t ≡ written s xs → u ≡ written t ys
+    → v ≡ written u zs → v ≡ written s (xs ++ ys ++ zs)
 written_three s t u v xs ys zs first second third =
     third ∙ ap (λ w. written w zs) (second ∙ ap (λ w. written w ys) first ∙ sym (written_append s xs ys)) ∙ sym (written_append s (xs ++ ys) zs)
 
@@ -52,7 +54,8 @@ module _ {X : Type 0} (f : X → List (List ℕ)) (xs : List X) where
   pub each_more : (s t u : SheetValue) (i : ℕ) (d : X) → i < length xs → t ≡ written s (flat_map f (take i xs)) → u ≡ written t (f (get_or xs i d))
       → u ≡ written s (flat_map f (take (i + 1) xs))
   each_more s t u i d here before is =
-      is ∙ ap (λ v. written v (f (get_or xs i d))) before ∙ sym (written_append s (flat_map f (take i xs)) (f (get_or xs i d))) ∙ ap (written s) (sym (lines_more i d here))
+      is ∙ ap (λ v. written v (f (get_or xs i d))) before ∙ sym (written_append s (flat_map f (take i xs)) (f (get_or xs i d)))
+      ∙ ap (written s) (sym (lines_more i d here))
 
   pub each_all : (s t : SheetValue) (i : ℕ) → length xs ≤ i → t ≡ written s (flat_map f (take i xs)) → t ≡ written s (flat_map f xs)
   each_all s t i past before = before ∙ ap (λ ys. written s (flat_map f ys)) (take_all i xs past)
@@ -89,10 +92,12 @@ module _ {X : Type 0} (name : List ℕ) (f : X → List (List ℕ)) (xs : List X
       is ∙ ap (λ o. o || is_some_line (f (get_or xs i d))) open_is ∙ sym (some_append (flat_map f (take i xs)) (f (get_or xs i d)))
       ∙ ap is_some_line (sym (lines_more f xs i d here))
 
-  pub headed_all : (s t : SheetValue) (i : ℕ) → length xs ≤ i → t ≡ written s (headed name (flat_map f (take i xs))) → t ≡ written s (headed name (flat_map f xs))
+  pub headed_all : (s t : SheetValue) (i : ℕ) → length xs ≤ i → t ≡ written s (headed name (flat_map f (take i xs)))
+      → t ≡ written s (headed name (flat_map f xs))
   headed_all s t i past before = before ∙ ap (λ ys. written s (headed name (flat_map f ys))) (take_all i xs past)
 
-  pub headed_cut : (s t : SheetValue) (i : ℕ) → t.cut ≡ true → t ≡ written s (headed name (flat_map f (take i xs))) → t ≡ written s (headed name (flat_map f xs))
+  pub headed_cut : (s t : SheetValue) (i : ℕ) → t.cut ≡ true → t ≡ written s (headed name (flat_map f (take i xs)))
+      → t ≡ written s (headed name (flat_map f xs))
   headed_cut s t i cut before =
       let first = flat_map f (take i xs) in
       let rest = flat_map f (drop i xs) in

@@ -19,16 +19,21 @@ use Rattle.mate_tree.specs.TreeReplies.{tree_reply}
 use Rattle.mate_tree.specs.inside.Sheets.{SheetValue, written}
 use Rattle.mate_tree.proofs.WrittenLines.{printed_is, written_three}
 
-pub mate_written : (form : Form) (q : ProblemValue) (p : Setup) (n shown : ℕ) (keys : List Move) (s t u v : SheetValue) → p ≡ q.position → shown ≡ moves_shown form.moves n - 1
+pub mate_written : (form : Form) (q : ProblemValue) (p : Setup) (n shown : ℕ) (keys : List Move) (s t u v : SheetValue)
+    → p ≡ q.position → shown ≡ moves_shown form.moves n - 1
     → t ≡ written s (if form.set_play then set_play (n - 1) q.position else []) → u ≡ written t (key_lines shown n p keys)
     → v ≡ written u (if form.tries then tries (n - 1) q.position q.avoid else []) → v ≡ written s (mate_lines form q n keys)
 mate_written form q p n shown keys s t u v at is first second third =
-    written_three s t u v _ _ _ first (second ∙ ap (λ r. written t (key_lines shown n r keys)) at ∙ ap (λ d. written t (key_lines d n q.position keys)) is) third
+    written_three s t u v _ _ _ first (second ∙ ap (λ r. written t (key_lines shown n r keys)) at
+    ∙ ap (λ d. written t (key_lines d n q.position keys)) is) third
 
-pub reply_written : (form : Form) (r : RecordValue) (o : Outcome) (answer : List ℕ) (s t : SheetValue) → o ≡ truth (problem_of r) → answer ≡ line (answer_text r o)
-    → s ≡ record { text = answer; left = form.lines; cut = false } → t ≡ written s (tree_lines form (problem_of r) o) → t.text ++ line [] ≡ tree_reply form r
+pub reply_written : (form : Form) (r : RecordValue) (o : Outcome) (answer : List ℕ) (s t : SheetValue)
+    → o ≡ truth (problem_of r) → answer ≡ line (answer_text r o)
+    → s ≡ record { text = answer; left = form.lines; cut = false }
+    → t ≡ written s (tree_lines form (problem_of r) o) → t.text ++ line [] ≡ tree_reply form r
 reply_written form r o answer s t told answered sheet tree =
     let lines = tree_lines form (problem_of r) in
     let text : t.text ≡ answer ++ printed form.lines (lines o) =
     ap (λ (v : SheetValue). v.text) (tree ∙ ap (λ v. written v (lines o)) sheet) ∙ printed_is form.lines answer (lines o) in
-    ap (λ x. x ++ line []) (text ∙ ap (λ a. a ++ printed form.lines (lines o)) answered ∙ ap (λ x. line (answer_text r x) ++ printed form.lines (lines x)) told)
+    ap (λ x. x ++ line []) (text ∙ ap (λ a. a ++ printed form.lines (lines o)) answered
+    ∙ ap (λ x. line (answer_text r x) ++ printed form.lines (lines x)) told)

@@ -115,7 +115,8 @@ fn write_defence(
     requires left { at.left ≤ 15 }
     requires shown { 0 < at.shown }
     requires few { at.number + at.shown ≤ 255 }
-    ensures lines { IfOk result (λ _. sheet.new ≡ written sheet.old (defence (defences (at.shown - 1) (at.number + 1)) (at.shown - 1) at.number at.left position.now r)) }
+    ensures lines { IfOk result (λ _. sheet.new ≡ written sheet.old
+        (defence (defences (at.shown - 1) (at.number + 1)) (at.shown - 1) at.number at.left position.now r)) }
     ensures room { memo.new.room ≡ memo.old.room }
 {
     let next = after(position, r);
@@ -158,7 +159,8 @@ fn write_attacks(
     requires some { 1 ≤ at.number }
     requires left { (1 ≤ at.left) × (at.left ≤ 15) }
     requires few { at.number + at.shown ≤ 255 }
-    ensures lines { IfOk result (λ _. sheet.new ≡ written sheet.old (attacks (defences at.shown at.number) at.shown at.number at.left position.now moves.now)) }
+    ensures lines { IfOk result (λ _. sheet.new
+        ≡ written sheet.old (attacks (defences at.shown at.number) at.shown at.number at.left position.now moves.now)) }
     ensures room { memo.new.room ≡ memo.old.room }
 {
     // That a move of the list is legal is the clause of `legal_listed`.
@@ -187,7 +189,8 @@ fn write_attack(
     requires some { 1 ≤ at.number }
     requires left { (1 ≤ at.left) × (at.left ≤ 15) }
     requires few { at.number + at.shown ≤ 255 }
-    ensures lines { IfOk result (λ _. sheet.new ≡ written sheet.old (attack (defences at.shown at.number) at.shown at.number at.left position.now m)) }
+    ensures lines { IfOk result
+        (λ _. sheet.new ≡ written sheet.old (attack (defences at.shown at.number) at.shown at.number at.left position.now m)) }
     ensures room { memo.new.room ≡ memo.old.room }
 {
     let line = attack_line(sheet.line(), rays, position, m, at)?;

@@ -105,9 +105,11 @@ pub fn tree_input<I: Input + Drop, O: Write>(
     memo: &mut Memo,
     out: &mut O,
 ) -> Result<usize, Stop>
-    ensures ok { IfOk result (λ refused. (bytes : List ℕ) × (text : List ℕ) × MayBe (I.left input) bytes × IsReply (IsTreeReply trees.now.form trees.now.default) bytes text refused
+    ensures ok { IfOk result (λ refused. (bytes : List ℕ) × (text : List ℕ) × MayBe (I.left input) bytes
+        × IsReply (IsTreeReply trees.now.form trees.now.default) bytes text refused
         × Appends (O.contents out.old) (O.contents out.new) text) }
-    ensures err { IfErr result (λ stop. (bytes : List ℕ) × (text : List ℕ) × MayBe (I.left input) bytes × IsReplyToFirst (IsTreeReply trees.now.form trees.now.default) bytes text
+    ensures err { IfErr result (λ stop. (bytes : List ℕ) × (text : List ℕ) × MayBe (I.left input) bytes
+        × IsReplyToFirst (IsTreeReply trees.now.form trees.now.default) bytes text
         × AppendsBy stop (O.contents out.old) (O.contents out.new) text) }
     ensures unreadable { IfErr result (λ stop. stop ≡ Stop.Unreadable → I.breaks input) }
     ensures room { memo.new.room ≡ memo.old.room }

@@ -52,7 +52,8 @@ fn write_tries_if_asked(
     sheet: &mut Sheet,
 ) -> Result<(), AllocError>
     requires { left ≤ 15 }
-    ensures lines { IfOk result (λ _. sheet.new ≡ written sheet.old (if form.now.tries then tries left «record».now.position «record».now.avoid else [])) }
+    ensures lines { IfOk result (λ _. sheet.new
+        ≡ written sheet.old (if form.now.tries then tries left «record».now.position «record».now.avoid else [])) }
     ensures room { memo.new.room ≡ memo.old.room }
 {
     if form.tries {

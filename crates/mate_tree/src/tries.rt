@@ -120,7 +120,8 @@ fn write_try(
 ) -> Result<bool, AllocError>
     requires legal { is_legal position.now m ≡ true }
     requires refutes { IfSome refuted (λ r. is_legal (after_setup position.now m) r ≡ true) }
-    ensures lines { IfOk result (λ _. sheet.new ≡ written sheet.old (headed_on (codes "tries") is_open (option_map_or (λ r. try_line_of position.now m r ∷ []) refuted []))) }
+    ensures lines { IfOk result (λ _. sheet.new ≡ written sheet.old
+        (headed_on (codes "tries") is_open (option_map_or (λ r. try_line_of position.now m r ∷ []) refuted []))) }
     ensures is_open { IfOk result (λ opened. opened ≡ (is_open || is_some_line (option_map_or (λ r. try_line_of position.now m r ∷ []) refuted []))) }
 {
     match refuted {

@@ -1,2 +1,3 @@
 mod ServedFiles
 mod Worked
+mod Uncounted

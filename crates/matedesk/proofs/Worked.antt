@@ -1,5 +1,6 @@
 -- What the definitions come to for given words and files.
-use Rattle.std.proofs.Common.{◌≡◌, ◌∙◌, ◌++◌, ℕ, Bool, true, false, List, [], ◌∷◌, Option, Some, None, inl, refl, sym, ap, arith, subst, codes, replicate}
+use Rattle.std.proofs.Common.{◌≡◌, ◌∙◌, ◌++◌, ℕ, Bool, true, false, List, [], ◌∷◌, Option, Some}
+use Rattle.std.proofs.Common.{None, inl, refl, sym, ap, arith, subst, codes, replicate}
 use Rattle.std.proofs.lemmas.Fmt.{decimal_digit}
 use Rattle.clap.proofs.OnLiterals.{clap_on_literals}
 use Rattle.chess_board.specs.declared.men.Colour.TheVariants.{White, Black}
@@ -18,11 +19,11 @@ use Rattle.chess_notation.specs.declared.epd_faults.EpdFault.TheVariants as faul
 use Rattle.clap.specs.Words.{Text}
 use Rattle.byte_streams.specs.Inputs.{MayBe}
 use Rattle.plain_commands.specs.FileAnswers.{AreReplies}
+use Rattle.plain_commands.specs.LinesFrom.{IsReplyOn}
 use Rattle.plain_commands.specs.Solved.{Solves, record_replies}
 use Rattle.plain_commands.specs.Sources.{Holds}
 use Rattle.text_lines.specs.Refusals.{fault_line}
-use Rattle.text_lines.specs.Replies.{IsReply as IsReplyBy}
-use Rattle.mate_answers.specs.InputReplies.{IsLineReply, IsReply, answered, refused, skipped}
+use Rattle.mate_answers.specs.InputReplies.{IsLineReply, answered, refused, skipped}
 use Rattle.chess_board.specs.Positions.{Setup}
 use Rattle.command_words.specs.Asked.{asked, asked_by, asked_exactly, look, serve, solve}
 use Rattle.plain_commands.specs.Command.{Ends}
@@ -31,21 +32,24 @@ use Rattle.command_words.specs.LineCommands.{joined}
 use Rattle.chess_views.specs.Looks.{look_text}
 use Rattle.plain_commands.specs.FenCommands.{ShowsFen}
 
-pub asked_look : asked (codes "matedesk" ∷ codes "look" ∷ codes "k7/8/8/8/8/8/8/7K w - - 0 1" ∷ []) ≡ Some (look (codes "k7/8/8/8/8/8/8/7K w - - 0 1"))
+pub asked_look : asked (codes "matedesk" ∷ codes "look" ∷ codes "k7/8/8/8/8/8/8/7K w - - 0 1" ∷ [])
+    ≡ Some (look (codes "k7/8/8/8/8/8/8/7K w - - 0 1"))
 unfolding clap_on_literals asked_by asked_exactly escaped joined
 asked_look = refl
 
-pub asked_solve : asked (codes "matedesk" ∷ codes "solve" ∷ codes "one" ∷ codes "two" ∷ []) ≡ Some (solve 3 65536 (codes "one" ∷ codes "two" ∷ []))
+pub asked_solve : asked (codes "matedesk" ∷ codes "solve" ∷ codes "one" ∷ codes "two" ∷ []) ≡ Some (solve 3 65536 1 (codes "one" ∷ codes "two" ∷ []))
 unfolding clap_on_literals asked_by asked_exactly escaped joined
 asked_solve = refl
 
-pub asked_serve : asked (codes "matedesk" ∷ codes "serve" ∷ codes "--workers" ∷ codes "2" ∷ codes "one" ∷ codes "two" ∷ []) ≡ Some (serve 2 3 16384 (codes "one" ∷ codes "two" ∷ []))
+pub asked_serve : asked (codes "matedesk" ∷ codes "serve" ∷ codes "--workers" ∷ codes "2" ∷ codes "one" ∷ codes "two" ∷ [])
+    ≡ Some (serve 2 3 16384 (codes "one" ∷ codes "two" ∷ []))
 unfolding clap_on_literals asked_by asked_exactly escaped joined
 asked_serve = refl
 
 kings : Setup
 kings = record {
-  men = replicate 7 None ++ Some (record { colour = White; kind = King }) ∷ replicate 48 None ++ Some (record { colour = Black; kind = King }) ∷ replicate 7 None;
+  men = replicate 7 None ++ Some (record { colour = White; kind = King }) ∷ replicate 48 None
+      ++ Some (record { colour = Black; kind = King }) ∷ replicate 7 None;
   side = White;
   rights = record { white_king_side = false; white_queen_side = false; black_king_side = false; black_queen_side = false };
   target = None;
@@ -66,11 +70,21 @@ kings_text = refl
 
 kings_shown : (v : FenValue) → v.position ≡ kings → v.halfmove ≡ 0 → v.fullmove ≡ 1 → look_text v ≡ codes "k7/8/8/8/8/8/8/7K w - - 0 1\nno check\n"
 unfolding look_text fen_text
-kings_shown v position halfmove fullmove = rw (position, halfmove, fullmove, kings_quiet, kings_text, decimal_digit 0 (omega arith), decimal_digit 1 (omega arith)) refl
+kings_shown v position halfmove fullmove = rw (
+  position,
+  halfmove,
+  fullmove,
+  kings_quiet,
+  kings_text,
+  decimal_digit 0 (omega arith),
+  decimal_digit 1 (omega arith),
+) refl
 
-pub look_shown : SpellsOne → (text : List ℕ) → ShowsFen look_text (codes "k7/8/8/8/8/8/8/7K w - - 0 1") false text → text ≡ codes "k7/8/8/8/8/8/8/7K w - - 0 1\nno check\n"
+pub look_shown : SpellsOne → (text : List ℕ) → ShowsFen look_text (codes "k7/8/8/8/8/8/8/7K w - - 0 1") false text
+    → text ≡ codes "k7/8/8/8/8/8/8/7K w - - 0 1\nno check\n"
 look_shown once text (v, spells, sound, shows) =
-    shows ∙ kings_shown v (once (fields_of (codes "k7/8/8/8/8/8/8/7K w - - 0 1")) v.position kings spells.position kings_spelt) spells.halfmove.1 spells.fullmove.1
+    shows ∙ kings_shown v (once (fields_of (codes "k7/8/8/8/8/8/8/7K w - - 0 1")) v.position kings spells.position kings_spelt)
+    spells.halfmove.1 spells.fullmove.1
 
 -- ---- a line of two fields
 
@@ -107,7 +121,8 @@ short_fault fault.BoundTooLarge is = absurd (is.first (fault.Fen fen.FieldCount)
 short_fault fault.BadAvoid is = absurd (is.first (fault.Fen fen.FieldCount) (omega arith) short_amiss)
 short_fault fault.NoMemory is = absurd is.applies
 
-short_reply : RecordsClear → (number : ℕ) (text : List ℕ) (count : ℕ) → IsLineReply 3 number short text count → (text ≡ fault_line number (fault.Fen fen.FieldCount)) × (count ≡ 1)
+short_reply : RecordsClear → (number : ℕ) (text : List ℕ) (count : ℕ) → IsLineReply 3 number short text count
+    → (text ≡ fault_line number (fault.Fen fen.FieldCount)) × (count ≡ 1)
 unfolding short HasNoFault
 short_reply clear number text count (skipped blank) = let no : false ≡ true = blank in cc
 short_reply clear number text count (refused f words is) = (ap (fault_line number) (short_fault f is), refl)
@@ -120,41 +135,49 @@ blank_reply number line text count blank (answered r words reads) = let no : tru
 
 -- ---- two files
 
-one_reply : RecordsClear → (text : List ℕ) (count : ℕ) → IsReply 3 (codes "8/8\n") text count → text ≡ codes "# line 1: Fen FieldCount\n"
-unfolding IsReplyBy short
+one_reply : RecordsClear → (text : List ℕ) (count : ℕ) → IsReplyOn (IsLineReply 3) 1 (codes "8/8\n") text count
+    → text ≡ codes "# line 1: Fen FieldCount\n"
+unfolding IsReplyOn short
 one_reply clear text count (first, few, more, others, reply, (second, none, last, left, blank, (nil, zero_is), is_more, all_more), is, all) =
     let line = short_reply clear 1 first few reply in
     let rest : more ≡ [] = is_more ∙ ap (λ t. t ++ last) (blank_reply 2 [] second none refl blank).0 ∙ nil in
     is ∙ rw (line.0, rest, decimal_digit 1 (omega arith)) refl
 
-two_reply : RecordsClear → (text : List ℕ) (count : ℕ) → IsReply 3 (codes " \n8/8") text count → text ≡ codes "# line 2: Fen FieldCount\n"
-unfolding IsReplyBy short
+two_reply : RecordsClear → (text : List ℕ) (count : ℕ) → IsReplyOn (IsLineReply 3) 1 (codes " \n8/8") text count
+    → text ≡ codes "# line 2: Fen FieldCount\n"
+unfolding IsReplyOn short
 two_reply clear text count (first, few, more, others, blank, (second, one, last, left, reply, (nil, zero_is), is_more, all_more), is, all) =
     let line = short_reply clear 2 second one reply in
     let none = (blank_reply 1 (codes " ") first few refl blank).0 in
     is ∙ rw (none, is_more, line.0, nil, decimal_digit 2 (omega arith)) refl
 
-both_shown : RecordsClear → (holds : Text → Option (List ℕ)) → holds (codes "one") ≡ Some (codes "8/8\n") → holds (codes "two") ≡ Some (codes " \n8/8")
-    → (inputs : List (List ℕ)) (text : List ℕ) (refusals : ℕ) → Holds holds (codes "one" ∷ codes "two" ∷ []) inputs → AreReplies (record_replies 3) (codes "one" ∷ codes "two" ∷ []) inputs text refusals
+both_shown : RecordsClear → (holds : Text → Option (List ℕ)) → holds (codes "one") ≡ Some (codes "8/8\n")
+    → holds (codes "two") ≡ Some (codes " \n8/8")
+    → (inputs : List (List ℕ)) (text : List ℕ) (refusals : ℕ) → Holds holds (codes "one" ∷ codes "two" ∷ []) inputs
+    → AreReplies (record_replies 3) 1 (codes "one" ∷ codes "two" ∷ []) inputs text refusals
     → text ≡ codes "# line 1: Fen FieldCount\n# line 2: Fen FieldCount\n"
 both_shown clear holds one two [] text refusals given replies = absurd given
 both_shown clear holds one two (a ∷ []) text refusals given replies = absurd given.1
 both_shown clear holds one two (a ∷ b ∷ c ∷ inputs) text refusals given replies = absurd given.1.1
-both_shown clear holds one two (a ∷ b ∷ []) text refusals (is_a, (is_b, end)) (first, few, more, others, reply_a, (second, one_more, last, left, reply_b, (nil, zero_is), is_more, all_more), is, all) =
+both_shown clear holds one two (a ∷ b ∷ []) text refusals (is_a, (is_b, end))
+    (first, few, more, others, reply_a, (second, one_more, last, left, reply_b, (nil, zero_is), is_more, all_more), is, all) =
     let a_is : a ≡ codes "8/8\n" = subst (λ known. MayBe known a) one is_a in
     let b_is : b ≡ codes " \n8/8" = subst (λ known. MayBe known b) two is_b in
-    let here = one_reply clear first few (subst (λ input. IsReply 3 input first few) a_is reply_a) in
-    let there = two_reply clear second one_more (subst (λ input. IsReply 3 input second one_more) b_is reply_b) in
+    let here = one_reply clear first few (subst (λ input. IsReplyOn (IsLineReply 3) 1 input first few) a_is reply_a) in
+    let there = two_reply clear second one_more (subst (λ input. IsReplyOn (IsLineReply 3) 1 input second one_more) b_is reply_b) in
     is ∙ rw (here, is_more, there, nil) refl
 
-pub solve_shown : RecordsClear → (holds : Text → Option (List ℕ)) → holds (codes "one") ≡ Some (codes "8/8\n") → holds (codes "two") ≡ Some (codes " \n8/8")
-    → (any_refused : Bool) (text : List ℕ) → Solves holds 3 (codes "one" ∷ codes "two" ∷ []) any_refused text → text ≡ codes "# line 1: Fen FieldCount\n# line 2: Fen FieldCount\n"
+pub solve_shown : RecordsClear → (holds : Text → Option (List ℕ)) → holds (codes "one") ≡ Some (codes "8/8\n")
+    → holds (codes "two") ≡ Some (codes " \n8/8")
+    → (any_refused : Bool) (text : List ℕ) → Solves holds 3 1 (codes "one" ∷ codes "two" ∷ []) any_refused text
+    → text ≡ codes "# line 1: Fen FieldCount\n# line 2: Fen FieldCount\n"
 solve_shown clear holds one two any_refused text shows = both_shown clear holds one two shows.inputs text shows.refusals shows.given shows.are_replies
 
 -- ---- the program
 
 pub look_written : SpellsOne → (holds : Text → Option (List ℕ)) (refuses : Text → Type 0) (words : List Text) (status : ℕ) (old out : List ℕ)
-    → words ≡ codes "matedesk" ∷ codes "look" ∷ codes "k7/8/8/8/8/8/8/7K w - - 0 1" ∷ [] → Ends holds refuses (asked words) status (Some old) (Some out) → old ≡ [] → status ≡ 0
+    → words ≡ codes "matedesk" ∷ codes "look" ∷ codes "k7/8/8/8/8/8/8/7K w - - 0 1" ∷ []
+    → Ends holds refuses (asked words) status (Some old) (Some out) → old ≡ [] → status ≡ 0
     → out ≡ codes "k7/8/8/8/8/8/8/7K w - - 0 1\nno check\n"
 look_written once holds refuses words status old out is ends empty done =
     let asks = ap asked is ∙ asked_look in
@@ -163,7 +186,8 @@ look_written once holds refuses words status old out is ends empty done =
 
 pub solve_written : RecordsClear → (holds : Text → Option (List ℕ)) (refuses : Text → Type 0) (words : List Text) (status : ℕ) (old out : List ℕ)
     → holds (codes "one") ≡ Some (codes "8/8\n") → holds (codes "two") ≡ Some (codes " \n8/8")
-    → words ≡ codes "matedesk" ∷ codes "solve" ∷ codes "one" ∷ codes "two" ∷ [] → Ends holds refuses (asked words) status (Some old) (Some out) → old ≡ [] → status ≡ 1
+    → words ≡ codes "matedesk" ∷ codes "solve" ∷ codes "one" ∷ codes "two" ∷ []
+    → Ends holds refuses (asked words) status (Some old) (Some out) → old ≡ [] → status ≡ 1
     → out ≡ codes "# line 1: Fen FieldCount\n# line 2: Fen FieldCount\n"
 solve_written clear holds refuses words status old out one two is ends empty done =
     let asks = ap asked is ∙ asked_solve in
@@ -172,7 +196,8 @@ solve_written clear holds refuses words status old out one two is ends empty don
 
 pub serve_written : RecordsClear → (holds : Text → Option (List ℕ)) (refuses : Text → Type 0) (words : List Text) (status : ℕ) (old out : List ℕ)
     → holds (codes "one") ≡ Some (codes "8/8\n") → holds (codes "two") ≡ Some (codes " \n8/8")
-    → words ≡ codes "matedesk" ∷ codes "serve" ∷ codes "--workers" ∷ codes "2" ∷ codes "one" ∷ codes "two" ∷ [] → Ends holds refuses (asked words) status (Some old) (Some out) → old ≡ [] → status ≡ 1
+    → words ≡ codes "matedesk" ∷ codes "serve" ∷ codes "--workers" ∷ codes "2" ∷ codes "one" ∷ codes "two" ∷ []
+    → Ends holds refuses (asked words) status (Some old) (Some out) → old ≡ [] → status ≡ 1
     → out ≡ codes "# line 1: Fen FieldCount\n# line 2: Fen FieldCount\n"
 serve_written clear holds refuses words status old out one two is ends empty done =
     let asks = ap asked is ∙ asked_serve in

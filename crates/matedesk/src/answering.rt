@@ -2,30 +2,36 @@
 
 ghost use Rattle.std.specs.Prelude.{◌≡◌, ◌⊎◌, None, map, true, false};
 ghost use Rattle.std.specs.String.{string_bytes};
-ghost use Rattle.command_words.specs.Asked.{asked, asks_display, asks_serve, may_display};
+ghost use Rattle.command_words.specs.Asked.{asked, asks_display, asks_threads, may_display};
 ghost use Rattle.plain_commands.specs.Command.{Ends};
 
+use crate::limiting::solve_in_time;
 use crate::serving::serve;
+use crate::talking::talk;
 use command_words::{Request, escaped, parse, request_of};
-use plain_commands::{Source, no_memory, plain_command};
+use plain_commands::{Source, ends_by_status, limited_none, no_memory, plain_command};
 use std::alloc::Global;
 use std::io::Write;
 use std::sync::Wait;
 use std::thread::Threads;
 
-/// Answers words that ask for `serve`. That they were parsed before shows that they are no fault: what is refused now is memory.
-fn serve_command<R: Threads + Wait + Sync, S: Source, O: Write, E: Write>(
-    rt: &R,
-    alloc: Global,
-    words: &[String],
-    source: &S,
-    out: &mut O,
-    err: &mut E,
-) -> u8
-    requires serve { asks_serve (asked (map string_bytes words.now)) ≡ true }
-    ensures ends { Ends (S.holds source.now) (S.refuses source.now) (asked (map string_bytes words.now)) result (O.contents out.old) (O.contents out.new) }
+/// Answers words that ask for `serve`, `uci` or `solve --limit`. That they were parsed before shows that they are no fault: what is refused now is memory.
+fn threaded_command<
+    R: Threads + Wait + Sync + Clone + Drop + Send + 'static,
+    S: Source,
+    O: Write,
+    E: Write,
+>(rt: &R, alloc: Global, words: &[String], source: &S, out: &mut O, err: &mut E) -> u8
+where
+    S::File: Send,
+    requires threads { asks_threads (asked (map string_bytes words.now)) ≡ true }
+    ensures ends { Ends (S.holds source.now) (S.refuses source.now) (asked (map string_bytes words.now)) result
+        (O.contents out.old) (O.contents out.new) }
     ensures no_misuse { result ≡ 2 → asks_display (map string_bytes words.now) ≡ false }
 {
+    // How it ends with the status of what was written, and with nothing written.
+    ends_by_status(source);
+    limited_none();
     let Ok(texts) = escaped(alloc, words) else {
         return no_memory(err);
     };
@@ -37,28 +43,31 @@ fn serve_command<R: Threads + Wait + Sync, S: Source, O: Write, E: Write>(
         Some(Request::Serve(workers, bound, memo, names)) => serve(
             rt, alloc, *workers, *bound, *memo, names, source, out, err,
         ),
+        Some(Request::Limited(asked)) => solve_in_time(rt, alloc, asked, source, out, err),
+        Some(Request::Uci) => talk(rt, alloc, source, out, err),
         _ => unreachable!(),
     }
 }
 
 /// The program: answers what the words ask for, of which the first is the program's own name. It reads files from `source`. Only
-/// `serve` starts threads, and waits for them.
+/// `serve`, `uci` and `solve --limit` start threads, and wait for them.
 ///
 /// A fault of `err` is passed over and changes no status.
-pub fn command<R: Threads + Wait + Sync, S: Source, O: Write, E: Write>(
-    rt: &R,
-    alloc: Global,
-    words: &[String],
-    source: &S,
-    out: &mut O,
-    err: &mut E,
-) -> u8
-    ensures ends { Ends (S.holds source.now) (S.refuses source.now) (asked (map string_bytes words.now)) result (O.contents out.old) (O.contents out.new) }
+pub fn command<
+    R: Threads + Wait + Sync + Clone + Drop + Send + 'static,
+    S: Source,
+    O: Write,
+    E: Write,
+>(rt: &R, alloc: Global, words: &[String], source: &S, out: &mut O, err: &mut E) -> u8
+where
+    S::File: Send,
+    ensures ends { Ends (S.holds source.now) (S.refuses source.now) (asked (map string_bytes words.now)) result
+        (O.contents out.old) (O.contents out.new) }
     ensures display { (result ≡ 0) ⊎ (result ≡ 4) → asked (map string_bytes words.now) ≡ None → may_display (map string_bytes words.now) ≡ true }
     ensures no_misuse { result ≡ 2 → asks_display (map string_bytes words.now) ≡ false }
 {
     match plain_command(alloc, words, source, out, err) {
         Some(status) => status,
-        None => serve_command(rt, alloc, words, source, out, err),
+        None => threaded_command(rt, alloc, words, source, out, err),
     }
 }

@@ -45,7 +45,8 @@ pub fn serve<R: Threads + Wait + Sync, S: Source, O: Write, E: Write>(
     out: &mut O,
     err: &mut E,
 ) -> u8
-    ensures { Ends (S.holds source.now) (S.refuses source.now) (Some (serve_asked workers bound memo (map (λ s. s.now) names.now))) result (O.contents out.old) (O.contents out.new) }
+    ensures { Ends (S.holds source.now) (S.refuses source.now)
+        (Some (serve_asked workers bound memo (map (λ s. s.now) names.now))) result (O.contents out.old) (O.contents out.new) }
 {
     // How it ends with the status of what was written.
     ends_by_status(source);

@@ -63,7 +63,8 @@ fn solve_words(alloc: Global) -> Result<[String; 4], AllocError>
 
 /// The words of `serve` for the same files and two workers.
 fn serve_words(alloc: Global) -> Result<[String; 6], AllocError>
-    ensures { IfOk result (λ words. map string_bytes words ≡ codes "matedesk" ∷ codes "serve" ∷ codes "--workers" ∷ codes "2" ∷ codes "one" ∷ codes "two" ∷ []) }
+    ensures { IfOk result (λ words. map string_bytes words ≡ codes "matedesk" ∷ codes "serve" ∷ codes "--workers"
+        ∷ codes "2" ∷ codes "one" ∷ codes "two" ∷ []) }
 {
     Ok([
         String::from_str(alloc, "matedesk")?,

@@ -1,5 +1,6 @@
 -- The first byte of a kind, and numbers of few digits.
-use Rattle.std.proofs.Common.{◌≡◌, ℕ, ◌+◌, ◌<◌, ◌≤◌, ◌^◌, ◌==◌, ◌++◌, List, [], ◌∷◌, true, Option, Some, cond, length, take, drop, get_or, sym, ap, ◌∙◌, option_map, arith}
+use Rattle.std.proofs.Common.{◌≡◌, ℕ, ◌+◌, ◌<◌, ◌≤◌, ◌^◌, ◌==◌, ◌++◌, List, [], ◌∷◌, true, Option, Some}
+use Rattle.std.proofs.Common.{cond, length, take, drop, get_or, sym, ap, ◌∙◌, option_map, arith}
 use Rattle.std.proofs.Math.Nat.{pow-le-pow_right}
 use Rattle.std.proofs.lemmas.List.{drop_more, append-nil}
 use Rattle.plain_commands.specs.inside.ScriptReading.{cut_at, with_byte}

@@ -1,5 +1,6 @@
 -- A desk that is read is spelled so, and one that is spelled is read.
-use Rattle.std.proofs.Common.{◌≡◌, ◌≤◌, ◌&&◌, ◌++◌, ℕ, Bool, List, ◌∷◌, None, Some, true, false, codes, cond, refl, sym, ap, ◌∙◌, subst, nat_le, option_map}
+use Rattle.std.proofs.Common.{◌≡◌, ◌≤◌, ◌&&◌, ◌++◌, ℕ, Bool, List, ◌∷◌, None, Some, true, false}
+use Rattle.std.proofs.Common.{codes, cond, refl, sym, ap, ◌∙◌, subst, nat_le, option_map}
 use Rattle.std.proofs.lemmas.Bool.{and_parts, leb-true, le-leb}
 use Rattle.std.proofs.lemmas.Option.{cond_some, option_and_then_some, none-some}
 use Rattle.std.proofs.lemmas.Slice.Eq.{bytes_eq-Decides}
@@ -26,9 +27,12 @@ bound_read : (n : ℕ) → 1 ≤ n → n ≤ max_bound → bound_of n ≡ Some n
 bound_read n some few = rw (le-leb 1 n some, le-leb n max_bound few) refl
 
 numbers_spelled : (text : List ℕ) (desk : DeskValue) → desk_numbers text ≡ Some desk → IsSpelled (codes "desk" ++ 32 ∷ text) desk
-numbers_spelled text desk is = option_and_then_some (λ s. option_and_then (λ r. option_and_then (λ n. option_map (desk_with s.0 r.0) (bound_of n)) (number_of r.1)) (number_cut s.1))
-    (number_cut text) desk is (λ s at more. option_and_then_some (λ r. option_and_then (λ n. option_map (desk_with s.0 r.0) (bound_of n)) (number_of r.1))
-    (number_cut s.1) desk more (λ r behind last. option_and_then_some (λ n. option_map (desk_with s.0 r.0) (bound_of n)) (number_of r.1) desk last (λ n number bounded.
+numbers_spelled text desk is = option_and_then_some (λ s.
+    option_and_then (λ r. option_and_then (λ n. option_map (desk_with s.0 r.0) (bound_of n)) (number_of r.1)) (number_cut s.1))
+    (number_cut text) desk is (λ s at more.
+    option_and_then_some (λ r. option_and_then (λ n. option_map (desk_with s.0 r.0) (bound_of n)) (number_of r.1))
+    (number_cut s.1) desk more (λ r behind last.
+    option_and_then_some (λ n. option_map (desk_with s.0 r.0) (bound_of n)) (number_of r.1) desk last (λ n number bounded.
     map_some (desk_with s.0 r.0) (bound_of n) desk bounded (λ b bound same.
     let first = number_cut_spelled text s.0 s.1 at in
     let second = number_cut_spelled s.1 r.0 r.1 behind in
@@ -48,7 +52,8 @@ word_spelled line word text desk false cut test is = absurd (none-some desk is)
 
 pub desk_spelled : (line : List ℕ) (desk : DeskValue) → desk_of line ≡ Some desk → SpellsDesk line desk.submitters desk.room desk.bound
 unfolding desk_of
-desk_spelled line desk is = option_and_then_some (λ cut. cond (bytes_eq cut.0 (codes "desk")) (desk_numbers cut.1) None) (cut_at 32 line) desk is (λ cut at found.
+desk_spelled line desk is = option_and_then_some (λ cut. cond (bytes_eq cut.0 (codes "desk")) (desk_numbers cut.1) None)
+    (cut_at 32 line) desk is (λ cut at found.
     word_spelled line cut.0 cut.1 desk (bytes_eq cut.0 (codes "desk")) (cut_spelled 32 line cut.0 cut.1 at) refl found)
 
 pub desk_read : (line : List ℕ) (submitters room bound : ℕ) → SpellsDesk line submitters room bound
@@ -56,8 +61,10 @@ pub desk_read : (line : List ℕ) (submitters room bound : ℕ) → SpellsDesk l
 unfolding desk_of
 desk_read line submitters room bound (s, r, b, is, first, second, third, some, few) =
     ap desk_of is
-    ∙ ap (option_and_then (λ s. option_and_then (λ r. option_and_then (λ n. option_map (desk_with s.0 r.0) (bound_of n)) (number_of r.1)) (number_cut s.1)))
+    ∙ ap (option_and_then (λ s. option_and_then
+    (λ r. option_and_then (λ n. option_map (desk_with s.0 r.0) (bound_of n)) (number_of r.1)) (number_cut s.1)))
     (number_cut_read s submitters (r ++ 32 ∷ b) first)
-    ∙ ap (option_and_then (λ r. option_and_then (λ n. option_map (desk_with submitters r.0) (bound_of n)) (number_of r.1))) (number_cut_read r room b second)
+    ∙ ap (option_and_then (λ r. option_and_then (λ n. option_map (desk_with submitters r.0) (bound_of n)) (number_of r.1)))
+    (number_cut_read r room b second)
     ∙ ap (option_and_then (λ n. option_map (desk_with submitters room) (bound_of n))) (number_read b bound third)
     ∙ ap (option_map (desk_with submitters room)) (bound_read bound some few)

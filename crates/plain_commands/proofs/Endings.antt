@@ -1,56 +1,72 @@
 -- How a command ends, and the program with it.
-use Rattle.std.proofs.Common.{◌≡◌, ◌≢◌, ◌⊎◌, ◌≤◌, Bool, true, false, ℕ, List, [], Option, None, Some, Result, Ok, Err, IfErr, IfOk, inl, inr, sym, subst, arith}
+use Rattle.std.proofs.Common.{◌≡◌, ◌≢◌, ◌⊎◌, ◌≤◌, Bool, true, false, ℕ, List, [], Option, None}
+use Rattle.std.proofs.Common.{Some, Result, Ok, Err, IfErr, IfOk, inl, inr, sym, subst, arith}
 use Rattle.std.proofs.KnownBytes.{Appends-kept, Appends-nil}
 use Rattle.std.specs.Io.KnownBytes.{Keeps}
 use Rattle.clap.specs.Words.{Text}
 use Rattle.byte_streams.specs.declared.stops.Stop.{Stop}
 use Rattle.byte_streams.specs.declared.stops.Stop.TheVariants as stop
-use Rattle.command_words.specs.Asked.{Asked, look, board, play, moves, perft, divide, lines, solve, verify, tree, serve, replay, explain}
+use Rattle.command_words.specs.Asked.{Asked, look, board, svg, play, moves, perft, divide, lines, solve}
+use Rattle.command_words.specs.Asked.{limited, verify, tree, sheet, imports, serve, replay, explain, uci}
 use Rattle.plain_commands.specs.Status.{status_of}
-use Rattle.plain_commands.specs.Writing.{Gains}
 use Rattle.plain_commands.specs.Solved.{SolvesNone}
 use Rattle.plain_commands.specs.Verified.{VerifiesNone}
 use Rattle.plain_commands.specs.Told.{TellsNone}
 use Rattle.plain_commands.specs.PositionLines.{command_of}
-use Rattle.plain_commands.proofs.Unopened.{lines_at_once}
-use Rattle.plain_commands.specs.Command.{Ends, EndsByStatus, Shows, Stops, StopsBy}
+use Rattle.plain_commands.proofs.Unopened.{imports_at_once, limited_at_once, lines_at_once}
+use Rattle.plain_commands.specs.Command.{Ends, EndsByStatus, Shown, Stops, StopsBy}
 
 -- Where memory gives out at once, nothing is written.
-stops_unread : SolvesNone → VerifiesNone → TellsNone → (holds : Text → Option (List ℕ)) (refuses : Text → Type 0) (asks : Option Asked) (old new : Option (List ℕ)) → Keeps old new → StopsBy holds refuses asks stop.NoMemory old new
+stops_unread : SolvesNone → VerifiesNone → TellsNone → (holds : Text → Option (List ℕ)) (refuses : Text → Type 0)
+    (asks : Option Asked) (old new : Option (List ℕ)) → Keeps old new → StopsBy holds refuses asks stop.NoMemory old new
 stops_unread none unverified untold holds refuses None old new kept = kept
 stops_unread none unverified untold holds refuses (Some (look fen)) old new kept = kept
 stops_unread none unverified untold holds refuses (Some (board fen side)) old new kept = kept
+stops_unread none unverified untold holds refuses (Some (svg fen)) old new kept = kept
 stops_unread none unverified untold holds refuses (Some (play fen words)) old new kept = kept
 stops_unread none unverified untold holds refuses (Some (moves form fen)) old new kept = kept
 stops_unread none unverified untold holds refuses (Some (perft fen depth)) old new kept = kept
 stops_unread none unverified untold holds refuses (Some (divide fen depth)) old new kept = kept
-stops_unread none unverified untold holds refuses (Some (lines view names)) old new kept = lines_at_once holds refuses (command_of view) names old new kept
-stops_unread none unverified untold holds refuses (Some (solve bound memo names)) old new kept =
-    record { gained = []; shows = none holds bound names; appends = Appends-kept old old new [] (Appends-nil old) kept }
-stops_unread none unverified untold holds refuses (Some (verify bound memo names)) old new kept =
-    record { gained = []; shows = unverified holds bound names; appends = Appends-kept old old new [] (Appends-nil old) kept }
-stops_unread none unverified untold holds refuses (Some (tree bound form names)) old new kept =
-    record { gained = []; shows = untold holds bound form names; appends = Appends-kept old old new [] (Appends-nil old) kept }
+stops_unread none unverified untold holds refuses (Some (lines view names)) old new kept =
+    lines_at_once holds refuses (command_of view) names old new kept
+stops_unread none unverified untold holds refuses (Some (solve bound memo from names)) old new kept =
+    record { gained = []; shows = none holds bound from names; appends = Appends-kept old old new [] (Appends-nil old) kept }
+stops_unread none unverified untold holds refuses (Some (limited seconds bound memo from names)) old new kept =
+    limited_at_once holds refuses seconds bound from names old new kept
+stops_unread none unverified untold holds refuses (Some (verify bound memo from names)) old new kept =
+    record { gained = []; shows = unverified holds bound from names; appends = Appends-kept old old new [] (Appends-nil old) kept }
+stops_unread none unverified untold holds refuses (Some (tree bound form from names)) old new kept =
+    record { gained = []; shows = untold holds bound form from names; appends = Appends-kept old old new [] (Appends-nil old) kept }
+stops_unread none unverified untold holds refuses (Some (sheet bound memo form title names)) old new kept = kept
+stops_unread none unverified untold holds refuses (Some (imports keep names)) old new kept = imports_at_once holds refuses names old new kept
 stops_unread none unverified untold holds refuses (Some (serve workers bound memo names)) old new kept = kept
 stops_unread none unverified untold holds refuses (Some (replay name)) old new kept = kept
 stops_unread none unverified untold holds refuses (Some (explain code)) old new kept = kept
+stops_unread none unverified untold holds refuses (Some uci) old new kept = tt
 
-no_reader : (holds : Text → Option (List ℕ)) (refuses : Text → Type 0) (a : Asked) (old new : Option (List ℕ)) → Stops holds refuses a stop.NoReader old new → Stops holds refuses a stop.Unwritable old new
+no_reader : (holds : Text → Option (List ℕ)) (refuses : Text → Type 0) (a : Asked) (old new : Option (List ℕ))
+    → Stops holds refuses a stop.NoReader old new → Stops holds refuses a stop.Unwritable old new
 no_reader holds refuses (look fen) old new stops = stops
 no_reader holds refuses (board fen side) old new stops = stops
+no_reader holds refuses (svg fen) old new stops = stops
 no_reader holds refuses (play fen words) old new stops = stops
 no_reader holds refuses (moves form fen) old new stops = stops
 no_reader holds refuses (perft fen depth) old new stops = stops
 no_reader holds refuses (divide fen depth) old new stops = stops
 no_reader holds refuses (lines view names) old new stops = stops
-no_reader holds refuses (solve bound memo names) old new stops = stops
-no_reader holds refuses (verify bound memo names) old new stops = stops
-no_reader holds refuses (tree bound form names) old new stops = stops
+no_reader holds refuses (solve bound memo from names) old new stops = stops
+no_reader holds refuses (limited seconds bound memo from names) old new stops = stops
+no_reader holds refuses (verify bound memo from names) old new stops = stops
+no_reader holds refuses (tree bound form from names) old new stops = stops
+no_reader holds refuses (sheet bound memo form title names) old new stops = stops
+no_reader holds refuses (imports keep names) old new stops = stops
 no_reader holds refuses (serve workers bound memo names) old new stops = stops
 no_reader holds refuses (replay name) old new stops = stops
 no_reader holds refuses (explain code) old new stops = stops
+no_reader holds refuses uci old new stops = stops
 
-ends_here : (holds : Text → Option (List ℕ)) (refuses : Text → Type 0) (a : Asked) (r : Result Bool Stop) (old new : Option (List ℕ)) → IfOk r (λ refused. Gains (Shows holds a refused) old new)
+ends_here : (holds : Text → Option (List ℕ)) (refuses : Text → Type 0) (a : Asked) (r : Result Bool Stop)
+    (old new : Option (List ℕ)) → IfOk r (λ refused. Shown holds a refused old new)
     → IfErr r (λ s. Stops holds refuses a s old new) → Ends holds refuses (Some a) (status_of r) old new
 ends_here holds refuses a (Ok false) old new ok err = record {
   answered = λ is. ok;
@@ -101,15 +117,19 @@ ends_here holds refuses a (Err stop.NoReader) old new ok err = record {
   bounded = omega arith;
 }
 
-pub ends_by : (holds : Text → Option (List ℕ)) (refuses : Text → Type 0) (a : Asked) (r : Result Bool Stop) (status : ℕ) (old new : Option (List ℕ)) → status ≡ status_of r
-    → IfOk r (λ refused. Gains (Shows holds a refused) old new) → IfErr r (λ s. Stops holds refuses a s old new) → Ends holds refuses (Some a) status old new
-ends_by holds refuses a r status old new is ok err = subst (λ n. Ends holds refuses (Some a) n old new) (sym is) (ends_here holds refuses a r old new ok err)
+pub ends_by : (holds : Text → Option (List ℕ)) (refuses : Text → Type 0) (a : Asked) (r : Result Bool Stop) (status : ℕ)
+    (old new : Option (List ℕ)) → status ≡ status_of r
+    → IfOk r (λ refused. Shown holds a refused old new) → IfErr r (λ s. Stops holds refuses a s old new)
+    → Ends holds refuses (Some a) status old new
+ends_by holds refuses a r status old new is ok err =
+    subst (λ n. Ends holds refuses (Some a) n old new) (sym is) (ends_here holds refuses a r old new ok err)
 
 pub ends_by_status : (holds : Text → Option (List ℕ)) (refuses : Text → Type 0) → EndsByStatus holds refuses
 ends_by_status holds refuses = ends_by holds refuses
 
 -- The words ask for nothing, or memory gave out before that was known.
-pub ends_unasked : SolvesNone → VerifiesNone → TellsNone → (holds : Text → Option (List ℕ)) (refuses : Text → Type 0) (asks : Option Asked) (status : ℕ) (old new : Option (List ℕ)) → status ≢ 1 → status ≤ 4
+pub ends_unasked : SolvesNone → VerifiesNone → TellsNone → (holds : Text → Option (List ℕ)) (refuses : Text → Type 0)
+    (asks : Option Asked) (status : ℕ) (old new : Option (List ℕ)) → status ≢ 1 → status ≤ 4
     → (status ≢ 3 → asks ≡ None) → ((status ≡ 2) ⊎ (status ≡ 3) → Keeps old new) → Ends holds refuses asks status old new
 ends_unasked none unverified untold holds refuses asks status old new not_refused within unasked kept = record {
   answered = λ is. rw (unasked (λ other. absurd (omega (arith, is, other)))) tt;

@@ -1,6 +1,7 @@
 mod HeldFiles
 mod Shown
 mod Parts
+mod LinesFrom
 mod AnsweredFiles
 mod Unopened
 mod VerifiedFiles

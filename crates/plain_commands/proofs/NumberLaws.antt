@@ -1,5 +1,6 @@
 -- A number that is read is spelled so, and one that is spelled is read.
-use Rattle.std.proofs.Common.{◌≡◌, ◌==◌, ◌&&◌, ◌++◌, ℕ, Bool, List, [], ◌∷◌, Option, None, Some, true, false, cond, length, refl, sym, ap, ◌∙◌, arith, nat_lt, nat_le, lt-ltb, option_map}
+use Rattle.std.proofs.Common.{◌≡◌, ◌==◌, ◌&&◌, ◌++◌, ℕ, Bool, List, [], ◌∷◌, Option, None, Some, true, false}
+use Rattle.std.proofs.Common.{cond, length, refl, sym, ap, ◌∙◌, arith, nat_lt, nat_le, lt-ltb, option_map}
 use Rattle.std.proofs.lemmas.Bool.{and_parts, ltb-true, leb-true, le-leb, eqb-true}
 use Rattle.std.proofs.lemmas.Option.{cond_some, option_and_then_some, same_Some, none-some, some_pair_parts}
 use Rattle.std.specs.Option.{option_and_then}
@@ -55,11 +56,15 @@ cut_read (b ∷ bs) back digits =
 
 pub number_cut_spelled : (text : List ℕ) (n : ℕ) (rest : List ℕ) → number_cut text ≡ Some (n, rest)
     → (number : List ℕ) × (text ≡ number ++ 32 ∷ rest) × SpellsNumber number n
-number_cut_spelled text n rest is = option_and_then_some (λ cut. option_map (with_rest cut.1) (number_of cut.0)) (cut_at 32 text) (n, rest) is step where
-  step : (cut : List ℕ × List ℕ) → cut_at 32 text ≡ Some cut → option_map (with_rest cut.1) (number_of cut.0) ≡ Some (n, rest)
-      → (number : List ℕ) × (text ≡ number ++ 32 ∷ rest) × SpellsNumber number n
-  step cut at found = map_some (with_rest cut.1) (number_of cut.0) (n, rest) found (λ m is_m same.
-      (cut.0, cut_spelled 32 text cut.0 cut.1 at ∙ ap (λ t. cut.0 ++ 32 ∷ t) (ap (λ p. p.1) same), number_spelled cut.0 n (is_m ∙ ap (λ p. Some p.0) same)))
+number_cut_spelled text n rest is =
+    option_and_then_some (λ cut. option_map (with_rest cut.1) (number_of cut.0)) (cut_at 32 text) (n, rest) is step where
+      step : (cut : List ℕ × List ℕ) → cut_at 32 text ≡ Some cut → option_map (with_rest cut.1) (number_of cut.0) ≡ Some (n, rest)
+          → (number : List ℕ) × (text ≡ number ++ 32 ∷ rest) × SpellsNumber number n
+      step cut at found = map_some (with_rest cut.1) (number_of cut.0) (n, rest) found (λ m is_m same. (
+        cut.0,
+        cut_spelled 32 text cut.0 cut.1 at ∙ ap (λ t. cut.0 ++ 32 ∷ t) (ap (λ p. p.1) same),
+        number_spelled cut.0 n (is_m ∙ ap (λ p. Some p.0) same),
+      ))
 
 pub number_cut_read : (number : List ℕ) (n : ℕ) (rest : List ℕ) → SpellsNumber number n → number_cut (number ++ 32 ∷ rest) ≡ Some (n, rest)
 number_cut_read number n rest spelled =

@@ -1,7 +1,8 @@
 -- A text is one script at most, and none where a line is at fault.
 use Rattle.std.proofs.Common.{◌≡◌, ◌≢◌, ◌++◌, ℕ, List, [], ◌∷◌, Option, None, Some, refl, sym, ap, ◌∙◌, subst}
 use Rattle.std.proofs.lemmas.Option.{none-some, same_Some}
-use Rattle.plain_commands.specs.Scripts.{StepValue, ScriptValue, Line, SpellEach, SpellsDesk, IsStep, IsScript, IsFirstFault, IsRefused, all_blank, no_desk, no_step}
+use Rattle.plain_commands.specs.Scripts.{StepValue, ScriptValue, Line, SpellEach, SpellsDesk, IsStep, IsScript}
+use Rattle.plain_commands.specs.Scripts.{IsFirstFault, IsRefused, all_blank, no_desk, no_step}
 use Rattle.plain_commands.specs.declared.scripts.ScriptFault.{ScriptFault}
 use Rattle.plain_commands.specs.declared.scripts.ScriptFault.TheVariants as fault
 use Rattle.plain_commands.proofs.StepLaws.{step_read}
@@ -52,7 +53,8 @@ script_one text v w first second =
     let same = sym first.lines ∙ second.lines in
     let opening : first.opening ≡ second.opening = same_first first.opening second.opening first.others second.others same in
     let others : first.others ≡ second.others = same_behind first.opening second.opening first.others second.others same in
-    let desk = desk_one second.opening.text _ _ _ _ _ _ (subst (λ l. SpellsDesk l.text v.submitters v.room v.bound) opening first.opens) second.opens in
+    let desk = desk_one second.opening.text _ _ _ _ _ _
+    (subst (λ l. SpellsDesk l.text v.submitters v.room v.bound) opening first.opens) second.opens in
     let steps = each_one second.others v.steps w.steps (subst (λ l. SpellEach l v.steps) others first.each) second.each in
     ap (λ s. script_with s v.room v.bound v.steps) desk.0 ∙ ap (λ r. script_with w.submitters r v.bound v.steps) desk.1
     ∙ ap (λ b. script_with w.submitters w.room b v.steps) desk.2 ∙ ap (script_with w.submitters w.room w.bound) steps

@@ -1,9 +1,11 @@
 -- The lines of a script, as far as they are read.
-use Rattle.std.proofs.Common.{◌≡◌, ◌++◌, ℕ, List, [], ◌∷◌, Option, None, Some, Result, Ok, Err, IsErrAnd, IfErr, IsSome, refl, sym, ap, ◌∙◌, subst, append_assoc}
+use Rattle.std.proofs.Common.{◌≡◌, ◌++◌, ℕ, List, [], ◌∷◌, Option, None, Some, Result, Ok, Err}
+use Rattle.std.proofs.Common.{IsErrAnd, IfErr, IsSome, refl, sym, ap, ◌∙◌, subst, append_assoc}
 use Rattle.std.proofs.lemmas.Bool.{false≢true}
 use Rattle.std.proofs.lemmas.List.{append-nil}
 use Rattle.std.proofs.lemmas.Option.{none-some}
-use Rattle.plain_commands.specs.Scripts.{StepValue, Line, SpellsStep, SpellEach, IsDesk, IsStep, IsFirstNoStep, ReachStep, AreRefused, IsRefused, said, no_step}
+use Rattle.plain_commands.specs.Scripts.{StepValue, Line, SpellsStep, SpellEach, IsDesk, IsStep, IsFirstNoStep}
+use Rattle.plain_commands.specs.Scripts.{ReachStep, AreRefused, IsRefused, said, no_step}
 use Rattle.plain_commands.specs.inside.ScriptReading.{DeskValue, desk_of, step_of}
 use Rattle.plain_commands.specs.declared.scripts.ScriptFault.{ScriptFault}
 use Rattle.plain_commands.specs.declared.scripts.ScriptFault.TheVariants as fault
@@ -26,7 +28,8 @@ each_more [] (s ∷ ss) line step each more = absurd each
 each_more (l ∷ ls) [] line step each more = absurd each
 each_more (l ∷ ls) (s ∷ ss) line step each more = (each.0, each_more ls ss line step each.1 more)
 
-pub read_more : (lines left others : List Line) (steps : List StepValue) (line : Line) (step : StepValue) → AreReadTo lines left steps → left ≡ line ∷ others
+pub read_more : (lines left others : List Line) (steps : List StepValue) (line : Line) (step : StepValue)
+    → AreReadTo lines left steps → left ≡ line ∷ others
     → Some step ≡ step_of line.text → AreReadTo lines others (steps ++ step ∷ [])
 read_more lines left others steps line step so_far cut says = record {
   before = so_far.before ++ line ∷ [];

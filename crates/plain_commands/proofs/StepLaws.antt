@@ -11,7 +11,8 @@ use Rattle.plain_commands.proofs.NumberLaws.{map_some, number_spelled, number_re
 is_word : (word name : List ℕ) → bytes_eq word name ≡ true → word ≡ name
 is_word word name is = (bytes_eq-Decides word name).0 is
 
-plain_cases : (word : List ℕ) (step : StepValue) (a b c : Bool) → (a ≡ true → word ≡ codes "take") → (b ≡ true → word ≡ codes "drained") → (c ≡ true → word ≡ codes "close")
+plain_cases : (word : List ℕ) (step : StepValue) (a b c : Bool) → (a ≡ true → word ≡ codes "take")
+    → (b ≡ true → word ≡ codes "drained") → (c ≡ true → word ≡ codes "close")
     → cond a (Some Take) (cond b (Some Drained) (cond c (Some Close) None)) ≡ Some step → SpellsStep word step
 plain_cases word step true b c take drained close is = subst (SpellsStep word) (same_Some Take step is) (take refl)
 plain_cases word step false true c take drained close is = subst (SpellsStep word) (same_Some Drained step is) (drained refl)
@@ -20,7 +21,8 @@ plain_cases word step false false false take drained close is = absurd (none-som
 
 plain_spelled : (word : List ℕ) (step : StepValue) → plain_step word ≡ Some step → SpellsStep word step
 unfolding plain_step
-plain_spelled word step is = plain_cases word step _ _ _ (is_word word (codes "take")) (is_word word (codes "drained")) (is_word word (codes "close")) is
+plain_spelled word step is =
+    plain_cases word step _ _ _ (is_word word (codes "take")) (is_word word (codes "drained")) (is_word word (codes "close")) is
 
 submit_spelled : (text : List ℕ) (step : StepValue) → submit_of text ≡ Some step → SpellsStep (codes "submit" ++ 32 ∷ text) step
 submit_spelled text step is = map_some (λ cut. Submit cut.0 cut.1) (number_cut text) step is (λ cut at same.
@@ -29,7 +31,8 @@ submit_spelled text step is = map_some (λ cut. Submit cut.0 cut.1) (number_cut 
     subst (SpellsStep (codes "submit" ++ 32 ∷ text)) same spelled)
 
 withdraw_spelled : (text : List ℕ) (step : StepValue) → withdraw_of text ≡ Some step → SpellsStep (codes "withdraw" ++ 32 ∷ text) step
-withdraw_spelled text step is = option_and_then_some (λ cut. option_map (λ n. Withdraw cut.0 n) (number_of cut.1)) (number_cut text) step is (λ cut at found.
+withdraw_spelled text step is = option_and_then_some (λ cut. option_map (λ n. Withdraw cut.0 n) (number_of cut.1))
+    (number_cut text) step is (λ cut at found.
     map_some (λ n. Withdraw cut.0 n) (number_of cut.1) step found (λ n number same.
     let parts = number_cut_spelled text cut.0 cut.1 at in
     let spelled : SpellsStep (codes "withdraw" ++ 32 ∷ text) (Withdraw cut.0 n) =
@@ -41,12 +44,14 @@ finish_spelled text step is = map_some Finish (number_of text) step is (λ n num
     let spelled : SpellsStep (codes "finish" ++ 32 ∷ text) (Finish n) = (text, refl, number_spelled text n number) in
     subst (SpellsStep (codes "finish" ++ 32 ∷ text)) same spelled)
 
-handback_spelled : (text : List ℕ) (step : StepValue) → option_map HandBack (number_of text) ≡ Some step → SpellsStep (codes "handback" ++ 32 ∷ text) step
+handback_spelled : (text : List ℕ) (step : StepValue) → option_map HandBack (number_of text) ≡ Some step
+    → SpellsStep (codes "handback" ++ 32 ∷ text) step
 handback_spelled text step is = map_some HandBack (number_of text) step is (λ n number same.
     let spelled : SpellsStep (codes "handback" ++ 32 ∷ text) (HandBack n) = (text, refl, number_spelled text n number) in
     subst (SpellsStep (codes "handback" ++ 32 ∷ text)) same spelled)
 
-collect_spelled : (text : List ℕ) (step : StepValue) → option_map Collect (number_of text) ≡ Some step → SpellsStep (codes "collect" ++ 32 ∷ text) step
+collect_spelled : (text : List ℕ) (step : StepValue) → option_map Collect (number_of text) ≡ Some step
+    → SpellsStep (codes "collect" ++ 32 ∷ text) step
 collect_spelled text step is = map_some Collect (number_of text) step is (λ n number same.
     let spelled : SpellsStep (codes "collect" ++ 32 ∷ text) (Collect n) = (text, refl, number_spelled text n number) in
     subst (SpellsStep (codes "collect" ++ 32 ∷ text)) same spelled)
@@ -65,10 +70,12 @@ by_cases word text step false false false false false submit withdraw finish bac
 
 by_spelled : (word text : List ℕ) (step : StepValue) → step_by word text ≡ Some step → SpellsStep (word ++ 32 ∷ text) step
 unfolding step_by
-by_spelled word text step is = by_cases word text step _ _ _ _ _ (is_word word (codes "submit")) (is_word word (codes "withdraw")) (is_word word (codes "finish"))
+by_spelled word text step is = by_cases word text step _ _ _ _ _ (is_word word (codes "submit"))
+    (is_word word (codes "withdraw")) (is_word word (codes "finish"))
     (is_word word (codes "handback")) (is_word word (codes "collect")) is
 
-in_spelled : (line : List ℕ) (cut : Option (List ℕ × List ℕ)) (step : StepValue) → cut_at 32 line ≡ cut → step_in line cut ≡ Some step → SpellsStep line step
+in_spelled : (line : List ℕ) (cut : Option (List ℕ × List ℕ)) (step : StepValue) → cut_at 32 line ≡ cut
+    → step_in line cut ≡ Some step → SpellsStep line step
 in_spelled line None step at is = plain_spelled line step is
 in_spelled line (Some cut) step at is =
     subst (λ l. SpellsStep l step) (sym (cut_spelled 32 line cut.0 cut.1 at)) (by_spelled cut.0 cut.1 step is)

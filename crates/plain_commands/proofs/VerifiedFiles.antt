@@ -9,14 +9,15 @@ use Rattle.plain_commands.specs.Verified.{StopsVerifying, claim_replies, first_c
 use Rattle.plain_commands.specs.Writing.{Gains}
 use Rattle.plain_commands.proofs.AnsweredFiles.{all_answered}
 
-pub stops_uncounted : HoldsEach → (holds : List ℕ → Option (List ℕ)) (refuses : List ℕ → Type 0) (bound : ℕ) (names : List (Bor (List ℕ))) (several unsound : Bool) (old new : Option (List ℕ))
-    → several ≡ nat_lt 1 (length names) → Gains (Answers holds (claim_replies several bound) (map (λ s. s.now) names) unsound) old new
-    → StopsVerifying holds refuses bound (map (λ s. s.now) names) stop.NoMemory old new
-stops_uncounted each holds refuses bound names several unsound old new is gains =
+pub stops_uncounted : HoldsEach → (holds : List ℕ → Option (List ℕ)) (refuses : List ℕ → Type 0) (bound from : ℕ)
+    (names : List (Bor (List ℕ))) (several unsound : Bool) (old new : Option (List ℕ))
+    → several ≡ nat_lt 1 (length names) → Gains (Answers holds (claim_replies several bound) from (map (λ s. s.now) names) unsound) old new
+    → StopsVerifying holds refuses bound from (map (λ s. s.now) names) stop.NoMemory old new
+stops_uncounted each holds refuses bound from names several unsound old new is gains =
     let texts = map (λ (s : Bor (List ℕ)). s.now) names in
     let same : has_several texts ≡ several = ap (nat_lt 1) (length-map names (λ s. s.now)) ∙ sym is in
-    subst (λ b. Gains (AnswersFirst holds (claim_replies b bound) (first_claim_replies b bound) texts (λ _. ⊤)) old new) (sym same) (record {
+    subst (λ b. Gains (AnswersFirst holds (claim_replies b bound) (first_claim_replies b bound) from texts (λ _. ⊤)) old new) (sym same) (record {
       gained = gains.gained;
-      shows = all_answered each holds (claim_replies several bound) (first_claim_replies several bound) texts unsound gains.gained gains.shows;
+      shows = all_answered each holds (claim_replies several bound) (first_claim_replies several bound) from texts unsound gains.gained gains.shows;
       appends = gains.appends;
     })

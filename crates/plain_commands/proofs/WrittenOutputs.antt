@@ -1,5 +1,6 @@
 -- Outputs one after the other, as far as they are written.
-use Rattle.std.proofs.Common.{◌≡◌, ◌∙◌, ◌++◌, ◌<◌, ℕ, suc, Bool, List, ◌∷◌, Option, Result, Ok, Err, OnErr, sym, ap, subst, flat_map, take, drop, length, append_assoc, slice_index_or}
+use Rattle.std.proofs.Common.{◌≡◌, ◌∙◌, ◌++◌, ◌<◌, ℕ, suc, Bool, List, ◌∷◌, Option, Result, Ok, Err, OnErr}
+use Rattle.std.proofs.Common.{sym, ap, subst, flat_map, take, drop, length, append_assoc, slice_index_or}
 use Rattle.std.proofs.lemmas.Grind.{flat_map-append}
 use Rattle.std.proofs.lemmas.List.{take-append-drop}
 use Rattle.std.proofs.Math.Seq.{drop-cons}
@@ -9,7 +10,8 @@ use Rattle.text_lines.specs.declared.replies.Output.{Output}
 use Rattle.byte_streams.specs.declared.stops.Stop.{Stop}
 use Rattle.plain_commands.proofs.Parts.{part_behind}
 
-outputs_split : (outputs : List Output) (i : ℕ) (d : Output) → i < length outputs → outputs ≡ take i outputs ++ slice_index_or outputs i d ∷ drop (suc i) outputs
+outputs_split : (outputs : List Output) (i : ℕ) (d : Output) → i < length outputs
+    → outputs ≡ take i outputs ++ slice_index_or outputs i d ∷ drop (suc i) outputs
 outputs_split outputs i d within = sym (take-append-drop i outputs) ∙ ap (λ l. take i outputs ++ l) (drop-cons outputs i d within)
 
 part_of_more : (old new : Option (List ℕ)) (text more : List ℕ) → AppendsPart old new text → AppendsPart old new (text ++ more)
@@ -27,7 +29,9 @@ part_there outputs i d old mid new within before part =
     let text : Output → List ℕ = λ o. o.text.items in
     let last = slice_index_or outputs i d in
     let back = flat_map text (drop (suc i) outputs) in
-    let here = part_of_more old new (flat_map text (take i outputs) ++ text last) back (part_behind old mid new (flat_map text (take i outputs)) (text last) before part) in
+    let here = part_of_more old new (flat_map text (take i outputs) ++ text last) back
+    (part_behind old mid new (flat_map text (take i outputs)) (text last) before part) in
     let same : flat_map text outputs ≡ (flat_map text (take i outputs) ++ text last) ++ back =
-    ap (flat_map text) (outputs_split outputs i d within) ∙ flat_map-append text (take i outputs) (last ∷ drop (suc i) outputs) ∙ sym (append_assoc (flat_map text (take i outputs)) (text last) back) in
+    ap (flat_map text) (outputs_split outputs i d within) ∙ flat_map-append text (take i outputs) (last ∷ drop (suc i) outputs)
+    ∙ sym (append_assoc (flat_map text (take i outputs)) (text last) back) in
     subst (AppendsPart old new) (sym same) here

@@ -10,15 +10,19 @@ use Rattle.plain_commands.specs.Writing.{Gains, GainsPart, StopsShowing}
 use Rattle.chess_views.specs.Counts.{divided_text, perft_text}
 use Rattle.chess_views.specs.Listings.{moves_text}
 use Rattle.chess_views.specs.Looks.{look_board_text, look_text}
-use Rattle.command_words.specs.Asked.{Asked, look, board, play, moves, perft, divide, lines, solve, verify, tree, serve, replay, explain}
+use Rattle.command_words.specs.Asked.{Asked, look, board, svg, play, moves, perft, divide, lines, solve}
+use Rattle.command_words.specs.Asked.{limited, verify, tree, sheet, imports, serve, replay, explain, uci}
+use Rattle.problem_sheets.specs.Diagrams.{svg_of}
 use Rattle.plain_commands.specs.Explained.{Explains}
 use Rattle.plain_commands.specs.FenCommands.{ShowsFen, columns_of}
 use Rattle.plain_commands.specs.Played.{ShowsPlay}
 use Rattle.plain_commands.specs.PositionLines.{ShowsLines, StopsLines, command_of}
 use Rattle.plain_commands.specs.Replayed.{ReplaysFile, StopsReplaying}
-use Rattle.plain_commands.specs.Solved.{Solves, StopsSolving}
+use Rattle.plain_commands.specs.Solved.{Solves, SolvesLimited, StopsLimited, StopsSolving}
 use Rattle.plain_commands.specs.Verified.{StopsVerifying, Verifies}
 use Rattle.plain_commands.specs.Told.{StopsTelling, Tells}
+use Rattle.plain_commands.specs.Sheeted.{Sheets, StopsSheet}
+use Rattle.plain_commands.specs.Imported.{ImportsFiles, StopsImporting}
 use Rattle.plain_commands.specs.Served.{HaveNoWindows, Serves}
 
 -- What a command shows where names hold such inputs, and whether anything that it was given is refused. The size of a memo and the
@@ -26,17 +30,27 @@ use Rattle.plain_commands.specs.Served.{HaveNoWindows, Serves}
 abbrev pub Shows : (Text → Option (List ℕ)) → Asked → Bool → List ℕ → Type 0
 Shows holds (look fen) refused text = ShowsFen look_text fen refused text
 Shows holds (board fen side) refused text = ShowsFen (look_board_text side) fen refused text
+Shows holds (svg fen) refused text = ShowsFen svg_of fen refused text
 Shows holds (play fen words) refused text = ShowsPlay fen words refused text
 Shows holds (moves form fen) refused text = ShowsFen (moves_text (columns_of form)) fen refused text
 Shows holds (perft fen depth) refused text = ShowsFen (perft_text depth) fen refused text
 Shows holds (divide fen depth) refused text = ShowsFen (divided_text depth) fen refused text
 Shows holds (lines view names) refused text = ShowsLines holds (command_of view) names refused text
-Shows holds (solve bound memo names) refused text = Solves holds bound names refused text
-Shows holds (verify bound memo names) refused text = Verifies holds bound names refused text
-Shows holds (tree bound form names) refused text = Tells holds bound form names refused text
+Shows holds (solve bound memo from names) refused text = Solves holds bound from names refused text
+Shows holds (limited seconds bound memo from names) refused text = SolvesLimited holds seconds bound from names refused text
+Shows holds (verify bound memo from names) refused text = Verifies holds bound from names refused text
+Shows holds (tree bound form from names) refused text = Tells holds bound form from names refused text
+Shows holds (sheet bound memo form title names) refused text = Sheets holds bound form title names refused text
+Shows holds (imports keep names) refused text = ImportsFiles holds names refused text
 Shows holds (serve workers bound memo names) refused text = Serves holds bound names refused text
 Shows holds (replay name) refused text = ReplaysFile (holds name) refused text
 Shows holds (explain code) refused text = Explains code refused text
+Shows holds uci refused text = ⊤
+
+-- The output gained what a command shows. What `uci` writes isn't told, and it refuses nothing.
+abbrev pub Shown : (Text → Option (List ℕ)) → Asked → Bool → (old new : Option (List ℕ)) → Type 0
+Shown holds uci refused old new = refused ≡ false
+Shown holds asks refused old new = Gains (Shows holds asks refused) old new
 
 -- What the output gained where `serve` stops: nothing where memory gives out, no thread is to be had or a file can't be read, which
 -- may be refused; and where a write breaks off, a first part of the replies to all files.
@@ -48,11 +62,15 @@ StopsServing holds refuses bound names NoReader old new = GainsPart (λ text. (r
 
 abbrev pub Stops : (Text → Option (List ℕ)) → (Text → Type 0) → Asked → Stop → (old new : Option (List ℕ)) → Type 0
 Stops holds refuses (lines view names) stop old new = StopsLines holds refuses (command_of view) names stop old new
-Stops holds refuses (solve bound memo names) stop old new = StopsSolving holds refuses bound names stop old new
-Stops holds refuses (verify bound memo names) stop old new = StopsVerifying holds refuses bound names stop old new
-Stops holds refuses (tree bound form names) stop old new = StopsTelling holds refuses bound form names stop old new
+Stops holds refuses (solve bound memo from names) stop old new = StopsSolving holds refuses bound from names stop old new
+Stops holds refuses (limited seconds bound memo from names) stop old new = StopsLimited holds refuses seconds bound from names stop old new
+Stops holds refuses (verify bound memo from names) stop old new = StopsVerifying holds refuses bound from names stop old new
+Stops holds refuses (tree bound form from names) stop old new = StopsTelling holds refuses bound form from names stop old new
+Stops holds refuses (sheet bound memo form title names) stop old new = StopsSheet holds refuses bound form title names stop old new
+Stops holds refuses (imports keep names) stop old new = StopsImporting holds refuses names stop old new
 Stops holds refuses (serve workers bound memo names) stop old new = StopsServing holds refuses bound names stop old new
 Stops holds refuses (replay name) stop old new = StopsReplaying (holds name) (refuses name) stop old new
+Stops holds refuses uci stop old new = ⊤
 Stops holds refuses asks stop old new = StopsShowing (Shows holds asks false) stop old new
 
 -- The program stops where a command does.
@@ -68,11 +86,12 @@ AsksInVain (Some asks) = ⊥
 
 -- How the program ends, by what the words ask for, what names hold, and which names may be refused. Help and the version are
 -- shown where the words ask for nothing.
-pub record Ends (holds : Text → Option (List ℕ)) (refuses : Text → Type 0) (asks : Option Asked) (status : ℕ) (old new : Option (List ℕ)) : Type 0 where
+pub record Ends (holds : Text → Option (List ℕ)) (refuses : Text → Type 0) (asks : Option Asked) (status : ℕ)
+    (old new : Option (List ℕ)) : Type 0 where
   -- 0: what was asked for is shown, and nothing was refused
-  pub answered : status ≡ 0 → IfSome asks (λ a. Gains (Shows holds a false) old new)
+  pub answered : status ≡ 0 → IfSome asks (λ a. Shown holds a false old new)
   -- 1: the same, and something was refused
-  pub refused : status ≡ 1 → IsSomeAnd asks (λ a. Gains (Shows holds a true) old new)
+  pub refused : status ≡ 1 → IsSomeAnd asks (λ a. Shown holds a true old new)
   -- 2: the words ask for nothing, or for too many files to be served
   pub misused : status ≡ 2 → AsksInVain asks × Keeps old new
   -- 3: memory gave out, or no thread was to be had
@@ -84,4 +103,5 @@ pub record Ends (holds : Text → Option (List ℕ)) (refuses : Text → Type 0)
 -- Whatever a command has shown, or where it stopped, with the status of that it ends so.
 abbrev pub EndsByStatus : (Text → Option (List ℕ)) → (Text → Type 0) → Type 0
 EndsByStatus holds refuses = (a : Asked) (r : Result Bool Stop) (status : ℕ) (old new : Option (List ℕ)) → status ≡ status_of r
-    → IfOk r (λ refused. Gains (Shows holds a refused) old new) → IfErr r (λ stop. Stops holds refuses a stop old new) → Ends holds refuses (Some a) status old new
+    → IfOk r (λ refused. Shown holds a refused old new) → IfErr r (λ stop. Stops holds refuses a stop old new)
+    → Ends holds refuses (Some a) status old new

@@ -6,37 +6,53 @@ use Rattle.byte_streams.specs.declared.stops.Stop.TheVariants.{NoMemory, Unreada
 use Rattle.plain_commands.specs.Sources.{Holds}
 use Rattle.plain_commands.specs.Writing.{Gains, GainsPart}
 
--- What the inputs of files are answered, one after the other, and how many of their lines are refused, where `Replies` says it of a
--- file's name and its input.
-abbrev pub AreReplies : (List ℕ → List ℕ → List ℕ → ℕ → Type 0) → (names inputs : List (List ℕ)) → List ℕ → ℕ → Type 0
-AreReplies Replies [] [] text refusals = (text ≡ []) × (refusals ≡ 0)
-AreReplies Replies (name ∷ names) (input ∷ inputs) text refusals = (here : List ℕ) × (count : ℕ) × (more : List ℕ) × (others : ℕ)
-    × Replies name input here count × AreReplies Replies names inputs more others × (text ≡ here ++ more) × (refusals ≡ count + others)
-AreReplies Replies _ _ text refusals = ⊥
+-- What a file may be answered from the line of a number on: by this number, the file's name and its input the text, and how many lines are
+-- refused.
+abbrev pub FileReplies : Type 1
+FileReplies = ℕ → List ℕ → List ℕ → List ℕ → ℕ → Type 0
+
+-- What some of its first lines may be answered, likewise.
+abbrev pub FirstReplies : Type 1
+FirstReplies = ℕ → List ℕ → List ℕ → List ℕ → Type 0
+
+-- What the inputs of files are answered, one after the other, and how many of their lines are refused: the first file from the line of such
+-- a number on, and all others whole.
+abbrev pub AreReplies : FileReplies → ℕ → (names inputs : List (List ℕ)) → List ℕ → ℕ → Type 0
+AreReplies Replies from [] [] text refusals = (text ≡ []) × (refusals ≡ 0)
+AreReplies Replies from (name ∷ names) (input ∷ inputs) text refusals = (here : List ℕ) × (count : ℕ) × (more : List ℕ) × (others : ℕ)
+    × Replies from name input here count × AreReplies Replies 1 names inputs more others × (text ≡ here ++ more) × (refusals ≡ count + others)
+AreReplies Replies from _ _ text refusals = ⊥
 
 -- The replies to what the names hold, and whether a line of it is refused.
-pub record Answers (holds : List ℕ → Option (List ℕ)) (Replies : List ℕ → List ℕ → List ℕ → ℕ → Type 0) (names : List (List ℕ)) (refused : Bool) (gained : List ℕ) : Type 0 where
+pub record Answers (holds : List ℕ → Option (List ℕ)) (Replies : FileReplies) (from : ℕ) (names : List (List ℕ))
+    (refused : Bool) (gained : List ℕ) : Type 0 where
   pub inputs : List (List ℕ)
   pub refusals : ℕ
   pub given : Holds holds names inputs
-  pub are_replies : AreReplies Replies names inputs gained refusals
+  pub are_replies : AreReplies Replies from names inputs gained refusals
   pub refusal : refused ≡ nat_lt 0 refusals
 
--- what some of the first lines of the first file are answered, where `First` says it of a file's name and its input
-abbrev pub IsReplyIn : (List ℕ → Option (List ℕ)) → (List ℕ → List ℕ → List ℕ → Type 0) → List (List ℕ) → List ℕ → Type 0
-IsReplyIn holds First [] text = text ≡ []
-IsReplyIn holds First (name ∷ names) text = (input : List ℕ) × MayBe (holds name) input × First name input text
+-- the number of the line from which on a file is answered that stands behind such inputs
+abbrev pub from_behind : ℕ → List (List ℕ) → ℕ
+from_behind from [] = from
+from_behind from (input ∷ inputs) = 1
+
+-- What some of the first lines of the first file are answered.
+abbrev pub IsReplyIn : (List ℕ → Option (List ℕ)) → FirstReplies → ℕ → List (List ℕ) → List ℕ → Type 0
+IsReplyIn holds First from [] text = text ≡ []
+IsReplyIn holds First from (name ∷ names) text = (input : List ℕ) × MayBe (holds name) input × First from name input text
 
 -- The replies to the first files, and to some of the first lines of the next: what there is to write where it stops there. The names
 -- from that file on are such as `Stops` says.
-pub record AnswersFirst (holds : List ℕ → Option (List ℕ)) (Replies : List ℕ → List ℕ → List ℕ → ℕ → Type 0) (First : List ℕ → List ℕ → List ℕ → Type 0) (names : List (List ℕ)) (Stops : List (List ℕ) → Type 0) (text : List ℕ) : Type 0 where
+pub record AnswersFirst (holds : List ℕ → Option (List ℕ)) (Replies : FileReplies) (First : FirstReplies) (from : ℕ)
+    (names : List (List ℕ)) (Stops : List (List ℕ) → Type 0) (text : List ℕ) : Type 0 where
   pub inputs : List (List ℕ)
   pub whole : List ℕ
   pub refusals : ℕ
   pub part : List ℕ
   pub given : Holds holds (take (length inputs) names) inputs
-  pub are_replies : AreReplies Replies (take (length inputs) names) inputs whole refusals
-  pub next : IsReplyIn holds First (drop (length inputs) names) part
+  pub are_replies : AreReplies Replies from (take (length inputs) names) inputs whole refusals
+  pub next : IsReplyIn holds First (from_behind from inputs) (drop (length inputs) names) part
   pub text_is : text ≡ whole ++ part
   pub stops : Stops (drop (length inputs) names)
 
@@ -47,8 +63,10 @@ FirstRefused refuses (name ∷ names) = refuses name
 
 -- What the output gained where it stops: the replies to first lines; where a file can't be read, which may be refused, to all lines
 -- before that file; and where a write breaks off, a first part of such replies.
-abbrev pub StopsAnswering : (List ℕ → Option (List ℕ)) → (List ℕ → Type 0) → (List ℕ → List ℕ → List ℕ → ℕ → Type 0) → (List ℕ → List ℕ → List ℕ → Type 0) → List (List ℕ) → Stop → (old new : Option (List ℕ)) → Type 0
-StopsAnswering holds refuses Replies First names NoMemory old new = Gains (AnswersFirst holds Replies First names (λ _. ⊤)) old new
-StopsAnswering holds refuses Replies First names Unreadable old new = Gains (AnswersFirst holds Replies First names (FirstRefused refuses)) old new
-StopsAnswering holds refuses Replies First names Unwritable old new = GainsPart (AnswersFirst holds Replies First names (λ _. ⊤)) old new
-StopsAnswering holds refuses Replies First names NoReader old new = GainsPart (AnswersFirst holds Replies First names (λ _. ⊤)) old new
+abbrev pub StopsAnswering : (List ℕ → Option (List ℕ)) → (List ℕ → Type 0) → FileReplies → FirstReplies → ℕ → List (List ℕ)
+    → Stop → (old new : Option (List ℕ)) → Type 0
+StopsAnswering holds refuses Replies First from names NoMemory old new = Gains (AnswersFirst holds Replies First from names (λ _. ⊤)) old new
+StopsAnswering holds refuses Replies First from names Unreadable old new =
+    Gains (AnswersFirst holds Replies First from names (FirstRefused refuses)) old new
+StopsAnswering holds refuses Replies First from names Unwritable old new = GainsPart (AnswersFirst holds Replies First from names (λ _. ⊤)) old new
+StopsAnswering holds refuses Replies First from names NoReader old new = GainsPart (AnswersFirst holds Replies First from names (λ _. ⊤)) old new

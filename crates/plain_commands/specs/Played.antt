@@ -19,5 +19,6 @@ pub record NamesNoMove (fen : List ℕ) (words : List (List ℕ)) : Type 0 where
 -- The moves are made, each from the position before it, and the position reached is shown. A text that says no sound position
 -- is refused, and so is a word that names no legal move; then nothing is shown.
 abbrev pub ShowsPlay : List ℕ → List (List ℕ) → Bool → List ℕ → Type 0
-ShowsPlay fen words false gained = (v : FenValue) × Spells (line_fen fen) v × IsSound v.position × (w : FenValue) × (played v words ≡ Ok w) × (gained ≡ reached_text w)
+ShowsPlay fen words false gained = (v : FenValue) × Spells (line_fen fen) v × IsSound v.position × (w : FenValue)
+    × (played v words ≡ Ok w) × (gained ≡ reached_text w)
 ShowsPlay fen words true gained = (((fault : FenFault) × IsFault (line_fen fen) fault) ⊎ NamesNoMove fen words) × (gained ≡ [])

@@ -18,17 +18,18 @@ command_of asks.Board = Board White
 command_of asks.Moves = MovesLine
 command_of (asks.Perft depth) = Perft depth
 
--- What lines of positions are answered, whatever their file is called.
-abbrev pub position_replies : FenCommand → List ℕ → List ℕ → List ℕ → ℕ → Type 0
-position_replies command name input text refusals = IsReply (IsPositionReply (shown_text command)) input text refusals
+-- What lines of positions are answered, whatever their file is called. No lines of them are passed over.
+abbrev pub position_replies : FenCommand → ℕ → List ℕ → List ℕ → List ℕ → ℕ → Type 0
+position_replies command from name input text refusals = IsReply (IsPositionReply (shown_text command)) input text refusals
 
-abbrev pub first_position_replies : FenCommand → List ℕ → List ℕ → List ℕ → Type 0
-first_position_replies command name input text = IsReplyToFirst (IsPositionReply (shown_text command)) input text
+abbrev pub first_position_replies : FenCommand → ℕ → List ℕ → List ℕ → List ℕ → Type 0
+first_position_replies command from name input text = IsReplyToFirst (IsPositionReply (shown_text command)) input text
 
 -- The replies to what the names hold, and whether a line of it is refused.
 abbrev pub ShowsLines : (List ℕ → Option (List ℕ)) → FenCommand → List (List ℕ) → Bool → List ℕ → Type 0
-ShowsLines holds command names refused gained = Answers holds (position_replies command) names refused gained
+ShowsLines holds command names refused gained = Answers holds (position_replies command) 1 names refused gained
 
 -- What the output gained where that stops.
 abbrev pub StopsLines : (List ℕ → Option (List ℕ)) → (List ℕ → Type 0) → FenCommand → List (List ℕ) → Stop → (old new : Option (List ℕ)) → Type 0
-StopsLines holds refuses command names stop old new = StopsAnswering holds refuses (position_replies command) (first_position_replies command) names stop old new
+StopsLines holds refuses command names stop old new =
+    StopsAnswering holds refuses (position_replies command) (first_position_replies command) 1 names stop old new

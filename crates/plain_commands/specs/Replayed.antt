@@ -2,7 +2,8 @@
 use Rattle.std.specs.Prelude.{◌≡◌, ◌⊎◌, ℕ, Bool, List, [], Option, true, false, flat_map, length, map}
 use Rattle.std.specs.Io.KnownBytes.{Keeps}
 use Rattle.mate_desk.specs.History.{past}
-use Rattle.mate_desk.specs.Headline.{AfterEachPrefix, DeliversInOrder, GivesNoticeOfWithdrawn, DeliversAllOnceDrained, AcceptsNoneAfterClose, AnswersAreTrue}
+use Rattle.mate_desk.specs.Headline.{AfterEachPrefix, DeliversInOrder, GivesNoticeOfWithdrawn, DeliversAllOnceDrained}
+use Rattle.mate_desk.specs.Headline.{AcceptsNoneAfterClose, AnswersAreTrue}
 use Rattle.mate_desk.specs.Refusals.{AreServed, IsRoom}
 use Rattle.mate_desk.specs.Replies.{AreReplies}
 use Rattle.mate_desk.specs.ReplyTexts.{reply_text}

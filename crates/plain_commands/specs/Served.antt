@@ -17,4 +17,4 @@ HaveNoWindows names = (length names ≡ 0) ⊎ (max_files < length names)
 -- What `solve` shows of the same files, where there is a window for each.
 pub record Serves (holds : Text → Option (List ℕ)) (bound : ℕ) (names : List Text) (refused : Bool) (gained : List ℕ) : Type 0 where
   pub windows : HaveWindows names
-  pub solves : Solves holds bound names refused gained
+  pub solves : Solves holds bound 1 names refused gained

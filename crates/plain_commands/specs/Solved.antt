@@ -1,24 +1,47 @@
 -- What `solve` shows.
 use Rattle.std.specs.Prelude.{ℕ, Bool, List, [], Option, ⊤}
-use Rattle.mate_answers.specs.InputReplies.{IsReply, IsReplyToFirst}
+use Rattle.mate_answers.specs.InputReplies.{IsLineReply}
+use Rattle.mate_answers.specs.LimitedReplies.{IsLimitedReply}
 use Rattle.byte_streams.specs.declared.stops.Stop.{Stop}
 use Rattle.plain_commands.specs.FileAnswers.{Answers, AnswersFirst, StopsAnswering}
+use Rattle.plain_commands.specs.LinesFrom.{IsReplyOn, IsReplyToFirstOn}
 
 -- What records are answered where they ask for no bound but this, whatever their file is called.
-abbrev pub record_replies : ℕ → List ℕ → List ℕ → List ℕ → ℕ → Type 0
-record_replies bound name input text refusals = IsReply bound input text refusals
+abbrev pub record_replies : ℕ → ℕ → List ℕ → List ℕ → List ℕ → ℕ → Type 0
+record_replies bound from name input text refusals = IsReplyOn (IsLineReply bound) from input text refusals
 
-abbrev pub first_record_replies : ℕ → List ℕ → List ℕ → List ℕ → Type 0
-first_record_replies bound name input text = IsReplyToFirst bound input text
+abbrev pub first_record_replies : ℕ → ℕ → List ℕ → List ℕ → List ℕ → Type 0
+first_record_replies bound from name input text = IsReplyToFirstOn (IsLineReply bound) from input text
 
--- The replies to what the names hold, and whether a line of it is refused.
-abbrev pub Solves : (List ℕ → Option (List ℕ)) → ℕ → List (List ℕ) → Bool → List ℕ → Type 0
-Solves holds bound names refused gained = Answers holds (record_replies bound) names refused gained
+-- The replies to what the names hold, to the first of them from the line of such a number on, and whether a line of it is refused.
+abbrev pub Solves : (List ℕ → Option (List ℕ)) → ℕ → ℕ → List (List ℕ) → Bool → List ℕ → Type 0
+Solves holds bound from names refused gained = Answers holds (record_replies bound) from names refused gained
 
 -- What the output gained where `solve` stops.
-abbrev pub StopsSolving : (List ℕ → Option (List ℕ)) → (List ℕ → Type 0) → ℕ → List (List ℕ) → Stop → (old new : Option (List ℕ)) → Type 0
-StopsSolving holds refuses bound names stop old new = StopsAnswering holds refuses (record_replies bound) (first_record_replies bound) names stop old new
+abbrev pub StopsSolving : (List ℕ → Option (List ℕ)) → (List ℕ → Type 0) → ℕ → ℕ → List (List ℕ) → Stop → (old new : Option (List ℕ)) → Type 0
+StopsSolving holds refuses bound from names stop old new =
+    StopsAnswering holds refuses (record_replies bound) (first_record_replies bound) from names stop old new
+
+-- The same, where each record may take so many seconds.
+abbrev pub limited_replies : ℕ → ℕ → ℕ → List ℕ → List ℕ → List ℕ → ℕ → Type 0
+limited_replies seconds bound from name input text refusals = IsReplyOn (IsLimitedReply seconds bound) from input text refusals
+
+abbrev pub first_limited_replies : ℕ → ℕ → ℕ → List ℕ → List ℕ → List ℕ → Type 0
+first_limited_replies seconds bound from name input text = IsReplyToFirstOn (IsLimitedReply seconds bound) from input text
+
+abbrev pub SolvesLimited : (List ℕ → Option (List ℕ)) → (seconds bound from : ℕ) → List (List ℕ) → Bool → List ℕ → Type 0
+SolvesLimited holds seconds bound from names refused gained = Answers holds (limited_replies seconds bound) from names refused gained
+
+abbrev pub StopsLimited : (List ℕ → Option (List ℕ)) → (List ℕ → Type 0) → (seconds bound from : ℕ) → List (List ℕ) → Stop
+    → (old new : Option (List ℕ)) → Type 0
+StopsLimited holds refuses seconds bound from names stop old new =
+    StopsAnswering holds refuses (limited_replies seconds bound) (first_limited_replies seconds bound) from names stop old new
 
 -- Before a file is opened there is nothing to write.
 abbrev pub SolvesNone : Type 0
-SolvesNone = (holds : List ℕ → Option (List ℕ)) (bound : ℕ) (names : List (List ℕ)) → AnswersFirst holds (record_replies bound) (first_record_replies bound) names (λ _. ⊤) []
+SolvesNone = (holds : List ℕ → Option (List ℕ)) (bound from : ℕ) (names : List (List ℕ))
+    → AnswersFirst holds (record_replies bound) (first_record_replies bound) from names (λ _. ⊤) []
+
+abbrev pub LimitedNone : Type 0
+LimitedNone = (holds : List ℕ → Option (List ℕ)) (seconds bound from : ℕ) (names : List (List ℕ))
+    → AnswersFirst holds (limited_replies seconds bound) (first_limited_replies seconds bound) from names (λ _. ⊤) []

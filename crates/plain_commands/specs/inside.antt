@@ -1,1 +1,2 @@
 pub mod ScriptReading
+pub mod LinesFrom

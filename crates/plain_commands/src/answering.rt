@@ -1,18 +1,19 @@
-//! The words of a command line in, text and a status out, but for `serve`.
+//! The words of a command line in, text and a status out, but for `serve` and `uci`.
 
 ghost use Rattle.std.specs.Prelude.{◌≡◌, ◌≢◌, ◌⊎◌, ◌≤◌, None, IfErr, IfNone, IfOk, IfSome, IsNone, IsSome, map, option_map, true, false};
 ghost use Rattle.std.specs.String.{string_bytes};
 ghost use Rattle.clap.specs.Words.{kind_of};
-ghost use Rattle.command_words.specs.Asked.{asked, asks_display, asks_serve, is_display, is_serve, may_display};
+ghost use Rattle.command_words.specs.Asked.{asked, asks_display, asks_threads, is_display, is_threaded, may_display};
 ghost use Rattle.command_words.specs.Request.{plan_of};
-ghost use Rattle.plain_commands.specs.Writing.{Gains};
-ghost use Rattle.plain_commands.specs.Command.{Ends, EndsByStatus, Shows, Stops};
+ghost use Rattle.plain_commands.specs.Command.{Ends, EndsByStatus, Shown, Stops};
 
 use crate::explaining::explain;
 use crate::fen_commands::{FenCommand, show_fen};
+use crate::importing::import;
 use crate::playing::play_given;
 use crate::position_answers::show_lines;
 use crate::replaying::replay;
+use crate::sheeting::{SheetAsked, sheet};
 use crate::solving::{solve, solves_none};
 use crate::sources::Source;
 use crate::status::{ANSWERED, MISUSED, no_memory, status_of};
@@ -27,13 +28,16 @@ use std::alloc::Global;
 use std::io::Write;
 
 /// Whether a request is one for threads.
-fn is_serve(request: &Request) -> bool
-    ensures { result ≡ is_serve (plan_of request.now) }
+fn is_threaded(request: &Request) -> bool
+    ensures { result ≡ is_threaded (plan_of request.now) }
 {
-    matches!(request, Request::Serve(..))
+    matches!(
+        request,
+        Request::Serve(..) | Request::Limited(..) | Request::Uci
+    )
 }
 
-/// Answers a request other than `serve`; gives whether anything was refused.
+/// Answers a request that starts no threads; gives whether anything was refused.
 fn answer<S: Source, O: Write, E: Write>(
     alloc: Global,
     request: &Request,
@@ -41,32 +45,44 @@ fn answer<S: Source, O: Write, E: Write>(
     out: &mut O,
     err: &mut E,
 ) -> Result<bool, Stop>
-    requires plain { is_serve (plan_of request.now) ≡ false }
-    ensures ok { IfOk result (λ refused. Gains (Shows (S.holds source.now) (plan_of request.now) refused) (O.contents out.old) (O.contents out.new)) }
-    ensures err { IfErr result (λ stop. Stops (S.holds source.now) (S.refuses source.now) (plan_of request.now) stop (O.contents out.old) (O.contents out.new)) }
+    requires plain { is_threaded (plan_of request.now) ≡ false }
+    ensures ok { IfOk result (λ refused. Shown (S.holds source.now) (plan_of request.now) refused (O.contents out.old) (O.contents out.new)) }
+    ensures err { IfErr result (λ stop. Stops (S.holds source.now) (S.refuses source.now) (plan_of request.now) stop
+        (O.contents out.old) (O.contents out.new)) }
 {
     match request {
         Request::Look(fen) => show_fen(alloc, FenCommand::Look, fen, out, err),
         Request::Board(fen, side) => show_fen(alloc, FenCommand::Board(*side), fen, out, err),
+        Request::Svg(fen) => show_fen(alloc, FenCommand::Svg, fen, out, err),
         Request::Play(fen, moves) => play_given(alloc, fen, *moves, out, err),
         Request::Moves(form, fen) => show_fen(alloc, FenCommand::Moves(*form), fen, out, err),
         Request::Perft(fen, depth) => show_fen(alloc, FenCommand::Perft(*depth), fen, out, err),
         Request::Divide(fen, depth) => show_fen(alloc, FenCommand::Divide(*depth), fen, out, err),
         Request::Lines(view, names) => show_lines(alloc, *view, names, source, out, err),
-        Request::Solve(bound, memo, names) => {
-            solve(alloc, *bound, *memo, names, source, out, err)
+        Request::Solve(bound, memo, files) => {
+            solve(alloc, *bound, *memo, files, source, out, err)
         }
-        Request::Verify(bound, memo, names) => {
-            verify(alloc, *bound, *memo, names, source, out, err)
+        Request::Verify(bound, memo, files) => {
+            verify(alloc, *bound, *memo, files, source, out, err)
         }
-        Request::Tree(bound, form, names) => tree(alloc, *bound, *form, names, source, out, err),
-        Request::Serve(..) => unreachable!(),
+        Request::Tree(bound, form, files) => tree(alloc, *bound, *form, files, source, out, err),
+        Request::Sheet(bound, size, form, title, names) => {
+            let asked = SheetAsked {
+                bound: *bound,
+                size: *size,
+                form: *form,
+                title,
+            };
+            sheet(alloc, &asked, names, source, out, err)
+        }
+        Request::Import(keep, names) => import(alloc, *keep, names, source, out, err),
+        Request::Serve(..) | Request::Limited(..) | Request::Uci => unreachable!(),
         Request::Replay(name) => replay(alloc, name, source, out, err),
         Request::Explain(code) => explain(alloc, *code, out, err),
     }
 }
 
-/// Answers what the words ask for, unless that is `serve`. Matches that ask for nothing are a misuse like any other: `clap` takes `--flip`
+/// Answers what the words ask for, unless that starts threads. Matches that ask for nothing are a misuse like any other: `clap` takes `--flip`
 /// alone.
 fn run<S: Source, O: Write, E: Write>(
     alloc: Global,
@@ -75,17 +91,18 @@ fn run<S: Source, O: Write, E: Write>(
     out: &mut O,
     err: &mut E,
 ) -> Option<u8>
-    ensures ends { IfSome result (λ status. Ends (S.holds source.now) (S.refuses source.now) (option_map plan_of request.now) status (O.contents out.old) (O.contents out.new)) }
+    ensures ends { IfSome result (λ status. Ends (S.holds source.now) (S.refuses source.now)
+        (option_map plan_of request.now) status (O.contents out.old) (O.contents out.new)) }
     ensures asked { IfSome result (λ status. status ≢ 2 → IsSome (option_map plan_of request.now)) }
-    ensures serve { IfNone result (asks_serve (option_map plan_of request.now) ≡ true) }
-    ensures plain { asks_serve (option_map plan_of request.now) ≡ true → IsNone result }
+    ensures threads { IfNone result (asks_threads (option_map plan_of request.now) ≡ true) }
+    ensures plain { asks_threads (option_map plan_of request.now) ≡ true → IsNone result }
     ensures kept { IfNone result ((out.new ≡ out.old) × (err.new ≡ err.old)) }
 {
     let Some(request) = request else {
         complain(err, "--flip goes with --board");
         return Some(MISUSED);
     };
-    if is_serve(request) {
+    if is_threaded(request) {
         return None;
     }
     let ended = answer(alloc, request, source, out, err);
@@ -126,7 +143,7 @@ fn usage<O: Write, E: Write>(error: &Error, out: &mut O, err: &mut E) -> u8
     }
 }
 
-/// Answers what the words ask for, of which the first is the program's own name, unless that is `serve`, which starts threads: then
+/// Answers what the words ask for, of which the first is the program's own name, unless that is `serve` or `uci`, which start threads: then
 /// nothing is written, and the answer is none. It reads files from `source`.
 ///
 /// A fault of `err` is passed over and changes no status.
@@ -137,11 +154,13 @@ pub fn plain_command<S: Source, O: Write, E: Write>(
     out: &mut O,
     err: &mut E,
 ) -> Option<u8>
-    ensures ends { IfSome result (λ status. Ends (S.holds source.now) (S.refuses source.now) (asked (map string_bytes words.now)) status (O.contents out.old) (O.contents out.new)) }
-    ensures display { IfSome result (λ status. (status ≡ 0) ⊎ (status ≡ 4) → asked (map string_bytes words.now) ≡ None → may_display (map string_bytes words.now) ≡ true) }
+    ensures ends { IfSome result (λ status. Ends (S.holds source.now) (S.refuses source.now)
+        (asked (map string_bytes words.now)) status (O.contents out.old) (O.contents out.new)) }
+    ensures display { IfSome result (λ status. (status ≡ 0) ⊎ (status ≡ 4) → asked (map string_bytes words.now) ≡ None
+        → may_display (map string_bytes words.now) ≡ true) }
     ensures no_misuse { IfSome result (λ status. status ≡ 2 → asks_display (map string_bytes words.now) ≡ false) }
-    ensures serve { IfNone result (asks_serve (asked (map string_bytes words.now)) ≡ true) }
-    ensures plain { asks_serve (asked (map string_bytes words.now)) ≡ true → IfSome result (λ status. status ≡ 3) }
+    ensures threads { IfNone result (asks_threads (asked (map string_bytes words.now)) ≡ true) }
+    ensures plain { asks_threads (asked (map string_bytes words.now)) ≡ true → IfSome result (λ status. status ≡ 3) }
     ensures kept { IfNone result ((out.new ≡ out.old) × (err.new ≡ err.old)) }
 {
     // What a `solve`, a `verify` or a `tree` has written for which memory is refused here.
@@ -158,7 +177,6 @@ pub fn plain_command<S: Source, O: Write, E: Write>(
 }
 
 /// How a command that ended with a status of `status_of` has ended. It does nothing: its contract is the law.
-#[tactic(auto, using(crate::proofs::Endings::ends_by_status))]
 pub fn ends_by_status<S: Source>(source: &S)
     ensures { EndsByStatus (S.holds source.now) (S.refuses source.now) }
 {}

@@ -117,7 +117,8 @@ pub fn explain<O: Write, E: Write>(
     err: &mut E,
 ) -> Result<bool, Stop>
     ensures ok { IfOk result (λ refused. Gains (Explains (option_map (λ s. s.now) code.entry) refused) (O.contents out.old) (O.contents out.new)) }
-    ensures err { IfErr result (λ stop. StopsShowing (Explains (option_map (λ s. s.now) code.entry) false) stop (O.contents out.old) (O.contents out.new)) }
+    ensures err { IfErr result (λ stop.
+        StopsShowing (Explains (option_map (λ s. s.now) code.entry) false) stop (O.contents out.old) (O.contents out.new)) }
 {
     let Some(text) = explained_text(alloc, code)? else {
         complain(err, "NoSuchFault");

@@ -357,8 +357,8 @@ files: `cat FILE.. | matedesk serve --workers 4 -`.",
     },
     Explanation {
         code: "NoThread",
-        comes: "`serve` could start no more threads",
-        means: "The system allows no more of them: `serve` with fewer files, or `solve`, which starts none.",
+        comes: "`serve`, `uci` or `solve --limit` could start no more threads",
+        means: "The system allows no more of them: `serve` with fewer files, or `solve` alone, which starts none.",
         example: None,
     },
     Explanation {
@@ -369,6 +369,40 @@ files: `cat FILE.. | matedesk serve --workers 4 -`.",
             faulty: "matedesk explain badkings",
             mended: "matedesk explain BadKings",
         }),
+    },
+];
+
+/// Of collections that are imported.
+static IMPORTS: [Explanation; 5] = [
+    Explanation {
+        code: "NoFen",
+        comes: "a game that is to be imported has no tag `FEN`",
+        means: "Only a game that begins from a position of its own is a problem. The line is that of its first tag.",
+        example: None,
+    },
+    Explanation {
+        code: "BadStipulation",
+        comes: "a problem for Popeye has no stipulation, or one that isn't `#N`",
+        means: "Direct mates alone are solved here; `h#2` or `s#3` are not.",
+        example: None,
+    },
+    Explanation {
+        code: "FairyCondition",
+        comes: "a problem for Popeye has a condition",
+        means: "Whatever stands behind `Condition` changes the rules of chess.",
+        example: None,
+    },
+    Explanation {
+        code: "FairyPiece",
+        comes: "a word of `Pieces`, or a letter of `Forsyth`, is no man of chess",
+        means: "Men are `K`, `Q`, `R`, `B`, `S` for the knight, and `P`, behind `White` or `Black`. `N` is the nightrider there.",
+        example: None,
+    },
+    Explanation {
+        code: "UnknownCommand",
+        comes: "a problem for Popeye has another command, or an option that changes the problem",
+        means: "Twins are not read, for one. Options that change only how it is solved or shown are passed over.",
+        example: None,
     },
 ];
 
@@ -400,8 +434,12 @@ fn sizes() -> &'static [Explanation] {
     &SIZES
 }
 
+fn imports() -> &'static [Explanation] {
+    &IMPORTS
+}
+
 /// All of them, group by group, so that no proof has the whole table before it.
-pub(crate) fn all() -> [&'static [Explanation]; 7] {
+pub(crate) fn all() -> [&'static [Explanation]; 8] {
     [
         fields(),
         men(),
@@ -410,5 +448,6 @@ pub(crate) fn all() -> [&'static [Explanation]; 7] {
         problems(),
         steps(),
         sizes(),
+        imports(),
     ]
 }

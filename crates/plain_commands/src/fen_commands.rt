@@ -15,6 +15,7 @@ use chess_views::{
     Columns, divided_text, look_board_text, look_text, moves_line, moves_text, perft_text,
 };
 use command_words::{Depth, MoveForm};
+use problem_sheets::svg_text;
 use std::alloc::{AllocError, Global};
 use std::io::Write;
 
@@ -25,6 +26,8 @@ pub enum FenCommand {
     Look,
     /// The same, with the board as it is seen from a side.
     Board(Colour),
+    /// The board as an image.
+    Svg,
     /// The legal moves in such a form, or how the game has ended where there is none.
     Moves(MoveForm),
     /// The same in SAN on one line.
@@ -73,6 +76,7 @@ pub(crate) fn shown_text(
     match command {
         FenCommand::Look => look_text(alloc, fen),
         FenCommand::Board(side) => look_board_text(alloc, fen, side),
+        FenCommand::Svg => svg_text(alloc, &fen.position),
         FenCommand::Moves(form) => moves_text(alloc, rays, fen, columns_of(form)),
         FenCommand::MovesLine => moves_line(alloc, rays, fen),
         FenCommand::Perft(depth) => perft_text(alloc, rays, fen, depth.get()),

@@ -5,11 +5,12 @@ ghost use Rattle.std.specs.Io.KnownBytes.{Appends};
 ghost use Rattle.byte_streams.specs.Inputs.{MayBe};
 ghost use Rattle.byte_streams.specs.Stops.{AppendsBy};
 ghost use Rattle.plain_commands.specs.Writing.{Gains};
-ghost use Rattle.plain_commands.specs.FileAnswers.{Answers, StopsAnswering};
+ghost use Rattle.plain_commands.specs.FileAnswers.{Answers, FileReplies, FirstReplies, StopsAnswering};
 
 use crate::sources::{Source, holds_reads};
 use crate::writing::complain_unreadable;
 use byte_streams::{Input, Stop};
+use command_words::{Files, LineNumber};
 use std::alloc::Global;
 use std::io::Write;
 
@@ -18,73 +19,85 @@ pub(crate) trait FileAnswers {
     /// What is kept from line to line.
     type Memory;
 
-    /// What the file of a name with such an input is answered, and how many of its lines are refused.
-    ghost replies: { Self → List ℕ → List ℕ → List ℕ → ℕ → Type 0 };
+    /// What the file of a name with such an input is answered from the line of a number on, and how many of its lines are refused.
+    ghost replies: { Self → FileReplies };
 
     /// What some of the first lines of it are answered.
-    ghost first: { Self → List ℕ → List ℕ → List ℕ → Type 0 };
+    ghost first: { Self → FirstReplies };
 
-    /// Answers each line of a file of this name, before it reads on for the next; gives how many lines are refused.
+    /// Answers each line of a file of this name from that of a number on, before it reads on for the next; gives how many lines are refused.
     fn answer<I: Input + Drop, O: Write>(
         &self,
         alloc: Global,
+        from: LineNumber,
         name: &str,
         input: I,
         memory: &mut Self::Memory,
         out: &mut O,
     ) -> Result<usize, Stop>
-        ensures ok { IfOk result (λ count. (bytes : List ℕ) × (text : List ℕ) × MayBe (I.left input) bytes × replies self.now name.now bytes text count
+        ensures ok { IfOk result (λ count. (bytes : List ℕ) × (text : List ℕ) × MayBe (I.left input) bytes
+            × replies self.now from name.now bytes text count
             × Appends (O.contents out.old) (O.contents out.new) text) }
-        ensures err { IfErr result (λ stop. (bytes : List ℕ) × (text : List ℕ) × MayBe (I.left input) bytes × first self.now name.now bytes text
+        ensures err { IfErr result (λ stop. (bytes : List ℕ) × (text : List ℕ) × MayBe (I.left input) bytes × first self.now from name.now bytes text
             × AppendsBy stop (O.contents out.old) (O.contents out.new) text) }
         ensures unreadable { IfErr result (λ stop. stop ≡ Stop.Unreadable → I.breaks input) };
 
     /// No line is answered with nothing. It does nothing: its contract is the law.
     fn begins_with_nothing(&self)
-        ensures { (name input : List ℕ) → first self.now name input [] };
+        ensures { (from : ℕ) (name input : List ℕ) → first self.now from name input [] };
 }
 
-/// Answers the file of a name; gives how many of its lines are refused.
+/// Answers the file of a name from the line of a number on; gives how many of its lines are refused.
 fn answer_file<A: FileAnswers, S: Source, O: Write>(
     alloc: Global,
     answers: &A,
+    from: LineNumber,
     name: &str,
     source: &S,
     memory: &mut A::Memory,
     out: &mut O,
 ) -> Result<usize, Stop>
-    ensures ok { IfOk result (λ count. (input : List ℕ) × (text : List ℕ) × MayBe (S.holds source.now name.now) input × A.replies answers.now name.now input text count
+    ensures ok { IfOk result (λ count. (input : List ℕ) × (text : List ℕ) × MayBe (S.holds source.now name.now) input
+        × A.replies answers.now from name.now input text count
         × Appends (O.contents out.old) (O.contents out.new) text) }
-    ensures err { IfErr result (λ stop. (input : List ℕ) × (text : List ℕ) × MayBe (S.holds source.now name.now) input × A.first answers.now name.now input text
+    ensures err { IfErr result (λ stop. (input : List ℕ) × (text : List ℕ) × MayBe (S.holds source.now name.now) input
+        × A.first answers.now from name.now input text
         × AppendsBy stop (O.contents out.old) (O.contents out.new) text) }
     ensures unreadable { IfErr result (λ stop. stop ≡ Stop.Unreadable → S.refuses source.now name.now) }
 {
     // What a file that can't be opened is answered.
     answers.begins_with_nothing();
     let file = source.open(alloc, name)?;
-    answers.answer(alloc, name, file, memory, out)
+    answers.answer(alloc, from, name, file, memory, out)
 }
 
-/// Answers each line of each file in order, and opens a file only after the answers to those before were written; gives whether a
-/// line was refused. A file that can't be read is named on `err`.
+/// Answers each line of each file in order, but those of the first file that are passed over, and opens a file only after the answers to
+/// those before were written; gives whether a line was refused. A file that can't be read is named on `err`.
 pub(crate) fn answer_files<A: FileAnswers, S: Source, O: Write, E: Write>(
     alloc: Global,
     answers: &A,
-    names: &[&str],
+    files: &Files,
     source: &S,
     memory: &mut A::Memory,
     out: &mut O,
     err: &mut E,
 ) -> Result<bool, Stop>
-    ensures ok { IfOk result (λ refused. Gains (Answers (S.holds source.now) (A.replies answers.now) (map (λ s. s.now) names.now) refused) (O.contents out.old) (O.contents out.new)) }
-    ensures err { IfErr result (λ stop. StopsAnswering (S.holds source.now) (S.refuses source.now) (A.replies answers.now) (A.first answers.now) (map (λ s. s.now) names.now) stop (O.contents out.old) (O.contents out.new)) }
+    ensures ok { IfOk result (λ refused. Gains (Answers (S.holds source.now) (A.replies answers.now) files.now.from
+        (map (λ s. s.now) files.now.names.now) refused) (O.contents out.old) (O.contents out.new)) }
+    ensures err { IfErr result
+        (λ stop. StopsAnswering (S.holds source.now) (S.refuses source.now) (A.replies answers.now) (A.first answers.now)
+        files.now.from (map (λ s. s.now) files.now.names.now) stop (O.contents out.old) (O.contents out.new)) }
 {
     // How the files that are answered so far go on with the next.
     holds_reads();
     let mut refused = false;
-    for name in names {
-        match answer_file(alloc, answers, name, source, memory, out) {
-            Ok(count) => refused |= count > 0,
+    let mut from = files.from;
+    for name in files.names {
+        match answer_file(alloc, answers, from, name, source, memory, out) {
+            Ok(count) => {
+                refused |= count > 0;
+                from = LineNumber::first();
+            }
             Err(stop) => {
                 if stop == Stop::Unreadable {
                     complain_unreadable(err, name);

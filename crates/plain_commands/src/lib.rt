@@ -5,7 +5,8 @@
 //! What the words of a command line ask for is the business of `command_words`, and what is answered that of the crates of chess and of the
 //! desk. To read: `answering`, where the contract of `plain_command` says how each command ends; `sources` (a `Source` is the files that a
 //! command may read) and `files` (those of the system), `writing`, `status`; then `fen_commands` and `playing`; `solving`, over `file_answers`
-//! (each line of each file), `verifying`, `telling` and `position_answers` likewise, and `outputs`, which were made elsewhere; `replaying`,
+//! (each line of each file) and `lines_from` (from one on), `limited_solving`, `verifying`, `telling`, `importing` and `position_answers`
+//! likewise; `sheeting`, and `outputs`, which were made elsewhere; `replaying`,
 //! over `scripts` (a text to a script), `script_lines` (its lines), `script_desk` and `script_steps` (what a line says), `script_words`; and
 //! `explaining`, over `explanations`.
 #![tactic(auto)]
@@ -16,6 +17,9 @@ mod explanations;
 mod fen_commands;
 mod file_answers;
 mod files;
+mod importing;
+mod limited_solving;
+mod lines_from;
 mod outputs;
 mod playing;
 mod position_answers;
@@ -25,6 +29,7 @@ mod script_lines;
 mod script_steps;
 mod script_words;
 mod scripts;
+mod sheeting;
 mod solving;
 mod sources;
 mod status;
@@ -37,11 +42,13 @@ pub use explaining::explain;
 pub use explanations::{Example, Explanation};
 pub use fen_commands::{FenCommand, show_fen};
 pub use files::{FileSystem, Reading, Stream};
+pub use limited_solving::{limited_none, solve_limited};
 pub use outputs::put_outputs;
 pub use playing::play_moves;
 pub use position_answers::show_lines;
 pub use replaying::replay;
 pub use scripts::{Script, ScriptFault, read_script};
+pub use sheeting::{SheetAsked, sheet};
 pub use solving::{new_memo, solve, solves_none};
 pub use sources::{Source, SourceFault, holds_reads, read_file, read_files, whole};
 pub use status::{ANSWERED, MISUSED, NO_THREAD, no_memory, status_of};

@@ -11,7 +11,8 @@ use std::io::Write;
 
 /// Writes outputs, one after the other; gives whether a line was refused.
 pub fn put_outputs<O: Write>(out: &mut O, outputs: &[Output]) -> Result<bool, Stop>
-    ensures ok { IfOk result (λ refused. (refused ≡ nat_lt 0 (sum_by (λ o. o.refused) outputs.now)) × Appends (O.contents out.old) (O.contents out.new) (flat_map (λ o. o.text.items) outputs.now)) }
+    ensures ok { IfOk result (λ refused. (refused ≡ nat_lt 0 (sum_by (λ o. o.refused) outputs.now))
+        × Appends (O.contents out.old) (O.contents out.new) (flat_map (λ o. o.text.items) outputs.now)) }
     ensures err { IfErr result (λ stop. is_of_output stop ≡ true) }
     ensures part { OnErr result (AppendsPart (O.contents out.old) (O.contents out.new) (flat_map (λ o. o.text.items) outputs.now)) }
 {

@@ -39,7 +39,8 @@ pub fn play_moves<O: Write, E: Write>(
     err: &mut E,
 ) -> Result<bool, Stop>
     ensures ok { IfOk result (λ refused. Gains (ShowsPlay fen.now (map (λ s. s.now) words.now) refused) (O.contents out.old) (O.contents out.new)) }
-    ensures err { IfErr result (λ stop. StopsShowing (ShowsPlay fen.now (map (λ s. s.now) words.now) false) stop (O.contents out.old) (O.contents out.new)) }
+    ensures err { IfErr result (λ stop.
+        StopsShowing (ShowsPlay fen.now (map (λ s. s.now) words.now) false) stop (O.contents out.old) (O.contents out.new)) }
 {
     let text = line_fen(alloc, fen.as_bytes())?;
     let Some(fen) = read(text.as_slice(), err) else {
@@ -61,8 +62,10 @@ pub(crate) fn play_given<O: Write, E: Write>(
     out: &mut O,
     err: &mut E,
 ) -> Result<bool, Stop>
-    ensures ok { IfOk result (λ refused. Gains (ShowsPlay fen.now (unwrap_or (option_map (λ names. map (λ s. s.now) names.now) moves.entry) []) refused) (O.contents out.old) (O.contents out.new)) }
-    ensures err { IfErr result (λ stop. StopsShowing (ShowsPlay fen.now (unwrap_or (option_map (λ names. map (λ s. s.now) names.now) moves.entry) []) false) stop (O.contents out.old) (O.contents out.new)) }
+    ensures ok { IfOk result (λ refused. Gains (ShowsPlay fen.now (unwrap_or
+        (option_map (λ names. map (λ s. s.now) names.now) moves.entry) []) refused) (O.contents out.old) (O.contents out.new)) }
+    ensures err { IfErr result (λ stop. StopsShowing (ShowsPlay fen.now (unwrap_or (option_map
+        (λ names. map (λ s. s.now) names.now) moves.entry) []) false) stop (O.contents out.old) (O.contents out.new)) }
 {
     match moves {
         Some(moves) => play_moves(alloc, fen, moves, out, err),

@@ -10,7 +10,7 @@ use crate::sources::Source;
 use byte_streams::{Input, Stop};
 use chess_board::{Colour, Fen};
 use chess_moves::Rays;
-use command_words::LineView;
+use command_words::{Files, LineNumber, LineView};
 use position_lines::{FenView, answer_positions};
 use std::alloc::{AllocError, Global};
 use std::io::Write;
@@ -44,6 +44,7 @@ impl FileAnswers for PositionAnswers<'_> {
     fn answer<I: Input + Drop, O: Write>(
         &self,
         alloc: Global,
+        _from: LineNumber,
         _name: &str,
         input: I,
         _memory: &mut (),
@@ -52,7 +53,6 @@ impl FileAnswers for PositionAnswers<'_> {
         answer_positions(alloc, self, input, out)
     }
 
-    #[tactic(auto, using(crate::proofs::Unopened::no_position_reply))]
     fn begins_with_nothing(&self) {}
 }
 
@@ -78,13 +78,19 @@ pub fn show_lines<S: Source, O: Write, E: Write>(
     out: &mut O,
     err: &mut E,
 ) -> Result<bool, Stop>
-    ensures ok { IfOk result (λ refused. Gains (ShowsLines (S.holds source.now) (command_of view) (map (λ s. s.now) names.now) refused) (O.contents out.old) (O.contents out.new)) }
-    ensures err { IfErr result (λ stop. StopsLines (S.holds source.now) (S.refuses source.now) (command_of view) (map (λ s. s.now) names.now) stop (O.contents out.old) (O.contents out.new)) }
+    ensures ok { IfOk result (λ refused. Gains (ShowsLines (S.holds source.now) (command_of view)
+        (map (λ s. s.now) names.now) refused) (O.contents out.old) (O.contents out.new)) }
+    ensures err { IfErr result (λ stop. StopsLines (S.holds source.now) (S.refuses source.now) (command_of view)
+        (map (λ s. s.now) names.now) stop (O.contents out.old) (O.contents out.new)) }
 {
     let rays = Rays::new();
     let answers = PositionAnswers {
         rays: &rays,
         command: command_of(view),
     };
-    answer_files(alloc, &answers, names, source, &mut (), out, err)
+    let files = Files {
+        names,
+        from: LineNumber::first(),
+    };
+    answer_files(alloc, &answers, &files, source, &mut (), out, err)
 }

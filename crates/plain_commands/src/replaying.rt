@@ -98,7 +98,8 @@ pub fn replay<S: Source, O: Write, E: Write>(
     err: &mut E,
 ) -> Result<bool, Stop>
     ensures ok { IfOk result (λ refused. Gains (ReplaysFile (S.holds source.now name.now) refused) (O.contents out.old) (O.contents out.new)) }
-    ensures err { IfErr result (λ stop. StopsReplaying (S.holds source.now name.now) (S.refuses source.now name.now) stop (O.contents out.old) (O.contents out.new)) }
+    ensures err { IfErr result (λ stop. StopsReplaying (S.holds source.now name.now) (S.refuses source.now name.now) stop
+        (O.contents out.old) (O.contents out.new)) }
 {
     let script = read_file(alloc, name, source, err)?;
     let Some(text) = replay_text(alloc, script.as_slice(), err)? else {

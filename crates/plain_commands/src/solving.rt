@@ -5,12 +5,13 @@ ghost use Rattle.plain_commands.specs.Writing.{Gains};
 ghost use Rattle.plain_commands.specs.Solved.{Solves, SolvesNone, StopsSolving};
 
 use crate::file_answers::{FileAnswers, answer_files};
+use crate::lines_from::answer_lines_from;
 use crate::sources::Source;
 use byte_streams::{Input, Stop};
 use chess_moves::Rays;
 use chess_problems::Bound;
-use command_words::MemoSize;
-use mate_answers::answer_input;
+use command_words::{Files, LineNumber, MemoSize};
+use mate_answers::Answers;
 use mate_search::{Memo, MemoFault};
 use std::alloc::Global;
 use std::io::Write;
@@ -47,36 +48,43 @@ impl<'a> FileAnswers for RecordAnswers<'a> {
     fn answer<I: Input + Drop, O: Write>(
         &self,
         alloc: Global,
+        from: LineNumber,
         _name: &str,
         input: I,
         memo: &mut Memo,
         out: &mut O,
     ) -> Result<usize, Stop> {
-        answer_input(alloc, self.rays, input, self.bound, memo, out)
+        let answers = Answers {
+            rays: self.rays,
+            default: self.bound,
+        };
+        answer_lines_from(alloc, &answers, from, input, memo, out)
     }
 
     #[tactic(auto, using(crate::proofs::Unopened::no_record_reply))]
     fn begins_with_nothing(&self) {}
 }
 
-/// Answers each line of each file in order, over one memo of such a size, and opens a file only after the answers to those before
-/// were written; gives whether a line was refused. A file that can't be read is named on `err`.
+/// Answers each line of each file in order, but those of the first file that are passed over, over one memo of such a size, and opens a
+/// file only after the answers to those before were written; gives whether a line was refused. A file that can't be read is named on `err`.
 pub fn solve<S: Source, O: Write, E: Write>(
     alloc: Global,
     bound: Bound,
     size: MemoSize,
-    names: &[&str],
+    files: &Files,
     source: &S,
     out: &mut O,
     err: &mut E,
 ) -> Result<bool, Stop>
-    ensures ok { IfOk result (λ refused. Gains (Solves (S.holds source.now) bound (map (λ s. s.now) names.now) refused) (O.contents out.old) (O.contents out.new)) }
-    ensures err { IfErr result (λ stop. StopsSolving (S.holds source.now) (S.refuses source.now) bound (map (λ s. s.now) names.now) stop (O.contents out.old) (O.contents out.new)) }
+    ensures ok { IfOk result (λ refused. Gains (Solves (S.holds source.now) bound files.now.from
+        (map (λ s. s.now) files.now.names.now) refused) (O.contents out.old) (O.contents out.new)) }
+    ensures err { IfErr result (λ stop. StopsSolving (S.holds source.now) (S.refuses source.now) bound files.now.from
+        (map (λ s. s.now) files.now.names.now) stop (O.contents out.old) (O.contents out.new)) }
 {
     let rays = Rays::new();
     let mut memo = new_memo(alloc, size.get() as usize)?;
     let answers = RecordAnswers { rays: &rays, bound };
-    answer_files(alloc, &answers, names, source, &mut memo, out, err)
+    answer_files(alloc, &answers, files, source, &mut memo, out, err)
 }
 
 /// What a `solve` that ends before it has opened a file has written. It does nothing: its contract is the law.

@@ -85,7 +85,8 @@ pub fn read_files<S: Source, E: Write>(
 ) -> Result<Vec<Vec<u8>>, Stop>
     ensures count { IfOk result (λ files. length files.items ≡ length names.now) }
     ensures bytes { IfOk result (λ files. Holds (S.holds source.now) (map (λ s. s.now) names.now) (map (λ bytes. bytes.items) files.items)) }
-    ensures refused { IfErr result (λ stop. (stop ≡ Stop.NoMemory) ⊎ ((stop ≡ Stop.Unreadable) × SomeRefused (S.refuses source.now) (map (λ s. s.now) names.now))) }
+    ensures refused { IfErr result (λ stop. (stop ≡ Stop.NoMemory)
+        ⊎ ((stop ≡ Stop.Unreadable) × SomeRefused (S.refuses source.now) (map (λ s. s.now) names.now))) }
 {
     let mut files = Vec::new(alloc);
     for name in names {

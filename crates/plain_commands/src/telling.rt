@@ -5,14 +5,15 @@ ghost use Rattle.plain_commands.specs.Writing.{Gains};
 ghost use Rattle.plain_commands.specs.Told.{StopsTelling, Tells, TellsNone, tree_form_of};
 
 use crate::file_answers::{FileAnswers, answer_files};
+use crate::lines_from::answer_lines_from;
 use crate::solving::new_memo;
 use crate::sources::Source;
 use byte_streams::{Input, Stop};
 use chess_moves::Rays;
 use chess_problems::Bound;
-use command_words::TreeForm;
+use command_words::{Files, LineNumber, TreeForm};
 use mate_search::Memo;
-use mate_tree::{Form, TreeReplies, tree_input};
+use mate_tree::{Form, TreeReplies};
 use std::alloc::Global;
 use std::io::Write;
 
@@ -51,6 +52,7 @@ impl<'a> FileAnswers for TreeAnswers<'a> {
     fn answer<I: Input + Drop, O: Write>(
         &self,
         alloc: Global,
+        from: LineNumber,
         _name: &str,
         input: I,
         memo: &mut Memo,
@@ -61,26 +63,28 @@ impl<'a> FileAnswers for TreeAnswers<'a> {
             default: self.bound,
             form: form_of(&self.form),
         };
-        tree_input(alloc, &trees, input, memo, out)
+        answer_lines_from(alloc, &trees, from, input, memo, out)
     }
 
     #[tactic(auto, using(crate::proofs::Unopened::no_tree_reply))]
     fn begins_with_nothing(&self) {}
 }
 
-/// Tells the tree of each record of each file in order, over one memo, and opens a file only after the trees of those before were
-/// written; gives whether a line was refused. A file that can't be read is named on `err`.
+/// Tells the tree of each record of each file in order, but of those of the first file that are passed over, over one memo, and opens a
+/// file only after the trees of those before were written; gives whether a line was refused. A file that can't be read is named on `err`.
 pub fn tree<S: Source, O: Write, E: Write>(
     alloc: Global,
     bound: Bound,
     form: TreeForm,
-    names: &[&str],
+    files: &Files,
     source: &S,
     out: &mut O,
     err: &mut E,
 ) -> Result<bool, Stop>
-    ensures ok { IfOk result (λ refused. Gains (Tells (S.holds source.now) bound form (map (λ s. s.now) names.now) refused) (O.contents out.old) (O.contents out.new)) }
-    ensures err { IfErr result (λ stop. StopsTelling (S.holds source.now) (S.refuses source.now) bound form (map (λ s. s.now) names.now) stop (O.contents out.old) (O.contents out.new)) }
+    ensures ok { IfOk result (λ refused. Gains (Tells (S.holds source.now) bound form files.now.from
+        (map (λ s. s.now) files.now.names.now) refused) (O.contents out.old) (O.contents out.new)) }
+    ensures err { IfErr result (λ stop. StopsTelling (S.holds source.now) (S.refuses source.now) bound form files.now.from
+        (map (λ s. s.now) files.now.names.now) stop (O.contents out.old) (O.contents out.new)) }
 {
     let rays = Rays::new();
     let mut memo = new_memo(alloc, ENTRIES)?;
@@ -89,7 +93,7 @@ pub fn tree<S: Source, O: Write, E: Write>(
         bound,
         form,
     };
-    answer_files(alloc, &answers, names, source, &mut memo, out, err)
+    answer_files(alloc, &answers, files, source, &mut memo, out, err)
 }
 
 /// What a `tree` that ends before it has opened a file has written. It does nothing: its contract is the law.

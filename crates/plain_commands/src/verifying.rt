@@ -5,14 +5,15 @@ ghost use Rattle.plain_commands.specs.Writing.{Gains};
 ghost use Rattle.plain_commands.specs.Verified.{StopsVerifying, Verifies, VerifiesNone, has_several, prefix_of};
 
 use crate::file_answers::{FileAnswers, answer_files};
+use crate::lines_from::answer_lines_from;
 use crate::solving::new_memo;
 use crate::sources::{Source, holds_reads};
 use crate::writing::complain;
 use byte_streams::{Input, Stop};
 use chess_moves::Rays;
 use chess_problems::Bound;
-use command_words::MemoSize;
-use mate_claims::{ClaimMemory, ClaimRows, Counts, claim_input};
+use command_words::{Files, LineNumber, MemoSize};
+use mate_claims::{ClaimMemory, ClaimRows, Counts};
 use std::alloc::{AllocError, Global};
 use std::io::Write;
 
@@ -49,6 +50,7 @@ impl<'a> FileAnswers for ClaimAnswers<'a> {
     fn answer<I: Input + Drop, O: Write>(
         &self,
         alloc: Global,
+        from: LineNumber,
         name: &str,
         input: I,
         memory: &mut ClaimMemory,
@@ -60,26 +62,32 @@ impl<'a> FileAnswers for ClaimAnswers<'a> {
             default: self.bound,
             prefix: prefix.as_slice(),
         };
-        claim_input(alloc, &rows, input, memory, out)
+        let before = memory.counts.not_sound();
+        let unsound = answer_lines_from(alloc, &rows, from, input, memory, out)?;
+        memory.count_unread(before, unsound);
+        Ok(unsound)
     }
 
     #[tactic(auto, using(crate::proofs::Unopened::no_claim_reply))]
     fn begins_with_nothing(&self) {}
 }
 
-/// Holds each record of each file, in order, against its claims, over one memo of such a size; gives whether a line isn't sound. At the
-/// end `err` is told how many lines came to which verdict; a file that can't be read is named there.
+/// Holds each record of each file, in order, but those of the first file that are passed over, against its claims, over one memo of such a
+/// size; gives whether a line isn't sound. At the end `err` is told how many lines came to which verdict; a file that can't be read is named
+/// there.
 pub fn verify<S: Source, O: Write, E: Write>(
     alloc: Global,
     bound: Bound,
     size: MemoSize,
-    names: &[&str],
+    files: &Files,
     source: &S,
     out: &mut O,
     err: &mut E,
 ) -> Result<bool, Stop>
-    ensures ok { IfOk result (λ refused. Gains (Verifies (S.holds source.now) bound (map (λ s. s.now) names.now) refused) (O.contents out.old) (O.contents out.new)) }
-    ensures err { IfErr result (λ stop. StopsVerifying (S.holds source.now) (S.refuses source.now) bound (map (λ s. s.now) names.now) stop (O.contents out.old) (O.contents out.new)) }
+    ensures ok { IfOk result (λ refused. Gains (Verifies (S.holds source.now) bound files.now.from
+        (map (λ s. s.now) files.now.names.now) refused) (O.contents out.old) (O.contents out.new)) }
+    ensures err { IfErr result (λ stop. StopsVerifying (S.holds source.now) (S.refuses source.now) bound files.now.from
+        (map (λ s. s.now) files.now.names.now) stop (O.contents out.old) (O.contents out.new)) }
 {
     // How many inputs there are of so many names.
     holds_reads();
@@ -92,9 +100,9 @@ pub fn verify<S: Source, O: Write, E: Write>(
     let answers = ClaimAnswers {
         rays: &rays,
         bound,
-        several: names.len() > 1,
+        several: files.names.len() > 1,
     };
-    match answer_files(alloc, &answers, names, source, &mut memory, out, err) {
+    match answer_files(alloc, &answers, files, source, &mut memory, out, err) {
         Ok(unsound) => {
             let counts = memory.counts.text(alloc)?;
             complain(err, counts.as_str());

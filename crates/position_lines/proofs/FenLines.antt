@@ -1,5 +1,6 @@
 -- The line of a FEN says that FEN.
-use Rattle.std.proofs.Common.{◌≡◌, ◌≢◌, ◌∙◌, ◌==◌, ◌<◌, ℕ, Bool, true, false, List, [], ◌∷◌, ◌++◌, Option, None, Some, length, refl, ap, sym, subst, arith, inl, inr, slice_index_or, append_assoc, append-nil}
+use Rattle.std.proofs.Common.{◌≡◌, ◌≢◌, ◌∙◌, ◌==◌, ◌<◌, ℕ, Bool, true, false, List, [], ◌∷◌, ◌++◌, Option, None, Some}
+use Rattle.std.proofs.Common.{length, refl, ap, sym, subst, arith, inl, inr, slice_index_or, append_assoc, append-nil}
 use Rattle.std.proofs.lemmas.Bool.{eqb-true, le-leb}
 use Rattle.std.proofs.lemmas.List.Elements.{All-head}
 use Rattle.std.specs.List.{onto_first}
@@ -27,7 +28,8 @@ parts_front : (text : List ℕ) → parts text ≡ front_word text ∷ parts_beh
 parts_front [] = refl
 parts_front (b ∷ bs) = parts_front_at (b == 32) b bs refl (parts_front bs)
 
-word_split_at : (space : Bool) (b : ℕ) (bs : List ℕ) → (b == 32) ≡ space → bs ≡ front_word bs ++ after_word bs → b ∷ bs ≡ front_word (b ∷ bs) ++ after_word (b ∷ bs)
+word_split_at : (space : Bool) (b : ℕ) (bs : List ℕ) → (b == 32) ≡ space → bs ≡ front_word bs ++ after_word bs
+    → b ∷ bs ≡ front_word (b ∷ bs) ++ after_word (b ∷ bs)
 word_split_at true b bs s rest = rw s refl
 word_split_at false b bs s rest = rw s (ap (λ t. b ∷ t) rest)
 
@@ -59,7 +61,8 @@ pub record Next (text first : List ℕ) (others : List (List ℕ)) : Type 0 wher
   pub whole : text ≡ first ++ 32 ∷ rest
   pub split : parts rest ≡ others
 
-next_at : (text first second : List ℕ) (more : List (List ℕ)) (after : List ℕ) → front_word text ≡ first → first ≢ [] → after_word text ≡ after → IsApart after
+next_at : (text first second : List ℕ) (more : List (List ℕ)) (after : List ℕ) → front_word text ≡ first → first ≢ []
+    → after_word text ≡ after → IsApart after
     → parts_behind after ≡ second ∷ more → Next text first (second ∷ more)
 unfolding word_at behind
 next_at text first second more [] front some is space split = let no : [] ≡ second ∷ more = split in cc
@@ -80,7 +83,8 @@ next text first second more some cut =
     let others : parts_behind (after_word text) ≡ second ∷ more = cc in
     next_at text first second more (after_word text) front some refl (apart text) others
 
-last_at : (text first after : List ℕ) → front_word text ≡ first → first ≢ [] → after_word text ≡ after → parts_behind after ≡ [] → (word_at text ≡ first) × (text ≡ first)
+last_at : (text first after : List ℕ) → front_word text ≡ first → first ≢ [] → after_word text ≡ after → parts_behind after ≡ []
+    → (word_at text ≡ first) × (text ≡ first)
 unfolding word_at
 last_at text first [] front some is ended =
     let solid_text = solid text (subst (λ w. w ≢ []) (sym front) some) in
@@ -113,7 +117,8 @@ filled [] some = absurd (some refl)
 filled (b ∷ bs) some = refl
 
 -- Six words, each but the last with one space behind it, of which the fifth is a counter.
-six_words : (text a b c d e f : List ℕ) → a ≢ [] → b ≢ [] → c ≢ [] → d ≢ [] → e ≢ [] → f ≢ [] → begins_with_digit e ≡ true → parts text ≡ a ∷ b ∷ c ∷ d ∷ e ∷ f ∷ []
+six_words : (text a b c d e f : List ℕ) → a ≢ [] → b ≢ [] → c ≢ [] → d ≢ [] → e ≢ [] → f ≢ [] → begins_with_digit e ≡ true
+    → parts text ≡ a ∷ b ∷ c ∷ d ∷ e ∷ f ∷ []
     → line_fen text ≡ text
 unfolding line_fen line_fields fourth_word behind_fields counters_text
 six_words text a b c d e f a_some b_some c_some d_some e_some f_some digit cut =
@@ -134,7 +139,8 @@ six_words text a b c d e f a_some b_some c_some d_some e_some f_some digit cut =
     let w6 : word_at (behind (behind (behind (behind (behind text))))) ≡ f = ap word_at b5 ∙ word_behind n5.rest ∙ n6.0 in
     let joined : spaced a ++ spaced b ++ spaced c ++ spaced d ++ (spaced e ++ f) ≡ text =
     onto_last (spaced a) (spaced b) (spaced c) (spaced d) (spaced e ++ f)
-    ∙ spaced_onto a _ _ (spaced_onto b _ _ (spaced_onto c _ _ (spaced_onto d _ _ (spaced_onto e _ _ (sym n6.1) ∙ sym n5.whole) ∙ sym n4.whole) ∙ sym n3.whole) ∙ sym n2.whole)
+    ∙ spaced_onto a _ _ (spaced_onto b _ _ (spaced_onto c _ _
+    (spaced_onto d _ _ (spaced_onto e _ _ (sym n6.1) ∙ sym n5.whole) ∙ sym n4.whole) ∙ sym n3.whole) ∙ sym n2.whole)
     ∙ sym n1.whole in
     rw (n1.word, w2, w3, w4, w5, w6, filled d d_some, digit) joined
 
@@ -174,7 +180,8 @@ counter_digit (b ∷ bs) (long, few, digits) =
     rw (le-leb 48 b first.0, le-leb b 57 first.1) refl
 
 six_parts : (xs : List (List ℕ)) → length xs ≡ 6
-    → xs ≡ slice_index_or xs 0 [] ∷ slice_index_or xs 1 [] ∷ slice_index_or xs 2 [] ∷ slice_index_or xs 3 [] ∷ slice_index_or xs 4 [] ∷ slice_index_or xs 5 [] ∷ []
+    → xs ≡ slice_index_or xs 0 [] ∷ slice_index_or xs 1 [] ∷ slice_index_or xs 2 [] ∷ slice_index_or xs 3 []
+    ∷ slice_index_or xs 4 [] ∷ slice_index_or xs 5 [] ∷ []
 six_parts [] six = absurd (omega (arith, six))
 six_parts (a ∷ []) six = absurd (omega (arith, six))
 six_parts (a ∷ b ∷ []) six = absurd (omega (arith, six))
@@ -188,6 +195,8 @@ pub fens_read : FensRead
 fens_read text v spells =
     let fields = spells.position in
     six_words text (part text 0) (part text 1) (part text 2) (part text 3) (part text 4) (part text 5)
-    (placement_some (part text 0) v.position.men fields.placement) (side_some (part text 1) v.position.side fields.side) (castling_some (part text 2) fields.castling.0)
-    (target_some (part text 3) v.position.target fields.target.1) (long_some (part text 4) spells.halfmove.0.0) (long_some (part text 5) spells.fullmove.0.0)
+    (placement_some (part text 0) v.position.men fields.placement) (side_some (part text 1) v.position.side fields.side)
+    (castling_some (part text 2) fields.castling.0)
+    (target_some (part text 3) v.position.target fields.target.1) (long_some (part text 4) spells.halfmove.0.0)
+    (long_some (part text 5) spells.fullmove.0.0)
     (counter_digit (part text 4) spells.halfmove.0) (six_parts (parts text) spells.six)

@@ -9,9 +9,11 @@ use Rattle.text_lines.specs.Refusals.{fault_line}
 use Rattle.position_lines.specs.LineFens.{line_fen}
 use Rattle.position_lines.specs.PositionReplies.{IsPositionReply, refused, too_long}
 
-pub reply_refused : {X E : Type 0} (shown : FenValue → List ℕ) (number : ℕ) (line : List ℕ) (f : FenFault) (text : X → List ℕ) (count : X → ℕ) (r : Result X E)
+pub reply_refused : {X E : Type 0} (shown : FenValue → List ℕ) (number : ℕ) (line : List ℕ) (f : FenFault)
+    (text : X → List ℕ) (count : X → ℕ) (r : Result X E)
     → is_blank line ≡ false → length line ≤ max_line → IsFault (line_fen line) f
-    → IfOk r (λ x. text x ≡ fault_line number (fault.Fen f)) → IfOk r (λ x. count x ≡ 1) → IfOk r (λ x. IsPositionReply shown number line (text x) (count x))
+    → IfOk r (λ x. text x ≡ fault_line number (fault.Fen f)) → IfOk r (λ x. count x ≡ 1)
+    → IfOk r (λ x. IsPositionReply shown number line (text x) (count x))
 reply_refused shown number line f text count (Ok x) filled short first is one = rw (is, one) (refused f filled short first)
 reply_refused shown number line f text count (Err e) filled short first is one = tt
 

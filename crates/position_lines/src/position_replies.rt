@@ -77,9 +77,11 @@ pub fn answer_positions<V: FenView, I: Input + Drop, O: Write>(
     input: I,
     out: &mut O,
 ) -> Result<usize, Stop>
-    ensures ok { IfOk result (λ refused. (bytes : List ℕ) × (text : List ℕ) × MayBe (I.left input) bytes × IsReply (IsPositionReply (V.shown view.now)) bytes text refused
+    ensures ok { IfOk result (λ refused. (bytes : List ℕ) × (text : List ℕ) × MayBe (I.left input) bytes
+        × IsReply (IsPositionReply (V.shown view.now)) bytes text refused
         × Appends (O.contents out.old) (O.contents out.new) text) }
-    ensures err { IfErr result (λ stop. (bytes : List ℕ) × (text : List ℕ) × MayBe (I.left input) bytes × IsReplyToFirst (IsPositionReply (V.shown view.now)) bytes text
+    ensures err { IfErr result (λ stop. (bytes : List ℕ) × (text : List ℕ) × MayBe (I.left input) bytes
+        × IsReplyToFirst (IsPositionReply (V.shown view.now)) bytes text
         × AppendsBy stop (O.contents out.old) (O.contents out.new) text) }
     ensures unreadable { IfErr result (λ stop. stop ≡ Stop.Unreadable → I.breaks input) }
 {

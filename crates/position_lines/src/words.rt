@@ -1,7 +1,8 @@
 //! The words of a line, taken off from its front.
 
 ghost use Rattle.std.specs.Prelude.{◌≡◌};
-ghost use Rattle.chess_notation.specs.Words.{after_spaces as text_after_spaces, front_word as word_in_front, after_word as text_after_word, word_at as word_of_text, behind};
+ghost use Rattle.chess_notation.specs.Words.{after_spaces as text_after_spaces, front_word as word_in_front};
+ghost use Rattle.chess_notation.specs.Words.{after_word as text_after_word, word_at as word_of_text, behind};
 
 /// The text from its first byte that is no space.
 fn after_spaces(text: &[u8]) -> &[u8]

@@ -1,5 +1,6 @@
 -- Each step on the deque of orders keeps its rule.
-use Rattle.std.proofs.Common.{◌≡◌, ℕ, zero, suc, ◌+◌, ◌<◌, ◌≤◌, false, true≢false, List, [], ◌∷◌, ◌++◌, length, map, replicate, set, IsPermutation, sym, refl, ap, ◌∙◌, subst, append_assoc, arith, length-append}
+use Rattle.std.proofs.Common.{◌≡◌, ℕ, zero, suc, ◌+◌, ◌<◌, ◌≤◌, false, true≢false, List, [], ◌∷◌, ◌++◌, length, map, replicate}
+use Rattle.std.proofs.Common.{set, IsPermutation, sym, refl, ap, ◌∙◌, subst, append_assoc, arith, length-append}
 use Rattle.std.proofs.lemmas.List.{append-nil, map-append, replicate_more}
 use Rattle.std.proofs.lemmas.List.Concat.{flat_map-append}
 use Rattle.std.proofs.lemmas.List.Elements.{All-nil, All-set, All-push}
@@ -32,29 +33,42 @@ stops_replicate (suc n) = omega (arith, stops_replicate n)
 
 -- a stop may follow everything
 jobs_first_stop : (xs : List Order) → JobsFirst xs → JobsFirst (xs ++ Stop ∷ [])
-jobs_first_stop xs (jobs, n, is) =
-    (jobs, n + 1, ap (λ l. l ++ Stop ∷ []) is ∙ (append_assoc (map Solve jobs) (replicate n Stop) (Stop ∷ []) ∙ ap (λ l. map Solve jobs ++ l) (replicate_more n Stop)))
+jobs_first_stop xs (jobs, n, is) = (
+  jobs,
+  n + 1,
+  ap (λ l. l ++ Stop ∷ []) is
+      ∙ (append_assoc (map Solve jobs) (replicate n Stop) (Stop ∷ []) ∙ ap (λ l. map Solve jobs ++ l) (replicate_more n Stop)),
+)
 
 -- a job may follow jobs
 jobs_first_job : (xs : List Order) (job : Task) → stops xs ≡ 0 → JobsFirst xs → JobsFirst (xs ++ Solve job ∷ [])
 jobs_first_job xs job free (jobs, n, is) =
     let none_yet : n ≡ 0 = omega (arith, ap stops is, stops_append (map Solve jobs) (replicate n Stop), stops_jobs jobs, stops_replicate n) in
-    let alone : xs ≡ map Solve jobs = is ∙ (ap (λ k. map Solve jobs ++ replicate k Stop) none_yet ∙ append-nil (map Solve jobs)) in
-    (jobs ++ job ∷ [], 0, ap (λ l. l ++ Solve job ∷ []) alone ∙ (sym (map-append Solve jobs (job ∷ [])) ∙ sym (append-nil (map Solve (jobs ++ job ∷ [])))))
+    let alone : xs ≡ map Solve jobs = is ∙ (ap (λ k. map Solve jobs ++ replicate k Stop) none_yet ∙ append-nil (map Solve jobs)) in (
+      jobs ++ job ∷ [],
+      0,
+      ap (λ l. l ++ Solve job ∷ []) alone
+          ∙ (sym (map-append Solve jobs (job ∷ [])) ∙ sym (append-nil (map Solve (jobs ++ job ∷ [])))),
+    )
 
 -- a bench gets one order more
-got_by_set : (vs : List View) (n : ℕ) (v : View) (x : Order) → get_elem? vs n ≡ some v → IsPermutation (got_by vs ++ x ∷ []) (got_by (set vs n (bench_view (v.got ++ x ∷ []))))
+got_by_set : (vs : List View) (n : ℕ) (v : View) (x : Order) → get_elem? vs n ≡ some v
+    → IsPermutation (got_by vs ++ x ∷ []) (got_by (set vs n (bench_view (v.got ++ x ∷ []))))
 got_by_set [] n v x e = absurd (some-ne-none v (sym e))
 got_by_set (u ∷ vs) zero v x e =
     let is : u.got ≡ v.got = ap (λ (y : View). y.got) (some-injective u v e) in
-    let whole : (u.got ++ got_by vs) ++ x ∷ [] ≡ v.got ++ (got_by vs ++ x ∷ []) = append_assoc u.got (got_by vs) (x ∷ []) ∙ ap (λ l. l ++ (got_by vs ++ x ∷ [])) is in
-    let moved : IsPermutation (got_by vs ++ x ∷ []) (x ∷ got_by vs) = subst (λ (l : List Order). IsPermutation (got_by vs ++ x ∷ []) (x ∷ l)) (append-nil (got_by vs)) (IsPermutation-middle (got_by vs) x []) in
+    let whole : (u.got ++ got_by vs) ++ x ∷ [] ≡ v.got ++ (got_by vs ++ x ∷ []) =
+    append_assoc u.got (got_by vs) (x ∷ []) ∙ ap (λ l. l ++ (got_by vs ++ x ∷ [])) is in
+    let moved : IsPermutation (got_by vs ++ x ∷ []) (x ∷ got_by vs) = subst (λ (l : List Order).
+    IsPermutation (got_by vs ++ x ∷ []) (x ∷ l)) (append-nil (got_by vs)) (IsPermutation-middle (got_by vs) x []) in
     subst (λ (l : List Order). IsPermutation l ((v.got ++ x ∷ []) ++ got_by vs)) (sym whole)
     (subst (λ (l : List Order). IsPermutation (v.got ++ (got_by vs ++ x ∷ [])) l) (sym (append_assoc v.got (x ∷ []) (got_by vs)))
     (IsPermutation-append v.got v.got (got_by vs ++ x ∷ []) (x ∷ got_by vs) (IsPermutation-refl v.got) moved))
 got_by_set (u ∷ vs) (suc n) v x e =
-    subst (λ (l : List Order). IsPermutation l (u.got ++ got_by (set vs n (bench_view (v.got ++ x ∷ []))))) (sym (append_assoc u.got (got_by vs) (x ∷ [])))
-    (IsPermutation-append u.got u.got (got_by vs ++ x ∷ []) (got_by (set vs n (bench_view (v.got ++ x ∷ [])))) (IsPermutation-refl u.got) (got_by_set vs n v x e))
+    subst (λ (l : List Order). IsPermutation l (u.got ++ got_by (set vs n (bench_view (v.got ++ x ∷ [])))))
+    (sym (append_assoc u.got (got_by vs) (x ∷ [])))
+    (IsPermutation-append u.got u.got (got_by vs ++ x ∷ []) (got_by (set vs n (bench_view (v.got ++ x ∷ []))))
+    (IsPermutation-refl u.got) (got_by_set vs n v x e))
 
 -- a new bench got nothing
 got_by_push : (vs : List View) → got_by (vs ++ bench_view [] ∷ []) ≡ got_by vs
@@ -73,7 +87,8 @@ begins = record {
 }
 
 -- the keeper puts an order out
-puts : (v : View) (x : Order) (waiting : List Order) (k : View) (bs : List View) → k ≡ v → Distributed waiting k bs → stops (v.orders ++ x ∷ []) ≤ v.passes → (JobsFirst v.orders → JobsFirst (v.orders ++ x ∷ []))
+puts : (v : View) (x : Order) (waiting : List Order) (k : View) (bs : List View) → k ≡ v → Distributed waiting k bs
+    → stops (v.orders ++ x ∷ []) ≤ v.passes → (JobsFirst v.orders → JobsFirst (v.orders ++ x ∷ []))
     → Distributed (waiting ++ x ∷ []) (keeper_view v.passes (v.orders ++ x ∷ [])) bs
 puts v x waiting k bs is rule few first =
     let rule' : Distributed waiting v bs = subst (λ (u : View). Distributed waiting u bs) is rule in
@@ -88,17 +103,27 @@ puts v x waiting k bs is rule few first =
       one_stop = rule'.one_stop;
     }
 
-pub puts_job : (port : ℕ) (v : View) (job : Task) → port ≡ 0 → stops v.orders ≡ 0 → Pushes Ruled port v (Solve job ∷ []) (λ w. w ≡ keeper_view v.passes (v.orders ++ Solve job ∷ []))
+pub puts_job : (port : ℕ) (v : View) (job : Task) → port ≡ 0 → stops v.orders ≡ 0
+    → Pushes Ruled port v (Solve job ∷ []) (λ w. w ≡ keeper_view v.passes (v.orders ++ Solve job ∷ []))
 puts_job (suc n) v job front free waiting views rule at = absurd (omega (arith, front))
 puts_job zero v job front free waiting [] rule at = absurd rule
-puts_job zero v job front free waiting (k ∷ bs) rule at =
-    (keeper_view v.passes (v.orders ++ Solve job ∷ []), puts v (Solve job) waiting k bs (some-injective k v at) rule (omega (arith, free, stops_append v.orders (Solve job ∷ []))) (jobs_first_job v.orders job free), refl)
+puts_job zero v job front free waiting (k ∷ bs) rule at = (
+  keeper_view v.passes (v.orders ++ Solve job ∷ []),
+  puts v (Solve job) waiting k bs (some-injective k v at) rule
+      (omega (arith, free, stops_append v.orders (Solve job ∷ []))) (jobs_first_job v.orders job free),
+  refl,
+)
 
-pub puts_stop : (port : ℕ) (v : View) → port ≡ 0 → stops v.orders < v.passes → Pushes Ruled port v (Stop ∷ []) (λ w. w ≡ keeper_view v.passes (v.orders ++ Stop ∷ []))
+pub puts_stop : (port : ℕ) (v : View) → port ≡ 0 → stops v.orders < v.passes
+    → Pushes Ruled port v (Stop ∷ []) (λ w. w ≡ keeper_view v.passes (v.orders ++ Stop ∷ []))
 puts_stop (suc n) v front owed waiting views rule at = absurd (omega (arith, front))
 puts_stop zero v front owed waiting [] rule at = absurd rule
-puts_stop zero v front owed waiting (k ∷ bs) rule at =
-    (keeper_view v.passes (v.orders ++ Stop ∷ []), puts v Stop waiting k bs (some-injective k v at) rule (omega (arith, owed, stops_append v.orders (Stop ∷ []))) (jobs_first_stop v.orders), refl)
+puts_stop zero v front owed waiting (k ∷ bs) rule at = (
+  keeper_view v.passes (v.orders ++ Stop ∷ []),
+  puts v Stop waiting k bs (some-injective k v at) rule
+      (omega (arith, owed, stops_append v.orders (Stop ∷ []))) (jobs_first_stop v.orders),
+  refl,
+)
 
 at_most_one : (got : List Order) (x : Order) → stops got ≡ 0 → stops (got ++ x ∷ []) ≤ 1
 at_most_one got (Solve job) free = omega (arith, free, stops_append got (Solve job ∷ []))

@@ -3,5 +3,6 @@ use Rattle.std.proofs.Common.{◌≡◌, ◌∷◌, ◌++◌, [], List, get_or, 
 use mathlib.Core.List.{IsPrefix}
 
 -- The first item that was known is the one that is taken.
-pub first_taken : {A : Type 0} (had has known left : List A) (taken first : A) → IsPrefix (first ∷ []) known → known ≡ taken ∷ left → has ≡ had ++ taken ∷ [] → has ≡ had ++ first ∷ []
+pub first_taken : {A : Type 0} (had has known left : List A) (taken first : A) → IsPrefix (first ∷ []) known
+    → known ≡ taken ∷ left → has ≡ had ++ taken ∷ [] → has ≡ had ++ first ∷ []
 first_taken had has known left taken first p k t = t ∙ ap (λ x. had ++ x ∷ []) (sym (ap (λ l. get_or l 0 first) (p.1 ∙ k)))

@@ -29,12 +29,14 @@ pub struct Window {
 }
 
 impl Window {
-    ghost use Rattle.std.specs.Prelude.{◌≡◌, ◌↔◌, ◌+◌, ◌-◌, ◌^◌, ◌<◌, ◌≤◌, [], ◌∷◌, ◌++◌, length, OnOk, IfErr, IfSome, IfNone, MatchResult, Err, true, false};
+    ghost use Rattle.std.specs.Prelude.{◌≡◌, ◌↔◌, ◌+◌, ◌-◌, ◌^◌, ◌<◌, ◌≤◌, [], ◌∷◌, ◌++◌, length, OnOk};
+    ghost use Rattle.std.specs.Prelude.{IfErr, IfSome, IfNone, MatchResult, Err, true, false};
     ghost use mathlib.Core.List.{IsPrefix};
     ghost use Rattle.chess_notation.specs.Records.{RecordValue};
     ghost use Rattle.mate_jobs.specs.declared.deliveries.Delivery.{Delivery};
     ghost use Rattle.room_ends.specs.Letters.{records};
-    ghost use Rattle.room_ends.specs.Windows.{letters_sent, collected, deliveries_known, places_known, places_of, is_gone, number_of, default_of, SameWindow};
+    ghost use Rattle.room_ends.specs.Windows.{letters_sent, collected, deliveries_known, places_known};
+    ghost use Rattle.room_ends.specs.Windows.{places_of, is_gone, number_of, default_of, SameWindow};
     ghost use Rattle.room_ends.specs.WindowFaults.{SaysOnly, RefusesLine};
 
     /// The window's number in its room, from 0.
@@ -52,7 +54,8 @@ impl Window {
         ensures collected { collected self.new ≡ collected self.old }
         ensures known { deliveries_known self.new ≡ deliveries_known self.old }
         ensures stays { is_gone self.new ≡ is_gone self.old }
-        ensures sent { OnOk result ((r : RecordValue) × SaysOnly line.now (default_of self.old) r × (letters_sent self.new ≡ letters_sent self.old ++ Letter.Record r ∷ [])) }
+        ensures sent { OnOk result ((r : RecordValue) × SaysOnly line.now (default_of self.old) r
+            × (letters_sent self.new ≡ letters_sent self.old ++ Letter.Record r ∷ [])) }
         ensures unsent { IfErr result (λ _. letters_sent self.new ≡ letters_sent self.old) }
         ensures gone { (result ≡ Err WindowFault.Gone) ↔ (is_gone self.old ≡ true) }
         ensures line { IfErr result (λ fault. RefusesLine line.now (default_of self.old) fault) }
@@ -61,7 +64,8 @@ impl Window {
         ensures exhausted { result ≡ Err WindowFault.Exhausted → length (records (letters_sent self.old)) ≡ 2 ^ 64 - 1 }
         ensures not_busy { result ≡ Err WindowFault.Exhausted → 0 < places_known self.new }
         ensures last { OnOk result (length (records (letters_sent self.old)) < 2 ^ 64 - 1) }
-        ensures places { MatchResult result (λ _. places_known self.old ≤ places_known self.new + 1) (λ _. places_known self.old ≤ places_known self.new) }
+        ensures places { MatchResult result (λ _. places_known self.old ≤ places_known self.new + 1)
+            (λ _. places_known self.old ≤ places_known self.new) }
     {
         if self.gone {
             return Err(WindowFault::Gone);
@@ -94,7 +98,8 @@ impl Window {
         ensures not_sent { (result ≡ Err WithdrawFault.NotSent) ↔ ((is_gone self.old ≡ false) × (length (records (letters_sent self.old)) ≤ n)) }
         ensures busy { result ≡ Err WithdrawFault.Busy → places_known self.new ≡ 0 }
         ensures filled { result ≡ Err WithdrawFault.Busy → places_of self.old ≤ length (letters_sent self.old) }
-        ensures places { MatchResult result (λ _. places_known self.old ≤ places_known self.new + 1) (λ _. places_known self.old ≤ places_known self.new) }
+        ensures places { MatchResult result (λ _. places_known self.old ≤ places_known self.new + 1)
+            (λ _. places_known self.old ≤ places_known self.new) }
     {
         if self.gone {
             return Err(WithdrawFault::Gone);
@@ -122,7 +127,8 @@ impl Window {
         ensures gone { (result ≡ Err ByeFault.Gone) ↔ (is_gone self.old ≡ true) }
         ensures busy { result ≡ Err ByeFault.Busy → places_known self.new ≡ 0 }
         ensures filled { result ≡ Err ByeFault.Busy → places_of self.old ≤ length (letters_sent self.old) }
-        ensures places { MatchResult result (λ _. places_known self.old ≤ places_known self.new + 1) (λ _. places_known self.old ≤ places_known self.new) }
+        ensures places { MatchResult result (λ _. places_known self.old ≤ places_known self.new + 1)
+            (λ _. places_known self.old ≤ places_known self.new) }
     {
         if self.gone {
             return Err(ByeFault::Gone);

@@ -30,7 +30,8 @@ unfolding members_below
 none_below set zero none = refl
 none_below set (suc n) none = let here = none n (omega arith) in let rest = none_below set n (λ s l. none s (omega arith)) in rw (rest, here)
 
-lowest_first : (set square rest n : ℕ) → square < n → n ≤ 64 → IsLowest square set → ((s : ℕ) → s < 64 → has rest s ≡ (not (eqb s square) && has set s))
+lowest_first : (set square rest n : ℕ) → square < n → n ≤ 64 → IsLowest square set
+    → ((s : ℕ) → s < 64 → has rest s ≡ (not (eqb s square) && has set s))
     → members_below set n ≡ square ∷ members_below rest n
 unfolding members_below
 lowest_first set square rest zero below h is others = absurd (omega arith)
@@ -39,7 +40,8 @@ lowest_first set square rest (suc n) below h is others =
       | true ↦ λ e.
           let same : n ≡ square = eqb-true n square e in
           let before = none_below set n (λ s l. is.none_below s (omega arith)) in
-          let left = none_below rest n (λ s l. others s (omega arith) ∙ (let no = is.none_below s (omega arith) in rw no (and_false (not (eqb s square))))) in
+          let left = none_below rest n (λ s l. others s (omega arith)
+          ∙ (let no = is.none_below s (omega arith) in rw no (and_false (not (eqb s square))))) in
           let there = is.there in
           let gone : has rest n ≡ false = others n (omega arith) ∙ (rw e refl) in
           rw (before, left, gone) (rw (same, there) refl)
@@ -54,6 +56,8 @@ lowest_first set square rest (suc n) below h is others =
     and_false true = refl
     and_false false = refl
 
-pub split_off : (set square rest : ℕ) → IsLowest square set → ((s : ℕ) → s < 64 → has rest s ≡ (not (eqb s square) && has set s)) → IsSplit set square rest
+pub split_off : (set square rest : ℕ) → IsLowest square set
+    → ((s : ℕ) → s < 64 → has rest s ≡ (not (eqb s square) && has set s)) → IsSplit set square rest
 unfolding members
-split_off set square rest is others = record { lowest = is; others = others; rising = lowest_first set square rest 64 is.on_board (omega arith) is others }
+split_off set square rest is others =
+    record { lowest = is; others = others; rising = lowest_first set square rest 64 is.on_board (omega arith) is others }

@@ -1,5 +1,6 @@
 -- The lines of an input, and how one is taken.
-use Rattle.std.proofs.Common.{◌≡◌, ◌≢◌, ℕ, ◌+◌, ◌-◌, ◌<◌, ◌≤◌, ◌==◌, List, [], ◌∷◌, ◌++◌, Option, None, Some, IfNone, IfSome, false, length, take, drop, get_or, refl, sym, ap, ◌∙◌, subst, arith, append_assoc, append-nil, min, ne_eqb}
+use Rattle.std.proofs.Common.{◌≡◌, ◌≢◌, ℕ, ◌+◌, ◌-◌, ◌<◌, ◌≤◌, ◌==◌, List, [], ◌∷◌, ◌++◌, Option, None, Some, IfNone, IfSome, false}
+use Rattle.std.proofs.Common.{length, take, drop, get_or, refl, sym, ap, ◌∙◌, subst, arith, append_assoc, append-nil, min, ne_eqb}
 use Rattle.std.proofs.lemmas.List.{drop_min, take_all, take_more, take-append-drop, length-append}
 use Rattle.std.proofs.lemmas.List.Elements.{All-append, All-cons, All-nil}
 use Rattle.std.proofs.lemmas.List.Splits.{slice_split_none, slice_split_at}
@@ -17,7 +18,8 @@ one_line_append xs ys = All-append (λ b. (b == 10) ≡ false) xs ys
 
 pub one_line_more : (text : List ℕ) (i : ℕ) → i < length text → IsOneLine (take i text) → get_or text i 0 ≢ 10 → IsOneLine (take (i + 1) text)
 one_line_more text i inside before other =
-    let last : IsOneLine (get_or text i 0 ∷ []) = All-cons (λ b. (b == 10) ≡ false) (get_or text i 0) [] (ne_eqb (get_or text i 0) 10 other) one_line_nil in
+    let last : IsOneLine (get_or text i 0 ∷ []) =
+    All-cons (λ b. (b == 10) ≡ false) (get_or text i 0) [] (ne_eqb (get_or text i 0) 10 other) one_line_nil in
     subst IsOneLine (sym (take_more text i 0 inside)) (one_line_append (take i text) (get_or text i 0 ∷ []) before last)
 
 pub one_line_whole : (text : List ℕ) (i : ℕ) → length text ≤ i → IsOneLine (take i text) → IsOneLine text
@@ -30,11 +32,13 @@ pub lines_first : (line rest : List ℕ) → IsOneLine line → lines_of (line +
 lines_first line rest one = slice_split_at (λ b. b == 10) line 10 rest one refl
 
 -- what is left of a piece behind its first line
-pub piece_rest : (items left line more : List ℕ) (m : ℕ) → left ≡ drop m items → left ≡ line ++ 10 ∷ more → drop (length items - length more) items ≡ more
+pub piece_rest : (items left line more : List ℕ) (m : ℕ) → left ≡ drop m items → left ≡ line ++ 10 ∷ more
+    → drop (length items - length more) items ≡ more
 piece_rest items left line more m is cut =
     let front = take m items ++ (line ++ 10 ∷ []) in
     let whole : items ≡ front ++ more =
-    sym (take-append-drop m items) ∙ ap (λ l. take m items ++ l) (sym is ∙ cut ∙ sym (append_assoc line (10 ∷ []) more)) ∙ sym (append_assoc (take m items) (line ++ 10 ∷ []) more) in
+    sym (take-append-drop m items) ∙ ap (λ l. take m items ++ l) (sym is ∙ cut ∙ sym (append_assoc line (10 ∷ []) more))
+    ∙ sym (append_assoc (take m items) (line ++ 10 ∷ []) more) in
     let count : length items - length more ≡ length front = omega (arith, ap length whole, length-append front more) in
     rw (count) (ap (drop (length front)) whole ∙ drop-append_seam front more)
 
@@ -44,7 +48,8 @@ pub takes_piece : (known : Option (List ℕ)) (piece : List ℕ) → Consumes (p
 takes_piece None piece = tt
 takes_piece (Some x) piece = refl
 
-pub takes_ended : (known : Option (List ℕ)) (line rest : List ℕ) → Consumes (prepend_known (line ++ 10 ∷ rest) known) (prepend_known rest known) (line ++ 10 ∷ [])
+pub takes_ended : (known : Option (List ℕ)) (line rest : List ℕ)
+    → Consumes (prepend_known (line ++ 10 ∷ rest) known) (prepend_known rest known) (line ++ 10 ∷ [])
 takes_ended None line rest = tt
 takes_ended (Some x) line rest = append_assoc line (10 ∷ rest) x ∙ sym (append_assoc line (10 ∷ []) (rest ++ x))
 
@@ -61,7 +66,8 @@ end_taken (Some x) bytes start fresh none end = rw (fresh) (ap (λ l. l ++ x) no
 pub left_is : (read items left : List ℕ) (taken m : ℕ) → read ≡ items → left ≡ drop m read → m ≡ min taken (length read) → drop taken items ≡ left
 left_is read items left taken m same cut is = rw (cut, is, ← same) (sym (drop_min taken read))
 
-pub ended_line : (a known same : Option (List ℕ)) (seen left piece rest : List ℕ) → same ≡ known → Consumes a (prepend_known left known) seen → left ≡ piece ++ 10 ∷ rest
+pub ended_line : (a known same : Option (List ℕ)) (seen left piece rest : List ℕ) → same ≡ known
+    → Consumes a (prepend_known left known) seen → left ≡ piece ++ 10 ∷ rest
     → Consumes a (prepend_known rest same) ((seen ++ piece) ++ 10 ∷ [])
 ended_line a known same seen left piece rest is before cut =
     let on : Consumes (prepend_known left known) (prepend_known rest same) (piece ++ 10 ∷ []) = rw (is, cut) (takes_ended known piece rest) in
@@ -71,7 +77,8 @@ pub open_line : (a known same next : Option (List ℕ)) (seen left bytes : List 
     → Consumes a (prepend_known left known) seen → Consumes same next bytes → Consumes a (prepend_known (drop start bytes) next) (seen ++ left)
 open_line a known same next seen left bytes start is fresh before read =
     let taken = Consumes-trans a (prepend_known left known) (prepend_known [] known) seen left before (takes_piece known left) in
-    let on : Consumes (prepend_known [] known) (prepend_known bytes next) [] = takes_on known next bytes (subst (λ k. Consumes k next bytes) is read) in
+    let on : Consumes (prepend_known [] known) (prepend_known bytes next) [] =
+    takes_on known next bytes (subst (λ k. Consumes k next bytes) is read) in
     rw (fresh, ← append-nil (seen ++ left)) (Consumes-trans a (prepend_known [] known) (prepend_known bytes next) (seen ++ left) [] taken on)
 
 -- What is known of a cut, read as what it says of all lines.
@@ -79,7 +86,8 @@ pub cut_last : {X : Type 0} (o : Option X) (text : List ℕ) → IfNone o (IsOne
 cut_last None text one = lines_one text one
 cut_last (Some x) text one = tt
 
-pub cut_first : {X : Type 0} (o : Option X) (text : List ℕ) (line more : X → List ℕ) → IfSome o (λ x. IsOneLine (line x)) → IfSome o (λ x. text ≡ line x ++ 10 ∷ more x)
+pub cut_first : {X : Type 0} (o : Option X) (text : List ℕ) (line more : X → List ℕ) → IfSome o (λ x. IsOneLine (line x))
+    → IfSome o (λ x. text ≡ line x ++ 10 ∷ more x)
     → IfSome o (λ x. lines_of text ≡ line x ∷ lines_of (more x))
 cut_first None text line more one cut = tt
 cut_first (Some x) text line more one cut = ap lines_of cut ∙ lines_first (line x) (more x) one

@@ -1,5 +1,6 @@
 -- What is kept of a line tells what the line is answered.
-use Rattle.std.proofs.Common.{◌≡◌, ◌++◌, ◌+◌, ◌-◌, ◌==◌, ◌&&◌, ◌||◌, ◌<◌, ◌≤◌, ℕ, zero, suc, Bool, true, false, List, [], ◌∷◌, Result, Ok, Err, IfOk, ◌⊎◌, inl, inr, refl, sym, ap, ◌∙◌, subst, arith, length, take, get_or, cond, min, ne_eqb, ◌≢◌}
+use Rattle.std.proofs.Common.{◌≡◌, ◌++◌, ◌+◌, ◌-◌, ◌==◌, ◌&&◌, ◌||◌, ◌<◌, ◌≤◌, ℕ, zero, suc, Bool, true, false, List, [], ◌∷◌, Result, Ok}
+use Rattle.std.proofs.Common.{Err, IfOk, ◌⊎◌, inl, inr, refl, sym, ap, ◌∙◌, subst, arith, length, take, get_or, cond, min, ne_eqb, ◌≢◌}
 use Rattle.std.proofs.Math.Bool.{and-true, or_comm}
 use Rattle.std.proofs.lemmas.Bool.{cases_lt}
 use Rattle.std.proofs.lemmas.List.{length-take, take_all, take_min}
@@ -49,11 +50,13 @@ space_first : (line : List ℕ) → is_blank (without_cr (32 ∷ line)) ≡ is_b
 space_first [] = refl
 space_first (c ∷ cs) = ap is_blank (cr_last 32 c cs) ∙ blank_cons 32 (without_cr (c ∷ cs))
 
-pub kept_blank : (kept : Kept) (line : List ℕ) → IsKept kept line → (kept.spaces && ((kept.last == 32) || (kept.last == 13))) ≡ is_blank (without_cr line)
+pub kept_blank : (kept : Kept) (line : List ℕ) → IsKept kept line
+    → (kept.spaces && ((kept.last == 32) || (kept.last == 13))) ≡ is_blank (without_cr line)
 kept_blank kept line is = rw (is.spaces, is.last) (sym (blank_more true 32 line) ∙ space_first line)
 
 -- the test in its three arms
-pub blank_space : (kept : Kept) (line : List ℕ) → IsKept kept line → kept.spaces ≡ true → kept.last ≡ 32 → (kept.last == 32) ≡ is_blank (without_cr line)
+pub blank_space : (kept : Kept) (line : List ℕ) → IsKept kept line → kept.spaces ≡ true → kept.last ≡ 32
+    → (kept.last == 32) ≡ is_blank (without_cr line)
 blank_space kept line is spaces last = rw (← kept_blank kept line is, spaces, last) refl
 
 pub blank_cr : (kept : Kept) (line : List ℕ) → IsKept kept line → kept.spaces ≡ true → kept.last ≢ 32 → (kept.last == 13) ≡ is_blank (without_cr line)
@@ -79,11 +82,13 @@ take_joined (suc n) (x ∷ xs) ys =
     let fewer : n - length (take n xs) ≡ suc n - suc (length (take n xs)) = omega arith in
     ap (λ l. x ∷ l) (take_joined n xs ys ∙ ap (λ m. take n xs ++ take m ys) fewer)
 
-pub kept_more : (old new : Kept) (before piece first : List ℕ) (room : ℕ) → first ≡ take room piece → room ≡ min (most_kept - length old.bytes.items) (length piece)
+pub kept_more : (old new : Kept) (before piece first : List ℕ) (room : ℕ) → first ≡ take room piece
+    → room ≡ min (most_kept - length old.bytes.items) (length piece)
     → new.bytes.items ≡ old.bytes.items ++ first → new.spaces ≡ spaces_before old.spaces old.last piece → new.last ≡ last_or old.last piece
     → IsKept old before → IsKept new (before ++ piece)
 kept_more old new before piece first room is fits added spaces last kept = record {
-  bytes = added ∙ rw (is, fits, kept.bytes) (ap (λ l. take most_kept before ++ l) (take_min (most_kept - length (take most_kept before)) piece) ∙ sym (take_joined most_kept before piece));
+  bytes = added ∙ rw (is, fits, kept.bytes) (ap (λ l. take most_kept before ++ l)
+      (take_min (most_kept - length (take most_kept before)) piece) ∙ sym (take_joined most_kept before piece));
   spaces = spaces ∙ rw (kept.spaces, kept.last) (sym (spaces_append true 32 before piece));
   last = last ∙ rw (kept.last) (sym (last_append 32 before piece));
 }
@@ -110,14 +115,16 @@ kept_short kept line is short =
     within n less = omega (arith, less)
 
 -- Where it isn't, the line is too long.
-pub kept_long : (kept : Kept) (line : List ℕ) → IsKept kept line → max_line < length (without_cr kept.bytes.items) → max_line < length (without_cr line)
+pub kept_long : (kept : Kept) (line : List ℕ) → IsKept kept line
+    → max_line < length (without_cr kept.bytes.items) → max_line < length (without_cr line)
 kept_long kept line is long = pick (cases_lt most_kept (length line))
   where
     pick : (most_kept < length line) ⊎ (length line ≤ most_kept) → max_line < length (without_cr line)
     pick (inl more) = omega (arith, longer line, more)
     pick (inr few) = subst (λ l. max_line < length (without_cr l)) (kept_whole kept line is few) long
 
-pub kept_filled : (kept : Kept) (line : List ℕ) → IsKept kept line → length (without_cr kept.bytes.items) ≤ max_line → is_blank (without_cr line) ≡ false
+pub kept_filled : (kept : Kept) (line : List ℕ) → IsKept kept line
+    → length (without_cr kept.bytes.items) ≤ max_line → is_blank (without_cr line) ≡ false
     → is_blank (without_cr kept.bytes.items) ≡ false
 kept_filled kept line is short filled = ap (λ l. is_blank (without_cr l)) (kept_short kept line is short) ∙ filled
 

@@ -1,5 +1,6 @@
 -- The replies to lines: to one line more, to the last, and where they stop.
-use Rattle.std.proofs.Common.{◌≡◌, Bool, true, false, Option, None, Some, length, take, ℕ, ◌+◌, List, [], ◌∷◌, ◌++◌, refl, ap, sym, ◌∙◌, arith, subst, append_assoc}
+use Rattle.std.proofs.Common.{◌≡◌, Bool, true, false, Option, None, Some, length, take, ℕ, ◌+◌, List}
+use Rattle.std.proofs.Common.{[], ◌∷◌, ◌++◌, refl, ap, sym, ◌∙◌, arith, subst, append_assoc}
 use Rattle.std.proofs.lemmas.List.{append-nil}
 use Rattle.std.proofs.KnownBytes.{Appends-kept, Appends-trans, Consumes-trans}
 use Rattle.std.proofs.Math.Seq.{take-append_seam, take-length}
@@ -13,7 +14,8 @@ use Rattle.byte_streams.specs.Stops.{AppendsBy, AppendsPart, is_of_output}
 use Rattle.text_lines.specs.inside.InputLines.{IsOneLine, TakesLine}
 use Rattle.text_lines.proofs.InputLines.{lines_first, lines_one}
 
-replies_more : (says : LineReplies) (number : ℕ) (lines : List (List ℕ)) (line text here : List ℕ) (before count : ℕ) → IsReplyFrom says number lines text before
+replies_more : (says : LineReplies) (number : ℕ) (lines : List (List ℕ)) (line text here : List ℕ) (before count : ℕ)
+    → IsReplyFrom says number lines text before
     → says (number + length lines) (without_cr line) here count → IsReplyFrom says number (lines ++ line ∷ []) (text ++ here) (before + count)
 replies_more says number [] line text here before count (none, nobody) reply =
     let P : ℕ → Type 0 = λ n. says n (without_cr line) here count in
@@ -47,7 +49,8 @@ input_at_end (Some x) (Some y) seen taken end = sym (taken ∙ ap (λ l. seen ++
 abbrev pub Opens : List ℕ → List (List ℕ) → Type 0
 Opens seen lines = (rest : List ℕ) → lines_of (seen ++ rest) ≡ lines ++ lines_of rest
 
-pub opens_more : (seen line : List ℕ) (lines : List (List ℕ)) → IsOneLine line → Opens seen lines → Opens (seen ++ (line ++ 10 ∷ [])) (lines ++ line ∷ [])
+pub opens_more : (seen line : List ℕ) (lines : List (List ℕ)) → IsOneLine line → Opens seen lines
+    → Opens (seen ++ (line ++ 10 ∷ [])) (lines ++ line ∷ [])
 opens_more seen line lines one opens rest =
     ap lines_of (append_assoc seen (line ++ 10 ∷ []) rest ∙ ap (λ l. seen ++ l) (append_assoc line (10 ∷ []) rest)) ∙ opens (line ++ 10 ∷ rest)
     ∙ ap (λ l. lines ++ l) (lines_first line rest one) ∙ sym (append_assoc lines (line ∷ []) (lines_of rest))
@@ -55,7 +58,8 @@ opens_more seen line lines one opens rest =
 take_front : (xs ys : List (List ℕ)) → take (length xs) (xs ++ ys) ≡ xs
 take_front xs ys = take-append_seam xs ys
 
-opened_reply : (says : LineReplies) (refusals : ℕ) (seen rest text : List ℕ) (lines : List (List ℕ)) → Opens seen lines → IsReplyFrom says 1 lines text refusals
+opened_reply : (says : LineReplies) (refusals : ℕ) (seen rest text : List ℕ) (lines : List (List ℕ)) → Opens seen lines
+    → IsReplyFrom says 1 lines text refusals
     → IsReplyToFirst says (seen ++ rest) text
 unfolding IsReplyToFirst
 opened_reply says refusals seen rest text lines opens replies =
@@ -64,7 +68,8 @@ opened_reply says refusals seen rest text lines opens replies =
     (length lines, refusals, subst P (sym first) replies)
 
 -- The last line has no newline behind it.
-pub last_reply : (says : LineReplies) (number refusals count : ℕ) (known left end : Option (List ℕ)) (seen line text here : List ℕ) (lines : List (List ℕ))
+pub last_reply : (says : LineReplies) (number refusals count : ℕ) (known left end : Option (List ℕ))
+    (seen line text here : List ℕ) (lines : List (List ℕ))
     → Consumes known left seen → Opens seen lines → IsReplyFrom says 1 lines text refusals → length lines + 1 ≡ number
     → TakesLine true left end line → says number (without_cr line) here count
     → MayBe known (seen ++ line) × IsReply says (seen ++ line) (text ++ here) (refusals + count)
@@ -78,7 +83,8 @@ last_reply says number refusals count known left end seen line text here lines t
 
 -- What `answer_input` promises where it stops.
 abbrev pub Stopped : Stop → LineReplies → (known old new : Option (List ℕ)) → Type 0
-Stopped stop says known old new = (bytes : List ℕ) × (text : List ℕ) × MayBe known bytes × IsReplyToFirst says bytes text × AppendsBy stop old new text
+Stopped stop says known old new = (bytes : List ℕ) × (text : List ℕ) × MayBe known bytes
+    × IsReplyToFirst says bytes text × AppendsBy stop old new text
 
 -- What `answer_next` promises where a write breaks off.
 abbrev pub Cut : LineReplies → ℕ → (left next old new : Option (List ℕ)) → Type 0
@@ -87,7 +93,8 @@ Cut says number left next old new = (is_last : Bool) × (line : List ℕ) × (he
 
 -- Between two lines: the replies so far are written.
 between_lines : (stop : Stop) (says : LineReplies) (refusals : ℕ) (known left old new : Option (List ℕ)) (seen text : List ℕ) (lines : List (List ℕ))
-    → Consumes known left seen → Opens seen lines → IsReplyFrom says 1 lines text refusals → AppendsBy stop old new text → Stopped stop says known old new
+    → Consumes known left seen → Opens seen lines → IsReplyFrom says 1 lines text refusals
+    → AppendsBy stop old new text → Stopped stop says known old new
 between_lines stop says refusals known left old new seen text lines taken opens replies appends =
     let (rest, is) = input_from known left seen taken in
     (seen ++ rest, text, is, opened_reply says refusals seen rest text lines opens replies, appends)
@@ -96,17 +103,26 @@ part_more : (a b c : Option (List ℕ)) (text here : List ℕ) → Appends a b t
 part_more a b c text here before (part, rest, is, on) =
     (text ++ part, rest, ap (λ t. text ++ t) is ∙ sym (append_assoc text part rest), Appends-trans a b c text part before on)
 
-within_line : (says : LineReplies) (number refusals : ℕ) (known left next old before new : Option (List ℕ)) (seen text : List ℕ) (lines : List (List ℕ))
+within_line : (says : LineReplies) (number refusals : ℕ) (known left next old before new : Option (List ℕ))
+    (seen text : List ℕ) (lines : List (List ℕ))
     → Consumes known left seen → Opens seen lines → IsReplyFrom says 1 lines text refusals → length lines + 1 ≡ number → Appends old before text
     → Cut says number left next before new
     → (bytes : List ℕ) × (all : List ℕ) × MayBe known bytes × IsReplyToFirst says bytes all × AppendsPart old new all
 unfolding IsReply IsReplyToFirst
-within_line says number refusals known left next old before new seen text lines taken opens replies is appends (true, line, here, count, reply, takes, part) =
+within_line says number refusals known left next old before new seen text lines taken opens replies is appends
+    (true, line, here, count, reply, takes, part) =
     let (may, all) = last_reply says number refusals count known left next seen line text here lines taken opens replies is takes reply in
     let Q : List (List ℕ) → Type 0 = λ ls. IsReplyFrom says 1 ls (text ++ here) (refusals + count) in
-    let whole : take (length (lines_of (seen ++ line))) (lines_of (seen ++ line)) ≡ lines_of (seen ++ line) = take-length (lines_of (seen ++ line)) in
-    (seen ++ line, text ++ here, may, (length (lines_of (seen ++ line)), refusals + count, subst Q (sym whole) all), part_more old before new text here appends part)
-within_line says number refusals known left next old before new seen text lines taken opens replies is appends (false, line, here, count, reply, (one, on), part) =
+    let whole : take (length (lines_of (seen ++ line))) (lines_of (seen ++ line)) ≡ lines_of (seen ++ line) =
+    take-length (lines_of (seen ++ line)) in (
+      seen ++ line,
+      text ++ here,
+      may,
+      (length (lines_of (seen ++ line)), refusals + count, subst Q (sym whole) all),
+      part_more old before new text here appends part,
+    )
+within_line says number refusals known left next old before new seen text lines taken opens replies is appends
+    (false, line, here, count, reply, (one, on), part) =
     let more = replies_next says number lines line text here refusals count is replies reply in
     let seen' = seen ++ (line ++ 10 ∷ []) in
     let (rest, may) = input_from known next seen' (Consumes-trans known left next seen (line ++ 10 ∷ []) taken on) in (
@@ -117,14 +133,17 @@ within_line says number refusals known left next old before new seen text lines 
       part_more old before new text here appends part,
     )
 
-pub stopped : (stop : Stop) (says : LineReplies) (number refusals : ℕ) (known left next old before new : Option (List ℕ)) (seen text : List ℕ) (lines : List (List ℕ))
+pub stopped : (stop : Stop) (says : LineReplies) (number refusals : ℕ) (known left next old before new : Option (List ℕ))
+    (seen text : List ℕ) (lines : List (List ℕ))
     → Consumes known left seen → Opens seen lines → IsReplyFrom says 1 lines text refusals → length lines + 1 ≡ number → Appends old before text
     → (is_of_output stop ≡ false → Keeps before new) → (is_of_output stop ≡ true → Cut says number left next before new)
     → Stopped stop says known old new
 stopped stop.NoMemory says number refusals known left next old before new seen text lines taken opens replies is appends kept cut =
-    between_lines stop.NoMemory says refusals known left old new seen text lines taken opens replies (Appends-kept old before new text appends (kept refl))
+    between_lines stop.NoMemory says refusals known left old new seen text lines taken opens replies
+    (Appends-kept old before new text appends (kept refl))
 stopped stop.Unreadable says number refusals known left next old before new seen text lines taken opens replies is appends kept cut =
-    between_lines stop.Unreadable says refusals known left old new seen text lines taken opens replies (Appends-kept old before new text appends (kept refl))
+    between_lines stop.Unreadable says refusals known left old new seen text lines taken opens replies
+    (Appends-kept old before new text appends (kept refl))
 stopped stop.Unwritable says number refusals known left next old before new seen text lines taken opens replies is appends kept cut =
     within_line says number refusals known left next old before new seen text lines taken opens replies is appends (cut refl)
 stopped stop.NoReader says number refusals known left next old before new seen text lines taken opens replies is appends kept cut =
@@ -132,6 +151,7 @@ stopped stop.NoReader says number refusals known left next old before new seen t
 
 -- No input is without end: before the last line that can be counted.
 pub gave_up : (says : LineReplies) (refusals : ℕ) (known left old new : Option (List ℕ)) (seen text : List ℕ) (lines : List (List ℕ))
-    → Consumes known left seen → Opens seen lines → IsReplyFrom says 1 lines text refusals → Appends old new text → Stopped stop.NoMemory says known old new
+    → Consumes known left seen → Opens seen lines → IsReplyFrom says 1 lines text refusals → Appends old new text
+    → Stopped stop.NoMemory says known old new
 gave_up says refusals known left old new seen text lines taken opens replies appends =
     between_lines stop.NoMemory says refusals known left old new seen text lines taken opens replies appends

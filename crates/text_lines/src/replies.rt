@@ -50,7 +50,8 @@ pub trait LineHandler {
 
     /// The reply to a line that is longer than a record may be, whatever stands in it.
     fn refuse_long(&self, alloc: Global, number: usize) -> Result<Output, NoMemory>
-        ensures reply { IfOk result (λ output. (line : List ℕ) → is_blank line ≡ false → max_line < length line → replies self.now number line output.text.items output.refused) }
+        ensures reply { IfOk result (λ output. (line : List ℕ) → is_blank line ≡ false → max_line < length line
+            → replies self.now number line output.text.items output.refused) }
         ensures few { IfOk result (λ output. output.refused ≤ 1) };
 
     /// A blank line is answered with nothing.
@@ -77,7 +78,8 @@ fn answer_kept<H: LineHandler>(
     memory: &mut H::Memory,
 ) -> Result<Output, NoMemory>
     requires { (line : List ℕ) × IsKept kept.now line }
-    ensures reply { IfOk result (λ output. (line : List ℕ) → IsKept kept.now line → H.replies handler.now number (text_without_cr line) output.text.items output.refused) }
+    ensures reply { IfOk result (λ output. (line : List ℕ) → IsKept kept.now line
+        → H.replies handler.now number (text_without_cr line) output.text.items output.refused) }
     ensures few { IfOk result (λ output. output.refused ≤ 1) }
     ensures room { H.room memory.new ≡ H.room memory.old }
 {
@@ -107,12 +109,15 @@ fn answer_next<H: LineHandler, I: Input + Drop, O: Write>(
     memory: &mut H::Memory,
     out: &mut O,
 ) -> Result<Answered, Stop>
-    ensures ok { IfOk result (λ answered. (line : List ℕ) × (here : List ℕ) × H.replies handler.now number (text_without_cr line) here answered.refused
-        × TakesLine answered.is_last (left_of I.left lines.old) (left_of I.left lines.new) line × Appends (O.contents out.old) (O.contents out.new) here) }
+    ensures ok { IfOk result (λ answered. (line : List ℕ) × (here : List ℕ)
+        × H.replies handler.now number (text_without_cr line) here answered.refused
+        × TakesLine answered.is_last (left_of I.left lines.old) (left_of I.left lines.new) line
+        × Appends (O.contents out.old) (O.contents out.new) here) }
     ensures few { IfOk result (λ answered. answered.refused ≤ 1) }
     ensures unanswered { IfErr result (λ stop. is_of_output stop ≡ false → out.new ≡ out.old) }
     ensures cut { IfErr result (λ stop. is_of_output stop ≡ true → (is_last : Bool) × (line : List ℕ) × (here : List ℕ) × (count : ℕ)
-        × H.replies handler.now number (text_without_cr line) here count × TakesLine is_last (left_of I.left lines.old) (left_of I.left lines.new) line
+        × H.replies handler.now number (text_without_cr line) here count
+        × TakesLine is_last (left_of I.left lines.old) (left_of I.left lines.new) line
         × AppendsPart (O.contents out.old) (O.contents out.new) here) }
     ensures unreadable { IfErr result (λ stop. stop ≡ Stop.Unreadable → I.breaks lines.old.input) }
     ensures steady { I.breaks lines.new.input → I.breaks lines.old.input }
@@ -138,9 +143,11 @@ pub fn answer_input<H: LineHandler, I: Input + Drop, O: Write>(
     memory: &mut H::Memory,
     out: &mut O,
 ) -> Result<usize, Stop>
-    ensures ok { IfOk result (λ refused. (bytes : List ℕ) × (text : List ℕ) × MayBe (I.left input) bytes × IsReply (H.replies handler.now) bytes text refused
+    ensures ok { IfOk result (λ refused. (bytes : List ℕ) × (text : List ℕ) × MayBe (I.left input) bytes
+        × IsReply (H.replies handler.now) bytes text refused
         × Appends (O.contents out.old) (O.contents out.new) text) }
-    ensures err { IfErr result (λ stop. (bytes : List ℕ) × (text : List ℕ) × MayBe (I.left input) bytes × IsReplyToFirst (H.replies handler.now) bytes text
+    ensures err { IfErr result (λ stop. (bytes : List ℕ) × (text : List ℕ) × MayBe (I.left input) bytes
+        × IsReplyToFirst (H.replies handler.now) bytes text
         × AppendsBy stop (O.contents out.old) (O.contents out.new) text) }
     ensures unreadable { IfErr result (λ stop. stop ≡ Stop.Unreadable → I.breaks input) }
     ensures room { H.room memory.new ≡ H.room memory.old }

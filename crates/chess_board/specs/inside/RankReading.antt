@@ -9,7 +9,8 @@ use Rattle.chess_board.specs.declared.men.Man.{Man}
 -- the kind of a capital letter
 abbrev pub kind_of_letter : ℕ → Option Kind
 kind_of_letter b =
-    if b == 80 then Some Pawn else (if b == 78 then Some Knight else (if b == 66 then Some Bishop else (if b == 82 then Some Rook else (if b == 81 then Some Queen else (if b == 75 then Some King else None)))))
+    if b == 80 then Some Pawn else (if b == 78 then Some Knight else (if b == 66 then Some Bishop
+    else (if b == 82 then Some Rook else (if b == 81 then Some Queen else (if b == 75 then Some King else None)))))
 
 -- a man of the side, where there is a kind
 abbrev pub man_as : Colour → Option Kind → Option Man

@@ -7,7 +7,8 @@ use Rattle.chess_board.specs.Squares.{file_of, rank_of, file_gap, rank_gap}
 use Rattle.chess_board.specs.Attacks.{is_forward}
 use Rattle.chess_board.specs.PseudoLegal.{second_rank}
 use Rattle.chess_moves.specs.declared.directions.Leap.{Leap}
-use Rattle.chess_moves.specs.declared.directions.Leap.TheVariants.{KnightLeap, KingStep, WhiteCapture, BlackCapture, WhiteStep, BlackStep, WhiteDouble, BlackDouble}
+use Rattle.chess_moves.specs.declared.directions.Leap.TheVariants.{KnightLeap, KingStep, WhiteCapture, BlackCapture}
+use Rattle.chess_moves.specs.declared.directions.Leap.TheVariants.{WhiteStep, BlackStep, WhiteDouble, BlackDouble}
 
 -- a pawn captures one rank ahead on a file beside its own
 abbrev pub is_pawn_capture : Colour → ℕ → ℕ → Bool

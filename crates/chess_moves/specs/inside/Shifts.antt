@@ -33,4 +33,5 @@ third_rank Black = 5
 
 -- No pawn of the set can be pinned, and none captures en passant.
 abbrev pub AreFree : ℕ → LegalityInfo → Setup → Type 0
-AreFree pawns info p = (o : ℕ) → o < 64 → has pawns o ≡ true → (has info.pin_squares o ≡ false) × ((t : ℕ) → t < 64 → takes_en_passant p info.side o t ≡ false)
+AreFree pawns info p = (o : ℕ) → o < 64 → has pawns o ≡ true
+    → (has info.pin_squares o ≡ false) × ((t : ℕ) → t < 64 → takes_en_passant p info.side o t ≡ false)

@@ -44,13 +44,15 @@ pub record TookOne (n : ℕ) (old new : Line) (c d : Content) (counts : Took) : 
 
 -- A job was ordered; or the deque refused it, which it never does with its first; or nothing waits.
 abbrev pub OrderedOne : List Order → List Order → Content → Content → Tried → Type 0
-OrderedOne old new c d Ordered = (job : Task) × (lowest (entries c) ≡ Some job.ticket) × (count_by (waits_as job) (entries c) ≡ 1) × (count_by (is_out_with job) (entries c) ≡ 0) × (new ≡ old ++ Solve job ∷ []) × (d ≡ after_take c job)
+OrderedOne old new c d Ordered = (job : Task) × (lowest (entries c) ≡ Some job.ticket) × (count_by (waits_as job) (entries c) ≡ 1)
+    × (count_by (is_out_with job) (entries c) ≡ 0) × (new ≡ old ++ Solve job ∷ []) × (d ≡ after_take c job)
 OrderedOne old new c d Refused = (new ≡ old) × (d ≡ c) × (0 < length old)
 OrderedOne old new c d NoneWaits = (new ≡ old) × (d ≡ c) × (count_by waits (entries c) ≡ 0)
 
 -- A delivery was given to the n-th window; or its ring has no place known to be free, or nothing is ready.
 abbrev pub GaveOne : ℕ → Line → Line → Content → Content → Bool → Type 0
-GaveOne n old new c d true = (x : Delivery) × (delivery (ready c n) ≡ Some x) × (deliveries_put new ≡ deliveries_put old ++ x ∷ []) × (d ≡ after_collect c n)
+GaveOne n old new c d true = (x : Delivery) × (delivery (ready c n) ≡ Some x)
+    × (deliveries_put new ≡ deliveries_put old ++ x ∷ []) × (d ≡ after_collect c n)
 GaveOne n old new c d false = (deliveries_put new ≡ deliveries_put old) × (d ≡ c) × ((places_free new ≡ 0) ⊎ (ready c n ≡ None))
 
 -- The same of the keeper's lists: whether one waits less, or why none was ordered.

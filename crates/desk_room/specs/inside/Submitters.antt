@@ -20,13 +20,15 @@ woven (r ∷ rs) (text ∷ texts) = (answer_line r ++ text) ++ woven rs texts
 -- What a submitter has that handled these lines, the first of an input: the records sent, those that were answered, what is written, and
 -- what stands behind the answers that are awaited. If those that were answered are the first of those sent, then what is written, with
 -- the answers to the others in their places, is the reply to the lines.
-pub record Progress (default : ℕ) (lines : List (List ℕ)) (sent got : List RecordValue) (text : List ℕ) (pending : List (List ℕ)) (refused : ℕ) : Type 0 where
+pub record Progress (default : ℕ) (lines : List (List ℕ)) (sent got : List RecordValue) (text : List ℕ)
+    (pending : List (List ℕ)) (refused : ℕ) : Type 0 where
   pub awaited : length got + length pending ≡ length sent
   pub replied : (rest : List RecordValue) → sent ≡ got ++ rest → IsReplyFrom default 1 lines (text ++ woven rest pending) refused
 
 -- the same of a submitter
 abbrev pub HasHandled : List (List ℕ) → Submitter → Type 0
-HasHandled lines c = Progress (default_of c.window) lines (records (letters_sent c.window)) (map asked (collected c.window)) c.text.items (map (λ text. text.items) c.pending_replies.items) c.refused
+HasHandled lines c = Progress (default_of c.window) lines (records (letters_sent c.window))
+    (map asked (collected c.window)) c.text.items (map (λ text. text.items) c.pending_replies.items) c.refused
 
 -- The submitter took answers, and nothing else.
 pub record Collects (c d : Submitter) : Type 0 where

@@ -189,7 +189,9 @@ impl Submitter {
         requires { self.old.refused < 2 ^ 64 - 1 }
         ensures window { self.new.window ≡ self.old.window }
         ensures refused { self.new.refused ≤ self.old.refused + 1 }
-        ensures handled { OnOk result ((lines : List (List ℕ)) (line : List ℕ) → IsLineReply (default_of self.old.window) (length lines + 1) (text_without_cr line) refusal.now 1 → HasHandled lines self.old → HasHandled (lines ++ line ∷ []) self.new) }
+        ensures handled { OnOk result ((lines : List (List ℕ)) (line : List ℕ)
+            → IsLineReply (default_of self.old.window) (length lines + 1) (text_without_cr line) refusal.now 1
+            → HasHandled lines self.old → HasHandled (lines ++ line ∷ []) self.new) }
     {
         // That a line's reply follows those to the lines before it is this law.
         replies_go_on();
@@ -217,7 +219,9 @@ impl Submitter {
         requires few { self.old.refused < number }
         ensures window { SameWindow self.old.window self.new.window }
         ensures few { self.new.refused ≤ self.old.refused + 1 }
-        ensures handled { OnOk result ((lines : List (List ℕ)) (whole : List ℕ) → length lines + 1 ≡ number → text_without_cr whole ≡ line.now → is_blank_text line.now ≡ false → HasHandled lines self.old → HasHandled (lines ++ whole ∷ []) self.new) }
+        ensures handled { OnOk result ((lines : List (List ℕ)) (whole : List ℕ) → length lines + 1 ≡ number
+            → text_without_cr whole ≡ line.now → is_blank_text line.now ≡ false → HasHandled lines self.old
+            → HasHandled (lines ++ whole ∷ []) self.new) }
     {
         // That a line's reply follows those to the lines before it is this law.
         replies_go_on();
@@ -256,7 +260,8 @@ impl Submitter {
         requires few { self.old.refused < number }
         ensures window { SameWindow self.old.window self.new.window }
         ensures few { OnOk result (self.new.refused ≤ self.old.refused + 1) }
-        ensures handled { OnOk result ((lines : List (List ℕ)) → length lines + 1 ≡ number → HasHandled lines self.old → HasHandled (lines ++ line.now ∷ []) self.new) }
+        ensures handled { OnOk result ((lines : List (List ℕ)) → length lines + 1 ≡ number → HasHandled lines self.old
+            → HasHandled (lines ++ line.now ∷ []) self.new) }
     {
         // That a line's reply follows those to the lines before it is this law.
         replies_go_on();

@@ -64,7 +64,8 @@ pub(crate) fn run_windows<R: Threads + Wait + Sync>(
         rt,
         move |scope| -> (Report, Result<Vec<Report>, AllocError>)
             requires { IsSync R.row × (vec_len windows ≡ length rest.now) × AllFresh windows.items × IsFreshWindow window }
-            ensures { Reports window input.entry.now.items result.0 × IfOk result.1 (λ all. AllReport windows.items (map (λ v. v.items) rest.entry.now) all.items) }
+            ensures { Reports window input.entry.now.items result.0
+                × IfOk result.1 (λ all. AllReport windows.items (map (λ v. v.items) rest.entry.now) all.items) }
         {
             let promise = ReportsOf {
                 windows: Snapshot::of(&windows),

@@ -22,7 +22,8 @@ entries_from asks phases marks j (claim ∷ claims) = entry_at asks phases marks
 
 -- a queue, so many of whose records were delivered
 abbrev pub queue_with : (ℕ → RecordValue) → ℕ → List Claim → ℕ → (ℕ → Phase) → (ℕ → Bool) → QueueValue
-queue_with asks room claims done phases marks = record { room = room; delivered = done; pending = entries_from asks phases marks done (drop done claims) }
+queue_with asks room claims done phases marks =
+    record { room = room; delivered = done; pending = entries_from asks phases marks done (drop done claims) }
 
 -- the queue of a submitter
 abbrev pub queue_of : (ℕ → RecordValue) → ℕ → History → ℕ → QueueValue
@@ -49,7 +50,8 @@ AreNoticesMarked marks j [] = Unit {0}
 AreNoticesMarked marks j (parcel ∷ parcels) = (is_notice parcel ≡ marks j) × AreNoticesMarked marks (j + 1) parcels
 
 -- what is so of one submitter
-pub record Sound (room default : ℕ) (asks : ℕ → RecordValue) (claims : List Claim) (parcels : List Parcel) (next : ℕ) (phases : ℕ → Phase) (marks : ℕ → Bool) : Type 0 where
+pub record Sound (room default : ℕ) (asks : ℕ → RecordValue) (claims : List Claim) (parcels : List Parcel) (next : ℕ)
+    (phases : ℕ → Phase) (marks : ℕ → Bool) : Type 0 where
   pub few : length parcels ≤ length claims
   pub fits : length claims ≤ length parcels + room
   pub below : AreClaimsBelow next claims
@@ -87,7 +89,8 @@ Mirrors n room default h c jobs = (asks : ℕ → RecordValue) × MirrorsBy asks
 
 -- what a step does, whatever came before
 abbrev pub Makes : ℕ → Step → Reply → Content → List Task → Content → List Task → Type 0
-Makes default step reply c jobs d left = (n room : ℕ) (h : History) → Mirrors n room default h c jobs → Mirrors n room default (record { step = step; reply = reply } ∷ h) d left
+Makes default step reply c jobs d left = (n room : ℕ) (h : History) → Mirrors n room default h c jobs
+    → Mirrors n room default (record { step = step; reply = reply } ∷ h) d left
 
 -- It holds at each moment so far.
 unfoldable pub AtEachMoment : (History → Type 0) → History → Type 0

@@ -33,4 +33,5 @@ NoDistReads = (first : List Move) (p : Setup) (b : ℕ) → (dist first p b ≡ 
 
 -- The variation to a mate within the least number of moves is the principal variation as a chess player reads it.
 abbrev pub LineReads : Type 0
-LineReads = (first : List Move) (p : Setup) (b n : ℕ) → IsRising first → dist first p b ≡ Some n → IsPrincipalVariation first p n (variation first p n)
+LineReads = (first : List Move) (p : Setup) (b n : ℕ) → IsRising first → dist first p b ≡ Some n
+    → IsPrincipalVariation first p n (variation first p n)

@@ -20,7 +20,8 @@ dist first p (suc b) = option_or (dist first p b) (if win_among first (suc b) p 
 -- The least number of moves with its keys and its line, or that there is no mate within b moves, where the attacker's first move
 -- is one of these. An EPD record has them as dm, bm and pv (PGN Specification, section 16.2.5).
 unfoldable pub truth_among : List Move → Setup → ℕ → Outcome
-truth_among first p b = option_map_or (λ n. Mate n (record { items = keys first p n }) (record { items = variation first p n })) (dist first p b) NoMate
+truth_among first p b = option_map_or
+    (λ n. Mate n (record { items = keys first p n }) (record { items = variation first p n })) (dist first p b) NoMate
 
 -- the moves that the attacker may begin with: the legal ones that are not to be avoided
 unfoldable pub first_moves : ProblemValue → List Move

@@ -1,5 +1,6 @@
 -- Not for believing: how the lines of a script are taken apart; `SpellsDesk` and `SpellsStep` say how they are put together.
-use Rattle.std.specs.Prelude.{◌==◌, ◌&&◌, ℕ, Bool, List, [], ◌∷◌, Option, None, Some, codes, length, nat_le, nat_lt, option_map, option_and_then, if◌then◌else◌}
+use Rattle.std.specs.Prelude.{◌==◌, ◌&&◌, ℕ, Bool, List, [], ◌∷◌, Option, None, Some, codes, length}
+use Rattle.std.specs.Prelude.{nat_le, nat_lt, option_map, option_and_then, if◌then◌else◌}
 use Rattle.std.specs.List.{list_all}
 use Rattle.std.specs.Str.{bytes_eq}
 use Rattle.chess_board.specs.Fields.{digits_value}

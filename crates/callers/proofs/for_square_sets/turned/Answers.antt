@@ -20,4 +20,5 @@ loop-square-preserved c = λ s l.
     let square : ℕ = c.in-Some.square in
     let left = c.loop-square.square-iterator in
     rw (c.with-result.ensures s l, split.others (63 - s) (omega arith), same_test s square l split.lowest.on_board)
-    (turn (63 - s == square) (has c.loop-square.result s) (has left (63 - s)) (has c.args.set (63 - s)) (λ same. ap (has left) (eqb-true (63 - s) square same) ∙ split.lowest.there) (c.loop-square.invariant s l))
+    (turn (63 - s == square) (has c.loop-square.result s) (has left (63 - s)) (has c.args.set (63 - s))
+    (λ same. ap (has left) (eqb-true (63 - s) square same) ∙ split.lowest.there) (c.loop-square.invariant s l))

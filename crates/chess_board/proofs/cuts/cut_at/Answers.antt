@@ -5,4 +5,5 @@ pub returns-in_err-at-clause-none : goal.returns-in_err-at-clause-none
 returns-in_err-at-clause-none c = rw c.from_residual.ensures (slice_split_whole c.args.byte c.args.text.now c.in_err-at.ensures.none)
 
 pub returns-clause-cut : goal.returns-clause-cut
-returns-clause-cut c = slice_split_cut c.args.byte c.args.text.now c.in_ok-at.at c.in_ok-at.ensures.inside c.in_ok-at.ensures.before c.in_ok-at.ensures.here
+returns-clause-cut c = slice_split_cut c.args.byte c.args.text.now c.in_ok-at.at c.in_ok-at.ensures.inside
+    c.in_ok-at.ensures.before c.in_ok-at.ensures.here

@@ -28,7 +28,8 @@ returns-in_err-setup-clause-refused c =
 pub returns-in_err-setup-clause-exact : goal.returns-in_err-setup-clause-exact
 returns-in_err-setup-clause-exact c =
     let p = err_from_is_err_and c.from_residual.result c.from_residual.ensures.1 in
-    exact_err c.args.text.now c.from_residual.result c.in_err-setup.field-0.0 (p.1 ∙ ap Err p.2) (fault_of_spelling c.args.text.now _ _ _ _ _ _ _ c.in-Some.ensures.fields c.in_err-setup.ensures.refused)
+    exact_err c.args.text.now c.from_residual.result c.in_err-setup.field-0.0 (p.1 ∙ ap Err p.2)
+    (fault_of_spelling c.args.text.now _ _ _ _ _ _ _ c.in-Some.ensures.fields c.in_err-setup.ensures.refused)
 
 pub returns-in_err-position-clause-exact : goal.returns-in_err-position-clause-exact
 returns-in_err-position-clause-exact c =
@@ -36,14 +37,16 @@ returns-in_err-position-clause-exact c =
     let half = c.in-Some-counter_of_text.ensures.read in
     let full = c.in-Some-counter_of_text-2.ensures.read in
     exact_err c.args.text.now c.from_residual-in_err-position.result c.in_err-position.field-0.0 (p.1 ∙ ap Err p.2)
-    (fault_of_position c.args.text.now _ _ _ _ _ _ _ _ c.in-Some.ensures.fields c.in_ok-setup.ensures.read half.0 full.0 c.in_err-position.ensures.refused)
+    (fault_of_position c.args.text.now _ _ _ _ _ _ _ _ c.in-Some.ensures.fields c.in_ok-setup.ensures.read half.0
+    full.0 c.in_err-position.ensures.refused)
 
 pub returns-in_err-position-clause-refused : goal.returns-in_err-position-clause-refused
 returns-in_err-position-clause-refused c =
     let p = err_from_is_err_and c.from_residual-in_err-position.result c.from_residual-in_err-position.ensures.1 in
     let half = c.in-Some-counter_of_text.ensures.read in
     let full = c.in-Some-counter_of_text-2.ensures.read in
-    rw (p.1, p.2) (fault_of_position c.args.text.now _ _ _ _ _ _ _ _ c.in-Some.ensures.fields c.in_ok-setup.ensures.read half.0 full.0 c.in_err-position.ensures.refused)
+    rw (p.1, p.2) (fault_of_position c.args.text.now _ _ _ _ _ _ _ _ c.in-Some.ensures.fields c.in_ok-setup.ensures.read half.0
+    full.0 c.in_err-position.ensures.refused)
 
 pub returns-clause-exact : goal.returns-clause-exact
 returns-clause-exact c =

@@ -10,7 +10,8 @@ new-requires c =
     let target : c.chosen.inside.target ≡ c.args.chosen.target = ap (λ x. x.target) c.chosen.view_is in
     let there : man_at c.args.position.now.men c.args.chosen.origin ≡ Some c.in-Some.man = rw origin at (sym c.man.ensures ∙ c.in-Some.is) in
     rw (c.men_after.ensures, c.other.ensures, c.side.ensures.side, c.rights_after.ensures, c.rights.ensures, c.target_after.ensures)
-    (sound_legal c.args.position.now c.args.chosen c.in-Some.man c.side.ensures.sound there (rw origin at c.chosen.invariant.0) (rw target at c.chosen.invariant.1) c.requires)
+    (sound_legal c.args.position.now c.args.chosen c.in-Some.man c.side.ensures.sound there (rw origin at c.chosen.invariant.0)
+    (rw target at c.chosen.invariant.1) c.requires)
 
 pub unreachable-requires : goal.unreachable-requires
 unreachable-requires c =
@@ -22,4 +23,12 @@ unfolding after_setup
 returns c =
     let origin : c.chosen.inside.origin ≡ c.args.chosen.origin = ap (λ x. x.origin) c.chosen.view_is in
     let there : man_at c.args.position.now.men c.args.chosen.origin ≡ Some c.in-Some.man = rw origin at (sym c.man.ensures ∙ c.in-Some.is) in
-    c.new.ensures ∙ rw (c.men_after.ensures, c.other.ensures, c.side.ensures.side, c.rights_after.ensures, c.rights.ensures, c.target_after.ensures, there) refl
+    c.new.ensures ∙ rw (
+      c.men_after.ensures,
+      c.other.ensures,
+      c.side.ensures.side,
+      c.rights_after.ensures,
+      c.rights.ensures,
+      c.target_after.ensures,
+      there,
+    ) refl

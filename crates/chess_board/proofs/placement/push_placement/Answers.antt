@@ -14,8 +14,14 @@ loop-rank-preserved c =
           c.push_rank-in-loop-rank.ensures.text
           ∙ ap (λ (t : List ℕ). t ++ rank_text (take ((8 * rank + 8) - 8 * rank) (drop (8 * rank) c.args.men.now))) slash
           ∙ ap (λ n. (c.loop-rank.text.bytes ++ 47 ∷ []) ++ rank_text (take n (drop (8 * rank) c.args.men.now))) eight
-          ∙ printed_more c.loop-rank.rank rank c.args.men.now c.args.text.now.bytes c.loop-rank.text.bytes (omega arith) (omega arith) c.loop-rank.invariant.text;
-      short = omega (arith, ap length slash, length-append c.loop-rank.text.bytes (47 ∷ []), length-take ((8 * rank + 8) - 8 * rank) (drop (8 * rank) c.args.men.now));
+          ∙ printed_more c.loop-rank.rank rank c.args.men.now c.args.text.now.bytes c.loop-rank.text.bytes (omega arith)
+          (omega arith) c.loop-rank.invariant.text;
+      short = omega (
+        arith,
+        ap length slash,
+        length-append c.loop-rank.text.bytes (47 ∷ []),
+        length-take ((8 * rank + 8) - 8 * rank) (drop (8 * rank) c.args.men.now),
+      );
     }
 
 pub returns-clause-text : goal.returns-clause-text

@@ -7,10 +7,12 @@ pub returns-then-after_digit-clause-none : goal.returns-then-after_digit-clause-
 returns-then-after_digit-clause-none c = two_runs _ _ _ _ _ c.loop-byte.invariant c.loop-byte-test.true refl (cc) c.if-after_digit.true
 
 pub returns-then-len-count-gt8-clause-none : goal.returns-then-len-count-gt8-clause-none
-returns-then-len-count-gt8-clause-none c = long_run _ _ _ _ _ c.loop-byte.invariant c.loop-byte-test.true refl (cc) c.if-after_digit.false (omega arith)
+returns-then-len-count-gt8-clause-none c =
+    long_run _ _ _ _ _ c.loop-byte.invariant c.loop-byte-test.true refl (cc) c.if-after_digit.false (omega arith)
 
 pub returns-in_err-man-clause-none : goal.returns-in_err-man-clause-none
-returns-in_err-man-clause-none c = rw c.from_residual.ensures (no_man _ _ _ _ _ c.loop-byte.invariant c.loop-byte-test.true refl (cc) (sym c.man_of_letter.ensures ∙ c.in_err-man.was))
+returns-in_err-man-clause-none c = rw c.from_residual.ensures
+    (no_man _ _ _ _ _ c.loop-byte.invariant c.loop-byte-test.true refl (cc) (sym c.man_of_letter.ensures ∙ c.in_err-man.was))
 
 pub returns-then-is_full-clause-none : goal.returns-then-is_full-clause-none
 returns-then-is_full-clause-none c =

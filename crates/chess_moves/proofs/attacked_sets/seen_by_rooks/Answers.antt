@@ -6,15 +6,18 @@ use Rattle.chess_moves.proofs.SetBits.{has_none}
 use Rattle.chess_moves.proofs.attacked_sets.seen_by_rooks.Goals as goal
 
 pub loop-a-init : goal.loop-a-init
-loop-a-init c = λ t l. let start = c.into_iter-a-iterator.ensures.into_iter_gives ∙ c.squares-a-items.ensures in let none = has_none 0 t refl in rw (start, none) refl
+loop-a-init c = λ t l. let start = c.into_iter-a-iterator.ensures.into_iter_gives ∙ c.squares-a-items.ensures in let none =
+    has_none 0 t refl in rw (start, none) refl
 
 pub rook_attacks-set-requires : goal.rook_attacks-set-requires
 rook_attacks-set-requires c = c.in-Some.ensures.steps.lowest.on_board
 
 pub loop-a-preserved : goal.loop-a-preserved
 loop-a-preserved c = λ t l.
-    joined_from (λ a. reaches_as_rook (has c.args.occupied) a t) c.loop-a.set c.rook_attacks-set.result c.loop-a.a-iterator c.in-Some.a c.next.new.self t c.in-Some.ensures.steps (c.rook_attacks-set.ensures t l)
+    joined_from (λ a. reaches_as_rook (has c.args.occupied) a t) c.loop-a.set c.rook_attacks-set.result c.loop-a.a-iterator
+    c.in-Some.a c.next.new.self t c.in-Some.ensures.steps (c.rook_attacks-set.ensures t l)
     ∙ c.loop-a.invariant t l
 
 pub returns : goal.returns
-returns c = λ t l. sym (none_to_join (λ a. reaches_as_rook (has c.args.occupied) a t) c.loop-a.set c.loop-a.a-iterator t c.in-None.ensures.steps.0) ∙ c.loop-a.invariant t l
+returns c = λ t l. sym (none_to_join (λ a. reaches_as_rook (has c.args.occupied) a t) c.loop-a.set c.loop-a.a-iterator t
+    c.in-None.ensures.steps.0) ∙ c.loop-a.invariant t l

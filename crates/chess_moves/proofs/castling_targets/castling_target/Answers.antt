@@ -10,17 +10,24 @@ use Rattle.chess_moves.proofs.SetBits.{has_none}
 use Rattle.chess_moves.proofs.Geometry.{eqb_back}
 use Rattle.chess_moves.proofs.CastlingWays.{castles_says, castles_from, clear_way}
 use Rattle.chess_moves.proofs.castling_targets.castling_target.Goals as goal
-use Rattle.chess_moves.proofs.castling_targets.castling_target.Goals.{then-is_checked-via-then-is_checked, then-is_checked-via-else-is_checked+then-is_attacked_in, then-is_checked-via-else-is_checked+else-is_attacked_in+then-is_attacked_in-2}
+use Rattle.chess_moves.proofs.castling_targets.castling_target.Goals.{
+  then-is_checked-via-then-is_checked,
+  then-is_checked-via-else-is_checked+then-is_attacked_in,
+  then-is_checked-via-else-is_checked+else-is_attacked_in+then-is_attacked_in-2,
+}
 
 pub returns-then-between-info-ne0 : goal.returns-then-between-info-ne0
 returns-then-between-info-ne0 c = λ t l.
     let p = c.args.position.now in
     let king : ℕ = c.args.info.now.king in
     let side_is = c.requires.info.side in
-    let way = clear_way p.men p.side c.args.wing (king_home c.args.info.now.side) (rook_home c.args.info.now.side c.args.wing) c.castling_way-between.result c.args.info.now.occupied
+    let way = clear_way p.men p.side c.args.wing (king_home c.args.info.now.side)
+    (rook_home c.args.info.now.side c.args.wing) c.castling_way-between.result c.args.info.now.occupied
     (ap king_home side_is) (ap (λ (colour : Colour). rook_home colour c.args.wing) side_is)
     (omega arith) c.castling_way-between.ensures c.requires.info.occupied in
-    let blocked = ap (λ (a : ℕ). is_clear p.men a (rook_home p.side c.args.wing)) (c.if-info-home.false ∙ (c.index-home.ensures.number ∙ c.king_home.ensures)) ∙ way ∙ ne_eqb (bit_and c.castling_way-between.result c.args.info.now.occupied) 0 c.if-between-info-ne0.true in
+    let blocked = ap (λ (a : ℕ). is_clear p.men a (rook_home p.side c.args.wing))
+    (c.if-info-home.false ∙ (c.index-home.ensures.number ∙ c.king_home.ensures)) ∙ way
+    ∙ ne_eqb (bit_and c.castling_way-between.result c.args.info.now.occupied) 0 c.if-between-info-ne0.true in
     has_none 0 t refl ∙ sym (false_from_ne_true (castles_to p p.side c.args.wing king t) (λ h.
     let x = (castles_says p p.side c.args.wing king t h).clear in
     cc))
@@ -35,7 +42,8 @@ returns-then-is_checked c = λ t l.
     has_none 0 t refl ∙ sym (false_from_ne_true (castles_to p p.side c.args.wing king t) (λ h.
     let x = castles_says p p.side c.args.wing king t h in
     let at_home : king ≡ home = c.if-info-home.false in
-    let at_goal : t ≡ c.index-goal.result = x.goal ∙ sym ((c.index-goal.ensures.number ∙ c.king_goal.ensures) ∙ ap (λ (colour : Colour). king_goal colour c.args.wing) info.side) in
+    let at_goal : t ≡ c.index-goal.result = x.goal ∙ sym ((c.index-goal.ensures.number ∙ c.king_goal.ensures)
+    ∙ ap (λ (colour : Colour). king_goal colour c.args.wing) info.side) in
     let midway : crossed king t ≡ (home + c.index-goal.result) / 2 = omega arith in
     elim c.then-is_checked.branch [
       | then-is_checked-via-then-is_checked w ↦
@@ -48,7 +56,8 @@ returns-then-is_checked c = λ t l.
           cc
       | then-is_checked-via-else-is_checked+else-is_attacked_in+then-is_attacked_in-2 w ↦
           let safe = x.safe_goal in
-          let hit = ap (λ (s : ℕ). is_attacked p.men s by) at_goal ∙ sym (w.is_attacked_in-else-is_attacked_in.ensures p info) ∙ w.if-is_attacked_in-2.true in
+          let hit = ap (λ (s : ℕ). is_attacked p.men s by) at_goal
+          ∙ sym (w.is_attacked_in-else-is_attacked_in.ensures p info) ∙ w.if-is_attacked_in-2.true in
           cc
     ]))
 
@@ -62,23 +71,29 @@ returns c = λ t l.
     let info = c.requires.info in
     let at_home : king ≡ home = c.if-info-home.false in
     let home_there : home ≡ king_home p.side = (c.index-home.ensures.number ∙ c.king_home.ensures) ∙ ap king_home info.side in
-    let way = clear_way p.men p.side c.args.wing (king_home c.args.info.now.side) (rook_home c.args.info.now.side c.args.wing) c.castling_way-between.result c.args.info.now.occupied
+    let way = clear_way p.men p.side c.args.wing (king_home c.args.info.now.side)
+    (rook_home c.args.info.now.side c.args.wing) c.castling_way-between.result c.args.info.now.occupied
     (ap king_home info.side) (ap (λ (colour : Colour). rook_home colour c.args.wing) info.side)
     (omega arith) c.castling_way-between.ensures info.occupied in
-    let goal_there : target ≡ king_goal p.side c.args.wing = (c.index-goal.ensures.number ∙ c.king_goal.ensures) ∙ ap (λ (colour : Colour). king_goal colour c.args.wing) info.side in
+    let goal_there : target ≡ king_goal p.side c.args.wing =
+    (c.index-goal.ensures.number ∙ c.king_goal.ensures) ∙ ap (λ (colour : Colour). king_goal colour c.args.wing) info.side in
     c.single.ensures t l ∙ eqb_back target t
     ∙ (elim (eqb target t) as (λ b. eqb target t ≡ b → b ≡ castles_to p p.side c.args.wing king t) [
       | true ↦ λ e.
           let at_goal : t ≡ target = sym (eqb-true target t e) in
           let midway : crossed king t ≡ (home + target) / 2 = omega arith in
           sym (castles_from p p.side c.args.wing king t (record {
-            right = ap (λ (colour : Colour). has_right_of p.rights colour c.args.wing) (sym info.side) ∙ sym c.has_right.ensures ∙ c.if-not-has_right.false;
+            right = ap (λ (colour : Colour). has_right_of p.rights colour c.args.wing) (sym info.side)
+                ∙ sym c.has_right.ensures ∙ c.if-not-has_right.false;
             home = at_home ∙ home_there;
             goal = at_goal ∙ goal_there;
-            clear = ap (λ (a : ℕ). is_clear p.men a (rook_home p.side c.args.wing)) (at_home ∙ (c.index-home.ensures.number ∙ c.king_home.ensures)) ∙ way ∙ eq-eqb (bit_and c.castling_way-between.result c.args.info.now.occupied) 0 c.if-between-info-ne0.false;
+            clear = ap (λ (a : ℕ). is_clear p.men a (rook_home p.side c.args.wing))
+                (at_home ∙ (c.index-home.ensures.number ∙ c.king_home.ensures)) ∙ way
+                ∙ eq-eqb (bit_and c.castling_way-between.result c.args.info.now.occupied) 0 c.if-between-info-ne0.false;
             safe = sym (c.is_checked.ensures p info) ∙ c.if-is_checked.false;
             safe_way = ap (λ (s : ℕ). is_attacked p.men s by) midway ∙ sym (c.is_attacked_in.ensures p info) ∙ c.if-is_attacked_in.false;
-            safe_goal = ap (λ (s : ℕ). is_attacked p.men s by) at_goal ∙ sym (c.is_attacked_in-else-is_attacked_in.ensures p info) ∙ c.if-is_attacked_in-2.false;
+            safe_goal = ap (λ (s : ℕ). is_attacked p.men s by) at_goal
+                ∙ sym (c.is_attacked_in-else-is_attacked_in.ensures p info) ∙ c.if-is_attacked_in-2.false;
           }))
       | false ↦ λ e. sym (false_from_ne_true (castles_to p p.side c.args.wing king t) (λ h.
           let x = castles_says p p.side c.args.wing king t h in

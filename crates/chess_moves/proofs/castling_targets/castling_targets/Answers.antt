@@ -13,7 +13,8 @@ returns-then-info-index c = λ t l.
     let p = c.args.position.now in
     let king = c.args.info.now.king in
     let none = λ (wing : Wing). false_from_ne_true (castles_to p p.side wing king t) (λ h.
-    c.if-info-index.true ((castles_says p p.side wing king t h).home ∙ ap king_home (sym c.requires.info.side) ∙ sym (c.index.ensures.number ∙ c.king_home.ensures))) in
+    c.if-info-index.true ((castles_says p p.side wing king t h).home ∙ ap king_home (sym c.requires.info.side)
+    ∙ sym (c.index.ensures.number ∙ c.king_home.ensures))) in
     has_none 0 t refl ∙ rw (none KingSide, none QueenSide) refl
 
 pub returns : goal.returns

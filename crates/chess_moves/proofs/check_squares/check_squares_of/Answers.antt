@@ -18,7 +18,8 @@ use Rattle.chess_moves.proofs.check_squares.check_squares_of.Goals as goal
 
 -- one set for each kind
 for_each_kind : (check_squares : CheckSquares) (taken : ℕ → Bool) (side : Colour) (a k : ℕ) → has check_squares.pawn a ≡ leaps (capture_of side) a k
-    → has check_squares.knight a ≡ leaps KnightLeap a k → has check_squares.bishop a ≡ reaches_as_bishop taken a k → has check_squares.rook a ≡ reaches_as_rook taken a k
+    → has check_squares.knight a ≡ leaps KnightLeap a k → has check_squares.bishop a ≡ reaches_as_bishop taken a k
+    → has check_squares.rook a ≡ reaches_as_rook taken a k
     → has check_squares.queen a ≡ (reaches_as_bishop taken a k || reaches_as_rook taken a k) → has check_squares.king a ≡ leaps KingStep a k
     → (asked : Kind) → has (squares_of check_squares asked) a ≡ hits_as taken side asked a k
 for_each_kind check_squares taken side a k pawn knight bishop rook queen king Pawn = pawn
@@ -44,7 +45,8 @@ returns c =
       there = ap (man_at c.args.position.now.men) c.index-king.ensures.number ∙ c.king.ensures.king
           ∙ ap (λ colour. man_of colour King) (c.other-enemy.ensures ∙ ap other_side c.side-side.ensures.side);
       squares = λ asked a l. for_each_kind _ taken side a k
-          (c.leap.ensures a l ∙ ap (λ leap. leaps leap k a) (c.capture_back.ensures ∙ ap capture_back c.side-side.ensures.side) ∙ capture_mirrored side a k)
+          (c.leap.ensures a l ∙ ap (λ leap. leaps leap k a) (c.capture_back.ensures ∙ ap capture_back c.side-side.ensures.side)
+          ∙ capture_mirrored side a k)
           (c.leap-2.ensures a l ∙ knight_back a k) (bishop a l) (rook a l)
           (rw (has_or c.bishop_attacks-bishop.result c.rook_attacks-rook.result a, bishop a l, rook a l))
           (c.leap-3.ensures a l ∙ king_back a k) asked;

@@ -6,7 +6,8 @@ use Rattle.chess_moves.proofs.Kept.{kept_from, has_all, none_left}
 use Rattle.chess_moves.proofs.checks_and_pins.capture_or_block.Goals as goal
 
 pub loop-a-init : goal.loop-a-init
-loop-a-init c = λ t l. let start = c.into_iter-a-iterator.ensures.into_iter_gives ∙ c.squares-a-items.ensures in let all = has_all t l in rw (start, all)
+loop-a-init c = λ t l. let start = c.into_iter-a-iterator.ensures.into_iter_gives ∙ c.squares-a-items.ensures in
+    let all = has_all t l in rw (start, all)
 
 pub between-requires : goal.between-requires
 between-requires c = (c.in-Some.ensures.steps.lowest.on_board, c.requires)

@@ -18,10 +18,12 @@ returns c = λ p man h from_own own t on.
     let gone : List (Option Man) = set p.men c.args.origin None in
     let k : ℕ = s.king in
     let len1 : length gone ≡ 64 = simp length-set len in
-    let cleared = stands_without is_some p.men s.occupied c.without-lifted.result c.args.origin None len c.requires.1 c.without-lifted.ensures refl h.occupied in
+    let cleared = stands_without is_some p.men s.occupied c.without-lifted.result c.args.origin None len c.requires.1
+    c.without-lifted.ensures refl h.occupied in
     let still = stand_still s.enemy (other_side p.side) p.men c.args.origin None len c.requires.1 from_own refl h.enemy in
     let through = rw by at c.attackers-through.ensures in
     c.capture_or_block.ensures t on
-    ∙ ap not (any_same (λ a. has c.attackers-through.result a && gets_through a k t) (λ a. hits_from (set gone t (Some man)) (other_side p.side) a k) 64
+    ∙ ap not (any_same (λ a. has c.attackers-through.result a && gets_through a k t)
+    (λ a. hits_from (set gone t (Some man)) (other_side p.side) a k) 64
     (λ a l. ap (λ x. x && gets_through a k t) (through gone cleared still a l)
     ∙ sym (attacks_placed gone t man (other_side p.side) a k len1 on own)))

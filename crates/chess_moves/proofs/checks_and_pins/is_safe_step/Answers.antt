@@ -14,7 +14,9 @@ returns c = λ p own h own_is.
     let len = h.sound.squares in
     let gone : List (Option Man) = set p.men s.king None in
     let len1 : length gone ≡ 64 = simp length-set len in
-    let cleared = stands_without is_some p.men s.occupied c.without-lifted.result s.king None len c.requires.0 c.without-lifted.ensures refl h.occupied in
-    let still = stand_still s.enemy (other_side p.side) p.men s.king None len c.requires.0 (own_not_other p (king p.side) s.king h.king refl) refl h.enemy in
+    let cleared = stands_without is_some p.men s.occupied c.without-lifted.result s.king None len c.requires.0
+    c.without-lifted.ensures refl h.occupied in
+    let still = stand_still s.enemy (other_side p.side) p.men s.king None len c.requires.0
+    (own_not_other p (king p.side) s.king h.king refl) refl h.enemy in
     let hit = rw by at c.is_hit_over.ensures in
     ap not (hit gone cleared still ∙ sym (hit_on_arrival gone c.args.target own (other_side p.side) len1 c.requires.1 own_is))

@@ -26,9 +26,11 @@ returns c = λ m legal e t plain none.
     let gone : List (Option Man) = set p.men o None in
     let there : man_at p.men k ≡ man_of (other_side p.side) King = ap (man_at p.men) c.index-square.ensures.number ∙ c.king.ensures.king
     ∙ ap (λ colour. man_of colour King) (c.other-enemy.ensures ∙ ap other_side side) in
-    let lifted = stands_without is_some p.men c.occupied.result c.without-lifted.result o None sound.squares c.requires.on_board c.without-lifted.ensures refl c.occupied.ensures in
+    let lifted = stands_without is_some p.men c.occupied.result c.without-lifted.result o None sound.squares c.requires.on_board
+    c.without-lifted.ensures refl c.occupied.ensures in
     let others = c.without-others.ensures p.men c.side-side.result None sound.squares c.force_of.ensures refl in
-    let clear : is_hit gone k p.side ≡ false = ap (is_hit gone k) (sym side) ∙ sym (c.is_hit_over.ensures gone lifted others) ∙ c.if-is_hit_over.false in
+    let clear : is_hit gone k p.side ≡ false =
+    ap (is_hit gone k) (sym side) ∙ sym (c.is_hit_over.ensures gone lifted others) ∙ c.if-is_hit_over.false in
     let back : has c.attacks_of.result m.target ≡ hits_as (λ s. is_taken gone s) p.side kind m.target k = c.attacks_of.ensures m.target t
     ∙ ap (λ colour. hits_as (has c.without-lifted.result) colour kind k m.target) (c.other-enemy.ensures ∙ ap other_side side)
     ∙ hits_back (has c.without-lifted.result) (λ s. is_taken gone s) lifted p.side kind k m.target in

@@ -15,8 +15,10 @@ returns c = λ p man h from_own own.
     let len1 : length gone ≡ 64 = simp length-set len in
     let len2 : length come ≡ 64 = simp length-set len in
     let cleared = stands_without is_some p.men s.occupied c.without.result c.args.origin None len c.requires.1 c.without.ensures refl h.occupied in
-    let filled = stands_with is_some gone c.without.result c.with-moved.result c.args.target (Some man) len1 c.requires.2 c.with-moved.ensures refl cleared in
-    let passed = stands_without is_some come c.with-moved.result c.without-after.result c.args.captured None len2 c.requires.3 c.without-after.ensures refl filled in
+    let filled = stands_with is_some gone c.without.result c.with-moved.result c.args.target
+    (Some man) len1 c.requires.2 c.with-moved.ensures refl cleared in
+    let passed = stands_without is_some come c.with-moved.result c.without-after.result c.args.captured None len2
+    c.requires.3 c.without-after.ensures refl filled in
     let still = stand_still s.enemy (other_side p.side) p.men c.args.origin None len c.requires.1 from_own refl h.enemy in
     let left = c.without-2.ensures gone (other_side p.side) (Some man) len1 still own in
     let hit = rw by at c.is_hit_over.ensures in

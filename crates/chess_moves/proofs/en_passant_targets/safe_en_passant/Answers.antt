@@ -24,7 +24,8 @@ returns-then-is_safe_en_passant c = λ t on.
     ∙ ap (λ a. captured_pawn a c.numbered-2.result) c.numbered.ensures ∙ ap (λ b. captured_pawn o b) c.numbered-2.ensures in
     let told = rw (c.if-is_safe_en_passant.true, taken) at c.is_safe_en_passant.ensures in
     let safe = told p man h (own_not_other p man o r.there r.own) (other_colour man.colour p.side r.own) in
-    sym (and-true (has passing t)) ∙ en_passant_goes_safely c.args.info.now p man o passing c.lowest-target.result true h r.there r.own r.pawn c.en_passant_targets-passing.ensures c.lowest-target.ensures.on_board c.lowest-target.ensures.there safe t on
+    sym (and-true (has passing t)) ∙ en_passant_goes_safely c.args.info.now p man o passing c.lowest-target.result true h r.there
+    r.own r.pawn c.en_passant_targets-passing.ensures c.lowest-target.ensures.on_board c.lowest-target.ensures.there safe t on
 
 pub returns-else-is_safe_en_passant : goal.returns-else-is_safe_en_passant
 returns-else-is_safe_en_passant c = λ t on.
@@ -38,4 +39,6 @@ returns-else-is_safe_en_passant c = λ t on.
     ∙ ap (λ a. captured_pawn a c.numbered-2.result) c.numbered.ensures ∙ ap (λ b. captured_pawn o b) c.numbered-2.ensures in
     let told = rw (c.if-is_safe_en_passant.false, taken) at c.is_safe_en_passant.ensures in
     let safe = told p man h (own_not_other p man o r.there r.own) (other_colour man.colour p.side r.own) in
-    has_none 0 t refl ∙ sym (and-false (has passing t)) ∙ en_passant_goes_safely c.args.info.now p man o passing c.lowest-target.result false h r.there r.own r.pawn c.en_passant_targets-passing.ensures c.lowest-target.ensures.on_board c.lowest-target.ensures.there safe t on
+    has_none 0 t refl ∙ sym (and-false (has passing t))
+    ∙ en_passant_goes_safely c.args.info.now p man o passing c.lowest-target.result false h r.there r.own r.pawn
+    c.en_passant_targets-passing.ensures c.lowest-target.ensures.on_board c.lowest-target.ensures.there safe t on

@@ -27,8 +27,10 @@ returns c =
     let long = info.sound.squares in
     let there : man_at p.men k ≡ man_of (other_side p.side) King = ap (man_at p.men) c.index-king.ensures.number ∙ c.king.ensures.king
     ∙ ap (λ (s : Colour). man_of s King) (c.other.ensures ∙ ap other_side info.side) in
-    let lifted = stands_without is_some p.men occupied c.without-lifted.result k None long c.index-king.ensures.on_board c.without-lifted.ensures refl info.occupied in
-    let no_man : is_of by (man_at p.men k) ≡ false = ap (λ (s : Colour). is_of s (man_at p.men k)) info.side ∙ ap (is_of p.side) there ∙ not_of_other p.side in
+    let lifted = stands_without is_some p.men occupied c.without-lifted.result k None long c.index-king.ensures.on_board
+    c.without-lifted.ensures refl info.occupied in
+    let no_man : is_of by (man_at p.men k) ≡ false =
+    ap (λ (s : Colour). is_of s (man_at p.men k)) info.side ∙ ap (is_of p.side) there ∙ not_of_other p.side in
     let still = stand_still c.force_of.result by p.men k None long c.index-king.ensures.on_board no_man refl c.force_of.ensures in
     let few : enemies < 2 ^ 64 = omega (arith, and_le_l occupied (bit_not w64 own)) in
     record {
@@ -38,7 +40,8 @@ returns c =
           let first = parted near enemies f (has near f) (is_some (man_at p.men f) && not (is_of p.side (man_at p.men f))) few l refl
           (parted occupied own f (is_some (man_at p.men f)) (is_of p.side (man_at p.men f)) (omega arith) l (info.occupied f l) (info.own f l)) in
           let all = parted (bit_and near (bit_not w64 enemies)) attacked f _ (has attacked f) (omega arith) l first refl in
-          let outer = and_parts (has near f && not (is_some (man_at p.men f) && not (is_of p.side (man_at p.men f)))) (not (has attacked f)) (sym all ∙ on) in
+          let outer = and_parts (has near f && not (is_some (man_at p.men f) && not (is_of p.side (man_at p.men f))))
+          (not (has attacked f)) (sym all ∙ on) in
           let inner = and_parts (has near f) (not (is_some (man_at p.men f) && not (is_of p.side (man_at p.men f)))) outer.0 in
           record {
             on_board = l;

@@ -26,13 +26,16 @@ loop-flight-preserved c =
           (elim (has c.loop-flight.covering m.target) as (λ b. has c.loop-flight.covering m.target ≡ b → is_mate (after_setup p m) ≡ false) [
             | false ↦ λ e. c.loop-flight.invariant.dropped m legal at t_on hoped e
             | true ↦ λ e.
-                let now : (true && has (bit_or special from) m.target) ≡ false = ap (λ x. x && has (bit_or special from) m.target) (sym e) ∙ sym (has_and c.loop-flight.covering (bit_or special from) m.target) ∙ out in
+                let now : (true && has (bit_or special from) m.target) ≡ false = ap (λ x. x && has (bit_or special from) m.target)
+                (sym e) ∙ sym (has_and c.loop-flight.covering (bit_or special from) m.target) ∙ out in
                 let both = or_parts (has special m.target) (has from m.target) (sym (has_or special from m.target) ∙ now) in
                 let o_on : m.origin < 64 = subst (λ s. s < 64) (sym at) c.requires.on_board in
                 let here = ap (man_at p.men) at ∙ c.requires.there in
                 let plain = c.special_squares-special.ensures m legal here o_on t_on both.0 in
-                let leaves = ap (λ s. leaves_flight p c.args.flights.king s c.args.man.kind m.target f) at ∙ c.squares_covering.ensures m.target t_on both.1 in
-                flight_left p c.args.flights.king f c.args.man m flights.sound (c.sound_after.ensures p m flights.sound o_on t_on legal) flights.on_board flights.there o_on t_on here legal plain
+                let leaves = ap (λ s. leaves_flight p c.args.flights.king s c.args.mover.man.kind m.target f) at
+                ∙ c.squares_covering.ensures m.target t_on both.1 in
+                flight_left p c.args.flights.king f c.args.mover.man m flights.sound (c.sound_after.ensures p m flights.sound o_on t_on
+                legal) flights.on_board flights.there o_on t_on here legal plain
                 (flights.squares f split.lowest.on_board (c.loop-flight.invariant.left f split.lowest.on_board split.lowest.there)) leaves
           ]) refl;
       left = λ s l on. c.loop-flight.invariant.left s l (and_parts _ (has c.loop-flight.flight-iterator s) (sym (split.others s l) ∙ on)).1;

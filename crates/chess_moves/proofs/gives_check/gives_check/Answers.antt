@@ -36,4 +36,5 @@ returns-then-is_told c =
     let told = or_parts (has check_squares.queen m.origin) (is_special p man m)
     (not-true (has check_squares.queen m.origin || is_special p man m) (sym c.is_told.ensures ∙ c.if-is_told.true)) in
     c.attacks_king.ensures ∙ ap (has (squares_of check_squares man.kind)) t
-    ∙ plain_check p check_squares man m c.requires.check_squares (omega (arith, c.m.invariant)) (omega (arith, c.index.ensures.on_board)) there c.requires.legal told.0 told.1
+    ∙ plain_check p check_squares man m c.requires.check_squares (omega (arith, c.m.invariant))
+    (omega (arith, c.index.ensures.on_board)) there c.requires.legal told.0 told.1

@@ -28,7 +28,8 @@ use Rattle.chess_moves.proofs.legal_targets.king_can_move.Goals as goal
 some_target : (p : Setup) (man : Man) (o set : ℕ) → set < 2 ^ 64 → ((t : ℕ) → promotes man t ≡ false) → AreTargets set p man o
     → not (eqb set 0) ≡ nat_lt 0 (length (filter (is_legal p) (moves_to o 64)))
 some_target p man o set fits last are = (elim (eqb set 0) as (λ b. eqb set 0 ≡ b → not b ≡ nat_lt 0 (length (filter (is_legal p) (moves_to o 64)))) [
-  | true ↦ λ e. sym (ap (λ (ms : List Move). nat_lt 0 (length ms)) (legal_to p man o set are ∙ ap (flat_map (ways man o)) (no_members set (eqb-true set 0 e))))
+  | true ↦ λ e. sym (ap (λ (ms : List Move). nat_lt 0 (length ms))
+      (legal_to p man o set are ∙ ap (flat_map (ways man o)) (no_members set (eqb-true set 0 e))))
   | false ↦ λ e.
       let found = any_some (has set) 64 (sym (nonzero set fits) ∙ ap not e) in
       sym (some_legal p man o found.0 found.1 (last found.0) (subst (λ b. IsTarget b p man o found.0) found.2 (are found.0 found.1)))
@@ -47,8 +48,10 @@ returns-then-is_safe_step c =
     let t : ℕ = c.in-Some.target in
     let lowest = c.in-Some.ensures.steps.lowest in
     let on = lowest.on_board in
-    let step = step_safe c.args.info.now p man k c.piece_targets-steps.result t h on h.side refl refl (c.piece_targets-steps.ensures t on) (c.loop-target.invariant.within t on lowest.there) in
-    let safe : safe_at p k t ≡ true = sym (c.is_safe_step.ensures p (king p.side) h (other_colour p.side p.side refl) ∙ step.1) ∙ c.if-is_safe_step.true in
+    let step = step_safe c.args.info.now p man k c.piece_targets-steps.result t h on h.side refl refl
+    (c.piece_targets-steps.ensures t on) (c.loop-target.invariant.within t on lowest.there) in
+    let safe : safe_at p k t ≡ true =
+    sym (c.is_safe_step.ensures p (king p.side) h (other_colour p.side p.side refl) ∙ step.1) ∙ c.if-is_safe_step.true in
     sym (some_legal p man k t on refl (ways_kept p man k t true there h.side (λ x suited.
     king_goes_safely p man k k t x h.side refl refl suited ∙ and_from (goes p p.side King k t) (safe_at p k t) step.0 safe)))
 
@@ -62,9 +65,11 @@ loop-target-preserved c =
     let t : ℕ = c.in-Some.target in
     let split = c.in-Some.ensures.steps in
     let on = split.lowest.on_board in
-    let step = step_safe c.args.info.now p man k steps t h on h.side refl refl (c.piece_targets-steps.ensures t on) (c.loop-target.invariant.within t on split.lowest.there) in
+    let step = step_safe c.args.info.now p man k steps t h on h.side refl refl (c.piece_targets-steps.ensures t on)
+    (c.loop-target.invariant.within t on split.lowest.there) in
     let safe = c.is_safe_step.ensures p (king p.side) h (other_colour p.side p.side refl) ∙ step.1 in
-    sifted_out steps c.loop-target.target-iterator c.next.new.self 0 t (safe_at p k) c.loop-target.invariant split (sym safe ∙ c.if-is_safe_step.false)
+    sifted_out steps c.loop-target.target-iterator c.next.new.self 0 t
+    (safe_at p k) c.loop-target.invariant split (sym safe ∙ c.if-is_safe_step.false)
 
 pub returns : goal.returns
 returns c =
@@ -78,5 +83,6 @@ returns c =
     let fits : castlings < 2 ^ 64 = omega arith in
     some_target p man k castlings fits (λ t. refl) (targets_where_safe p man k castlings there h.side (λ t x on suited.
     let none = sifted_all steps c.loop-target.target-iterator 0 (safe_at p k) c.in-None.ensures.steps.0 c.loop-target.invariant t on in
-    king_goes_safely_there c.args.info.now p man k steps castlings t x h on h.side refl refl (c.piece_targets-steps.ensures t on) (c.castling_targets.ensures t on) suited
+    king_goes_safely_there c.args.info.now p man k steps castlings t x h on h.side refl refl (c.piece_targets-steps.ensures t on)
+    (c.castling_targets.ensures t on) suited
     ∙ ap (λ b. b || has castlings t) (sym none ∙ has_none 0 t refl)))

@@ -24,6 +24,7 @@ returns-else-contains c =
     targets_where_safe p man o _ r.there r.own (λ t x on suited.
     let own = other_colour (becomes man x).colour p.side (becomes_colour man x ∙ r.own) in
     let safe = h.check_mask t on
-    ∙ safe_unpinned p.men (becomes man x) s.king o t (other_side p.side) h.sound.squares on own (λ a l. h.pin_squares o a r.on_board l unheld (own_not_other p man o r.there r.own)) in
+    ∙ safe_unpinned p.men (becomes man x) s.king o t (other_side p.side) h.sound.squares on own
+    (λ a l. h.pin_squares o a r.on_board l unheld (own_not_other p man o r.there r.own)) in
     rw (has_and c.piece_targets.result s.check_mask t, c.piece_targets.ensures t on)
     (piece_goes_safely s p man o t x (has s.check_mask t) h r.there r.own kind.0 kind.1 suited safe))

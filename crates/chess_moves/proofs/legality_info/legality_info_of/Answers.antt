@@ -19,7 +19,8 @@ returns c =
     let p = c.args.position.now in
     let side = c.side-side.ensures.side in
     let by = c.other-by.ensures ∙ ap other_side side in
-    let enemy : StandFor c.force_of-enemy.result (other_side p.side) p.men = subst (λ b. StandFor c.force_of-enemy.result b p.men) by c.force_of-enemy.ensures in
+    let enemy : StandFor c.force_of-enemy.result (other_side p.side) p.men =
+    subst (λ b. StandFor c.force_of-enemy.result b p.men) by c.force_of-enemy.ensures in
     let slants = c.diagonal_lines-diagonal.ensures in
     let lines = c.straight_lines-straight.ensures in
     record {
@@ -33,8 +34,12 @@ returns c =
           let none = or_parts (has c.diagonal_lines-diagonal.result.held o) (has c.straight_lines-straight.result.held o)
           (sym (has_or c.diagonal_lines-diagonal.result.held c.straight_lines-straight.result.held o) ∙ off) in
           attacks_removed p.men c.index-king.result o (other_side p.side) a c.side-side.ensures.sound.squares o_on l own
-          (λ one line alone. let held = slants.held a o l o_on (enemy.diagonal a l ∙ one) line (alone_same (λ s. is_taken p.men s) (has c.occupied-occupied.result) (λ s h. sym (c.occupied-occupied.ensures s h)) c.index-king.result a o o_on alone) in let gone = none.0 in cc)
-          (λ one line alone. let held = lines.held a o l o_on (enemy.straight a l ∙ one) line (alone_same (λ s. is_taken p.men s) (has c.occupied-occupied.result) (λ s h. sym (c.occupied-occupied.ensures s h)) c.index-king.result a o o_on alone) in let gone = none.1 in cc);
+          (λ one line alone. let held = slants.held a o l o_on (enemy.diagonal a l ∙ one) line
+          (alone_same (λ s. is_taken p.men s) (has c.occupied-occupied.result)
+          (λ s h. sym (c.occupied-occupied.ensures s h)) c.index-king.result a o o_on alone) in let gone = none.0 in cc)
+          (λ one line alone. let held = lines.held a o l o_on (enemy.straight a l ∙ one) line
+          (alone_same (λ s. is_taken p.men s) (has c.occupied-occupied.result)
+          (λ s h. sym (c.occupied-occupied.ensures s h)) c.index-king.result a o o_on alone) in let gone = none.1 in cc);
       check_mask = λ t l.
           c.check_mask.ensures p.men c.occupied-occupied.result c.occupied-occupied.ensures c.force_of-enemy.ensures slants.clear lines.clear t l
           ∙ ap (λ b. not (some_square (λ a. hits_from p.men b a c.index-king.result && gets_through a c.index-king.result t))) by;

@@ -23,7 +23,8 @@ loop-origin-init c =
     }
 
 pub man_mates-requires-clause-own : goal.man_mates-requires-clause-own
-man_mates-requires-clause-own c = c.loop-origin.invariant.own c.in-Some.origin c.in-Some.ensures.steps.lowest.on_board c.in-Some.ensures.steps.lowest.there
+man_mates-requires-clause-own c =
+    c.loop-origin.invariant.own c.in-Some.origin c.in-Some.ensures.steps.lowest.on_board c.in-Some.ensures.steps.lowest.there
 
 pub returns-then-man_mates : goal.returns-then-man_mates
 unfolding has_mating_move
@@ -45,11 +46,13 @@ loop-origin-preserved c =
     ∙ list_any-append (λ m. is_mate (after_setup p m)) (filter (is_legal p) (moves_to o 64)) (moves_of_men p (members rest)) in
     let none = sym c.man_mates.ensures.mates ∙ c.if-man_mates.false in
     record {
-      any = sym (ap (λ x. x || list_any (λ m. is_mate (after_setup p m)) (moves_of_men p (members rest))) none) ∙ sym first ∙ c.loop-origin.invariant.any;
+      any = sym (ap (λ x. x || list_any (λ m. is_mate (after_setup p m)) (moves_of_men p (members rest))) none)
+          ∙ sym first ∙ c.loop-origin.invariant.any;
       own = own_others p c.loop-origin.origin-iterator o rest c.in-Some.ensures.steps c.loop-origin.invariant.own;
       flights = c.man_mates.ensures.flights;
     }
 
 pub returns : goal.returns
 unfolding has_mating_move
-returns c = sym (ap (list_any (λ m. is_mate (after_setup c.args.position.now m))) (ap (moves_of_men c.args.position.now) (no_members c.loop-origin.origin-iterator c.in-None.ensures.steps.0))) ∙ c.loop-origin.invariant.any
+returns c = sym (ap (list_any (λ m. is_mate (after_setup c.args.position.now m))) (ap (moves_of_men c.args.position.now)
+    (no_members c.loop-origin.origin-iterator c.in-None.ensures.steps.0))) ∙ c.loop-origin.invariant.any

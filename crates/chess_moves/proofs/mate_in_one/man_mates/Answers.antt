@@ -13,7 +13,8 @@ returns-then-hopes-eq0-clause-mates c =
     let p = c.args.position.now in
     let man = c.own_man-man.result in
     let o = c.args.origin in
-    let hopes = mate_squares p man o c.check_targets.result c.pseudo_legal_targets.result c.own_man-man.ensures.there c.check_targets.ensures c.pseudo_legal_targets.ensures in
+    let hopes = mate_squares p man o c.check_targets.result c.pseudo_legal_targets.result c.own_man-man.ensures.there
+    c.check_targets.ensures c.pseudo_legal_targets.ensures in
     sym (none_mates p man o (bit_and c.check_targets.result c.pseudo_legal_targets.result) 0 hopes c.if-hopes-eq0.true)
 
 pub returns-then-squares-eq0-clause-mates : goal.returns-then-squares-eq0-clause-mates
@@ -21,7 +22,8 @@ returns-then-squares-eq0-clause-mates c =
     let p = c.args.position.now in
     let man = c.own_man-man.result in
     let o = c.args.origin in
-    let hopes = mate_squares p man o c.check_targets.result c.pseudo_legal_targets.result c.own_man-man.ensures.there c.check_targets.ensures c.pseudo_legal_targets.ensures in
+    let hopes = mate_squares p man o c.check_targets.result c.pseudo_legal_targets.result c.own_man-man.ensures.there
+    c.check_targets.ensures c.pseudo_legal_targets.ensures in
     let set = c.squares_that_cover-squares.result in
     let quiet = fewer_squares p o (bit_and c.check_targets.result c.pseudo_legal_targets.result) set hopes c.squares_that_cover-squares.ensures in
     sym (none_mates p man o set 0 quiet c.if-squares-eq0.true)
@@ -31,7 +33,8 @@ loop-left-init c =
     let p = c.args.position.now in
     let man = c.own_man-man.result in
     let o = c.args.origin in
-    let hopes = mate_squares p man o c.check_targets.result c.pseudo_legal_targets.result c.own_man-man.ensures.there c.check_targets.ensures c.pseudo_legal_targets.ensures in
+    let hopes = mate_squares p man o c.check_targets.result c.pseudo_legal_targets.result c.own_man-man.ensures.there
+    c.check_targets.ensures c.pseudo_legal_targets.ensures in
     let set = c.squares_that_cover-squares.result in
     let quiet = fewer_squares p o (bit_and c.check_targets.result c.pseudo_legal_targets.result) set hopes c.squares_that_cover-squares.ensures in
     let targets = c.targets_from.result in
@@ -45,4 +48,6 @@ loop-left-init c =
 pub returns-clause-mates : goal.returns-clause-mates
 returns-clause-mates c =
     let left = c.loop-left.left in
-    ap (list_any (λ m. is_mate (after_setup c.args.position.now m))) (sym (no_moves left.promotion left.man left.origin left.targets (omega (arith, c.loop-left-test.false)))) ∙ c.loop-left.invariant.any
+    ap (list_any (λ m. is_mate (after_setup c.args.position.now m)))
+    (sym (no_moves left.promotion left.man left.origin left.targets (omega (arith, c.loop-left-test.false))))
+    ∙ c.loop-left.invariant.any

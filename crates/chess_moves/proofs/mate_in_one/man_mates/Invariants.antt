@@ -10,7 +10,8 @@ use Rattle.chess_moves.proofs.mate_in_one.man_mates.Given as goal
 -- no move so far mates
 abbrev pub invariant-loop-left : goal.invariant-loop-left
 invariant-loop-left l = record {
-  any : list_any (λ m. is_mate (after_setup l.position m)) (man_moves l.left) ≡ list_any (λ m. is_mate (after_setup l.position m)) (filter (is_legal l.position) (moves_to l.origin 64));
+  any : list_any (λ m. is_mate (after_setup l.position m)) (man_moves l.left)
+      ≡ list_any (λ m. is_mate (after_setup l.position m)) (filter (is_legal l.position) (moves_to l.origin 64));
   legal : list_all (is_legal l.position) (man_moves l.left) ≡ true;
   on_board : l.left.origin < 64;
 }

@@ -12,7 +12,10 @@ invariant_of-result c = let start = c.squares.ensures in record {
 }
 
 pub returns-clause-moves : goal.returns-clause-moves
-returns-clause-moves c = rw (c.squares.ensures, no_members 0 refl) (sym (legal_of_men c.args.position.now c.legality_info_of-info.result.own c.legality_info_of-info.ensures.own))
+returns-clause-moves c = rw (c.squares.ensures, no_members 0 refl)
+    (sym (legal_of_men c.args.position.now c.legality_info_of-info.result.own c.legality_info_of-info.ensures.own))
 
 pub returns-clause-few : goal.returns-clause-few
-returns-clause-few c = rw (c.squares.ensures, no_members 0 refl) (rw (← legal_of_men c.args.position.now c.legality_info_of-info.result.own c.legality_info_of-info.ensures.own) (few_legal c.args.position.now c.legality_info_of-info.ensures.sound))
+returns-clause-few c = rw (c.squares.ensures, no_members 0 refl)
+    (rw (← legal_of_men c.args.position.now c.legality_info_of-info.result.own c.legality_info_of-info.ensures.own)
+    (few_legal c.args.position.now c.legality_info_of-info.ensures.sound))

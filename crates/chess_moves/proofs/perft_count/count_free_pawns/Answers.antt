@@ -29,16 +29,30 @@ returns-clause-count c = λ p h men free.
     let once : ℕ = bit_and c.shifted.result (bit_not w64 occupied) in
     let twice : ℕ = bit_and c.shifted-2.result (bit_not w64 occupied) in
     let enemies : ℕ = bit_and occupied (bit_not w64 own) in
-    let enemies_are = λ (t : ℕ) (l : t < 64). parted occupied own t _ _ own_fits l (h.occupied t l) (own_set t l) ∙ some_not_of side (man_at p.men t) in
-    let third = λ (t : ℕ) (l : t < 64). and_when (is_shifted side 8 t) (has (bit_and once c.third_rank.result) (back side 8 t)) (has once (back side 8 t) && eqb (rank_of (back side 8 t)) (third_rank side)) (λ e.
-    let s_on = back_on side 8 t l e in has_and once c.third_rank.result (back side 8 t) ∙ ap (λ (x : Bool). has once (back side 8 t) && x) (c.third_rank.ensures (back side 8 t) s_on)) in
-    let lefts = λ (t : ℕ) (l : t < 64). and_when (is_shifted side 7 t) (has (bit_and pawns (bit_not w64 c.left_file.result)) (back side 7 t)) (has pawns (back side 7 t) && not (eqb (file_of (back side 7 t)) (left_file side))) (λ e.
-    let s_on = back_on side 7 t l e in has_less pawns c.left_file.result (back side 7 t) left_fits s_on ∙ ap (λ (x : Bool). has pawns (back side 7 t) && not x) (c.left_file.ensures (back side 7 t) s_on)) in
-    let rights = λ (t : ℕ) (l : t < 64). and_when (is_shifted side 9 t) (has (bit_and pawns (bit_not w64 c.right_file.result)) (back side 9 t)) (has pawns (back side 9 t) && not (eqb (file_of (back side 9 t)) (right_file side))) (λ e.
-    let s_on = back_on side 9 t l e in has_less pawns c.right_file.result (back side 9 t) right_fits s_on ∙ ap (λ (x : Bool). has pawns (back side 9 t) && not x) (c.right_file.ensures (back side 9 t) s_on)) in
+    let enemies_are = λ (t : ℕ) (l : t < 64). parted occupied own t _ _ own_fits l (h.occupied t l) (own_set t l)
+    ∙ some_not_of side (man_at p.men t) in
+    let third = λ (t : ℕ) (l : t < 64). and_when (is_shifted side 8 t) (has (bit_and once c.third_rank.result) (back side 8 t))
+    (has once (back side 8 t) && eqb (rank_of (back side 8 t)) (third_rank side)) (λ e.
+    let s_on = back_on side 8 t l e in has_and once c.third_rank.result (back side 8 t)
+    ∙ ap (λ (x : Bool). has once (back side 8 t) && x) (c.third_rank.ensures (back side 8 t) s_on)) in
+    let lefts = λ (t : ℕ) (l : t < 64). and_when (is_shifted side 7 t) (has (bit_and pawns (bit_not w64 c.left_file.result))
+    (back side 7 t)) (has pawns (back side 7 t) && not (eqb (file_of (back side 7 t)) (left_file side))) (λ e.
+    let s_on = back_on side 7 t l e in has_less pawns c.left_file.result (back side 7 t) left_fits s_on
+    ∙ ap (λ (x : Bool). has pawns (back side 7 t) && not x) (c.left_file.ensures (back side 7 t) s_on)) in
+    let rights = λ (t : ℕ) (l : t < 64). and_when (is_shifted side 9 t) (has (bit_and pawns (bit_not w64 c.right_file.result))
+    (back side 9 t)) (has pawns (back side 9 t) && not (eqb (file_of (back side 9 t)) (right_file side))) (λ e.
+    let s_on = back_on side 9 t l e in has_less pawns c.right_file.result (back side 9 t) right_fits s_on
+    ∙ ap (λ (x : Bool). has pawns (back side 9 t) && not x) (c.right_file.ensures (back side 9 t) s_on)) in
     let counted = free_pawns info p pawns once twice (bit_and c.shifted-3.result enemies) (bit_and c.shifted-4.result enemies) h men free
     (λ t l. parted c.shifted.result occupied t _ _ fits l (c.shifted.ensures t l) (h.occupied t l))
     (λ t l. parted c.shifted-2.result occupied t _ _ fits l (c.shifted-2.ensures t l ∙ third t l) (h.occupied t l))
     (λ t l. part c.shifted-3.result enemies t _ _ (c.shifted-3.ensures t l ∙ lefts t l) (enemies_are t l))
     (λ t l. part c.shifted-4.result enemies t _ _ (c.shifted-4.ensures t l ∙ rights t l) (enemies_are t l)) in
-    omega (arith, counted, c.count_ways.ensures.count 0, c.count_ways-2.ensures.count 0, c.count_ways-3.ensures.count 0, c.count_ways-4.ensures.count 0)
+    omega (
+      arith,
+      counted,
+      c.count_ways.ensures.count 0,
+      c.count_ways-2.ensures.count 0,
+      c.count_ways-3.ensures.count 0,
+      c.count_ways-4.ensures.count 0,
+    )

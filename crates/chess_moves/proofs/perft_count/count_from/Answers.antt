@@ -7,17 +7,25 @@ use Rattle.chess_moves.proofs.perft_count.count_from.Goals as goal
 
 pub targets_at_once-requires-clause-there : goal.targets_at_once-requires-clause-there
 targets_at_once-requires-clause-there c =
-    there_of_kind c.args.position.now c.args.kind c.loop-origin.origin-iterator c.in-Some.origin c.args.info.now.side c.requires.info.side c.in-Some.ensures.steps.lowest c.loop-origin.invariant.men
+    there_of_kind c.args.position.now c.args.kind c.loop-origin.origin-iterator c.in-Some.origin c.args.info.now.side
+    c.requires.info.side c.in-Some.ensures.steps.lowest c.loop-origin.invariant.men
 
 pub overflow_add-total : goal.overflow_add-total
-overflow_add-total c = omega (arith, few_of_kind c.args.position.now c.args.kind c.args.men c.args.info.now.own c.requires.info.sound c.requires.info.own c.requires.men, c.count_ways-total.ensures.few, c.loop-origin.invariant.counted)
+overflow_add-total c = omega (
+  arith,
+  few_of_kind c.args.position.now c.args.kind c.args.men c.args.info.now.own
+      c.requires.info.sound c.requires.info.own c.requires.men,
+  c.count_ways-total.ensures.few,
+  c.loop-origin.invariant.counted,
+)
 
 pub loop-origin-preserved : goal.loop-origin-preserved
 loop-origin-preserved c =
     let p = c.args.position.now in
     let origins : ℕ = c.loop-origin.origin-iterator in
     let split = c.in-Some.ensures.steps in
-    let first = many_first p (record { colour = c.args.info.now.side; kind = c.args.kind }) origins c.in-Some.origin c.next.new.self c.targets_at_once.result split c.targets_at_once.ensures in
+    let first = many_first p (record { colour = c.args.info.now.side; kind = c.args.kind }) origins c.in-Some.origin
+    c.next.new.self c.targets_at_once.result split c.targets_at_once.ensures in
     record {
       counted = omega (arith, first, c.count_ways-total.ensures.count c.in-Some.origin, c.loop-origin.invariant.counted);
       men = others_of_kind p c.args.kind origins c.in-Some.origin c.next.new.self split c.loop-origin.invariant.men;
@@ -25,7 +33,16 @@ loop-origin-preserved c =
 
 pub returns-clause-count : goal.returns-clause-count
 returns-clause-count c =
-    omega (arith, c.loop-origin.invariant.counted, ap length (ap (moves_of_men c.args.position.now) (no_members c.loop-origin.origin-iterator c.in-None.ensures.steps.0)))
+    omega (
+      arith,
+      c.loop-origin.invariant.counted,
+      ap length (ap (moves_of_men c.args.position.now) (no_members c.loop-origin.origin-iterator c.in-None.ensures.steps.0)),
+    )
 
 pub returns-clause-few : goal.returns-clause-few
-returns-clause-few c = omega (arith, c.loop-origin.invariant.counted, few_of_kind c.args.position.now c.args.kind c.args.men c.args.info.now.own c.requires.info.sound c.requires.info.own c.requires.men)
+returns-clause-few c = omega (
+  arith,
+  c.loop-origin.invariant.counted,
+  few_of_kind c.args.position.now c.args.kind c.args.men
+      c.args.info.now.own c.requires.info.sound c.requires.info.own c.requires.men,
+)

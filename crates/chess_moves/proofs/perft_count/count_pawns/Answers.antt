@@ -12,7 +12,8 @@ use Rattle.chess_moves.proofs.perft_count.count_pawns.Goals as goal
 
 pub count_from-requires-clause-men : goal.count_from-requires-clause-men
 count_from-requires-clause-men c = λ s l on.
-    c.requires.men s l ((and_parts (has c.args.pawns s) (has (bit_or c.args.info.now.pin_squares c.en_passant_origins.result) s) (sym (has_and c.args.pawns (bit_or c.args.info.now.pin_squares c.en_passant_origins.result) s) ∙ on)).0)
+    c.requires.men s l ((and_parts (has c.args.pawns s) (has (bit_or c.args.info.now.pin_squares c.en_passant_origins.result) s)
+    (sym (has_and c.args.pawns (bit_or c.args.info.now.pin_squares c.en_passant_origins.result) s) ∙ on)).0)
 
 pub returns-clause-count : goal.returns-clause-count
 returns-clause-count c =
@@ -22,7 +23,8 @@ returns-clause-count c =
     let alone : ℕ = bit_and pawns held in
     let rest : ℕ = bit_and pawns (bit_not w64 alone) in
     let fits : alone < 2 ^ 64 = omega (arith, and_le_l pawns held) in
-    let men : HaveMenOf Pawn rest p = λ s l on. c.requires.men s l ((rest_of_set pawns c.args.info.now.pin_squares c.en_passant_origins.result s fits l on).0) in
+    let men : HaveMenOf Pawn rest p = λ s l on.
+    c.requires.men s l ((rest_of_set pawns c.args.info.now.pin_squares c.en_passant_origins.result s fits l on).0) in
     let free : AreFree rest c.args.info.now p = λ o l on.
     let q = rest_of_set pawns c.args.info.now.pin_squares c.en_passant_origins.result o fits l on in
     (q.1, λ t k. c.en_passant_origins.ensures o t l k q.2) in
@@ -36,4 +38,9 @@ returns-clause-count c =
 pub returns-clause-few : goal.returns-clause-few
 returns-clause-few c =
     let whole = returns-clause-count c in
-    omega (arith, whole, few_of_kind c.args.position.now Pawn c.args.pawns c.args.info.now.own c.requires.info.sound c.requires.info.own c.requires.men)
+    omega (
+      arith,
+      whole,
+      few_of_kind c.args.position.now Pawn c.args.pawns c.args.info.now.own
+          c.requires.info.sound c.requires.info.own c.requires.men,
+    )

@@ -27,11 +27,13 @@ returns-then-step-eq0 c = λ t l.
     let own_fits : own < 2 ^ 64 = omega arith in
     let own_set : IsSetOf own (is_of side) men = rw c.requires.own c.requires.info.own in
     let none : (s : ℕ) → s < 64 → steps_once men side o s ≡ false = λ s k.
-    sym (once_set men side occupied c.leap-2.result o s c.requires.info.occupied fits k (c.leap-2.ensures s k ∙ ap (λ (leap : Leap). leaps leap o s) c.step_of.ensures))
+    sym (once_set men side occupied c.leap-2.result o s c.requires.info.occupied fits k
+    (c.leap-2.ensures s k ∙ ap (λ (leap : Leap). leaps leap o s) c.step_of.ensures))
     ∙ has_none (bit_and c.leap-2.result (bit_not w64 occupied)) s c.if-step-eq0.true in
     let once = none t l in
     let twice = twice_without_once men side o t c.requires.on_board l none in
-    takes_set men side occupied own c.leap.result o t c.requires.info.occupied own_set own_fits l (c.leap.ensures t l ∙ ap (λ (leap : Leap). leaps leap o t) c.capture_of.ensures)
+    takes_set men side occupied own c.leap.result o t c.requires.info.occupied own_set own_fits l
+    (c.leap.ensures t l ∙ ap (λ (leap : Leap). leaps leap o t) c.capture_of.ensures)
     ∙ rw (once, twice)
 
 pub returns : goal.returns
@@ -45,10 +47,14 @@ returns c = λ t l.
     let own_fits : own < 2 ^ 64 = omega arith in
     let own_set : IsSetOf own (is_of side) men = rw c.requires.own c.requires.info.own in
     let step : ℕ = bit_and c.leap-2.result (bit_not w64 occupied) in
-    let once = λ (s : ℕ) (k : s < 64). once_set men side occupied c.leap-2.result o s c.requires.info.occupied fits k (c.leap-2.ensures s k ∙ ap (λ (leap : Leap). leaps leap o s) c.step_of.ensures) in
-    let found = any_some (has step) 64 (sym (nonzero step (omega (arith, and_le_l c.leap-2.result (bit_not w64 occupied)))) ∙ not_from_false (eqb step 0) (ne_eqb step 0 c.if-step-eq0.false)) in
+    let once = λ (s : ℕ) (k : s < 64). once_set men side occupied c.leap-2.result o s c.requires.info.occupied fits k
+    (c.leap-2.ensures s k ∙ ap (λ (leap : Leap). leaps leap o s) c.step_of.ensures) in
+    let found = any_some (has step) 64 (sym (nonzero step (omega (arith, and_le_l c.leap-2.result (bit_not w64 occupied))))
+    ∙ not_from_false (eqb step 0) (ne_eqb step 0 c.if-step-eq0.false)) in
     let first = sym (once found.0 found.1) ∙ found.2 in
     joined _ _ t _ _
     (joined _ _ t _ _ (once t l)
-    (twice_set men side occupied c.leap-3.result o found.0 t c.requires.info.occupied fits c.requires.on_board l first (c.leap-3.ensures t l ∙ ap (λ (leap : Leap). leaps leap o t) c.double_of.ensures)))
-    (takes_set men side occupied own c.leap.result o t c.requires.info.occupied own_set own_fits l (c.leap.ensures t l ∙ ap (λ (leap : Leap). leaps leap o t) c.capture_of.ensures))
+    (twice_set men side occupied c.leap-3.result o found.0 t c.requires.info.occupied fits c.requires.on_board l first
+    (c.leap-3.ensures t l ∙ ap (λ (leap : Leap). leaps leap o t) c.double_of.ensures)))
+    (takes_set men side occupied own c.leap.result o t c.requires.info.occupied own_set own_fits l
+    (c.leap.ensures t l ∙ ap (λ (leap : Leap). leaps leap o t) c.capture_of.ensures))

@@ -13,5 +13,6 @@ returns c = λ t l.
     let side = c.args.man.colour in
     let fits : c.args.info.now.own < 2 ^ 64 = omega arith in
     parted c.attacks_of.result c.args.info.now.own t (attacks_as men side c.args.man.kind c.args.origin t) (is_of side (man_at men t)) fits l
-    (c.attacks_of.ensures t l ∙ hits_by_set men c.args.info.now.occupied c.requires.info.occupied side c.args.man.kind c.args.origin t c.requires.on_board l)
+    (c.attacks_of.ensures t l ∙ hits_by_set men c.args.info.now.occupied c.requires.info.occupied side
+    c.args.man.kind c.args.origin t c.requires.on_board l)
     (c.requires.info.own t l ∙ ap (λ (colour : Colour). is_of colour (man_at men t)) (sym c.requires.own))

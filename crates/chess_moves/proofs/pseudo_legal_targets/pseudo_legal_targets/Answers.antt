@@ -22,8 +22,10 @@ returns-in-King c = λ t l gone.
     let o = c.args.origin in
     let at = king_origin c.args.info.now p man o c.requires.info c.requires.on_board c.requires.there c.requires.own c.in-King.is in
     let own = c.requires.own in
-    let goals = king_goals p man o c.args.info.now.king c.piece_targets.result c.castling_targets.result t own c.in-King.is at (c.piece_targets.ensures t l) (c.castling_targets.ensures t l) in
-    goals ∙ ap (λ s. goes p p.side King s t) (sym at) ∙ ap (λ colour. goes p colour King o t) (sym own) ∙ ap (λ kind. goes p man.colour kind o t) (sym c.in-King.is) ∙ gone
+    let goals = king_goals p man o c.args.info.now.king c.piece_targets.result c.castling_targets.result t own c.in-King.is at
+    (c.piece_targets.ensures t l) (c.castling_targets.ensures t l) in
+    goals ∙ ap (λ s. goes p p.side King s t) (sym at) ∙ ap (λ colour. goes p colour King o t) (sym own)
+    ∙ ap (λ kind. goes p man.colour kind o t) (sym c.in-King.is) ∙ gone
 
 pub returns-in-Knight : goal.returns-in-Knight
 returns-in-Knight c = λ t l gone.

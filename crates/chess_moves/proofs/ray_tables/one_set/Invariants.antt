@@ -7,5 +7,6 @@ abbrev pub invariant-loop-square : goal.invariant-loop-square
 invariant-loop-square l = record {
   len : length l.sets ≡ 64;
   done : (k : ℕ) → k < l.square → (t : ℕ) → t < 64
-      → has (slice_index l.sets k) t ≡ (has (slice_index l.a k) t || has (slice_index l.b k) t || has (slice_index l.c k) t || has (slice_index l.d k) t);
+      → has (slice_index l.sets k) t
+      ≡ (has (slice_index l.a k) t || has (slice_index l.b k) t || has (slice_index l.c k) t || has (slice_index l.d k) t);
 }

@@ -24,7 +24,8 @@ loop-slider-preserved c =
     let told = nothing_between c.between.result c.args.occupied k b (omega (arith, and_le_l c.between.result c.args.occupied)) c.between.ensures in
     let split = c.in-Some.ensures.steps in
     record {
-      clear = λ a l. step (has c.loop-slider.lines.clear a) (has c.with_slider-lines.result.clear a) (has c.loop-slider.slider-iterator a) (has c.next.new.self a) (eqb a b) (eqb taken 0)
+      clear = λ a l. step (has c.loop-slider.lines.clear a) (has c.with_slider-lines.result.clear a)
+          (has c.loop-slider.slider-iterator a) (has c.next.new.self a) (eqb a b) (eqb taken 0)
           (is_open (has c.args.occupied) k a) (c.with_slider-lines.ensures.clear a l) (split.others a l)
           (λ e. ap (has c.loop-slider.slider-iterator) (eqb-true a b e) ∙ split.lowest.there)
           (λ e. told ∙ ap (λ x. is_open (has c.args.occupied) k x) (sym (eqb-true a b e)))
@@ -34,7 +35,8 @@ loop-slider-preserved c =
             let here : IsAlone (has c.args.occupied) k b o = (rw (eqb-true a b e) at alone) in
             c.with_slider-lines.ensures.held o on (alone_shared c.between.result c.args.occupied k b o on c.between.ensures here)
         | false ↦ λ e.
-            let still : has c.loop-slider.slider-iterator a ≡ false = left (eqb a b) (has c.loop-slider.slider-iterator a) e (sym (split.others a l) ∙ gone) in
+            let still : has c.loop-slider.slider-iterator a ≡ false =
+            left (eqb a b) (has c.loop-slider.slider-iterator a) e (sym (split.others a l) ∙ gone) in
             c.with_slider-lines.ensures.more o on (c.loop-slider.invariant.held a o l on there still alone)
       ]) refl;
     }
@@ -42,7 +44,8 @@ loop-slider-preserved c =
     left : (e h : Bool) → e ≡ false → (not e && h) ≡ false → h ≡ false
     left e h off g = rw off at g
 
-    step : (was now set rest e none free : Bool) → now ≡ (was || e && none) → rest ≡ (not e && set) → (e ≡ true → set ≡ true) → (e ≡ true → none ≡ free)
+    step : (was now set rest e none free : Bool) → now ≡ (was || e && none) → rest ≡ (not e && set)
+        → (e ≡ true → set ≡ true) → (e ≡ true → none ≡ free)
         → (now || rest && free) ≡ (was || set && free)
     step was now set rest true none free hn hr hs hf = let s = hs refl in let f = hf refl in rw (hn, hr, s, f) (or-false (was || free))
     step was now set rest false none free hn hr hs hf = rw (hn, hr) (ap (λ x. x || set && free) (or-false was))
@@ -53,4 +56,5 @@ returns-clause-clear c = λ a l.
     sym (or-false (has c.loop-slider.lines.clear a)) ∙ (rw none at (c.loop-slider.invariant.clear a l))
 
 pub returns-clause-held : goal.returns-clause-held
-returns-clause-held c = λ a o l on there alone. c.loop-slider.invariant.held a o l on there (has_none c.loop-slider.slider-iterator a c.in-None.ensures.steps.0) alone
+returns-clause-held c = λ a o l on there alone.
+    c.loop-slider.invariant.held a o l on there (has_none c.loop-slider.slider-iterator a c.in-None.ensures.steps.0) alone

@@ -20,4 +20,5 @@ returns-clause-clear c = λ a l.
 pub returns-clause-held : goal.returns-clause-held
 returns-clause-held c = λ a o l on there line alone.
     c.slider_lines.ensures.held a o l on
-    (has_and c.args.sliders c.straights.result a ∙ and_from (has c.args.sliders a) (has c.straights.result a) there (c.straights.ensures a l ∙ line)) alone
+    (has_and c.args.sliders c.straights.result a
+    ∙ and_from (has c.args.sliders a) (has c.straights.result a) there (c.straights.ensures a l ∙ line)) alone

@@ -12,4 +12,5 @@ pub returns-then-without-eq0-clause-held : goal.returns-then-without-eq0-clause-
 returns-then-without-eq0-clause-held c = λ o l alone. has_or c.args.lines.held c.args.taken o ∙ (rw alone.there (or-true (has c.args.lines.held o)))
 
 pub returns-else-without-eq0-clause-held : goal.returns-else-without-eq0-clause-held
-returns-else-without-eq0-clause-held c = λ o l alone. absurd (c.if-without-eq0.false (alone_lowest c.args.taken c.lowest.result c.without.result o (omega arith) c.lowest.ensures c.without.ensures alone))
+returns-else-without-eq0-clause-held c = λ o l alone. absurd (c.if-without-eq0.false
+    (alone_lowest c.args.taken c.lowest.result c.without.result o (omega arith) c.lowest.ensures c.without.ensures alone))

@@ -13,13 +13,15 @@ own_man-man-requires-clause-own c =
 pub returns-then-count_ways-ne0 : goal.returns-then-count_ways-ne0
 returns-then-count_ways-ne0 c =
     let o = c.in-Some.origin in
-    let first = many_first c.args.position.now c.own_man-man.result c.loop-origin.origin-iterator o c.next.new.self c.targets_from.result c.in-Some.ensures.steps c.targets_from.ensures in
+    let first = many_first c.args.position.now c.own_man-man.result c.loop-origin.origin-iterator o c.next.new.self
+    c.targets_from.result c.in-Some.ensures.steps c.targets_from.ensures in
     sym (lt-ltb 0 _ (omega (arith, first, c.count_ways.ensures.count o, c.loop-origin.invariant.none, c.if-count_ways-ne0.true)))
 
 pub loop-origin-preserved : goal.loop-origin-preserved
 loop-origin-preserved c =
     let o = c.in-Some.origin in
-    let first = many_first c.args.position.now c.own_man-man.result c.loop-origin.origin-iterator o c.next.new.self c.targets_from.result c.in-Some.ensures.steps c.targets_from.ensures in
+    let first = many_first c.args.position.now c.own_man-man.result c.loop-origin.origin-iterator o c.next.new.self
+    c.targets_from.result c.in-Some.ensures.steps c.targets_from.ensures in
     record {
       none = omega (arith, first, c.count_ways.ensures.count o, c.loop-origin.invariant.none, c.if-count_ways-ne0.false);
       own = own_others c.args.position.now c.loop-origin.origin-iterator o c.next.new.self c.in-Some.ensures.steps c.loop-origin.invariant.own;
@@ -28,5 +30,6 @@ loop-origin-preserved c =
 pub returns : goal.returns
 returns c =
     let none : length (moves_of_men c.args.position.now _) ≡ 0 =
-    sym c.loop-origin.invariant.none ∙ ap length (ap (moves_of_men c.args.position.now) (no_members c.loop-origin.origin-iterator c.in-None.ensures.steps.0)) in
+    sym c.loop-origin.invariant.none ∙ ap length
+    (ap (moves_of_men c.args.position.now) (no_members c.loop-origin.origin-iterator c.in-None.ensures.steps.0)) in
     rw none refl

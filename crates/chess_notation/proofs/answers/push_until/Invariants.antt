@@ -8,4 +8,5 @@ use Rattle.chess_notation.proofs.answers.push_until.Given as goal
 abbrev pub invariant-loop-index : goal.invariant-loop-index
 invariant-loop-index l =
     (own : Entry) (owns : List Entry) → own.opcode ≡ l.opcode → IsBelow l.opcode owns
-    → string_bytes l.fn.text ++ entries_text (with_entries (own ∷ owns) l.operations) ≡ string_bytes l.text ++ entries_text (with_entries (own ∷ owns) (drop l.index l.operations))
+    → string_bytes l.fn.text ++ entries_text (with_entries (own ∷ owns) l.operations) ≡ string_bytes l.text
+    ++ entries_text (with_entries (own ∷ owns) (drop l.index l.operations))

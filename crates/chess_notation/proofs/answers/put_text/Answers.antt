@@ -12,5 +12,6 @@ returns c =
     let place = c.text_place-place.result in
     let stored : c.insert.new.self.items ≡ insert old place c.args.text = c.in_ok-insert.ensures.items in
     let same : c.as_bytes.result.now ≡ c.args.text.bytes = cc (c.as_bytes.ensures.value, c.as_str.ensures.value) in
-    let placed : with_text c.args.text.bytes (map f old) ≡ insert (map f old) place c.args.text.bytes = rw (c.as_slice.ensures.value, same) at c.text_place-place.ensures.place in
+    let placed : with_text c.args.text.bytes (map f old) ≡ insert (map f old) place c.args.text.bytes =
+    rw (c.as_slice.ensures.value, same) at c.text_place-place.ensures.place in
     ap (map f) stored ∙ map-insert f old place c.args.text ∙ sym placed

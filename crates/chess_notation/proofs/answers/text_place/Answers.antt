@@ -8,12 +8,16 @@ pub returns-then-comes_before-clause-place : goal.returns-then-comes_before-clau
 returns-then-comes_before-clause-place c =
     let f : ArrayString 8 → List ℕ = λ t. t.bytes in
     let other = c.index-texts-index.result in
-    let before : comes_before c.args.text.now other.bytes ≡ true = cc (c.comes_before.ensures, c.if-comes_before.true, c.as_bytes.ensures.value, c.as_str.ensures.value) in
-    placed_before _ _ other.bytes _ (length-seen f c.args.texts.now _ c.loop-index-test.true) (get_or-seen f _ _ other c.loop-index-test.true c.index-texts-index.is) before c.loop-index.invariant
+    let before : comes_before c.args.text.now other.bytes ≡ true =
+    cc (c.comes_before.ensures, c.if-comes_before.true, c.as_bytes.ensures.value, c.as_str.ensures.value) in
+    placed_before _ _ other.bytes _ (length-seen f c.args.texts.now _ c.loop-index-test.true)
+    (get_or-seen f _ _ other c.loop-index-test.true c.index-texts-index.is) before c.loop-index.invariant
 
 pub loop-index-preserved : goal.loop-index-preserved
 loop-index-preserved c =
     let f : ArrayString 8 → List ℕ = λ t. t.bytes in
     let other = c.index-texts-index.result in
-    let after : comes_before c.args.text.now other.bytes ≡ false = cc (c.comes_before.ensures, c.if-comes_before.false, c.as_bytes.ensures.value, c.as_str.ensures.value) in
-    behind_one_more _ _ other.bytes _ (length-seen f c.args.texts.now _ c.loop-index-test.true) (get_or-seen f _ _ other c.loop-index-test.true c.index-texts-index.is) after c.loop-index.invariant
+    let after : comes_before c.args.text.now other.bytes ≡ false =
+    cc (c.comes_before.ensures, c.if-comes_before.false, c.as_bytes.ensures.value, c.as_str.ensures.value) in
+    behind_one_more _ _ other.bytes _ (length-seen f c.args.texts.now _ c.loop-index-test.true)
+    (get_or-seen f _ _ other c.loop-index-test.true c.index-texts-index.is) after c.loop-index.invariant

@@ -7,7 +7,8 @@ use Rattle.chess_notation.proofs.avoid_moves.have_name.Given as goal
 
 abbrev pub invariant-loop-rest : goal.invariant-loop-rest
 invariant-loop-rest l =
-    list_any (λ word. same_text (without_suffix word) l.text) (words_in l.rest) ≡ list_any (λ word. same_text (without_suffix word) l.text) (words_in l.words)
+    list_any (λ word. same_text (without_suffix word) l.text) (words_in l.rest)
+    ≡ list_any (λ word. same_text (without_suffix word) l.text) (words_in l.words)
 
 abbrev pub decreases-loop-rest : goal.decreases-loop-rest
 decreases-loop-rest l = length l.rest

@@ -1,7 +1,9 @@
-use Rattle.std.proofs.Common.{◌≡◌, false, take}
+use Rattle.std.proofs.Common.{◌≡◌}
 use Rattle.std.specs.List.{list_any}
-use Rattle.chess_notation.specs.Opcodes.{same_text}
+use Rattle.chess_moves.specs.inside.Listing.{legal_moves}
+use Rattle.chess_notation.specs.AvoidMoves.{names}
 use Rattle.chess_notation.proofs.avoid_moves.is_name.Given as goal
 
-abbrev pub invariant-loop-name : goal.invariant-loop-name
-invariant-loop-name l = list_any (λ n. same_text l.bare n.text.bytes) (take l.name-index l.names) ≡ false
+-- no move so far
+abbrev pub invariant-loop-m : goal.invariant-loop-m
+invariant-loop-m l = list_any (names l.position l.word) l.m-iterator ≡ list_any (names l.position l.word) (legal_moves l.position)

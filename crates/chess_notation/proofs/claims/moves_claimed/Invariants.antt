@@ -1,12 +1,13 @@
-use Rattle.std.proofs.Common.{◌≡◌, ◌≤◌, take, map, filter, length}
+use Rattle.std.proofs.Common.{◌≡◌, ◌≤◌, ◌+◌, ◌++◌, filter, length}
 use Rattle.std.specs.List.{list_any}
 use Rattle.chess_notation.specs.Words.{words_in}
-use Rattle.chess_notation.specs.Opcodes.{same_text}
-use Rattle.chess_notation.specs.AvoidMoves.{without_suffix}
+use Rattle.chess_notation.specs.AvoidMoves.{names, named}
 use Rattle.chess_notation.proofs.claims.moves_claimed.Given as goal
 
-abbrev pub invariant-loop-name : goal.invariant-loop-name
-invariant-loop-name l = record {
-  moves : l.moves.items ≡ map (λ n. n.m) (filter (λ n. list_any (λ word. same_text (without_suffix word) n.text.bytes) (words_in l.words)) (take l.name-index l.names));
-  few : length l.moves.items ≤ l.name-index;
+-- those so far, and those that are still to come
+abbrev pub invariant-loop-m : goal.invariant-loop-m
+invariant-loop-m l = record {
+  moves : l.moves.items ++ filter (λ m. list_any (λ word. names l.position word m) (words_in l.words)) l.m-iterator
+      ≡ named l.position (words_in l.words);
+  few : length l.moves.items + length l.m-iterator ≤ 1024;
 }

@@ -9,6 +9,11 @@ use Rattle.chess_notation.proofs.disambiguation.rivals_of.Given as goal
 abbrev pub invariant-loop-n : goal.invariant-loop-n
 invariant-loop-n l =
     (l.m ≡ l.fn.m)
-    × ((l.rivals.some || list_any (λ n. is_rival l.position l.man l.m n && true) l.n-iterator) ≡ list_any (λ n. is_rival l.position l.man l.m n && true) (legal_moves l.position))
-    × ((l.rivals.on_file || list_any (λ n. is_rival l.position l.man l.m n && (file_of n.origin == file_of l.m.origin)) l.n-iterator) ≡ list_any (λ n. is_rival l.position l.man l.m n && (file_of n.origin == file_of l.m.origin)) (legal_moves l.position))
-    × ((l.rivals.on_rank || list_any (λ n. is_rival l.position l.man l.m n && (rank_of n.origin == rank_of l.m.origin)) l.n-iterator) ≡ list_any (λ n. is_rival l.position l.man l.m n && (rank_of n.origin == rank_of l.m.origin)) (legal_moves l.position))
+    × ((l.rivals.some || list_any (λ n. is_rival l.position l.man l.m n && true) l.n-iterator)
+    ≡ list_any (λ n. is_rival l.position l.man l.m n && true) (legal_moves l.position))
+    × ((l.rivals.on_file || list_any
+    (λ n. is_rival l.position l.man l.m n && (file_of n.origin == file_of l.m.origin)) l.n-iterator)
+    ≡ list_any (λ n. is_rival l.position l.man l.m n && (file_of n.origin == file_of l.m.origin)) (legal_moves l.position))
+    × ((l.rivals.on_rank || list_any
+    (λ n. is_rival l.position l.man l.m n && (rank_of n.origin == rank_of l.m.origin)) l.n-iterator)
+    ≡ list_any (λ n. is_rival l.position l.man l.m n && (rank_of n.origin == rank_of l.m.origin)) (legal_moves l.position))

@@ -4,4 +4,7 @@ use Rattle.chess_notation.specs.Operations.{is_printable}
 use Rattle.chess_notation.proofs.operations.opcode_text.Given as goal
 
 abbrev pub invariant-loop-byte : goal.invariant-loop-byte
-invariant-loop-byte l = record { bytes : l.text.bytes ≡ take l.byte-index l.word; printable : IsTrue (list_all is_printable (drop l.byte-index l.word)) }
+invariant-loop-byte l = record {
+  bytes : l.text.bytes ≡ take l.byte-index l.word;
+  printable : IsTrue (list_all is_printable (drop l.byte-index l.word));
+}

@@ -7,9 +7,13 @@ use Rattle.chess_notation.proofs.operations.operations_of.Goals as goal
 
 pub loop-segment-preserved : goal.loop-segment-preserved
 loop-segment-preserved c = record {
-  kept_so_far = kept_more c.loop-segment.operations.items c.add_segment.new.operations.items c.loop-segment.rest.now c.in-Some.segment.now c.in-Some.back.now c.in-Some.ensures.cut c.in_ok-add_segment.ensures.ok ∙ c.loop-segment.invariant.kept_so_far;
-  opcodes = all_behind_segment has_opcode c.loop-segment.rest.now c.in-Some.segment.now c.in-Some.back.now c.in-Some.ensures.cut c.loop-segment.invariant.opcodes;
-  printable = (all_in_segment is_printable c.loop-segment.rest.now c.in-Some.segment.now c.in-Some.back.now c.in-Some.ensures.parts c.loop-segment.invariant.printable).1;
+  kept_so_far = kept_more c.loop-segment.operations.items c.add_segment.new.operations.items c.loop-segment.rest.now
+      c.in-Some.segment.now c.in-Some.back.now c.in-Some.ensures.cut c.in_ok-add_segment.ensures.ok
+      ∙ c.loop-segment.invariant.kept_so_far;
+  opcodes = all_behind_segment has_opcode c.loop-segment.rest.now c.in-Some.segment.now c.in-Some.back.now
+      c.in-Some.ensures.cut c.loop-segment.invariant.opcodes;
+  printable = (all_in_segment is_printable c.loop-segment.rest.now c.in-Some.segment.now c.in-Some.back.now
+      c.in-Some.ensures.parts c.loop-segment.invariant.printable).1;
 }
 
 on_err : {A E P : Type 0} (r : Result A E) → P → OnErr r P
@@ -20,4 +24,5 @@ pub returns-in_err-add_segment-clause-err : goal.returns-in_err-add_segment-clau
 unfolding rest_of
 returns-in_err-add_segment-clause-err c =
     on_err c.from_residual.result (subst (λ es. es ≢ []) c.loop-segment.invariant.kept_so_far
-    (some_kept c.loop-segment.operations.items c.loop-segment.rest.now c.in-Some.segment.now c.in-Some.back.now c.in-Some.ensures.cut c.in_err-add_segment.ensures.err))
+    (some_kept c.loop-segment.operations.items c.loop-segment.rest.now c.in-Some.segment.now c.in-Some.back.now
+    c.in-Some.ensures.cut c.in_err-add_segment.ensures.err))

@@ -20,18 +20,23 @@ loop-segment-preserved-then-is_avoid_segment c =
     let asks : is_avoid_segment segment ≡ true = sym c.is_avoid_segment.ensures ∙ c.if-is_avoid_segment.true in
     let parts = ap length c.in-Some.ensures.parts ∙ length-append segment (59 ∷ c.in-Some.back.now) in
     let here = ap length c.word_at.ensures.rest in
-    let bound_back : bound_said (segments_of c.loop-segment.rest.now).ended c.args.default ≡ bound_said back c.args.default = ap (λ ps. bound_said ps c.args.default) ended ∙ rw other refl in
-    let small_back : list_all is_small_if_bound (segments_of c.loop-segment.rest.now).ended ≡ list_all is_small_if_bound back = ap (list_all is_small_if_bound) ended ∙ rw other refl in
+    let bound_back : bound_said (segments_of c.loop-segment.rest.now).ended c.args.default ≡ bound_said back c.args.default =
+    ap (λ ps. bound_said ps c.args.default) ended ∙ rw other refl in
+    let small_back : list_all is_small_if_bound (segments_of c.loop-segment.rest.now).ended ≡ list_all is_small_if_bound back =
+    ap (list_all is_small_if_bound) ended ∙ rw other refl in
     let found : avoid_text_in (segments_of c.loop-segment.rest.now).ended ≡ Some (behind_word segment) = ap avoid_text_in ended ∙ rw asks refl in
     record {
       bound = ap (λ n. option_map_or (λ b. b) c.loop-segment.bound n) (sym bound_back) ∙ c.loop-segment.invariant.bound;
-      avoid = ap Some c.word_at.ensures.rest ∙ sym found ∙ nothing_yet c.loop-segment.avoid (c.is_none.ensures ∙ ap not c.if-is_none.true) ∙ c.loop-segment.invariant.avoid;
-      numbers = (and_parts (has_number_if_bound segment) (list_all has_number_if_bound back) (sym (ap (list_all has_number_if_bound) ended) ∙ c.loop-segment.invariant.numbers)).1;
+      avoid = ap Some c.word_at.ensures.rest ∙ sym found
+          ∙ nothing_yet c.loop-segment.avoid (c.is_none.ensures ∙ ap not c.if-is_none.true) ∙ c.loop-segment.invariant.avoid;
+      numbers = (and_parts (has_number_if_bound segment) (list_all has_number_if_bound back)
+          (sym (ap (list_all has_number_if_bound) ended) ∙ c.loop-segment.invariant.numbers)).1;
       small = sym small_back ∙ c.loop-segment.invariant.small;
       shorter = omega (arith, parts, here, behind_within segment, c.loop-segment.invariant.within);
       within = omega (arith, parts, c.loop-segment.invariant.within);
     } where
       nothing_yet : (found : Option (Bor (List ℕ))) → is_some found ≡ false
-          → avoid_text_in (segments_of c.loop-segment.rest.now).ended ≡ option_map_or (λ words. Some words.now) found (avoid_text_in (segments_of c.loop-segment.rest.now).ended)
+          → avoid_text_in (segments_of c.loop-segment.rest.now).ended
+          ≡ option_map_or (λ words. Some words.now) found (avoid_text_in (segments_of c.loop-segment.rest.now).ended)
       nothing_yet None h = refl
       nothing_yet (Some words) h = cc

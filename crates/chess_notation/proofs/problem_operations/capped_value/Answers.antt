@@ -3,4 +3,8 @@ use Rattle.chess_notation.proofs.CappedValues.{value_more}
 use Rattle.chess_notation.proofs.problem_operations.capped_value.Goals as goal
 
 pub loop-byte-preserved : goal.loop-byte-preserved
-loop-byte-preserved c = record { value = value_more c.args.digits.now c.loop-byte.value c.loop-byte.byte-index _ c.min-value.result c.loop-byte-test.true refl (omega arith) c.loop-byte.invariant.value; small = omega arith }
+loop-byte-preserved c = record {
+  value = value_more c.args.digits.now c.loop-byte.value c.loop-byte.byte-index _
+      c.min-value.result c.loop-byte-test.true refl (omega arith) c.loop-byte.invariant.value;
+  small = omega arith;
+}

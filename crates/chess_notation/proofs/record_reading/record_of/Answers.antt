@@ -15,20 +15,26 @@ IsNothing text avoid = IfNone avoid (avoid_text_in (segments_of text).ended ≡ 
 
 pub named_moves-requires : goal.named_moves-requires
 named_moves-requires c =
-    let shorter = subst (λ (o : Option (Bor (List ℕ))). IfSome o (λ words. length words.now ≤ length c.args.text.now)) c.in-Some.is c.requires.shorter in
+    let shorter = subst (λ (o : Option (Bor (List ℕ))). IfSome o (λ words. length words.now ≤ length c.args.text.now))
+    c.in-Some.is c.requires.shorter in
     omega (arith, shorter, c.requires.short)
 
 pub returns-in-None-named_moves-clause-refused : goal.returns-in-None-named_moves-clause-refused
 returns-in-None-named_moves-clause-refused c =
     let there = subst (IsBehind c.args.text.now) c.in-Some.is c.requires.avoid in
-    inl (refl, asked_names c.args.position (segments_of c.args.text.now).ended c.in-Some.words.now c.requires.distinct there ∙ c.in-None-named_moves.ensures.refused)
+    inl (
+      refl,
+      asked_names c.args.position (segments_of c.args.text.now).ended c.in-Some.words.now c.requires.distinct there
+          ∙ c.in-None-named_moves.ensures.refused,
+    )
 
 pub invariant_of-result : goal.invariant_of-result
 invariant_of-result c =
     let avoid : c.match-asked.avoid.items ≡ avoid_in c.args.position (segments_of c.args.text.now).ended = elim c.match-asked.branch [
       | in-Some+in-Some-named_moves w ↦
           let there = subst (IsBehind c.args.text.now) w.in-Some.is c.requires.avoid in
-          rw w.avoid-is (w.in-Some-named_moves.ensures.moves ∙ asked_moves c.args.position (segments_of c.args.text.now).ended w.in-Some.words.now there)
+          rw w.avoid-is (w.in-Some-named_moves.ensures.moves
+          ∙ asked_moves c.args.position (segments_of c.args.text.now).ended w.in-Some.words.now there)
       | in-None w ↦
           let none = subst (IsNothing c.args.text.now) w.in-None.is c.requires.nothing in
           rw w.avoid-is (w.new-avoid.ensures ∙ unasked_moves c.args.position (segments_of c.args.text.now).ended none)
@@ -43,7 +49,8 @@ returns-in-Ok-clause-made c =
     let avoid : c.match-asked.avoid.items ≡ avoid_in c.args.position (segments_of c.args.text.now).ended = elim c.match-asked.branch [
       | in-Some+in-Some-named_moves w ↦
           let there = subst (IsBehind c.args.text.now) w.in-Some.is c.requires.avoid in
-          rw w.avoid-is (w.in-Some-named_moves.ensures.moves ∙ asked_moves c.args.position (segments_of c.args.text.now).ended w.in-Some.words.now there)
+          rw w.avoid-is (w.in-Some-named_moves.ensures.moves
+          ∙ asked_moves c.args.position (segments_of c.args.text.now).ended w.in-Some.words.now there)
       | in-None w ↦
           let none = subst (IsNothing c.args.text.now) w.in-None.is c.requires.nothing in
           rw w.avoid-is (w.new-avoid.ensures ∙ unasked_moves c.args.position (segments_of c.args.text.now).ended none)
@@ -54,7 +61,8 @@ pub returns-in-Ok-clause-names : goal.returns-in-Ok-clause-names
 returns-in-Ok-clause-names c = elim c.match-asked.branch [
   | in-Some+in-Some-named_moves w ↦
       let there = subst (IsBehind c.args.text.now) w.in-Some.is c.requires.avoid in
-      asked_names c.args.position (segments_of c.args.text.now).ended w.in-Some.words.now c.requires.distinct there ∙ w.in-Some-named_moves.ensures.names
+      asked_names c.args.position (segments_of c.args.text.now).ended w.in-Some.words.now c.requires.distinct there
+      ∙ w.in-Some-named_moves.ensures.names
   | in-None w ↦
       let none = subst (IsNothing c.args.text.now) w.in-None.is c.requires.nothing in
       unasked_names c.args.position (segments_of c.args.text.now).ended c.requires.distinct none
@@ -67,7 +75,8 @@ returns-in-Err-clause-refused c = inr (
     elim c.match-asked.branch [
       | in-Some+in-Some-named_moves w ↦
           let there = subst (IsBehind c.args.text.now) w.in-Some.is c.requires.avoid in
-          asked_names c.args.position (segments_of c.args.text.now).ended w.in-Some.words.now c.requires.distinct there ∙ w.in-Some-named_moves.ensures.names
+          asked_names c.args.position (segments_of c.args.text.now).ended w.in-Some.words.now c.requires.distinct there
+          ∙ w.in-Some-named_moves.ensures.names
       | in-None w ↦
           let none = subst (IsNothing c.args.text.now) w.in-None.is c.requires.nothing in
           unasked_names c.args.position (segments_of c.args.text.now).ended c.requires.distinct none

@@ -10,4 +10,5 @@ returns-clause-none c = cut_none _ _ _ c.loop-index.invariant c.loop-index-test.
 
 pub returns-then-ends_segment-clause-cut : goal.returns-then-ends_segment-clause-cut
 returns-then-ends_segment-clause-cut c =
-    rw (c.split_at.ensures.front, c.split_at-then-ends_segment.ensures.back, add-one) (cut_here _ _ _ _ c.loop-index.invariant c.loop-index-test.true refl (cc))
+    rw (c.split_at.ensures.front, c.split_at-then-ends_segment.ensures.back, add-one)
+    (cut_here _ _ _ _ c.loop-index.invariant c.loop-index-test.true refl (cc))

@@ -17,4 +17,5 @@ pub returns-in-Ok-clause-settled : goal.returns-in-Ok-clause-settled
 returns-in-Ok-clause-settled t c =
     let outputs = c.in-Some-2.all.items in
     let settled : AllSettled c.pop.new.self.items outputs = search rules in
-    settled_more c.args.reports.items c.pop.new.self.items c.push.new.self.items outputs c.in-Some.report c.in-Some-settle_one.one c.in-Some.ensures.items (search rules) settled c.in-Some-settle_one.ensures.settled
+    settled_more c.args.reports.items c.pop.new.self.items c.push.new.self.items outputs c.in-Some.report c.in-Some-settle_one.one
+    c.in-Some.ensures.items (search rules) settled c.in-Some-settle_one.ensures.settled

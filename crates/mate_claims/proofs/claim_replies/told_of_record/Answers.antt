@@ -9,7 +9,8 @@ use Rattle.mate_claims.proofs.claim_replies.told_of_record.Goals as goal
 pub returns-in_ok-record_row-in-Ok-clause-told : goal.returns-in_ok-record_row-in-Ok-clause-told
 returns-in_ok-record_row-in-Ok-clause-told c = λ line default reads same.
     let r = c.args.record.now in
-    verdict_told c.args.place.now default line r c.record.inside.position c.record.inside.bound (words_in c.args.words.now) c.in-Ok.claimed.items c.solve-outcome.result
+    verdict_told c.args.place.now default line r c.record.inside.position c.record.inside.bound
+    (words_in c.args.words.now) c.in-Ok.claimed.items c.solve-outcome.result
     c.in_ok-record_row-in-Ok.field-0.items c.judge.result
     (ap (λ x. x.position) c.record.view_is) (ap (λ x. x.bound) c.record.view_is)
     reads same c.in-Ok.ensures.clear c.in-Ok.ensures.moves (c.solve-outcome.ensures.truth ∙ ap truth c.problem.ensures)
@@ -18,5 +19,7 @@ returns-in_ok-record_row-in-Ok-clause-told c = λ line default reads same.
 
 pub returns-in_ok-refused_row-in-Err-clause-told : goal.returns-in_ok-refused_row-in-Err-clause-told
 returns-in_ok-refused_row-in-Err-clause-told c = λ line default reads same.
-    claims_told c.args.place.now default line c.args.record.now c.record.inside.position (words_in c.args.words.now) c.in-Err.fault c.in_ok-refused_row-in-Err.field-0.items
-    (ap (λ x. x.position) c.record.view_is) reads same c.in-Err.ensures.refused (c.in_ok-refused_row-in-Err.ensures ∙ ap (refused_row c.args.place.now) c.code.ensures)
+    claims_told c.args.place.now default line c.args.record.now c.record.inside.position
+    (words_in c.args.words.now) c.in-Err.fault c.in_ok-refused_row-in-Err.field-0.items
+    (ap (λ x. x.position) c.record.view_is) reads same c.in-Err.ensures.refused
+    (c.in_ok-refused_row-in-Err.ensures ∙ ap (refused_row c.args.place.now) c.code.ensures)

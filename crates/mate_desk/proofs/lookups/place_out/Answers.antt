@@ -15,4 +15,5 @@ returns-in-Some-clause-some c = record {
 pub loop-s-preserved : goal.loop-s-preserved
 loop-s-preserved c =
     let task : Task = record { ticket = c.args.ticket; problem = c.args.problem.now } in
-    any_more (is_out_with task) c.args.queues.now c.loop-s.s c.index-queues-s.result (got c.args.queues.now c.loop-s.s c.index-queues-s.result (omega arith) c.index-queues-s.is) c.loop-s.invariant c.in_default.ensures.none
+    any_more (is_out_with task) c.args.queues.now c.loop-s.s c.index-queues-s.result (got c.args.queues.now c.loop-s.s
+    c.index-queues-s.result (omega arith) c.index-queues-s.is) c.loop-s.invariant c.in_default.ensures.none

@@ -6,4 +6,5 @@ use Rattle.mate_desk.proofs.Joined.{joined}
 use Rattle.mate_desk.proofs.lookups.place_out.Given as goal
 
 abbrev pub invariant-loop-s : goal.invariant-loop-s
-invariant-loop-s l = let task : Task = record { ticket = l.ticket; problem = l.problem } in list_any (is_out_with task) (joined (take l.s l.queues)) ≡ false
+invariant-loop-s l = let task : Task = record { ticket = l.ticket; problem = l.problem } in
+    list_any (is_out_with task) (joined (take l.s l.queues)) ≡ false

@@ -1,4 +1,5 @@
-use Rattle.std.proofs.Common.{◌≡◌, ◌⊎◌, ◌∙◌, ◌+◌, ◌*◌, ◌<◌, ◌≤◌, ap, sym, subst, inl, inr, refl, List, ◌∷◌, [], arith, length, take, get_or, rules, ℕ, length-append, vec_len, vec_capacity, true, false, min, nat_le, count_by}
+use Rattle.std.proofs.Common.{◌≡◌, ◌⊎◌, ◌∙◌, ◌+◌, ◌*◌, ◌<◌, ◌≤◌, ap, sym, subst, inl, inr, refl, List, ◌∷◌, [], arith, length, take}
+use Rattle.std.proofs.Common.{get_or, rules, ℕ, length-append, vec_len, vec_capacity, true, false, min, nat_le, count_by}
 use Rattle.std.proofs.Math.Nat.{min-eq_left, min-eq_right}
 use Rattle.std.proofs.lemmas.Bool.Decides.{nat_tests}
 use Rattle.std.proofs.lemmas.List.{take_all}
@@ -35,7 +36,8 @@ pub loop-step-init : goal.loop-step-init
 loop-step-init c =
     let n : ℕ = c.args.submitters in
     let default : ℕ = c.args.default in
-    let first : MirrorsBy (λ t. nothing) n c.args.room default [] c.in-Ok.desk c.in-Ok-with_capacity-2.hand.items = rw (c.in-Ok.ensures.empty, c.in-Ok-with_capacity-2.ensures.items) (start (λ t. nothing) n c.args.room default) in
+    let first : MirrorsBy (λ t. nothing) n c.args.room default [] c.in-Ok.desk c.in-Ok-with_capacity-2.hand.items =
+    rw (c.in-Ok.ensures.empty, c.in-Ok-with_capacity-2.ensures.items) (start (λ t. nothing) n c.args.room default) in
     let h : History = [] in
     let jobs : List Task = c.in-Ok-with_capacity-2.hand.items in
     record {
@@ -46,8 +48,11 @@ loop-step-init c =
       told = ap length c.in-Ok-with_capacity.ensures.items;
       room = search rules;
       hand = omega (arith, c.in-Ok-with_capacity-2.ensures.len);
-      held = held_either (length c.args.steps.now) (n * c.args.room) (vec_capacity c.in-Ok-with_capacity-2.hand) (omega (arith, c.in-Ok-with_capacity-2.ensures.capacity, c.min.ensures));
-      places = first_places (count_by collects c.args.steps.now) (count_by finishes c.args.steps.now) (vec_len c.in-Ok-new_places.places) (count_done c.in-Ok.desk) (c.in-Ok-new_places.ensures ∙ c.most_answers.ensures) (ap count_done c.in-Ok.ensures.empty ∙ none_done n c.args.room 0);
+      held = held_either (length c.args.steps.now) (n * c.args.room) (vec_capacity c.in-Ok-with_capacity-2.hand)
+          (omega (arith, c.in-Ok-with_capacity-2.ensures.capacity, c.min.ensures));
+      places = first_places (count_by collects c.args.steps.now) (count_by finishes c.args.steps.now)
+          (vec_len c.in-Ok-new_places.places) (count_done c.in-Ok.desk) (c.in-Ok-new_places.ensures ∙ c.most_answers.ensures)
+          (ap count_done c.in-Ok.ensures.empty ∙ none_done n c.args.room 0);
       next = omega (arith, ap (λ (d : Content). d.next) c.in-Ok.ensures.empty);
       memo_room = refl;
       memo_within = omega (arith, c.len.ensures.kept, c.len.ensures.within);
@@ -58,7 +63,8 @@ make-reply-requires-clause-room c t low =
     let i = c.loop-step.invariant in
     let h : History = past (take c.loop-step.step-index c.args.steps.now) c.loop-step.replies.items in
     let jobs : List Task = c.loop-step.hand.items in
-    let fits : length jobs < c.args.submitters * c.args.room = hand_fits i.mirrors.0 c.args.submitters c.args.room c.args.default h c.loop-step.desk jobs t i.mirrors.1 low in
+    let fits : length jobs < c.args.submitters * c.args.room =
+    hand_fits i.mirrors.0 c.args.submitters c.args.room c.args.default h c.loop-step.desk jobs t i.mirrors.1 low in
     elim i.held [
       | inl p ↦ omega (arith, p, i.hand, c.loop-step-test.true)
       | inr p ↦ omega (arith, p, fits)
@@ -66,7 +72,8 @@ make-reply-requires-clause-room c t low =
 
 pub make-reply-requires-clause-place : goal.make-reply-requires-clause-place
 make-reply-requires-clause-place c asked some =
-    place_there c.args.steps.now c.loop-step.step-index c.step-item.result (count_done c.loop-step.desk) (vec_len c.loop-step.places) c.loop-step-test.true (sym c.step-item.is) c.loop-step.invariant.places asked some
+    place_there c.args.steps.now c.loop-step.step-index c.step-item.result (count_done c.loop-step.desk)
+    (vec_len c.loop-step.places) c.loop-step-test.true (sym c.step-item.is) c.loop-step.invariant.places asked some
 
 pub loop-step-preserved : goal.loop-step-preserved
 loop-step-preserved c =
@@ -79,15 +86,19 @@ loop-step-preserved c =
     let h : History = past (take k ss) c.loop-step.replies.items in
     let at : get_or ss k s ≡ s = sym c.step-item.is in
     let e = past_more [] ss c.loop-step.replies.items k s c.make-reply.result i.told c.loop-step-test.true at in
-    let m : Mirrors n c.args.room default (record { step = s; reply = c.make-reply.result } ∷ h) c.make-reply.new.desk c.make-reply.new.hand.items = c.make-reply.ensures.makes n c.args.room h i.mirrors in
+    let m : Mirrors n c.args.room default (record { step = s; reply = c.make-reply.result } ∷ h) c.make-reply.new.desk
+    c.make-reply.new.hand.items = c.make-reply.ensures.makes n c.args.room h i.mirrors in
     let now : History = record { step = s; reply = c.make-reply.result } ∷ h in
     let d : Content = c.make-reply.new.desk in
     let left : List Task = c.make-reply.new.hand.items in
     record {
       mirrors = rw (c.push_reserved.ensures.items, e) m;
-      in_order = rw (c.push_reserved.ensures.items, e) (and_moment (DeliversInOrder default) _ h (in_order m.0 n c.args.room default now d left m.1) i.in_order);
-      notices = rw (c.push_reserved.ensures.items, e) (and_moment GivesNoticeOfWithdrawn _ h (notices m.0 n c.args.room default now d left m.1) i.notices);
-      all = rw (c.push_reserved.ensures.items, e) (and_moment (DeliversAllOnceDrained n) _ h (all_delivered m.0 n c.args.room default now d left m.1) i.all);
+      in_order = rw (c.push_reserved.ensures.items, e)
+          (and_moment (DeliversInOrder default) _ h (in_order m.0 n c.args.room default now d left m.1) i.in_order);
+      notices = rw (c.push_reserved.ensures.items, e)
+          (and_moment GivesNoticeOfWithdrawn _ h (notices m.0 n c.args.room default now d left m.1) i.notices);
+      all = rw (c.push_reserved.ensures.items, e)
+          (and_moment (DeliversAllOnceDrained n) _ h (all_delivered m.0 n c.args.room default now d left m.1) i.all);
       told = ap length c.push_reserved.ensures.items ∙ (length-append c.loop-step.replies.items (c.make-reply.result ∷ []) ∙ ap (λ n. n + 1) i.told);
       room = omega (arith, i.room, c.push_reserved.ensures.capacity);
       hand = omega (arith, i.hand, c.make-reply.ensures.grows);
@@ -95,7 +106,9 @@ loop-step-preserved c =
         | inl p ↦ inl (omega (arith, p, c.make-reply.ensures.room))
         | inr p ↦ inr (omega (arith, p, c.make-reply.ensures.room))
       ];
-      places = places_left ss k s (count_done c.loop-step.desk) (vec_len c.loop-step.places) (count_done d) (vec_len c.make-reply.new.places) (answers c.make-reply.result) c.loop-step-test.true at c.make-reply.ensures.left c.make-reply.ensures.asked_for c.make-reply.ensures.finished i.places;
+      places = places_left ss k s (count_done c.loop-step.desk) (vec_len c.loop-step.places) (count_done d)
+          (vec_len c.make-reply.new.places) (answers c.make-reply.result) c.loop-step-test.true at c.make-reply.ensures.left
+          c.make-reply.ensures.asked_for c.make-reply.ensures.finished i.places;
       next = omega (arith, i.next, c.make-reply.ensures.few);
       memo_room = c.make-reply.ensures.memo_room ∙ i.memo_room;
       memo_within = c.make-reply.ensures.memo_within;
@@ -104,27 +117,36 @@ loop-step-preserved c =
 pub returns-clause-nothing_after_close : goal.returns-clause-nothing_after_close
 returns-clause-nothing_after_close c =
     let i = c.loop-step.invariant in
-    let all : take c.loop-step.step-index c.args.steps.now ≡ c.args.steps.now = take_all c.loop-step.step-index c.args.steps.now (omega (arith, c.loop-step-test.false)) in
-    let fixed : AreReplies c.args.submitters c.args.room c.args.default (past c.args.steps.now c.loop-step.replies.items) = subst (λ ss. AreReplies c.args.submitters c.args.room c.args.default (past ss c.loop-step.replies.items)) all i.mirrors.1.fixed in
+    let all : take c.loop-step.step-index c.args.steps.now ≡ c.args.steps.now =
+    take_all c.loop-step.step-index c.args.steps.now (omega (arith, c.loop-step-test.false)) in
+    let fixed : AreReplies c.args.submitters c.args.room c.args.default (past c.args.steps.now c.loop-step.replies.items) =
+    subst (λ ss. AreReplies c.args.submitters c.args.room c.args.default (past ss c.loop-step.replies.items))
+    all i.mirrors.1.fixed in
     none_after_close c.args.submitters c.args.room c.args.default (past c.args.steps.now c.loop-step.replies.items) fixed
 
 pub returns-clause-in_order_and_each_once : goal.returns-clause-in_order_and_each_once
 unfolding AfterEachPrefix
 returns-clause-in_order_and_each_once c =
-    let all : take c.loop-step.step-index c.args.steps.now ≡ c.args.steps.now = take_all c.loop-step.step-index c.args.steps.now (omega (arith, c.loop-step-test.false)) in
-    prefix_has (DeliversInOrder c.args.default) [] c.args.steps.now c.loop-step.replies.items (subst (λ ss. AtEachMoment (DeliversInOrder c.args.default) (past ss c.loop-step.replies.items)) all c.loop-step.invariant.in_order)
+    let all : take c.loop-step.step-index c.args.steps.now ≡ c.args.steps.now =
+    take_all c.loop-step.step-index c.args.steps.now (omega (arith, c.loop-step-test.false)) in
+    prefix_has (DeliversInOrder c.args.default) [] c.args.steps.now c.loop-step.replies.items (subst (λ ss.
+    AtEachMoment (DeliversInOrder c.args.default) (past ss c.loop-step.replies.items)) all c.loop-step.invariant.in_order)
 
 pub returns-clause-notices_for_the_withdrawn : goal.returns-clause-notices_for_the_withdrawn
 unfolding AfterEachPrefix
 returns-clause-notices_for_the_withdrawn c =
-    let all : take c.loop-step.step-index c.args.steps.now ≡ c.args.steps.now = take_all c.loop-step.step-index c.args.steps.now (omega (arith, c.loop-step-test.false)) in
-    prefix_has GivesNoticeOfWithdrawn [] c.args.steps.now c.loop-step.replies.items (subst (λ ss. AtEachMoment GivesNoticeOfWithdrawn (past ss c.loop-step.replies.items)) all c.loop-step.invariant.notices)
+    let all : take c.loop-step.step-index c.args.steps.now ≡ c.args.steps.now =
+    take_all c.loop-step.step-index c.args.steps.now (omega (arith, c.loop-step-test.false)) in
+    prefix_has GivesNoticeOfWithdrawn [] c.args.steps.now c.loop-step.replies.items
+    (subst (λ ss. AtEachMoment GivesNoticeOfWithdrawn (past ss c.loop-step.replies.items)) all c.loop-step.invariant.notices)
 
 pub returns-clause-all_once_drained : goal.returns-clause-all_once_drained
 unfolding AfterEachPrefix
 returns-clause-all_once_drained c =
-    let all : take c.loop-step.step-index c.args.steps.now ≡ c.args.steps.now = take_all c.loop-step.step-index c.args.steps.now (omega (arith, c.loop-step-test.false)) in
-    prefix_has (DeliversAllOnceDrained c.args.submitters) [] c.args.steps.now c.loop-step.replies.items (subst (λ ss. AtEachMoment (DeliversAllOnceDrained c.args.submitters) (past ss c.loop-step.replies.items)) all c.loop-step.invariant.all)
+    let all : take c.loop-step.step-index c.args.steps.now ≡ c.args.steps.now =
+    take_all c.loop-step.step-index c.args.steps.now (omega (arith, c.loop-step-test.false)) in
+    prefix_has (DeliversAllOnceDrained c.args.submitters) [] c.args.steps.now c.loop-step.replies.items (subst (λ ss. AtEachMoment
+    (DeliversAllOnceDrained c.args.submitters) (past ss c.loop-step.replies.items)) all c.loop-step.invariant.all)
 
 pub returns-clause-true_answers : goal.returns-clause-true_answers
 unfolding IsTrueOf

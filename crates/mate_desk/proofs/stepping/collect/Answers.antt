@@ -16,4 +16,5 @@ pub collected-requires : goal.collected-requires
 collected-requires c = rw c.in-Ok.ensures.delivery (answer_fits c.args.desk.now c.args.s _ c.requires)
 
 pub returns-in-Ok-clause-finished : goal.returns-in-Ok-clause-finished
-returns-in-Ok-clause-finished c = rw (c.collected.ensures.reply, c.in-Ok.ensures.delivery, c.in-Ok.ensures.collected) (collected_done c.args.desk.now c.args.s)
+returns-in-Ok-clause-finished c = rw (c.collected.ensures.reply, c.in-Ok.ensures.delivery, c.in-Ok.ensures.collected)
+    (collected_done c.args.desk.now c.args.s)

@@ -4,7 +4,7 @@ use Rattle.mate_search.specs.Wins.{leaves_lost}
 use Rattle.mate_search.proofs.principal_variation.keys_among.Given as goal
 
 abbrev pub invariant-loop-m : goal.invariant-loop-m
-invariant-loop-m l = record {
+invariant-loop-m g l = record {
   kept : l.keys.items ≡ filter (leaves_lost (l.n - 1) l.position) (take l.m-index l.first);
   few : array_vec_len l.keys ≤ l.m-index;
   room : l.memo.room ≡ l.fn.memo.room;

@@ -2,40 +2,46 @@ use Rattle.std.proofs.Common.{◌≡◌, refl, sym, ap, ◌∙◌, arith}
 use Rattle.chess_moves.specs.inside.Listing.{legal_moves}
 use Rattle.mate_search.specs.Wins.{win}
 use Rattle.mate_search.proofs.Wins.{all_legal, refuted_by}
-use Rattle.mate_search.proofs.Known.{win_within_more, no_win_within_fewer}
+use Rattle.mate_search.proofs.Known.{win_within_more, no_win_within_fewer, least_found}
 use Rattle.mate_search.proofs.searching.+search.Goals as goal
 
 pub least_win-returns-clause-none : goal.least_win-returns-clause-none
-least_win-returns-clause-none t c = λ e. no_win_within_fewer c.loop-k.k c.args.n c.args.position.now (omega arith) c.loop-k.invariant.none
+least_win-returns-clause-none t g c = λ e. no_win_within_fewer c.loop-k.k c.args.n c.args.position.now (omega arith) c.loop-k.invariant.none
 
 pub loses_each-loop-r-init : goal.loses_each-loop-r-init
-loses_each-loop-r-init t c =
-    let moves : c.into_iter-r-iterator.result ≡ legal_moves c.args.position.now = c.into_iter-r-iterator.ensures.into_iter_gives ∙ c.legal_moves-r-items.ensures.moves in
+loses_each-loop-r-init t g c =
+    let moves : c.into_iter-r-iterator.result ≡ legal_moves c.args.position.now =
+    c.into_iter-r-iterator.ensures.into_iter_gives ∙ c.legal_moves-r-items.ensures.moves in
     record { all = rw moves refl; some = rw moves refl; legal = rw moves (all_legal c.args.position.now); room = refl }
 
 pub wins_longer-returns-then-mates-clause-found : goal.wins_longer-returns-then-mates-clause-found
-wins_longer-returns-then-mates-clause-found t c = sym (win_within_more 1 c.args.n c.args.position.now (omega arith) (sym c.mates.ensures ∙ c.if-mates.true))
+wins_longer-returns-then-mates-clause-found t g c =
+    sym (win_within_more 1 c.args.n c.args.position.now (omega arith) (sym c.mates.ensures ∙ c.if-mates.true))
 
-pub wins_longer-returns-in-Some-least_win-clause-found : goal.wins_longer-returns-in-Some-least_win-clause-found
-wins_longer-returns-in-Some-least_win-clause-found t c =
-    let least = c.in-Some-least_win.ensures.least in
-    sym (win_within_more c.in-Some-least_win.k c.args.n c.args.position.now least.1 least.3)
+pub wins_longer-returns-in-Some-2-clause-found : goal.wins_longer-returns-in-Some-2-clause-found
+wins_longer-returns-in-Some-2-clause-found t g c =
+    let least = least_found c.args.n c.args.position.now c.in_ok-k.field-0 c.in-Some-2.k c.in-Some-2.is c.in_ok-k.ensures.least in
+    sym (win_within_more c.in-Some-2.k c.args.n c.args.position.now least.1 least.3)
 
 pub refutes-returns-clause-refuted : goal.refutes-returns-clause-refuted
-refutes-returns-clause-refuted t c = λ e. refuted_by c.legal_listed.ensures c.args.k c.args.position.now c.in-Some.r (omega (arith, c.r.invariant)) (omega (arith, c.r.invariant))
-    (sym c.is_legal.ensures ∙ c.if-not-is_legal.false) (ap (win c.args.k) (sym c.after.ensures) ∙ sym c.wins.ensures.found ∙ c.if-wins.false)
+refutes-returns-clause-refuted t g c = λ e. refuted_by c.legal_listed.ensures c.args.k c.args.position.now c.in-Some.r
+    (omega (arith, c.r.invariant)) (omega (arith, c.r.invariant))
+    (sym c.is_legal.ensures ∙ c.if-not-is_legal.false) (ap (win c.args.k) (sym c.after.ensures) ∙ sym c.in_ok-wins.ensures.found ∙ c.if-branch.false)
 
 pub wins_by_some-loop-m-init : goal.wins_by_some-loop-m-init
-wins_by_some-loop-m-init t c =
-    let moves : c.into_iter-m-iterator.result ≡ legal_moves c.args.position.now = c.into_iter-m-iterator.ensures.into_iter_gives ∙ c.legal_moves-m-items.ensures.moves in
+wins_by_some-loop-m-init t g c =
+    let moves : c.into_iter-m-iterator.result ≡ legal_moves c.args.position.now =
+    c.into_iter-m-iterator.ensures.into_iter_gives ∙ c.legal_moves-m-items.ensures.moves in
     record { any = rw moves refl; legal = rw moves (all_legal c.args.position.now); room = refl }
 
 pub is_refuted_by_capture-loop-r-init : goal.is_refuted_by_capture-loop-r-init
-is_refuted_by_capture-loop-r-init t c =
-    let moves : c.into_iter-r-iterator.result ≡ legal_moves c.args.position.now = c.into_iter-r-iterator.ensures.into_iter_gives ∙ c.legal_moves-r-items.ensures.moves in
+is_refuted_by_capture-loop-r-init t g c =
+    let moves : c.into_iter-r-iterator.result ≡ legal_moves c.args.position.now =
+    c.into_iter-r-iterator.ensures.into_iter_gives ∙ c.legal_moves-r-items.ensures.moves in
     record { all = rw moves (λ e. e); some = rw moves (λ e. e); legal = rw moves (all_legal c.args.position.now); room = refl }
 
 pub is_refuted_by_check-loop-r-init : goal.is_refuted_by_check-loop-r-init
-is_refuted_by_check-loop-r-init t c =
-    let moves : c.into_iter-r-iterator.result ≡ legal_moves c.args.position.now = c.into_iter-r-iterator.ensures.into_iter_gives ∙ c.legal_moves-r-items.ensures.moves in
+is_refuted_by_check-loop-r-init t g c =
+    let moves : c.into_iter-r-iterator.result ≡ legal_moves c.args.position.now =
+    c.into_iter-r-iterator.ensures.into_iter_gives ∙ c.legal_moves-r-items.ensures.moves in
     record { all = rw moves (λ e. e); some = rw moves (λ e. e); legal = rw moves (all_legal c.args.position.now); room = refl }

@@ -9,42 +9,42 @@ use Rattle.mate_search.specs.Wins.{win, leaves_lost}
 use Rattle.mate_search.proofs.searching.+search.Given as goal
 
 abbrev pub decreases-wins : goal.decreases-wins
-decreases-wins l = 8 * l.n + 3
+decreases-wins g l = 8 * l.n + 3
 
 abbrev pub decreases-wins_longer : goal.decreases-wins_longer
-decreases-wins_longer l = 8 * l.n + 2
+decreases-wins_longer g l = 8 * l.n + 2
 
 abbrev pub decreases-least_win : goal.decreases-least_win
-decreases-least_win l = 8 * l.n + 1
+decreases-least_win g l = 8 * l.n + 1
 
 abbrev pub decreases-wins_by_some : goal.decreases-wins_by_some
-decreases-wins_by_some l = 8 * l.n
+decreases-wins_by_some g l = 8 * l.n
 
 abbrev pub decreases-loses : goal.decreases-loses
-decreases-loses l = 8 * l.k + 7
+decreases-loses g l = 8 * l.k + 7
 
 abbrev pub decreases-loses_each : goal.decreases-loses_each
-decreases-loses_each l = 8 * l.k + 5
+decreases-loses_each g l = 8 * l.k + 5
 
 abbrev pub decreases-is_refuted_by_check : goal.decreases-is_refuted_by_check
-decreases-is_refuted_by_check l = 8 * l.k + 4
+decreases-is_refuted_by_check g l = 8 * l.k + 4
 
 abbrev pub decreases-is_refuted_by_capture : goal.decreases-is_refuted_by_capture
-decreases-is_refuted_by_capture l = 8 * l.k + 4
+decreases-is_refuted_by_capture g l = 8 * l.k + 4
 
 abbrev pub decreases-refutes : goal.decreases-refutes
-decreases-refutes l = 8 * l.k + 4
+decreases-refutes g l = 8 * l.k + 4
 
 -- no mate within k moves
 abbrev pub invariant-least_win-loop-k : goal.invariant-least_win-loop-k
-invariant-least_win-loop-k l = record {
+invariant-least_win-loop-k g l = record {
   none : win l.k l.position ≡ false;
   room : l.memo.room ≡ l.fn.memo.room;
 }
 
 -- no move so far wins
 abbrev pub invariant-wins_by_some-loop-m : goal.invariant-wins_by_some-loop-m
-invariant-wins_by_some-loop-m l = record {
+invariant-wins_by_some-loop-m g l = record {
   any : list_any (leaves_lost (l.n - 1) l.position) l.m-iterator ≡ list_any (leaves_lost (l.n - 1) l.position) (legal_moves l.position);
   legal : list_all (is_legal l.position) l.m-iterator ≡ true;
   room : l.memo.room ≡ l.fn.memo.room;
@@ -52,7 +52,7 @@ invariant-wins_by_some-loop-m l = record {
 
 -- each reply so far loses
 abbrev pub invariant-loses_each-loop-r : goal.invariant-loses_each-loop-r
-invariant-loses_each-loop-r l = record {
+invariant-loses_each-loop-r g l = record {
   all : list_all (λ r. win l.k (after_setup l.position r)) l.r-iterator ≡ list_all (λ r. win l.k (after_setup l.position r)) (legal_moves l.position);
   some : (l.moves || nat_lt 0 (length l.r-iterator)) ≡ has_legal_move l.position;
   legal : list_all (is_legal l.position) l.r-iterator ≡ true;
@@ -61,8 +61,9 @@ invariant-loses_each-loop-r l = record {
 
 -- the replies to come are among the legal moves
 abbrev pub invariant-is_refuted_by_capture-loop-r : goal.invariant-is_refuted_by_capture-loop-r
-invariant-is_refuted_by_capture-loop-r l = record {
-  all : list_all (λ r. win l.k (after_setup l.position r)) (legal_moves l.position) ≡ true → list_all (λ r. win l.k (after_setup l.position r)) l.r-iterator ≡ true;
+invariant-is_refuted_by_capture-loop-r g l = record {
+  all : list_all (λ r. win l.k (after_setup l.position r)) (legal_moves l.position) ≡ true
+      → list_all (λ r. win l.k (after_setup l.position r)) l.r-iterator ≡ true;
   some : nat_lt 0 (length l.r-iterator) ≡ true → has_legal_move l.position ≡ true;
   legal : list_all (is_legal l.position) l.r-iterator ≡ true;
   room : l.memo.room ≡ l.fn.memo.room;
@@ -70,8 +71,9 @@ invariant-is_refuted_by_capture-loop-r l = record {
 
 -- the same of those that are asked whether they check
 abbrev pub invariant-is_refuted_by_check-loop-r : goal.invariant-is_refuted_by_check-loop-r
-invariant-is_refuted_by_check-loop-r l = record {
-  all : list_all (λ r. win l.k (after_setup l.position r)) (legal_moves l.position) ≡ true → list_all (λ r. win l.k (after_setup l.position r)) l.r-iterator ≡ true;
+invariant-is_refuted_by_check-loop-r g l = record {
+  all : list_all (λ r. win l.k (after_setup l.position r)) (legal_moves l.position) ≡ true
+      → list_all (λ r. win l.k (after_setup l.position r)) l.r-iterator ≡ true;
   some : nat_lt 0 (length l.r-iterator) ≡ true → has_legal_move l.position ≡ true;
   legal : list_all (is_legal l.position) l.r-iterator ≡ true;
   room : l.memo.room ≡ l.fn.memo.room;

@@ -5,5 +5,6 @@ use Rattle.mate_search.proofs.searching.is_known_refuted.Goals as goal
 
 pub loop-r-init : goal.loop-r-init
 loop-r-init c =
-    let moves : c.into_iter-r-iterator.result ≡ legal_moves c.args.position.now = c.into_iter-r-iterator.ensures.into_iter_gives ∙ c.legal_moves-r-items.ensures.moves in
+    let moves : c.into_iter-r-iterator.result ≡ legal_moves c.args.position.now =
+    c.into_iter-r-iterator.ensures.into_iter_gives ∙ c.legal_moves-r-items.ensures.moves in
     record { all = rw moves (λ e. e); some = rw moves (λ e. e); legal = rw moves (all_legal c.args.position.now); room = refl }

@@ -19,13 +19,15 @@ decreases-write_attack l = 4 * l.at.shown + 1
 -- the defences so far
 abbrev pub invariant-write_defences-loop-r : goal.invariant-write_defences-loop-r
 invariant-write_defences-loop-r l = record {
-  lines : l.sheet ≡ written l.initial.sheet (flat_map (defence (defences (l.at.shown - 1) (l.at.number + 1)) (l.at.shown - 1) l.at.number l.at.left l.position) (take l.r-index l.r-items));
+  lines : l.sheet ≡ written l.initial.sheet (flat_map (defence (defences (l.at.shown - 1) (l.at.number + 1))
+      (l.at.shown - 1) l.at.number l.at.left l.position) (take l.r-index l.r-items));
   room : l.memo.room ≡ l.fn.memo.room;
 }
 
 -- the moves so far
 abbrev pub invariant-write_attacks-loop-index : goal.invariant-write_attacks-loop-index
 invariant-write_attacks-loop-index l = record {
-  lines : l.sheet ≡ written l.initial.sheet (flat_map (attack (defences l.at.shown l.at.number) l.at.shown l.at.number l.at.left l.position) (take l.index l.moves));
+  lines : l.sheet ≡ written l.initial.sheet
+      (flat_map (attack (defences l.at.shown l.at.number) l.at.shown l.at.number l.at.left l.position) (take l.index l.moves));
   room : l.memo.room ≡ l.fn.memo.room;
 }

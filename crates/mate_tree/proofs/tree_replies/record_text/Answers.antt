@@ -11,5 +11,6 @@ returns-clause-text c =
     let answered : c.into_bytes.result.items ≡ line (answer_text c.args.record.now c.solve-outcome.result) = search rules in
     let added : c.extend_from_slice.new.self.items ≡ c.into_text-text.result.items ++ line [] = search rules in
     added ∙ ap (λ t. t ++ line []) c.into_text-text.ensures
-    ∙ reply_written c.args.form.now c.args.record.now c.solve-outcome.result c.into_bytes.result.items c.new-sheet.result c.write_tree.new.sheet told answered c.new-sheet.ensures
+    ∙ reply_written c.args.form.now c.args.record.now c.solve-outcome.result c.into_bytes.result.items c.new-sheet.result
+    c.write_tree.new.sheet told answered c.new-sheet.ensures
     c.in_ok-write_tree.ensures.lines

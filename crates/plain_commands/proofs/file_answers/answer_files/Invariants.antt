@@ -1,11 +1,12 @@
 use Rattle.std.proofs.Common.{ℕ, List, map, take}
 use Rattle.std.specs.Io.KnownBytes.{Appends}
-use Rattle.plain_commands.specs.FileAnswers.{Answers}
+use Rattle.plain_commands.proofs.AnsweredFiles.{AnsweredTo}
 use Rattle.plain_commands.proofs.file_answers.answer_files.Given as goal
 
 -- what was gained so far answers the names so far
 abbrev pub invariant-loop-name : goal.invariant-loop-name
 invariant-loop-name g l =
     (gained : List ℕ)
-    × Answers (g.S.Source.holds l.source) (g.A.FileAnswers.replies l.answers) (map (λ s. s.now) (take l.name-index l.names)) l.refused gained
+    × AnsweredTo (g.S.Source.holds l.source) (g.A.FileAnswers.replies l.answers) l.files.from
+    (map (λ s. s.now) (take l.name-index l.files.names.now)) l.from l.refused gained
     × Appends (g.O.Write.contents l.initial.out) (g.O.Write.contents l.out) gained

@@ -7,7 +7,8 @@ use Rattle.plain_commands.proofs.playing.play_moves.Goals as goal
 pub returns-in_default-reach-clause-ok : goal.returns-in_default-reach-clause-ok
 returns-in_default-reach-clause-ok g c =
     let (number, stops) = c.in_default-reach.ensures.stopped in
-    let says : c.as_slice.result.now ≡ line_fen c.args.fen.now = c.as_slice.ensures.value ∙ c.in_ok-text.ensures ∙ ap line_fen c.as_bytes.ensures.value in
+    let says : c.as_slice.result.now ≡ line_fen c.args.fen.now =
+    c.as_slice.ensures.value ∙ c.in_ok-text.ensures ∙ ap line_fen c.as_bytes.ensures.value in
     record {
       gained = [];
       shows = (

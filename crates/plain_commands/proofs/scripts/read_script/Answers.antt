@@ -12,15 +12,18 @@ returns-in_default-clause-refused c = all_blank (sym c.new-lines.ensures ∙ c.i
 
 pub returns-in_default-read_desk-clause-refused : goal.returns-in_default-read_desk-clause-refused
 returns-in_default-read_desk-clause-refused c =
-    opens_no_desk (line_value c.in-Some.opening) c.next.new.self (sym c.new-lines.ensures ∙ c.in-Some.ensures.line) (no_desk (line_value c.in-Some.opening) c.in_default-read_desk.ensures)
+    opens_no_desk (line_value c.in-Some.opening) c.next.new.self (sym c.new-lines.ensures ∙ c.in-Some.ensures.line)
+    (no_desk (line_value c.in-Some.opening) c.in_default-read_desk.ensures)
 
 pub returns-in_default-read_desk-clause-no_script : goal.returns-in_default-read_desk-clause-no_script
-returns-in_default-read_desk-clause-no_script c = refused_no_script c.args.text.now (fault.Line c.in-Some.opening.number) (returns-in_default-read_desk-clause-refused c)
+returns-in_default-read_desk-clause-no_script c =
+    refused_no_script c.args.text.now (fault.Line c.in-Some.opening.number) (returns-in_default-read_desk-clause-refused c)
 
 steps_refused : (c : goal.After-from_residual) → IsRefused c.args.text.now c.in_err-read_steps.field-0.0
 steps_refused c =
     let desk = is_desk (line_value c.in-Some.opening) c.in-Some-read_desk.desk c.in-Some-read_desk.ensures in
-    refused_behind c.args.text.now (line_value c.in-Some.opening) c.next.new.self c.in_err-read_steps.field-0.0 (sym c.new-lines.ensures ∙ c.in-Some.ensures.line) desk
+    refused_behind c.args.text.now (line_value c.in-Some.opening) c.next.new.self c.in_err-read_steps.field-0.0
+    (sym c.new-lines.ensures ∙ c.in-Some.ensures.line) desk
     c.in_err-read_steps.ensures.refused
 
 pub returns-in_err-read_steps-clause-refused : goal.returns-in_err-read_steps-clause-refused

@@ -12,7 +12,8 @@ loop-number-init g c = (
   [],
   [],
   record {
-    taken = subst (λ k. Consumes k (left_of g.I.Input.left c.new-lines.result) []) c.new-lines.ensures.left (Consumes-nil (left_of g.I.Input.left c.new-lines.result));
+    taken = subst (λ k. Consumes k (left_of g.I.Input.left c.new-lines.result) []) c.new-lines.ensures.left
+        (Consumes-nil (left_of g.I.Input.left c.new-lines.result));
     opens = λ rest. refl;
     replies = (refl, refl);
     number = omega arith;
@@ -28,18 +29,22 @@ returns-in_err-answered-clause-err g c =
     let (seen, lines, text, so_far) = c.loop-number.invariant in
     let (other, is, same) = err_from_is_err_and c.from_residual.result c.from_residual.ensures.1 in
     rw (is, same)
-    (stopped c.in_err-answered.field-0.0 (g.H.LineHandler.replies c.args.handler.now) c.loop-number.number c.loop-number.refused (g.I.Input.left c.args.input) _ _ (g.O.Write.contents c.args.out.now)
+    (stopped c.in_err-answered.field-0.0 (g.H.LineHandler.replies c.args.handler.now) c.loop-number.number c.loop-number.refused
+    (g.I.Input.left c.args.input) _ _ (g.O.Write.contents c.args.out.now)
     (g.O.Write.contents c.loop-number.out) (g.O.Write.contents c.answer_next.new.out) seen text lines
     so_far.taken so_far.opens so_far.replies so_far.number so_far.appends
-    (λ silent. subst (λ out. Keeps (g.O.Write.contents c.loop-number.out) (g.O.Write.contents out)) (sym (c.in_err-answered.ensures.unanswered silent)) (Keeps-refl (g.O.Write.contents c.loop-number.out)))
+    (λ silent. subst (λ out. Keeps (g.O.Write.contents c.loop-number.out) (g.O.Write.contents out))
+    (sym (c.in_err-answered.ensures.unanswered silent)) (Keeps-refl (g.O.Write.contents c.loop-number.out)))
     c.in_err-answered.ensures.cut)
 
 pub returns-then-answered-clause-ok : goal.returns-then-answered-clause-ok
 returns-then-answered-clause-ok g c =
     let (seen, lines, text, so_far) = c.loop-number.invariant in
     let (line, here, reply, takes, appends) = c.in_ok-answered.ensures.ok in
-    let takes' = subst (λ b. TakesLine b (left_of g.I.Input.left c.loop-number.lines) (left_of g.I.Input.left c.answer_next.new.lines) line) c.if-answered.true takes in
-    let (may, replies) = last_reply (g.H.LineHandler.replies c.args.handler.now) c.loop-number.number c.loop-number.refused c.in_ok-answered.answered.refused (g.I.Input.left c.args.input) _ _ seen line text here lines
+    let takes' = subst (λ b. TakesLine b (left_of g.I.Input.left c.loop-number.lines)
+    (left_of g.I.Input.left c.answer_next.new.lines) line) c.if-answered.true takes in
+    let (may, replies) = last_reply (g.H.LineHandler.replies c.args.handler.now) c.loop-number.number c.loop-number.refused
+    c.in_ok-answered.answered.refused (g.I.Input.left c.args.input) _ _ seen line text here lines
     so_far.taken so_far.opens so_far.replies so_far.number takes' reply in
     (seen ++ line, text ++ here, may, replies, Appends-trans _ _ _ text here so_far.appends appends)
 
@@ -47,14 +52,16 @@ pub loop-number-preserved : goal.loop-number-preserved
 loop-number-preserved g c =
     let (seen, lines, text, so_far) = c.loop-number.invariant in
     let (line, here, reply, takes, appends) = c.in_ok-answered.ensures.ok in
-    let (one, on) = subst (λ b. TakesLine b (left_of g.I.Input.left c.loop-number.lines) (left_of g.I.Input.left c.answer_next.new.lines) line) c.if-answered.false takes in (
+    let (one, on) = subst (λ b. TakesLine b (left_of g.I.Input.left c.loop-number.lines)
+    (left_of g.I.Input.left c.answer_next.new.lines) line) c.if-answered.false takes in (
       seen ++ (line ++ 10 ∷ []),
       lines ++ line ∷ [],
       text ++ here,
       record {
         taken = Consumes-trans _ _ _ seen (line ++ 10 ∷ []) so_far.taken on;
         opens = opens_more seen line lines one so_far.opens;
-        replies = replies_next (g.H.LineHandler.replies c.args.handler.now) c.loop-number.number lines line text here c.loop-number.refused c.in_ok-answered.answered.refused so_far.number so_far.replies reply;
+        replies = replies_next (g.H.LineHandler.replies c.args.handler.now) c.loop-number.number lines line text here
+            c.loop-number.refused c.in_ok-answered.answered.refused so_far.number so_far.replies reply;
         number = omega (arith, so_far.number, length-append lines (line ∷ []));
         appends = Appends-trans _ _ _ text here so_far.appends appends;
         few = omega (arith, so_far.few, c.in_ok-answered.ensures.few);
@@ -66,5 +73,6 @@ loop-number-preserved g c =
 pub returns-clause-err : goal.returns-clause-err
 returns-clause-err g c =
     let (seen, lines, text, so_far) = c.loop-number.invariant in
-    gave_up (g.H.LineHandler.replies c.args.handler.now) c.loop-number.refused (g.I.Input.left c.args.input) _ (g.O.Write.contents c.args.out.now) (g.O.Write.contents c.loop-number.out) seen text lines
+    gave_up (g.H.LineHandler.replies c.args.handler.now) c.loop-number.refused (g.I.Input.left c.args.input) _
+    (g.O.Write.contents c.args.out.now) (g.O.Write.contents c.loop-number.out) seen text lines
     so_far.taken so_far.opens so_far.replies so_far.appends

@@ -21,16 +21,24 @@ words c =
     record {
       squares = length-set men s None ∙ h.squares;
       colours = λ j.
-          word_of-cleared (is_of White) men (slice_index c.self.inside.by_colour 0) c.without.result s i refl h.squares on here (ap (λ l. slice_index l 0) h.colours) c.without.type_inv c.without.ensures j
-          ∷ word_of-cleared (is_of Black) men (slice_index c.self.inside.by_colour 1) c.without-2.result s i refl h.squares on here (ap (λ l. slice_index l 1) h.colours) c.without-2.type_inv c.without-2.ensures j
+          word_of-cleared (is_of White) men (slice_index c.self.inside.by_colour 0) c.without.result s i refl h.squares on here
+          (ap (λ l. slice_index l 0) h.colours) c.without.type_inv c.without.ensures j
+          ∷ word_of-cleared (is_of Black) men (slice_index c.self.inside.by_colour 1) c.without-2.result s i refl h.squares on
+          here (ap (λ l. slice_index l 1) h.colours) c.without-2.type_inv c.without-2.ensures j
           ∷ [];
       kinds = λ j.
-          word_of-cleared (is_of_kind Pawn) men (slice_index c.self.inside.by_kind 0) c.without-3.result s i refl h.squares on here (ap (λ l. slice_index l 0) h.kinds) c.without-3.type_inv c.without-3.ensures j
-          ∷ word_of-cleared (is_of_kind Knight) men (slice_index c.self.inside.by_kind 1) c.without-4.result s i refl h.squares on here (ap (λ l. slice_index l 1) h.kinds) c.without-4.type_inv c.without-4.ensures j
-          ∷ word_of-cleared (is_of_kind Bishop) men (slice_index c.self.inside.by_kind 2) c.without-5.result s i refl h.squares on here (ap (λ l. slice_index l 2) h.kinds) c.without-5.type_inv c.without-5.ensures j
-          ∷ word_of-cleared (is_of_kind Rook) men (slice_index c.self.inside.by_kind 3) c.without-6.result s i refl h.squares on here (ap (λ l. slice_index l 3) h.kinds) c.without-6.type_inv c.without-6.ensures j
-          ∷ word_of-cleared (is_of_kind Queen) men (slice_index c.self.inside.by_kind 4) c.without-7.result s i refl h.squares on here (ap (λ l. slice_index l 4) h.kinds) c.without-7.type_inv c.without-7.ensures j
-          ∷ word_of-cleared (is_of_kind King) men (slice_index c.self.inside.by_kind 5) c.without-8.result s i refl h.squares on here (ap (λ l. slice_index l 5) h.kinds) c.without-8.type_inv c.without-8.ensures j
+          word_of-cleared (is_of_kind Pawn) men (slice_index c.self.inside.by_kind 0) c.without-3.result s i refl h.squares on
+          here (ap (λ l. slice_index l 0) h.kinds) c.without-3.type_inv c.without-3.ensures j
+          ∷ word_of-cleared (is_of_kind Knight) men (slice_index c.self.inside.by_kind 1) c.without-4.result s i refl h.squares on
+          here (ap (λ l. slice_index l 1) h.kinds) c.without-4.type_inv c.without-4.ensures j
+          ∷ word_of-cleared (is_of_kind Bishop) men (slice_index c.self.inside.by_kind 2) c.without-5.result s i refl h.squares on
+          here (ap (λ l. slice_index l 2) h.kinds) c.without-5.type_inv c.without-5.ensures j
+          ∷ word_of-cleared (is_of_kind Rook) men (slice_index c.self.inside.by_kind 3) c.without-6.result s i refl h.squares on
+          here (ap (λ l. slice_index l 3) h.kinds) c.without-6.type_inv c.without-6.ensures j
+          ∷ word_of-cleared (is_of_kind Queen) men (slice_index c.self.inside.by_kind 4) c.without-7.result s i refl h.squares on
+          here (ap (λ l. slice_index l 4) h.kinds) c.without-7.type_inv c.without-7.ensures j
+          ∷ word_of-cleared (is_of_kind King) men (slice_index c.self.inside.by_kind 5) c.without-8.result s i refl h.squares on
+          here (ap (λ l. slice_index l 5) h.kinds) c.without-8.type_inv c.without-8.ensures j
           ∷ [];
     }
 

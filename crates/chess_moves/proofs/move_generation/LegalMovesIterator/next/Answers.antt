@@ -10,7 +10,10 @@ returns-in_err-origin-clause-steps c =
     let now = c.loop-self.self-inside in
     let done = c.in_err-origin.ensures.steps in
     let none : moves_left now ≡ [] = rw (no_members now.turn.targets c.loop-self-test.true, no_members now.origins done.0) in
-    rw c.from_residual.ensures (sym c.loop-self.invariant.left ∙ none, rw (no_members now.turn.targets c.loop-self-test.true, no_members c.next.new.self done.1))
+    rw c.from_residual.ensures (
+      sym c.loop-self.invariant.left ∙ none,
+      rw (no_members now.turn.targets c.loop-self-test.true, no_members c.next.new.self done.1),
+    )
 
 pub moves_of_man-self-inside-requires-clause-own : goal.moves_of_man-self-inside-requires-clause-own
 moves_of_man-self-inside-requires-clause-own c =
@@ -35,6 +38,7 @@ loop-self-preserved c =
       };
       left = ap (λ ms. ms ++ rest) c.moves_of_man-self-inside.ensures.moves
           ∙ sym (first_man p now.origins c.in_ok-origin.origin left split)
-          ∙ ap (λ ms. ms ++ moves_of_men p (members now.origins)) (sym (no_moves now.turn.promotion now.turn.man now.turn.origin now.turn.targets c.loop-self-test.true))
+          ∙ ap (λ ms. ms ++ moves_of_men p (members now.origins))
+          (sym (no_moves now.turn.promotion now.turn.man now.turn.origin now.turn.targets c.loop-self-test.true))
           ∙ c.loop-self.invariant.left;
     }

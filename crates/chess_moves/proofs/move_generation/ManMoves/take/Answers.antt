@@ -14,7 +14,8 @@ returns-clause-moves c =
       | then-contains w ↦ let yes' = test ∙ w.if-contains.true in rw yes' w.promotion-is
       | else-contains w ↦ let no' = test ∙ w.if-contains.false in rw no' w.promotion-is
     ] in
-    let first = rw (← promotion) at (first_move now.promotion now.man now.origin now.targets target c.without_lowest-others.result (c.without_lowest-others.ensures target lowest)) in
+    let first = rw (← promotion) at (first_move now.promotion now.man now.origin now.targets target c.without_lowest-others.result
+    (c.without_lowest-others.ensures target lowest)) in
     elim c.match-next_promotion.branch [
       | in-Some w ↦
           let later : next_promotion c.if-contains.promotion ≡ Some w.in-Some.kind = sym c.next_promotion.ensures ∙ w.in-Some.is in

@@ -6,11 +6,18 @@ use Rattle.chess_moves.proofs.ray_tables.Rays.hidden.Goals.{then-rises, else-ris
 use Rattle.chess_moves.proofs.ray_tables.Rays.hidden.Goals as goal
 
 pub overflow_sub-first : goal.overflow_sub-first
-overflow_sub-first c = omega (arith, first_falling (bit_and c.ray-ray.result c.args.occupied) (omega (arith, and_le_l c.ray-ray.result c.args.occupied)))
+overflow_sub-first c = omega (
+  arith,
+  first_falling (bit_and c.ray-ray.result c.args.occupied) (omega (arith, and_le_l c.ray-ray.result c.args.occupied)),
+)
 
 pub ray-requires : goal.ray-requires
 ray-requires c = elim c.if-rises.branch [
-  | then-rises w ↦ omega (arith, w.first-is, first_rising (bit_and c.ray-ray.result c.args.occupied) (omega (arith, and_le_l c.ray-ray.result c.args.occupied)))
+  | then-rises w ↦ omega (
+    arith,
+    w.first-is,
+    first_rising (bit_and c.ray-ray.result c.args.occupied) (omega (arith, and_le_l c.ray-ray.result c.args.occupied)),
+  )
   | else-rises w ↦ omega (arith, w.first-is)
 ]
 
@@ -19,8 +26,10 @@ returns c =
     let set : ℕ = bit_and c.ray-ray.result c.args.occupied in
     let small : set < 2 ^ 64 = omega (arith, and_le_l c.ray-ray.result c.args.occupied) in
     elim c.if-rises.branch [
-      | then-rises w ↦ hidden_rising c.ray-ray.result c.args.occupied _ c.ray.result c.args.square c.args.direction (sym w.if-rises.ensures) c.ray-ray.ensures (with_h8 set) (small_h8 set small)
+      | then-rises w ↦ hidden_rising c.ray-ray.result c.args.occupied _ c.ray.result c.args.square c.args.direction
+          (sym w.if-rises.ensures) c.ray-ray.ensures (with_h8 set) (small_h8 set small)
           (λ t l. c.ray.ensures t l ∙ ap (λ b. toward c.args.direction b t) w.first-is)
-      | else-rises w ↦ hidden_falling c.ray-ray.result c.args.occupied _ c.ray.result c.args.square c.args.direction (sym w.if-rises.ensures) c.ray-ray.ensures (with_a1 set) (small_a1 set small)
+      | else-rises w ↦ hidden_falling c.ray-ray.result c.args.occupied _ c.ray.result c.args.square c.args.direction
+          (sym w.if-rises.ensures) c.ray-ray.ensures (with_a1 set) (small_a1 set small)
           (λ t l. c.ray.ensures t l ∙ ap (λ b. toward c.args.direction b t) w.first-is)
     ]

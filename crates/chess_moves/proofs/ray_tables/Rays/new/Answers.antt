@@ -1,7 +1,8 @@
 use Rattle.chess_moves.specs.declared.directions.Direction.{Direction}
 use Rattle.chess_moves.specs.declared.directions.Direction.TheVariants.{North, NorthEast, East, SouthEast, South, SouthWest, West, NorthWest}
 use Rattle.chess_moves.specs.declared.directions.Leap.{Leap}
-use Rattle.chess_moves.specs.declared.directions.Leap.TheVariants.{KnightLeap, KingStep, WhiteCapture, BlackCapture, WhiteStep, BlackStep, WhiteDouble, BlackDouble}
+use Rattle.chess_moves.specs.declared.directions.Leap.TheVariants.{KnightLeap, KingStep, WhiteCapture, BlackCapture}
+use Rattle.chess_moves.specs.declared.directions.Leap.TheVariants.{WhiteStep, BlackStep, WhiteDouble, BlackDouble}
 use Rattle.std.proofs.Common.{◌≡◌, ◌∙◌, ℕ, ◌<◌, ◌∷◌, [], List, slice_index, slice_index_or, refl}
 use Rattle.square_sets.specs.Members.{has}
 use Rattle.chess_moves.specs.inside.Directions.{direction_number, is_on_diagonal, is_on_straight}
@@ -22,7 +23,8 @@ all_rays n ne e se s sw w nw i j k l m o p q SouthWest = o
 all_rays n ne e se s sw w nw i j k l m o p q West = p
 all_rays n ne e se s sw w nw i j k l m o p q NorthWest = q
 
-all_targets : (a b c d e f g h : List ℕ) → AreTargetsOf KnightLeap a → AreTargetsOf KingStep b → AreTargetsOf WhiteCapture c → AreTargetsOf BlackCapture d
+all_targets : (a b c d e f g h : List ℕ) → AreTargetsOf KnightLeap a → AreTargetsOf KingStep b
+    → AreTargetsOf WhiteCapture c → AreTargetsOf BlackCapture d
     → AreTargetsOf WhiteStep e → AreTargetsOf BlackStep f → AreTargetsOf WhiteDouble g → AreTargetsOf BlackDouble h
     → (x : Leap) → AreTargetsOf x (slice_index_or (a ∷ b ∷ c ∷ d ∷ e ∷ f ∷ g ∷ h ∷ []) (place_of x) [])
 all_targets a b c d e f g h i j k l m o p q KnightLeap = i
@@ -35,7 +37,8 @@ all_targets a b c d e f g h i j k l m o p q WhiteDouble = p
 all_targets a b c d e f g h i j k l m o p q BlackDouble = q
 
 -- four rays together
-all_diagonals : (ne se sw nw sets : List ℕ) → AreRaysToward NorthEast ne → AreRaysToward SouthEast se → AreRaysToward SouthWest sw → AreRaysToward NorthWest nw
+all_diagonals : (ne se sw nw sets : List ℕ) → AreRaysToward NorthEast ne → AreRaysToward SouthEast se
+    → AreRaysToward SouthWest sw → AreRaysToward NorthWest nw
     → AreOneSetOf ne se sw nw sets → (s t : ℕ) → s < 64 → t < 64 → has (slice_index sets s) t ≡ is_on_diagonal s t
 unfolding is_on_diagonal
 all_diagonals ne se sw nw sets i j k l one s t h m = one s t h m ∙ rw (i s t h m, j s t h m, k s t h m, l s t h m) refl
@@ -47,12 +50,15 @@ all_straights n e s w sets i j k l one a t h m = one a t h m ∙ rw (i a t h m, 
 
 pub invariant_of-result : goal.invariant_of-result
 invariant_of-result c = record {
-  rays = all_rays _ _ _ _ _ _ _ _ c.rays_toward-north.ensures c.rays_toward-north_east.ensures c.rays_toward-east.ensures c.rays_toward-south_east.ensures
+  rays = all_rays _ _ _ _ _ _ _ _ c.rays_toward-north.ensures c.rays_toward-north_east.ensures
+      c.rays_toward-east.ensures c.rays_toward-south_east.ensures
       c.rays_toward-south.ensures c.rays_toward-south_west.ensures c.rays_toward-west.ensures c.rays_toward-north_west.ensures;
   leaps = all_targets _ _ _ _ _ _ _ _ c.targets_of.ensures c.targets_of-2.ensures c.targets_of-3.ensures c.targets_of-4.ensures
       c.targets_of-5.ensures c.targets_of-6.ensures c.targets_of-7.ensures c.targets_of-8.ensures;
-  diagonals = all_diagonals _ _ _ _ _ c.rays_toward-north_east.ensures c.rays_toward-south_east.ensures c.rays_toward-south_west.ensures c.rays_toward-north_west.ensures c.one_set.ensures;
-  straights = all_straights _ _ _ _ _ c.rays_toward-north.ensures c.rays_toward-east.ensures c.rays_toward-south.ensures c.rays_toward-west.ensures c.one_set-2.ensures;
+  diagonals = all_diagonals _ _ _ _ _ c.rays_toward-north_east.ensures c.rays_toward-south_east.ensures
+      c.rays_toward-south_west.ensures c.rays_toward-north_west.ensures c.one_set.ensures;
+  straights = all_straights _ _ _ _ _ c.rays_toward-north.ensures c.rays_toward-east.ensures c.rays_toward-south.ensures
+      c.rays_toward-west.ensures c.one_set-2.ensures;
 }
 
 pub returns : goal.returns

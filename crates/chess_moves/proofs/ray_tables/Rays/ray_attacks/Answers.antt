@@ -12,5 +12,6 @@ open_one ray hidden false blocked e f = rw e refl
 pub returns : goal.returns
 returns c = λ t l.
     has_less c.ray.result c.hidden.result t (omega arith) l
-    ∙ open_one (has c.ray.result t) (has c.hidden.result t) (toward c.args.direction c.args.square t) (is_blocked (has c.args.occupied) c.args.direction c.args.square t)
+    ∙ open_one (has c.ray.result t) (has c.hidden.result t) (toward c.args.direction c.args.square t)
+    (is_blocked (has c.args.occupied) c.args.direction c.args.square t)
     (c.ray.ensures t l) (c.hidden.ensures t l)

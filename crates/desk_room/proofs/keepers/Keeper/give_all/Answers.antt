@@ -13,7 +13,8 @@ loop-n-preserved c =
     record {
       gave = giving_then _ _ _ _ _ i.gave e.gave;
       few = omega (arith, i.few, e.few, c.loop-n.self.small);
-      gained = gain_more c.loop-n.n c.args.self.now.ring (lists c.args.self.now).put (lists c.loop-n.self).put (lists c.give_answers-delivered.new.self).put i.gained e.untouched (omega (arith, e.longer, i.ring));
+      gained = gain_more c.loop-n.n c.args.self.now.ring (lists c.args.self.now).put (lists c.loop-n.self).put
+          (lists c.give_answers-delivered.new.self).put i.gained e.untouched (omega (arith, e.longer, i.ring));
       served = served_more c.loop-n.n c.loop-n.self c.give_answers-delivered.new.self i.served e.others e.served;
       known = e.known ∙ i.known;
       size = e.size ∙ i.size;

@@ -12,7 +12,8 @@ loop-b-preserved c =
     record {
       heard = hearing_then _ _ _ _ _ _ _ _ _ i.heard e.heard;
       few = omega (arith, i.few, e.few, c.loop-b.self.small);
-      gained = gain_more c.loop-b.b c.args.self.now.ring (lists c.args.self.now).heard (lists c.loop-b.self).heard (lists c.hear_from-one.new.self).heard i.gained e.others (omega (arith, e.longer, i.ring));
+      gained = gain_more c.loop-b.b c.args.self.now.ring (lists c.args.self.now).heard (lists c.loop-b.self).heard
+          (lists c.hear_from-one.new.self).heard i.gained e.others (omega (arith, e.longer, i.ring));
       listened = listened_more c.loop-b.b c.loop-b.self c.hear_from-one.new.self i.listened e.untouched e.listened;
       ahead = backs_then _ _ _ i.ahead e.ahead;
       producer = e.producer ∙ i.producer;

@@ -14,38 +14,54 @@ pub invariant_of-self-clause-few_windows : goal.invariant_of-self-clause-few_win
 invariant_of-self-clause-few_windows c = let k = c.args.self.now in omega (arith, k.few_windows, length-set k.lines.items c.args.n c.look.new.self)
 
 pub invariant_of-self-clause-line_rings : goal.invariant_of-self-clause-line_rings
-invariant_of-self-clause-line_rings c = let k = c.args.self.now in rings_set ring_of k.lines.items c.args.n c.index_mut.result.now c.look.new.self k.ring c.requires c.index_mut.ensures.value c.look.ensures.line.2 k.line_rings
+invariant_of-self-clause-line_rings c = let k = c.args.self.now in rings_set ring_of k.lines.items c.args.n c.index_mut.result.now
+    c.look.new.self k.ring c.requires c.index_mut.ensures.value c.look.ensures.line.2 k.line_rings
 
 pub invariant_of-self-clause-kept : goal.invariant_of-self-clause-kept
 invariant_of-self-clause-kept c =
     let k = c.args.self.now in
-    subst AreOwed (sym (of_same k.lines.items c.args.n c.index_mut.result.now c.look.new.self k.receivers.items (orders k.producer) k.desk c.requires c.index_mut.ensures.value c.look.ensures.taken c.look.ensures.put)) k.kept
+    subst AreOwed (sym (of_same k.lines.items c.args.n c.index_mut.result.now c.look.new.self k.receivers.items
+    (orders k.producer) k.desk c.requires c.index_mut.ensures.value c.look.ensures.taken c.look.ensures.put)) k.kept
 
 pub invariant_of-self-clause-marked : goal.invariant_of-self-clause-marked
 invariant_of-self-clause-marked c =
     let k = c.args.self.now in
-    marked_same _ _ (of_same k.lines.items c.args.n c.index_mut.result.now c.look.new.self k.receivers.items (orders k.producer) k.desk c.requires c.index_mut.ensures.value c.look.ensures.taken c.look.ensures.put) k.marked
+    marked_same _ _ (of_same k.lines.items c.args.n c.index_mut.result.now c.look.new.self k.receivers.items
+    (orders k.producer) k.desk c.requires c.index_mut.ensures.value c.look.ensures.taken c.look.ensures.put) k.marked
 
 pub returns-clause-same : goal.returns-clause-same
 returns-clause-same c =
     let k = c.args.self.now in
-    of_same k.lines.items c.args.n c.index_mut.result.now c.look.new.self k.receivers.items (orders k.producer) k.desk c.requires c.index_mut.ensures.value c.look.ensures.taken c.look.ensures.put
+    of_same k.lines.items c.args.n c.index_mut.result.now c.look.new.self k.receivers.items
+    (orders k.producer) k.desk c.requires c.index_mut.ensures.value c.look.ensures.taken c.look.ensures.put
 
 pub returns-clause-known : goal.returns-clause-known
-returns-clause-known c = omega (arith, ap length (at_same letters_known c.args.self.now.lines.items c.args.n c.look.new.self [] c.requires), c.look.ensures.count)
+returns-clause-known c = omega (
+  arith,
+  ap length (at_same letters_known c.args.self.now.lines.items c.args.n c.look.new.self [] c.requires),
+  c.look.ensures.count,
+)
 
 pub returns-clause-few : goal.returns-clause-few
 returns-clause-few c =
     let k = c.args.self.now in
-    omega (arith, c.look.ensures.few, c.look.ensures.line.2, ring_at ring_of k.lines.items c.args.n c.index_mut.result.now k.ring c.requires c.index_mut.ensures.value k.line_rings)
+    omega (
+      arith,
+      c.look.ensures.few,
+      c.look.ensures.line.2,
+      ring_at ring_of k.lines.items c.args.n c.index_mut.result.now k.ring c.requires c.index_mut.ensures.value k.line_rings,
+    )
 
 pub returns-clause-ahead : goal.returns-clause-ahead
 unfolding Ahead
-returns-clause-ahead c = ahead_at letters_taken letters_known c.args.self.now.lines.items c.args.n c.index_mut.result.now c.look.new.self c.requires c.index_mut.ensures.value (ahead_looked _ _ _ _ c.look.ensures.known c.look.ensures.taken)
+returns-clause-ahead c = ahead_at letters_taken letters_known c.args.self.now.lines.items c.args.n c.index_mut.result.now
+    c.look.new.self c.requires c.index_mut.ensures.value (ahead_looked _ _ _ _ c.look.ensures.known c.look.ensures.taken)
 
 pub returns-clause-others : goal.returns-clause-others
 unfolding OthersRead
-returns-clause-others c = λ i h. ⊎_elim (λ r. inl (at_other letters_known c.args.self.now.lines.items c.args.n i c.look.new.self [] h ∙ r)) (λ r. inr r)
+returns-clause-others c = λ i h.
+    ⊎_elim (λ r. inl (at_other letters_known c.args.self.now.lines.items c.args.n i c.look.new.self [] h ∙ r)) (λ r. inr r)
 
 pub returns-clause-room : goal.returns-clause-room
-returns-clause-room c = room_set c.args.self.now _ c.args.n c.index_mut.result.now c.look.new.self c.requires c.index_mut.ensures.value c.look.ensures.line refl refl
+returns-clause-room c = room_set c.args.self.now _ c.args.n c.index_mut.result.now c.look.new.self c.requires
+    c.index_mut.ensures.value c.look.ensures.line refl refl

@@ -9,4 +9,9 @@ returns-clause-pending c = pending_is c.args.n c.in-Ok.pending c.args.self.now.d
 pub returns-clause-few : goal.returns-clause-few
 returns-clause-few c =
     let k = c.args.self.now in
-    omega (arith, pending_is c.args.n c.in-Ok.pending k.desk.queues c.in-Ok.ensures.pending, few_pending k.desk.next c.args.n k.ring k.desk.queues c.kept.ensures.kept.ordered k.rooms (omega (arith, c.requires, k.windows)))
+    omega (
+      arith,
+      pending_is c.args.n c.in-Ok.pending k.desk.queues c.in-Ok.ensures.pending,
+      few_pending k.desk.next c.args.n
+          k.ring k.desk.queues c.kept.ensures.kept.ordered k.rooms (omega (arith, c.requires, k.windows)),
+    )

@@ -15,7 +15,8 @@ loop-n-preserved c =
       accepted = omega (arith, i.accepted, e.few.0, c.loop-n.self.small);
       byes = omega (arith, i.byes, e.few.1, c.loop-n.self.small);
       withdrawn = omega (arith, i.withdrawn, e.few.2, c.loop-n.self.small);
-      gained = gain_more c.loop-n.n c.args.self.now.ring (lists c.args.self.now).taken (lists c.loop-n.self).taken (lists c.take_letters-one.new.self).taken i.gained e.untouched (omega (arith, e.longer, i.ring));
+      gained = gain_more c.loop-n.n c.args.self.now.ring (lists c.args.self.now).taken (lists c.loop-n.self).taken
+          (lists c.take_letters-one.new.self).taken i.gained e.untouched (omega (arith, e.longer, i.ring));
       read = read_more c.loop-n.n c.loop-n.self c.take_letters-one.new.self i.read e.others e.read;
       ahead = ahead_then _ _ _ i.ahead e.ahead;
       size = e.size ∙ i.size;

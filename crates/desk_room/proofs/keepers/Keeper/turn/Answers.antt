@@ -43,7 +43,8 @@ returns-clause-none_after_close c = turned_none _ _ _ (returns-clause-passes c)
 
 pub returns-clause-none_once_home : goal.returns-clause-none_once_home
 unfolding returns-clause-passes
-returns-clause-none_once_home c = λ h. turned_orders _ _ _ (returns-clause-passes c) (c.order_all-ordered.ensures.none (c.take_all-took.ensures.home ∙ (c.hear_all-heard.ensures.home ∙ h)))
+returns-clause-none_once_home c = λ h. turned_orders _ _ _ (returns-clause-passes c)
+    (c.order_all-ordered.ensures.none (c.take_all-took.ensures.home ∙ (c.hear_all-heard.ensures.home ∙ h)))
 
 pub returns-clause-waits : goal.returns-clause-waits
 returns-clause-waits c =
@@ -51,22 +52,26 @@ returns-clause-waits c =
     let same : c.take_all-took.new.self.producer ≡ c.args.self.now.producer = c.take_all-took.ensures.producer ∙ c.hear_all-heard.ensures.producer in
     ⊎_elim (λ (w : waiting c.order_all-ordered.new.self.desk ≡ 0). inl (giving_waiting _ _ _ g ∙ w))
     (⊎_elim (λ (h : c.order_all-ordered.new.self.is_home ≡ true). inr (inl (c.give_all-delivered.ensures.home ∙ h)))
-    (λ (o : places c.take_all-took.new.self.producer ≤ length (orders c.order_all-ordered.new.self.producer)). inr (inr (omega (arith, o, ap places same, ap length (giving_orders _ _ _ g)))))) c.order_all-ordered.ensures.waits
+    (λ (o : places c.take_all-took.new.self.producer ≤ length (orders c.order_all-ordered.new.self.producer)).
+    inr (inr (omega (arith, o, ap places same, ap length (giving_orders _ _ _ g)))))) c.order_all-ordered.ensures.waits
 
 pub returns-clause-not_the_first : goal.returns-clause-not_the_first
 returns-clause-not_the_first c =
     let g = c.give_all-delivered.ensures.gave in
     ⊎_elim (λ (w : waiting c.order_all-ordered.new.self.desk ≡ 0). inl (giving_waiting _ _ _ g ∙ w))
-    (λ (o : 0 < length (orders c.order_all-ordered.new.self.producer)). inr (omega (arith, o, ap length (giving_orders _ _ _ g)))) c.order_all-ordered.ensures.not_the_first
+    (λ (o : 0 < length (orders c.order_all-ordered.new.self.producer)). inr (omega (arith, o, ap length (giving_orders _ _ _ g))))
+    c.order_all-ordered.ensures.not_the_first
 
 pub returns-clause-listened : goal.returns-clause-listened
 returns-clause-listened c =
-    let same : c.give_all-delivered.new.self.receivers ≡ c.hear_all-heard.new.self.receivers = c.give_all-delivered.ensures.receivers ∙ (c.order_all-ordered.ensures.receivers ∙ c.take_all-took.ensures.receivers) in
+    let same : c.give_all-delivered.new.self.receivers ≡ c.hear_all-heard.new.self.receivers =
+    c.give_all-delivered.ensures.receivers ∙ (c.order_all-ordered.ensures.receivers ∙ c.take_all-took.ensures.receivers) in
     λ b. ap (λ v. get_or (map back_known v.items) b []) same ∙ c.hear_all-heard.ensures.listened b
 
 pub returns-clause-backs_ahead : goal.returns-clause-backs_ahead
 returns-clause-backs_ahead c =
-    let same : c.give_all-delivered.new.self.receivers ≡ c.hear_all-heard.new.self.receivers = c.give_all-delivered.ensures.receivers ∙ (c.order_all-ordered.ensures.receivers ∙ c.take_all-took.ensures.receivers) in
+    let same : c.give_all-delivered.new.self.receivers ≡ c.hear_all-heard.new.self.receivers =
+    c.give_all-delivered.ensures.receivers ∙ (c.order_all-ordered.ensures.receivers ∙ c.take_all-took.ensures.receivers) in
     backs_then _ _ _ c.hear_all-heard.ensures.ahead (backs_ears c.hear_all-heard.new.self c.give_all-delivered.new.self same)
 
 pub returns-clause-ahead : goal.returns-clause-ahead
@@ -74,14 +79,19 @@ returns-clause-ahead c =
     ahead_then _ _ _ (ahead_lines c.args.self.now c.hear_all-heard.new.self c.hear_all-heard.ensures.lines)
     (ahead_then _ _ _ c.take_all-took.ensures.ahead
     (ahead_then _ _ _ (ahead_lines c.take_all-took.new.self c.order_all-ordered.new.self c.order_all-ordered.ensures.lines)
-    (ahead_equal c.order_all-ordered.new.self c.give_all-delivered.new.self (giving_taken _ _ _ c.give_all-delivered.ensures.gave) c.give_all-delivered.ensures.known)))
+    (ahead_equal c.order_all-ordered.new.self c.give_all-delivered.new.self
+    (giving_taken _ _ _ c.give_all-delivered.ensures.gave) c.give_all-delivered.ensures.known)))
 
 pub returns-clause-read : goal.returns-clause-read
 returns-clause-read c =
-    let same : known c.give_all-delivered.new.self ≡ known c.take_all-took.new.self = c.give_all-delivered.ensures.known ∙ ap (λ v. map letters_known v.items) c.order_all-ordered.ensures.lines in
-    let size : length c.give_all-delivered.new.self.lines.items ≡ length c.take_all-took.new.self.lines.items = c.give_all-delivered.ensures.size ∙ ap (λ v. length v.items) c.order_all-ordered.ensures.lines in
+    let same : known c.give_all-delivered.new.self ≡ known c.take_all-took.new.self =
+    c.give_all-delivered.ensures.known ∙ ap (λ v. map letters_known v.items) c.order_all-ordered.ensures.lines in
+    let size : length c.give_all-delivered.new.self.lines.items ≡ length c.take_all-took.new.self.lines.items =
+    c.give_all-delivered.ensures.size ∙ ap (λ v. length v.items) c.order_all-ordered.ensures.lines in
     λ n h. ⊎_elim (λ e. inl (ap (λ xs. get_or xs n []) same ∙ e))
-    (λ e. inr (filled _ _ _ _ _ n _ _ _ _ _ _ _ _ c.hear_all-heard.ensures.heard c.take_all-took.ensures.took c.order_all-ordered.ensures.ordered c.give_all-delivered.ensures.gave (omega (arith, h, size, c.take_all-took.new.self.windows)) e))
+    (λ e. inr (filled _ _ _ _ _ n _ _ _ _ _ _ _ _ c.hear_all-heard.ensures.heard c.take_all-took.ensures.took
+    c.order_all-ordered.ensures.ordered c.give_all-delivered.ensures.gave
+    (omega (arith, h, size, c.take_all-took.new.self.windows)) e))
     (c.take_all-took.ensures.read n (omega (arith, h, size)))
 
 pub returns-clause-stays : goal.returns-clause-stays
@@ -92,9 +102,12 @@ returns-clause-stays c =
     let g = c.give_all-delivered in
     record {
       windows = g.ensures.size ∙ (ap (λ v. length v.items) o.ensures.lines ∙ (t.ensures.size ∙ ap (λ v. length v.items) h.ensures.lines));
-      benches = sym (map_length heard g.new.self.receivers.items) ∙ (turned_benches _ _ _ (returns-clause-passes c) ∙ map_length heard c.args.self.now.receivers.items);
+      benches = sym (map_length heard g.new.self.receivers.items)
+          ∙ (turned_benches _ _ _ (returns-clause-passes c) ∙ map_length heard c.args.self.now.receivers.items);
       ring = g.ensures.ring ∙ (o.ensures.ring ∙ (t.ensures.ring ∙ h.ensures.ring));
-      room = room_then _ _ _ (room_lines c.args.self.now h.new.self h.ensures.lines (deque_same c.args.self.now.producer h.new.self.producer h.ensures.producer)) (room_then _ _ _ t.ensures.room (room_then _ _ _ (room_lines t.new.self o.new.self o.ensures.lines o.ensures.deque) g.ensures.room));
+      room = room_then _ _ _ (room_lines c.args.self.now h.new.self h.ensures.lines
+          (deque_same c.args.self.now.producer h.new.self.producer h.ensures.producer)) (room_then _ _ _ t.ensures.room
+          (room_then _ _ _ (room_lines t.new.self o.new.self o.ensures.lines o.ensures.deque) g.ensures.room));
     }
 
 pub returns-clause-few : goal.returns-clause-few
@@ -103,6 +116,7 @@ returns-clause-few c =
     let t = c.take_all-took in
     let o = c.order_all-ordered in
     let g = c.give_all-delivered in
-    turned_few c.args.self.now.ring (lists c.args.self.now) (lists h.new.self) (lists t.new.self) (lists o.new.self) (lists g.new.self) _ _ _ _ _ _ _ _ h.ensures.heard t.ensures.took o.ensures.ordered g.ensures.gave
+    turned_few c.args.self.now.ring (lists c.args.self.now) (lists h.new.self) (lists t.new.self) (lists o.new.self)
+    (lists g.new.self) _ _ _ _ _ _ _ _ h.ensures.heard t.ensures.took o.ensures.ordered g.ensures.gave
     h.ensures.few (subst (λ r. GainFew r (lists h.new.self).taken (lists t.new.self).taken) h.ensures.ring t.ensures.few)
     (subst (λ r. GainFew r (lists o.new.self).put (lists g.new.self).put) (o.ensures.ring ∙ (t.ensures.ring ∙ h.ensures.ring)) g.ensures.few)

@@ -10,6 +10,7 @@ returns-in-Ok-hand_back-clause-tried c =
     let t = c.in-Some.ensures in
     let h = c.in-Ok-hand_back.ensures in (
       e.orders,
-      h.back ∙ (ap (λ j. after_return c.take.new.self j Waiting) e.refused ∙ (ap (λ (d : Content). after_return d c.in-Some.job Waiting) t.out ∙ undone c.in-Some.job c.args.desk.now t.none_was_out)),
+      h.back ∙ (ap (λ j. after_return c.take.new.self j Waiting) e.refused ∙ (ap (λ (d : Content).
+          after_return d c.in-Some.job Waiting) t.out ∙ undone c.in-Some.job c.args.desk.now t.none_was_out)),
       e.not_the_first,
     )

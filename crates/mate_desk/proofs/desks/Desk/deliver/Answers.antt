@@ -9,7 +9,8 @@ use Rattle.mate_desk.proofs.desks.Desk.deliver.Goals as goal
 
 the_queue : (c : goal.After-self-1) → slice_get c.self.inside.queues.items c.args.submitter ≡ Some c.index_mut.result.now
 the_queue c =
-    let inside = ready_inside c.self.inside.queues.items c.args.submitter (ap (λ (d : Content). is_some (ready d c.args.submitter)) c.self.view_is ∙ c.requires) in
+    let inside = ready_inside c.self.inside.queues.items c.args.submitter
+    (ap (λ (d : Content). is_some (ready d c.args.submitter)) c.self.view_is ∙ c.requires) in
     got c.self.inside.queues.items c.args.submitter c.index_mut.result.now inside c.index_mut.ensures.value
 
 pub invariant_of-self : goal.invariant_of-self
@@ -20,9 +21,11 @@ invariant_of-self c =
 
 pub returns-clause-delivery : goal.returns-clause-delivery
 returns-clause-delivery c =
-    c.deliver.ensures.delivery ∙ (ap (λ o. delivery (ready_of o)) (sym (the_queue c)) ∙ ap (λ (d : Content). delivery (ready d c.args.submitter)) c.self.view_is)
+    c.deliver.ensures.delivery ∙ (ap (λ o. delivery (ready_of o)) (sym (the_queue c))
+    ∙ ap (λ (d : Content). delivery (ready d c.args.submitter)) c.self.view_is)
 
 pub returns-clause-collected : goal.returns-clause-collected
 returns-clause-collected c =
-    one_changed c.self.inside.next c.self.inside.closed c.self.inside.queues.items c.args.submitter c.index_mut.result.now c.deliver.new.self collected (the_queue c) c.deliver.ensures.content
+    one_changed c.self.inside.next c.self.inside.closed c.self.inside.queues.items c.args.submitter c.index_mut.result.now
+    c.deliver.new.self collected (the_queue c) c.deliver.ensures.content
     ∙ ap (λ (d : Content). after_collect d c.args.submitter) c.self.view_is

@@ -13,14 +13,17 @@ the_queue c =
 pub invariant_of-self : goal.invariant_of-self
 invariant_of-self c =
     let q : QueueValue = c.index_mut.result.now in
-    let follows : Follows q c.finish.new.self = rw c.finish.ensures.finished (follows_map (into_phase (is_out_with c.args.done) Finished) q (phase_keeps (is_out_with c.args.done) Finished)) in
+    let follows : Follows q c.finish.new.self = rw c.finish.ensures.finished
+    (follows_map (into_phase (is_out_with c.args.done) Finished) q (phase_keeps (is_out_with c.args.done) Finished)) in
     kept_follows c.self.inside.next c.self.inside.queues.items c.in-Some.s q c.finish.new.self c.self.invariant (the_queue c).there follows
 
-the_return : (c : goal.After-self-1) → CameBack c.args.self.now (holding (set c.self.inside.queues.items c.in-Some.s c.finish.new.self) c.self.inside.next c.self.inside.closed) c.args.done Finished
+the_return : (c : goal.After-self-1) → CameBack c.args.self.now (holding
+    (set c.self.inside.queues.items c.in-Some.s c.finish.new.self) c.self.inside.next c.self.inside.closed) c.args.done Finished
 the_return c =
     let after : Content = holding (set c.self.inside.queues.items c.in-Some.s c.finish.new.self) c.self.inside.next c.self.inside.closed in
     subst (λ (d : Content). CameBack d after c.args.done Finished) c.self.view_is
-    (came_back c.self.inside.next c.self.inside.closed c.self.inside.queues.items c.in-Some.s c.in-Some.place c.index_mut.result.now c.finish.new.self c.args.done Finished c.self.invariant
+    (came_back c.self.inside.next c.self.inside.closed c.self.inside.queues.items c.in-Some.s c.in-Some.place
+    c.index_mut.result.now c.finish.new.self c.args.done Finished c.self.invariant
     (the_queue c).there (the_queue c).here c.finish.ensures.finished c.finish.ensures.by_ticket)
 
 pub returns-in-Some-clause-known : goal.returns-in-Some-clause-known

@@ -13,14 +13,17 @@ the_queue c =
 pub invariant_of-self : goal.invariant_of-self
 invariant_of-self c =
     let q : QueueValue = c.index_mut.result.now in
-    let follows : Follows q c.hand_back.new.self = rw c.hand_back.ensures.back (follows_map (into_phase (is_out_with c.args.job) Waiting) q (phase_keeps (is_out_with c.args.job) Waiting)) in
+    let follows : Follows q c.hand_back.new.self = rw c.hand_back.ensures.back
+    (follows_map (into_phase (is_out_with c.args.job) Waiting) q (phase_keeps (is_out_with c.args.job) Waiting)) in
     kept_follows c.self.inside.next c.self.inside.queues.items c.in-Some.s q c.hand_back.new.self c.self.invariant (the_queue c).there follows
 
-the_return : (c : goal.After-self-1) → CameBack c.args.self.now (holding (set c.self.inside.queues.items c.in-Some.s c.hand_back.new.self) c.self.inside.next c.self.inside.closed) c.args.job Waiting
+the_return : (c : goal.After-self-1) → CameBack c.args.self.now (holding (set c.self.inside.queues.items c.in-Some.s
+    c.hand_back.new.self) c.self.inside.next c.self.inside.closed) c.args.job Waiting
 the_return c =
     let after : Content = holding (set c.self.inside.queues.items c.in-Some.s c.hand_back.new.self) c.self.inside.next c.self.inside.closed in
     subst (λ (d : Content). CameBack d after c.args.job Waiting) c.self.view_is
-    (came_back c.self.inside.next c.self.inside.closed c.self.inside.queues.items c.in-Some.s c.in-Some.place c.index_mut.result.now c.hand_back.new.self c.args.job Waiting c.self.invariant
+    (came_back c.self.inside.next c.self.inside.closed c.self.inside.queues.items c.in-Some.s c.in-Some.place
+    c.index_mut.result.now c.hand_back.new.self c.args.job Waiting c.self.invariant
     (the_queue c).there (the_queue c).here c.hand_back.ensures.back c.hand_back.ensures.by_ticket)
 
 pub returns-in-Some-clause-known : goal.returns-in-Some-clause-known

@@ -9,7 +9,8 @@ use Rattle.mate_desk.proofs.Steps.{one_changed, none_refuses}
 use Rattle.mate_desk.proofs.desks.Desk.submit.Goals as goal
 
 the_order : (c : goal.After-index_mut) → IsOrdered c.self.inside.next c.index_mut.result.now
-the_order c = c.self.invariant.ordered c.args.submitter c.index_mut.result.now (got c.self.inside.queues.items c.args.submitter c.index_mut.result.now (omega arith) c.index_mut.ensures.value)
+the_order c = c.self.invariant.ordered c.args.submitter c.index_mut.result.now
+    (got c.self.inside.queues.items c.args.submitter c.index_mut.result.now (omega arith) c.index_mut.ensures.value)
 
 pub push-requires-clause-rises : goal.push-requires-clause-rises
 push-requires-clause-rises c = (the_order c).given
@@ -36,9 +37,11 @@ pub returns-clause-accepted : goal.returns-clause-accepted
 returns-clause-accepted c =
     let open_desk : c.self.inside.closed ≡ false = c.if-self.false in
     subst (λ (d : Content). submit_refusal d c.args.submitter ≡ None) c.self.view_is
-    (rw open_desk (none_refuses c.self.inside.next c.self.inside.queues.items c.args.submitter c.index_mut.result.now (the_queue c) (has_room c) c.if-self-2.false))
+    (rw open_desk (none_refuses c.self.inside.next c.self.inside.queues.items c.args.submitter c.index_mut.result.now
+    (the_queue c) (has_room c) c.if-self-2.false))
 
 pub returns-clause-waits : goal.returns-clause-waits
 returns-clause-waits c =
-    one_changed (c.self.inside.next + 1) c.self.inside.closed c.self.inside.queues.items c.args.submitter c.index_mut.result.now c.push.new.self (with_entry c.self.inside.next c.args.asked) (the_queue c) c.push.ensures
+    one_changed (c.self.inside.next + 1) c.self.inside.closed c.self.inside.queues.items c.args.submitter c.index_mut.result.now
+    c.push.new.self (with_entry c.self.inside.next c.args.asked) (the_queue c) c.push.ensures
     ∙ ap (λ (d : Content). after_submit d c.args.submitter c.args.asked) c.self.view_is

@@ -6,18 +6,21 @@ use Rattle.mate_desk.proofs.Steps.{holding, take_follows, given_out, GivenOut, f
 use Rattle.mate_desk.proofs.desks.Desk.take.Goals as goal
 
 the_queue : (c : goal.After-self-1) → slice_get c.self.inside.queues.items c.in_ok-s.s ≡ Some c.index_mut.result.now
-the_queue c = got c.self.inside.queues.items c.in_ok-s.s c.index_mut.result.now (rw c.deref.ensures.value at c.in_ok-s.ensures.inside) c.index_mut.ensures.value
+the_queue c = got c.self.inside.queues.items c.in_ok-s.s c.index_mut.result.now
+    (rw c.deref.ensures.value at c.in_ok-s.ensures.inside) c.index_mut.ensures.value
 
 pub invariant_of-self : goal.invariant_of-self
 invariant_of-self c =
     kept_follows c.self.inside.next c.self.inside.queues.items c.in_ok-s.s c.index_mut.result.now c.take.new.self c.self.invariant (the_queue c)
     (take_follows c.index_mut.result.now c.take.new.self c.take.result c.take.ensures.none c.take.ensures.out)
 
-the_given : (c : goal.After-self-1) → IfSome c.take.result (λ job. GivenOut c.args.self.now (holding (set c.self.inside.queues.items c.in_ok-s.s c.take.new.self) c.self.inside.next c.self.inside.closed) job)
+the_given : (c : goal.After-self-1) → IfSome c.take.result (λ job. GivenOut c.args.self.now
+    (holding (set c.self.inside.queues.items c.in_ok-s.s c.take.new.self) c.self.inside.next c.self.inside.closed) job)
 the_given c =
     let after : Content = holding (set c.self.inside.queues.items c.in_ok-s.s c.take.new.self) c.self.inside.next c.self.inside.closed in
     subst (λ (d : Content). IfSome c.take.result (λ job. GivenOut d after job)) c.self.view_is
-    (given_out c.self.inside.next c.self.inside.closed c.self.inside.queues.items c.in_ok-s.s c.index_mut.result.now c.take.new.self c.take.result c.self.invariant (the_queue c)
+    (given_out c.self.inside.next c.self.inside.closed c.self.inside.queues.items c.in_ok-s.s c.index_mut.result.now
+    c.take.new.self c.take.result c.self.invariant (the_queue c)
     c.take.ensures.out c.take.ensures.by_ticket c.take.ensures.waited c.take.ensures.given)
 
 pub returns-clause-out : goal.returns-clause-out

@@ -11,21 +11,25 @@ the_queue c = got c.self.inside.queues.items c.args.submitter c.index_mut.result
 
 pub invariant_of-self : goal.invariant_of-self
 invariant_of-self c =
-    kept_follows c.self.inside.next c.self.inside.queues.items c.args.submitter c.index_mut.result.now c.withdraw.new.self c.self.invariant (the_queue c)
+    kept_follows c.self.inside.next c.self.inside.queues.items c.args.submitter c.index_mut.result.now
+    c.withdraw.new.self c.self.invariant (the_queue c)
     (withdraw_follows c.index_mut.result.now c.withdraw.new.self c.args.n c.withdraw.result c.withdraw.ensures.withdrawn c.withdraw.ensures.unchanged)
 
 pub returns-clause-accepted : goal.returns-clause-accepted
 returns-clause-accepted c =
     subst (λ (d : Content). IfOk c.withdraw.result (λ _. withdraw_refusal d c.args.submitter c.args.n ≡ None)) c.self.view_is
-    (withdraw_accepted c.self.inside.next c.self.inside.closed c.self.inside.queues.items c.args.submitter c.args.n c.index_mut.result.now c.withdraw.result (the_queue c) c.withdraw.ensures.accepted)
+    (withdraw_accepted c.self.inside.next c.self.inside.closed c.self.inside.queues.items c.args.submitter c.args.n
+    c.index_mut.result.now c.withdraw.result (the_queue c) c.withdraw.ensures.accepted)
 
 pub returns-clause-withdrawn : goal.returns-clause-withdrawn
 returns-clause-withdrawn c =
     let after : Content = holding (set c.self.inside.queues.items c.args.submitter c.withdraw.new.self) c.self.inside.next c.self.inside.closed in
     subst (λ (d : Content). IfOk c.withdraw.result (λ _. after ≡ after_withdraw d c.args.submitter c.args.n)) c.self.view_is
-    (withdraw_changed c.self.inside.next c.self.inside.closed c.self.inside.queues.items c.args.submitter c.args.n c.index_mut.result.now c.withdraw.new.self c.withdraw.result (the_queue c) c.withdraw.ensures.withdrawn)
+    (withdraw_changed c.self.inside.next c.self.inside.closed c.self.inside.queues.items c.args.submitter c.args.n
+    c.index_mut.result.now c.withdraw.new.self c.withdraw.result (the_queue c) c.withdraw.ensures.withdrawn)
 
 pub returns-clause-refusal : goal.returns-clause-refusal
 returns-clause-refusal c =
     subst (λ (d : Content). IfErr c.withdraw.result (λ e. withdraw_refusal d c.args.submitter c.args.n ≡ Some e)) c.self.view_is
-    (withdraw_refused c.self.inside.next c.self.inside.closed c.self.inside.queues.items c.args.submitter c.args.n c.index_mut.result.now c.withdraw.result (the_queue c) c.withdraw.ensures.refusal)
+    (withdraw_refused c.self.inside.next c.self.inside.closed c.self.inside.queues.items c.args.submitter c.args.n
+    c.index_mut.result.now c.withdraw.result (the_queue c) c.withdraw.ensures.refusal)

@@ -12,12 +12,14 @@ returns-in_err-place c =
 
 pub index-requires : goal.index-requires
 index-requires c =
-    let first = first_found c.self.inside.waiting c.self.inside.entries.items c.in_ok-place.place c.self.invariant.5 c.in_ok-place.ensures.inside c.in_ok-place.ensures.lowest in
+    let first = first_found c.self.inside.waiting c.self.inside.entries.items c.in_ok-place.place c.self.invariant.5
+    c.in_ok-place.ensures.inside c.in_ok-place.ensures.lowest in
     omega (arith, first.inside, c.self.inside.entries.ok.0)
 
 pub returns : goal.returns
 returns c =
-    let first = first_found c.self.inside.waiting c.self.inside.entries.items c.in_ok-place.place c.self.invariant.5 c.in_ok-place.ensures.inside c.in_ok-place.ensures.lowest in
+    let first = first_found c.self.inside.waiting c.self.inside.entries.items c.in_ok-place.place c.self.invariant.5
+    c.in_ok-place.ensures.inside c.in_ok-place.ensures.lowest in
     let there = got c.self.inside.entries.items c.in_ok-place.place c.index.result.now first.inside c.index.ensures in
     let found = first_lowest c.self.inside.entries.items c.in_ok-place.place c.index.result.now c.self.invariant.4 first there in
     ap Some (c.result.view_is ∙ c.ticket.ensures) ∙ sym (ap (λ (q : QueueValue). lowest q.pending) (sym c.self.view_is) ∙ found.1)

@@ -12,12 +12,15 @@ invariant_of-self c =
     let q : QueueValue = record { room = c.self.inside.room; delivered = c.self.inside.delivered; pending = c.self.inside.entries.items } in
     let e : EntryValue = c.new.result in
     let k = c.self.invariant in
-    let below : AreBelow e.ticket q.pending = rw c.new.ensures (subst (λ (m : QueueValue). AreBelow c.args.ticket m.pending) (sym c.self.view_is) c.requires.rises) in
+    let below : AreBelow e.ticket q.pending =
+    rw c.new.ensures (subst (λ (m : QueueValue). AreBelow c.args.ticket m.pending) (sym c.self.view_is) c.requires.rises) in
     let room : length q.pending < q.room = subst (λ (m : QueueValue). length m.pending < m.room) (sym c.self.view_is) c.requires.room in
-    let few : q.delivered + length q.pending + 1 < 18446744073709551616 = subst (λ (m : QueueValue). m.delivered + length m.pending + 1 < 18446744073709551616) (sym c.self.view_is) c.requires.few in
+    let few : q.delivered + length q.pending + 1 < 18446744073709551616 = subst (λ (m : QueueValue).
+    m.delivered + length m.pending + 1 < 18446744073709551616) (sym c.self.view_is) c.requires.few in
     let long : length (q.pending ++ e ∷ []) ≡ length q.pending + 1 = length-append q.pending (e ∷ []) in
     let at : c.len.result ≡ length q.pending = c.len.ensures ∙ c.self.inside.entries.ok.0 in
-    let marks = marks_push c.self.inside.waiting c.with_place-self-inside.result q.pending e k.5 (rw c.new.ensures refl) (λ p h. c.with_place-self-inside.ensures p h ∙ ap (λ n. p == n || has_place c.self.inside.waiting p) at) in
+    let marks = marks_push c.self.inside.waiting c.with_place-self-inside.result q.pending e k.5 (rw c.new.ensures refl)
+    (λ p h. c.with_place-self-inside.ensures p h ∙ ap (λ n. p == n || has_place c.self.inside.waiting p) at) in
     rw c.push_back_reserved.ensures.items (
       omega (arith, k.0, c.push_back_reserved.ensures.capacity),
       k.1,

@@ -15,25 +15,36 @@ returns-in_err-place-clause-none c =
 
 pub index_mut-requires : goal.index_mut-requires
 index_mut-requires c =
-    let first = first_found c.self.inside.waiting c.self.inside.entries.items c.in_ok-place.place c.self.invariant.5 c.in_ok-place.ensures.inside c.in_ok-place.ensures.lowest in
+    let first = first_found c.self.inside.waiting c.self.inside.entries.items c.in_ok-place.place c.self.invariant.5
+    c.in_ok-place.ensures.inside c.in_ok-place.ensures.lowest in
     omega (arith, first.inside, c.self.inside.entries.ok.0)
 
 pub invariant_of-self : goal.invariant_of-self
 invariant_of-self c =
     let q : QueueValue = record { room = c.self.inside.room; delivered = c.self.inside.delivered; pending = c.self.inside.entries.items } in
     let e : EntryValue = c.index_mut.result.now in
-    let first = first_found c.self.inside.waiting q.pending c.in_ok-place.place c.self.invariant.5 c.in_ok-place.ensures.inside c.in_ok-place.ensures.lowest in
+    let first = first_found c.self.inside.waiting q.pending c.in_ok-place.place c.self.invariant.5
+    c.in_ok-place.ensures.inside c.in_ok-place.ensures.lowest in
     let there = got q.pending c.in_ok-place.place e first.inside c.index_mut.ensures.value in
-    let marks = marks_without c.self.inside.waiting c.without_place-self-inside.result q.pending c.in_ok-place.place e c.take.new.self c.self.invariant.5 there (rw c.take.ensures.out refl) c.without_place-self-inside.ensures in
+    let marks = marks_without c.self.inside.waiting c.without_place-self-inside.result q.pending c.in_ok-place.place e
+    c.take.new.self c.self.invariant.5 there (rw c.take.ensures.out refl) c.without_place-self-inside.ensures in
     let waited = (first_lowest q.pending c.in_ok-place.place e c.self.invariant.4 first there).0 in
-    let solved = solved_taken c.self.inside.solved.items q.pending c.in_ok-place.place e c.take.new.self c.self.invariant.7 there waited (rw c.take.ensures.out refl) in
-    kept_set _ _ c.self.inside.waiting c.without_place-self-inside.result c.self.inside.solved.items c.self.inside.solved.items q c.in_ok-place.place e c.take.new.self c.self.invariant there (ap (λ (x : EntryValue). x.ticket) c.take.ensures.out) marks solved
+    let solved = solved_taken c.self.inside.solved.items q.pending c.in_ok-place.place e c.take.new.self c.self.invariant.7
+    there waited (rw c.take.ensures.out refl) in
+    kept_set _ _ c.self.inside.waiting c.without_place-self-inside.result c.self.inside.solved.items c.self.inside.solved.items q
+    c.in_ok-place.place e c.take.new.self c.self.invariant there
+    (ap (λ (x : EntryValue). x.ticket) c.take.ensures.out) marks solved
 
-the_taken : (c : goal.After-self-2-1) → Taken (record { room = c.self.inside.room; delivered = c.self.inside.delivered; pending = c.self.inside.entries.items }) c.take.result c.in_ok-place.place c.take.new.self
+the_taken : (c : goal.After-self-2-1) → Taken (record {
+  room = c.self.inside.room;
+  delivered = c.self.inside.delivered;
+  pending = c.self.inside.entries.items;
+}) c.take.result c.in_ok-place.place c.take.new.self
 the_taken c =
     let q : QueueValue = record { room = c.self.inside.room; delivered = c.self.inside.delivered; pending = c.self.inside.entries.items } in
     let e : EntryValue = c.index_mut.result.now in
-    let first = first_found c.self.inside.waiting q.pending c.in_ok-place.place c.self.invariant.5 c.in_ok-place.ensures.inside c.in_ok-place.ensures.lowest in
+    let first = first_found c.self.inside.waiting q.pending c.in_ok-place.place c.self.invariant.5
+    c.in_ok-place.ensures.inside c.in_ok-place.ensures.lowest in
     let there = got q.pending c.in_ok-place.place e first.inside c.index_mut.ensures.value in
     taken q c.take.result c.in_ok-place.place e c.take.new.self c.self.invariant.4 first there c.take.ensures.task c.take.ensures.out
 

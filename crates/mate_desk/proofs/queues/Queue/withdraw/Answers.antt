@@ -11,20 +11,41 @@ invariant_of-self c =
     let q : QueueValue = record { room = c.self.inside.room; delivered = c.self.inside.delivered; pending = c.self.inside.entries.items } in
     let e : EntryValue = c.index_mut.result.now in
     let place : ℕ = c.args.n - c.self.inside.delivered in
-    let there = got q.pending place e (omega (arith, c.if-self-len.false, c.if-n-self.false, c.len.ensures, c.self.inside.entries.ok.0)) c.index_mut.ensures.value in
-    let marks = marks_without c.self.inside.waiting c.without_place-self-inside.result q.pending place e c.withdraw.new.self c.self.invariant.5 there (rw c.withdraw.ensures (withdrawn_waits e)) c.without_place-self-inside.ensures in
+    let there = got q.pending place e (omega (
+      arith,
+      c.if-self-len.false,
+      c.if-n-self.false,
+      c.len.ensures,
+      c.self.inside.entries.ok.0,
+    )) c.index_mut.ensures.value in
+    let marks = marks_without c.self.inside.waiting c.without_place-self-inside.result q.pending place e c.withdraw.new.self
+    c.self.invariant.5 there (rw c.withdraw.ensures (withdrawn_waits e)) c.without_place-self-inside.ensures in
     let solved = solved_withdrawn c.self.inside.solved.items q.pending place e c.withdraw.new.self c.self.invariant.7 there c.withdraw.ensures in
-    kept_set _ _ c.self.inside.waiting c.without_place-self-inside.result c.self.inside.solved.items c.self.inside.solved.items q place e c.withdraw.new.self c.self.invariant there (ap (λ (x : EntryValue). x.ticket) c.withdraw.ensures) marks solved
+    kept_set _ _ c.self.inside.waiting c.without_place-self-inside.result c.self.inside.solved.items c.self.inside.solved.items q
+    place e c.withdraw.new.self c.self.invariant there (ap (λ (x : EntryValue). x.ticket) c.withdraw.ensures) marks solved
 
-the_marked : (c : goal.After-self-2-1) → Marked (record { room = c.self.inside.room; delivered = c.self.inside.delivered; pending = c.self.inside.entries.items }) c.args.n c.withdraw.new.self
+the_marked : (c : goal.After-self-2-1) → Marked (record {
+  room = c.self.inside.room;
+  delivered = c.self.inside.delivered;
+  pending = c.self.inside.entries.items;
+}) c.args.n c.withdraw.new.self
 the_marked c =
     let q : QueueValue = record { room = c.self.inside.room; delivered = c.self.inside.delivered; pending = c.self.inside.entries.items } in
     let e : EntryValue = c.index_mut.result.now in
     let place : ℕ = c.args.n - c.self.inside.delivered in
-    let there = got q.pending place e (omega (arith, c.if-self-len.false, c.if-n-self.false, c.len.ensures, c.self.inside.entries.ok.0)) c.index_mut.ensures.value in
-    let read = got q.pending place c.index.result.now (omega (arith, c.if-self-len.false, c.if-n-self.false, c.len.ensures, c.self.inside.entries.ok.0)) c.index.ensures in
-    let free : e.withdrawn ≡ false = ap (λ (x : EntryValue). x.withdrawn) (got_one e c.index.result.now (sym there ∙ read)) ∙ (sym c.is_withdrawn.ensures ∙ c.if-is_withdrawn.false) in
-    marked q c.args.n e c.withdraw.new.self (omega (arith, c.if-self-len.false, c.len.ensures, c.self.inside.entries.ok.0)) (omega (arith, c.if-n-self.false)) there free c.withdraw.ensures
+    let there = got q.pending place e (omega (
+      arith,
+      c.if-self-len.false,
+      c.if-n-self.false,
+      c.len.ensures,
+      c.self.inside.entries.ok.0,
+    )) c.index_mut.ensures.value in
+    let read = got q.pending place c.index.result.now
+    (omega (arith, c.if-self-len.false, c.if-n-self.false, c.len.ensures, c.self.inside.entries.ok.0)) c.index.ensures in
+    let free : e.withdrawn ≡ false = ap (λ (x : EntryValue). x.withdrawn) (got_one e c.index.result.now (sym there ∙ read))
+    ∙ (sym c.is_withdrawn.ensures ∙ c.if-is_withdrawn.false) in
+    marked q c.args.n e c.withdraw.new.self (omega (arith, c.if-self-len.false, c.len.ensures, c.self.inside.entries.ok.0))
+    (omega (arith, c.if-n-self.false)) there free c.withdraw.ensures
 
 pub returns-clause-accepted : goal.returns-clause-accepted
 returns-clause-accepted c = ap (λ (q : QueueValue). withdraw_refusal_of (Some q) c.args.n) (sym c.self.view_is) ∙ (the_marked c).refusal

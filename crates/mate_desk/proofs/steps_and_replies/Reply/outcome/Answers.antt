@@ -6,4 +6,5 @@ use Rattle.mate_desk.proofs.steps_and_replies.Reply.outcome.Goals as goal
 
 pub returns-in-Answer-clause-true_answer : goal.returns-in-Answer-clause-true_answer
 unfolding IsTrueOf
-returns-in-Answer-clause-true_answer c = rw c.in-Answer.is (subst (λ told. IsTrueOf c.in-Answer.held told) (sym (c.outcome.ensures ∙ ap (λ asked. truth (problem_of asked)) c.answer.ensures)) (c.truth_reads.ensures (problem_of c.in-Answer.held)))
+returns-in-Answer-clause-true_answer c = rw c.in-Answer.is (subst (λ told. IsTrueOf c.in-Answer.held told) (sym (c.outcome.ensures
+    ∙ ap (λ asked. truth (problem_of asked)) c.answer.ensures)) (c.truth_reads.ensures (problem_of c.in-Answer.held)))

@@ -17,7 +17,8 @@ invariant_of-self c =
 
 pub returns-clause-known : goal.returns-clause-known
 returns-clause-known c = elim c.match-get.branch [
-  | in-Some w ↦ rw w.result-is (found_true c.equal_reads.ensures c.args.position.now c.self.inside.cache.entries w.in-Some.entry.now c.side.ensures.sound c.self.invariant.each_true (sym (rw w.in-Some.is at c.get.ensures.value)))
+  | in-Some w ↦ rw w.result-is (found_true c.equal_reads.ensures c.args.position.now c.self.inside.cache.entries
+      w.in-Some.entry.now c.side.ensures.sound c.self.invariant.each_true (sym (rw w.in-Some.is at c.get.ensures.value)))
   | in-None w ↦ rw w.result-is (w.nothing.ensures c.args.position.now c.side.ensures.sound)
 ]
 

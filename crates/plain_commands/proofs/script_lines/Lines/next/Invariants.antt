@@ -5,7 +5,8 @@ use Rattle.plain_commands.proofs.script_lines.Lines.next.Given as goal
 
 abbrev pub invariant-loop-self : goal.invariant-loop-self
 invariant-loop-self l = record {
-  said : said_from (l.initial.self-inside.passed + 1) (lines_of l.initial.self-inside.rest.now) ≡ said_from (l.self-inside.passed + 1) (lines_of l.self-inside.rest.now);
+  said : said_from (l.initial.self-inside.passed + 1) (lines_of l.initial.self-inside.rest.now)
+      ≡ said_from (l.self-inside.passed + 1) (lines_of l.self-inside.rest.now);
   within : l.self-inside.passed + length l.self-inside.rest.now < 2 ^ 64;
 }
 

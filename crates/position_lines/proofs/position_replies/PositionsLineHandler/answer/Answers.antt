@@ -15,5 +15,7 @@ returns-in-Ok-clause-reply g c =
 pub returns-clause-reply : goal.returns-clause-reply
 returns-clause-reply g c =
     let says : c.as_slice.result.now ≡ line_fen c.args.line.now = c.as_slice.ensures.value ∙ c.in_ok-text.ensures in
-    reply_refused (g.V.FenView.shown c.args.self.now.view.now) c.args.number c.args.line.now c.in-Err.fault (λ output. output.text.items) (λ output. output.refused) c.refusal.result
-    c.requires.filled c.requires.short (subst (λ text. IsFault text c.in-Err.fault) says c.in-Err.ensures.refused) c.refusal.ensures.text c.refusal.ensures.one
+    reply_refused (g.V.FenView.shown c.args.self.now.view.now) c.args.number c.args.line.now c.in-Err.fault
+    (λ output. output.text.items) (λ output. output.refused) c.refusal.result
+    c.requires.filled c.requires.short
+    (subst (λ text. IsFault text c.in-Err.fault) says c.in-Err.ensures.refused) c.refusal.ensures.text c.refusal.ensures.one

@@ -9,7 +9,17 @@ use Rattle.room_ends.proofs.order_producer.OrderProducer.send_home.Goals as goal
 pub loop-self-smaller : goal.loop-self-smaller
 loop-self-smaller c =
     let put : orders c.stop.new.self ≡ orders c.loop-self.self ++ Stop ∷ [] = c.if-not-stop.ensures.put in
-    omega (arith, ap stops put, stops_append (orders c.loop-self.self) (Stop ∷ []), c.stop.new.self.told, c.stop.new.self.handed, c.loop-self.self.handed, c.loop-self.self.told, c.stop.ensures.passes, c.loop-self-test.true)
+    omega (
+      arith,
+      ap stops put,
+      stops_append (orders c.loop-self.self) (Stop ∷ []),
+      c.stop.new.self.told,
+      c.stop.new.self.handed,
+      c.loop-self.self.handed,
+      c.loop-self.self.told,
+      c.stop.ensures.passes,
+      c.loop-self-test.true,
+    )
 
 pub loop-self-preserved : goal.loop-self-preserved
 loop-self-preserved c =
@@ -17,7 +27,11 @@ loop-self-preserved c =
     let before = c.loop-self.invariant.so_far in
     let n = before.0 in
     record {
-      so_far = (n + 1, put ∙ (ap (λ l. l ++ Stop ∷ []) before.1 ∙ (append_assoc (orders c.args.self.now) (replicate n Stop) (Stop ∷ []) ∙ ap (λ l. orders c.args.self.now ++ l) (replicate_more n Stop))));
+      so_far = (
+        n + 1,
+        put ∙ (ap (λ l. l ++ Stop ∷ []) before.1 ∙ (append_assoc (orders c.args.self.now) (replicate n Stop)
+            (Stop ∷ []) ∙ ap (λ l. orders c.args.self.now ++ l) (replicate_more n Stop))),
+      );
       passes = c.stop.ensures.passes ∙ c.loop-self.invariant.passes;
       places = omega (arith, c.stop.ensures.places, c.loop-self.invariant.places);
       deque = c.stop.ensures.deque ∙ c.loop-self.invariant.deque;

@@ -3,4 +3,5 @@ use Rattle.room_ends.proofs.FirstTaken.{first_taken}
 use Rattle.room_ends.proofs.windows.Window.collect_seen.Goals as goal
 
 pub returns-clause-collected : goal.returns-clause-collected
-returns-clause-collected c d p = first_taken (collected c.args.self.now) _ (deliveries_known c.args.self.now) _ c.pop_known.result d p c.pop_known.ensures.received.1 c.pop_known.ensures.received.0
+returns-clause-collected c d p = first_taken (collected c.args.self.now) _
+    (deliveries_known c.args.self.now) _ c.pop_known.result d p c.pop_known.ensures.received.1 c.pop_known.ensures.received.0

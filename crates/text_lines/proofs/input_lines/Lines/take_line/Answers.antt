@@ -8,7 +8,10 @@ returns-then-branch-clause-ok g c =
     let (piece, one, cut, keeps) = c.in_ok-take_piece.ensures.ended c.if-branch.true in (
       before.0 ++ piece,
       keeps before.0 before.1.kept,
-      (one_line_append before.0 piece before.1.one one, ended_line _ _ _ before.0 _ piece _ (ap g.I.Input.left c.take_piece.ensures.input) before.1.taken cut),
+      (
+        one_line_append before.0 piece before.1.one one,
+        ended_line _ _ _ before.0 _ piece _ (ap g.I.Input.left c.take_piece.ensures.input) before.1.taken cut,
+      ),
     )
 
 pub returns-then-branch-2-clause-ok : goal.returns-then-branch-2-clause-ok
@@ -21,7 +24,8 @@ returns-then-branch-2-clause-ok g c =
       keeps before.0 before.1.kept,
       (
         one_line_append before.0 piece before.1.one one,
-        open_line _ _ _ _ before.0 piece _ _ (ap g.I.Input.left c.take_piece.ensures.input) c.in_ok-read_on.ensures.fresh before.1.taken c.in_ok-read_on.ensures.bytes,
+        open_line _ _ _ _ before.0 piece _ _ (ap g.I.Input.left c.take_piece.ensures.input) c.in_ok-read_on.ensures.fresh
+            before.1.taken c.in_ok-read_on.ensures.bytes,
         end_taken _ _ _ c.in_ok-read_on.ensures.fresh none end,
       ),
     )
@@ -35,7 +39,8 @@ loop-preserved g c =
       record {
         kept = keeps before.0 before.1.kept;
         one = one_line_append before.0 piece before.1.one one;
-        taken = open_line _ _ _ _ before.0 piece _ _ (ap g.I.Input.left c.take_piece.ensures.input) c.in_ok-read_on.ensures.fresh before.1.taken c.in_ok-read_on.ensures.bytes;
+        taken = open_line _ _ _ _ before.0 piece _ _ (ap g.I.Input.left c.take_piece.ensures.input) c.in_ok-read_on.ensures.fresh
+            before.1.taken c.in_ok-read_on.ensures.bytes;
         steady = λ may. before.1.steady (subst g.I.Input.breaks c.take_piece.ensures.input (c.read_on.ensures.steady may));
       },
     )

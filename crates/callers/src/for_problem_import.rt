@@ -1,0 +1,25 @@
+//! A caller of `problem_import`.
+
+ghost use Rattle.std.specs.Prelude.{ℕ, List, IfOk};
+ghost use Rattle.std.specs.Io.KnownBytes.{Appends};
+ghost use Rattle.byte_streams.specs.Inputs.{MayBe};
+ghost use Rattle.problem_import.specs.Imports.{IsImport};
+
+use byte_streams::{Input, Stop};
+use chess_moves::Rays;
+use problem_import::import_input;
+use std::alloc::Global;
+use std::io::Write;
+
+/// Makes records of a collection, each of which tells what was changed; gives at how many lines something is refused.
+pub fn import_all<I: Input + Drop, O: Write>(
+    alloc: Global,
+    input: I,
+    out: &mut O,
+) -> Result<usize, Stop>
+    ensures { IfOk result (λ count. (bytes : List ℕ) × (text : List ℕ) × MayBe (I.left input) bytes × IsImport bytes text count
+        × Appends (O.contents out.old) (O.contents out.new) text) }
+{
+    let rays = Rays::new();
+    import_input(alloc, &rays, true, input, out)
+}

@@ -1,0 +1,19 @@
+use Rattle.std.proofs.Common.{ℕ, List, ◌≡◌, ◌<◌, false, length}
+use Rattle.std.proofs.lemmas.Result.{IfOk-weaker}
+use Rattle.chess_notation.specs.Records.{max_line}
+use Rattle.chess_notation.specs.Words.{is_blank}
+use Rattle.mate_answers.specs.InputReplies.{IsLineReply}
+use Rattle.mate_answers.specs.LimitedReplies.{IsLimitedReply, decided}
+use Rattle.mate_answers.proofs.LineReplies.{long_refused}
+use Rattle.mate_answers.proofs.limited_replies.LimitedLineHandler.refuse_long.Goals as goal
+
+pub returns-clause-reply : goal.returns-clause-reply
+returns-clause-reply g c =
+    IfOk-weaker c.refusal.result
+    (λ output. (line : List ℕ) → is_blank line ≡ false → max_line < length line
+    → IsLineReply c.args.self.now.default c.args.number line output.text.items output.refused)
+    (λ output. (line : List ℕ) → is_blank line ≡ false → max_line < length line
+    → IsLimitedReply c.args.self.now.seconds c.args.self.now.default c.args.number line output.text.items output.refused)
+    (λ output told line some long. decided output.text.items output.refused (told line some long))
+    (long_refused c.args.self.now.default c.args.number (λ output. output.text.items)
+    (λ output. output.refused) c.refusal.result c.refusal.ensures.text c.refusal.ensures.one)

@@ -1,0 +1,5 @@
+use Rattle.plain_commands.proofs.Unopened.{no_import}
+use Rattle.plain_commands.proofs.importing.ImportsFileAnswers.begins_with_nothing.Goals as goal
+
+pub returns : goal.returns
+returns c = no_import

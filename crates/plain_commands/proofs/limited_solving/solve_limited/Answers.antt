@@ -1,0 +1,10 @@
+use Rattle.std.proofs.KnownBytes.{Keeps-refl}
+use Rattle.std.proofs.lemmas.Result.{err_from_is_err_and}
+use Rattle.plain_commands.proofs.Unopened.{limited_at_once}
+use Rattle.plain_commands.proofs.limited_solving.solve_limited.Goals as goal
+
+pub returns-in_err-memo-clause-err : goal.returns-in_err-memo-clause-err
+returns-in_err-memo-clause-err g c =
+    let (other, is, same) = err_from_is_err_and c.from_residual.result c.from_residual.ensures.1 in
+    rw (is, same, c.in_err-memo.ensures.err) (limited_at_once (g.S.Source.holds c.args.source.now)
+    (g.S.Source.refuses c.args.source.now) _ _ _ _ _ _ (Keeps-refl (g.O.Write.contents c.args.out.now)))

@@ -1,0 +1,20 @@
+-- What `import` shows.
+use Rattle.std.specs.Prelude.{ℕ, Bool, List, Option}
+use Rattle.problem_import.specs.Imports.{IsImport, IsImportOfFirst}
+use Rattle.byte_streams.specs.declared.stops.Stop.{Stop}
+use Rattle.plain_commands.specs.FileAnswers.{Answers, StopsAnswering}
+
+-- What a file is imported as, whatever it is called. No lines of it are passed over.
+abbrev pub import_replies : ℕ → List ℕ → List ℕ → List ℕ → ℕ → Type 0
+import_replies from name input text count = IsImport input text count
+
+abbrev pub first_import_replies : ℕ → List ℕ → List ℕ → List ℕ → Type 0
+first_import_replies from name input text = IsImportOfFirst input text
+
+-- What the names hold, imported, and whether a problem is refused.
+abbrev pub ImportsFiles : (List ℕ → Option (List ℕ)) → List (List ℕ) → Bool → List ℕ → Type 0
+ImportsFiles holds names refused gained = Answers holds import_replies 1 names refused gained
+
+-- What the output gained where `import` stops.
+abbrev pub StopsImporting : (List ℕ → Option (List ℕ)) → (List ℕ → Type 0) → List (List ℕ) → Stop → (old new : Option (List ℕ)) → Type 0
+StopsImporting holds refuses names stop old new = StopsAnswering holds refuses import_replies first_import_replies 1 names stop old new

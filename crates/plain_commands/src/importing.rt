@@ -1,0 +1,70 @@
+//! The command `import`.
+
+ghost use Rattle.std.specs.Prelude.{IfErr, IfOk, map};
+ghost use Rattle.plain_commands.specs.Writing.{Gains};
+ghost use Rattle.plain_commands.specs.Imported.{ImportsFiles, StopsImporting};
+
+use crate::file_answers::{FileAnswers, answer_files};
+use crate::sources::Source;
+use byte_streams::{Input, Stop};
+use chess_moves::Rays;
+use command_words::{Files, LineNumber};
+use problem_import::import_input;
+use std::alloc::Global;
+use std::io::Write;
+
+/// Makes records of problems.
+#[derive(Clone, Copy)]
+struct Imports<'a> {
+    rays: &'a Rays,
+    /// Whether what was changed is told in a record.
+    keep: bool,
+}
+
+impl<'a> FileAnswers for Imports<'a> {
+    ghost use Rattle.plain_commands.specs.Imported.{import_replies, first_import_replies};
+
+    type Memory = ();
+
+    ghost replies = { λ _. import_replies };
+
+    ghost first = { λ _. first_import_replies };
+
+    fn answer<I: Input + Drop, O: Write>(
+        &self,
+        alloc: Global,
+        _from: LineNumber,
+        _name: &str,
+        input: I,
+        _memory: &mut (),
+        out: &mut O,
+    ) -> Result<usize, Stop> {
+        import_input(alloc, self.rays, self.keep, input, out)
+    }
+
+    fn begins_with_nothing(&self) {}
+}
+
+/// Makes records of the problems of each file in order, and opens a file only after those before were written; gives whether a problem
+/// was refused. A file that can't be read is named on `err`.
+pub fn import<S: Source, O: Write, E: Write>(
+    alloc: Global,
+    keep: bool,
+    names: &[&str],
+    source: &S,
+    out: &mut O,
+    err: &mut E,
+) -> Result<bool, Stop>
+    ensures ok { IfOk result (λ refused. Gains (ImportsFiles (S.holds source.now) (map (λ s. s.now) names.now) refused)
+        (O.contents out.old) (O.contents out.new)) }
+    ensures err { IfErr result (λ stop. StopsImporting (S.holds source.now) (S.refuses source.now)
+        (map (λ s. s.now) names.now) stop (O.contents out.old) (O.contents out.new)) }
+{
+    let rays = Rays::new();
+    let imports = Imports { rays: &rays, keep };
+    let files = Files {
+        names,
+        from: LineNumber::first(),
+    };
+    answer_files(alloc, &imports, &files, source, &mut (), out, err)
+}

@@ -1,0 +1,100 @@
+//! The command `sheet`.
+
+ghost use Rattle.std.specs.Prelude.{◌≡◌, ◌≤◌, ◌⊎◌, IfErr, IfOk, map};
+ghost use Rattle.plain_commands.specs.Sources.{SomeRefused};
+ghost use Rattle.plain_commands.specs.Writing.{Gains};
+ghost use Rattle.plain_commands.specs.Sheeted.{Sheets, StopsSheet, page_form_of};
+
+use crate::solving::new_memo;
+use crate::sources::{Source, read_files};
+use byte_streams::{Stop, put};
+use chess_moves::Rays;
+use chess_problems::Bound;
+use command_words::{MemoSize, SheetForm};
+use problem_sheets::{Form, add_files, page_text};
+use std::alloc::Global;
+use std::io::Write;
+
+/// What a page is to be: the bound of records that say none, the size of the memo for solutions, what stands beside the diagrams, and
+/// the title.
+#[derive(Clone, Copy)]
+pub struct SheetAsked<'a> {
+    pub bound: Bound,
+    pub size: MemoSize,
+    pub form: SheetForm,
+    pub title: &'a str,
+}
+
+/// A page that was made, and whether a line is refused there.
+#[derive(Drop)]
+struct Page {
+    text: Vec<u8>,
+    refused: bool,
+}
+
+/// What a page has, as the words ask for it.
+fn form_of(form: &SheetForm) -> Form
+    ensures { result ≡ page_form_of form.now }
+{
+    Form {
+        solutions: form.solutions,
+        figurines: form.figurines,
+    }
+}
+
+/// How many entries the memo has: where nothing is solved, one is enough.
+fn entries_of(asked: &SheetAsked<'_>) -> usize
+    ensures some { 1 ≤ result }
+    ensures few { result ≤ 65536 }
+{
+    if asked.form.solutions {
+        asked.size.get() as usize
+    } else {
+        1
+    }
+}
+
+/// Reads all files, and makes their page.
+fn page_of<S: Source, E: Write>(
+    alloc: Global,
+    asked: &SheetAsked<'_>,
+    names: &[&str],
+    source: &S,
+    err: &mut E,
+) -> Result<Page, Stop>
+    ensures ok { IfOk result (λ page. Sheets (S.holds source.now) asked.now.bound asked.now.form asked.now.title.now
+        (map (λ s. s.now) names.now) page.refused page.text.items) }
+    ensures err { IfErr result (λ stop. (stop ≡ Stop.NoMemory)
+        ⊎ ((stop ≡ Stop.Unreadable) × SomeRefused (S.refuses source.now) (map (λ s. s.now) names.now))) }
+{
+    let files = read_files(alloc, names, source, err)?;
+    let rays = Rays::new();
+    let contents = add_files(alloc, &rays, asked.bound, names, files.as_slice())?;
+    let mut memo = new_memo(alloc, entries_of(asked))?;
+    let form = form_of(&asked.form);
+    let text = page_text(alloc, &rays, &form, asked.title, &contents, &mut memo)?;
+    Ok(Page {
+        text,
+        refused: contents.has_refused(),
+    })
+}
+
+/// Makes one page of the records of files, in order, and writes it; gives whether a line was refused. The page is made whole before any of
+/// it is written. A file that can't be read is named on `err`.
+pub fn sheet<S: Source, O: Write, E: Write>(
+    alloc: Global,
+    asked: &SheetAsked<'_>,
+    names: &[&str],
+    source: &S,
+    out: &mut O,
+    err: &mut E,
+) -> Result<bool, Stop>
+    ensures ok { IfOk result (λ refused. Gains (Sheets (S.holds source.now) asked.now.bound asked.now.form asked.now.title.now
+        (map (λ s. s.now) names.now) refused) (O.contents out.old) (O.contents out.new)) }
+    ensures err { IfErr result (λ stop. StopsSheet (S.holds source.now) (S.refuses source.now) asked.now.bound asked.now.form
+        asked.now.title.now (map (λ s. s.now) names.now) stop (O.contents out.old) (O.contents out.new)) }
+{
+    let page = page_of(alloc, asked, names, source, err)?;
+    put(out, page.text.as_slice())?;
+    Ok(page.refused)
+}

@@ -1,0 +1,7 @@
+use Rattle.problem_import.proofs.Imports.{long_reply}
+use Rattle.problem_import.proofs.importing.ImportsLineHandler.refuse_long.Goals as goal
+
+pub returns-clause-reply : goal.returns-clause-reply
+returns-clause-reply c =
+    long_reply c.args.number c.output_of.result.text.items c.in_ok-printed.printed.text.items c.in_ok-printed.printed.any c.output_of.result.refused
+    c.in_ok-printed.ensures c.output_of.ensures.text c.output_of.ensures.refused

@@ -1,0 +1,210 @@
+//! A game in PGN (Portable Game Notation Specification, section 8): its tag pairs, of which a record is made, and its movetext, which is
+//! passed over.
+
+use crate::changes::Changes;
+use crate::texts::{is_same, is_word, word_at};
+use std::alloc::{AllocError, Global};
+
+/// The longest string of a record.
+const LONGEST: usize = 255;
+
+/// What tag pairs said so far, and the number of their first line.
+#[derive(Drop)]
+pub(crate) struct Game {
+    pub(crate) number: usize,
+    pub(crate) changes: Changes,
+    pub(crate) has_fen: bool,
+    fen: Vec<u8>,
+    white: Vec<u8>,
+    black: Vec<u8>,
+    event: Vec<u8>,
+    date: Vec<u8>,
+    annotator: Vec<u8>,
+}
+
+/// Movetext that is passed over.
+#[derive(Clone, Copy)]
+pub(crate) struct Movetext {
+    /// Whether a line of it came.
+    pub(crate) is_begun: bool,
+    /// Whether a comment in braces is open.
+    pub(crate) in_comment: bool,
+}
+
+/// Whether a value says something.
+fn is_said(value: &[u8]) -> bool {
+    for byte in value {
+        if *byte != b'?' && *byte != b'.' && *byte != b'-' && *byte != b' ' {
+            return true;
+        }
+    }
+    false
+}
+
+/// Adds to the text of an `id` behind a comma, without double quotation marks, as far as there is room.
+pub(crate) fn push_id(
+    id: &mut Vec<u8>,
+    value: &[u8],
+    changes: &mut Changes,
+) -> Result<(), AllocError> {
+    if !is_said(value) {
+        return Ok(());
+    }
+    if !id.is_empty() {
+        id.extend_from_slice(b", ")?;
+    }
+    for byte in value {
+        if id.len() >= LONGEST {
+            changes.cut = true;
+            break;
+        }
+        let plain = if *byte == b'"' { b'\'' } else { *byte };
+        id.push(plain)?;
+    }
+    id.truncate(LONGEST);
+    Ok(())
+}
+
+/// Adds an operation `id`, unless there is nothing in it.
+pub(crate) fn push_id_operation(text: &mut Vec<u8>, id: &[u8]) -> Result<(), AllocError> {
+    if id.is_empty() {
+        return Ok(());
+    }
+    text.extend_from_slice(b" id \"")?;
+    text.extend_from_slice(id)?;
+    text.extend_from_slice(b"\";")
+}
+
+/// What stands up to the first byte of such a kind, and what stands behind it.
+fn cut_at(text: &[u8], byte: u8) -> (&[u8], &[u8]) {
+    for (index, other) in text.iter().enumerate() {
+        if *other == byte {
+            return (text.split_at(index).0, text.split_at(index + 1).1);
+        }
+    }
+    (text, &[])
+}
+
+/// Takes the value of a tag pair, up to its last quotation mark but those behind a backslash; gives what stands behind.
+fn take_value<'t>(value: &mut Vec<u8>, text: &'t [u8]) -> Result<&'t [u8], AllocError> {
+    let mut is_escaped = false;
+    for (index, byte) in text.iter().enumerate() {
+        if is_escaped {
+            value.push(*byte)?;
+            is_escaped = false;
+        } else if *byte == b'\\' {
+            is_escaped = true;
+        } else if *byte == b'"' {
+            return Ok(text.split_at(index + 1).1);
+        } else {
+            value.push(*byte)?;
+        }
+    }
+    Ok(&[])
+}
+
+impl Game {
+    /// Without a tag pair.
+    pub(crate) fn new(alloc: Global, number: usize, changes: Changes) -> Game {
+        Game {
+            number,
+            changes,
+            has_fen: false,
+            fen: Vec::new(alloc),
+            white: Vec::new(alloc),
+            black: Vec::new(alloc),
+            event: Vec::new(alloc),
+            date: Vec::new(alloc),
+            annotator: Vec::new(alloc),
+        }
+    }
+
+    /// Takes a tag's value, where it is one that counts.
+    fn take_tag(&mut self, name: &[u8], value: Vec<u8>) {
+        if is_word(name, "FEN") {
+            self.has_fen = true;
+            self.fen = value;
+        } else if is_word(name, "White") {
+            self.white = value;
+        } else if is_word(name, "Black") {
+            self.black = value;
+        } else if is_word(name, "Event") {
+            self.event = value;
+        } else if is_word(name, "Date") {
+            self.date = value;
+        } else if is_word(name, "Annotator") {
+            self.annotator = value;
+        }
+    }
+
+    /// Takes the tag pairs of a line; gives what stands behind the last.
+    pub(crate) fn take_line<'t>(
+        &mut self,
+        alloc: Global,
+        line: &'t [u8],
+    ) -> Result<&'t [u8], AllocError> {
+        let mut rest = line.trim_ascii_start();
+        for _ in 0..line.len() {
+            let [b'[', more @ ..] = rest else {
+                break;
+            };
+            let (name, _) = word_at(more);
+            let (_, behind) = cut_at(more, b'"');
+            let mut value = Vec::new(alloc);
+            let behind = take_value(&mut value, behind)?;
+            self.take_tag(name, value);
+            rest = cut_at(behind, b']').1.trim_ascii_start();
+        }
+        Ok(rest)
+    }
+
+    /// What is made of the tag pairs, read as a record.
+    pub(crate) fn text(&mut self, alloc: Global) -> Result<Vec<u8>, AllocError> {
+        let mut id = Vec::new(alloc);
+        push_id(&mut id, self.white.as_slice(), &mut self.changes)?;
+        push_id(&mut id, self.black.as_slice(), &mut self.changes)?;
+        push_id(&mut id, self.event.as_slice(), &mut self.changes)?;
+        push_id(&mut id, self.date.as_slice(), &mut self.changes)?;
+        push_id(&mut id, self.annotator.as_slice(), &mut self.changes)?;
+        let mut text = Vec::from_slice(alloc, self.fen.as_slice().trim_ascii())?;
+        push_id_operation(&mut text, id.as_slice())?;
+        Ok(text)
+    }
+}
+
+/// Whether the last word of a text ends a game.
+fn ends_game(text: &[u8]) -> bool {
+    let text = text.trim_ascii_end();
+    let mut last = text;
+    for (index, byte) in text.iter().enumerate() {
+        if *byte == b' ' {
+            last = text.split_at(index + 1).1;
+        }
+    }
+    is_same(last, "1-0") || is_same(last, "0-1") || is_same(last, "1/2-1/2") || is_same(last, "*")
+}
+
+impl Movetext {
+    /// Before its first line.
+    pub(crate) fn new() -> Movetext {
+        Movetext {
+            is_begun: false,
+            in_comment: false,
+        }
+    }
+
+    /// Passes over a line, which may end the game.
+    pub(crate) fn pass(&mut self, line: &[u8]) -> bool {
+        self.is_begun = true;
+        for byte in line {
+            if self.in_comment {
+                self.in_comment = *byte != b'}';
+            } else if *byte == b';' {
+                break;
+            } else if *byte == b'{' {
+                self.in_comment = true;
+            }
+        }
+        !self.in_comment && ends_game(line)
+    }
+}

@@ -1,0 +1,249 @@
+//! A line of EPD or FEN, mended.
+
+use crate::changes::Changes;
+use crate::lengths::{length_digits, mate_digits};
+use crate::texts::{are_digits, is_same, push_byte, trimmed, word_at};
+use crate::tokens::{Kind, Token, segment_at, token_at};
+use std::alloc::{AllocError, Global};
+
+/// A record that is made of a line.
+#[derive(Drop)]
+struct Mending<'a> {
+    alloc: Global,
+    text: Vec<u8>,
+    changes: &'a mut Changes,
+    /// Whether it has a bound, or the line has.
+    is_bound: bool,
+}
+
+/// Whether an operation's opcode is `dm`.
+fn is_bound_segment(segment: &[u8]) -> bool {
+    is_same(word_at(segment).0, "dm")
+}
+
+/// Whether one of these operations is `dm`.
+fn has_bound(operations: &[u8]) -> bool {
+    let mut rest = operations;
+    for _ in 0..operations.len() {
+        match segment_at(rest) {
+            Some(segment) => {
+                if is_bound_segment(segment.text) {
+                    return true;
+                }
+                rest = segment.rest;
+            }
+            None => return false,
+        }
+    }
+    false
+}
+
+/// Whether an opcode's operands are moves.
+fn has_moves(opcode: &[u8]) -> bool {
+    is_same(opcode, "bm")
+        || is_same(opcode, "am")
+        || is_same(opcode, "pv")
+        || is_same(opcode, "pm")
+        || is_same(opcode, "sm")
+}
+
+/// A move without the marks of praise and blame behind it.
+fn without_marks(word: &[u8]) -> &[u8] {
+    for (index, byte) in word.iter().enumerate() {
+        if index > 0 && (*byte == b'!' || *byte == b'?') {
+            return word.split_at(index).0;
+        }
+    }
+    word
+}
+
+impl Mending<'_> {
+    /// Adds a bound.
+    fn push_bound(&mut self, digits: &[u8]) -> Result<(), AllocError> {
+        self.changes.bound = true;
+        self.is_bound = true;
+        self.text.extend_from_slice(b" dm ")?;
+        self.text.extend_from_slice(digits)?;
+        push_byte(&mut self.text, b';')
+    }
+
+    /// Adds what stands in a string of single quotation marks.
+    fn push_requoted(&mut self, text: &[u8]) -> Result<(), AllocError> {
+        self.changes.quotes = true;
+        for byte in text {
+            let plain = if *byte == b'"' { b'\'' } else { *byte };
+            self.text.push(plain)?;
+        }
+        Ok(())
+    }
+
+    /// Adds an operand behind a space.
+    fn push_token(&mut self, token: &Token<'_>) -> Result<(), AllocError> {
+        self.text.push(b' ')?;
+        if token.kind == Kind::Word {
+            return self.text.extend_from_slice(token.text);
+        }
+        self.text.push(b'"')?;
+        if token.kind == Kind::String {
+            self.text.extend_from_slice(token.text)?;
+        } else {
+            self.push_requoted(token.text)?;
+        }
+        push_byte(&mut self.text, b'"')
+    }
+
+    /// Adds a move behind a space.
+    fn push_move(&mut self, token: &Token<'_>) -> Result<(), AllocError> {
+        if token.kind != Kind::Word {
+            return self.push_token(token);
+        }
+        let bare = without_marks(token.text);
+        if bare.len() < token.text.len() {
+            self.changes.marks = true;
+        }
+        self.text.push(b' ')?;
+        self.text.extend_from_slice(bare)
+    }
+
+    /// Adds operands as they are, or those that are moves.
+    fn push_operands(&mut self, operands: &[u8], are_moves: bool) -> Result<(), AllocError> {
+        let mut rest = operands;
+        for _ in 0..operands.len() {
+            let Some(token) = token_at(rest) else {
+                break;
+            };
+            if are_moves {
+                self.push_move(&token)?;
+            } else {
+                self.push_token(&token)?;
+            }
+            rest = token.rest;
+        }
+        Ok(())
+    }
+
+    /// Adds the keys that are claimed; the first number of moves among them is a bound, where there is none.
+    fn push_keys(&mut self, operands: &[u8]) -> Result<(), AllocError> {
+        let alloc = self.alloc;
+        let mut keys = Vec::new(alloc);
+        let mut bound = Vec::new(alloc);
+        let mut rest = operands;
+        for _ in 0..operands.len() {
+            let Some(token) = token_at(rest) else {
+                break;
+            };
+            let behind = token.rest;
+            let taken = rest.len().saturating_sub(behind.len()).min(rest.len());
+            match length_digits(token.text) {
+                Some(digits) if token.kind == Kind::Word && !self.is_bound => {
+                    bound.extend_from_slice(digits)?;
+                    self.is_bound = true;
+                }
+                _ => {
+                    keys.push(b' ')?;
+                    keys.extend_from_slice(rest.split_at(taken).0)?;
+                }
+            }
+            rest = behind;
+        }
+        if !keys.is_empty() || bound.is_empty() {
+            self.text.extend_from_slice(b" bm")?;
+            self.push_operands(keys.as_slice(), true)?;
+            self.text.push(b';')?;
+        }
+        if bound.is_empty() {
+            return Ok(());
+        }
+        self.push_bound(bound.as_slice())
+    }
+
+    /// Adds an operation.
+    fn push_operation(&mut self, operation: &[u8]) -> Result<(), AllocError> {
+        let (opcode, operands) = word_at(operation);
+        if opcode.is_empty() {
+            return Ok(());
+        }
+        if is_same(opcode, "bm") {
+            return self.push_keys(operands);
+        }
+        if is_same(opcode, "dm") {
+            if let Some(digits) = length_digits(trimmed(operands)) {
+                return self.push_bound(digits);
+            }
+        }
+        self.text.push(b' ')?;
+        self.text.extend_from_slice(opcode)?;
+        self.push_operands(operands, has_moves(opcode))?;
+        push_byte(&mut self.text, b';')
+    }
+
+    /// Adds what stands between two semicolons: a number of moves is a bound.
+    fn push_segment(&mut self, segment: &[u8]) -> Result<(), AllocError> {
+        let (first, behind) = word_at(segment);
+        if let Some(digits) = length_digits(first) {
+            self.push_bound(digits)?;
+            return self.push_operation(behind);
+        }
+        if let Some(digits) = mate_digits(segment) {
+            return self.push_bound(digits);
+        }
+        self.push_operation(segment)
+    }
+
+    /// Adds all operations.
+    fn push_operations(&mut self, operations: &[u8]) -> Result<(), AllocError> {
+        let mut rest = operations;
+        for _ in 0..operations.len() {
+            let Some(segment) = segment_at(rest) else {
+                break;
+            };
+            if !segment.is_ended {
+                self.changes.semicolon = true;
+            }
+            self.push_segment(segment.text)?;
+            rest = segment.rest;
+        }
+        Ok(())
+    }
+
+    /// Adds four fields and two counters, as far as they are there; gives what stands behind.
+    fn push_fields<'t>(&mut self, line: &'t [u8]) -> Result<&'t [u8], AllocError> {
+        let mut rest = line;
+        for index in 0..6 {
+            let (word, behind) = word_at(rest);
+            if index > 3 && !are_digits(word) {
+                break;
+            }
+            if index > 0 {
+                self.text.push(b' ')?;
+            }
+            self.text.extend_from_slice(word)?;
+            rest = behind;
+        }
+        Ok(rest)
+    }
+}
+
+/// A line in printable ASCII, mended.
+pub(crate) fn mended_line(
+    alloc: Global,
+    line: &[u8],
+    changes: &mut Changes,
+) -> Result<Vec<u8>, AllocError> {
+    let mut mending = Mending {
+        alloc,
+        text: Vec::new(alloc),
+        changes,
+        is_bound: false,
+    };
+    let operations = mending.push_fields(line)?;
+    mending.is_bound = has_bound(operations);
+    mending.push_operations(operations)?;
+    let Mending {
+        alloc: _,
+        text,
+        changes: _,
+        is_bound: _,
+    } = mending;
+    Ok(text)
+}

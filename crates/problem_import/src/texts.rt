@@ -1,0 +1,54 @@
+//! Texts of bytes: what stands at their ends, and their words.
+
+use std::alloc::AllocError;
+
+/// A text without spaces at either end.
+pub(crate) fn trimmed(text: &[u8]) -> &[u8] {
+    text.trim_ascii()
+}
+
+/// The text up to its first space, and what stands behind.
+fn front_word(text: &[u8]) -> (&[u8], &[u8]) {
+    for (index, byte) in text.iter().enumerate() {
+        if *byte == b' ' {
+            return text.split_at(index);
+        }
+    }
+    (text, &[])
+}
+
+/// The first word of a text, empty where there is none, and what stands behind.
+pub(crate) fn word_at(text: &[u8]) -> (&[u8], &[u8]) {
+    front_word(text.trim_ascii_start())
+}
+
+/// Whether a text is one or more digits.
+pub(crate) fn are_digits(text: &[u8]) -> bool {
+    for byte in text {
+        if !byte.is_ascii_digit() {
+            return false;
+        }
+    }
+    !text.is_empty()
+}
+
+/// Whether the one text is the other, small and large letters alike.
+pub(crate) fn is_word(word: &[u8], other: &str) -> bool {
+    word.eq_ignore_ascii_case(other.as_bytes())
+}
+
+/// A text without a number of bytes at its front.
+pub(crate) fn without_first(text: &[u8], count: usize) -> &[u8] {
+    text.split_at(count.min(text.len())).1
+}
+
+/// Whether the one text is the other.
+pub(crate) fn is_same(text: &[u8], other: &str) -> bool {
+    text == other.as_bytes()
+}
+
+/// Adds a byte.
+pub(crate) fn push_byte(text: &mut Vec<u8>, byte: u8) -> Result<(), AllocError> {
+    text.push(byte)?;
+    Ok(())
+}

@@ -1,0 +1,3 @@
+pub mod AddedLines
+pub mod EscapedTexts
+pub mod Numbered

@@ -1,0 +1,145 @@
+//! A page.
+
+ghost use Rattle.std.specs.Prelude.{◌≡◌, ◌++◌, IfOk};
+ghost use Rattle.problem_sheets.specs.Pages.{head_text, page_end, page_start, page_text as page_text_of};
+ghost use Rattle.problem_sheets.specs.Pages.{refusals_text, section_text, solutions_text, style};
+
+use crate::contents::Contents;
+use crate::diagrams::push_all_shapes;
+use crate::escaping::push_escaped;
+use crate::page_parts::{PAGE_END, PAGE_START, STYLE};
+use crate::problems::push_problems;
+use crate::solutions::{Notation, push_solutions};
+use byte_streams::NoMemory;
+use chess_moves::Rays;
+use mate_search::Memo;
+use std::alloc::{AllocError, Global};
+
+/// What a page has beside its diagrams.
+#[derive(Clone, Copy, Debug, PartialEq, Eq)]
+pub struct Form {
+    /// Whether the problems are solved, and their solutions told on the last pages.
+    pub solutions: bool,
+    /// Whether pieces are told by figurines there, in place of letters.
+    pub figurines: bool,
+}
+
+/// Adds what each page begins with.
+#[tactic(auto, unfolding(crate::specs::Pages::page_start))]
+fn push_start(text: &mut Vec<u8>) -> Result<(), AllocError>
+    ensures { IfOk result (λ _. text.new.items ≡ text.old.items ++ page_start) }
+{
+    text.extend_from_slice(PAGE_START.as_bytes())?;
+    Ok(())
+}
+
+/// Adds how each page looks.
+#[tactic(auto, unfolding(crate::specs::Pages::style))]
+fn push_style(text: &mut Vec<u8>) -> Result<(), AllocError>
+    ensures { IfOk result (λ _. text.new.items ≡ text.old.items ++ style) }
+{
+    text.extend_from_slice(STYLE.as_bytes())?;
+    Ok(())
+}
+
+/// Adds what each page ends with.
+#[tactic(auto, unfolding(crate::specs::Pages::page_end))]
+fn push_end(text: &mut Vec<u8>) -> Result<(), AllocError>
+    ensures { IfOk result (λ _. text.new.items ≡ text.old.items ++ page_end) }
+{
+    text.extend_from_slice(PAGE_END.as_bytes())?;
+    Ok(())
+}
+
+/// Adds the head of a page with this title.
+#[tactic(auto, unfolding(crate::specs::Pages::head_text))]
+fn push_head(text: &mut Vec<u8>, title: &[u8]) -> Result<(), AllocError>
+    ensures { IfOk result (λ _. text.new.items ≡ text.old.items ++ head_text title.now) }
+{
+    push_start(text)?;
+    push_escaped(text, title)?;
+    push_style(text)?;
+    push_all_shapes(text)?;
+    text.extend_from_slice(b"</svg>\n<h1>")?;
+    push_escaped(text, title)?;
+    text.extend_from_slice(b"</h1>\n")?;
+    Ok(())
+}
+
+/// Adds a section of this name.
+fn push_section(text: &mut Vec<u8>, name: &[u8], paragraphs: &[u8]) -> Result<(), AllocError>
+    ensures { IfOk result (λ _. text.new.items ≡ text.old.items ++ section_text name.now paragraphs.now) }
+{
+    text.extend_from_slice(b"<section>\n<h2>")?;
+    text.extend_from_slice(name)?;
+    text.extend_from_slice(b"</h2>\n")?;
+    text.extend_from_slice(paragraphs)?;
+    text.extend_from_slice(b"</section>\n")?;
+    Ok(())
+}
+
+/// Adds the lines that are refused, where there are any.
+fn push_refusals(text: &mut Vec<u8>, refused: &[u8]) -> Result<(), AllocError>
+    ensures { IfOk result (λ _. text.new.items ≡ text.old.items ++ refusals_text refused.now) }
+{
+    match refused {
+        [] => Ok(()),
+        [_, ..] => push_section(text, b"Lines refused", refused),
+    }
+}
+
+/// Solves the problems and adds their solutions, where they are asked for.
+fn push_solutions_if_asked(
+    alloc: Global,
+    text: &mut Vec<u8>,
+    rays: &Rays,
+    form: &Form,
+    contents: &Contents,
+    memo: &mut Memo,
+) -> Result<(), NoMemory>
+    ensures text { IfOk result (λ _. text.new.items ≡ text.old.items ++ solutions_text form.now contents.now) }
+    ensures room { memo.new.room ≡ memo.old.room }
+{
+    if !form.solutions {
+        return Ok(());
+    }
+    let notation = Notation {
+        rays,
+        figurines: form.figurines,
+    };
+    let mut solutions = Vec::new(alloc);
+    push_solutions(
+        alloc,
+        &mut solutions,
+        &notation,
+        contents.records.as_slice(),
+        memo,
+    )?;
+    push_section(text, b"Solutions", solutions.as_slice())?;
+    Ok(())
+}
+
+/// The page of these contents, with such a title: HTML whose diagrams are drawn within it, so that a browser needs nothing else. Nothing is
+/// solved unless solutions are asked for. Only a growth that is refused is an error.
+#[tactic(auto, unfolding(crate::specs::Pages::page_text))]
+pub fn page_text(
+    alloc: Global,
+    rays: &Rays,
+    form: &Form,
+    title: &str,
+    contents: &Contents,
+    memo: &mut Memo,
+) -> Result<Vec<u8>, NoMemory>
+    ensures text { IfOk result (λ text. text.items ≡ page_text_of form.now title.now contents.now) }
+    ensures room { memo.new.room ≡ memo.old.room }
+{
+    let mut text = Vec::new(alloc);
+    push_head(&mut text, title.as_bytes())?;
+    text.extend_from_slice(b"<main>\n")?;
+    push_problems(alloc, &mut text, contents.records.as_slice())?;
+    text.extend_from_slice(b"</main>\n")?;
+    push_solutions_if_asked(alloc, &mut text, rays, form, contents, memo)?;
+    push_refusals(&mut text, contents.refused.as_slice())?;
+    push_end(&mut text)?;
+    Ok(text)
+}

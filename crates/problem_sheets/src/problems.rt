@@ -1,0 +1,257 @@
+//! A problem of a page: its number, its diagram, and what stands beneath it.
+
+ghost use Rattle.std.specs.Prelude.{◌≡◌, ◌++◌, ◌≤◌, IfOk, codes};
+ghost use Rattle.chess_notation.specs.Answers.{entries_text};
+ghost use Rattle.chess_notation.specs.Opcodes.{operands_under};
+ghost use Rattle.problem_sheets.specs.Problems.{caption_text, cite_text, code_text, count_text, details_text, epd_text as epd_text_of};
+ghost use Rattle.problem_sheets.specs.Problems.{heading_text, id_text, men_below, problem_text, problems_from, right_text};
+ghost use Rattle.problem_sheets.specs.Problems.{right_words, small_text, state_text, target_words, unquoted};
+
+use crate::diagrams::{push_diagram, push_number, push_square};
+use crate::escaping::push_escaped;
+use chess_board::{Colour, Position, Square, Wing};
+use chess_notation::{Operation, Record, kept_operands};
+use std::alloc::{AllocError, Global};
+
+/// How many men a side has.
+#[tactic(auto, using(crate::proofs::Numbered::men_below_none, crate::proofs::Numbered::men_below_more))]
+fn count_of(colour: Colour, position: &Position) -> usize
+    ensures { result ≡ men_below 64 colour position.now.men }
+{
+    let mut count = 0;
+    for number in 0..64 {
+        if let Some(man) = position.man(Square::numbered(number)) {
+            if man.colour == colour {
+                count += 1;
+            }
+        }
+    }
+    count
+}
+
+/// Adds how many men each side has.
+fn push_counts(text: &mut Vec<u8>, position: &Position) -> Result<(), AllocError>
+    ensures { IfOk result (λ _. text.new.items ≡ text.old.items ++ count_text position.now.men) }
+{
+    push_number(text, count_of(Colour::White, position))?;
+    text.push(b'+')?;
+    push_number(text, count_of(Colour::Black, position))?;
+    Ok(())
+}
+
+/// What an operation says, without quotation marks.
+fn unquoted_text(alloc: Global, operands: &[u8]) -> Result<Vec<u8>, AllocError>
+    ensures { IfOk result (λ text. text.items ≡ unquoted operands.now) }
+{
+    let mut text = Vec::new(alloc);
+    for byte in operands {
+        if *byte != b'"' {
+            text.push(*byte)?;
+        }
+    }
+    Ok(text)
+}
+
+/// Adds what `id` says.
+fn push_id(alloc: Global, text: &mut Vec<u8>, record: &Record) -> Result<(), AllocError>
+    ensures { IfOk result (λ _. text.new.items ≡ text.old.items ++ id_text «record».now) }
+{
+    let id = unquoted_text(alloc, kept_operands(record.rest.as_slice(), b"id"))?;
+    push_escaped(text, id.as_slice())?;
+    Ok(())
+}
+
+/// How a right to castle is told.
+fn right_words(colour: Colour, wing: Wing) -> &'static [u8]
+    ensures { result.now ≡ right_words colour wing }
+{
+    match (colour, wing) {
+        (Colour::White, Wing::KingSide) => b"White may castle kingside. ",
+        (Colour::White, Wing::QueenSide) => b"White may castle queenside. ",
+        (Colour::Black, Wing::KingSide) => b"Black may castle kingside. ",
+        (Colour::Black, Wing::QueenSide) => b"Black may castle queenside. ",
+    }
+}
+
+/// Adds the right of a side to castle on a wing, where it has that.
+#[tactic(auto, unfolding(crate::specs::Problems::right_text))]
+fn push_right(
+    text: &mut Vec<u8>,
+    position: &Position,
+    colour: Colour,
+    wing: Wing,
+) -> Result<(), AllocError>
+    ensures { IfOk result (λ _. text.new.items ≡ text.old.items ++ right_text position.now colour wing) }
+{
+    if position.has_right(colour, wing) {
+        text.extend_from_slice(right_words(colour, wing))?;
+    }
+    Ok(())
+}
+
+/// Adds where a pawn may be captured en passant.
+#[tactic(auto, unfolding(crate::specs::Problems::target_words))]
+fn push_target(text: &mut Vec<u8>, position: &Position) -> Result<(), AllocError>
+    ensures { IfOk result (λ _. text.new.items ≡ text.old.items ++ target_words position.now.target) }
+{
+    match position.ep_target() {
+        None => Ok(()),
+        Some(square) => {
+            text.extend_from_slice(b"En passant on ")?;
+            push_square(text, square)?;
+            text.extend_from_slice(b". ")?;
+            Ok(())
+        }
+    }
+}
+
+/// Adds what a diagram doesn't show.
+#[tactic(auto, unfolding(crate::specs::Problems::state_text))]
+fn push_state(text: &mut Vec<u8>, position: &Position) -> Result<(), AllocError>
+    ensures { IfOk result (λ _. text.new.items ≡ text.old.items ++ state_text position.now) }
+{
+    push_right(text, position, Colour::White, Wing::KingSide)?;
+    push_right(text, position, Colour::White, Wing::QueenSide)?;
+    push_right(text, position, Colour::Black, Wing::KingSide)?;
+    push_right(text, position, Colour::Black, Wing::QueenSide)?;
+    push_target(text, position)?;
+    Ok(())
+}
+
+/// Adds operations.
+fn push_operations(text: &mut Vec<u8>, operations: &[Operation]) -> Result<(), AllocError>
+    ensures { IfOk result (λ _. text.new.items ≡ text.old.items ++ entries_text operations.now) }
+{
+    for operation in operations {
+        text.push(b' ')?;
+        text.extend_from_slice(operation.opcode.as_str().as_bytes())?;
+        text.extend_from_slice(operation.operands.as_bytes())?;
+        text.push(b';')?;
+    }
+    Ok(())
+}
+
+/// The record without a solution.
+fn epd_text(alloc: Global, record: &Record) -> Result<Vec<u8>, AllocError>
+    ensures { IfOk result (λ text. text.items ≡ epd_text_of «record».now) }
+{
+    let mut text = Vec::from_slice(alloc, record.position.text().as_str().as_bytes())?;
+    text.extend_from_slice(b" dm ")?;
+    push_number(&mut text, record.bound.get() as usize)?;
+    text.push(b';')?;
+    push_operations(&mut text, record.rest.as_slice())?;
+    Ok(text)
+}
+
+/// Adds the number, the length and the counts of men.
+#[tactic(auto, unfolding(crate::specs::Problems::heading_text))]
+fn push_heading(text: &mut Vec<u8>, number: usize, record: &Record) -> Result<(), AllocError>
+    ensures { IfOk result (λ _. text.new.items ≡ text.old.items ++ heading_text number «record».now) }
+{
+    text.extend_from_slice(b"<b>")?;
+    push_number(text, number)?;
+    text.extend_from_slice(b"</b> #")?;
+    push_number(text, record.bound.get() as usize)?;
+    text.extend_from_slice(b" ")?;
+    push_counts(text, &record.position)?;
+    Ok(())
+}
+
+/// Adds `id`.
+#[tactic(auto, unfolding(crate::specs::Problems::cite_text))]
+fn push_cite(alloc: Global, text: &mut Vec<u8>, record: &Record) -> Result<(), AllocError>
+    ensures { IfOk result (λ _. text.new.items ≡ text.old.items ++ cite_text «record».now) }
+{
+    text.extend_from_slice(b"<cite>")?;
+    push_id(alloc, text, record)?;
+    text.extend_from_slice(b"</cite>")?;
+    Ok(())
+}
+
+/// Adds what a diagram doesn't show.
+#[tactic(auto, unfolding(crate::specs::Problems::small_text))]
+fn push_small(text: &mut Vec<u8>, record: &Record) -> Result<(), AllocError>
+    ensures { IfOk result (λ _. text.new.items ≡ text.old.items ++ small_text «record».now) }
+{
+    text.extend_from_slice(b"<small>")?;
+    push_state(text, &record.position)?;
+    text.extend_from_slice(b"</small>")?;
+    Ok(())
+}
+
+/// Adds the record to be copied.
+#[tactic(auto, unfolding(crate::specs::Problems::code_text))]
+fn push_code(alloc: Global, text: &mut Vec<u8>, record: &Record) -> Result<(), AllocError>
+    ensures { IfOk result (λ _. text.new.items ≡ text.old.items ++ code_text «record».now) }
+{
+    let epd = epd_text(alloc, record)?;
+    text.extend_from_slice(b"<code>")?;
+    push_escaped(text, epd.as_slice())?;
+    text.extend_from_slice(b"</code>")?;
+    Ok(())
+}
+
+/// Adds what is said of a problem.
+#[tactic(auto, unfolding(crate::specs::Problems::details_text))]
+fn push_details(
+    alloc: Global,
+    text: &mut Vec<u8>,
+    number: usize,
+    record: &Record,
+) -> Result<(), AllocError>
+    ensures { IfOk result (λ _. text.new.items ≡ text.old.items ++ details_text number «record».now) }
+{
+    push_heading(text, number, record)?;
+    push_cite(alloc, text, record)?;
+    push_small(text, record)?;
+    push_code(alloc, text, record)?;
+    Ok(())
+}
+
+/// Adds what stands beneath a diagram.
+#[tactic(auto, unfolding(crate::specs::Problems::caption_text))]
+fn push_caption(
+    alloc: Global,
+    text: &mut Vec<u8>,
+    number: usize,
+    record: &Record,
+) -> Result<(), AllocError>
+    ensures { IfOk result (λ _. text.new.items ≡ text.old.items ++ caption_text number «record».now) }
+{
+    text.extend_from_slice(b"<figcaption>")?;
+    push_details(alloc, text, number, record)?;
+    text.extend_from_slice(b"</figcaption>")?;
+    Ok(())
+}
+
+/// Adds a problem.
+#[tactic(auto, unfolding(crate::specs::Problems::problem_text))]
+fn push_problem(
+    alloc: Global,
+    text: &mut Vec<u8>,
+    number: usize,
+    record: &Record,
+) -> Result<(), AllocError>
+    ensures { IfOk result (λ _. text.new.items ≡ text.old.items ++ problem_text number «record».now) }
+{
+    text.extend_from_slice(b"<figure>")?;
+    push_diagram(text, &record.position)?;
+    push_caption(alloc, text, number, record)?;
+    text.extend_from_slice(b"</figure>\n")?;
+    Ok(())
+}
+
+/// Adds problems, numbered from 1.
+#[tactic(auto, unfolding(crate::specs::Problems::problems_from))]
+pub(crate) fn push_problems(
+    alloc: Global,
+    text: &mut Vec<u8>,
+    records: &[Record],
+) -> Result<(), AllocError>
+    ensures { IfOk result (λ _. text.new.items ≡ text.old.items ++ problems_from 1 records.now) }
+{
+    for (index, record) in records.iter().enumerate() {
+        push_problem(alloc, text, index + 1, record)?;
+    }
+    Ok(())
+}

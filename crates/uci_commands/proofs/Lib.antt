@@ -1,0 +1,3 @@
+pub mod MovesKept
+pub mod NumberValues
+pub mod SpaceCuts

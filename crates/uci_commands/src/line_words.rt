@@ -1,0 +1,67 @@
+//! The words of a line.
+
+ghost use Rattle.std.specs.Prelude.{◌≡◌, ◌<◌, IfNone, IfOk, IfSome, [], ◌∷◌, ◌++◌, filter, length, map, true};
+ghost use Rattle.chess_notation.specs.Words.{words_in};
+ghost use Rattle.uci_commands.specs.inside.LineWords.{HasNoSpace, is_some_word, parts_of};
+
+use std::alloc::{AllocError, Global};
+
+/// What stands before the first space, and behind it; none where there is no space.
+fn cut_at_space(text: &[u8]) -> Option<(&[u8], &[u8])>
+    ensures none { IfNone result (HasNoSpace text.now) }
+    ensures word { IfSome result (λ cut. HasNoSpace cut.0.now) }
+    ensures cut { IfSome result (λ cut. text.now ≡ cut.0.now ++ 32 ∷ cut.1.now) }
+{
+    for (index, byte) in text.iter().enumerate() {
+        if *byte == b' ' {
+            let (word, _) = text.split_at(index);
+            let (_, more) = text.split_at(index + 1);
+            return Some((word, more));
+        }
+    }
+    None
+}
+
+/// The first part of a text and what follows it; none where the text is one part.
+fn first_part(text: &[u8]) -> Option<(&[u8], &[u8])>
+    ensures none { IfNone result (parts_of text.now ≡ text.now ∷ []) }
+    ensures cut { IfSome result (λ cut. parts_of text.now ≡ cut.0.now ∷ parts_of cut.1.now) }
+    ensures shorter { IfSome result (λ cut. length cut.1.now < length text.now) }
+{
+    cut_at_space(text)
+}
+
+/// Adds a word, where it is not empty. It answers whether that is a text in UTF-8.
+fn push_word<'a>(words: &mut Vec<&'a str>, word: &'a [u8]) -> Result<bool, AllocError>
+    ensures { IfOk result (λ is_text. is_text ≡ true
+        → map (λ s. s.now) words.new.items ≡ map (λ s. s.now) words.old.items ++ filter is_some_word (word.now ∷ [])) }
+{
+    if word.is_empty() {
+        return Ok(true);
+    }
+    let Ok(text) = str::from_utf8(word) else {
+        return Ok(false);
+    };
+    words.push(text)?;
+    Ok(true)
+}
+
+/// The words of a line, which stand between its spaces; none where one of them is no text in UTF-8.
+#[tactic(auto, unfolding(chess_notation::specs::Words::words_in))]
+pub fn words_of<'a>(alloc: Global, line: &'a [u8]) -> Result<Option<Vec<&'a str>>, AllocError>
+    ensures { IfOk result (λ all. IfSome all (λ words. map (λ s. s.now) words.items ≡ words_in line.entry.now)) }
+{
+    let mut words = Vec::new(alloc);
+    let mut rest = line;
+    while let Some((word, more)) = first_part(rest) {
+        if !push_word(&mut words, word)? {
+            return Ok(None);
+        }
+        rest = more;
+    }
+    if push_word(&mut words, rest)? {
+        Ok(Some(words))
+    } else {
+        Ok(None)
+    }
+}

@@ -1,0 +1,216 @@
+//! What the thread that searches does.
+
+use crate::events::Event;
+use crate::signals::Signals;
+use crate::texts::{Progress, push_best, push_length, push_mate, push_none};
+use crate::watches::Watch;
+use chess_board::Move;
+use chess_moves::{MoveList, Rays, legal};
+use chess_problems::{Bound, Outcome, Problem, is_same_move};
+use crossbeam_channel::{Receiver, Sender};
+use mate_search::{Memo, Stopped, solve_until};
+use std::alloc::{AllocError, Global};
+use std::sync::Wait;
+use uci_commands::{only_these, within};
+
+/// A search to be made.
+#[derive(Drop)]
+pub(crate) struct Job {
+    /// Its number, by which it is told to stop.
+    pub(crate) number: u64,
+    /// The position, the moves that it is kept from, and the greatest length of a mate that is looked for.
+    pub(crate) problem: Problem,
+    /// How many keys have lines of their own.
+    pub(crate) multi_pv: u64,
+    /// How many positions may be searched.
+    pub(crate) most_nodes: u64,
+    /// How many entries the memo has.
+    pub(crate) entries: usize,
+    /// Whether nothing is to be remembered of searches before.
+    pub(crate) is_fresh: bool,
+}
+
+/// What is kept from search to search.
+#[derive(Drop)]
+struct Memory {
+    entries: usize,
+    memo: Memo,
+}
+
+/// What a search needs beside its job.
+#[derive(Clone, Copy)]
+pub(crate) struct Searcher<'a> {
+    pub(crate) alloc: Global,
+    pub(crate) rays: &'a Rays,
+    pub(crate) signals: &'a Signals,
+    pub(crate) events: &'a Sender<Event, Global>,
+}
+
+/// The first legal move that is not to be avoided.
+fn first_move(rays: &Rays, problem: &Problem) -> Option<Move> {
+    for m in legal(rays, &problem.position).as_slice() {
+        let is_avoided = problem
+            .avoid
+            .as_slice()
+            .iter()
+            .any(|n| is_same_move(*m, *n));
+        if !is_avoided {
+            return Some(*m);
+        }
+    }
+    None
+}
+
+impl Searcher<'_> {
+    /// How far a search has come.
+    fn progress(&self, moves: u64, watch: &Watch) -> Progress {
+        Progress {
+            moves,
+            nodes: watch.nodes(),
+            time: self.signals.elapsed(),
+        }
+    }
+
+    /// The last lines where no mate was found in so many moves.
+    fn none_text(&self, problem: &Problem, moves: u64) -> Result<Vec<u8>, AllocError> {
+        let mut text = Vec::new(self.alloc);
+        let best = first_move(self.rays, problem);
+        if best.is_some() {
+            push_none(&mut text, moves)?;
+        }
+        push_best(&mut text, best)?;
+        Ok(text)
+    }
+
+    /// Adds the line of one more key, unless it is to stop.
+    fn push_key(
+        &self,
+        text: &mut Vec<u8>,
+        problem: &Problem,
+        key: Move,
+        rank: u64,
+        memo: &mut Memo,
+        watch: &Watch,
+    ) -> Result<(), AllocError> {
+        let keys = [key];
+        let Some(alone) = only_these(self.rays, &problem.position, problem.bound, &keys) else {
+            return Ok(());
+        };
+        match solve_until(self.rays, &alone, memo, watch) {
+            Ok(Outcome::Mate { pv, .. }) => {
+                let progress = self.progress(u64::from(problem.bound.get()), watch);
+                push_mate(text, &progress, rank, pv.as_slice())
+            }
+            _ => Ok(()),
+        }
+    }
+
+    /// The line of the first key.
+    fn first_line(
+        &self,
+        problem: &Problem,
+        pv: &[Move],
+        watch: &Watch,
+    ) -> Result<Vec<u8>, AllocError> {
+        let mut text = Vec::new(self.alloc);
+        let progress = self.progress(u64::from(problem.bound.get()), watch);
+        push_mate(&mut text, &progress, 1, pv)?;
+        Ok(text)
+    }
+
+    /// The lines of as many more keys as are asked for.
+    fn more_lines(
+        &self,
+        problem: &Problem,
+        keys: &MoveList,
+        job: &Job,
+        memo: &mut Memo,
+        watch: &Watch,
+    ) -> Result<Vec<u8>, AllocError> {
+        let mut text = Vec::new(self.alloc);
+        let mut rank = 1u64;
+        for key in keys.as_slice() {
+            if 1 < rank && rank <= job.multi_pv {
+                self.push_key(&mut text, problem, *key, rank, memo, watch)?;
+            }
+            rank = rank.saturating_add(1);
+        }
+        Ok(text)
+    }
+
+    /// What to play where a mate was found.
+    fn best_text(&self, keys: &MoveList) -> Result<Vec<u8>, AllocError> {
+        let mut text = Vec::new(self.alloc);
+        push_best(&mut text, keys.as_slice().first().copied())?;
+        Ok(text)
+    }
+
+    /// Searches for a mate in one move, two and so on, and sends a line for each; gives the last lines.
+    fn search<R: Wait>(&self, rt: &R, job: &Job, memo: &mut Memo) -> Result<Vec<u8>, AllocError> {
+        let watch = Watch::new(self.signals, job.number, job.most_nodes);
+        let most = job.problem.bound.get();
+        if first_move(self.rays, &job.problem).is_none() {
+            return self.none_text(&job.problem, 0);
+        }
+        for before in 0..most {
+            let Some(bound) = Bound::new(before + 1) else {
+                unreachable!();
+            };
+            let problem = within(&job.problem, bound);
+            match solve_until(self.rays, &problem, memo, &watch) {
+                Ok(Outcome::Mate { keys, pv, .. }) => {
+                    let first = self.first_line(&problem, pv.as_slice(), &watch)?;
+                    let _ = self.events.send(rt, Event::Said(first));
+                    let more = self.more_lines(&problem, &keys, job, memo, &watch)?;
+                    let _ = self.events.send(rt, Event::Said(more));
+                    return self.best_text(&keys);
+                }
+                Ok(Outcome::NoMate) => {
+                    let mut text = Vec::new(self.alloc);
+                    push_length(&mut text, &self.progress(u64::from(before + 1), &watch))?;
+                    let _ = self.events.send(rt, Event::Said(text));
+                }
+                Err(Stopped) => return self.none_text(&job.problem, u64::from(before)),
+            }
+        }
+        self.none_text(&job.problem, u64::from(most))
+    }
+
+    /// What was kept of searches before, or nothing where that is to be forgotten or of another size; none where memory is refused.
+    fn memory_for(&self, kept: Option<Memory>, job: &Job) -> Option<Memory> {
+        if let Some(memory) = kept {
+            if memory.entries == job.entries && !job.is_fresh {
+                return Some(memory);
+            }
+        }
+        match Memo::new(self.alloc, job.entries) {
+            Ok(memo) => Some(Memory {
+                entries: job.entries,
+                memo,
+            }),
+            Err(_) => None,
+        }
+    }
+
+    /// Makes each search that is sent, until no more can be.
+    pub(crate) fn run<R: Wait>(&self, rt: &R, jobs: Receiver<Job, Global>) {
+        let mut kept = None;
+        for _ in rt.forever() {
+            let Ok(job) = jobs.recv(rt) else {
+                return;
+            };
+            let Some(mut memory) = self.memory_for(kept, &job) else {
+                let _ = self.events.send(rt, Event::Refused);
+                return;
+            };
+            let event = match self.search(rt, &job, &mut memory.memo) {
+                Ok(text) => Event::Found(text),
+                Err(_) => Event::Refused,
+            };
+            kept = Some(memory);
+            if self.events.send(rt, event).is_err() {
+                return;
+            }
+        }
+    }
+}

@@ -1,0 +1,317 @@
+//! What an engine answers to each thing that comes.
+
+use crate::commands::{Command, command_in};
+use crate::events::Event;
+use crate::plans::{bound_near, bound_of, time_of};
+use crate::searcher::Job;
+use crate::signals::{FOR_EVER, Signals};
+use crate::texts::{fault_line, line, move_line, push, push_count};
+use byte_streams::{InputFault, Stop};
+use chess_board::{Colour, Fen, FenFault};
+use chess_moves::Rays;
+use chess_problems::{AvoidList, Bound, Problem};
+use chess_views::look_board_text;
+use std::alloc::{AllocError, Global};
+use uci_commands::{
+    Go, PositionFault, Setting, only_these, place, read_go, read_setting, searched_moves, words_of,
+};
+
+/// How many entries a memo has at most, 10 MB.
+const MOST_ENTRIES: usize = 65_536;
+
+/// How many entries a megabyte has.
+const ENTRIES: usize = 6_553;
+
+/// How many keys may have lines of their own.
+const MOST_LINES: u64 = 64;
+
+/// A search that is made once those before it are over.
+#[derive(Drop)]
+struct Plan {
+    job: Job,
+    /// How many milliseconds it may last.
+    limit: u64,
+    /// Whether it is answered only once it was told to stop.
+    is_endless: bool,
+}
+
+/// The search that is made.
+#[derive(Drop)]
+struct Going {
+    number: u64,
+    limit: u64,
+    is_endless: bool,
+    /// Its last lines, once it is over.
+    found: Option<Vec<u8>>,
+}
+
+/// What follows from something that came.
+#[derive(Drop)]
+pub(crate) struct Reply {
+    /// What is to be written.
+    pub(crate) text: Vec<u8>,
+    /// A search to be begun.
+    pub(crate) job: Option<Job>,
+    /// Whether nothing more is to be answered.
+    pub(crate) is_last: bool,
+}
+
+/// What an engine remembers of what came.
+#[derive(Drop)]
+pub(crate) struct Talk<'a> {
+    alloc: Global,
+    rays: &'a Rays,
+    signals: &'a Signals,
+    /// The version that it gives for its own.
+    version: &'a str,
+    fen: Fen,
+    bound: Bound,
+    lines: u64,
+    entries: usize,
+    /// Whether the next search is to remember nothing.
+    is_fresh: bool,
+    /// The number of the last search.
+    number: u64,
+    plans: Vec<Plan>,
+    going: Option<Going>,
+    is_ending: bool,
+    fault: Option<InputFault>,
+}
+
+impl<'a> Talk<'a> {
+    /// Nothing came yet.
+    pub(crate) fn new(
+        alloc: Global,
+        rays: &'a Rays,
+        signals: &'a Signals,
+        version: &'a str,
+        fen: Fen,
+        bound: Bound,
+    ) -> Talk<'a> {
+        Talk {
+            alloc,
+            rays,
+            signals,
+            version,
+            fen,
+            bound,
+            lines: 1,
+            entries: MOST_ENTRIES,
+            is_fresh: false,
+            number: 0,
+            plans: Vec::new(alloc),
+            going: None,
+            is_ending: false,
+            fault: None,
+        }
+    }
+
+    /// What the engine is, and its options.
+    fn introduce(&self) -> Result<Vec<u8>, AllocError> {
+        let mut text = Vec::new(self.alloc);
+        push(&mut text, "id name matedesk ")?;
+        push(&mut text, self.version)?;
+        push(&mut text, "\nid author the matedesk authors\n")?;
+        push(
+            &mut text,
+            "option name Hash type spin default 10 min 1 max 10\n",
+        )?;
+        push(
+            &mut text,
+            "option name Bound type spin default 15 min 1 max 15\n",
+        )?;
+        push_count(
+            &mut text,
+            "option name MultiPV type spin default 1 min 1 max ",
+            MOST_LINES,
+        )?;
+        push(
+            &mut text,
+            "\noption name Ponder type check default false\nuciok\n",
+        )?;
+        Ok(text)
+    }
+
+    /// Sets an option.
+    fn set(&mut self, setting: Setting) {
+        match setting {
+            Setting::Hash(megabytes) => {
+                let megabytes = megabytes.max(1).min(10) as usize;
+                self.entries = if megabytes == 10 {
+                    MOST_ENTRIES
+                } else {
+                    ENTRIES * megabytes
+                };
+            }
+            Setting::Bound(moves) => self.bound = bound_near(moves, self.bound),
+            Setting::MultiPv(lines) => self.lines = lines.max(1).min(MOST_LINES),
+        }
+    }
+
+    /// Takes up a position; one that isn't said right is answered by its fault.
+    fn take_position(&mut self, words: &[&str]) -> Result<Vec<u8>, AllocError> {
+        match place(self.alloc, self.rays, words, &mut self.fen) {
+            Ok(()) => Ok(Vec::new(self.alloc)),
+            Err(PositionFault::Fen(fault)) => fault_line(self.alloc, fault.code()),
+            // Where no FEN is begun, there are none of its fields.
+            Err(PositionFault::NoPosition) => fault_line(self.alloc, FenFault::FieldCount.code()),
+            Err(PositionFault::NoSuchMove(number)) => move_line(self.alloc, number as u64),
+            Err(PositionFault::NoMemory) => Err(AllocError),
+        }
+    }
+
+    /// The problem that a search asks.
+    fn problem(&self, go: &Go, words: &[&str]) -> Problem {
+        let position = self.fen.position;
+        let bound = bound_of(go, self.bound);
+        let moves = searched_moves(self.rays, &position, words);
+        if !moves.is_empty() {
+            if let Some(problem) = only_these(self.rays, &position, bound, moves.as_slice()) {
+                return problem;
+            }
+        }
+        Problem {
+            position,
+            bound,
+            avoid: AvoidList::new(),
+        }
+    }
+
+    /// Plans a search. One that goes on is told to stop.
+    fn plan(&mut self, words: &[&str]) -> Result<(), AllocError> {
+        self.stop();
+        let go = read_go(words);
+        let side = self.fen.position.side();
+        self.number = self.number.saturating_add(1);
+        let plan = Plan {
+            job: Job {
+                number: self.number,
+                problem: self.problem(&go, words),
+                multi_pv: self.lines,
+                most_nodes: go.nodes.unwrap_or(u64::MAX),
+                entries: self.entries,
+                is_fresh: self.is_fresh,
+            },
+            limit: time_of(&go, side).unwrap_or(FOR_EVER),
+            is_endless: go.infinite || go.ponder,
+        };
+        self.is_fresh = false;
+        match self.plans.push(plan) {
+            Ok(()) => Ok(()),
+            Err(_) => Err(AllocError),
+        }
+    }
+
+    /// Tells all searches to stop, also those that haven't begun.
+    fn stop(&mut self) {
+        self.signals.stop(self.number);
+        if let Some(going) = &mut self.going {
+            going.is_endless = false;
+        }
+    }
+
+    /// What was expected was played: from now on the search is like any other.
+    fn ponder_hit(&mut self) {
+        if let Some(going) = &mut self.going {
+            if going.is_endless {
+                going.is_endless = false;
+                self.signals.limit_from_now(going.limit);
+            }
+        }
+    }
+
+    /// What a line is answered at once.
+    fn obey(&mut self, line_read: &[u8]) -> Result<Vec<u8>, AllocError> {
+        let nothing = Vec::new(self.alloc);
+        let Some(words) = words_of(self.alloc, line_read)? else {
+            return Ok(nothing);
+        };
+        let (command, rest) = command_in(words.as_slice());
+        match command {
+            Command::Uci => return self.introduce(),
+            Command::IsReady => return line(self.alloc, "readyok"),
+            Command::Position => return self.take_position(rest),
+            Command::Board => return look_board_text(self.alloc, &self.fen, Colour::White),
+            Command::SetOption => {
+                if let Some(setting) = read_setting(rest) {
+                    self.set(setting);
+                }
+            }
+            Command::NewGame => self.is_fresh = true,
+            Command::Go => self.plan(rest)?,
+            Command::Stop => self.stop(),
+            Command::PonderHit => self.ponder_hit(),
+            Command::Quit | Command::Unknown => {}
+        }
+        Ok(nothing)
+    }
+
+    /// Adds the last lines of a search that is over and may be answered.
+    fn release(&mut self, text: &mut Vec<u8>) -> Result<(), AllocError> {
+        let Some(going) = &mut self.going else {
+            return Ok(());
+        };
+        if going.is_endless {
+            return Ok(());
+        }
+        let Some(found) = going.found.take() else {
+            return Ok(());
+        };
+        self.going = None;
+        text.extend_from_slice(found.as_slice())
+    }
+
+    /// Begins the search that is planned next, where none is made. Where others wait behind it, it was told to stop.
+    fn begin(&mut self) -> Option<Job> {
+        if self.going.is_some() || self.plans.is_empty() {
+            return None;
+        }
+        let plan = self.plans.remove(0);
+        let is_endless = plan.is_endless && !self.signals.is_stopped(plan.job.number);
+        let limit = if is_endless { FOR_EVER } else { plan.limit };
+        self.signals.start_clock(plan.job.number, limit);
+        self.going = Some(Going {
+            number: plan.job.number,
+            limit: plan.limit,
+            is_endless,
+            found: None,
+        });
+        Some(plan.job)
+    }
+
+    /// Keeps the last lines of the search that is made.
+    fn keep(&mut self, found: Vec<u8>) {
+        self.signals.stop_clock();
+        if let Some(going) = &mut self.going {
+            going.found = Some(found);
+        }
+    }
+
+    /// Takes what came, and gives what follows.
+    pub(crate) fn take(&mut self, event: Event) -> Result<Reply, Stop> {
+        let mut text = match event {
+            Event::Line(line_read) => self.obey(line_read.as_slice())?,
+            Event::Said(said) => said,
+            Event::Refused => return Err(Stop::NoMemory),
+            Event::Found(found) => {
+                self.keep(found);
+                Vec::new(self.alloc)
+            }
+            Event::End(fault) => {
+                self.stop();
+                self.is_ending = true;
+                self.fault = fault;
+                Vec::new(self.alloc)
+            }
+        };
+        self.release(&mut text)?;
+        let job = self.begin();
+        let is_last = self.is_ending && self.going.is_none();
+        Ok(Reply { text, job, is_last })
+    }
+
+    /// Why the input gave no more, where it broke off.
+    pub(crate) fn fault(&self) -> Option<InputFault> {
+        self.fault
+    }
+}

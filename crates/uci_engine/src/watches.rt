@@ -1,0 +1,43 @@
+//! What tells a search to stop.
+
+ghost use Rattle.std.specs.Prelude.{⊤};
+
+use crate::signals::Signals;
+use mate_search::Halt;
+use std::cell::Cell;
+
+/// Watches one search: it is to stop once a signal says so, or more positions were searched than it may.
+#[derive(Drop)]
+pub(crate) struct Watch<'a> {
+    signals: &'a Signals,
+    number: u64,
+    most_nodes: u64,
+    nodes: Cell<u64>,
+}
+
+impl<'a> Watch<'a> {
+    /// Of the search of this number, which may search so many positions.
+    pub(crate) fn new(signals: &'a Signals, number: u64, most_nodes: u64) -> Watch<'a> {
+        Watch {
+            signals,
+            number,
+            most_nodes,
+            nodes: Cell::new(0),
+        }
+    }
+
+    /// How many positions were searched.
+    pub(crate) fn nodes(&self) -> u64 {
+        self.nodes.get()
+    }
+}
+
+impl Halt for Watch<'_> {
+    ghost may_stop = { λ _. ⊤ };
+
+    fn is_stopped(&self) -> bool {
+        let nodes = self.nodes.get().saturating_add(1);
+        self.nodes.set(nodes);
+        nodes > self.most_nodes || self.signals.is_stopped(self.number)
+    }
+}
