@@ -1,1 +1,4 @@
 pub mod ClaimReplies
+pub mod ListedKeys
+pub mod RowTexts
+pub mod TextBytes

@@ -2,3 +2,4 @@ pub mod Verdicts
 pub mod Rows
 pub mod Counts
 pub mod ClaimReplies
+pub mod inside

@@ -1,18 +1,23 @@
 //! What is told of a line that is held against its own claims.
 
-ghost use Rattle.std.specs.Prelude.{◌≡◌, ◌≢◌, ◌≤◌, ℕ, List, IfOk, None};
-ghost use Rattle.chess_notation.specs.Words.{words_in};
-ghost use Rattle.chess_notation.specs.Claims.{claim_words};
+ghost use Rattle.std.specs.Prelude.{◌≡◌, ◌≢◌, ◌≤◌, IfOk, None};
 ghost use Rattle.chess_notation.specs.EpdFaults.{epd_fault_name};
-ghost use Rattle.mate_claims.specs.ClaimReplies.{IsTold, ReadsClaimed};
+ghost use Rattle.chess_notation.specs.Records.{problem_of};
+ghost use Rattle.chess_problems.specs.Outcomes.{IsPlayable};
+ghost use Rattle.mate_search.specs.inside.Truth.{truth};
+ghost use Rattle.mate_claims.specs.ClaimReplies.{IsTold};
 ghost use Rattle.mate_claims.specs.Rows.{refused_row as refused_row_of};
+ghost use Rattle.mate_claims.specs.inside.RowTexts.{keys_found as keys_found_in, listed};
+ghost use Rattle.mate_claims.specs.inside.ToldRecords.{IsToldOf};
 
-use crate::rows::{record_row, refused_row};
+use crate::rows::{keys_found, keys_text, refused_row, row_of_texts, row_with_keys};
 use crate::verdicts::{Verdict, judge};
 use byte_streams::NoMemory;
-use chess_moves::Rays;
-use chess_notation::{EpdFault, Record, bound_claimed, claimed_moves, claims_text, read_record};
-use chess_problems::Bound;
+use chess_moves::{Rays, legal_listed};
+use chess_notation::{
+    EpdFault, Record, bound_claimed, claimed_moves, claims_text, names_one, read_record,
+};
+use chess_problems::{Bound, Outcome};
 use mate_search::{Memo, solve};
 use std::alloc::Global;
 
@@ -38,6 +43,63 @@ fn told_of_fault(alloc: Global, place: &[u8], fault: EpdFault) -> Result<Told, N
     })
 }
 
+/// What is told of a record by which exactly the keys that were found are claimed, as they are listed.
+fn told_of_keys(
+    alloc: Global,
+    place: &[u8],
+    record: &Record,
+    outcome: &Outcome,
+    keys: &[u8],
+) -> Result<Told, NoMemory>
+    requires truth { outcome.now ≡ truth (problem_of «record».now) }
+    requires playable { IsPlayable «record».now.position outcome.now }
+    requires keys { keys.now ≡ listed «record».now.position (keys_found_in outcome.now) }
+    ensures told { IfOk result (λ told. IsToldOf place.now «record».now keys.now told.row.items told.verdict) }
+{
+    // That these words name the keys rests on these laws.
+    legal_listed();
+    names_one();
+    let verdict = judge(record.bound, keys_found(outcome), outcome);
+    Ok(Told {
+        row: row_of_texts(alloc, place, record, verdict, outcome, keys, keys)?,
+        verdict: Some(verdict),
+    })
+}
+
+/// What is told of a record by which these words claim what they do, where the text of the keys that were found is known.
+fn told_of_words(
+    alloc: Global,
+    rays: &Rays,
+    place: &[u8],
+    record: &Record,
+    words: &[u8],
+    outcome: &Outcome,
+    keys: &[u8],
+) -> Result<Told, NoMemory>
+    requires truth { outcome.now ≡ truth (problem_of «record».now) }
+    requires keys { keys.now ≡ listed «record».now.position (keys_found_in outcome.now) }
+    ensures told { IfOk result (λ told. IsToldOf place.now «record».now words.now told.row.items told.verdict) }
+{
+    match claimed_moves(rays, &record.position, words) {
+        Ok(claimed) => Ok(Told {
+            row: row_with_keys(
+                alloc,
+                rays,
+                place,
+                record,
+                claimed.as_slice(),
+                outcome,
+                keys,
+            )?,
+            verdict: Some(judge(record.bound, claimed.as_slice(), outcome)),
+        }),
+        Err(fault) => Ok(Told {
+            row: refused_row(alloc, place, fault.code())?,
+            verdict: None,
+        }),
+    }
+}
+
 /// What is told of a record by which these words claim what they do.
 fn told_of_record(
     alloc: Global,
@@ -47,25 +109,19 @@ fn told_of_record(
     words: &[u8],
     memo: &mut Memo,
 ) -> Result<Told, NoMemory>
-    ensures told { IfOk result (λ told. (line : List ℕ) (default : ℕ) → ReadsClaimed line default «record».now → words_in words.now ≡ claim_words line
-        → IsTold place.now default line told.row.items told.verdict) }
+    ensures told { IfOk result (λ told. IsToldOf place.now «record».now words.now told.row.items told.verdict) }
     ensures room { memo.new.room ≡ memo.old.room }
     ensures within { memo.new.kept ≤ memo.new.room }
 {
     // That a memo keeps no more than it has room for is this call's clause.
     memo.len();
-    match claimed_moves(rays, &record.position, words) {
-        Ok(claimed) => {
-            let outcome = solve(rays, &record.problem(), memo);
-            Ok(Told {
-                row: record_row(alloc, rays, place, record, claimed.as_slice(), &outcome)?,
-                verdict: Some(judge(record.bound, claimed.as_slice(), &outcome)),
-            })
-        }
-        Err(fault) => Ok(Told {
-            row: refused_row(alloc, place, fault.code())?,
-            verdict: None,
-        }),
+    let outcome = solve(rays, &record.problem(), memo);
+    let keys = keys_text(alloc, rays, &record.position, &outcome)?;
+    // Most records claim their keys as they are listed. The others are read word by word.
+    if words == keys.as_bytes() {
+        told_of_keys(alloc, place, record, &outcome, words)
+    } else {
+        told_of_words(alloc, rays, place, record, words, &outcome, keys.as_bytes())
     }
 }
 

@@ -1,12 +1,13 @@
 //! The row of a line: seven fields, parted by tabs.
 
-ghost use Rattle.std.specs.Prelude.{◌≡◌, ◌++◌, IfOk, OnOk, codes, drop};
+ghost use Rattle.std.specs.Prelude.{◌≡◌, ◌++◌, IfOk, OnOk, codes, drop, string_bytes};
 ghost use Rattle.chess_notation.specs.Opcodes.{operands_under};
 ghost use Rattle.chess_problems.specs.Outcomes.{AreLegal, IsPlayable};
-ghost use Rattle.mate_claims.specs.Rows.{or_hyphen as text_or_hyphen, field, moves_field, length_field, found_field, keys_field};
+ghost use Rattle.mate_claims.specs.Rows.{or_hyphen as text_or_hyphen, field, length_field, found_field};
 ghost use Rattle.mate_claims.specs.Rows.{unquoted, record_row as record_row_of, refused_row as refused_row_of};
+ghost use Rattle.mate_claims.specs.inside.RowTexts.{keys_found as keys_found_in, listed, row_of_texts as row_with_texts};
 
-use crate::verdicts::judge;
+use crate::verdicts::{Verdict, judge};
 use byte_streams::NoMemory;
 use chess_board::{Move, Position};
 use chess_moves::Rays;
@@ -62,41 +63,28 @@ fn push_found(alloc: Global, row: &mut Vec<u8>, outcome: &Outcome) -> Result<(),
     }
 }
 
-/// Adds moves of one position.
-fn push_moves(
-    alloc: Global,
-    row: &mut Vec<u8>,
-    rays: &Rays,
-    position: &Position,
-    moves: &[Move],
-) -> Result<(), NoMemory>
-    requires { AreLegal position.now moves.now }
-    ensures { OnOk result (row.new.items ≡ row.old.items ++ moves_field position.now moves.now) }
+/// The keys that were found.
+pub(crate) fn keys_found(outcome: &Outcome) -> &[Move]
+    ensures { result.now ≡ keys_found_in outcome.now }
 {
-    let listed = listed_text(alloc, rays, position, moves)?;
-    push_field(row, without_first(listed.as_bytes()))?;
-    Ok(())
+    match outcome {
+        Outcome::Mate { keys, .. } => keys.as_slice(),
+        Outcome::NoMate => &[],
+    }
 }
 
-/// Adds the keys that were found.
+/// The text of the keys that were found, each behind a space.
 #[tactic(auto, unfolding(chess_problems::specs::Outcomes::IsPlayable))]
-fn push_keys(
+pub(crate) fn keys_text(
     alloc: Global,
-    row: &mut Vec<u8>,
     rays: &Rays,
     position: &Position,
     outcome: &Outcome,
-) -> Result<(), NoMemory>
+) -> Result<String, NoMemory>
     requires { IsPlayable position.now outcome.now }
-    ensures { OnOk result (row.new.items ≡ row.old.items ++ keys_field position.now outcome.now) }
+    ensures { IfOk result (λ text. string_bytes text ≡ listed position.now (keys_found_in outcome.now)) }
 {
-    match outcome {
-        Outcome::Mate { keys, .. } => push_moves(alloc, row, rays, position, keys.as_slice()),
-        Outcome::NoMate => {
-            push_field(row, b"")?;
-            Ok(())
-        }
-    }
+    listed_text(alloc, rays, position, keys_found(outcome))
 }
 
 /// Operands of which each stands behind a space, without the first space and the quotation marks.
@@ -120,10 +108,60 @@ fn push_id(alloc: Global, row: &mut Vec<u8>, operations: &[Operation]) -> Result
     push_field(row, text.as_slice())
 }
 
+/// The row of a record with these texts of its keys and of the moves claimed: in each a move stands behind a space.
+#[tactic(auto, unfolding(crate::specs::inside::RowTexts::row_of_texts))]
+pub(crate) fn row_of_texts(
+    alloc: Global,
+    place: &[u8],
+    record: &Record,
+    verdict: Verdict,
+    outcome: &Outcome,
+    keys: &[u8],
+    claimed: &[u8],
+) -> Result<Vec<u8>, AllocError>
+    ensures { IfOk result (λ row. row.items ≡ row_with_texts place.now «record».now verdict outcome.now keys.now claimed.now) }
+{
+    let mut row = Vec::from_slice(alloc, place)?;
+    push_field(&mut row, verdict.code().as_bytes())?;
+    push_length(alloc, &mut row, record.bound)?;
+    push_found(alloc, &mut row, outcome)?;
+    push_field(&mut row, without_first(keys))?;
+    push_field(&mut row, without_first(claimed))?;
+    push_id(alloc, &mut row, record.rest.as_slice())?;
+    row.extend_from_slice(b"\n")?;
+    Ok(row)
+}
+
+/// The row of a record by which these moves are claimed, where the text of the keys is known.
+pub(crate) fn row_with_keys(
+    alloc: Global,
+    rays: &Rays,
+    place: &[u8],
+    record: &Record,
+    claimed: &[Move],
+    outcome: &Outcome,
+    keys: &[u8],
+) -> Result<Vec<u8>, NoMemory>
+    requires claimed { AreLegal «record».now.position claimed.now }
+    requires keys { keys.now ≡ listed «record».now.position (keys_found_in outcome.now) }
+    ensures { IfOk result (λ row. row.items ≡ record_row_of place.now «record».now claimed.now outcome.now) }
+{
+    let verdict = judge(record.bound, claimed, outcome);
+    let claimed_text = listed_text(alloc, rays, &record.position, claimed)?;
+    Ok(row_of_texts(
+        alloc,
+        place,
+        record,
+        verdict,
+        outcome,
+        keys,
+        claimed_text.as_bytes(),
+    )?)
+}
+
 /// The row of a record by which these moves are claimed, with a newline: the place of its line, the verdict, the numbers of moves
 /// asked for and found, the keys and the moves claimed as `bm` of an answer lists them, and the operands of `id`. Only a growth that
 /// is refused is an error.
-#[tactic(auto, unfolding(crate::specs::Rows::record_row))]
 pub fn record_row(
     alloc: Global,
     rays: &Rays,
@@ -136,16 +174,16 @@ pub fn record_row(
     requires found { IsPlayable «record».now.position outcome.now }
     ensures { IfOk result (λ row. row.items ≡ record_row_of place.now «record».now claimed.now outcome.now) }
 {
-    let mut row = Vec::from_slice(alloc, place)?;
-    let verdict = judge(record.bound, claimed, outcome);
-    push_field(&mut row, verdict.code().as_bytes())?;
-    push_length(alloc, &mut row, record.bound)?;
-    push_found(alloc, &mut row, outcome)?;
-    push_keys(alloc, &mut row, rays, &record.position, outcome)?;
-    push_moves(alloc, &mut row, rays, &record.position, claimed)?;
-    push_id(alloc, &mut row, record.rest.as_slice())?;
-    row.extend_from_slice(b"\n")?;
-    Ok(row)
+    let keys = keys_text(alloc, rays, &record.position, outcome)?;
+    row_with_keys(
+        alloc,
+        rays,
+        place,
+        record,
+        claimed,
+        outcome,
+        keys.as_bytes(),
+    )
 }
 
 /// The row of a line that is refused, with a newline: its place and the fault's name.
