@@ -8,7 +8,7 @@ _matedesk() {
     COMPREPLY=()
     if ((COMP_CWORD == 1)); then
         options='-h --help -V --version'
-        [[ $word == -* ]] || options='solve verify tree serve replay uci look play moves perft explain sheet import'
+        [[ $word == -* ]] || options='solve verify tree import serve replay uci look play moves perft explain sheet'
         mapfile -t COMPREPLY < <(compgen -W "$options" -- "$word")
         return
     fi

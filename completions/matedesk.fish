@@ -1,6 +1,6 @@
 # Completions of matedesk for fish: commands, options, the values of --bound, --moves, --workers and DEPTH, codes, and files. A FEN has none.
 
-set -l commands solve verify tree serve replay uci look play moves perft explain sheet import
+set -l commands solve verify tree import serve replay uci look play moves perft explain sheet
 
 complete -c matedesk -f
 complete -c matedesk -s h -l help -d 'Print help'

@@ -55,7 +55,7 @@ fn all_faults_are_listed(rt: HostRuntime) -> Result<(), Fail> {
             .iter()
             .filter(|byte| **byte == b'\n')
             .count(),
-        35
+        40
     );
     Ok(())
 }

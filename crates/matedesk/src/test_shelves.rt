@@ -74,7 +74,7 @@ pub struct Ending {
 }
 
 /// Runs the words after the program's name where there are such files, with writers that take so many calls.
-pub fn run_with<R: Threads + Wait + Sync + AllocGlobal>(
+pub fn run_with<R: Threads + Wait + Sync + Clone + Drop + Send + AllocGlobal + 'static>(
     rt: &R,
     shelf: &Shelf,
     words: &[&str],

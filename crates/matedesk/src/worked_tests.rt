@@ -77,7 +77,10 @@ fn serve_words(alloc: Global) -> Result<[String; 6], AllocError>
 }
 
 /// What `look` writes, where it answers.
-fn look_written<R: Threads + Wait + Sync>(rt: &R, alloc: Global) -> Option<Vec<u8>>
+fn look_written<R: Threads + Wait + Sync + Clone + Drop + Send + 'static>(
+    rt: &R,
+    alloc: Global,
+) -> Option<Vec<u8>>
     ensures { IfSome result (λ out. out.items ≡ codes "k7/8/8/8/8/8/8/7K w - - 0 1\nno check\n") }
 {
     spells_one();
@@ -91,7 +94,10 @@ fn look_written<R: Threads + Wait + Sync>(rt: &R, alloc: Global) -> Option<Vec<u
 }
 
 /// What `solve` writes, where it answers.
-fn solve_written<R: Threads + Wait + Sync>(rt: &R, alloc: Global) -> Option<Vec<u8>>
+fn solve_written<R: Threads + Wait + Sync + Clone + Drop + Send + 'static>(
+    rt: &R,
+    alloc: Global,
+) -> Option<Vec<u8>>
     ensures { IfSome result (λ out. out.items ≡ codes "# line 1: Fen FieldCount\n# line 2: Fen FieldCount\n") }
 {
     records_clear();
@@ -105,7 +111,10 @@ fn solve_written<R: Threads + Wait + Sync>(rt: &R, alloc: Global) -> Option<Vec<
 }
 
 /// What `serve` writes, where it answers.
-fn serve_written<R: Threads + Wait + Sync>(rt: &R, alloc: Global) -> Option<Vec<u8>>
+fn serve_written<R: Threads + Wait + Sync + Clone + Drop + Send + 'static>(
+    rt: &R,
+    alloc: Global,
+) -> Option<Vec<u8>>
     ensures { IfSome result (λ out. out.items ≡ codes "# line 1: Fen FieldCount\n# line 2: Fen FieldCount\n") }
 {
     records_clear();

@@ -1,3 +1,4 @@
 pub mod MovesKept
 pub mod NumberValues
 pub mod SpaceCuts
+pub mod WordTexts

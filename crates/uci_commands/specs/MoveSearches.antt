@@ -11,6 +11,10 @@ use Rattle.uci_commands.specs.Marks.{says}
 unfoldable pub moves_said : Setup → List (List ℕ) → List Move
 moves_said p words = filter (λ m. says (move_text m) words) (legal_moves p)
 
+-- how many moves a problem can avoid
+abbrev pub max_avoided : ℕ
+max_avoided = 341
+
 -- the legal moves that are none of these
 unfoldable pub all_but : Setup → List Move → List Move
 all_but p moves = filter (λ m. not (list_any (is_same_move m) moves)) (legal_moves p)

@@ -1,6 +1,8 @@
 //! The words of a line.
 
-ghost use Rattle.std.specs.Prelude.{◌≡◌, ◌<◌, IfNone, IfOk, IfSome, [], ◌∷◌, ◌++◌, filter, length, map, true};
+ghost use Rattle.std.specs.Prelude.{◌≡◌, ◌<◌, IfNone, IfOk, IfSome, [], ◌∷◌, ◌++◌, false, filter, length, map, true};
+ghost use Rattle.std.specs.List.{list_all};
+ghost use Rattle.std.specs.Str.{is_utf8};
 ghost use Rattle.chess_notation.specs.Words.{words_in};
 ghost use Rattle.uci_commands.specs.inside.LineWords.{HasNoSpace, is_some_word, parts_of};
 
@@ -33,8 +35,10 @@ fn first_part(text: &[u8]) -> Option<(&[u8], &[u8])>
 
 /// Adds a word, where it is not empty. It answers whether that is a text in UTF-8.
 fn push_word<'a>(words: &mut Vec<&'a str>, word: &'a [u8]) -> Result<bool, AllocError>
-    ensures { IfOk result (λ is_text. is_text ≡ true
+    ensures added { IfOk result (λ is_text. is_text ≡ true
         → map (λ s. s.now) words.new.items ≡ map (λ s. s.now) words.old.items ++ filter is_some_word (word.now ∷ [])) }
+    ensures refused { IfOk result (λ is_text. is_text ≡ false → is_utf8 word.now ≡ false) }
+    ensures kept { IfOk result (λ is_text. is_text ≡ false → map (λ s. s.now) words.new.items ≡ map (λ s. s.now) words.old.items) }
 {
     if word.is_empty() {
         return Ok(true);
@@ -49,7 +53,8 @@ fn push_word<'a>(words: &mut Vec<&'a str>, word: &'a [u8]) -> Result<bool, Alloc
 /// The words of a line, which stand between its spaces; none where one of them is no text in UTF-8.
 #[tactic(auto, unfolding(chess_notation::specs::Words::words_in))]
 pub fn words_of<'a>(alloc: Global, line: &'a [u8]) -> Result<Option<Vec<&'a str>>, AllocError>
-    ensures { IfOk result (λ all. IfSome all (λ words. map (λ s. s.now) words.items ≡ words_in line.entry.now)) }
+    ensures words { IfOk result (λ all. IfSome all (λ words. map (λ s. s.now) words.items ≡ words_in line.entry.now)) }
+    ensures none { IfOk result (λ all. IfNone all (list_all is_utf8 (words_in line.entry.now) ≡ false)) }
 {
     let mut words = Vec::new(alloc);
     let mut rest = line;

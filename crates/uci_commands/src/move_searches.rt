@@ -1,12 +1,12 @@
 //! The moves that a search is kept to, and the problem that it asks then.
 
-ghost use Rattle.std.specs.Prelude.{◌≡◌, IfSome, codes, map};
+ghost use Rattle.std.specs.Prelude.{◌≡◌, ◌<◌, IfNone, IfSome, codes, length, map};
 ghost use Rattle.std.specs.List.{list_any};
 ghost use Rattle.chess_board.specs.Moves.{move_text};
 ghost use Rattle.chess_moves.specs.Laws.{IsRising};
 ghost use Rattle.chess_problems.specs.SameProblems.{is_same_move as are_one};
 ghost use Rattle.uci_commands.specs.Marks.{behind as words_behind, says as does_say};
-ghost use Rattle.uci_commands.specs.MoveSearches.{all_but, moves_said};
+ghost use Rattle.uci_commands.specs.MoveSearches.{all_but, max_avoided, moves_said};
 
 use crate::marks::{behind, says};
 use chess_board::{Move, Position};
@@ -49,9 +49,10 @@ fn is_among(m: Move, moves: &[Move]) -> bool
 }
 
 /// The legal moves that are none of these; none where there are more than a problem can avoid.
-#[tactic(auto, unfolding(crate::specs::MoveSearches::all_but), using(crate::proofs::MovesKept::kept_more, crate::proofs::MovesKept::left_out))]
+#[tactic(auto, unfolding(crate::specs::MoveSearches::all_but), using(crate::proofs::MovesKept::kept_more, crate::proofs::MovesKept::left_out, crate::proofs::MovesKept::no_room))]
 fn all_but(rays: &Rays, position: &Position, moves: &[Move]) -> Option<AvoidList>
-    ensures { IfSome result (λ avoid. avoid.items ≡ all_but position.now moves.now) }
+    ensures some { IfSome result (λ avoid. avoid.items ≡ all_but position.now moves.now) }
+    ensures none { IfNone result (max_avoided < length (all_but position.now moves.now)) }
 {
     let mut avoid = AvoidList::new();
     for m in legal(rays, position).as_slice() {
@@ -69,7 +70,9 @@ fn all_but(rays: &Rays, position: &Position, moves: &[Move]) -> Option<AvoidList
 /// problem can avoid.
 #[tactic(auto, using(crate::proofs::MovesKept::rest_rises))]
 pub fn only_these(rays: &Rays, position: &Position, bound: Bound, moves: &[Move]) -> Option<Problem>
-    ensures { IfSome result (λ problem. problem ≡ record { position = position.now; bound = bound; avoid = all_but position.now moves.now }) }
+    ensures some { IfSome result
+        (λ problem. problem ≡ record { position = position.now; bound = bound; avoid = all_but position.now moves.now }) }
+    ensures none { IfNone result (max_avoided < length (all_but position.now moves.now)) }
 {
     // That they rise rests on this law.
     legal_rise();

@@ -1,7 +1,7 @@
 //! The position that a command says.
 
-ghost use Rattle.std.specs.Prelude.{◌≡◌, IfErr, IfOk, IfSome, OnErr, OnOk, map, option_map};
-ghost use Rattle.chess_board.specs.Fens.{Spells};
+ghost use Rattle.std.specs.Prelude.{◌≡◌, ◌↔◌, IfErr, IfOk, OnErr, OnOk, Some, map, option_map};
+ghost use Rattle.chess_board.specs.Fens.{FenValue, Spells};
 ghost use Rattle.chess_board.specs.Soundness.{IsSound};
 ghost use Rattle.uci_commands.specs.PositionCommands.{IsPositionFault, Leads, fen_said, spelt, start_text};
 ghost use Rattle.uci_commands.specs.declared.position_commands.PositionFault.TheVariants.{NoMemory};
@@ -106,7 +106,7 @@ pub fn place(alloc: Global, rays: &Rays, words: &[&str], fen: &mut Fen) -> Resul
 
 /// The FEN of the position in which a game begins. It is always there.
 pub fn start_fen() -> Option<Fen>
-    ensures { IfSome result (λ fen. Spells start_text fen × IsSound fen.position) }
+    ensures { (fen : FenValue) → (result ≡ Some fen) ↔ (Spells start_text fen × IsSound fen.position) }
 {
     read_fen(START).ok()
 }
