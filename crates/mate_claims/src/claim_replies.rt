@@ -1,6 +1,8 @@
 //! What is told of a line that is held against its own claims.
 
 ghost use Rattle.std.specs.Prelude.{◌≡◌, ◌≢◌, ◌≤◌, IfOk, None};
+ghost use Rattle.chess_notation.specs.Words.{words_in};
+ghost use Rattle.chess_notation.specs.Claims.{claims_fault};
 ghost use Rattle.chess_notation.specs.EpdFaults.{epd_fault_name};
 ghost use Rattle.chess_notation.specs.Records.{problem_of};
 ghost use Rattle.chess_problems.specs.Outcomes.{IsPlayable};
@@ -13,9 +15,10 @@ ghost use Rattle.mate_claims.specs.inside.ToldRecords.{IsToldOf};
 use crate::rows::{keys_found, keys_text, refused_row, row_of_texts, row_with_keys};
 use crate::verdicts::{Verdict, judge};
 use byte_streams::NoMemory;
+use chess_board::Position;
 use chess_moves::{Rays, legal_listed};
 use chess_notation::{
-    EpdFault, Record, bound_claimed, claimed_moves, claims_text, names_one, read_record,
+    ClaimFault, EpdFault, Record, bound_claimed, claimed_moves, claims_text, names_one, read_record,
 };
 use chess_problems::{Bound, Outcome};
 use mate_search::{Memo, solve};
@@ -100,6 +103,18 @@ fn told_of_words(
     }
 }
 
+/// The first fault of what these words claim. It stands by itself, so that the moves that are claimed take no room where a problem is
+/// solved.
+#[inline(never)]
+fn fault_of_claims(rays: &Rays, position: &Position, words: &[u8]) -> Option<ClaimFault>
+    ensures { result ≡ claims_fault position.now (words_in words.now) }
+{
+    match claimed_moves(rays, position, words) {
+        Ok(_) => None,
+        Err(fault) => Some(fault),
+    }
+}
+
 /// What is told of a record by which these words claim what they do.
 fn told_of_record(
     alloc: Global,
@@ -115,6 +130,15 @@ fn told_of_record(
 {
     // That a memo keeps no more than it has room for is this call's clause.
     memo.len();
+    // A fault is told before a search that may be long.
+    if 2 < record.bound.get() {
+        if let Some(fault) = fault_of_claims(rays, &record.position, words) {
+            return Ok(Told {
+                row: refused_row(alloc, place, fault.code())?,
+                verdict: None,
+            });
+        }
+    }
     let outcome = solve(rays, &record.problem(), memo);
     let keys = keys_text(alloc, rays, &record.position, &outcome)?;
     // Most records claim their keys as they are listed. The others are read word by word.
