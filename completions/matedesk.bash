@@ -15,12 +15,12 @@ _matedesk() {
     # With --lines it is another command.
     [[ $command != @(look|moves|perft) || " ${COMP_WORDS[*]:2:COMP_CWORD - 2} " != *' --lines '* ]] || command+=' --lines'
     case $command in
-    solve) options='--bound --memo --limit --from -h --help' ;;
-    verify) options='--bound --memo --from -h --help' ;;
-    tree) options='--bound --moves --set-play --tries --lines --from -h --help' ;;
+    solve) options='--bound --memo --limit --from --progress -h --help' ;;
+    verify) options='--bound --memo --from --progress -h --help' ;;
+    tree) options='--bound --moves --set-play --tries --lines --from --progress -h --help' ;;
     sheet) options='--solutions --figurines --title --bound --memo -h --help' ;;
     import) options='--keep -h --help' ;;
-    serve) options='--workers --bound --memo -h --help' ;;
+    serve) options='--workers --bound --memo --progress -h --help' ;;
     look) options='--board --flip --svg --lines -h --help' ;;
     moves) options='--coordinates --fen --lines -h --help' ;;
     perft) options='--divide --lines -h --help' ;;

@@ -33,6 +33,7 @@ _matedesk() {
                 '--memo=[positions that are remembered]:positions: ' \
                 '--limit=[seconds that a record may take]:seconds: ' \
                 '--from=[line of the first file to begin with]:line: ' \
+                '--progress[tell how far it is]' \
                 '*:file of records:_files'
             ;;
         verify)
@@ -40,6 +41,7 @@ _matedesk() {
                 '--bound=[moves within which a record without dm asks for mate]:bound:(1 2 3 4 5 6 7 8 9 10 11 12 13 14 15)' \
                 '--memo=[positions that are remembered]:positions: ' \
                 '--from=[line of the first file to begin with]:line: ' \
+                '--progress[tell how far it is]' \
                 '*:file of records:_files'
             ;;
         tree)
@@ -50,6 +52,7 @@ _matedesk() {
                 '--tries[show the first moves that one reply alone refutes]' \
                 '--lines=[lines that a tree has at most]:lines: ' \
                 '--from=[line of the first file to begin with]:line: ' \
+                '--progress[tell how far it is]' \
                 '*:file of records:_files'
             ;;
         sheet)
@@ -67,6 +70,7 @@ _matedesk() {
                 '--workers=[threads that solve]:workers:(1 2 3 4 5 6 7 8 9 10 11 12 13 14 15 16)' \
                 '--bound=[moves within which a record without dm asks for mate]:bound:(1 2 3 4 5 6 7 8 9 10 11 12 13 14 15)' \
                 '--memo=[positions that each worker remembers]:positions: ' \
+                '--progress[tell how far it is]' \
                 '*:file of records:_files'
             ;;
         replay) _arguments $help '1:script:_files' ;;

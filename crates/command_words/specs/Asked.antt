@@ -224,6 +224,10 @@ asks_threads (Some asks) = is_threaded asks
 abbrev pub asked_of : ArgMatches → Option Asked
 asked_of m = option_and_then (λ p. asked_by p.0 p.1) (subcommand_rows_of m)
 
+-- whether matches of a whole command line ask to be told how far the command is
+abbrev pub progress_of : ArgMatches → Bool
+progress_of m = option_map_or (λ p. is_given (codes "progress") p.1) (subcommand_rows_of m) false
+
 abbrev pub unless_faulty : Kinds → Option Asked → Option Asked
 unless_faulty [] asks = asks
 unless_faulty (fault ∷ faults) asks = None

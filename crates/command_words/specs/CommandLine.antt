@@ -84,9 +84,13 @@ files_rule = record (wanted (codes "FILE")) { range = Some (record { start_inclu
 abbrev pub with_solving_options : App → Text → App
 with_solving_options a default = with_rule (with_rule a bound_rule) (memo_rule default)
 
--- with what is read line by line: files, and the number of the line that is the first to be answered
+-- whether it is told how far the command is
+abbrev pub progress_rule : Rule
+progress_rule = flag_rule (codes "progress")
+
+-- with what is read line by line: files, the number of the line that is the first to be answered, and whether it is told how far that is
 abbrev pub with_lines_of_files : App → App
-with_lines_of_files a = with_rule (with_rule a from_rule) files_rule
+with_lines_of_files a = with_rule (with_rule (with_rule a from_rule) progress_rule) files_rule
 
 abbrev pub solve_app : App
 solve_app = with_lines_of_files (with_rule (with_solving_options (new_app (codes "solve")) (codes "65536")) limit_rule)
@@ -118,7 +122,9 @@ abbrev pub import_app : App
 import_app = with_rule (with_rule (new_app (codes "import")) (flag_rule (codes "keep"))) files_rule
 
 abbrev pub serve_app : App
-serve_app = with_rule (with_solving_options (with_rule (new_app (codes "serve")) workers_rule) (codes "16384")) files_rule
+serve_app =
+    with_rule (with_rule (with_solving_options (with_rule (new_app (codes "serve")) workers_rule) (codes "16384")) progress_rule)
+    files_rule
 
 abbrev pub look_app : App
 look_app =

@@ -4,7 +4,7 @@ ghost use Rattle.std.specs.Prelude.{◌≡◌, IfOk, codes, false};
 ghost use Rattle.clap.specs.Words.{app_of, new_rule, rule_of, with_rule, with_subcommand};
 ghost use Rattle.command_words.specs.CommandLine.{IsLocal, bare_app, bound_rule, depth_rule, desk_app, explain_app, files_rule};
 ghost use Rattle.command_words.specs.CommandLine.{flag_rule, from_rule, import_app, limit_rule, look_app, look_lines_app, memo_rule, most_lines_rule, moves_app};
-ghost use Rattle.command_words.specs.CommandLine.{moves_lines_app, moves_rule, perft_app, perft_lines_app, play_app, replay_app};
+ghost use Rattle.command_words.specs.CommandLine.{moves_lines_app, moves_rule, perft_app, perft_lines_app, play_app, progress_rule, replay_app};
 ghost use Rattle.command_words.specs.CommandLine.{serve_app, sheet_app, shown_rule, solve_app, title_rule, tree_app, uci_app, verify_app};
 ghost use Rattle.command_words.specs.CommandLine.{wanted, with_desk_apps, with_fen_apps, with_line_apps, with_lines_of_files};
 ghost use Rattle.command_words.specs.CommandLine.{with_other_apps, with_page_apps, with_problem_apps, with_record_apps, with_sheet_flags, with_sheet_options};
@@ -15,12 +15,12 @@ use crate::help::{
     ABOUT_EXPLAIN, ABOUT_FEN, ABOUT_FENS, ABOUT_FIGURINES, ABOUT_FILE, ABOUT_FLIP, ABOUT_FROM,
     ABOUT_IMPORT, ABOUT_KEEP, ABOUT_LIMIT, ABOUT_LOOK, ABOUT_LOOK_LINES, ABOUT_MEMO, ABOUT_MEMOS,
     ABOUT_MOST_LINES, ABOUT_MOVE, ABOUT_MOVES, ABOUT_MOVES_LINES, ABOUT_PERFT, ABOUT_PERFT_LINES,
-    ABOUT_PLAY, ABOUT_POSITIONS, ABOUT_REPLAY, ABOUT_SCRIPT, ABOUT_SERVE, ABOUT_SET_PLAY,
+    ABOUT_PLAY, ABOUT_POSITIONS, ABOUT_PROGRESS, ABOUT_REPLAY, ABOUT_SCRIPT, ABOUT_SERVE, ABOUT_SET_PLAY,
     ABOUT_SHEET, ABOUT_SHOWN, ABOUT_SOLUTIONS, ABOUT_SOLVE, ABOUT_SVG, ABOUT_TITLE, ABOUT_TREE,
     ABOUT_TRIES, ABOUT_UCI, ABOUT_VERIFY, ABOUT_WORKERS, AFTER_EXPLAIN, AFTER_HELP, AFTER_IMPORT,
     AFTER_LOOK, AFTER_LOOK_LINES, AFTER_MOVES, AFTER_MOVES_LINES, AFTER_PERFT, AFTER_PERFT_LINES,
     AFTER_PLAY, AFTER_REPLAY, AFTER_SERVE, AFTER_SHEET, AFTER_SOLVE, AFTER_TREE, AFTER_UCI,
-    AFTER_VERIFY, VERSION,
+    AFTER_VERIFY, VERSION_AND_KIT,
 };
 use clap::{Arg, ArgAction, Command, value_parser};
 use std::alloc::{AllocError, Global};
@@ -131,6 +131,14 @@ fn flag_arg<'a>(alloc: Global, name: &'a str, help: &'a str) -> Arg<'a>
         .help(help)
 }
 
+/// Whether it is told how far the command is.
+fn progress_arg<'a>(alloc: Global) -> Arg<'a>
+    ensures rule { rule_of result ≡ progress_rule }
+    ensures local { result.global ≡ false }
+{
+    flag_arg(alloc, "progress", ABOUT_PROGRESS)
+}
+
 /// The title of a page.
 fn title_arg<'a>(alloc: Global) -> Arg<'a>
     ensures rule { rule_of result ≡ title_rule }
@@ -212,12 +220,13 @@ fn with_args<'a>(
     with_arg(command, second)
 }
 
-/// Adds what is read line by line: files, and the line that is the first to be answered.
+/// Adds what is read line by line: files, the line that is the first to be answered, and whether it is told how far that is.
 fn with_lines_of_files<'a>(alloc: Global, command: Command<'a>) -> Result<Command<'a>, AllocError>
     requires local { IsLocal command }
     ensures { IfOk result (λ c. (app_of c ≡ with_lines_of_files (app_of command.entry)) × IsLocal c) }
 {
-    with_args(command, from_arg(alloc), files_arg(alloc, ABOUT_FILE))
+    let command = with_args(command, from_arg(alloc), progress_arg(alloc))?;
+    with_arg(command, files_arg(alloc, ABOUT_FILE))
 }
 
 fn solve_command<'a>(alloc: Global) -> Result<Command<'a>, AllocError>
@@ -311,7 +320,7 @@ fn serve_command<'a>(alloc: Global) -> Result<Command<'a>, AllocError>
         .after_help(AFTER_SERVE);
     let command = with_arg(command, workers_arg(alloc))?;
     let command = with_solving_options(alloc, command, "16384", ABOUT_MEMOS)?;
-    with_arg(command, files_arg(alloc, ABOUT_FILE))
+    with_args(command, progress_arg(alloc), files_arg(alloc, ABOUT_FILE))
 }
 
 fn replay_command<'a>(alloc: Global) -> Result<Command<'a>, AllocError>
@@ -420,7 +429,7 @@ fn bare_command<'a>(alloc: Global) -> Command<'a>
     ensures { (app_of result ≡ bare_app) × IsLocal result }
 {
     Command::new(alloc, "matedesk")
-        .version(VERSION)
+        .version(VERSION_AND_KIT)
         .about(ABOUT)
         .after_help(AFTER_HELP)
         .subcommand_required(true)

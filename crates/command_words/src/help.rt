@@ -1,7 +1,10 @@
 //! The texts that `--help` and `--version` print.
 
-/// The version of the program, which stands nowhere else.
+/// The version of the program.
 pub const VERSION: &str = "0.1.0";
+
+/// What `--version` prints behind the program's name: that version, and the kit by which it is proved and built.
+pub const VERSION_AND_KIT: &str = "0.1.0 (rattle-kit-13f)";
 
 /// What the program is.
 pub const ABOUT: &str =
@@ -66,7 +69,9 @@ bound N, the answer says `c0 \"no mate in N\"`. A line that is no record is answ
 `# line K: CODE`: K is its number in its file, and CODE names its fault. A bound of
 many moves may take longer than one can wait, and the lines behind it wait too: with
 `--limit S` a record that isn't decided within S seconds is answered
-`c0 \"not decided in S s\"`, which claims nothing, and the next one is begun.
+`c0 \"not decided in S s\"`, which claims nothing, and the next one is begun. With --progress
+standard error says which line is solved and for how long, twice a second on a terminal and
+every ten seconds elsewhere, and at the end how often there was which answer.
 
 What was found of positions is kept in a memo with room for M of them, so that it need not
 be found again. No answer depends on M: more room mostly takes less time and more memory.
@@ -420,6 +425,9 @@ pub const ABOUT_LIMIT: &str =
 /// The option `--from` in one line.
 pub const ABOUT_FROM: &str =
     "The number of the line of the first FILE that is the first to be answered, 1 to 1000000000";
+
+/// The option `--progress` in one line.
+pub const ABOUT_PROGRESS: &str = "Tell on standard error how far it is, and at the end what it came to";
 
 /// The argument FILE in one line.
 pub const ABOUT_FILE: &str = "Files of records, each answered in its place; `-` is standard input";

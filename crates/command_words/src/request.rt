@@ -8,6 +8,7 @@ ghost use Rattle.command_words.specs.Asked.{asked_by, asked_exactly, bound_in, d
 ghost use Rattle.command_words.specs.Asked.{look_lines_in, memo_size_in, moves_in, number_or_zero, perft_in, perft_lines_in, play_in};
 ghost use Rattle.command_words.specs.Asked.{side_in, workers_in, serve_in, solve_in, some_number, tree_form_in, tree_in, verify_in};
 ghost use Rattle.command_words.specs.Asked.{sheet_form_in, sheet_in, import_in, asked_of, asks_display_exactly, is_display, may_display_exactly};
+ghost use Rattle.command_words.specs.Asked.{progress_of};
 ghost use Rattle.command_words.specs.Request.{plan_of};
 
 use crate::command_line::desk_command;
@@ -467,6 +468,16 @@ pub fn request_of<'m, 'a>(matches: &'m ArgMatches<'a>) -> Option<Request<'m, 'a>
 {
     let (name, inner) = matches.subcommand()?;
     request_by(name, inner)
+}
+
+/// Whether the matches of the whole command line ask to be told how far the command is, which changes nothing of what it answers.
+pub fn asks_progress(matches: &ArgMatches) -> bool
+    ensures { result ≡ progress_of matches.now }
+{
+    match matches.subcommand() {
+        Some((_, inner)) => is_given(inner, "progress"),
+        None => false,
+    }
 }
 
 /// Parses the words of a command line. A request for help or for the version is an `Err`.

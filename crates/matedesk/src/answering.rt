@@ -5,11 +5,14 @@ ghost use Rattle.std.specs.String.{string_bytes};
 ghost use Rattle.command_words.specs.Asked.{asked, asks_display, asks_threads, may_display};
 ghost use Rattle.plain_commands.specs.Command.{Ends};
 
+use crate::console::Console;
 use crate::limiting::solve_in_time;
+use crate::progress_thread::Telling;
 use crate::serving::serve;
 use crate::talking::talk;
-use command_words::{Request, escaped, parse, request_of};
-use plain_commands::{Source, ends_by_status, limited_none, no_memory, plain_command};
+use crate::watched_files::WatchedFiles;
+use command_words::{Request, asks_progress, escaped, parse, request_of};
+use plain_commands::{Source, complain, ends_by_status, limited_none, no_memory, plain_command};
 use std::alloc::Global;
 use std::io::Write;
 use std::sync::Wait;
@@ -18,7 +21,7 @@ use std::thread::Threads;
 /// Answers words that ask for `serve`, `uci` or `solve --limit`. That they were parsed before shows that they are no fault: what is refused now is memory.
 fn threaded_command<
     R: Threads + Wait + Sync + Clone + Drop + Send + 'static,
-    S: Source,
+    S: Source + Sync,
     O: Write,
     E: Write,
 >(rt: &R, alloc: Global, words: &[String], source: &S, out: &mut O, err: &mut E) -> u8
@@ -49,13 +52,10 @@ where
     }
 }
 
-/// The program: answers what the words ask for, of which the first is the program's own name. It reads files from `source`. Only
-/// `serve`, `uci` and `solve --limit` start threads, and wait for them.
-///
-/// A fault of `err` is passed over and changes no status.
-pub fn command<
+/// Answers what the words ask for.
+fn answer<
     R: Threads + Wait + Sync + Clone + Drop + Send + 'static,
-    S: Source,
+    S: Source + Sync,
     O: Write,
     E: Write,
 >(rt: &R, alloc: Global, words: &[String], source: &S, out: &mut O, err: &mut E) -> u8
@@ -69,5 +69,56 @@ where
     match plain_command(alloc, words, source, out, err) {
         Some(status) => status,
         None => threaded_command(rt, alloc, words, source, out, err),
+    }
+}
+
+/// Whether the words ask to be told how far the command is.
+fn are_told(alloc: Global, words: &[String]) -> bool {
+    if !words.iter().any(|word| word.as_str() == "--progress") {
+        return false;
+    }
+    let Ok(texts) = escaped(alloc, words) else {
+        return false;
+    };
+    match parse(alloc, texts.as_slice()) {
+        Ok(matches) => asks_progress(&matches),
+        Err(_) => false,
+    }
+}
+
+/// The program: answers what the words ask for, of which the first is the program's own name. It reads files from `source`. Only
+/// `serve`, `uci`, `solve --limit` and what has `--progress` start threads, and wait for them.
+///
+/// A fault of `err` is passed over and changes no status. So does one of the thread that tells on standard error how far the command is.
+pub fn command<
+    R: Threads + Wait + Console + Sync + Clone + Drop + Send + 'static,
+    S: Source + Sync,
+    O: Write,
+    E: Write,
+>(rt: &R, alloc: Global, words: &[String], source: &S, out: &mut O, err: &mut E) -> u8
+where
+    S::File: Send,
+    ensures ends { Ends (S.holds source.now) (S.refuses source.now) (asked (map string_bytes words.now)) result
+        (O.contents out.old) (O.contents out.new) }
+    ensures display { (result ≡ 0) ⊎ (result ≡ 4) → asked (map string_bytes words.now) ≡ None → may_display (map string_bytes words.now) ≡ true }
+    ensures no_misuse { result ≡ 2 → asks_display (map string_bytes words.now) ≡ false }
+{
+    if !are_told(alloc, words) {
+        return answer(rt, alloc, words, source, out, err);
+    }
+    match Telling::start(rt, alloc, words) {
+        Some(telling) => {
+            let files = WatchedFiles {
+                source,
+                progress: &*telling.progress,
+            };
+            let status = answer(rt, alloc, words, &files, out, err);
+            telling.end(rt, alloc, status, err);
+            status
+        }
+        None => {
+            complain(err, "no progress is told");
+            answer(rt, alloc, words, source, out, err)
+        }
     }
 }

@@ -6,7 +6,11 @@
 #![tactic(auto)]
 
 mod answering;
+mod console;
 mod limiting;
+mod progress;
+mod progress_thread;
+mod said;
 #[cfg(test)]
 mod serve_tests;
 mod serving;
@@ -14,6 +18,7 @@ mod talking;
 #[cfg(test)]
 mod test_shelves;
 mod tick_limit;
+mod watched_files;
 #[cfg(test)]
 mod worked_tests;
 

@@ -8,7 +8,8 @@ ghost use Rattle.matedesk.specs.Serving.{unserved_status};
 use chess_moves::Rays;
 use chess_problems::Bound;
 use command_words::{MemoSize, Workers};
-use desk_room::{OpenGate, RoomFault};
+use desk_room::{Gate, RoomFault};
+use mate_jobs::Ticket;
 use plain_commands::{
     MISUSED, NO_THREAD, Source, complain, ends_by_status, no_memory, put_outputs, read_files,
     status_of,
@@ -17,6 +18,22 @@ use std::alloc::Global;
 use std::io::Write;
 use std::sync::Wait;
 use std::thread::Threads;
+
+/// Lets each job pass, and tells the source of it.
+struct ToldGate<'a, S> {
+    source: &'a S,
+}
+
+impl<S: Source + Sync> Gate for ToldGate<'_, S> {
+    ghost use Rattle.std.specs.Prelude.{◌≡◌, true};
+
+    ghost answers = { λ _ _ _ passed. passed ≡ true };
+
+    fn pass(&self, _bench: usize, _ticket: Ticket) -> bool {
+        self.source.takes();
+        true
+    }
+}
 
 /// Says why no file was served, and gives the status.
 fn unserved<E: Write>(fault: RoomFault, err: &mut E) -> u8
@@ -34,7 +51,7 @@ fn unserved<E: Write>(fault: RoomFault, err: &mut E) -> u8
 
 /// Answers each line of each file as `solve` does, on threads: one for each file and one for each worker, which has a memo of such a
 /// size. All files are read before any thread is started, and all answers made before any of them is written.
-pub fn serve<R: Threads + Wait + Sync, S: Source, O: Write, E: Write>(
+pub fn serve<R: Threads + Wait + Sync, S: Source + Sync, O: Write, E: Write>(
     rt: &R,
     alloc: Global,
     workers: Workers,
@@ -64,9 +81,14 @@ pub fn serve<R: Threads + Wait + Sync, S: Source, O: Write, E: Write>(
         bound,
         benches,
         memo.get() as usize,
-        &OpenGate,
+        &ToldGate { source },
     ) {
-        Ok(outputs) => status_of(put_outputs(out, outputs.as_slice()), err),
+        Ok(outputs) => {
+            for output in &outputs {
+                source.ends(output);
+            }
+            status_of(put_outputs(out, outputs.as_slice()), err)
+        }
         Err(fault) => unserved(fault, err),
     }
 }

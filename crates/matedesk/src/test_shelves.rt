@@ -3,6 +3,7 @@
 ghost use Rattle.std.specs.Prelude.{None, ⊤};
 
 use crate::answering::command;
+use crate::console::Console;
 use plain_commands::{Reading, Source, SourceFault, whole};
 use std::alloc::Global;
 use std::io;
@@ -74,7 +75,7 @@ pub struct Ending {
 }
 
 /// Runs the words after the program's name where there are such files, with writers that take so many calls.
-pub fn run_with<R: Threads + Wait + Sync + Clone + Drop + Send + AllocGlobal + 'static>(
+pub fn run_with<R: Threads + Wait + Console + Sync + Clone + Drop + Send + AllocGlobal + 'static>(
     rt: &R,
     shelf: &Shelf,
     words: &[&str],

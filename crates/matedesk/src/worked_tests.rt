@@ -4,6 +4,7 @@ ghost use Rattle.std.specs.Prelude.{◌≡◌, IfOk, IfSome, List, ℕ, ◌∷�
 ghost use Rattle.std.specs.String.{string_bytes};
 
 use crate::answering::command;
+use crate::console::Console;
 use chess_board::spells_one;
 use chess_notation::records_clear;
 use plain_commands::{Source, SourceFault, whole};
@@ -77,7 +78,7 @@ fn serve_words(alloc: Global) -> Result<[String; 6], AllocError>
 }
 
 /// What `look` writes, where it answers.
-fn look_written<R: Threads + Wait + Sync + Clone + Drop + Send + 'static>(
+fn look_written<R: Threads + Wait + Console + Sync + Clone + Drop + Send + 'static>(
     rt: &R,
     alloc: Global,
 ) -> Option<Vec<u8>>
@@ -94,7 +95,7 @@ fn look_written<R: Threads + Wait + Sync + Clone + Drop + Send + 'static>(
 }
 
 /// What `solve` writes, where it answers.
-fn solve_written<R: Threads + Wait + Sync + Clone + Drop + Send + 'static>(
+fn solve_written<R: Threads + Wait + Console + Sync + Clone + Drop + Send + 'static>(
     rt: &R,
     alloc: Global,
 ) -> Option<Vec<u8>>
@@ -111,7 +112,7 @@ fn solve_written<R: Threads + Wait + Sync + Clone + Drop + Send + 'static>(
 }
 
 /// What `serve` writes, where it answers.
-fn serve_written<R: Threads + Wait + Sync + Clone + Drop + Send + 'static>(
+fn serve_written<R: Threads + Wait + Console + Sync + Clone + Drop + Send + 'static>(
     rt: &R,
     alloc: Global,
 ) -> Option<Vec<u8>>

@@ -14,6 +14,14 @@ use command_words::{Files, LineNumber};
 use std::alloc::Global;
 use std::io::Write;
 
+/// A file that is to be answered: its name, the number of the line that is answered first, and the source that it is of.
+#[derive(Drop)]
+pub(crate) struct FileStart<'a, S> {
+    pub(crate) name: &'a str,
+    pub(crate) from: LineNumber,
+    pub(crate) source: &'a S,
+}
+
 /// What a command answers the lines of a file, over a memory that goes on from file to file.
 pub(crate) trait FileAnswers {
     /// What is kept from line to line.
@@ -25,20 +33,20 @@ pub(crate) trait FileAnswers {
     /// What some of the first lines of it are answered.
     ghost first: { Self → FirstReplies };
 
-    /// Answers each line of a file of this name from that of a number on, before it reads on for the next; gives how many lines are refused.
-    fn answer<I: Input + Drop, O: Write>(
+    /// Answers each line of a file from that of a number on, before it reads on for the next; gives how many lines are refused.
+    fn answer<S: Source, I: Input + Drop, O: Write>(
         &self,
         alloc: Global,
-        from: LineNumber,
-        name: &str,
+        start: &FileStart<S>,
         input: I,
         memory: &mut Self::Memory,
         out: &mut O,
     ) -> Result<usize, Stop>
         ensures ok { IfOk result (λ count. (bytes : List ℕ) × (text : List ℕ) × MayBe (I.left input) bytes
-            × replies self.now from name.now bytes text count
+            × replies self.now start.now.from start.now.name.now bytes text count
             × Appends (O.contents out.old) (O.contents out.new) text) }
-        ensures err { IfErr result (λ stop. (bytes : List ℕ) × (text : List ℕ) × MayBe (I.left input) bytes × first self.now from name.now bytes text
+        ensures err { IfErr result (λ stop. (bytes : List ℕ) × (text : List ℕ) × MayBe (I.left input) bytes
+            × first self.now start.now.from start.now.name.now bytes text
             × AppendsBy stop (O.contents out.old) (O.contents out.new) text) }
         ensures unreadable { IfErr result (λ stop. stop ≡ Stop.Unreadable → I.breaks input) };
 
@@ -47,28 +55,26 @@ pub(crate) trait FileAnswers {
         ensures { (from : ℕ) (name input : List ℕ) → first self.now from name input [] };
 }
 
-/// Answers the file of a name from the line of a number on; gives how many of its lines are refused.
+/// Answers a file from the line of a number on; gives how many of its lines are refused.
 fn answer_file<A: FileAnswers, S: Source, O: Write>(
     alloc: Global,
     answers: &A,
-    from: LineNumber,
-    name: &str,
-    source: &S,
+    start: &FileStart<S>,
     memory: &mut A::Memory,
     out: &mut O,
 ) -> Result<usize, Stop>
-    ensures ok { IfOk result (λ count. (input : List ℕ) × (text : List ℕ) × MayBe (S.holds source.now name.now) input
-        × A.replies answers.now from name.now input text count
+    ensures ok { IfOk result (λ count. (input : List ℕ) × (text : List ℕ) × MayBe (S.holds start.now.source.now start.now.name.now) input
+        × A.replies answers.now start.now.from start.now.name.now input text count
         × Appends (O.contents out.old) (O.contents out.new) text) }
-    ensures err { IfErr result (λ stop. (input : List ℕ) × (text : List ℕ) × MayBe (S.holds source.now name.now) input
-        × A.first answers.now from name.now input text
+    ensures err { IfErr result (λ stop. (input : List ℕ) × (text : List ℕ) × MayBe (S.holds start.now.source.now start.now.name.now) input
+        × A.first answers.now start.now.from start.now.name.now input text
         × AppendsBy stop (O.contents out.old) (O.contents out.new) text) }
-    ensures unreadable { IfErr result (λ stop. stop ≡ Stop.Unreadable → S.refuses source.now name.now) }
+    ensures unreadable { IfErr result (λ stop. stop ≡ Stop.Unreadable → S.refuses start.now.source.now start.now.name.now) }
 {
     // What a file that can't be opened is answered.
     answers.begins_with_nothing();
-    let file = source.open(alloc, name)?;
-    answers.answer(alloc, from, name, file, memory, out)
+    let file = start.source.open(alloc, start.name)?;
+    answers.answer(alloc, start, file, memory, out)
 }
 
 /// Answers each line of each file in order, but those of the first file that are passed over, and opens a file only after the answers to
@@ -93,7 +99,8 @@ pub(crate) fn answer_files<A: FileAnswers, S: Source, O: Write, E: Write>(
     let mut refused = false;
     let mut from = files.from;
     for name in files.names {
-        match answer_file(alloc, answers, from, name, source, memory, out) {
+        let start = FileStart { name, from, source };
+        match answer_file(alloc, answers, &start, memory, out) {
             Ok(count) => {
                 refused |= count > 0;
                 from = LineNumber::first();

@@ -82,4 +82,11 @@ impl<'r, R: Files + AllocGlobal> Source for FileSystem<'r, R> {
     fn read(&self, alloc: Global, name: &str) -> Result<Vec<u8>, SourceFault> {
         whole(alloc, self.open(alloc, name)?)
     }
+
+    fn size(&self, name: &str) -> Option<u64> {
+        match fs::metadata(self.rt, name) {
+            Ok(found) if name != "-" && found.is_file() => Some(found.len()),
+            _ => None,
+        }
+    }
 }

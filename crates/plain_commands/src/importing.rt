@@ -4,7 +4,7 @@ ghost use Rattle.std.specs.Prelude.{IfErr, IfOk, map};
 ghost use Rattle.plain_commands.specs.Writing.{Gains};
 ghost use Rattle.plain_commands.specs.Imported.{ImportsFiles, StopsImporting};
 
-use crate::file_answers::{FileAnswers, answer_files};
+use crate::file_answers::{FileAnswers, FileStart, answer_files};
 use crate::sources::Source;
 use byte_streams::{Input, Stop};
 use chess_moves::Rays;
@@ -30,11 +30,10 @@ impl<'a> FileAnswers for Imports<'a> {
 
     ghost first = { λ _. first_import_replies };
 
-    fn answer<I: Input + Drop, O: Write>(
+    fn answer<S: Source, I: Input + Drop, O: Write>(
         &self,
         alloc: Global,
-        _from: LineNumber,
-        _name: &str,
+        _start: &FileStart<S>,
         input: I,
         _memory: &mut (),
         out: &mut O,

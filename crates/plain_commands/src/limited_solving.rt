@@ -4,13 +4,13 @@ ghost use Rattle.std.specs.Prelude.{◌≡◌, IfErr, IfOk, map};
 ghost use Rattle.plain_commands.specs.Writing.{Gains};
 ghost use Rattle.plain_commands.specs.Solved.{LimitedNone, SolvesLimited, StopsLimited};
 
-use crate::file_answers::{FileAnswers, answer_files};
+use crate::file_answers::{FileAnswers, FileStart, answer_files};
 use crate::lines_from::answer_lines_from;
 use crate::solving::new_memo;
 use crate::sources::Source;
 use byte_streams::{Input, Stop};
 use chess_moves::Rays;
-use command_words::{LimitedSolve, LineNumber};
+use command_words::LimitedSolve;
 use mate_answers::{Limited, TimeLimit};
 use mate_search::Memo;
 use std::alloc::Global;
@@ -25,16 +25,15 @@ impl<T: TimeLimit> FileAnswers for Limited<'_, T> {
 
     ghost first = { λ limited. first_limited_replies limited.seconds limited.default };
 
-    fn answer<I: Input + Drop, O: Write>(
+    fn answer<S: Source, I: Input + Drop, O: Write>(
         &self,
         alloc: Global,
-        from: LineNumber,
-        _name: &str,
+        start: &FileStart<S>,
         input: I,
         memo: &mut Memo,
         out: &mut O,
     ) -> Result<usize, Stop> {
-        answer_lines_from(alloc, self, from, input, memo, out)
+        answer_lines_from(alloc, self, start, input, memo, out)
     }
 
     fn begins_with_nothing(&self) {}

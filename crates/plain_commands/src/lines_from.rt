@@ -6,25 +6,26 @@ ghost use Rattle.byte_streams.specs.Inputs.{MayBe};
 ghost use Rattle.byte_streams.specs.Stops.{AppendsBy};
 ghost use Rattle.plain_commands.specs.LinesFrom.{IsReplyOn, IsReplyToFirstOn};
 
+use crate::file_answers::FileStart;
+use crate::sources::Source;
 use byte_streams::{Input, NoMemory, Stop};
-use command_words::LineNumber;
 use std::alloc::Global;
 use std::io::Write;
 use text_lines::{LineHandler, Output, answer_input};
 
-/// Has another answer the lines from that of a number on, and passes over those before it.
+/// Has another answer the lines from that of a number on, passes over those before it, and tells the source of each that is answered.
 #[derive(Drop)]
-struct LinesFrom<'a, H> {
+struct LinesFrom<'a, H, S> {
     handler: &'a H,
-    from: LineNumber,
+    start: &'a FileStart<'a, S>,
 }
 
-impl<H: LineHandler> LinesFrom<'_, H> {
+impl<H: LineHandler, S: Source> LinesFrom<'_, H, S> {
     /// Whether a line is passed over.
     fn passes(&self, number: usize) -> bool
-        ensures { result ≡ nat_lt number self.now.from }
+        ensures { result ≡ nat_lt number self.now.start.now.from }
     {
-        number < self.from.get() as usize
+        number < self.start.from.get() as usize
     }
 }
 
@@ -39,13 +40,13 @@ fn nothing(alloc: Global) -> Output
     }
 }
 
-impl<H: LineHandler> LineHandler for LinesFrom<'_, H> {
+impl<H: LineHandler, S: Source> LineHandler for LinesFrom<'_, H, S> {
     ghost use Rattle.std.specs.Prelude.{refl};
     ghost use Rattle.plain_commands.specs.inside.LinesFrom.{RepliesFrom};
 
     type Memory = H::Memory;
 
-    ghost replies = { λ lines. RepliesFrom (H.replies lines.handler.now) lines.from };
+    ghost replies = { λ lines. RepliesFrom (H.replies lines.handler.now) lines.start.now.from };
 
     ghost room = { λ memory. H.room memory };
 
@@ -59,14 +60,20 @@ impl<H: LineHandler> LineHandler for LinesFrom<'_, H> {
         if self.passes(number) {
             return Ok(nothing(alloc));
         }
-        self.handler.answer(alloc, number, line, memory)
+        self.start.source.begins(number);
+        let output = self.handler.answer(alloc, number, line, memory)?;
+        self.start.source.ends(&output);
+        Ok(output)
     }
 
     fn refuse_long(&self, alloc: Global, number: usize) -> Result<Output, NoMemory> {
         if self.passes(number) {
             return Ok(nothing(alloc));
         }
-        self.handler.refuse_long(alloc, number)
+        self.start.source.begins(number);
+        let output = self.handler.refuse_long(alloc, number)?;
+        self.start.source.ends(&output);
+        Ok(output)
     }
 
     ghost skips = { λ lines number line blank. record { passed = λ _. (refl, refl); answered = λ _. H.skips lines.handler.now number line blank } };
@@ -74,23 +81,23 @@ impl<H: LineHandler> LineHandler for LinesFrom<'_, H> {
 
 /// Answers an input line by line from that of a number on, as `text_lines` does. The lines before it keep their numbers, and are read no
 /// further than to their ends. Gives how many lines are refused.
-pub(crate) fn answer_lines_from<H: LineHandler, I: Input + Drop, O: Write>(
+pub(crate) fn answer_lines_from<H: LineHandler, S: Source, I: Input + Drop, O: Write>(
     alloc: Global,
     handler: &H,
-    from: LineNumber,
+    start: &FileStart<S>,
     input: I,
     memory: &mut H::Memory,
     out: &mut O,
 ) -> Result<usize, Stop>
     ensures ok { IfOk result (λ refused. (bytes : List ℕ) × (text : List ℕ) × MayBe (I.left input) bytes
-        × IsReplyOn (H.replies handler.now) from bytes text refused
+        × IsReplyOn (H.replies handler.now) start.now.from bytes text refused
         × Appends (O.contents out.old) (O.contents out.new) text) }
     ensures err { IfErr result (λ stop. (bytes : List ℕ) × (text : List ℕ) × MayBe (I.left input) bytes
-        × IsReplyToFirstOn (H.replies handler.now) from bytes text
+        × IsReplyToFirstOn (H.replies handler.now) start.now.from bytes text
         × AppendsBy stop (O.contents out.old) (O.contents out.new) text) }
     ensures unreadable { IfErr result (λ stop. stop ≡ Stop.Unreadable → I.breaks input) }
 {
     // That lines are numbered from 1 on is this call's clause.
-    let _number = from.get();
-    answer_input(alloc, &LinesFrom { handler, from }, input, memory, out)
+    let _number = start.from.get();
+    answer_input(alloc, &LinesFrom { handler, start }, input, memory, out)
 }

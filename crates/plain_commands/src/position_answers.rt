@@ -5,7 +5,7 @@ ghost use Rattle.plain_commands.specs.Writing.{Gains};
 ghost use Rattle.plain_commands.specs.PositionLines.{ShowsLines, StopsLines, command_of};
 
 use crate::fen_commands::{FenCommand, shown_text};
-use crate::file_answers::{FileAnswers, answer_files};
+use crate::file_answers::{FileAnswers, FileStart, answer_files};
 use crate::sources::Source;
 use byte_streams::{Input, Stop};
 use chess_board::{Colour, Fen};
@@ -41,11 +41,10 @@ impl FileAnswers for PositionAnswers<'_> {
 
     ghost first = { λ answers. first_position_replies answers.command };
 
-    fn answer<I: Input + Drop, O: Write>(
+    fn answer<S: Source, I: Input + Drop, O: Write>(
         &self,
         alloc: Global,
-        _from: LineNumber,
-        _name: &str,
+        _start: &FileStart<S>,
         input: I,
         _memory: &mut (),
         out: &mut O,

@@ -4,13 +4,13 @@ ghost use Rattle.std.specs.Prelude.{◌≡◌, ◌≤◌, IfErr, IfOk, map};
 ghost use Rattle.plain_commands.specs.Writing.{Gains};
 ghost use Rattle.plain_commands.specs.Solved.{Solves, SolvesNone, StopsSolving};
 
-use crate::file_answers::{FileAnswers, answer_files};
+use crate::file_answers::{FileAnswers, FileStart, answer_files};
 use crate::lines_from::answer_lines_from;
 use crate::sources::Source;
 use byte_streams::{Input, Stop};
 use chess_moves::Rays;
 use chess_problems::Bound;
-use command_words::{Files, LineNumber, MemoSize};
+use command_words::{Files, MemoSize};
 use mate_answers::Answers;
 use mate_search::{Memo, MemoFault};
 use std::alloc::Global;
@@ -45,11 +45,10 @@ impl<'a> FileAnswers for RecordAnswers<'a> {
 
     ghost first = { λ answers. first_record_replies answers.bound };
 
-    fn answer<I: Input + Drop, O: Write>(
+    fn answer<S: Source, I: Input + Drop, O: Write>(
         &self,
         alloc: Global,
-        from: LineNumber,
-        _name: &str,
+        start: &FileStart<S>,
         input: I,
         memo: &mut Memo,
         out: &mut O,
@@ -58,7 +57,7 @@ impl<'a> FileAnswers for RecordAnswers<'a> {
             rays: self.rays,
             default: self.bound,
         };
-        answer_lines_from(alloc, &answers, from, input, memo, out)
+        answer_lines_from(alloc, &answers, start, input, memo, out)
     }
 
     #[tactic(auto, using(crate::proofs::Unopened::no_record_reply))]

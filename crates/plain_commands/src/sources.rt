@@ -8,6 +8,7 @@ use crate::writing::complain_unreadable;
 use byte_streams::{Input, Stop};
 use std::alloc::Global;
 use std::io::Write;
+use text_lines::Output;
 
 /// How many bytes are asked for at once.
 const PIECE: usize = 4096;
@@ -15,7 +16,7 @@ const PIECE: usize = 4096;
 /// Why a file can't be had: it can't be read, or memory was refused.
 pub use byte_streams::InputFault as SourceFault;
 
-/// Files by their names.
+/// Files by their names. It may have itself told of their lines while these are answered; no answer depends on that.
 pub trait Source {
     /// A file that was opened.
     type File: Input + Drop;
@@ -36,6 +37,20 @@ pub trait Source {
     fn read(&self, alloc: Global, name: &str) -> Result<Vec<u8>, SourceFault>
         ensures bytes { IfOk result (λ bytes. MayBe (holds self.now name.now) bytes.items) }
         ensures refused { IfErr result (λ fault. fault ≡ SourceFault.Unreadable → refuses self.now name.now) };
+
+    /// How many bytes the file of this name has, where that is known before it is read.
+    fn size(&self, _name: &str) -> Option<u64> {
+        None
+    }
+
+    /// Is told that the line of this number is begun, of the file that was opened last.
+    fn begins(&self, _number: usize) {}
+
+    /// Is told that a worker takes a line, whichever that is.
+    fn takes(&self) {}
+
+    /// Is told the reply to a line that was begun, or the replies to those that were taken.
+    fn ends(&self, _reply: &Output) {}
 }
 
 /// Reads a file to its end.

@@ -4,14 +4,14 @@ ghost use Rattle.std.specs.Prelude.{◌≡◌, IfErr, IfOk, map};
 ghost use Rattle.plain_commands.specs.Writing.{Gains};
 ghost use Rattle.plain_commands.specs.Told.{StopsTelling, Tells, TellsNone, tree_form_of};
 
-use crate::file_answers::{FileAnswers, answer_files};
+use crate::file_answers::{FileAnswers, FileStart, answer_files};
 use crate::lines_from::answer_lines_from;
 use crate::solving::new_memo;
 use crate::sources::Source;
 use byte_streams::{Input, Stop};
 use chess_moves::Rays;
 use chess_problems::Bound;
-use command_words::{Files, LineNumber, TreeForm};
+use command_words::{Files, TreeForm};
 use mate_search::Memo;
 use mate_tree::{Form, TreeReplies};
 use std::alloc::Global;
@@ -49,11 +49,10 @@ impl<'a> FileAnswers for TreeAnswers<'a> {
 
     ghost first = { λ answers. first_tree_replies answers.form answers.bound };
 
-    fn answer<I: Input + Drop, O: Write>(
+    fn answer<S: Source, I: Input + Drop, O: Write>(
         &self,
         alloc: Global,
-        from: LineNumber,
-        _name: &str,
+        start: &FileStart<S>,
         input: I,
         memo: &mut Memo,
         out: &mut O,
@@ -63,7 +62,7 @@ impl<'a> FileAnswers for TreeAnswers<'a> {
             default: self.bound,
             form: form_of(&self.form),
         };
-        answer_lines_from(alloc, &trees, from, input, memo, out)
+        answer_lines_from(alloc, &trees, start, input, memo, out)
     }
 
     #[tactic(auto, using(crate::proofs::Unopened::no_tree_reply))]

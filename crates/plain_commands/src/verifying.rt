@@ -4,7 +4,7 @@ ghost use Rattle.std.specs.Prelude.{◌≡◌, ◌++◌, IfErr, IfOk, map};
 ghost use Rattle.plain_commands.specs.Writing.{Gains};
 ghost use Rattle.plain_commands.specs.Verified.{StopsVerifying, Verifies, VerifiesNone, has_several, prefix_of};
 
-use crate::file_answers::{FileAnswers, answer_files};
+use crate::file_answers::{FileAnswers, FileStart, answer_files};
 use crate::lines_from::answer_lines_from;
 use crate::solving::new_memo;
 use crate::sources::{Source, holds_reads};
@@ -12,7 +12,7 @@ use crate::writing::complain;
 use byte_streams::{Input, Stop};
 use chess_moves::Rays;
 use chess_problems::Bound;
-use command_words::{Files, LineNumber, MemoSize};
+use command_words::{Files, MemoSize};
 use mate_claims::{ClaimMemory, ClaimRows, Counts};
 use std::alloc::{AllocError, Global};
 use std::io::Write;
@@ -47,23 +47,22 @@ impl<'a> FileAnswers for ClaimAnswers<'a> {
 
     ghost first = { λ answers. first_claim_replies answers.several answers.bound };
 
-    fn answer<I: Input + Drop, O: Write>(
+    fn answer<S: Source, I: Input + Drop, O: Write>(
         &self,
         alloc: Global,
-        from: LineNumber,
-        name: &str,
+        start: &FileStart<S>,
         input: I,
         memory: &mut ClaimMemory,
         out: &mut O,
     ) -> Result<usize, Stop> {
-        let prefix = prefix_of(alloc, self.several, name)?;
+        let prefix = prefix_of(alloc, self.several, start.name)?;
         let rows = ClaimRows {
             rays: self.rays,
             default: self.bound,
             prefix: prefix.as_slice(),
         };
         let before = memory.counts.not_sound();
-        let unsound = answer_lines_from(alloc, &rows, from, input, memory, out)?;
+        let unsound = answer_lines_from(alloc, &rows, start, input, memory, out)?;
         memory.count_unread(before, unsound);
         Ok(unsound)
     }

@@ -5,26 +5,26 @@ use Rattle.plain_commands.proofs.lines_from.answer_lines_from.Goals as goal
 
 pub returns-clause-ok : goal.returns-clause-ok
 returns-clause-ok g c =
-    let some : 1 ≤ c.args.from = omega (arith, c.get-number.ensures.some, c.get-number.ensures.number) in
+    let some : 1 ≤ c.args.start.now.from = omega (arith, c.get-number.ensures.some, c.get-number.ensures.number) in
     IfOk-weaker c.answer_input.result _ _
     (λ refused (bytes, text, may, reply, gained). (
       bytes,
       text,
       may,
-      reply_on (g.H.LineHandler.replies c.args.handler.now) c.args.from bytes text refused some reply,
+      reply_on (g.H.LineHandler.replies c.args.handler.now) c.args.start.now.from bytes text refused some reply,
       gained,
     ))
     c.answer_input.ensures.ok
 
 pub returns-clause-err : goal.returns-clause-err
 returns-clause-err g c =
-    let some : 1 ≤ c.args.from = omega (arith, c.get-number.ensures.some, c.get-number.ensures.number) in
+    let some : 1 ≤ c.args.start.now.from = omega (arith, c.get-number.ensures.some, c.get-number.ensures.number) in
     IfErr-weaker c.answer_input.result _ _
     (λ stop (bytes, text, may, reply, gained). (
       bytes,
       text,
       may,
-      reply_to_first_on (g.H.LineHandler.replies c.args.handler.now) c.args.from bytes text some reply,
+      reply_to_first_on (g.H.LineHandler.replies c.args.handler.now) c.args.start.now.from bytes text some reply,
       gained,
     ))
     c.answer_input.ensures.err

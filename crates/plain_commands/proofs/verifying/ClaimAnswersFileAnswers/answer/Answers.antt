@@ -7,6 +7,6 @@ use Rattle.plain_commands.proofs.verifying.ClaimAnswersFileAnswers.answer.Goals 
 pub returns-in_err-prefix-clause-err : goal.returns-in_err-prefix-clause-err
 returns-in_err-prefix-clause-err g c =
     let (other, is, same) = err_from_is_err_and c.from_residual.result c.from_residual.ensures.1 in
-    rw (is) (not_opened fault.NoMemory other (first_claim_replies c.args.self.now.several c.args.self.now.bound c.args.from
-    c.args.name.now) (g.I.Input.left c.args.input) (g.O.Write.contents c.args.out.now)
-    (no_claim_reply c.args.self.now.several c.args.self.now.bound c.args.from c.args.name.now) same)
+    rw (is) (not_opened fault.NoMemory other (first_claim_replies c.args.self.now.several c.args.self.now.bound c.args.start.now.from
+    c.args.start.now.name.now) (g.I.Input.left c.args.input) (g.O.Write.contents c.args.out.now)
+    (no_claim_reply c.args.self.now.several c.args.self.now.bound c.args.start.now.from c.args.start.now.name.now) same)

@@ -1,0 +1,108 @@
+//! What a line that was printed says of a problem.
+
+ghost use Rattle.std.specs.Prelude.{◌<◌, IfSome, length};
+
+/// How many moves a mate may take, and none.
+pub(crate) const MOVES: usize = 16;
+
+/// What a line of a reply says.
+#[derive(Clone, Copy, PartialEq, Eq)]
+pub(crate) enum Said {
+    /// A mate in so many moves.
+    Mate(u8),
+    /// That there is none within the bound.
+    NoMate,
+    /// That none was found in time.
+    Undecided,
+    /// The fault of a line that is no record.
+    Refused,
+    /// A row of `verify`.
+    Row,
+    /// It goes on a reply.
+    Nothing,
+}
+
+/// What follows the four fields of a position.
+fn behind_fields(line: &[u8]) -> Option<&[u8]> {
+    let mut fields_left: u8 = 4;
+    for (index, byte) in line.iter().enumerate() {
+        if *byte == b' ' {
+            fields_left = fields_left.saturating_sub(1);
+            if fields_left == 0 {
+                let (_, rest) = line.split_at(index);
+                return Some(rest);
+            }
+        }
+    }
+    None
+}
+
+/// The operation that a text begins with, and what follows its semicolon. One in a string ends nothing.
+fn cut_operation(text: &[u8]) -> Option<(&[u8], &[u8])>
+    ensures shorter { IfSome result (λ cut. length cut.1.now < length text.now) }
+{
+    let mut in_string = false;
+    for (index, byte) in text.iter().enumerate() {
+        if *byte == b'"' {
+            in_string = !in_string;
+        } else if *byte == b';' && !in_string {
+            let (operation, _) = text.split_at(index);
+            let (_, more) = text.split_at(index + 1);
+            return Some((operation, more));
+        }
+    }
+    None
+}
+
+/// A number of one or two digits.
+fn number_in(digits: &[u8]) -> u8 {
+    let mut number: u8 = 0;
+    for digit in digits {
+        number = number
+            .wrapping_mul(10)
+            .wrapping_add(digit.wrapping_sub(b'0'));
+    }
+    number
+}
+
+/// What an operation says, with the space before it.
+fn said_in(operation: &[u8]) -> Said {
+    if let Some(digits) = operation.strip_prefix(b" dm ".as_slice()) {
+        Said::Mate(number_in(digits))
+    } else if operation.starts_with(b" c0 \"no mate in ") {
+        Said::NoMate
+    } else if operation.starts_with(b" c0 \"not decided in ") {
+        Said::Undecided
+    } else {
+        Said::Nothing
+    }
+}
+
+/// What operations say: the number of moves where there is one, whatever a comment says.
+fn said_by_operations(operations: &[u8]) -> Said {
+    let mut rest = operations;
+    let mut said = Said::Nothing;
+    while let Some((operation, more)) = cut_operation(rest) {
+        match said_in(operation) {
+            Said::Mate(moves) => return Said::Mate(moves),
+            Said::Nothing => {}
+            comment => said = comment,
+        }
+        rest = more;
+    }
+    said
+}
+
+/// What a line says.
+pub(crate) fn said_by(line: &[u8]) -> Said {
+    if line.starts_with(b"# line ") {
+        return Said::Refused;
+    }
+    if line.contains(&b'\t') {
+        return Said::Row;
+    }
+    match behind_fields(line) {
+        Some(operations) => said_by_operations(operations),
+        None => Said::Nothing,
+    }
+}
