@@ -12,7 +12,7 @@ ghost use Rattle.mate_claims.specs.Rows.{refused_row as refused_row_of};
 ghost use Rattle.mate_claims.specs.inside.RowTexts.{keys_found as keys_found_in, listed};
 ghost use Rattle.mate_claims.specs.inside.ToldRecords.{IsToldOf};
 
-use crate::rows::{keys_found, keys_text, refused_row, row_of_texts, row_with_keys};
+use crate::rows::{Found, keys_found, keys_text, refused_row, row_of_texts, row_with_keys};
 use crate::verdicts::{Verdict, judge};
 use byte_streams::NoMemory;
 use chess_board::Position;
@@ -51,20 +51,19 @@ fn told_of_keys(
     alloc: Global,
     place: &[u8],
     record: &Record,
-    outcome: &Outcome,
-    keys: &[u8],
+    found: &Found<'_>,
 ) -> Result<Told, NoMemory>
-    requires truth { outcome.now ≡ truth (problem_of «record».now) }
-    requires playable { IsPlayable «record».now.position outcome.now }
-    requires keys { keys.now ≡ listed «record».now.position (keys_found_in outcome.now) }
-    ensures told { IfOk result (λ told. IsToldOf place.now «record».now keys.now told.row.items told.verdict) }
+    requires truth { found.now.outcome.now ≡ truth (problem_of «record».now) }
+    requires playable { IsPlayable «record».now.position found.now.outcome.now }
+    requires keys { found.now.keys.now ≡ listed «record».now.position (keys_found_in found.now.outcome.now) }
+    ensures told { IfOk result (λ told. IsToldOf place.now «record».now found.now.keys.now told.row.items told.verdict) }
 {
     // That these words name the keys rests on these laws.
     legal_listed();
     names_one();
-    let verdict = judge(record.bound, keys_found(outcome), outcome);
+    let verdict = judge(record.bound, keys_found(found.outcome), found.outcome);
     Ok(Told {
-        row: row_of_texts(alloc, place, record, verdict, outcome, keys, keys)?,
+        row: row_of_texts(alloc, place, record, verdict, found, found.keys)?,
         verdict: Some(verdict),
     })
 }
@@ -76,25 +75,16 @@ fn told_of_words(
     place: &[u8],
     record: &Record,
     words: &[u8],
-    outcome: &Outcome,
-    keys: &[u8],
+    found: &Found<'_>,
 ) -> Result<Told, NoMemory>
-    requires truth { outcome.now ≡ truth (problem_of «record».now) }
-    requires keys { keys.now ≡ listed «record».now.position (keys_found_in outcome.now) }
+    requires truth { found.now.outcome.now ≡ truth (problem_of «record».now) }
+    requires keys { found.now.keys.now ≡ listed «record».now.position (keys_found_in found.now.outcome.now) }
     ensures told { IfOk result (λ told. IsToldOf place.now «record».now words.now told.row.items told.verdict) }
 {
     match claimed_moves(rays, &record.position, words) {
         Ok(claimed) => Ok(Told {
-            row: row_with_keys(
-                alloc,
-                rays,
-                place,
-                record,
-                claimed.as_slice(),
-                outcome,
-                keys,
-            )?,
-            verdict: Some(judge(record.bound, claimed.as_slice(), outcome)),
+            row: row_with_keys(alloc, rays, place, record, claimed.as_slice(), found)?,
+            verdict: Some(judge(record.bound, claimed.as_slice(), found.outcome)),
         }),
         Err(fault) => Ok(Told {
             row: refused_row(alloc, place, fault.code())?,
@@ -141,11 +131,15 @@ fn told_of_record(
     }
     let outcome = solve(rays, &record.problem(), memo);
     let keys = keys_text(alloc, rays, &record.position, &outcome)?;
+    let found = Found {
+        outcome: &outcome,
+        keys: keys.as_bytes(),
+    };
     // Most records claim their keys as they are listed. The others are read word by word.
-    if words == keys.as_bytes() {
-        told_of_keys(alloc, place, record, &outcome, words)
+    if words == found.keys {
+        told_of_keys(alloc, place, record, &found)
     } else {
-        told_of_words(alloc, rays, place, record, words, &outcome, keys.as_bytes())
+        told_of_words(alloc, rays, place, record, words, &found)
     }
 }
 

@@ -108,24 +108,31 @@ fn push_id(alloc: Global, row: &mut Vec<u8>, operations: &[Operation]) -> Result
     push_field(row, text.as_slice())
 }
 
-/// The row of a record with these texts of its keys and of the moves claimed: in each a move stands behind a space.
+/// What was found of a record: an outcome, and the text of its keys, of which each stands behind a space.
+#[derive(Clone, Copy)]
+pub(crate) struct Found<'a> {
+    pub(crate) outcome: &'a Outcome,
+    pub(crate) keys: &'a [u8],
+}
+
+/// The row of a record with this text of the moves claimed, of which each stands behind a space.
 #[tactic(auto, unfolding(crate::specs::inside::RowTexts::row_of_texts))]
 pub(crate) fn row_of_texts(
     alloc: Global,
     place: &[u8],
     record: &Record,
     verdict: Verdict,
-    outcome: &Outcome,
-    keys: &[u8],
+    found: &Found<'_>,
     claimed: &[u8],
 ) -> Result<Vec<u8>, AllocError>
-    ensures { IfOk result (λ row. row.items ≡ row_with_texts place.now «record».now verdict outcome.now keys.now claimed.now) }
+    ensures { IfOk result (λ row. row.items
+        ≡ row_with_texts place.now «record».now verdict found.now.outcome.now found.now.keys.now claimed.now) }
 {
     let mut row = Vec::from_slice(alloc, place)?;
     push_field(&mut row, verdict.code().as_bytes())?;
     push_length(alloc, &mut row, record.bound)?;
-    push_found(alloc, &mut row, outcome)?;
-    push_field(&mut row, without_first(keys))?;
+    push_found(alloc, &mut row, found.outcome)?;
+    push_field(&mut row, without_first(found.keys))?;
     push_field(&mut row, without_first(claimed))?;
     push_id(alloc, &mut row, record.rest.as_slice())?;
     row.extend_from_slice(b"\n")?;
@@ -139,22 +146,20 @@ pub(crate) fn row_with_keys(
     place: &[u8],
     record: &Record,
     claimed: &[Move],
-    outcome: &Outcome,
-    keys: &[u8],
+    found: &Found<'_>,
 ) -> Result<Vec<u8>, NoMemory>
     requires claimed { AreLegal «record».now.position claimed.now }
-    requires keys { keys.now ≡ listed «record».now.position (keys_found_in outcome.now) }
-    ensures { IfOk result (λ row. row.items ≡ record_row_of place.now «record».now claimed.now outcome.now) }
+    requires keys { found.now.keys.now ≡ listed «record».now.position (keys_found_in found.now.outcome.now) }
+    ensures { IfOk result (λ row. row.items ≡ record_row_of place.now «record».now claimed.now found.now.outcome.now) }
 {
-    let verdict = judge(record.bound, claimed, outcome);
+    let verdict = judge(record.bound, claimed, found.outcome);
     let claimed_text = listed_text(alloc, rays, &record.position, claimed)?;
     Ok(row_of_texts(
         alloc,
         place,
         record,
         verdict,
-        outcome,
-        keys,
+        found,
         claimed_text.as_bytes(),
     )?)
 }
@@ -175,15 +180,11 @@ pub fn record_row(
     ensures { IfOk result (λ row. row.items ≡ record_row_of place.now «record».now claimed.now outcome.now) }
 {
     let keys = keys_text(alloc, rays, &record.position, outcome)?;
-    row_with_keys(
-        alloc,
-        rays,
-        place,
-        record,
-        claimed,
+    let found = Found {
         outcome,
-        keys.as_bytes(),
-    )
+        keys: keys.as_bytes(),
+    };
+    row_with_keys(alloc, rays, place, record, claimed, &found)
 }
 
 /// The row of a line that is refused, with a newline: its place and the fault's name.

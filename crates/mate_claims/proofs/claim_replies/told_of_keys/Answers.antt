@@ -14,16 +14,16 @@ pub returns : goal.returns
 returns c = record {
   told = λ line default reads same.
       let r = c.args.record.now in
-      let outcome = c.args.outcome.now in
+      let outcome = c.args.found.now.outcome.now in
       let found = keys_named c.legal_listed.ensures c.names_one.ensures (problem_of r) outcome c.requires.truth c.requires.playable in
-      let clear : claims_fault r.position (words_in c.args.keys.now) ≡ None =
+      let clear : claims_fault r.position (words_in c.args.found.now.keys.now) ≡ None =
       ap (λ t. claims_fault r.position (words_in t)) c.requires.keys ∙ found.clear in
-      let named_is : named r.position (words_in c.args.keys.now) ≡ keys_found outcome =
+      let named_is : named r.position (words_in c.args.found.now.keys.now) ≡ keys_found outcome =
       ap (λ t. named r.position (words_in t)) c.requires.keys ∙ found.named_is in
       let asked = ap (λ x. x.bound) c.record.view_is in
       let judged = c.judge-verdict.ensures ∙ ap (λ ms. verdict_of c.record.inside.bound ms outcome) c.keys_found.ensures in
       let row = row_listed c.args.place.now r c.record.inside.bound (keys_found outcome) outcome c.judge-verdict.result
-      c.args.keys.now c.args.keys.now c.in_ok-row_of_texts.field-0.items asked judged c.requires.keys c.requires.keys c.in_ok-row_of_texts.ensures in
-      verdict_told c.args.place.now default line r r.position c.record.inside.bound (words_in c.args.keys.now) (keys_found outcome) outcome
+      c.args.found.now.keys.now c.args.found.now.keys.now c.in_ok-row_of_texts.field-0.items asked judged c.requires.keys c.requires.keys c.in_ok-row_of_texts.ensures in
+      verdict_told c.args.place.now default line r r.position c.record.inside.bound (words_in c.args.found.now.keys.now) (keys_found outcome) outcome
       c.in_ok-row_of_texts.field-0.items c.judge-verdict.result refl asked reads same clear (sym named_is) c.requires.truth row judged;
 }

@@ -10,12 +10,12 @@ returns-in_ok-row_with_keys-in-Ok c = record {
   told = λ line default reads same.
       let r = c.args.record.now in
       verdict_told c.args.place.now default line r c.record.inside.position c.record.inside.bound
-      (words_in c.args.words.now) c.in-Ok.claimed.items c.args.outcome.now
+      (words_in c.args.words.now) c.in-Ok.claimed.items c.args.found.now.outcome.now
       c.in_ok-row_with_keys-in-Ok.field-0.items c.judge.result
       (ap (λ x. x.position) c.record.view_is) (ap (λ x. x.bound) c.record.view_is)
       reads same c.in-Ok.ensures.clear c.in-Ok.ensures.moves c.requires.truth
-      (c.in_ok-row_with_keys-in-Ok.ensures ∙ ap (λ ms. record_row c.args.place.now r ms c.args.outcome.now) c.as_slice.ensures.value)
-      (c.judge.ensures ∙ ap (λ ms. verdict_of c.record.inside.bound ms c.args.outcome.now) c.as_slice-in-Ok.ensures.value);
+      (c.in_ok-row_with_keys-in-Ok.ensures ∙ ap (λ ms. record_row c.args.place.now r ms c.args.found.now.outcome.now) c.as_slice.ensures.value)
+      (c.judge.ensures ∙ ap (λ ms. verdict_of c.record.inside.bound ms c.args.found.now.outcome.now) c.as_slice-in-Ok.ensures.value);
 }
 
 pub returns-in_ok-refused_row-in-Err : goal.returns-in_ok-refused_row-in-Err
