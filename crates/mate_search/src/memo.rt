@@ -19,24 +19,20 @@ use thiserror::Error;
 /// are, and the room.
 #[derive(Drop)]
 pub struct Memo {
-    /// Where memory was refused it has room for as many as it holds until the next search, and else for `room`.
     cache: LruCache<Position, Entry>,
-    room: usize,
-    /// Whether memory was refused since the search began.
-    is_refused: bool,
     killers: Killers,
 }
 
 impl Model for Memo {
-    ghost use Rattle.std.specs.Prelude.{◌≤◌, length};
+    ghost use Rattle.std.specs.Prelude.{length};
     ghost use Rattle.mate_search.specs.inside.MemoEntries.{IsTrueMemo};
     ghost use Rattle.mate_search.specs.Memos.{MemoValue};
 
     ghost Value = { MemoValue };
 
-    ghost view = { λ memo. record { kept = length memo.cache.entries; room = memo.room } };
+    ghost view = { λ memo. record { kept = length memo.cache.entries; room = memo.cache.cap } };
 
-    ghost invariant = { λ memo. IsTrueMemo memo.cache.entries memo.cache.cap × (memo.cache.cap ≤ memo.room) };
+    ghost invariant = { λ memo. IsTrueMemo memo.cache.entries memo.cache.cap };
 }
 
 /// Why there is no memo.
@@ -80,8 +76,6 @@ impl Memo {
         match LruCache::new(alloc, size) {
             Ok(cache) => Ok(Memo {
                 cache,
-                room: entries,
-                is_refused: false,
                 killers: Killers::none(),
             }),
             Err(_) => Err(MemoFault::NoMemory),
@@ -111,28 +105,7 @@ impl Memo {
         }
     }
 
-    /// Begins a search, for which memory that was refused may be asked for again.
-    pub(crate) fn begin(&mut self)
-        ensures { self.new ≡ self.old }
-    {
-        self.is_refused = false;
-        if let Some(room) = NonZeroUsize::new(self.room) {
-            self.cache.resize(room);
-        }
-    }
-
-    /// Goes on with as many entries as there are, since memory was refused for one more.
-    fn make_do(&mut self)
-        ensures { self.new ≡ self.old }
-    {
-        self.is_refused = true;
-        if let Some(kept) = NonZeroUsize::new(self.cache.len()) {
-            self.cache.resize(kept);
-        }
-    }
-
-    /// Keeps what is known of a position in place of what was kept of it. Where memory is refused, it is not kept, and until the next search
-    /// each entry that is new takes the place of the one met longest ago.
+    /// Keeps what is known of a position in place of what was kept of it. Where memory is refused, it is not kept.
     pub(crate) fn keep(&mut self, position: &Position, entry: Entry)
         requires { IsTrueOf position.now entry }
         ensures room { self.new.room ≡ self.old.room }
@@ -140,13 +113,8 @@ impl Memo {
     {
         // That two positions which `==` calls equal are one is a law of sound positions.
         equal_reads();
-        if self.is_refused && self.cache.is_empty() {
-            return;
-        }
         // A put that is refused loses this entry and nothing else, and no outcome depends on it.
-        if self.cache.put(*position, entry).is_err() {
-            self.make_do();
-        }
+        let _ = self.cache.put(*position, entry);
     }
 
     /// The two replies that refuted last with one move left to the attacker.

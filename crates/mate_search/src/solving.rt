@@ -49,7 +49,6 @@ pub fn solve_until<H: Halt>(
 {
     // What can be played rests on this law.
     legal_listed();
-    memo.begin();
     let outcome = solve_by(&Guide { rays, halt }, problem, memo);
     // That a memo keeps no more than it has room for is this call's clause.
     let _kept = memo.len();
