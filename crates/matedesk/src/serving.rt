@@ -20,6 +20,7 @@ use std::sync::Wait;
 use std::thread::Threads;
 
 /// Lets each job pass, and tells the source of it.
+#[derive(Drop)]
 struct ToldGate<'a, S> {
     source: &'a S,
 }

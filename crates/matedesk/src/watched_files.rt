@@ -27,6 +27,7 @@ impl<I: Input + Drop> Input for WatchedFile<'_, I> {
 }
 
 /// The files of a source, whose progress is left for the thread that tells of it.
+#[derive(Drop)]
 pub(crate) struct WatchedFiles<'a, S> {
     pub(crate) source: &'a S,
     pub(crate) progress: &'a Progress,
