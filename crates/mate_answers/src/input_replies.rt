@@ -10,42 +10,52 @@ use byte_streams::{Input, Stop};
 use chess_moves::Rays;
 use chess_notation::{EpdFault, NoMemory, Record, answer_text, read_record};
 use chess_problems::Bound;
-use mate_search::{Memo, solve};
+use mate_search::{Guide, Memo, Never, OneThread, Solver};
 use std::alloc::Global;
 use std::io::Write;
 use text_lines::{LineHandler, Output, answer_bytes, refusal};
 
 /// The reply to a line that says this record: its answer, once it is solved.
-fn record_text(
+fn record_text<S: Solver<Never>>(
     alloc: Global,
-    rays: &Rays,
+    answers: &Answers<S>,
     record: &Record,
-    memo: &mut Memo,
+    memory: &mut S::Memory,
 ) -> Result<Vec<u8>, NoMemory>
+    requires { S.ready answers.now.solver }
     ensures text { IfOk result (λ text. text.items ≡ answer_line_of «record».now) }
-    ensures room { memo.new.room ≡ memo.old.room }
+    ensures room { S.room memory.new ≡ S.room memory.old }
 {
-    let outcome = solve(rays, &record.problem(), memo);
-    let mut text = answer_text(alloc, rays, record, &outcome)?;
+    let guide = Guide {
+        rays: answers.rays,
+        halt: &Never,
+    };
+    let Ok(outcome) = answers.solver.solve(&guide, &record.problem(), memory) else {
+        unreachable!();
+    };
+    let mut text = answer_text(alloc, answers.rays, record, &outcome)?;
     text.push('\n')?;
     Ok(text.into_bytes())
 }
 
-/// What answers lines that say records, over one memo. A record without a bound has the default.
+/// What answers lines that say records, by one who solves them. A record without a bound has the default.
 #[derive(Clone, Copy)]
-pub struct Answers<'a> {
+pub struct Answers<'a, S> {
     pub rays: &'a Rays,
     pub default: Bound,
+    pub solver: S,
 }
 
-impl LineHandler for Answers<'_> {
+impl<S: Solver<Never>> LineHandler for Answers<'_, S> {
     ghost use Rattle.mate_answers.specs.InputReplies.{IsLineReply, skipped};
 
-    type Memory = Memo;
+    type Memory = S::Memory;
+
+    ghost ready = { λ answers. S.ready answers.solver };
 
     ghost replies = { λ answers. IsLineReply answers.default };
 
-    ghost room = { λ memo. memo.room };
+    ghost room = { λ memory. S.room memory };
 
     /// The answer to a line or its fault, with a newline behind it.
     fn answer(
@@ -53,11 +63,11 @@ impl LineHandler for Answers<'_> {
         alloc: Global,
         number: usize,
         line: &[u8],
-        memory: &mut Memo,
+        memory: &mut S::Memory,
     ) -> Result<Output, NoMemory> {
         match read_record(alloc, self.rays, line, self.default) {
             Ok(record) => Ok(Output {
-                text: record_text(alloc, self.rays, &record, memory)?,
+                text: record_text(alloc, self, &record, memory)?,
                 refused: 0,
             }),
             Err(fault) => refusal(alloc, number, fault),
@@ -91,7 +101,12 @@ pub fn answer_input<I: Input + Drop, O: Write>(
     ensures room { memo.new.room ≡ memo.old.room }
     ensures within { memo.new.kept ≤ memo.new.room }
 {
-    let refused = text_lines::answer_input(alloc, &Answers { rays, default }, input, memo, out);
+    let answers = Answers {
+        rays,
+        default,
+        solver: OneThread,
+    };
+    let refused = text_lines::answer_input(alloc, &answers, input, memo, out);
     // That a memo keeps no more than it has room for is this call's clause.
     memo.len();
     refused
@@ -110,7 +125,12 @@ pub fn solve_input(
     ensures room { memo.new.room ≡ memo.old.room }
     ensures within { memo.new.kept ≤ memo.new.room }
 {
-    let output = answer_bytes(alloc, &Answers { rays, default }, input, memo);
+    let answers = Answers {
+        rays,
+        default,
+        solver: OneThread,
+    };
+    let output = answer_bytes(alloc, &answers, input, memo);
     // That a memo keeps no more than it has room for is this call's clause.
     memo.len();
     output
@@ -120,5 +140,5 @@ pub fn solve_input(
 pub fn replies_go_on()
     ensures { RepliesGoOn }
 {
-    text_lines::replies_go_on::<Answers>();
+    text_lines::replies_go_on::<Answers<OneThread>>();
 }

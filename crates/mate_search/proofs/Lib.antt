@@ -10,3 +10,4 @@ pub mod Room
 pub mod Known
 pub mod PrincipalVariations
 pub mod FirstMoves
+pub mod Told

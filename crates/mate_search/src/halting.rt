@@ -17,7 +17,7 @@ pub trait Halt {
 
 /// What never tells a search to stop.
 #[derive(Clone, Copy)]
-pub(crate) struct Never;
+pub struct Never;
 
 impl Halt for Never {
     ghost may_stop = { λ _. ⊥ };
@@ -34,7 +34,7 @@ pub struct Stopped;
 
 /// What a search goes by: the tables of rays, and what may tell it to stop.
 #[derive(Clone, Copy)]
-pub(crate) struct Guide<'a, H> {
-    pub(crate) rays: &'a Rays,
-    pub(crate) halt: &'a H,
+pub struct Guide<'a, H> {
+    pub rays: &'a Rays,
+    pub halt: &'a H,
 }

@@ -4,8 +4,8 @@
 //! `specs/Wins.antt`, keys and the principal variation in `specs/PrincipalVariation.antt`, and what there is to say of a problem in
 //! `specs/Laws.antt`; an outcome is exactly that.
 //!
-//! To read: `memo_entries`, `killers`, `memo`, `halting`, `searching`, `principal_variation`, `solving`; `laws` says of the definitions
-//! what they are meant to say. `solve` takes memory for its memo alone, and never fails for want of it; `solve_until` can be stopped.
+//! To read: `memo_entries`, `killers`, `memo`, `halting`, `searching`, `verdicts`, `principal_variation`, `solving`, `solvers`; `laws`
+//! says of the definitions what they are meant to say. `solve` takes memory for its memo alone, and never fails for want of it; `solve_until` can be stopped.
 #![tactic(auto)]
 
 mod halting;
@@ -15,12 +15,16 @@ mod memo;
 mod memo_entries;
 mod principal_variation;
 mod searching;
+mod solvers;
 mod solving;
+mod verdicts;
 
-pub use halting::{Halt, Stopped};
+pub use halting::{Guide, Halt, Never, Stopped};
 pub use laws::{
     among_all, dist_reads, keys_read, keys_rise, line_mates, line_reads, lost_reads, no_dist_reads,
     truth_playable, truth_reads, win_grows, win_reads,
 };
 pub use memo::{Memo, MemoFault};
-pub use solving::{solve, solve_until};
+pub use solvers::{OneThread, Solver};
+pub use solving::{first_moves, solve, solve_told, solve_until};
+pub use verdicts::{Verdict, leaves_lost, verdict_on};

@@ -90,6 +90,13 @@ impl Memo {
         self.cache.len()
     }
 
+    /// How many entries there is room for.
+    pub fn room(&self) -> usize
+        ensures { result ≡ self.now.room }
+    {
+        self.cache.cap().get()
+    }
+
     /// What is known of a position, which becomes the one that was met last.
     pub(crate) fn entry(&mut self, position: &Position) -> Entry
         ensures known { IsTrueOf position.now result }

@@ -4,34 +4,36 @@ ghost use Rattle.std.specs.Prelude.{◌≡◌, ◌+◌, ◌*◌, ◌<◌, ◌≤
 ghost use Rattle.arrayvec.specs.ArrayVec.{array_vec_len};
 ghost use Rattle.chess_board.specs.Legality.{is_legal};
 ghost use Rattle.chess_moves.specs.inside.Listing.{legal_moves};
+ghost use Rattle.mate_search.specs.Verdicts.{AreTrueIn};
 ghost use Rattle.mate_search.specs.inside.Variation.{keys, least_key, longest_defence, variation};
 
 use crate::halting::{Guide, Halt, Stopped};
 use crate::memo::Memo;
 use crate::searching::{loses, wins};
+use crate::verdicts::{Root, judge};
 use chess_board::{Move, Position, after};
 use chess_moves::{MoveList, legal};
 use chess_problems::Variation;
 
-/// Of these legal moves the keys of a mate within `n` moves, in their order.
+/// Of the first moves the keys of a mate within `n` moves, in their order.
 #[tactic(auto, using(crate::proofs::Searches::kept_more, crate::proofs::Searches::left_out))]
 pub(crate) fn keys_among<H: Halt>(
     guide: &Guide<H>,
-    position: &Position,
-    first: &[Move],
+    root: &Root,
     n: u8,
     memo: &mut Memo,
 ) -> Result<MoveList, Stopped>
     requires some { 0 < n }
-    requires few { length first.now ≤ 1024 }
-    requires legal { All (λ m. is_legal position.now m ≡ true) first.now }
-    ensures keys { IfOk result (λ found. found.items ≡ keys first.now position.now n) }
+    requires few { length root.now.first.now ≤ 1024 }
+    requires legal { All (λ m. is_legal root.now.position.now m ≡ true) root.now.first.now }
+    requires told { AreTrueIn root.now.position.now root.now.told.now }
+    ensures keys { IfOk result (λ found. found.items ≡ keys root.now.first.now root.now.position.now n) }
     ensures stopped { IfErr result (λ _. H.may_stop guide.now.halt.now) }
     ensures room { memo.new.room ≡ memo.old.room }
 {
     let mut keys = MoveList::new();
-    for m in first {
-        if loses(guide, &after(position, *m), n - 1, memo)? {
+    for m in root.first {
+        if judge(guide, root, *m, n - 1, memo)? {
             keys.push(*m);
         }
     }

@@ -8,6 +8,7 @@ ghost use Rattle.mate_search.specs.inside.Truth.{dist, first_moves as moves_to_b
 ghost use Rattle.chess_problems.specs.SameProblems.{is_same_move as are_same_move};
 ghost use Rattle.chess_moves.specs.inside.Listing.{legal_moves};
 ghost use Rattle.std.specs.List.{list_any};
+ghost use Rattle.mate_search.specs.Verdicts.{AreTrueIn};
 ghost use Rattle.mate_search.specs.inside.MemoEntries.{IsTrueOf};
 ghost use Rattle.chess_problems.specs.Outcomes.{IsPlayable};
 
@@ -15,6 +16,7 @@ use crate::halting::{Guide, Halt, Never, Stopped};
 use crate::memo::Memo;
 use crate::memo_entries::Entry;
 use crate::principal_variation::{keys_among, push_variation};
+use crate::verdicts::{Root, Verdict};
 use chess_board::{Move, Position};
 use chess_moves::{MoveList, Rays, legal, legal_listed};
 use chess_problems::{Bound, Outcome, Problem, Variation, is_same_move};
@@ -35,6 +37,7 @@ pub fn solve(rays: &Rays, problem: &Problem, memo: &mut Memo) -> Outcome
 
 /// The same, unless it is told to stop, about which it asks once for each position that it searches for more than a mate in one. What a
 /// memo keeps of a search that was stopped is as true as what it keeps of any.
+#[tactic(auto, using(crate::proofs::Told::none_told))]
 pub fn solve_until<H: Halt>(
     rays: &Rays,
     problem: &Problem,
@@ -47,28 +50,47 @@ pub fn solve_until<H: Halt>(
     ensures room { memo.new.room ≡ memo.old.room }
     ensures within { memo.new.kept ≤ memo.new.room }
 {
+    solve_told(&Guide { rays, halt }, problem, &[], memo)
+}
+
+/// The same, where some first moves have been judged before: each verdict is true in the problem's position.
+pub fn solve_told<H: Halt>(
+    guide: &Guide<H>,
+    problem: &Problem,
+    told: &[Verdict],
+    memo: &mut Memo,
+) -> Result<Outcome, Stopped>
+    requires told { AreTrueIn problem.now.position told.now }
+    ensures truth { IfOk result (λ outcome. outcome ≡ truth problem.now) }
+    ensures playable { IfOk result (λ outcome. IsPlayable problem.now.position outcome) }
+    ensures stopped { IfErr result (λ _. H.may_stop guide.now.halt.now) }
+    ensures room { memo.new.room ≡ memo.old.room }
+    ensures within { memo.new.kept ≤ memo.new.room }
+{
     // What can be played rests on this law.
     legal_listed();
-    let outcome = solve_by(&Guide { rays, halt }, problem, memo);
+    let outcome = solve_either(guide, problem, told, memo);
     // That a memo keeps no more than it has room for is this call's clause.
     let _kept = memo.len();
     outcome
 }
 
 /// The same, by where a move is to be avoided.
-fn solve_by<H: Halt>(
+fn solve_either<H: Halt>(
     guide: &Guide<H>,
     problem: &Problem,
+    told: &[Verdict],
     memo: &mut Memo,
 ) -> Result<Outcome, Stopped>
+    requires told { AreTrueIn problem.now.position told.now }
     ensures truth { IfOk result (λ outcome. outcome ≡ truth problem.now) }
     ensures stopped { IfErr result (λ _. H.may_stop guide.now.halt.now) }
     ensures room { memo.new.room ≡ memo.old.room }
 {
     if problem.avoid.is_empty() {
-        solve_all(guide, &problem.position, problem.bound, memo)
+        solve_all(guide, &problem.position, problem.bound, told, memo)
     } else {
-        solve_rest(guide, problem, memo)
+        solve_rest(guide, problem, told, memo)
     }
 }
 
@@ -78,22 +100,22 @@ fn solve_all<H: Halt>(
     guide: &Guide<H>,
     position: &Position,
     bound: Bound,
+    told: &[Verdict],
     memo: &mut Memo,
 ) -> Result<Outcome, Stopped>
+    requires told { AreTrueIn position.now told.now }
     ensures truth { IfOk result (λ outcome. outcome ≡ truth_among (legal_moves position.now) position.now bound) }
     ensures stopped { IfErr result (λ _. H.may_stop guide.now.halt.now) }
     ensures room { memo.new.room ≡ memo.old.room }
 {
     let known = memo.entry(position);
     let first = legal(guide.rays, position);
-    let outcome = solve_among(
-        guide,
+    let root = Root {
         position,
-        first.as_slice(),
-        known.none_within,
-        bound,
-        memo,
-    )?;
+        first: first.as_slice(),
+        told,
+    };
+    let outcome = solve_among(guide, &root, known.none_within, bound, memo)?;
     memo.keep(position, learned(known, &outcome, bound));
     Ok(outcome)
 }
@@ -105,21 +127,21 @@ fn solve_all<H: Halt>(
 fn solve_rest<H: Halt>(
     guide: &Guide<H>,
     problem: &Problem,
+    told: &[Verdict],
     memo: &mut Memo,
 ) -> Result<Outcome, Stopped>
+    requires told { AreTrueIn problem.now.position told.now }
     ensures truth { IfOk result (λ outcome. outcome ≡ truth problem.now) }
     ensures stopped { IfErr result (λ _. H.may_stop guide.now.halt.now) }
     ensures room { memo.new.room ≡ memo.old.room }
 {
     let first = first_moves(guide.rays, problem);
-    solve_among(
-        guide,
-        &problem.position,
-        first.as_slice(),
-        0,
-        problem.bound,
-        memo,
-    )
+    let root = Root {
+        position: &problem.position,
+        first: first.as_slice(),
+        told,
+    };
+    solve_among(guide, &root, 0, problem.bound, memo)
 }
 
 /// Whether the move is one of these.
@@ -136,7 +158,7 @@ fn is_among(m: Move, moves: &[Move]) -> bool
 
 /// The legal moves that are not to be avoided.
 #[tactic(auto, unfolding(crate::specs::inside::Truth::first_moves), using(crate::proofs::Searches::kept_more, crate::proofs::Searches::left_out))]
-fn first_moves(rays: &Rays, problem: &Problem) -> MoveList
+fn not_avoided(rays: &Rays, problem: &Problem) -> MoveList
     ensures { result.items ≡ moves_to_begin problem.now }
 {
     let mut first = MoveList::new();
@@ -146,6 +168,14 @@ fn first_moves(rays: &Rays, problem: &Problem) -> MoveList
         }
     }
     first
+}
+
+/// The moves that the attacker may begin with: the legal ones that are not to be avoided.
+pub fn first_moves(rays: &Rays, problem: &Problem) -> MoveList
+    ensures moves { result.items ≡ moves_to_begin problem.now }
+    ensures legal { All (λ m. is_legal problem.now.position m ≡ true) result.items }
+{
+    not_avoided(rays, problem)
 }
 
 /// What is known of a position once its problem is solved.
@@ -163,26 +193,26 @@ fn learned(known: Entry, outcome: &Outcome, bound: Bound) -> Entry
 #[tactic(auto, unfolding(crate::specs::inside::Truth::truth_among), using(crate::proofs::Keys::dist_by_key, crate::proofs::Keys::dist_no_key, crate::proofs::Least::dist_fewer, crate::proofs::Keys::keys_legal, crate::proofs::Keys::variation_of_keys))]
 fn solve_among<H: Halt>(
     guide: &Guide<H>,
-    position: &Position,
-    first: &[Move],
+    root: &Root,
     none: u8,
     bound: Bound,
     memo: &mut Memo,
 ) -> Result<Outcome, Stopped>
-    requires none { dist first.now position.now none ≡ None }
-    requires few { length first.now ≤ 1024 }
-    requires legal { All (λ m. is_legal position.now m ≡ true) first.now }
-    ensures truth { IfOk result (λ outcome. outcome ≡ truth_among first.now position.now bound) }
+    requires none { dist root.now.first.now root.now.position.now none ≡ None }
+    requires few { length root.now.first.now ≤ 1024 }
+    requires legal { All (λ m. is_legal root.now.position.now m ≡ true) root.now.first.now }
+    requires told { AreTrueIn root.now.position.now root.now.told.now }
+    ensures truth { IfOk result (λ outcome. outcome ≡ truth_among root.now.first.now root.now.position.now bound) }
     ensures stopped { IfErr result (λ _. H.may_stop guide.now.halt.now) }
     ensures room { memo.new.room ≡ memo.old.room }
 {
     for k in none..bound.get() {
-        let keys = keys_among(guide, position, first, k + 1, memo)?;
+        let keys = keys_among(guide, root, k + 1, memo)?;
         if !keys.is_empty() {
             let Some(dm) = Bound::new(k + 1) else {
                 unreachable!();
             };
-            let pv = line_of_play(guide, position, keys.as_slice(), k + 1, memo)?;
+            let pv = line_of_play(guide, root.position, keys.as_slice(), k + 1, memo)?;
             return Ok(Outcome::Mate { dm, keys, pv });
         }
     }

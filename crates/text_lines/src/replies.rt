@@ -28,6 +28,9 @@ pub trait LineHandler {
     /// What goes from each line to the next.
     type Memory;
 
+    /// That it may answer, as where it starts threads.
+    ghost ready: { Self → Type 0 } = { λ _. Unit {0} };
+
     /// What a line is answered: its number in the input, from 1, the line without its CR, the text, and how many refusals that is.
     ghost replies: { Self → ℕ → List ℕ → List ℕ → ℕ → Type 0 };
 
@@ -42,6 +45,7 @@ pub trait LineHandler {
         line: &[u8],
         memory: &mut Self::Memory,
     ) -> Result<Output, NoMemory>
+        requires ready { ready self.now }
         requires filled { is_blank line.now ≡ false }
         requires short { length line.now ≤ max_line }
         ensures reply { IfOk result (λ output. replies self.now number line.now output.text.items output.refused) }
@@ -77,7 +81,8 @@ fn answer_kept<H: LineHandler>(
     kept: &Kept,
     memory: &mut H::Memory,
 ) -> Result<Output, NoMemory>
-    requires { (line : List ℕ) × IsKept kept.now line }
+    requires ready { H.ready handler.now }
+    requires kept { (line : List ℕ) × IsKept kept.now line }
     ensures reply { IfOk result (λ output. (line : List ℕ) → IsKept kept.now line
         → H.replies handler.now number (text_without_cr line) output.text.items output.refused) }
     ensures few { IfOk result (λ output. output.refused ≤ 1) }
@@ -109,6 +114,7 @@ fn answer_next<H: LineHandler, I: Input + Drop, O: Write>(
     memory: &mut H::Memory,
     out: &mut O,
 ) -> Result<Answered, Stop>
+    requires ready { H.ready handler.now }
     ensures ok { IfOk result (λ answered. (line : List ℕ) × (here : List ℕ)
         × H.replies handler.now number (text_without_cr line) here answered.refused
         × TakesLine answered.is_last (left_of I.left lines.old) (left_of I.left lines.new) line
@@ -143,6 +149,7 @@ pub fn answer_input<H: LineHandler, I: Input + Drop, O: Write>(
     memory: &mut H::Memory,
     out: &mut O,
 ) -> Result<usize, Stop>
+    requires ready { H.ready handler.now }
     ensures ok { IfOk result (λ refused. (bytes : List ℕ) × (text : List ℕ) × MayBe (I.left input) bytes
         × IsReply (H.replies handler.now) bytes text refused
         × Appends (O.contents out.old) (O.contents out.new) text) }
@@ -172,6 +179,7 @@ pub fn answer_bytes<H: LineHandler>(
     input: &[u8],
     memory: &mut H::Memory,
 ) -> Result<Output, NoMemory>
+    requires ready { H.ready handler.now }
     ensures reply { IfOk result (λ output. IsReply (H.replies handler.now) input.now output.text.items output.refused) }
     ensures room { H.room memory.new ≡ H.room memory.old }
 {

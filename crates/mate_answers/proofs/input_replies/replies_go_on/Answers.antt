@@ -7,4 +7,5 @@ returns c default = c.replies_go_on.ensures (record {
   rays =
       record { ref_ptr = (0, 0); now = record { rays = []; leaps = []; diagonals = []; straights = [] } };
   default = default;
+  solver = record {};
 })

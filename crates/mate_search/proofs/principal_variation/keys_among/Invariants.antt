@@ -5,7 +5,7 @@ use Rattle.mate_search.proofs.principal_variation.keys_among.Given as goal
 
 abbrev pub invariant-loop-m : goal.invariant-loop-m
 invariant-loop-m g l = record {
-  kept : l.keys.items ≡ filter (leaves_lost (l.n - 1) l.position) (take l.m-index l.first);
+  kept : l.keys.items ≡ filter (leaves_lost (l.n - 1) l.root.position.now) (take l.m-index l.root.first.now);
   few : array_vec_len l.keys ≤ l.m-index;
   room : l.memo.room ≡ l.fn.memo.room;
 }

@@ -5,6 +5,6 @@ use Rattle.mate_search.proofs.solving.solve_among.Given as goal
 -- no mate so far
 abbrev pub invariant-loop-k : goal.invariant-loop-k
 invariant-loop-k g l = record {
-  none : dist l.first l.position l.k ≡ None;
+  none : dist l.root.first.now l.root.position.now l.k ≡ None;
   room : l.memo.room ≡ l.fn.memo.room;
 }

@@ -5,5 +5,5 @@ use Rattle.mate_search.proofs.solving.solve_rest.Goals as goal
 
 pub solve_among-requires-clause-legal : goal.solve_among-requires-clause-legal
 solve_among-requires-clause-legal g c =
-    rw (c.as_slice.ensures.value, c.first_moves-first.ensures, ap (λ (q : ProblemValue). q.position) c.problem.view_is)
+    rw (c.as_slice.ensures.value, c.first_moves-first.ensures.moves, ap (λ (q : ProblemValue). q.position) c.problem.view_is)
     (first_moves_each c.args.problem.now)

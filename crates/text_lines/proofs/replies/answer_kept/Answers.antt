@@ -24,7 +24,7 @@ answer-requires-clause-filled g c =
     let kept : c.without_cr-line.result.now ≡ without_cr c.args.kept.now.bytes.items =
     c.without_cr-line.ensures ∙ ap without_cr c.as_slice.ensures.value in
     let short = subst (λ (l : List ℕ). length l ≤ max_line) kept c.if-line-gt-MAX_LINE.false in
-    let (line, is) = c.requires in
+    let (line, is) = c.requires.kept in
     rw (kept) (kept_filled c.args.kept.now line is short (sym (c.is_blank.ensures line is) ∙ c.if-is_blank.false))
 
 pub returns-clause-reply : goal.returns-clause-reply

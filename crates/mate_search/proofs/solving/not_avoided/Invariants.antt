@@ -1,7 +1,7 @@
 use Rattle.std.proofs.Common.{◌≡◌, ◌≤◌, not, take, filter, length}
 use Rattle.std.specs.List.{list_any}
 use Rattle.chess_problems.specs.SameProblems.{is_same_move}
-use Rattle.mate_search.proofs.solving.first_moves.Given as goal
+use Rattle.mate_search.proofs.solving.not_avoided.Given as goal
 
 abbrev pub invariant-loop-m : goal.invariant-loop-m
 invariant-loop-m l = record {

@@ -5,7 +5,7 @@ use Rattle.chess_problems.specs.Problems.{ProblemValue}
 use Rattle.chess_moves.specs.inside.Listing.{legal_moves}
 use Rattle.mate_search.specs.inside.Truth.{truth, truth_among}
 use Rattle.mate_search.proofs.FirstMoves.{truth_of_all}
-use Rattle.mate_search.proofs.solving.solve_by.Goals as goal
+use Rattle.mate_search.proofs.solving.solve_either.Goals as goal
 
 pub returns-then-is_empty-clause-truth : goal.returns-then-is_empty-clause-truth
 returns-then-is_empty-clause-truth g c =

@@ -1,0 +1,9 @@
+-- Verdicts on first moves.
+use Rattle.std.specs.Prelude.{◌≡◌, List, All}
+use Rattle.chess_board.specs.Positions.{Setup}
+use Rattle.mate_search.specs.Wins.{leaves_lost}
+use Rattle.mate_search.specs.declared.verdicts.Verdict.{Verdict}
+
+-- Each verdict is true in this position: exactly where it says so, its move leaves the defender lost with as many moves more as it says.
+unfoldable pub AreTrueIn : Setup → List Verdict → Type 0
+AreTrueIn p verdicts = All (λ v. v.is_lost ≡ leaves_lost v.k p v.m) verdicts

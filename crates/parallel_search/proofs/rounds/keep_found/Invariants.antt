@@ -1,0 +1,7 @@
+use Rattle.mate_search.specs.Verdicts.{AreTrueIn}
+use Rattle.parallel_search.specs.inside.Verdicts.{AreAllTrueIn}
+use Rattle.chess_board.specs.Positions.{Setup}
+use Rattle.parallel_search.proofs.rounds.keep_found.Given as goal
+
+abbrev pub invariant-loop-worker : goal.invariant-loop-worker
+invariant-loop-worker l = (p : Setup) → AreAllTrueIn p l.workers → AreTrueIn p l.fn.told.items → AreTrueIn p l.told.items
