@@ -1,6 +1,6 @@
 -- What is kept of a line tells what the line is answered.
-use Rattle.std.proofs.Common.{◌≡◌, ◌++◌, ◌+◌, ◌-◌, ◌==◌, ◌&&◌, ◌||◌, ◌<◌, ◌≤◌, ℕ, zero, suc, Bool, true, false, List, [], ◌∷◌, Result, Ok}
-use Rattle.std.proofs.Common.{Err, IfOk, ◌⊎◌, inl, inr, refl, sym, ap, ◌∙◌, subst, arith, length, take, get_or, cond, min, ne_eqb, ◌≢◌}
+use Rattle.std.proofs.Common.{◌≡◌, ◌++◌, ◌+◌, ◌-◌, ◌==◌, ◌&&◌, ◌||◌, ◌<◌, ◌≤◌, ℕ, zero, suc, Bool, true, false, List, [], ◌∷◌}
+use Rattle.std.proofs.Common.{◌⊎◌, inl, inr, refl, sym, ap, ◌∙◌, subst, arith, length, take, get_or, cond, min, ne_eqb, ◌≢◌}
 use Rattle.std.proofs.Math.Bool.{and-true, or_comm}
 use Rattle.std.proofs.lemmas.Bool.{cases_lt}
 use Rattle.std.proofs.lemmas.List.{length-take, take_all, take_min}
@@ -127,15 +127,3 @@ pub kept_filled : (kept : Kept) (line : List ℕ) → IsKept kept line
     → length (without_cr kept.bytes.items) ≤ max_line → is_blank (without_cr line) ≡ false
     → is_blank (without_cr kept.bytes.items) ≡ false
 kept_filled kept line is short filled = ap (λ l. is_blank (without_cr l)) (kept_short kept line is short) ∙ filled
-
-pub short_reply : {X E : Type 0} (Says : List ℕ → X → Type 0) (kept : Kept) (r : Result X E) → length (without_cr kept.bytes.items) ≤ max_line
-    → IfOk r (λ x. Says (without_cr kept.bytes.items) x) → IfOk r (λ x. (line : List ℕ) → IsKept kept line → Says (without_cr line) x)
-short_reply Says kept (Ok x) short reply = λ line is. subst (λ l. Says (without_cr l) x) (kept_short kept line is short) reply
-short_reply Says kept (Err e) short reply = tt
-
-pub long_reply : {X E : Type 0} (Says : List ℕ → X → Type 0) (kept : Kept) (r : Result X E) → max_line < length (without_cr kept.bytes.items)
-    → ((line : List ℕ) → IsKept kept line → is_blank (without_cr line) ≡ false)
-    → IfOk r (λ x. (line : List ℕ) → is_blank line ≡ false → max_line < length line → Says line x)
-    → IfOk r (λ x. (line : List ℕ) → IsKept kept line → Says (without_cr line) x)
-long_reply Says kept (Ok x) long filled reply = λ line is. reply (without_cr line) (filled line is) (kept_long kept line is long)
-long_reply Says kept (Err e) long filled reply = tt

@@ -1,3 +1,4 @@
 pub mod InputLines
 pub mod KeptLines
 pub mod LineReplies
+pub mod WrittenReplies

@@ -1,13 +1,15 @@
 //! The lines of an input as they come, and the replies to them.
 //!
-//! What a line says and is answered is the business of a `LineHandler`, and where bytes come from and go to that of `byte_streams`. To
-//! read: `specs/Replies.antt` and `replies`, over `input_lines`; then `refusals`, for lines that say no record.
+//! What a line says and is answered is the business of a `LineHandler`, or of a `LineWriter`, and where bytes come from and go to that of
+//! `byte_streams`. To read: `specs/Replies.antt` and `writers`, over `input_lines`; `replies`; then `refusals`, for lines that say no record.
 #![tactic(auto)]
 
 mod input_lines;
 mod refusals;
 mod replies;
+mod writers;
 
 pub use input_lines::{first_line, without_cr};
 pub use refusals::{fault_text, refusal};
 pub use replies::{LineHandler, Output, answer_bytes, answer_input, replies_go_on};
+pub use writers::{LineWriter, write_replies};

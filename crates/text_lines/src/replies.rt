@@ -1,16 +1,14 @@
 //! The replies to an input, line by line.
 
-ghost use Rattle.std.specs.Prelude.{◌≡◌, ◌<◌, ◌≤◌, ℕ, Bool, List, [], IfErr, IfOk, length, true, false};
+ghost use Rattle.std.specs.Prelude.{◌≡◌, ◌<◌, ◌≤◌, ℕ, List, [], IfErr, IfOk, length, true, false};
 ghost use Rattle.std.specs.Io.KnownBytes.{Appends};
 ghost use Rattle.byte_streams.specs.Inputs.{MayBe};
 ghost use Rattle.byte_streams.specs.Stops.{AppendsBy, AppendsPart, is_of_output};
 ghost use Rattle.chess_notation.specs.Records.{max_line};
 ghost use Rattle.chess_notation.specs.Words.{is_blank};
-ghost use Rattle.text_lines.specs.Lines.{without_cr as text_without_cr};
 ghost use Rattle.text_lines.specs.Replies.{IsReply, IsReplyToFirst, RepliesGoOn};
-ghost use Rattle.text_lines.specs.inside.InputLines.{IsKept, TakesLine, left_of};
 
-use crate::input_lines::{Kept, Lines, MAX_LINE, without_cr};
+use crate::writers::{LineWriter, write_replies};
 use byte_streams::{Input, NoMemory, Stop, put};
 use std::alloc::Global;
 use std::io::Write;
@@ -62,80 +60,59 @@ pub trait LineHandler {
     ghost skips: { (handler : Self) (number : ℕ) (line : List ℕ) → is_blank line ≡ true → replies handler number line [] 0 };
 }
 
-/// The reply to a blank line.
-fn nothing(alloc: Global) -> Output
-    ensures text { result.text.items ≡ [] }
-    ensures none { result.refused ≡ 0 }
-{
-    Output {
-        text: Vec::new(alloc),
-        refused: 0,
-    }
+/// A handler's replies, each of which is whole before it is written.
+#[derive(Drop)]
+struct Whole<'a, H> {
+    handler: &'a H,
 }
 
-/// The reply to a line by what is kept of it: a line of which bytes are left out is blank or too long.
-fn answer_kept<H: LineHandler>(
-    alloc: Global,
-    handler: &H,
-    number: usize,
-    kept: &Kept,
-    memory: &mut H::Memory,
-) -> Result<Output, NoMemory>
-    requires ready { H.ready handler.now }
-    requires kept { (line : List ℕ) × IsKept kept.now line }
-    ensures reply { IfOk result (λ output. (line : List ℕ) → IsKept kept.now line
-        → H.replies handler.now number (text_without_cr line) output.text.items output.refused) }
-    ensures few { IfOk result (λ output. output.refused ≤ 1) }
-    ensures room { H.room memory.new ≡ H.room memory.old }
-{
-    if kept.is_blank() {
-        return Ok(nothing(alloc));
+impl<H: LineHandler> LineWriter for Whole<'_, H> {
+    type Memory = H::Memory;
+
+    ghost ready = { λ whole. H.ready whole.handler.now };
+
+    ghost replies = { λ whole. H.replies whole.handler.now };
+
+    ghost room = { λ memory. H.room memory };
+
+    fn write_reply<O: Write>(
+        &self,
+        alloc: Global,
+        number: usize,
+        line: &[u8],
+        memory: &mut H::Memory,
+        out: &mut O,
+    ) -> Result<usize, Stop> {
+        match self.handler.answer(alloc, number, line, memory) {
+            Ok(output) => put_reply(out, &output),
+            Err(_) => Err(Stop::NoMemory),
+        }
     }
-    let line = without_cr(kept.bytes.as_slice());
-    if line.len() > MAX_LINE {
-        return handler.refuse_long(alloc, number);
+
+    fn refuse_long<O: Write>(
+        &self,
+        alloc: Global,
+        number: usize,
+        out: &mut O,
+    ) -> Result<usize, Stop> {
+        match self.handler.refuse_long(alloc, number) {
+            Ok(output) => put_reply(out, &output),
+            Err(_) => Err(Stop::NoMemory),
+        }
     }
-    handler.answer(alloc, number, line, memory)
+
+    ghost skips = { λ whole number line blank. H.skips whole.handler.now number line blank };
 }
 
-/// What is known once a line is answered: whether it was refused, and whether it is the last.
-#[derive(Clone, Copy)]
-struct Answered {
-    refused: usize,
-    is_last: bool,
-}
-
-/// Takes the next line of an input, and has written the reply to it when it returns.
-fn answer_next<H: LineHandler, I: Input + Drop, O: Write>(
-    alloc: Global,
-    handler: &H,
-    number: usize,
-    lines: &mut Lines<I>,
-    memory: &mut H::Memory,
-    out: &mut O,
-) -> Result<Answered, Stop>
-    requires ready { H.ready handler.now }
-    ensures ok { IfOk result (λ answered. (line : List ℕ) × (here : List ℕ)
-        × H.replies handler.now number (text_without_cr line) here answered.refused
-        × TakesLine answered.is_last (left_of I.left lines.old) (left_of I.left lines.new) line
-        × Appends (O.contents out.old) (O.contents out.new) here) }
-    ensures few { IfOk result (λ answered. answered.refused ≤ 1) }
-    ensures unanswered { IfErr result (λ stop. is_of_output stop ≡ false → out.new ≡ out.old) }
-    ensures cut { IfErr result (λ stop. is_of_output stop ≡ true → (is_last : Bool) × (line : List ℕ) × (here : List ℕ) × (count : ℕ)
-        × H.replies handler.now number (text_without_cr line) here count
-        × TakesLine is_last (left_of I.left lines.old) (left_of I.left lines.new) line
-        × AppendsPart (O.contents out.old) (O.contents out.new) here) }
-    ensures unreadable { IfErr result (λ stop. stop ≡ Stop.Unreadable → I.breaks lines.old.input) }
-    ensures steady { I.breaks lines.new.input → I.breaks lines.old.input }
-    ensures room { H.room memory.new ≡ H.room memory.old }
+/// Writes a reply; gives how many lines it refuses.
+fn put_reply<O: Write>(out: &mut O, output: &Output) -> Result<usize, Stop>
+    ensures ok { IfOk result (λ refused. (refused ≡ output.now.refused) × Appends (O.contents out.old) (O.contents out.new) output.now.text.items) }
+    ensures err { IfErr result (λ stop. (is_of_output stop ≡ true) × AppendsPart (O.contents out.old) (O.contents out.new) output.now.text.items) }
 {
-    let taken = lines.take_line(alloc)?;
-    let output = answer_kept(alloc, handler, number, &taken.kept, memory)?;
-    put(out, output.text.as_slice())?;
-    Ok(Answered {
-        refused: output.refused,
-        is_last: taken.is_last,
-    })
+    match put(out, output.text.as_slice()) {
+        Ok(()) => Ok(output.refused),
+        Err(stop) => Err(stop),
+    }
 }
 
 /// Answers an input line by line: each line before the next is waited for. Gives how many lines are refused.
@@ -159,16 +136,7 @@ pub fn answer_input<H: LineHandler, I: Input + Drop, O: Write>(
     ensures unreadable { IfErr result (λ stop. stop ≡ Stop.Unreadable → I.breaks input) }
     ensures room { H.room memory.new ≡ H.room memory.old }
 {
-    let mut lines = Lines::new(alloc, input);
-    let mut refused = 0;
-    for number in 1..usize::MAX {
-        let answered = answer_next(alloc, handler, number, &mut lines, memory, out)?;
-        refused += answered.refused;
-        if answered.is_last {
-            return Ok(refused);
-        }
-    }
-    Err(Stop::NoMemory)
+    write_replies(alloc, &Whole { handler }, input, memory, out)
 }
 
 /// What an input that is there already is answered, and how many of its lines are refused. Want of memory leaves no part of the

@@ -1,10 +1,10 @@
-use Rattle.std.proofs.Common.{◌++◌, ◌∷◌, [], refl, sym, ◌∙◌, subst, arith, length-append}
+use Rattle.std.proofs.Common.{◌++◌, ◌∷◌, [], refl, ◌∙◌, subst, arith, length-append}
 use Rattle.std.proofs.lemmas.Result.{err_from_is_err_and}
-use Rattle.std.proofs.KnownBytes.{Appends-nil, Appends-trans, Consumes-nil, Consumes-trans, Keeps-refl}
-use Rattle.std.specs.Io.KnownBytes.{Consumes, Keeps}
+use Rattle.std.proofs.KnownBytes.{Appends-nil, Appends-trans, Consumes-nil, Consumes-trans}
+use Rattle.std.specs.Io.KnownBytes.{Consumes}
 use Rattle.text_lines.specs.inside.InputLines.{TakesLine, left_of}
 use Rattle.text_lines.proofs.LineReplies.{gave_up, last_reply, opens_more, replies_next, stopped}
-use Rattle.text_lines.proofs.replies.answer_input.Goals as goal
+use Rattle.text_lines.proofs.writers.write_replies.Goals as goal
 
 pub loop-number-init : goal.loop-number-init
 loop-number-init g c = (
@@ -29,13 +29,11 @@ returns-in_err-answered-clause-err g c =
     let (seen, lines, text, so_far) = c.loop-number.invariant in
     let (other, is, same) = err_from_is_err_and c.from_residual.result c.from_residual.ensures.1 in
     rw (is, same)
-    (stopped c.in_err-answered.field-0.0 (g.H.LineHandler.replies c.args.handler.now) c.loop-number.number c.loop-number.refused
+    (stopped c.in_err-answered.field-0.0 (g.W.LineWriter.replies c.args.writer.now) c.loop-number.number c.loop-number.refused
     (g.I.Input.left c.args.input) _ _ (g.O.Write.contents c.args.out.now)
     (g.O.Write.contents c.loop-number.out) (g.O.Write.contents c.answer_next.new.out) seen text lines
     so_far.taken so_far.opens so_far.replies so_far.number so_far.appends
-    (λ silent. subst (λ out. Keeps (g.O.Write.contents c.loop-number.out) (g.O.Write.contents out))
-    (sym (c.in_err-answered.ensures.unanswered silent)) (Keeps-refl (g.O.Write.contents c.loop-number.out)))
-    c.in_err-answered.ensures.cut)
+    c.in_err-answered.ensures.unanswered c.in_err-answered.ensures.cut)
 
 pub returns-then-answered-clause-ok : goal.returns-then-answered-clause-ok
 returns-then-answered-clause-ok g c =
@@ -43,7 +41,7 @@ returns-then-answered-clause-ok g c =
     let (line, here, reply, takes, appends) = c.in_ok-answered.ensures.ok in
     let takes' = subst (λ b. TakesLine b (left_of g.I.Input.left c.loop-number.lines)
     (left_of g.I.Input.left c.answer_next.new.lines) line) c.if-answered.true takes in
-    let (may, replies) = last_reply (g.H.LineHandler.replies c.args.handler.now) c.loop-number.number c.loop-number.refused
+    let (may, replies) = last_reply (g.W.LineWriter.replies c.args.writer.now) c.loop-number.number c.loop-number.refused
     c.in_ok-answered.answered.refused (g.I.Input.left c.args.input) _ _ seen line text here lines
     so_far.taken so_far.opens so_far.replies so_far.number takes' reply in
     (seen ++ line, text ++ here, may, replies, Appends-trans _ _ _ text here so_far.appends appends)
@@ -60,7 +58,7 @@ loop-number-preserved g c =
       record {
         taken = Consumes-trans _ _ _ seen (line ++ 10 ∷ []) so_far.taken on;
         opens = opens_more seen line lines one so_far.opens;
-        replies = replies_next (g.H.LineHandler.replies c.args.handler.now) c.loop-number.number lines line text here
+        replies = replies_next (g.W.LineWriter.replies c.args.writer.now) c.loop-number.number lines line text here
             c.loop-number.refused c.in_ok-answered.answered.refused so_far.number so_far.replies reply;
         number = omega (arith, so_far.number, length-append lines (line ∷ []));
         appends = Appends-trans _ _ _ text here so_far.appends appends;
@@ -73,6 +71,6 @@ loop-number-preserved g c =
 pub returns-clause-err : goal.returns-clause-err
 returns-clause-err g c =
     let (seen, lines, text, so_far) = c.loop-number.invariant in
-    gave_up (g.H.LineHandler.replies c.args.handler.now) c.loop-number.refused (g.I.Input.left c.args.input) _
+    gave_up (g.W.LineWriter.replies c.args.writer.now) c.loop-number.refused (g.I.Input.left c.args.input) _
     (g.O.Write.contents c.args.out.now) (g.O.Write.contents c.loop-number.out) seen text lines
     so_far.taken so_far.opens so_far.replies so_far.appends

@@ -3,17 +3,17 @@ use Rattle.std.specs.Io.KnownBytes.{Appends, Consumes}
 use Rattle.text_lines.specs.Replies.{IsReplyFrom}
 use Rattle.text_lines.specs.inside.InputLines.{left_of}
 use Rattle.text_lines.proofs.LineReplies.{Opens}
-use Rattle.text_lines.proofs.replies.answer_input.Given as goal
+use Rattle.text_lines.proofs.writers.write_replies.Given as goal
 
 -- what was taken so far are whole lines, and the replies to them are written
 abbrev pub invariant-loop-number : goal.invariant-loop-number
 invariant-loop-number g l = (seen : List ℕ) × (lines : List (List ℕ)) × (text : List ℕ) × record {
   taken : Consumes (g.I.Input.left l.fn.input) (left_of g.I.Input.left l.lines) seen;
   opens : Opens seen lines;
-  replies : IsReplyFrom (g.H.LineHandler.replies l.handler) 1 lines text l.refused;
+  replies : IsReplyFrom (g.W.LineWriter.replies l.writer) 1 lines text l.refused;
   number : length lines + 1 ≡ l.number;
   appends : Appends (g.O.Write.contents l.initial.out) (g.O.Write.contents l.out) text;
   few : l.refused < l.number;
   steady : g.I.Input.breaks l.lines.input → g.I.Input.breaks l.fn.input;
-  room : g.H.LineHandler.room l.memory ≡ g.H.LineHandler.room l.initial.memory;
+  room : g.W.LineWriter.room l.memory ≡ g.W.LineWriter.room l.initial.memory;
 }

@@ -1,0 +1,59 @@
+-- What an output gains by the reply to a line, by what may be that reply.
+use Rattle.std.proofs.Common.{◌≡◌, ◌≤◌, ℕ, List, Option, Result, Ok, Err, IfErr, IfOk, true, false, subst, sym}
+use Rattle.std.specs.Io.KnownBytes.{Appends, Keeps}
+use Rattle.byte_streams.specs.declared.stops.Stop.{Stop}
+use Rattle.byte_streams.specs.declared.stops.Stop.TheVariants as stop
+use Rattle.byte_streams.specs.Stops.{AppendsPart, is_of_output}
+use Rattle.text_lines.specs.Writers.{BreaksOff, PartReplied, Replied}
+
+module _ (P : List ℕ → ℕ → Type 0) (old new : Option (List ℕ)) where
+  -- ---- read as what another line may be answered
+
+  pub replied_as : (Q : List ℕ → ℕ → Type 0) (r : Result ℕ Stop) → ((text : List ℕ) (n : ℕ) → P text n → Q text n)
+      → IfOk r (Replied P old new) → IfOk r (Replied Q old new)
+  replied_as Q (Ok n) read (text, may, on) = (text, read text n may, on)
+  replied_as Q (Err e) read replied = tt
+
+  pub breaks_as : (Q : List ℕ → ℕ → Type 0) (r : Result ℕ Stop) → ((text : List ℕ) (n : ℕ) → P text n → Q text n)
+      → IfErr r (BreaksOff P old new) → IfErr r (BreaksOff Q old new)
+  breaks_as Q (Ok n) read breaks = tt
+  breaks_as Q (Err stop.NoMemory) read keeps = keeps
+  breaks_as Q (Err stop.Unreadable) read never = absurd never
+  breaks_as Q (Err stop.Unwritable) read (text, n, may, part) = (text, n, read text n may, part)
+  breaks_as Q (Err stop.NoReader) read (text, n, may, part) = (text, n, read text n may, part)
+
+  -- ---- what it comes to
+
+  pub silent_keeps : (s : Stop) → BreaksOff P old new s → is_of_output s ≡ false → Keeps old new
+  silent_keeps stop.NoMemory keeps silent = keeps
+  silent_keeps stop.Unreadable never silent = absurd never
+  silent_keeps stop.Unwritable part silent = cc
+  silent_keeps stop.NoReader part silent = cc
+
+  pub broken_part : (s : Stop) → BreaksOff P old new s → is_of_output s ≡ true → PartReplied P old new
+  broken_part stop.NoMemory keeps broken = cc
+  broken_part stop.Unreadable never broken = absurd never
+  broken_part stop.Unwritable part broken = part
+  broken_part stop.NoReader part broken = part
+
+  pub never_unreadable : (s : Stop) → BreaksOff P old new s → s ≡ stop.Unreadable → ⊥
+  never_unreadable s breaks is = subst (BreaksOff P old new) is breaks
+
+  -- ---- a reply that is there whole
+
+  pub whole_replied : (text : List ℕ) (count : ℕ) (r : Result ℕ Stop) → P text count
+      → IfOk r (λ n. (n ≡ count) × Appends old new text) → IfOk r (Replied P old new)
+  whole_replied text count (Ok n) may (is, on) = (text, subst (P text) (sym is) may, on)
+  whole_replied text count (Err e) may put = tt
+
+  pub whole_breaks : (text : List ℕ) (count : ℕ) (r : Result ℕ Stop) → P text count
+      → IfErr r (λ s. (is_of_output s ≡ true) × AppendsPart old new text) → IfErr r (BreaksOff P old new)
+  whole_breaks text count (Ok n) may put = tt
+  whole_breaks text count (Err stop.NoMemory) may (broken, part) = cc
+  whole_breaks text count (Err stop.Unreadable) may (broken, part) = cc
+  whole_breaks text count (Err stop.Unwritable) may (broken, part) = (text, count, may, part)
+  whole_breaks text count (Err stop.NoReader) may (broken, part) = (text, count, may, part)
+
+pub whole_few : (A : ℕ → Type 0) (count : ℕ) (r : Result ℕ Stop) → count ≤ 1 → IfOk r (λ n. (n ≡ count) × A n) → IfOk r (λ n. n ≤ 1)
+whole_few A count (Ok n) few (is, on) = subst (λ m. m ≤ 1) (sym is) few
+whole_few A count (Err e) few put = tt

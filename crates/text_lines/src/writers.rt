@@ -1,0 +1,169 @@
+//! The lines of an input, answered on an output one by one.
+
+ghost use Rattle.std.specs.Prelude.{◌≡◌, ◌<◌, ◌≤◌, ℕ, Bool, List, [], IfErr, IfOk, length, true, false};
+ghost use Rattle.std.specs.Io.KnownBytes.{Appends, Keeps};
+ghost use Rattle.byte_streams.specs.Inputs.{MayBe};
+ghost use Rattle.byte_streams.specs.Stops.{AppendsBy, AppendsPart, is_of_output};
+ghost use Rattle.chess_notation.specs.Records.{max_line};
+ghost use Rattle.chess_notation.specs.Words.{is_blank};
+ghost use Rattle.text_lines.specs.Lines.{without_cr as text_without_cr};
+ghost use Rattle.text_lines.specs.Replies.{IsReply, IsReplyToFirst};
+ghost use Rattle.text_lines.specs.Writers.{BreaksOff, Replied};
+ghost use Rattle.text_lines.specs.inside.InputLines.{IsKept, TakesLine, left_of};
+
+use crate::input_lines::{Kept, Lines, MAX_LINE, without_cr};
+use byte_streams::{Input, Stop};
+use std::alloc::Global;
+use std::io::Write;
+
+/// What answers lines, one by one, and writes each reply itself, so that it need not be whole in memory. It is asked neither about
+/// blank lines, which are answered with nothing, nor what stands in lines that are too long.
+pub trait LineWriter {
+    /// What goes from each line to the next.
+    type Memory;
+
+    /// That it may answer, as where it starts threads.
+    ghost ready: { Self → Type 0 } = { λ _. Unit {0} };
+
+    /// What a line is answered: its number in the input, from 1, the line without its CR, the text, and how many refusals that is.
+    ghost replies: { Self → ℕ → List ℕ → List ℕ → ℕ → Type 0 };
+
+    /// What of the memory stays as it is.
+    ghost room: { Self.Memory → ℕ };
+
+    /// Writes the reply to a line that is neither blank nor longer than a record may be; gives how many refusals that is. Where memory
+    /// is refused, nothing is written.
+    fn write_reply<O: Write>(
+        &self,
+        alloc: Global,
+        number: usize,
+        line: &[u8],
+        memory: &mut Self::Memory,
+        out: &mut O,
+    ) -> Result<usize, Stop>
+        requires ready { ready self.now }
+        requires filled { is_blank line.now ≡ false }
+        requires short { length line.now ≤ max_line }
+        ensures reply { IfOk result (Replied (replies self.now number line.now) (O.contents out.old) (O.contents out.new)) }
+        ensures err { IfErr result (BreaksOff (replies self.now number line.now) (O.contents out.old) (O.contents out.new)) }
+        ensures few { IfOk result (λ refused. refused ≤ 1) }
+        ensures room { room memory.new ≡ room memory.old };
+
+    /// Writes the reply to a line that is longer than a record may be, whatever stands in it.
+    fn refuse_long<O: Write>(
+        &self,
+        alloc: Global,
+        number: usize,
+        out: &mut O,
+    ) -> Result<usize, Stop>
+        ensures reply { IfOk result (Replied (λ text refusals. (line : List ℕ) → is_blank line ≡ false → max_line < length line
+            → replies self.now number line text refusals) (O.contents out.old) (O.contents out.new)) }
+        ensures err { IfErr result (BreaksOff (λ text refusals. (line : List ℕ) → is_blank line ≡ false → max_line < length line
+            → replies self.now number line text refusals) (O.contents out.old) (O.contents out.new)) }
+        ensures few { IfOk result (λ refused. refused ≤ 1) };
+
+    /// A blank line is answered with nothing.
+    ghost skips: { (writer : Self) (number : ℕ) (line : List ℕ) → is_blank line ≡ true → replies writer number line [] 0 };
+}
+
+/// Writes the reply to a line by what is kept of it: a line of which bytes are left out is blank or too long.
+fn answer_kept<W: LineWriter, O: Write>(
+    alloc: Global,
+    writer: &W,
+    number: usize,
+    kept: &Kept,
+    memory: &mut W::Memory,
+    out: &mut O,
+) -> Result<usize, Stop>
+    requires ready { W.ready writer.now }
+    requires kept { (line : List ℕ) × IsKept kept.now line }
+    ensures reply { IfOk result (Replied (λ text refusals. (line : List ℕ) → IsKept kept.now line
+        → W.replies writer.now number (text_without_cr line) text refusals) (O.contents out.old) (O.contents out.new)) }
+    ensures err { IfErr result (BreaksOff (λ text refusals. (line : List ℕ) → IsKept kept.now line
+        → W.replies writer.now number (text_without_cr line) text refusals) (O.contents out.old) (O.contents out.new)) }
+    ensures few { IfOk result (λ refused. refused ≤ 1) }
+    ensures room { W.room memory.new ≡ W.room memory.old }
+{
+    if kept.is_blank() {
+        return Ok(0);
+    }
+    let line = without_cr(kept.bytes.as_slice());
+    if line.len() > MAX_LINE {
+        return writer.refuse_long(alloc, number, out);
+    }
+    writer.write_reply(alloc, number, line, memory, out)
+}
+
+/// What is known once a line is answered: whether it was refused, and whether it is the last.
+#[derive(Clone, Copy)]
+struct Answered {
+    refused: usize,
+    is_last: bool,
+}
+
+/// Takes the next line of an input, and has written the reply to it when it returns.
+fn answer_next<W: LineWriter, I: Input + Drop, O: Write>(
+    alloc: Global,
+    writer: &W,
+    number: usize,
+    lines: &mut Lines<I>,
+    memory: &mut W::Memory,
+    out: &mut O,
+) -> Result<Answered, Stop>
+    requires ready { W.ready writer.now }
+    ensures ok { IfOk result (λ answered. (line : List ℕ) × (here : List ℕ)
+        × W.replies writer.now number (text_without_cr line) here answered.refused
+        × TakesLine answered.is_last (left_of I.left lines.old) (left_of I.left lines.new) line
+        × Appends (O.contents out.old) (O.contents out.new) here) }
+    ensures few { IfOk result (λ answered. answered.refused ≤ 1) }
+    ensures unanswered { IfErr result (λ stop. is_of_output stop ≡ false → Keeps (O.contents out.old) (O.contents out.new)) }
+    ensures cut { IfErr result (λ stop. is_of_output stop ≡ true → (is_last : Bool) × (line : List ℕ) × (here : List ℕ) × (count : ℕ)
+        × W.replies writer.now number (text_without_cr line) here count
+        × TakesLine is_last (left_of I.left lines.old) (left_of I.left lines.new) line
+        × AppendsPart (O.contents out.old) (O.contents out.new) here) }
+    ensures unreadable { IfErr result (λ stop. stop ≡ Stop.Unreadable → I.breaks lines.old.input) }
+    ensures steady { I.breaks lines.new.input → I.breaks lines.old.input }
+    ensures room { W.room memory.new ≡ W.room memory.old }
+{
+    let taken = lines.take_line(alloc)?;
+    match answer_kept(alloc, writer, number, &taken.kept, memory, out) {
+        Ok(refused) => Ok(Answered {
+            refused,
+            is_last: taken.is_last,
+        }),
+        Err(stop) => Err(stop),
+    }
+}
+
+/// Answers an input line by line: each line before the next is waited for. Gives how many lines are refused.
+///
+/// Where it stops before the end, the replies to some of the first lines are written. A line is taken into memory no further
+/// than a record is long.
+pub fn write_replies<W: LineWriter, I: Input + Drop, O: Write>(
+    alloc: Global,
+    writer: &W,
+    input: I,
+    memory: &mut W::Memory,
+    out: &mut O,
+) -> Result<usize, Stop>
+    requires ready { W.ready writer.now }
+    ensures ok { IfOk result (λ refused. (bytes : List ℕ) × (text : List ℕ) × MayBe (I.left input) bytes
+        × IsReply (W.replies writer.now) bytes text refused
+        × Appends (O.contents out.old) (O.contents out.new) text) }
+    ensures err { IfErr result (λ stop. (bytes : List ℕ) × (text : List ℕ) × MayBe (I.left input) bytes
+        × IsReplyToFirst (W.replies writer.now) bytes text
+        × AppendsBy stop (O.contents out.old) (O.contents out.new) text) }
+    ensures unreadable { IfErr result (λ stop. stop ≡ Stop.Unreadable → I.breaks input) }
+    ensures room { W.room memory.new ≡ W.room memory.old }
+{
+    let mut lines = Lines::new(alloc, input);
+    let mut refused = 0;
+    for number in 1..usize::MAX {
+        let answered = answer_next(alloc, writer, number, &mut lines, memory, out)?;
+        refused += answered.refused;
+        if answered.is_last {
+            return Ok(refused);
+        }
+    }
+    Err(Stop::NoMemory)
+}
