@@ -427,7 +427,8 @@ pub const ABOUT_FROM: &str =
     "The number of the line of the first FILE that is the first to be answered, 1 to 1000000000";
 
 /// The option `--progress` in one line.
-pub const ABOUT_PROGRESS: &str = "Tell on standard error how far it is, and at the end what it came to";
+pub const ABOUT_PROGRESS: &str =
+    "Tell on standard error how far it is, and at the end what it came to";
 
 /// The argument FILE in one line.
 pub const ABOUT_FILE: &str = "Files of records, each answered in its place; `-` is standard input";
