@@ -31,6 +31,14 @@ workers_rule = record (wanted (codes "N")) {
   parser = Some (parser.Signed (pos 1) (pos 16));
 }
 
+-- the same of `solve`, which is 1 where it isn't given
+unfoldable pub solve_workers_rule : Rule
+solve_workers_rule = record (new_rule (codes "N")) {
+  long = Some (codes "workers");
+  parser = Some (parser.Signed (pos 1) (pos 16));
+  defaults = codes "1" ∷ [];
+}
+
 -- an option that reads a number from 1 to 65,536, and is such a one where it isn't given
 unfoldable pub memo_rule : Text → Rule
 memo_rule default = record (new_rule (codes "M")) {
@@ -94,7 +102,8 @@ unfoldable pub with_lines_of_files : App → App
 with_lines_of_files a = with_rule (with_rule (with_rule a from_rule) progress_rule) files_rule
 
 unfoldable pub solve_app : App
-solve_app = with_lines_of_files (with_rule (with_solving_options (new_app (codes "solve")) (codes "65536")) limit_rule)
+solve_app = with_lines_of_files
+    (with_rule (with_rule (with_solving_options (new_app (codes "solve")) (codes "65536")) limit_rule) solve_workers_rule)
 
 unfoldable pub verify_app : App
 verify_app = with_lines_of_files (with_solving_options (new_app (codes "verify")) (codes "65536"))

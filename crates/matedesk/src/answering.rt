@@ -9,16 +9,20 @@ use crate::console::Console;
 use crate::limiting::solve_in_time;
 use crate::progress_thread::Telling;
 use crate::serving::serve;
+use crate::sharing::solve_on;
 use crate::talking::talk;
 use crate::watched_files::WatchedFiles;
 use command_words::{Request, asks_progress, escaped, parse, request_of};
-use plain_commands::{Source, complain, ends_by_status, limited_none, no_memory, plain_command};
+use plain_commands::{
+    Source, complain, ends_by_status, limited_none, no_memory, plain_command, solves_none,
+};
 use std::alloc::Global;
 use std::io::Write;
 use std::sync::Wait;
 use std::thread::Threads;
 
-/// Answers words that ask for `serve`, `uci` or `solve --limit`. That they were parsed before shows that they are no fault: what is refused now is memory.
+/// Answers words that ask for `serve`, `uci`, `solve --workers` or `solve --limit`. That they were parsed before shows that they are no fault:
+/// what is refused now is memory.
 fn threaded_command<
     R: Threads + Wait + Sync + Clone + Drop + Send + 'static,
     S: Source + Sync,
@@ -35,6 +39,7 @@ where
     // How it ends with the status of what was written, and with nothing written.
     ends_by_status(source);
     limited_none();
+    solves_none();
     let Ok(texts) = escaped(alloc, words) else {
         return no_memory(err);
     };
@@ -45,6 +50,9 @@ where
     match &request {
         Some(Request::Serve(workers, bound, memo, names)) => serve(
             rt, alloc, *workers, *bound, *memo, names, source, out, err,
+        ),
+        Some(Request::SolveOn(workers, bound, memo, files)) => solve_on(
+            rt, alloc, *workers, *bound, *memo, files, source, out, err,
         ),
         Some(Request::Limited(asked)) => solve_in_time(rt, alloc, asked, source, out, err),
         Some(Request::Uci) => talk(rt, alloc, source, out, err),
@@ -87,7 +95,7 @@ fn are_told(alloc: Global, words: &[String]) -> bool {
 }
 
 /// The program: answers what the words ask for, of which the first is the program's own name. It reads files from `source`. Only
-/// `serve`, `uci`, `solve --limit` and what has `--progress` start threads, and wait for them.
+/// `serve`, `uci`, `solve` with `--workers` or `--limit`, and what has `--progress` start threads, and wait for them.
 ///
 /// A fault of `err` is passed over and changes no status. So does one of the thread that tells on standard error how far the command is.
 pub fn command<

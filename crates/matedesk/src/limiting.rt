@@ -4,8 +4,14 @@ ghost use Rattle.std.specs.Prelude.{◌≡◌, Some, map};
 ghost use Rattle.command_words.specs.Asked.{limited as limited_asked};
 ghost use Rattle.plain_commands.specs.Command.{Ends};
 
+use crate::sharing::thread_memory;
 use crate::tick_limit::TickLimit;
+use chess_moves::Rays;
 use command_words::LimitedSolve;
+use mate_answers::Limited;
+use chess_problems::{Outcome, Problem};
+use mate_search::{Guide, Solver, Stopped};
+use parallel_search::{ThreadMemory, solve_on_threads};
 use plain_commands::{
     NO_THREAD, Source, complain, ends_by_status, limited_none, no_memory, solve_limited, status_of,
 };
@@ -14,6 +20,31 @@ use std::io::Write;
 use std::sync::{Arc, Wait};
 use std::thread;
 use std::thread::{JoinHandle, Threads};
+
+/// Workers solve, unless a limit stops them.
+#[derive(Clone, Copy)]
+struct InTime<'a, R> {
+    rt: &'a R,
+}
+
+impl<R: Threads + Sync> Solver<TickLimit> for InTime<'_, R> {
+    ghost use Rattle.std.specs.Thread.{IsSync};
+
+    type Memory = ThreadMemory;
+
+    ghost ready = { λ _. IsSync R.row };
+
+    ghost room = { λ memory. memory.memo.room };
+
+    fn solve(
+        &self,
+        guide: &Guide<TickLimit>,
+        problem: &Problem,
+        memory: &mut ThreadMemory,
+    ) -> Result<Outcome, Stopped> {
+        solve_on_threads(self.rt, guide, problem, memory)
+    }
+}
 
 /// A limit, and the thread that counts for it.
 #[derive(Drop)]
@@ -66,7 +97,7 @@ fn unsolved<E: Write>(fault: Uncounted, err: &mut E) -> u8
 /// Answers each line of each file as `solve` does, but that a record which isn't decided in its seconds is answered so. A thread counts
 /// them.
 pub fn solve_in_time<
-    R: Threads + Wait + Clone + Drop + Send + 'static,
+    R: Threads + Wait + Sync + Clone + Drop + Send + 'static,
     S: Source,
     O: Write,
     E: Write,
@@ -78,9 +109,20 @@ pub fn solve_in_time<
     // How it ends with the status of what was written, and with nothing written.
     ends_by_status(source);
     limited_none();
+    let Ok(mut memory) = thread_memory(alloc, asked.workers, asked.memo) else {
+        return no_memory(err);
+    };
     match start(rt, alloc, asked.seconds) {
         Ok(Counting { limit, thread }) => {
-            let ended = solve_limited(alloc, asked, &*limit, source, out, err);
+            let limited = Limited {
+                rays: &Rays::new(),
+                default: asked.bound,
+                seconds: asked.seconds,
+                limit: &*limit,
+                solver: InTime { rt },
+            };
+            let files = &asked.files;
+            let ended = solve_limited(alloc, &limited, files, source, &mut memory, out, err);
             limit.end();
             thread.join(rt);
             status_of(ended, err)

@@ -46,6 +46,8 @@ impl<H: LineHandler, S: Source> LineHandler for LinesFrom<'_, H, S> {
 
     type Memory = H::Memory;
 
+    ghost ready = { λ lines. H.ready lines.handler.now };
+
     ghost replies = { λ lines. RepliesFrom (H.replies lines.handler.now) lines.start.now.from };
 
     ghost room = { λ memory. H.room memory };
@@ -89,6 +91,7 @@ pub(crate) fn answer_lines_from<H: LineHandler, S: Source, I: Input + Drop, O: W
     memory: &mut H::Memory,
     out: &mut O,
 ) -> Result<usize, Stop>
+    requires ready { H.ready handler.now }
     ensures ok { IfOk result (λ refused. (bytes : List ℕ) × (text : List ℕ) × MayBe (I.left input) bytes
         × IsReplyOn (H.replies handler.now) start.now.from bytes text refused
         × Appends (O.contents out.old) (O.contents out.new) text) }
