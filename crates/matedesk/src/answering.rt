@@ -21,7 +21,7 @@ use std::thread::Threads;
 /// Answers words that ask for `serve`, `uci` or `solve --limit`. That they were parsed before shows that they are no fault: what is refused now is memory.
 fn threaded_command<
     R: Threads + Wait + Sync + Clone + Drop + Send + 'static,
-    S: Source + Sync,
+    S: Source,
     O: Write,
     E: Write,
 >(rt: &R, alloc: Global, words: &[String], source: &S, out: &mut O, err: &mut E) -> u8
@@ -53,12 +53,14 @@ where
 }
 
 /// Answers what the words ask for.
-fn answer<
-    R: Threads + Wait + Sync + Clone + Drop + Send + 'static,
-    S: Source + Sync,
-    O: Write,
-    E: Write,
->(rt: &R, alloc: Global, words: &[String], source: &S, out: &mut O, err: &mut E) -> u8
+fn answer<R: Threads + Wait + Sync + Clone + Drop + Send + 'static, S: Source, O: Write, E: Write>(
+    rt: &R,
+    alloc: Global,
+    words: &[String],
+    source: &S,
+    out: &mut O,
+    err: &mut E,
+) -> u8
 where
     S::File: Send,
     ensures ends { Ends (S.holds source.now) (S.refuses source.now) (asked (map string_bytes words.now)) result
@@ -92,7 +94,7 @@ fn are_told(alloc: Global, words: &[String]) -> bool {
 /// A fault of `err` is passed over and changes no status. So does one of the thread that tells on standard error how far the command is.
 pub fn command<
     R: Threads + Wait + Console + Sync + Clone + Drop + Send + 'static,
-    S: Source + Sync,
+    S: Source,
     O: Write,
     E: Write,
 >(rt: &R, alloc: Global, words: &[String], source: &S, out: &mut O, err: &mut E) -> u8
