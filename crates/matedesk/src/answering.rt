@@ -25,7 +25,7 @@ use std::thread::Threads;
 /// what is refused now is memory.
 fn threaded_command<
     R: Threads + Wait + Sync + Clone + Drop + Send + 'static,
-    S: Source + Sync,
+    S: Source,
     O: Write,
     E: Write,
 >(rt: &R, alloc: Global, words: &[String], source: &S, out: &mut O, err: &mut E) -> u8
@@ -61,12 +61,14 @@ where
 }
 
 /// Answers what the words ask for.
-fn answer<
-    R: Threads + Wait + Sync + Clone + Drop + Send + 'static,
-    S: Source + Sync,
-    O: Write,
-    E: Write,
->(rt: &R, alloc: Global, words: &[String], source: &S, out: &mut O, err: &mut E) -> u8
+fn answer<R: Threads + Wait + Sync + Clone + Drop + Send + 'static, S: Source, O: Write, E: Write>(
+    rt: &R,
+    alloc: Global,
+    words: &[String],
+    source: &S,
+    out: &mut O,
+    err: &mut E,
+) -> u8
 where
     S::File: Send,
     ensures ends { Ends (S.holds source.now) (S.refuses source.now) (asked (map string_bytes words.now)) result
@@ -100,7 +102,7 @@ fn are_told(alloc: Global, words: &[String]) -> bool {
 /// A fault of `err` is passed over and changes no status. So does one of the thread that tells on standard error how far the command is.
 pub fn command<
     R: Threads + Wait + Console + Sync + Clone + Drop + Send + 'static,
-    S: Source + Sync,
+    S: Source,
     O: Write,
     E: Write,
 >(rt: &R, alloc: Global, words: &[String], source: &S, out: &mut O, err: &mut E) -> u8

@@ -26,7 +26,7 @@ pub(crate) struct Progress {
     began: AtomicU64,
     /// How many lines workers are to take, and how many they took.
     waiting: AtomicU64,
-    taken: AtomicU64,
+    pub(crate) taken: AtomicU64,
     /// How many replies there were.
     replies: AtomicU64,
     refused: AtomicU64,
@@ -116,11 +116,6 @@ impl Progress {
     /// So many lines more wait for workers.
     pub(crate) fn wait(&self, count: u64) {
         self.waiting.fetch_add(count, Ordering::SeqCst);
-    }
-
-    /// A worker took a line.
-    pub(crate) fn take(&self) {
-        add_one(&self.taken);
     }
 
     /// A line was printed that says this.

@@ -1,7 +1,5 @@
 //! What a line that was printed says of a problem.
 
-ghost use Rattle.std.specs.Prelude.{◌<◌, IfSome, length};
-
 /// How many moves a mate may take, and none.
 pub(crate) const MOVES: usize = 16;
 
@@ -38,9 +36,7 @@ fn behind_fields(line: &[u8]) -> Option<&[u8]> {
 }
 
 /// The operation that a text begins with, and what follows its semicolon. One in a string ends nothing.
-fn cut_operation(text: &[u8]) -> Option<(&[u8], &[u8])>
-    ensures shorter { IfSome result (λ cut. length cut.1.now < length text.now) }
-{
+fn cut_operation(text: &[u8]) -> Option<(&[u8], &[u8])> {
     let mut in_string = false;
     for (index, byte) in text.iter().enumerate() {
         if *byte == b'"' {
@@ -82,7 +78,10 @@ fn said_in(operation: &[u8]) -> Said {
 fn said_by_operations(operations: &[u8]) -> Said {
     let mut rest = operations;
     let mut said = Said::Nothing;
-    while let Some((operation, more)) = cut_operation(rest) {
+    for _ in 0..operations.len() {
+        let Some((operation, more)) = cut_operation(rest) else {
+            return said;
+        };
         match said_in(operation) {
             Said::Mate(moves) => return Said::Mate(moves),
             Said::Nothing => {}

@@ -17,21 +17,24 @@ use plain_commands::{
 use std::alloc::Global;
 use std::io::Write;
 use std::sync::Wait;
+use std::sync::atomic::{AtomicU64, Ordering};
 use std::thread::Threads;
 
-/// Lets each job pass, and tells the source of it.
-#[derive(Drop)]
-struct ToldGate<'a, S> {
-    source: &'a S,
+/// Lets each job pass, and counts it where somebody asks.
+#[derive(Clone, Copy)]
+struct CountingGate<'a> {
+    taken: Option<&'a AtomicU64>,
 }
 
-impl<S: Source + Sync> Gate for ToldGate<'_, S> {
+impl Gate for CountingGate<'_> {
     ghost use Rattle.std.specs.Prelude.{◌≡◌, true};
 
     ghost answers = { λ _ _ _ passed. passed ≡ true };
 
     fn pass(&self, _bench: usize, _ticket: Ticket) -> bool {
-        self.source.takes();
+        if let Some(taken) = self.taken {
+            taken.fetch_add(1, Ordering::SeqCst);
+        }
         true
     }
 }
@@ -52,7 +55,7 @@ fn unserved<E: Write>(fault: RoomFault, err: &mut E) -> u8
 
 /// Answers each line of each file as `solve` does, on threads: one for each file and one for each worker, which has a memo of such a
 /// size. All files are read before any thread is started, and all answers made before any of them is written.
-pub fn serve<R: Threads + Wait + Sync, S: Source + Sync, O: Write, E: Write>(
+pub fn serve<R: Threads + Wait + Sync, S: Source, O: Write, E: Write>(
     rt: &R,
     alloc: Global,
     workers: Workers,
@@ -74,6 +77,9 @@ pub fn serve<R: Threads + Wait + Sync, S: Source + Sync, O: Write, E: Write>(
     };
     let rays = Rays::new();
     let benches = workers.get() as usize;
+    let gate = CountingGate {
+        taken: source.taken(),
+    };
     match desk_room::serve_with_memo(
         rt,
         alloc,
@@ -82,7 +88,7 @@ pub fn serve<R: Threads + Wait + Sync, S: Source + Sync, O: Write, E: Write>(
         bound,
         benches,
         memo.get() as usize,
-        &ToldGate { source },
+        &gate,
     ) {
         Ok(outputs) => {
             for output in &outputs {

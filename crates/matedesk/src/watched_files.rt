@@ -5,6 +5,7 @@ use crate::said::said_by;
 use byte_streams::{Input, InputFault};
 use plain_commands::{Source, SourceFault};
 use std::alloc::Global;
+use std::sync::atomic::AtomicU64;
 use text_lines::{Output, first_line};
 
 /// A file of which is counted how much was read.
@@ -78,13 +79,16 @@ impl<'a, S: Source> Source for WatchedFiles<'a, S> {
         self.progress.begin(number);
     }
 
-    fn takes(&self) {
-        self.progress.take();
+    fn taken(&self) -> Option<&AtomicU64> {
+        Some(&self.progress.taken)
     }
 
     fn ends(&self, reply: &Output) {
         let mut rest = reply.text.as_slice();
-        while let Some((line, more)) = first_line(rest) {
+        for _ in 0..reply.text.len() {
+            let Some((line, more)) = first_line(rest) else {
+                return;
+            };
             self.progress.count(said_by(line));
             rest = more;
         }

@@ -8,6 +8,7 @@ use crate::writing::complain_unreadable;
 use byte_streams::{Input, Stop};
 use std::alloc::Global;
 use std::io::Write;
+use std::sync::atomic::AtomicU64;
 use text_lines::Output;
 
 /// How many bytes are asked for at once.
@@ -46,8 +47,10 @@ pub trait Source {
     /// Is told that the line of this number is begun, of the file that was opened last.
     fn begins(&self, _number: usize) {}
 
-    /// Is told that a worker takes a line, whichever that is.
-    fn takes(&self) {}
+    /// What counts the lines that workers take, whichever they are; none where nobody asks.
+    fn taken(&self) -> Option<&AtomicU64> {
+        None
+    }
 
     /// Is told the reply to a line that was begun, or the replies to those that were taken.
     fn ends(&self, _reply: &Output) {}
