@@ -7,9 +7,9 @@ ghost use Rattle.plain_commands.specs.Command.{Ends};
 use crate::sharing::thread_memory;
 use crate::tick_limit::TickLimit;
 use chess_moves::Rays;
+use chess_problems::{Outcome, Problem};
 use command_words::LimitedSolve;
 use mate_answers::Limited;
-use chess_problems::{Outcome, Problem};
 use mate_search::{Guide, Solver, Stopped};
 use parallel_search::{ThreadMemory, solve_on_threads};
 use plain_commands::{

@@ -14,7 +14,7 @@ pub(crate) enum Said {
     Undecided,
     /// The fault of a line that is no record.
     Refused,
-    /// A row of `verify`.
+    /// A row of `verify`, or a tree.
     Row,
     /// It goes on a reply.
     Nothing,

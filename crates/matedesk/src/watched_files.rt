@@ -1,7 +1,7 @@
 //! Files of which it is told how far they are answered.
 
 use crate::progress::Progress;
-use crate::said::said_by;
+use crate::said::{Said, said_by};
 use byte_streams::{Input, InputFault};
 use plain_commands::{Source, SourceFault};
 use std::alloc::Global;
@@ -92,5 +92,13 @@ impl<'a, S: Source> Source for WatchedFiles<'a, S> {
             self.progress.count(said_by(line));
             rest = more;
         }
+    }
+
+    fn wrote(&self, refused: usize) {
+        self.progress.count(if refused > 0 {
+            Said::Refused
+        } else {
+            Said::Row
+        });
     }
 }

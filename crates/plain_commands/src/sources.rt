@@ -54,6 +54,9 @@ pub trait Source {
 
     /// Is told the reply to a line that was begun, or the replies to those that were taken.
     fn ends(&self, _reply: &Output) {}
+
+    /// Is told that the reply to a line that was begun is written, and how many lines it refuses.
+    fn wrote(&self, _refused: usize) {}
 }
 
 /// Reads a file to its end.
