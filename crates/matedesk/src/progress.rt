@@ -7,8 +7,8 @@ use std::sync::atomic::{AtomicU64, Ordering};
 /// How many ticks a second has.
 pub(crate) const TICKS_A_SECOND: u64 = 10;
 
-/// How much of a file's name is told.
-const MOST_OF_NAME: usize = 30;
+/// How many bytes of a file's name are told.
+pub(crate) const MOST_OF_NAME: usize = 30;
 
 /// The file that is answered, the line of it, and what came of the lines before. Each number is written by one thread alone.
 #[derive(Drop)]
@@ -49,9 +49,9 @@ fn now(number: &AtomicU64) -> u64 {
     number.load(Ordering::SeqCst)
 }
 
-/// The end of a file's name.
-fn end_of_name(name: &str) -> &str {
-    let first = name.len().saturating_sub(MOST_OF_NAME);
+/// The end of a file's name, in so many bytes at most.
+fn end_of_name(name: &str, most: usize) -> &str {
+    let first = name.len().saturating_sub(most);
     for at in first..name.len() {
         if let Some(end) = name.get(at..) {
             return end;
@@ -157,22 +157,22 @@ impl Progress {
         format!(in alloc; "{taken} of {waiting} lines begun, {seconds} s")
     }
 
-    /// The file that was opened last, by the end of its name.
-    fn name(&self) -> &str {
+    /// The file that was opened last, by the end of its name, in so many bytes at most.
+    fn name(&self, most: usize) -> &str {
         match self.words.get(now(&self.file) as usize) {
-            Some(name) => end_of_name(name.as_str()),
+            Some(name) => end_of_name(name.as_str(), most),
             None => "-",
         }
     }
 
-    /// How far all is, on one line; nothing before a line is begun.
-    pub(crate) fn told(&self, alloc: Global) -> Result<String, AllocError> {
+    /// How far all is, on one line, with so many bytes of the file's name; nothing before a line is begun.
+    pub(crate) fn told(&self, alloc: Global, most: usize) -> Result<String, AllocError> {
         let waiting = now(&self.waiting);
         if waiting > 0 {
             return self.told_of_workers(alloc, waiting);
         }
         let mut text = String::new(alloc);
-        let name = self.name();
+        let name = self.name(most);
         let line = now(&self.line);
         if line == 0 {
             return Ok(text);

@@ -1,7 +1,7 @@
 //! The thread that tells on standard error how far a command is.
 
 use crate::console::Console;
-use crate::progress::{Progress, TICKS_A_SECOND};
+use crate::progress::{MOST_OF_NAME, Progress, TICKS_A_SECOND};
 use plain_commands::MISUSED;
 use std::alloc::Global;
 use std::io::Write;
@@ -19,6 +19,9 @@ const SOON: u64 = TICKS_A_SECOND / 2;
 
 /// After how many ticks it tells again where each line stays.
 const LATER: u64 = 10 * TICKS_A_SECOND;
+
+/// How many bytes of a file's name are told on a terminal, whose rows may be short.
+const MOST_ON_TERMINAL: usize = 16;
 
 /// What is printed behind a line that the next is written over: the rest of the row is cleared, and the next begins where it began.
 const OVER: &str = "\x1b[K\r";
@@ -38,14 +41,18 @@ fn is_due(tick: u64, is_terminal: bool) -> bool {
 
 /// Tells once how far all is. That memory is refused, or nothing can be written, changes nothing.
 fn tell<N: Write>(progress: &Progress, alloc: Global, notes: &mut N, is_terminal: bool) {
-    let Ok(told) = progress.told(alloc) else {
+    let (begin, most, end) = if is_terminal {
+        ("", MOST_ON_TERMINAL, OVER)
+    } else {
+        ("matedesk: ", MOST_OF_NAME, "\n")
+    };
+    let Ok(told) = progress.told(alloc, most) else {
         return;
     };
     if told.is_empty() {
         return;
     }
-    let end = if is_terminal { OVER } else { "\n" };
-    if let Ok(line) = format!(in alloc; "matedesk: {told}{end}") {
+    if let Ok(line) = format!(in alloc; "{begin}{told}{end}") {
         let _ = notes.write_all(line.as_bytes());
     }
 }
