@@ -23,6 +23,7 @@ mod window_thread;
 
 use crate::keepers::Keeper;
 use crate::rooms::{Room, RoomFault, open_room};
+use crate::serving::bench_thread::BenchTools;
 use crate::serving::keeper_thread::run_keeper;
 use crate::serving::signals::{Signals, StopReason};
 use crate::serving::thread_groups::{BenchesDone, run_benches, run_windows};
@@ -56,18 +57,22 @@ impl Promise<Keeper> for KeeperOf {
 fn run_ends<R: Threads + Wait + Sync, G: Gate>(
     rt: &R,
     alloc: Global,
-    rays: &Rays,
     windows: Vec<Window>,
     inputs: &[Vec<u8>],
     benches: Vec<Bench>,
-    entries: usize,
-    gate: &G,
-    signals: &Signals,
+    tools: &BenchTools<'_, G>,
 ) -> Result<Vec<Report>, AllocError>
     requires as_many { vec_len windows ≡ length inputs.now }
     requires fresh { AllFresh windows.items }
     ensures { IfOk result (λ all. AllReport windows.items (map (λ v. v.items) inputs.now) all.items) }
 {
+    // A closure that captures the struct would ensure nothing.
+    let BenchTools {
+        rays,
+        entries,
+        gate,
+        signals,
+    } = *tools;
     thread::scope(
         thread::scope_env(),
         rt,
@@ -77,7 +82,10 @@ fn run_ends<R: Threads + Wait + Sync, G: Gate>(
         {
             let working = move ||
                 requires { IsSync R.row × IsSync G.row }
-            { run_benches(rt, alloc, rays, benches, entries, gate, signals) };
+            {
+                let tools = BenchTools::new(rays, entries, gate, signals);
+                run_benches(rt, alloc, benches, &tools)
+            };
             match scope.spawn_with(BenchesDone, working) {
                 Ok(child) => {
                     let reports = run_windows(rt, alloc, rays, windows, inputs, signals);
@@ -98,12 +106,9 @@ fn run_ends<R: Threads + Wait + Sync, G: Gate>(
 fn run<R: Threads + Wait + Sync, G: Gate>(
     rt: &R,
     alloc: Global,
-    rays: &Rays,
     room: Room,
     inputs: &[Vec<u8>],
-    entries: usize,
-    gate: &G,
-    signals: &Signals,
+    tools: &BenchTools<'_, G>,
 ) -> (Keeper, Result<Vec<Report>, AllocError>)
     requires as_many { vec_len room.windows ≡ length inputs.now }
     requires fresh { AllFresh room.windows.items }
@@ -116,6 +121,13 @@ fn run<R: Threads + Wait + Sync, G: Gate>(
         benches,
     } = room;
     let most = windows.len();
+    // A closure that captures the struct would ensure nothing.
+    let BenchTools {
+        rays,
+        entries,
+        gate,
+        signals,
+    } = *tools;
     thread::scope(
         thread::scope_env(),
         rt,
@@ -127,23 +139,18 @@ fn run<R: Threads + Wait + Sync, G: Gate>(
             let keeping = move || -> Keeper
                 ensures { SameRoom keeper result }
             { run_keeper(rt, keeper, most, signals) };
-            match scope.spawn_with(promise, keeping) {
-                Ok(child) => {
-                    let reports = run_ends(
-                        rt, alloc, rays, windows, inputs, benches, entries, gate, signals,
-                    );
-                    if reports.is_err() {
-                        signals.stop(StopReason::NoMemory);
-                    }
-                    (child.join(rt), reports)
-                }
-                Err(refused) => {
-                    signals.stop(StopReason::NoThread);
-                    let reports = run_ends(
-                        rt, alloc, rays, windows, inputs, benches, entries, gate, signals,
-                    );
-                    ((refused.value)(), reports)
-                }
+            let spawned = scope.spawn_with(promise, keeping);
+            if spawned.is_err() {
+                signals.stop(StopReason::NoThread);
+            }
+            let tools = BenchTools::new(rays, entries, gate, signals);
+            let reports = run_ends(rt, alloc, windows, inputs, benches, &tools);
+            if reports.is_err() {
+                signals.stop(StopReason::NoMemory);
+            }
+            match spawned {
+                Ok(child) => (child.join(rt), reports),
+                Err(refused) => ((refused.value)(), reports),
             }
         },
     )
@@ -207,7 +214,8 @@ pub fn serve_with_memo<R: Threads + Wait + Sync, G: Gate>(
 {
     let room = open_room(alloc, inputs.len(), benches, RING, default)?;
     let signals = Signals::new();
-    let (mut keeper, reports) = run(rt, alloc, rays, room, inputs, entries, gate, &signals);
+    let tools = BenchTools::new(rays, entries, gate, &signals);
+    let (mut keeper, reports) = run(rt, alloc, room, inputs, &tools);
     let Ok(reports) = reports else {
         return Err(RoomFault::NoMemory);
     };

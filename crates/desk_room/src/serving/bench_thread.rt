@@ -61,18 +61,46 @@ fn solve_or_return<G: Gate>(
     }
 }
 
-/// Takes orders until the bench is sent home, or the stop signal comes. The bench is known to the gate by its number, and has a memo
-/// of so many entries.
+/// What all benches work with: each has a memo of so many entries.
+#[derive(Clone, Copy)]
+pub(crate) struct BenchTools<'a, G: Gate> {
+    pub(crate) rays: &'a Rays,
+    pub(crate) entries: usize,
+    pub(crate) gate: &'a G,
+    pub(crate) signals: &'a Signals,
+}
+
+impl<'a, G: Gate> BenchTools<'a, G> {
+    /// Of these parts.
+    pub(crate) fn new(
+        rays: &'a Rays,
+        entries: usize,
+        gate: &'a G,
+        signals: &'a Signals,
+    ) -> BenchTools<'a, G> {
+        BenchTools {
+            rays,
+            entries,
+            gate,
+            signals,
+        }
+    }
+}
+
+/// Takes orders until the bench is sent home, or the stop signal comes. The bench is known to the gate by its number.
 pub(crate) fn run_bench<R: Wait, G: Gate>(
     rt: &R,
     alloc: Global,
-    rays: &Rays,
     mut bench: Bench,
     number: usize,
-    entries: usize,
-    gate: &G,
-    signals: &Signals,
+    tools: &BenchTools<'_, G>,
 ) {
+    let BenchTools {
+        rays,
+        entries,
+        gate,
+        signals,
+    } = *tools;
     let Ok(mut memo) = Memo::new(alloc, entries) else {
         signals.stop(StopReason::NoMemory);
         return;

@@ -1,11 +1,11 @@
 //! Windows and benches, each on a thread of its own.
 
-ghost use Rattle.std.specs.Prelude.{◌≡◌, List, ℕ, length, map, vec_len, IfOk};
+ghost use Rattle.std.specs.Prelude.{◌≡◌, List, ℕ, [], ◌∷◌, ◌++◌, length, map, vec_len, IfOk};
 ghost use Rattle.std.specs.Thread.{IsSync};
 ghost use Rattle.desk_room.specs.inside.Threads.{AllFresh, IsFreshWindow, AllReport};
 ghost use Rattle.desk_room.specs.inside.Submitters.{Reports};
 
-use crate::serving::bench_thread::run_bench;
+use crate::serving::bench_thread::{BenchTools, run_bench};
 use crate::serving::signals::{Signals, StopReason};
 use crate::serving::solve_gates::Gate;
 use crate::serving::window_thread::{Report, run_window};
@@ -28,8 +28,17 @@ impl<'a> Promise<Result<Vec<Report>, AllocError>> for ReportsOf<'a> {
     ghost kept_by = { λ p r. IfOk r (λ all. AllReport p.windows.value.items (map (λ v. v.items) p.inputs.now) all.items) };
 }
 
-/// Hands each input in at the window of its place: the last in this thread, beside a thread that does the same for the others.
+/// These reports, and one more behind them.
+fn with_report(mut reports: Vec<Report>, one: Report) -> Result<Vec<Report>, AllocError>
+    ensures { IfOk result (λ all. all.items ≡ reports.items ++ one ∷ []) }
+{
+    match reports.push(one) {
+        Ok(()) => Ok(reports),
+        Err(_) => Err(AllocError),
+    }
+}
 
+/// Hands each input in at the window of its place: the last in this thread, beside a thread that does the same for the others.
 #[tactic(auto, using(crate::proofs::Joined::fresh_front))]
 #[cycle(windows)]
 pub(crate) fn run_windows<R: Threads + Wait + Sync>(
@@ -50,14 +59,9 @@ pub(crate) fn run_windows<R: Threads + Wait + Sync>(
     let Some((input, rest)) = inputs.split_last() else {
         unreachable!()
     };
-    let number = windows.len();
-    if number == 0 {
-        let only = run_window(rt, alloc, rays, window, number, input.as_slice(), signals);
-        let mut one = Vec::new(alloc);
-        return match one.push(only) {
-            Ok(()) => Ok(one),
-            Err(_) => Err(AllocError),
-        };
+    if windows.is_empty() {
+        let only = run_window(rt, alloc, rays, window, input.as_slice(), signals);
+        return with_report(Vec::new(alloc), only);
     }
     let (mine, theirs) = thread::scope(
         thread::scope_env(),
@@ -75,35 +79,19 @@ pub(crate) fn run_windows<R: Threads + Wait + Sync>(
                 requires { IsSync R.row × (vec_len windows ≡ length rest.now) × AllFresh windows.items }
                 ensures { IfOk result (λ all. AllReport windows.items (map (λ v. v.items) rest.entry.now) all.items) }
             { run_windows(rt, alloc, rays, windows, rest, signals) };
-            match scope.spawn_with(promise, others) {
-                Ok(child) => {
-                    let mine = run_window(
-                        rt,
-                        alloc,
-                        rays,
-                        window,
-                        number,
-                        input.as_slice(),
-                        signals,
-                    );
-                    (mine, child.join(rt))
-                }
-                Err(refused) => {
-                    signals.stop(StopReason::NoThread);
-                    let theirs = (refused.value)();
-                    (
-                        run_window(rt, alloc, rays, window, number, input.as_slice(), signals),
-                        theirs,
-                    )
-                }
+            let spawned = scope.spawn_with(promise, others);
+            if spawned.is_err() {
+                signals.stop(StopReason::NoThread);
+            }
+            let mine = run_window(rt, alloc, rays, window, input.as_slice(), signals);
+            match spawned {
+                Ok(child) => (mine, child.join(rt)),
+                Err(refused) => (mine, (refused.value)()),
             }
         },
     );
-    let mut all = theirs?;
-    match all.push(mine) {
-        Ok(()) => Ok(all),
-        Err(_) => Err(AllocError),
-    }
+    let all = theirs?;
+    with_report(all, mine)
 }
 
 /// What a thread of benches brings back: nothing that matters.
@@ -119,18 +107,15 @@ impl Promise<()> for BenchesDone {
 pub(crate) fn run_benches<R: Threads + Wait + Sync, G: Gate>(
     rt: &R,
     alloc: Global,
-    rays: &Rays,
     mut benches: Vec<Bench>,
-    entries: usize,
-    gate: &G,
-    signals: &Signals,
+    tools: &BenchTools<'_, G>,
 ) {
     let Some(bench) = benches.pop() else {
         return;
     };
     let number = benches.len();
     if number == 0 {
-        run_bench(rt, alloc, rays, bench, number, entries, gate, signals);
+        run_bench(rt, alloc, bench, number, tools);
         return;
     }
     thread::scope(
@@ -141,14 +126,14 @@ pub(crate) fn run_benches<R: Threads + Wait + Sync, G: Gate>(
         {
             let others = move ||
                 requires { IsSync R.row × IsSync G.row }
-            { run_benches(rt, alloc, rays, benches, entries, gate, signals) };
+            { run_benches(rt, alloc, benches, tools) };
             match scope.spawn_with(BenchesDone, others) {
                 Ok(child) => {
-                    run_bench(rt, alloc, rays, bench, number, entries, gate, signals);
+                    run_bench(rt, alloc, bench, number, tools);
                     child.join(rt);
                 }
                 Err(refused) => {
-                    signals.stop(StopReason::NoThread);
+                    tools.signals.stop(StopReason::NoThread);
                     (refused.value)();
                 }
             }

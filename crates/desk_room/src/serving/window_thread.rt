@@ -68,7 +68,6 @@ pub(crate) fn run_window<R: Wait>(
     alloc: Global,
     rays: &Rays,
     window: Window,
-    number: usize,
     input: &[u8],
     signals: &Signals,
 ) -> Report
@@ -76,7 +75,7 @@ pub(crate) fn run_window<R: Wait>(
     requires collected { collected window ≡ [] }
     ensures { Reports window input.now result }
 {
-    let mut signals = WindowSignals::new(signals, number);
+    let mut signals = WindowSignals::new(signals, window.number());
     let mut submitter = Submitter::new(alloc, window);
     let ended = drive(rt, alloc, rays, &mut submitter, input, &mut signals);
     let Submitter {
