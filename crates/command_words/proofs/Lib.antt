@@ -1,4 +1,5 @@
 mod Escapes
 mod JoinedWords
 mod Numbers
+pub mod OnLiterals
 mod Parsed

@@ -47,19 +47,19 @@ pub data Asked : Type 0 where
   uci : Asked
 
 -- the number that a word stands for, which `clap` has read; none above the depths that are counted
-abbrev pub depth_in : List Row → Option ℕ
+unfoldable pub depth_in : List Row → Option ℕ
 depth_in rows = depth_of (option_map_or byte_or_zero (one_of (codes "DEPTH") rows) 0)
 
 -- the number of `--bound` in the same way; none outside the bounds of a problem
-abbrev pub bound_in : List Row → Option ℕ
+unfoldable pub bound_in : List Row → Option ℕ
 bound_in rows = bound_of (option_map_or byte_or_zero (one_of (codes "B") rows) 0)
 
 -- the number of `--workers` in the same way; none outside the numbers of workers
-abbrev pub workers_in : List Row → Option ℕ
+unfoldable pub workers_in : List Row → Option ℕ
 workers_in rows = workers_of (option_map_or byte_or_zero (one_of (codes "N") rows) 0)
 
 -- the number that a word stands for, which `clap` has read, where it may be larger than a byte
-abbrev pub number_or_zero : Text → ℕ
+unfoldable pub number_or_zero : Text → ℕ
 number_or_zero text =
     let digits = without_leading_plus text in
     if nat_lt 0 (length digits) && list_all (λ d. nat_lt (digit_value d) 10) digits
@@ -67,19 +67,19 @@ number_or_zero text =
     else 0
 
 -- the number of `--memo`; none outside the numbers of entries of a memo
-abbrev pub memo_size_in : List Row → Option ℕ
+unfoldable pub memo_size_in : List Row → Option ℕ
 memo_size_in rows = memo_size_of (option_map_or number_or_zero (one_of (codes "M") rows) 0)
 
 -- the number of `--from`; none outside the numbers of lines
-abbrev pub from_in : List Row → Option ℕ
+unfoldable pub from_in : List Row → Option ℕ
 from_in rows = line_number_of (option_map_or number_or_zero (one_of (codes "K") rows) 0)
 
 -- an option without a value is given: `clap` has the value `true` for it then, and else `false`
-abbrev pub is_given : Text → List Row → Bool
+unfoldable pub is_given : Text → List Row → Bool
 is_given id rows = option_map_or (λ value. bytes_eq value (codes "true")) (first_of id rows) false
 
 -- from which side the board is seen
-abbrev pub side_in : List Row → Colour
+unfoldable pub side_in : List Row → Colour
 side_in rows = if is_given (codes "flip") rows then Black else White
 
 abbrev pub look_at : List Row → Text → Option Asked
@@ -90,38 +90,38 @@ look_at rows fen =
     else Some (look fen)
 
 -- what the arguments of `look` ask for; nothing where a board is to be turned that isn't asked for
-abbrev pub look_in : List Row → Option Asked
+unfoldable pub look_in : List Row → Option Asked
 look_in rows = option_and_then (look_at rows) (first_of (codes "FEN") rows)
 
 -- what the arguments of `play` ask for
-abbrev pub play_in : List Row → Option Asked
+unfoldable pub play_in : List Row → Option Asked
 play_in rows = option_map (λ fen. play fen (unwrap_or (all_of (codes "MOVE") rows) [])) (first_of (codes "FEN") rows)
 
 -- how the moves are written that `moves` lists
-abbrev pub form_in : List Row → MoveForm
+unfoldable pub form_in : List Row → MoveForm
 form_in rows =
     if is_given (codes "coordinates") rows then (if is_given (codes "fen") rows then SanCoordinatesFen else Coordinates)
     else (if is_given (codes "fen") rows then SanFen else San)
 
 -- what the arguments of `moves` ask for
-abbrev pub moves_in : List Row → Option Asked
+unfoldable pub moves_in : List Row → Option Asked
 moves_in rows = option_map (moves (form_in rows)) (first_of (codes "FEN") rows)
 
 abbrev pub perft_at : List Row → ℕ → Text → Asked
 perft_at rows depth fen = if is_given (codes "divide") rows then divide fen depth else perft fen depth
 
 -- what the arguments of `perft` ask for
-abbrev pub perft_in : List Row → Option Asked
+unfoldable pub perft_in : List Row → Option Asked
 perft_in rows = option_and_then (λ depth. option_map (perft_at rows depth) (first_of (codes "FEN") rows)) (depth_in rows)
 
 -- what the arguments of a command over lines ask for, by what it shows of each
-abbrev pub lines_in : LineView → List Row → Option Asked
+unfoldable pub lines_in : LineView → List Row → Option Asked
 lines_in view rows = option_map (lines view) (all_of (codes "FILE") rows)
 
-abbrev pub look_lines_in : List Row → Option Asked
+unfoldable pub look_lines_in : List Row → Option Asked
 look_lines_in rows = lines_in (if is_given (codes "board") rows then shown.Board else shown.Look) rows
 
-abbrev pub perft_lines_in : List Row → Option Asked
+unfoldable pub perft_lines_in : List Row → Option Asked
 perft_lines_in rows = option_and_then (λ depth. lines_in (shown.Perft depth) rows) (depth_in rows)
 
 -- a number from 1 on, or none, for which 0 stands
@@ -129,7 +129,7 @@ abbrev pub some_number : ℕ → Option ℕ
 some_number n = if n == 0 then None else Some n
 
 -- the seconds of `--limit`, or none
-abbrev pub limit_in : List Row → Option ℕ
+unfoldable pub limit_in : List Row → Option ℕ
 limit_in rows = some_number (option_map_or number_or_zero (one_of (codes "S") rows) 0)
 
 -- what `solve` asks for: of each record so many seconds at most, or as long as it takes
@@ -138,21 +138,21 @@ solve_at None bound memo from names = solve bound memo from names
 solve_at (Some seconds) bound memo from names = limited seconds bound memo from names
 
 -- what the arguments of `solve` ask for
-abbrev pub solve_in : List Row → Option Asked
+unfoldable pub solve_in : List Row → Option Asked
 solve_in rows =
     option_and_then (λ bound. option_and_then
     (λ memo. option_and_then (λ from. option_map (λ names. solve_at (limit_in rows) bound memo from names) (all_of (codes "FILE") rows))
     (from_in rows)) (memo_size_in rows)) (bound_in rows)
 
 -- what the arguments of `verify` ask for
-abbrev pub verify_in : List Row → Option Asked
+unfoldable pub verify_in : List Row → Option Asked
 verify_in rows =
     option_and_then (λ bound. option_and_then
     (λ memo. option_and_then (λ from. option_map (λ names. verify bound memo from names) (all_of (codes "FILE") rows))
     (from_in rows)) (memo_size_in rows)) (bound_in rows)
 
 -- what is shown of a tree: how many moves, set play, tries, and how many lines
-abbrev pub tree_form_in : List Row → TreeForm
+unfoldable pub tree_form_in : List Row → TreeForm
 tree_form_in rows = record {
   moves = some_number (option_map_or byte_or_zero (one_of (codes "D") rows) 0);
   set_play = is_given (codes "set-play") rows;
@@ -161,53 +161,68 @@ tree_form_in rows = record {
 }
 
 -- what the arguments of `tree` ask for
-abbrev pub tree_in : List Row → Option Asked
+unfoldable pub tree_in : List Row → Option Asked
 tree_in rows =
     option_and_then (λ bound. option_and_then (λ from. option_map (λ names. tree bound (tree_form_in rows) from names) (all_of (codes "FILE") rows))
     (from_in rows)) (bound_in rows)
 
 -- what a page has beside its diagrams
-abbrev pub sheet_form_in : List Row → SheetForm
+unfoldable pub sheet_form_in : List Row → SheetForm
 sheet_form_in rows = record { solutions = is_given (codes "solutions") rows; figurines = is_given (codes "figurines") rows }
 
 -- what the arguments of `sheet` ask for
-abbrev pub sheet_in : List Row → Option Asked
+unfoldable pub sheet_in : List Row → Option Asked
 sheet_in rows =
     option_and_then (λ bound. option_and_then
     (λ memo. option_and_then (λ title. option_map (λ names. sheet bound memo (sheet_form_in rows) title names)
     (all_of (codes "FILE") rows)) (first_of (codes "T") rows)) (memo_size_in rows)) (bound_in rows)
 
 -- what the arguments of `import` ask for: whether what was changed is told, and files
-abbrev pub import_in : List Row → Option Asked
+unfoldable pub import_in : List Row → Option Asked
 import_in rows = option_map (imports (is_given (codes "keep") rows)) (all_of (codes "FILE") rows)
 
 -- what the arguments of `serve` ask for
-abbrev pub serve_in : List Row → Option Asked
+unfoldable pub serve_in : List Row → Option Asked
 serve_in rows =
     option_and_then (λ workers. option_and_then
     (λ bound. option_and_then (λ memo. option_map (λ names. serve workers bound memo names) (all_of (codes "FILE") rows))
     (memo_size_in rows)) (bound_in rows)) (workers_in rows)
 
--- what the arguments of a command ask for, by its name
+-- what the arguments of a command ask for, by its name: of a command over lines of positions
+unfoldable pub lines_asked_by : Text → List Row → Option Asked
+lines_asked_by name rows =
+    if bytes_eq name (codes "look --lines") then look_lines_in rows
+    else if bytes_eq name (codes "moves --lines") then lines_in shown.Moves rows
+    else if bytes_eq name (codes "perft --lines") then perft_lines_in rows
+    else None
+
+-- of these, and of one on threads, at a desk, or that explains faults
+unfoldable pub desk_asked_by : Text → List Row → Option Asked
+desk_asked_by name rows =
+    if bytes_eq name (codes "serve") then serve_in rows
+    else if bytes_eq name (codes "replay") then option_map replay (first_of (codes "SCRIPT") rows)
+    else if bytes_eq name (codes "explain") then Some (explain (first_of (codes "CODE") rows))
+    else if bytes_eq name (codes "uci") then Some uci
+    else lines_asked_by name rows
+
+-- of these, and of one over the records of files
+unfoldable pub records_asked_by : Text → List Row → Option Asked
+records_asked_by name rows =
+    if bytes_eq name (codes "solve") then solve_in rows
+    else if bytes_eq name (codes "verify") then verify_in rows
+    else if bytes_eq name (codes "tree") then tree_in rows
+    else if bytes_eq name (codes "sheet") then sheet_in rows
+    else if bytes_eq name (codes "import") then import_in rows
+    else desk_asked_by name rows
+
+-- of any command
 unfoldable pub asked_by : Text → List Row → Option Asked
 asked_by name rows =
     if bytes_eq name (codes "look") then look_in rows
     else if bytes_eq name (codes "play") then play_in rows
     else if bytes_eq name (codes "moves") then moves_in rows
     else if bytes_eq name (codes "perft") then perft_in rows
-    else if bytes_eq name (codes "solve") then solve_in rows
-    else if bytes_eq name (codes "verify") then verify_in rows
-    else if bytes_eq name (codes "tree") then tree_in rows
-    else if bytes_eq name (codes "sheet") then sheet_in rows
-    else if bytes_eq name (codes "import") then import_in rows
-    else if bytes_eq name (codes "serve") then serve_in rows
-    else if bytes_eq name (codes "replay") then option_map replay (first_of (codes "SCRIPT") rows)
-    else if bytes_eq name (codes "explain") then Some (explain (first_of (codes "CODE") rows))
-    else if bytes_eq name (codes "uci") then Some uci
-    else if bytes_eq name (codes "look --lines") then look_lines_in rows
-    else if bytes_eq name (codes "moves --lines") then lines_in shown.Moves rows
-    else if bytes_eq name (codes "perft --lines") then perft_lines_in rows
-    else None
+    else records_asked_by name rows
 
 -- asks for a command that starts threads
 abbrev pub is_threaded : Asked → Bool

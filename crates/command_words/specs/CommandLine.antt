@@ -1,22 +1,23 @@
 -- The command line of the program, as `clap` reads it.
 use Rattle.std.specs.Prelude.{◌≡◌, [], ◌∷◌, Some, true, false, codes, pos}
 use Rattle.clap.specs.Lexer.{usize_max}
-use Rattle.clap.specs.Words.{App, Rule, Text, new_app, new_rule, with_rule, with_subcommand}
+use Rattle.clap.specs.Words.{App, Rule, Text}
 use Rattle.clap.specs.declared.builder.action.ArgAction.TheVariants.{SetTrue}
 use Rattle.clap.specs.declared.builder.value_parser.ValueParser.TheVariants as parser
 use Rattle.clap.specs.declared.builder.command.Command.{Command}
 use Rattle.clap.specs.declared.builder.command.Command.TheViews.{out-Command as fields_of}
+use Rattle.command_words.specs.ClapWords.{new_app, new_rule, with_rule, with_subcommand}
 
 -- a positional that has to be given
-abbrev pub wanted : Text → Rule
+unfoldable pub wanted : Text → Rule
 wanted id = record (new_rule id) { required = true }
 
 -- a positional that reads a number from 0 to 6
-abbrev pub depth_rule : Rule
+unfoldable pub depth_rule : Rule
 depth_rule = record (wanted (codes "DEPTH")) { parser = Some (parser.Signed (pos 0) (pos 6)) }
 
 -- an option that reads a number from 1 to 15, and is 3 where it isn't given
-abbrev pub bound_rule : Rule
+unfoldable pub bound_rule : Rule
 bound_rule = record (new_rule (codes "B")) {
   long = Some (codes "bound");
   parser = Some (parser.Signed (pos 1) (pos 15));
@@ -24,14 +25,14 @@ bound_rule = record (new_rule (codes "B")) {
 }
 
 -- an option that has to be given, and reads a number from 1 to 16
-abbrev pub workers_rule : Rule
+unfoldable pub workers_rule : Rule
 workers_rule = record (wanted (codes "N")) {
   long = Some (codes "workers");
   parser = Some (parser.Signed (pos 1) (pos 16));
 }
 
 -- an option that reads a number from 1 to 65,536, and is such a one where it isn't given
-abbrev pub memo_rule : Text → Rule
+unfoldable pub memo_rule : Text → Rule
 memo_rule default = record (new_rule (codes "M")) {
   long = Some (codes "memo");
   parser = Some (parser.Signed (pos 1) (pos 65536));
@@ -39,7 +40,7 @@ memo_rule default = record (new_rule (codes "M")) {
 }
 
 -- an option that reads a number from 1 to 1,000,000,000, and is 1 where it isn't given
-abbrev pub from_rule : Rule
+unfoldable pub from_rule : Rule
 from_rule = record (new_rule (codes "K")) {
   long = Some (codes "from");
   parser = Some (parser.Signed (pos 1) (pos 1000000000));
@@ -47,115 +48,115 @@ from_rule = record (new_rule (codes "K")) {
 }
 
 -- an option that reads a number from 1 to 86,400, and need not be given
-abbrev pub limit_rule : Rule
+unfoldable pub limit_rule : Rule
 limit_rule = record (new_rule (codes "S")) { long = Some (codes "limit"); parser = Some (parser.Signed (pos 1) (pos 86400)) }
 
 -- an option that reads a number from 1 to 15, and need not be given
-abbrev pub shown_rule : Rule
+unfoldable pub shown_rule : Rule
 shown_rule = record (new_rule (codes "D")) {
   long = Some (codes "moves");
   parser = Some (parser.Signed (pos 1) (pos 15));
 }
 
 -- an option that reads a number from 1 to 1,000,000, and need not be given
-abbrev pub most_lines_rule : Rule
+unfoldable pub most_lines_rule : Rule
 most_lines_rule = record (new_rule (codes "N")) {
   long = Some (codes "lines");
   parser = Some (parser.Signed (pos 1) (pos 1000000));
 }
 
 -- an option without a value
-abbrev pub flag_rule : Text → Rule
+unfoldable pub flag_rule : Text → Rule
 flag_rule name = record (new_rule name) { long = Some name; action = Some SetTrue }
 
 -- the title of a page, which is such a one where it isn't given
-abbrev pub title_rule : Rule
+unfoldable pub title_rule : Rule
 title_rule = record (new_rule (codes "T")) { long = Some (codes "title"); defaults = codes "Chess problems" ∷ [] }
 
 -- no move, or one or more
-abbrev pub moves_rule : Rule
+unfoldable pub moves_rule : Rule
 moves_rule = record (new_rule (codes "MOVE")) { range = Some (record { start_inclusive = 0; end_inclusive = usize_max }) }
 
 -- one name or more
-abbrev pub files_rule : Rule
+unfoldable pub files_rule : Rule
 files_rule = record (wanted (codes "FILE")) { range = Some (record { start_inclusive = 1; end_inclusive = usize_max }) }
 
 -- with the options of `solve`, `verify` and `serve`: the bound, and the number of entries of a memo
-abbrev pub with_solving_options : App → Text → App
+unfoldable pub with_solving_options : App → Text → App
 with_solving_options a default = with_rule (with_rule a bound_rule) (memo_rule default)
 
 -- with what is read line by line: files, and the number of the line that is the first to be answered
-abbrev pub with_lines_of_files : App → App
+unfoldable pub with_lines_of_files : App → App
 with_lines_of_files a = with_rule (with_rule a from_rule) files_rule
 
-abbrev pub solve_app : App
+unfoldable pub solve_app : App
 solve_app = with_lines_of_files (with_rule (with_solving_options (new_app (codes "solve")) (codes "65536")) limit_rule)
 
-abbrev pub verify_app : App
+unfoldable pub verify_app : App
 verify_app = with_lines_of_files (with_solving_options (new_app (codes "verify")) (codes "65536"))
 
 -- with the options of `tree`: the bound, and what is shown
-abbrev pub with_tree_options : App → App
+unfoldable pub with_tree_options : App → App
 with_tree_options a =
     with_rule (with_rule (with_rule (with_rule (with_rule a bound_rule) shown_rule) (flag_rule (codes "set-play")))
     (flag_rule (codes "tries"))) most_lines_rule
 
-abbrev pub tree_app : App
+unfoldable pub tree_app : App
 tree_app = with_lines_of_files (with_tree_options (new_app (codes "tree")))
 
 -- with what a page may have beside its diagrams
-abbrev pub with_sheet_flags : App → App
+unfoldable pub with_sheet_flags : App → App
 with_sheet_flags a = with_rule (with_rule a (flag_rule (codes "solutions"))) (flag_rule (codes "figurines"))
 
 -- with the options of `sheet`: these, and the title
-abbrev pub with_sheet_options : App → App
+unfoldable pub with_sheet_options : App → App
 with_sheet_options a = with_rule (with_sheet_flags a) title_rule
 
-abbrev pub sheet_app : App
+unfoldable pub sheet_app : App
 sheet_app = with_rule (with_solving_options (with_sheet_options (new_app (codes "sheet"))) (codes "65536")) files_rule
 
-abbrev pub import_app : App
+unfoldable pub import_app : App
 import_app = with_rule (with_rule (new_app (codes "import")) (flag_rule (codes "keep"))) files_rule
 
-abbrev pub serve_app : App
+unfoldable pub serve_app : App
 serve_app = with_rule (with_solving_options (with_rule (new_app (codes "serve")) workers_rule) (codes "16384")) files_rule
 
-abbrev pub look_app : App
+unfoldable pub look_app : App
 look_app =
     with_rule (with_rule (with_rule (with_rule (new_app (codes "look")) (flag_rule (codes "board"))) (flag_rule (codes "flip")))
     (flag_rule (codes "svg"))) (wanted (codes "FEN"))
 
-abbrev pub play_app : App
+unfoldable pub play_app : App
 play_app = with_rule (with_rule (new_app (codes "play")) (wanted (codes "FEN"))) moves_rule
 
-abbrev pub moves_app : App
+unfoldable pub moves_app : App
 moves_app = with_rule (with_rule (with_rule (new_app (codes "moves")) (flag_rule (codes "coordinates")))
     (flag_rule (codes "fen"))) (wanted (codes "FEN"))
 
-abbrev pub perft_app : App
+unfoldable pub perft_app : App
 perft_app = with_rule (with_rule (with_rule (new_app (codes "perft")) (flag_rule (codes "divide"))) (wanted (codes "FEN"))) depth_rule
 
 -- the commands that answer lines of positions
-abbrev pub look_lines_app : App
+unfoldable pub look_lines_app : App
 look_lines_app = with_rule (with_rule (new_app (codes "look --lines")) (flag_rule (codes "board"))) files_rule
 
-abbrev pub moves_lines_app : App
+unfoldable pub moves_lines_app : App
 moves_lines_app = with_rule (new_app (codes "moves --lines")) files_rule
 
-abbrev pub perft_lines_app : App
+unfoldable pub perft_lines_app : App
 perft_lines_app = with_rule (with_rule (new_app (codes "perft --lines")) depth_rule) files_rule
 
-abbrev pub explain_app : App
+unfoldable pub explain_app : App
 explain_app = with_rule (new_app (codes "explain")) (new_rule (codes "CODE"))
 
-abbrev pub uci_app : App
+unfoldable pub uci_app : App
 uci_app = new_app (codes "uci")
 
-abbrev pub replay_app : App
+unfoldable pub replay_app : App
 replay_app = with_rule (new_app (codes "replay")) (wanted (codes "SCRIPT"))
 
 -- the program's own options: a version, a command that has to be given, and no command `help`
-abbrev pub bare_app : App
+unfoldable pub bare_app : App
 bare_app = record (new_app (codes "matedesk")) {
   top = record (new_app (codes "matedesk")).top {
     has_version = true;
@@ -165,35 +166,35 @@ bare_app = record (new_app (codes "matedesk")) {
 }
 
 -- with the commands that show a position or its moves
-abbrev pub with_fen_apps : App → App
+unfoldable pub with_fen_apps : App → App
 with_fen_apps a = with_subcommand (with_subcommand (with_subcommand a look_app.top) play_app.top) moves_app.top
 
 -- with those that do so of each line of files
-abbrev pub with_line_apps : App → App
+unfoldable pub with_line_apps : App → App
 with_line_apps a = with_subcommand (with_subcommand (with_subcommand a look_lines_app.top) moves_lines_app.top) perft_lines_app.top
 
 -- with the command that counts lines, and the one that explains faults
-abbrev pub with_other_apps : App → App
+unfoldable pub with_other_apps : App → App
 with_other_apps a = with_subcommand (with_subcommand a perft_app.top) explain_app.top
 
 -- with the commands that answer the records of files one after the other
-abbrev pub with_record_apps : App → App
+unfoldable pub with_record_apps : App → App
 with_record_apps a = with_subcommand (with_subcommand (with_subcommand a solve_app.top) verify_app.top) tree_app.top
 
 -- and with that which makes records
-abbrev pub with_problem_apps : App → App
+unfoldable pub with_problem_apps : App → App
 with_problem_apps a = with_subcommand (with_record_apps a) import_app.top
 
 -- with those on threads, and at a desk
-abbrev pub with_desk_apps : App → App
+unfoldable pub with_desk_apps : App → App
 with_desk_apps a = with_subcommand (with_subcommand (with_subcommand a serve_app.top) replay_app.top) uci_app.top
 
 -- with the one that makes a page of the records of files
-abbrev pub with_page_apps : App → App
+unfoldable pub with_page_apps : App → App
 with_page_apps a = with_subcommand a sheet_app.top
 
 -- the whole command line
-abbrev pub desk_app : App
+unfoldable pub desk_app : App
 desk_app = with_page_apps (with_line_apps (with_other_apps (with_fen_apps (with_desk_apps (with_problem_apps bare_app)))))
 
 -- no argument of the command is global

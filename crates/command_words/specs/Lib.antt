@@ -1,4 +1,5 @@
 pub mod Asked
+pub mod ClapWords
 pub mod CommandLine
 pub mod Limits
 pub mod Hyphens

@@ -1,7 +1,7 @@
 //! The command line, as `clap` is told of it.
 
 ghost use Rattle.std.specs.Prelude.{◌≡◌, IfOk, codes, false};
-ghost use Rattle.clap.specs.Words.{app_of, new_rule, rule_of, with_rule, with_subcommand};
+ghost use Rattle.command_words.specs.ClapWords.{app_of, new_app, new_rule, rule_of, with_rule, with_subcommand};
 ghost use Rattle.command_words.specs.CommandLine.{IsLocal, bare_app, bound_rule, depth_rule, desk_app, explain_app, files_rule};
 ghost use Rattle.command_words.specs.CommandLine.{flag_rule, from_rule, import_app, limit_rule, look_app, look_lines_app, memo_rule, most_lines_rule, moves_app};
 ghost use Rattle.command_words.specs.CommandLine.{moves_lines_app, moves_rule, perft_app, perft_lines_app, play_app, replay_app};
@@ -26,6 +26,7 @@ use clap::{Arg, ArgAction, Command, value_parser};
 use std::alloc::{AllocError, Global};
 
 /// A positional that has to be given.
+#[tactic(auto, unfolding(crate::specs::ClapWords::rule_of, crate::specs::ClapWords::new_rule, crate::specs::CommandLine::wanted))]
 fn wanted_arg<'a>(alloc: Global, id: &'a str, help: &'a str) -> Arg<'a>
     ensures rule { rule_of result ≡ wanted id.entry.now }
     ensures local { result.global ≡ false }
@@ -34,6 +35,7 @@ fn wanted_arg<'a>(alloc: Global, id: &'a str, help: &'a str) -> Arg<'a>
 }
 
 /// The number of moves of `perft`, 0 to 6.
+#[tactic(auto, unfolding(crate::specs::ClapWords::rule_of, crate::specs::CommandLine::depth_rule, crate::specs::CommandLine::wanted))]
 fn depth_arg<'a>(alloc: Global) -> Arg<'a>
     ensures rule { rule_of result ≡ depth_rule }
     ensures local { result.global ≡ false }
@@ -42,6 +44,7 @@ fn depth_arg<'a>(alloc: Global) -> Arg<'a>
 }
 
 /// The bound of problems that don't say theirs, 1 to 15.
+#[tactic(auto, unfolding(crate::specs::ClapWords::rule_of, crate::specs::ClapWords::new_rule, crate::specs::CommandLine::bound_rule))]
 fn bound_arg<'a>(alloc: Global) -> Arg<'a>
     ensures rule { rule_of result ≡ bound_rule }
     ensures local { result.global ≡ false }
@@ -54,6 +57,7 @@ fn bound_arg<'a>(alloc: Global) -> Arg<'a>
 }
 
 /// The number of workers, 1 to 16.
+#[tactic(auto, unfolding(crate::specs::ClapWords::rule_of, crate::specs::CommandLine::workers_rule, crate::specs::CommandLine::wanted))]
 fn workers_arg<'a>(alloc: Global) -> Arg<'a>
     ensures rule { rule_of result ≡ workers_rule }
     ensures local { result.global ≡ false }
@@ -64,6 +68,7 @@ fn workers_arg<'a>(alloc: Global) -> Arg<'a>
 }
 
 /// The number of entries of a memo, 1 to 65,536.
+#[tactic(auto, unfolding(crate::specs::ClapWords::rule_of, crate::specs::ClapWords::new_rule, crate::specs::CommandLine::memo_rule))]
 fn memo_arg<'a>(alloc: Global, default: &'a str, help: &'a str) -> Arg<'a>
     ensures rule { rule_of result ≡ memo_rule default.entry.now }
     ensures local { result.global ≡ false }
@@ -76,6 +81,7 @@ fn memo_arg<'a>(alloc: Global, default: &'a str, help: &'a str) -> Arg<'a>
 }
 
 /// The number of the line that is the first to be answered, 1 to 1,000,000,000.
+#[tactic(auto, unfolding(crate::specs::ClapWords::rule_of, crate::specs::ClapWords::new_rule, crate::specs::CommandLine::from_rule))]
 fn from_arg<'a>(alloc: Global) -> Arg<'a>
     ensures rule { rule_of result ≡ from_rule }
     ensures local { result.global ≡ false }
@@ -88,6 +94,7 @@ fn from_arg<'a>(alloc: Global) -> Arg<'a>
 }
 
 /// How many seconds a record may take, 1 to 86,400.
+#[tactic(auto, unfolding(crate::specs::ClapWords::rule_of, crate::specs::ClapWords::new_rule, crate::specs::CommandLine::limit_rule))]
 fn limit_arg<'a>(alloc: Global) -> Arg<'a>
     ensures rule { rule_of result ≡ limit_rule }
     ensures local { result.global ≡ false }
@@ -99,6 +106,7 @@ fn limit_arg<'a>(alloc: Global) -> Arg<'a>
 }
 
 /// How many of the attacker's moves are shown of a tree, 1 to 15.
+#[tactic(auto, unfolding(crate::specs::ClapWords::rule_of, crate::specs::ClapWords::new_rule, crate::specs::CommandLine::shown_rule))]
 fn shown_arg<'a>(alloc: Global) -> Arg<'a>
     ensures rule { rule_of result ≡ shown_rule }
     ensures local { result.global ≡ false }
@@ -110,6 +118,7 @@ fn shown_arg<'a>(alloc: Global) -> Arg<'a>
 }
 
 /// How many lines of a tree there are at most, 1 to 1,000,000.
+#[tactic(auto, unfolding(crate::specs::ClapWords::rule_of, crate::specs::ClapWords::new_rule, crate::specs::CommandLine::most_lines_rule))]
 fn most_lines_arg<'a>(alloc: Global) -> Arg<'a>
     ensures rule { rule_of result ≡ most_lines_rule }
     ensures local { result.global ≡ false }
@@ -121,6 +130,7 @@ fn most_lines_arg<'a>(alloc: Global) -> Arg<'a>
 }
 
 /// An option without a value, by its long name.
+#[tactic(auto, unfolding(crate::specs::ClapWords::rule_of, crate::specs::ClapWords::new_rule, crate::specs::CommandLine::flag_rule))]
 fn flag_arg<'a>(alloc: Global, name: &'a str, help: &'a str) -> Arg<'a>
     ensures rule { rule_of result ≡ flag_rule name.entry.now }
     ensures local { result.global ≡ false }
@@ -132,6 +142,7 @@ fn flag_arg<'a>(alloc: Global, name: &'a str, help: &'a str) -> Arg<'a>
 }
 
 /// The title of a page.
+#[tactic(auto, unfolding(crate::specs::ClapWords::rule_of, crate::specs::ClapWords::new_rule, crate::specs::CommandLine::title_rule))]
 fn title_arg<'a>(alloc: Global) -> Arg<'a>
     ensures rule { rule_of result ≡ title_rule }
     ensures local { result.global ≡ false }
@@ -143,6 +154,7 @@ fn title_arg<'a>(alloc: Global) -> Arg<'a>
 }
 
 /// The moves of `play`, none or more.
+#[tactic(auto, unfolding(crate::specs::ClapWords::rule_of, crate::specs::ClapWords::new_rule, crate::specs::CommandLine::moves_rule))]
 fn moves_arg<'a>(alloc: Global) -> Arg<'a>
     ensures rule { rule_of result ≡ moves_rule }
     ensures local { result.global ≡ false }
@@ -151,6 +163,7 @@ fn moves_arg<'a>(alloc: Global) -> Arg<'a>
 }
 
 /// The code of a fault, which need not be given.
+#[tactic(auto, unfolding(crate::specs::ClapWords::rule_of, crate::specs::ClapWords::new_rule))]
 fn code_arg<'a>(alloc: Global) -> Arg<'a>
     ensures rule { rule_of result ≡ new_rule (codes "CODE") }
     ensures local { result.global ≡ false }
@@ -159,6 +172,7 @@ fn code_arg<'a>(alloc: Global) -> Arg<'a>
 }
 
 /// The names of files, one or more.
+#[tactic(auto, unfolding(crate::specs::ClapWords::rule_of, crate::specs::CommandLine::files_rule, crate::specs::CommandLine::wanted))]
 fn files_arg<'a>(alloc: Global, help: &'a str) -> Arg<'a>
     ensures rule { rule_of result ≡ files_rule }
     ensures local { result.global ≡ false }
@@ -167,15 +181,17 @@ fn files_arg<'a>(alloc: Global, help: &'a str) -> Arg<'a>
 }
 
 /// `Command::arg`, by what a parse reads of its result.
+#[tactic(auto, unfolding(crate::specs::ClapWords::app_of, crate::specs::ClapWords::rule_of, crate::specs::ClapWords::with_rule))]
 fn with_arg<'a>(command: Command<'a>, arg: Arg<'a>) -> Result<Command<'a>, AllocError>
-    requires local { arg.global ≡ false }
-    ensures app { IfOk result (λ c. app_of c ≡ with_rule (app_of command.entry) (rule_of arg.entry)) }
-    ensures local { IfOk result (λ c. IsLocal command.entry → IsLocal c) }
+    requires local { IsLocal command }
+    requires arg_local { arg.global ≡ false }
+    ensures { IfOk result (λ c. (app_of c ≡ with_rule (app_of command.entry) (rule_of arg.entry)) × IsLocal c) }
 {
     command.arg(arg)
 }
 
 /// `Command::subcommand`, by what a parse reads of its result.
+#[tactic(auto, unfolding(crate::specs::ClapWords::app_of, crate::specs::ClapWords::with_subcommand))]
 fn with_command<'a>(command: Command<'a>, sub: Command<'a>) -> Result<Command<'a>, AllocError>
     requires local { IsLocal sub }
     ensures { IfOk result (λ c. app_of c ≡ with_subcommand (app_of command.entry) (app_of sub.entry).top) }
@@ -183,7 +199,19 @@ fn with_command<'a>(command: Command<'a>, sub: Command<'a>) -> Result<Command<'a
     command.subcommand(sub)
 }
 
+/// A command with no argument yet.
+#[tactic(auto, unfolding(crate::specs::ClapWords::app_of, crate::specs::ClapWords::new_app))]
+fn new_command<'a>(alloc: Global, name: &'a str, about: &'a str, after_help: &'a str) -> Command<'a>
+    ensures app { app_of result ≡ new_app name.entry.now }
+    ensures local { IsLocal result }
+{
+    Command::new(alloc, name)
+        .about(about)
+        .after_help(after_help)
+}
+
 /// Adds what may be given to `solve`, `verify` and `serve`: the bound, and the number of entries of a memo.
+#[tactic(auto, unfolding(crate::specs::CommandLine::with_solving_options))]
 fn with_solving_options<'a>(
     alloc: Global,
     command: Command<'a>,
@@ -213,6 +241,7 @@ fn with_args<'a>(
 }
 
 /// Adds what is read line by line: files, and the line that is the first to be answered.
+#[tactic(auto, unfolding(crate::specs::CommandLine::with_lines_of_files))]
 fn with_lines_of_files<'a>(alloc: Global, command: Command<'a>) -> Result<Command<'a>, AllocError>
     requires local { IsLocal command }
     ensures { IfOk result (λ c. (app_of c ≡ with_lines_of_files (app_of command.entry)) × IsLocal c) }
@@ -220,28 +249,27 @@ fn with_lines_of_files<'a>(alloc: Global, command: Command<'a>) -> Result<Comman
     with_args(command, from_arg(alloc), files_arg(alloc, ABOUT_FILE))
 }
 
+#[tactic(auto, unfolding(crate::specs::CommandLine::solve_app))]
 fn solve_command<'a>(alloc: Global) -> Result<Command<'a>, AllocError>
     ensures { IfOk result (λ c. (app_of c ≡ solve_app) × IsLocal c) }
 {
-    let command = Command::new(alloc, "solve")
-        .about(ABOUT_SOLVE)
-        .after_help(AFTER_SOLVE);
+    let command = new_command(alloc, "solve", ABOUT_SOLVE, AFTER_SOLVE);
     let command = with_solving_options(alloc, command, "65536", ABOUT_MEMO)?;
     let command = with_arg(command, limit_arg(alloc))?;
     with_lines_of_files(alloc, command)
 }
 
+#[tactic(auto, unfolding(crate::specs::CommandLine::verify_app))]
 fn verify_command<'a>(alloc: Global) -> Result<Command<'a>, AllocError>
     ensures { IfOk result (λ c. (app_of c ≡ verify_app) × IsLocal c) }
 {
-    let command = Command::new(alloc, "verify")
-        .about(ABOUT_VERIFY)
-        .after_help(AFTER_VERIFY);
+    let command = new_command(alloc, "verify", ABOUT_VERIFY, AFTER_VERIFY);
     let command = with_solving_options(alloc, command, "65536", ABOUT_MEMO)?;
     with_lines_of_files(alloc, command)
 }
 
 /// Adds what may be given to `tree`: the bound, and what is shown.
+#[tactic(auto, unfolding(crate::specs::CommandLine::with_tree_options))]
 fn with_tree_options<'a>(alloc: Global, command: Command<'a>) -> Result<Command<'a>, AllocError>
     requires local { IsLocal command }
     ensures { IfOk result (λ c. (app_of c ≡ with_tree_options (app_of command.entry)) × IsLocal c) }
@@ -253,17 +281,17 @@ fn with_tree_options<'a>(alloc: Global, command: Command<'a>) -> Result<Command<
     with_arg(command, most_lines_arg(alloc))
 }
 
+#[tactic(auto, unfolding(crate::specs::CommandLine::tree_app))]
 fn tree_command<'a>(alloc: Global) -> Result<Command<'a>, AllocError>
     ensures { IfOk result (λ c. (app_of c ≡ tree_app) × IsLocal c) }
 {
-    let command = Command::new(alloc, "tree")
-        .about(ABOUT_TREE)
-        .after_help(AFTER_TREE);
+    let command = new_command(alloc, "tree", ABOUT_TREE, AFTER_TREE);
     let command = with_tree_options(alloc, command)?;
     with_lines_of_files(alloc, command)
 }
 
 /// Adds what a page may have beside its diagrams.
+#[tactic(auto, unfolding(crate::specs::CommandLine::with_sheet_flags))]
 fn with_sheet_flags<'a>(alloc: Global, command: Command<'a>) -> Result<Command<'a>, AllocError>
     requires local { IsLocal command }
     ensures { IfOk result (λ c. (app_of c ≡ with_sheet_flags (app_of command.entry)) × IsLocal c) }
@@ -274,6 +302,7 @@ fn with_sheet_flags<'a>(alloc: Global, command: Command<'a>) -> Result<Command<'
 }
 
 /// Adds what may be given to `sheet`: what a page has beside its diagrams, and its title.
+#[tactic(auto, unfolding(crate::specs::CommandLine::with_sheet_options))]
 fn with_sheet_options<'a>(alloc: Global, command: Command<'a>) -> Result<Command<'a>, AllocError>
     requires local { IsLocal command }
     ensures { IfOk result (λ c. (app_of c ≡ with_sheet_options (app_of command.entry)) × IsLocal c) }
@@ -282,61 +311,55 @@ fn with_sheet_options<'a>(alloc: Global, command: Command<'a>) -> Result<Command
     with_arg(command, title_arg(alloc))
 }
 
+#[tactic(auto, unfolding(crate::specs::CommandLine::sheet_app))]
 fn sheet_command<'a>(alloc: Global) -> Result<Command<'a>, AllocError>
     ensures { IfOk result (λ c. (app_of c ≡ sheet_app) × IsLocal c) }
 {
-    let command = Command::new(alloc, "sheet")
-        .about(ABOUT_SHEET)
-        .after_help(AFTER_SHEET);
+    let command = new_command(alloc, "sheet", ABOUT_SHEET, AFTER_SHEET);
     let command = with_sheet_options(alloc, command)?;
     let command = with_solving_options(alloc, command, "65536", ABOUT_MEMO)?;
     with_arg(command, files_arg(alloc, ABOUT_FILE))
 }
 
+#[tactic(auto, unfolding(crate::specs::CommandLine::import_app))]
 fn import_command<'a>(alloc: Global) -> Result<Command<'a>, AllocError>
     ensures { IfOk result (λ c. (app_of c ≡ import_app) × IsLocal c) }
 {
-    let command = Command::new(alloc, "import")
-        .about(ABOUT_IMPORT)
-        .after_help(AFTER_IMPORT);
+    let command = new_command(alloc, "import", ABOUT_IMPORT, AFTER_IMPORT);
     let keep = flag_arg(alloc, "keep", ABOUT_KEEP);
     with_args(command, keep, files_arg(alloc, ABOUT_FILE))
 }
 
+#[tactic(auto, unfolding(crate::specs::CommandLine::serve_app))]
 fn serve_command<'a>(alloc: Global) -> Result<Command<'a>, AllocError>
     ensures { IfOk result (λ c. (app_of c ≡ serve_app) × IsLocal c) }
 {
-    let command = Command::new(alloc, "serve")
-        .about(ABOUT_SERVE)
-        .after_help(AFTER_SERVE);
+    let command = new_command(alloc, "serve", ABOUT_SERVE, AFTER_SERVE);
     let command = with_arg(command, workers_arg(alloc))?;
     let command = with_solving_options(alloc, command, "16384", ABOUT_MEMOS)?;
     with_arg(command, files_arg(alloc, ABOUT_FILE))
 }
 
+#[tactic(auto, unfolding(crate::specs::CommandLine::replay_app))]
 fn replay_command<'a>(alloc: Global) -> Result<Command<'a>, AllocError>
     ensures { IfOk result (λ c. (app_of c ≡ replay_app) × IsLocal c) }
 {
-    let command = Command::new(alloc, "replay")
-        .about(ABOUT_REPLAY)
-        .after_help(AFTER_REPLAY);
+    let command = new_command(alloc, "replay", ABOUT_REPLAY, AFTER_REPLAY);
     with_arg(command, wanted_arg(alloc, "SCRIPT", ABOUT_SCRIPT))
 }
 
+#[tactic(auto, unfolding(crate::specs::CommandLine::uci_app))]
 fn uci_command<'a>(alloc: Global) -> Command<'a>
     ensures { (app_of result ≡ uci_app) × IsLocal result }
 {
-    Command::new(alloc, "uci")
-        .about(ABOUT_UCI)
-        .after_help(AFTER_UCI)
+    new_command(alloc, "uci", ABOUT_UCI, AFTER_UCI)
 }
 
+#[tactic(auto, unfolding(crate::specs::CommandLine::look_app))]
 fn look_command<'a>(alloc: Global) -> Result<Command<'a>, AllocError>
     ensures { IfOk result (λ c. (app_of c ≡ look_app) × IsLocal c) }
 {
-    let command = Command::new(alloc, "look")
-        .about(ABOUT_LOOK)
-        .after_help(AFTER_LOOK);
+    let command = new_command(alloc, "look", ABOUT_LOOK, AFTER_LOOK);
     let board = flag_arg(alloc, "board", ABOUT_BOARD);
     let flip = flag_arg(alloc, "flip", ABOUT_FLIP);
     let command = with_args(command, board, flip)?;
@@ -344,78 +367,72 @@ fn look_command<'a>(alloc: Global) -> Result<Command<'a>, AllocError>
     with_args(command, svg, wanted_arg(alloc, "FEN", ABOUT_FEN))
 }
 
+#[tactic(auto, unfolding(crate::specs::CommandLine::play_app))]
 fn play_command<'a>(alloc: Global) -> Result<Command<'a>, AllocError>
     ensures { IfOk result (λ c. (app_of c ≡ play_app) × IsLocal c) }
 {
-    let command = Command::new(alloc, "play")
-        .about(ABOUT_PLAY)
-        .after_help(AFTER_PLAY);
+    let command = new_command(alloc, "play", ABOUT_PLAY, AFTER_PLAY);
     let fen = wanted_arg(alloc, "FEN", ABOUT_FEN);
     with_args(command, fen, moves_arg(alloc))
 }
 
+#[tactic(auto, unfolding(crate::specs::CommandLine::moves_app))]
 fn moves_command<'a>(alloc: Global) -> Result<Command<'a>, AllocError>
     ensures { IfOk result (λ c. (app_of c ≡ moves_app) × IsLocal c) }
 {
-    let command = Command::new(alloc, "moves")
-        .about(ABOUT_MOVES)
-        .after_help(AFTER_MOVES);
+    let command = new_command(alloc, "moves", ABOUT_MOVES, AFTER_MOVES);
     let coordinates = flag_arg(alloc, "coordinates", ABOUT_COORDINATES);
     let fen = flag_arg(alloc, "fen", ABOUT_FENS);
     let command = with_args(command, coordinates, fen)?;
     with_arg(command, wanted_arg(alloc, "FEN", ABOUT_FEN))
 }
 
+#[tactic(auto, unfolding(crate::specs::CommandLine::perft_app))]
 fn perft_command<'a>(alloc: Global) -> Result<Command<'a>, AllocError>
     ensures { IfOk result (λ c. (app_of c ≡ perft_app) × IsLocal c) }
 {
-    let command = Command::new(alloc, "perft")
-        .about(ABOUT_PERFT)
-        .after_help(AFTER_PERFT);
+    let command = new_command(alloc, "perft", ABOUT_PERFT, AFTER_PERFT);
     let divide = flag_arg(alloc, "divide", ABOUT_DIVIDE);
     let fen = wanted_arg(alloc, "FEN", ABOUT_FEN);
     let command = with_args(command, divide, fen)?;
     with_arg(command, depth_arg(alloc))
 }
 
+#[tactic(auto, unfolding(crate::specs::CommandLine::look_lines_app))]
 fn look_lines_command<'a>(alloc: Global) -> Result<Command<'a>, AllocError>
     ensures { IfOk result (λ c. (app_of c ≡ look_lines_app) × IsLocal c) }
 {
-    let command = Command::new(alloc, "look --lines")
-        .about(ABOUT_LOOK_LINES)
-        .after_help(AFTER_LOOK_LINES);
+    let command = new_command(alloc, "look --lines", ABOUT_LOOK_LINES, AFTER_LOOK_LINES);
     let board = flag_arg(alloc, "board", ABOUT_BOARD);
     with_args(command, board, files_arg(alloc, ABOUT_POSITIONS))
 }
 
+#[tactic(auto, unfolding(crate::specs::CommandLine::moves_lines_app))]
 fn moves_lines_command<'a>(alloc: Global) -> Result<Command<'a>, AllocError>
     ensures { IfOk result (λ c. (app_of c ≡ moves_lines_app) × IsLocal c) }
 {
-    let command = Command::new(alloc, "moves --lines")
-        .about(ABOUT_MOVES_LINES)
-        .after_help(AFTER_MOVES_LINES);
+    let command = new_command(alloc, "moves --lines", ABOUT_MOVES_LINES, AFTER_MOVES_LINES);
     with_arg(command, files_arg(alloc, ABOUT_POSITIONS))
 }
 
+#[tactic(auto, unfolding(crate::specs::CommandLine::perft_lines_app))]
 fn perft_lines_command<'a>(alloc: Global) -> Result<Command<'a>, AllocError>
     ensures { IfOk result (λ c. (app_of c ≡ perft_lines_app) × IsLocal c) }
 {
-    let command = Command::new(alloc, "perft --lines")
-        .about(ABOUT_PERFT_LINES)
-        .after_help(AFTER_PERFT_LINES);
+    let command = new_command(alloc, "perft --lines", ABOUT_PERFT_LINES, AFTER_PERFT_LINES);
     with_args(command, depth_arg(alloc), files_arg(alloc, ABOUT_POSITIONS))
 }
 
+#[tactic(auto, unfolding(crate::specs::CommandLine::explain_app))]
 fn explain_command<'a>(alloc: Global) -> Result<Command<'a>, AllocError>
     ensures { IfOk result (λ c. (app_of c ≡ explain_app) × IsLocal c) }
 {
-    let command = Command::new(alloc, "explain")
-        .about(ABOUT_EXPLAIN)
-        .after_help(AFTER_EXPLAIN);
+    let command = new_command(alloc, "explain", ABOUT_EXPLAIN, AFTER_EXPLAIN);
     with_arg(command, code_arg(alloc))
 }
 
 /// The program with its own options and no command yet.
+#[tactic(auto, unfolding(crate::specs::CommandLine::bare_app, crate::specs::ClapWords::new_app, crate::specs::ClapWords::app_of))]
 fn bare_command<'a>(alloc: Global) -> Command<'a>
     ensures { (app_of result ≡ bare_app) × IsLocal result }
 {
@@ -428,6 +445,7 @@ fn bare_command<'a>(alloc: Global) -> Command<'a>
 }
 
 /// Adds the commands that show a position or its moves.
+#[tactic(auto, unfolding(crate::specs::CommandLine::with_fen_apps))]
 fn with_fen_commands<'a>(alloc: Global, command: Command<'a>) -> Result<Command<'a>, AllocError>
     ensures { IfOk result (λ c. app_of c ≡ with_fen_apps (app_of command.entry)) }
 {
@@ -437,6 +455,7 @@ fn with_fen_commands<'a>(alloc: Global, command: Command<'a>) -> Result<Command<
 }
 
 /// Adds the command that counts lines, and the one that explains faults.
+#[tactic(auto, unfolding(crate::specs::CommandLine::with_other_apps))]
 fn with_other_commands<'a>(alloc: Global, command: Command<'a>) -> Result<Command<'a>, AllocError>
     ensures { IfOk result (λ c. app_of c ≡ with_other_apps (app_of command.entry)) }
 {
@@ -445,6 +464,7 @@ fn with_other_commands<'a>(alloc: Global, command: Command<'a>) -> Result<Comman
 }
 
 /// Adds the commands that answer each line of files, a position.
+#[tactic(auto, unfolding(crate::specs::CommandLine::with_line_apps))]
 fn with_line_commands<'a>(alloc: Global, command: Command<'a>) -> Result<Command<'a>, AllocError>
     ensures { IfOk result (λ c. app_of c ≡ with_line_apps (app_of command.entry)) }
 {
@@ -454,6 +474,7 @@ fn with_line_commands<'a>(alloc: Global, command: Command<'a>) -> Result<Command
 }
 
 /// Adds those that answer the records of files one after the other.
+#[tactic(auto, unfolding(crate::specs::CommandLine::with_record_apps))]
 fn with_record_commands<'a>(alloc: Global, command: Command<'a>) -> Result<Command<'a>, AllocError>
     ensures { IfOk result (λ c. app_of c ≡ with_record_apps (app_of command.entry)) }
 {
@@ -463,6 +484,7 @@ fn with_record_commands<'a>(alloc: Global, command: Command<'a>) -> Result<Comma
 }
 
 /// Adds these, and that which makes records.
+#[tactic(auto, unfolding(crate::specs::CommandLine::with_problem_apps))]
 fn with_problem_commands<'a>(alloc: Global, command: Command<'a>) -> Result<Command<'a>, AllocError>
     ensures { IfOk result (λ c. app_of c ≡ with_problem_apps (app_of command.entry)) }
 {
@@ -471,6 +493,7 @@ fn with_problem_commands<'a>(alloc: Global, command: Command<'a>) -> Result<Comm
 }
 
 /// Adds those on threads, and at a desk.
+#[tactic(auto, unfolding(crate::specs::CommandLine::with_desk_apps))]
 fn with_desk_commands<'a>(alloc: Global, command: Command<'a>) -> Result<Command<'a>, AllocError>
     ensures { IfOk result (λ c. app_of c ≡ with_desk_apps (app_of command.entry)) }
 {
@@ -480,6 +503,7 @@ fn with_desk_commands<'a>(alloc: Global, command: Command<'a>) -> Result<Command
 }
 
 /// Adds the command that makes a page of the records of files.
+#[tactic(auto, unfolding(crate::specs::CommandLine::with_page_apps))]
 fn with_page_command<'a>(alloc: Global, command: Command<'a>) -> Result<Command<'a>, AllocError>
     ensures { IfOk result (λ c. app_of c ≡ with_page_apps (app_of command.entry)) }
 {
@@ -487,6 +511,7 @@ fn with_page_command<'a>(alloc: Global, command: Command<'a>) -> Result<Command<
 }
 
 /// The whole command line.
+#[tactic(auto, unfolding(crate::specs::CommandLine::desk_app))]
 pub fn desk_command<'a>(alloc: Global) -> Result<Command<'a>, AllocError>
     ensures { IfOk result (λ c. app_of c ≡ desk_app) }
 {

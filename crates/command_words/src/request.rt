@@ -4,6 +4,7 @@ ghost use Rattle.std.specs.Prelude.{◌≡◌, ◌≢◌, None, codes, IfOk, IfE
 ghost use Rattle.std.specs.Option.{option_map_or};
 ghost use Rattle.clap.specs.Walk.{byte_or_zero};
 ghost use Rattle.clap.specs.Words.{all_of, first_of, found_of, kind_of, one_of, rows_of};
+ghost use Rattle.command_words.specs.Asked.{desk_asked_by, lines_asked_by, records_asked_by};
 ghost use Rattle.command_words.specs.Asked.{asked_by, asked_exactly, bound_in, depth_in, form_in, from_in, is_given, limit_in, lines_in, look_in};
 ghost use Rattle.command_words.specs.Asked.{look_lines_in, memo_size_in, moves_in, number_or_zero, perft_in, perft_lines_in, play_in};
 ghost use Rattle.command_words.specs.Asked.{side_in, workers_in, serve_in, solve_in, some_number, tree_form_in, tree_in, verify_in};
@@ -155,6 +156,7 @@ fn large_number_in(matches: &ArgMatches, id: &str) -> u32
 }
 
 /// The depth of `perft`. `clap` has kept it to its range.
+#[tactic(auto, unfolding(crate::specs::Asked::depth_in))]
 fn depth_in(matches: &ArgMatches) -> Option<Depth>
     ensures { result ≡ depth_in (rows_of (found_of matches.now)) }
 {
@@ -162,6 +164,7 @@ fn depth_in(matches: &ArgMatches) -> Option<Depth>
 }
 
 /// The bound of `solve`, `verify`, `tree`, `sheet` and `serve`. `clap` has kept it to its range.
+#[tactic(auto, unfolding(crate::specs::Asked::bound_in))]
 fn bound_in(matches: &ArgMatches) -> Option<Bound>
     ensures { result ≡ bound_in (rows_of (found_of matches.now)) }
 {
@@ -169,6 +172,7 @@ fn bound_in(matches: &ArgMatches) -> Option<Bound>
 }
 
 /// The workers of `serve`. `clap` has kept them to their range.
+#[tactic(auto, unfolding(crate::specs::Asked::workers_in))]
 fn workers_in(matches: &ArgMatches) -> Option<Workers>
     ensures { result ≡ workers_in (rows_of (found_of matches.now)) }
 {
@@ -176,6 +180,7 @@ fn workers_in(matches: &ArgMatches) -> Option<Workers>
 }
 
 /// The size of the memo of `solve`, `verify` or `sheet`, or of each worker of `serve`. `clap` has kept it to its range.
+#[tactic(auto, unfolding(crate::specs::Asked::memo_size_in))]
 fn memo_size_in(matches: &ArgMatches) -> Option<MemoSize>
     ensures { result ≡ memo_size_in (rows_of (found_of matches.now)) }
 {
@@ -183,6 +188,7 @@ fn memo_size_in(matches: &ArgMatches) -> Option<MemoSize>
 }
 
 /// The number of the line that `solve`, `verify` or `tree` answers first. `clap` has kept it to its range.
+#[tactic(auto, unfolding(crate::specs::Asked::from_in))]
 fn from_in(matches: &ArgMatches) -> Option<LineNumber>
     ensures { result ≡ from_in (rows_of (found_of matches.now)) }
 {
@@ -190,6 +196,7 @@ fn from_in(matches: &ArgMatches) -> Option<LineNumber>
 }
 
 /// How many seconds `solve` may take for each record. `clap` has kept them to their range, and has none where none are given.
+#[tactic(auto, unfolding(crate::specs::Asked::limit_in))]
 fn limit_in(matches: &ArgMatches) -> Option<u32>
     ensures { result ≡ limit_in (rows_of (found_of matches.now)) }
 {
@@ -200,6 +207,7 @@ fn limit_in(matches: &ArgMatches) -> Option<u32>
 }
 
 /// Whether an option without a value is given. `clap` has the value `true` for it then, and else `false`.
+#[tactic(auto, unfolding(crate::specs::Asked::is_given))]
 fn is_given(matches: &ArgMatches, id: &str) -> bool
     ensures { result ≡ is_given id.now (rows_of (found_of matches.now)) }
 {
@@ -210,6 +218,7 @@ fn is_given(matches: &ArgMatches, id: &str) -> bool
 }
 
 /// From which side the board is seen.
+#[tactic(auto, unfolding(crate::specs::Asked::side_in))]
 fn side_in(matches: &ArgMatches) -> Colour
     ensures { result ≡ side_in (rows_of (found_of matches.now)) }
 {
@@ -221,6 +230,7 @@ fn side_in(matches: &ArgMatches) -> Colour
 }
 
 /// What the arguments of `look` ask for; nothing where a board is to be turned that isn't asked for.
+#[tactic(auto, unfolding(crate::specs::Asked::look_in))]
 fn look_in<'m, 'a>(matches: &'m ArgMatches<'a>) -> Option<Request<'m, 'a>>
     ensures { option_map plan_of result ≡ look_in (rows_of (found_of matches.now)) }
 {
@@ -237,6 +247,7 @@ fn look_in<'m, 'a>(matches: &'m ArgMatches<'a>) -> Option<Request<'m, 'a>>
 }
 
 /// What the arguments of `play` ask for.
+#[tactic(auto, unfolding(crate::specs::Asked::play_in))]
 fn play_in<'m, 'a>(matches: &'m ArgMatches<'a>) -> Option<Request<'m, 'a>>
     ensures { option_map plan_of result ≡ play_in (rows_of (found_of matches.now)) }
 {
@@ -245,6 +256,7 @@ fn play_in<'m, 'a>(matches: &'m ArgMatches<'a>) -> Option<Request<'m, 'a>>
 }
 
 /// How the moves are written that `moves` lists.
+#[tactic(auto, unfolding(crate::specs::Asked::form_in))]
 fn form_in(matches: &ArgMatches) -> MoveForm
     ensures { result ≡ form_in (rows_of (found_of matches.now)) }
 {
@@ -259,6 +271,7 @@ fn form_in(matches: &ArgMatches) -> MoveForm
 }
 
 /// What the arguments of `moves` ask for.
+#[tactic(auto, unfolding(crate::specs::Asked::moves_in))]
 fn moves_in<'m, 'a>(matches: &'m ArgMatches<'a>) -> Option<Request<'m, 'a>>
     ensures { option_map plan_of result ≡ moves_in (rows_of (found_of matches.now)) }
 {
@@ -267,6 +280,7 @@ fn moves_in<'m, 'a>(matches: &'m ArgMatches<'a>) -> Option<Request<'m, 'a>>
 }
 
 /// What the arguments of `perft` ask for.
+#[tactic(auto, unfolding(crate::specs::Asked::perft_in))]
 fn perft_in<'m, 'a>(matches: &'m ArgMatches<'a>) -> Option<Request<'m, 'a>>
     ensures { option_map plan_of result ≡ perft_in (rows_of (found_of matches.now)) }
 {
@@ -280,6 +294,7 @@ fn perft_in<'m, 'a>(matches: &'m ArgMatches<'a>) -> Option<Request<'m, 'a>>
 }
 
 /// What the arguments of a command over lines ask for, by what it shows of each.
+#[tactic(auto, unfolding(crate::specs::Asked::lines_in))]
 fn lines_in<'m, 'a>(matches: &'m ArgMatches<'a>, view: LineView) -> Option<Request<'m, 'a>>
     ensures { option_map plan_of result ≡ lines_in view (rows_of (found_of matches.now)) }
 {
@@ -287,6 +302,7 @@ fn lines_in<'m, 'a>(matches: &'m ArgMatches<'a>, view: LineView) -> Option<Reque
 }
 
 /// What the arguments of `look --lines` ask for.
+#[tactic(auto, unfolding(crate::specs::Asked::look_lines_in))]
 fn look_lines_in<'m, 'a>(matches: &'m ArgMatches<'a>) -> Option<Request<'m, 'a>>
     ensures { option_map plan_of result ≡ look_lines_in (rows_of (found_of matches.now)) }
 {
@@ -298,6 +314,7 @@ fn look_lines_in<'m, 'a>(matches: &'m ArgMatches<'a>) -> Option<Request<'m, 'a>>
 }
 
 /// What the arguments of `perft --lines` ask for.
+#[tactic(auto, unfolding(crate::specs::Asked::perft_lines_in))]
 fn perft_lines_in<'m, 'a>(matches: &'m ArgMatches<'a>) -> Option<Request<'m, 'a>>
     ensures { option_map plan_of result ≡ perft_lines_in (rows_of (found_of matches.now)) }
 {
@@ -306,6 +323,7 @@ fn perft_lines_in<'m, 'a>(matches: &'m ArgMatches<'a>) -> Option<Request<'m, 'a>
 }
 
 /// What the arguments of `solve` ask for.
+#[tactic(auto, unfolding(crate::specs::Asked::solve_in))]
 fn solve_in<'m, 'a>(matches: &'m ArgMatches<'a>) -> Option<Request<'m, 'a>>
     ensures { option_map plan_of result ≡ solve_in (rows_of (found_of matches.now)) }
 {
@@ -326,6 +344,7 @@ fn solve_in<'m, 'a>(matches: &'m ArgMatches<'a>) -> Option<Request<'m, 'a>>
 }
 
 /// What the arguments of `verify` ask for.
+#[tactic(auto, unfolding(crate::specs::Asked::verify_in))]
 fn verify_in<'m, 'a>(matches: &'m ArgMatches<'a>) -> Option<Request<'m, 'a>>
     ensures { option_map plan_of result ≡ verify_in (rows_of (found_of matches.now)) }
 {
@@ -357,6 +376,7 @@ fn most_lines_in(matches: &ArgMatches) -> Option<u32>
 }
 
 /// What is shown of a tree.
+#[tactic(auto, unfolding(crate::specs::Asked::tree_form_in))]
 fn tree_form_in(matches: &ArgMatches) -> TreeForm
     ensures { result ≡ tree_form_in (rows_of (found_of matches.now)) }
 {
@@ -369,6 +389,7 @@ fn tree_form_in(matches: &ArgMatches) -> TreeForm
 }
 
 /// What the arguments of `tree` ask for.
+#[tactic(auto, unfolding(crate::specs::Asked::tree_in))]
 fn tree_in<'m, 'a>(matches: &'m ArgMatches<'a>) -> Option<Request<'m, 'a>>
     ensures { option_map plan_of result ≡ tree_in (rows_of (found_of matches.now)) }
 {
@@ -380,6 +401,7 @@ fn tree_in<'m, 'a>(matches: &'m ArgMatches<'a>) -> Option<Request<'m, 'a>>
 }
 
 /// What a page has beside its diagrams.
+#[tactic(auto, unfolding(crate::specs::Asked::sheet_form_in))]
 fn sheet_form_in(matches: &ArgMatches) -> SheetForm
     ensures { result ≡ sheet_form_in (rows_of (found_of matches.now)) }
 {
@@ -390,6 +412,7 @@ fn sheet_form_in(matches: &ArgMatches) -> SheetForm
 }
 
 /// What the arguments of `sheet` ask for.
+#[tactic(auto, unfolding(crate::specs::Asked::sheet_in))]
 fn sheet_in<'m, 'a>(matches: &'m ArgMatches<'a>) -> Option<Request<'m, 'a>>
     ensures { option_map plan_of result ≡ sheet_in (rows_of (found_of matches.now)) }
 {
@@ -402,6 +425,7 @@ fn sheet_in<'m, 'a>(matches: &'m ArgMatches<'a>) -> Option<Request<'m, 'a>>
 }
 
 /// What the arguments of `import` ask for.
+#[tactic(auto, unfolding(crate::specs::Asked::import_in))]
 fn import_in<'m, 'a>(matches: &'m ArgMatches<'a>) -> Option<Request<'m, 'a>>
     ensures { option_map plan_of result ≡ import_in (rows_of (found_of matches.now)) }
 {
@@ -410,6 +434,7 @@ fn import_in<'m, 'a>(matches: &'m ArgMatches<'a>) -> Option<Request<'m, 'a>>
 }
 
 /// What the arguments of `serve` ask for.
+#[tactic(auto, unfolding(crate::specs::Asked::serve_in))]
 fn serve_in<'m, 'a>(matches: &'m ArgMatches<'a>) -> Option<Request<'m, 'a>>
     ensures { option_map plan_of result ≡ serve_in (rows_of (found_of matches.now)) }
 {
@@ -419,7 +444,61 @@ fn serve_in<'m, 'a>(matches: &'m ArgMatches<'a>) -> Option<Request<'m, 'a>>
     names_in(matches, "FILE").map(|names| Request::Serve(workers, bound, memo, names))
 }
 
-/// What the arguments of a command ask for, by its name.
+/// What the arguments of a command ask for, by its name: of a command over lines of positions.
+#[tactic(auto, unfolding(crate::specs::Asked::lines_asked_by))]
+fn line_request_by<'m, 'a>(name: &str, matches: &'m ArgMatches<'a>) -> Option<Request<'m, 'a>>
+    ensures { option_map plan_of result ≡ lines_asked_by name.now (rows_of (found_of matches.now)) }
+{
+    if name == "look --lines" {
+        look_lines_in(matches)
+    } else if name == "moves --lines" {
+        lines_in(matches, LineView::Moves)
+    } else if name == "perft --lines" {
+        perft_lines_in(matches)
+    } else {
+        None
+    }
+}
+
+/// Of these, and of one on threads, at a desk, or that explains faults.
+#[tactic(auto, unfolding(crate::specs::Asked::desk_asked_by))]
+fn desk_request_by<'m, 'a>(name: &str, matches: &'m ArgMatches<'a>) -> Option<Request<'m, 'a>>
+    ensures { option_map plan_of result ≡ desk_asked_by name.now (rows_of (found_of matches.now)) }
+{
+    if name == "serve" {
+        serve_in(matches)
+    } else if name == "replay" {
+        text_in(matches, "SCRIPT").map(Request::Replay)
+    } else if name == "explain" {
+        Some(Request::Explain(text_in(matches, "CODE")))
+    } else if name == "uci" {
+        Some(Request::Uci)
+    } else {
+        line_request_by(name, matches)
+    }
+}
+
+/// Of these, and of one over the records of files.
+#[tactic(auto, unfolding(crate::specs::Asked::records_asked_by))]
+fn record_request_by<'m, 'a>(name: &str, matches: &'m ArgMatches<'a>) -> Option<Request<'m, 'a>>
+    ensures { option_map plan_of result ≡ records_asked_by name.now (rows_of (found_of matches.now)) }
+{
+    if name == "solve" {
+        solve_in(matches)
+    } else if name == "verify" {
+        verify_in(matches)
+    } else if name == "tree" {
+        tree_in(matches)
+    } else if name == "sheet" {
+        sheet_in(matches)
+    } else if name == "import" {
+        import_in(matches)
+    } else {
+        desk_request_by(name, matches)
+    }
+}
+
+/// Of any command.
 #[tactic(auto, unfolding(crate::specs::Asked::asked_by))]
 fn request_by<'m, 'a>(name: &str, matches: &'m ArgMatches<'a>) -> Option<Request<'m, 'a>>
     ensures { option_map plan_of result ≡ asked_by name.now (rows_of (found_of matches.now)) }
@@ -432,32 +511,8 @@ fn request_by<'m, 'a>(name: &str, matches: &'m ArgMatches<'a>) -> Option<Request
         moves_in(matches)
     } else if name == "perft" {
         perft_in(matches)
-    } else if name == "solve" {
-        solve_in(matches)
-    } else if name == "verify" {
-        verify_in(matches)
-    } else if name == "tree" {
-        tree_in(matches)
-    } else if name == "sheet" {
-        sheet_in(matches)
-    } else if name == "import" {
-        import_in(matches)
-    } else if name == "serve" {
-        serve_in(matches)
-    } else if name == "replay" {
-        text_in(matches, "SCRIPT").map(Request::Replay)
-    } else if name == "explain" {
-        Some(Request::Explain(text_in(matches, "CODE")))
-    } else if name == "uci" {
-        Some(Request::Uci)
-    } else if name == "look --lines" {
-        look_lines_in(matches)
-    } else if name == "moves --lines" {
-        lines_in(matches, LineView::Moves)
-    } else if name == "perft --lines" {
-        perft_lines_in(matches)
     } else {
-        None
+        record_request_by(name, matches)
     }
 }
 

@@ -2,7 +2,7 @@
 use Rattle.std.proofs.Common.{◌≡◌, ◌∙◌, ◌++◌, ℕ, Bool, true, false, List, [], ◌∷◌, Option, Some}
 use Rattle.std.proofs.Common.{None, inl, refl, sym, ap, arith, subst, codes, replicate}
 use Rattle.std.proofs.lemmas.Fmt.{decimal_digit}
-use Rattle.clap.proofs.OnLiterals.{clap_on_literals}
+use Rattle.command_words.proofs.OnLiterals.{desk_on_literals}
 use Rattle.chess_board.specs.declared.men.Colour.TheVariants.{White, Black}
 use Rattle.chess_board.specs.declared.men.Kind.TheVariants.{King}
 use Rattle.chess_board.specs.Fens.{FenValue, SpellsSetup, fen_text, fields_of, position_text}
@@ -34,16 +34,16 @@ use Rattle.plain_commands.specs.FenCommands.{ShowsFen}
 
 pub asked_look : asked (codes "matedesk" ∷ codes "look" ∷ codes "k7/8/8/8/8/8/8/7K w - - 0 1" ∷ [])
     ≡ Some (look (codes "k7/8/8/8/8/8/8/7K w - - 0 1"))
-unfolding clap_on_literals asked_by asked_exactly escaped joined
+unfolding desk_on_literals asked_by asked_exactly escaped joined
 asked_look = refl
 
 pub asked_solve : asked (codes "matedesk" ∷ codes "solve" ∷ codes "one" ∷ codes "two" ∷ []) ≡ Some (solve 3 65536 1 (codes "one" ∷ codes "two" ∷ []))
-unfolding clap_on_literals asked_by asked_exactly escaped joined
+unfolding desk_on_literals asked_by asked_exactly escaped joined
 asked_solve = refl
 
 pub asked_serve : asked (codes "matedesk" ∷ codes "serve" ∷ codes "--workers" ∷ codes "2" ∷ codes "one" ∷ codes "two" ∷ [])
     ≡ Some (serve 2 3 16384 (codes "one" ∷ codes "two" ∷ []))
-unfolding clap_on_literals asked_by asked_exactly escaped joined
+unfolding desk_on_literals asked_by asked_exactly escaped joined
 asked_serve = refl
 
 kings : Setup
