@@ -124,8 +124,7 @@ fn wins_by_some<H: Halt>(
     Ok(false)
 }
 
-/// Whether the defender, to move, is mated, or the attacker mates within `k` moves whatever the reply. First those replies are tried
-/// that are likely to refute: one move from the end the two that refuted last, before that what the memo knows, checks, and captures.
+/// Whether the defender, to move, is mated, or the attacker mates within `k` moves whatever the reply.
 #[tactic(auto, using(crate::proofs::Wins::lost_none))]
 #[cycle(search)]
 pub(crate) fn loses<H: Halt>(
@@ -141,26 +140,54 @@ pub(crate) fn loses<H: Halt>(
     if k == 0 {
         return Ok(is_mated(guide.rays, position));
     }
-    if k == 1 {
-        let (last, earlier) = memo.killers();
-        if refutes(guide, position, last, k, memo)? {
-            return Ok(false);
-        }
-        if refutes(guide, position, earlier, k, memo)? {
-            return Ok(false);
-        }
-    } else {
-        if is_known_refuted(guide.rays, position, k, memo) {
-            return Ok(false);
-        }
-        if is_refuted_by_check(guide, position, k, memo)? {
-            return Ok(false);
-        }
-        if is_refuted_by_capture(guide, position, k, memo)? {
-            return Ok(false);
-        }
+    if is_refuted_first(guide, position, k, memo)? {
+        return Ok(false);
     }
     loses_each(guide, position, k, memo)
+}
+
+/// Whether one of those replies refutes that are likely to: one move from the end the two that refuted last, before that what the memo
+/// knows, checks, and captures.
+#[cycle(search)]
+fn is_refuted_first<H: Halt>(
+    guide: &Guide<H>,
+    position: &Position,
+    k: u8,
+    memo: &mut Memo,
+) -> Result<bool, Stopped>
+    ensures refuted { IfOk result (λ refuted. refuted ≡ true → lost k position.now ≡ false) }
+    ensures stopped { IfErr result (λ _. H.may_stop guide.now.halt.now) }
+    ensures room { memo.new.room ≡ memo.old.room }
+{
+    if k == 1 {
+        return is_refuted_by_killer(guide, position, k, memo);
+    }
+    if is_known_refuted(guide.rays, position, k, memo) {
+        return Ok(true);
+    }
+    if is_refuted_by_check(guide, position, k, memo)? {
+        return Ok(true);
+    }
+    is_refuted_by_capture(guide, position, k, memo)
+}
+
+/// Whether one of the two replies that refuted last refutes: the attacker does not mate within `k` moves after it.
+#[cycle(search)]
+fn is_refuted_by_killer<H: Halt>(
+    guide: &Guide<H>,
+    position: &Position,
+    k: u8,
+    memo: &mut Memo,
+) -> Result<bool, Stopped>
+    ensures refuted { IfOk result (λ refuted. refuted ≡ true → lost k position.now ≡ false) }
+    ensures stopped { IfErr result (λ _. H.may_stop guide.now.halt.now) }
+    ensures room { memo.new.room ≡ memo.old.room }
+{
+    let (last, earlier) = memo.killers();
+    if refutes(guide, position, last, k, memo)? {
+        return Ok(true);
+    }
+    refutes(guide, position, earlier, k, memo)
 }
 
 /// Whether the memo knows of a reply after which the attacker does not mate within `k` moves. To ask about all of them costs

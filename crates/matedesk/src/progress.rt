@@ -215,7 +215,7 @@ impl Progress {
         if stopped && line > 0 {
             text.push_str(format!(in alloc;
                 "; stopped at {}: line {line}",
-                self.name()
+                self.name(MOST_OF_NAME)
             )?.as_str())?;
         }
         Ok(text)

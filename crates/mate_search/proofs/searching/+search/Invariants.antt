@@ -23,6 +23,12 @@ decreases-wins_by_some g l = 8 * l.n
 abbrev pub decreases-loses : goal.decreases-loses
 decreases-loses g l = 8 * l.k + 7
 
+abbrev pub decreases-is_refuted_first : goal.decreases-is_refuted_first
+decreases-is_refuted_first g l = 8 * l.k + 6
+
+abbrev pub decreases-is_refuted_by_killer : goal.decreases-is_refuted_by_killer
+decreases-is_refuted_by_killer g l = 8 * l.k + 5
+
 abbrev pub decreases-loses_each : goal.decreases-loses_each
 decreases-loses_each g l = 8 * l.k + 5
 
