@@ -1,16 +1,16 @@
 -- The tree below a move, step by step.
-use Rattle.std.proofs.Common.{◌≡◌, ◌≢◌, ◌∙◌, ℕ, zero, suc, ◌+◌, ◌-◌, ◌≤◌, true, List, length, take, refl, sym, ap, arith}
+use Rattle.std.proofs.Common.{◌≡◌, ◌≢◌, ◌∙◌, ℕ, zero, suc, ◌+◌, ◌-◌, ◌≤◌, true, List, Option, length, take, refl, ap, subst, arith}
 use Rattle.std.specs.List.{flat_map}
 use Rattle.chess_board.specs.Moves.{Move}
 use Rattle.chess_board.specs.Positions.{Setup}
 use Rattle.chess_moves.specs.inside.Listing.{legal_moves}
 use Rattle.mate_tree.specs.Defences.{defence, defences}
-use Rattle.mate_tree.specs.inside.Sheets.{SheetValue, written}
-use Rattle.mate_tree.proofs.WrittenLines.{each_all, each_cut, written_none}
+use Rattle.mate_tree.specs.inside.Sheets.{SheetValue, Writes, is_closed}
+use Rattle.mate_tree.proofs.WrittenLines.{each_all, each_closed, writes_none}
 
-pub defences_nothing : (d i k : ℕ) (q : Setup) (s : SheetValue) → d ≡ 0 → s ≡ written s (defences d i k q)
+pub defences_nothing : (d i k : ℕ) (q : Setup) (a : Option (List ℕ)) (s : SheetValue) → d ≡ 0 → Writes a s a s (defences d i k q)
 unfolding defences
-defences_nothing d i k q s none = rw none (sym (written_none s))
+defences_nothing d i k q a s none = rw none (writes_none a s)
 
 -- each defence, where the tree goes on below it
 abbrev each : ℕ → ℕ → ℕ → Setup → Move → List (List ℕ)
@@ -21,12 +21,15 @@ unfolding defences
 defences_some zero i k q some = absurd (some refl)
 defences_some (suc d) i k q some = let e : suc d - 1 ≡ d = omega arith in rw e refl
 
-pub defences_whole : (d i k : ℕ) (q : Setup) (s t : SheetValue) (ms : List Move) (j : ℕ) → d ≢ 0 → ms ≡ legal_moves q → length ms ≤ j
-    → t ≡ written s (flat_map (each d i k q) (take j ms)) → t ≡ written s (defences d i k q)
-defences_whole d i k q s t ms j some all past before =
-    each_all (each d i k q) ms s t j past before ∙ ap (λ xs. written s (flat_map (each d i k q) xs)) all ∙ ap (written s) (defences_some d i k q some)
+all_defences : (d i k : ℕ) (q : Setup) (ms : List Move) → d ≢ 0 → ms ≡ legal_moves q → flat_map (each d i k q) ms ≡ defences d i k q
+all_defences d i k q ms some all = ap (flat_map (each d i k q)) all ∙ defences_some d i k q some
 
-pub defences_cut : (d i k : ℕ) (q : Setup) (s t : SheetValue) (ms : List Move) (j : ℕ) → d ≢ 0 → ms ≡ legal_moves q → t.cut ≡ true
-    → t ≡ written s (flat_map (each d i k q) (take j ms)) → t ≡ written s (defences d i k q)
-defences_cut d i k q s t ms j some all cut before =
-    each_cut (each d i k q) ms s t j cut before ∙ ap (λ xs. written s (flat_map (each d i k q) xs)) all ∙ ap (written s) (defences_some d i k q some)
+pub defences_whole : {a b : Option (List ℕ)} {s t : SheetValue} (d i k : ℕ) (q : Setup) (ms : List Move) (j : ℕ) → d ≢ 0 → ms ≡ legal_moves q
+    → length ms ≤ j → Writes a s b t (flat_map (each d i k q) (take j ms)) → Writes a s b t (defences d i k q)
+defences_whole {a} {b} {s} {t} d i k q ms j some all past before =
+    subst (Writes a s b t) (all_defences d i k q ms some all) (each_all (each d i k q) ms j past before)
+
+pub defences_closed : {a b : Option (List ℕ)} {s t : SheetValue} (d i k : ℕ) (q : Setup) (ms : List Move) (j : ℕ) → d ≢ 0 → ms ≡ legal_moves q
+    → is_closed t ≡ true → Writes a s b t (flat_map (each d i k q) (take j ms)) → Writes a s b t (defences d i k q)
+defences_closed {a} {b} {s} {t} d i k q ms j some all closed before =
+    subst (Writes a s b t) (all_defences d i k q ms some all) (each_closed (each d i k q) ms j closed before)

@@ -4,6 +4,7 @@ pub mod NoMovesLeft
 pub mod PassedSetups
 pub mod RefusedLines
 pub mod SoleMoves
+pub mod Steps
 pub mod TreeLaws
 pub mod WrittenLines
 pub mod WrittenTrees

@@ -1,6 +1,10 @@
 -- The tree of a mate, written part by part, and the whole reply.
-use Rattle.std.proofs.Common.{◌≡◌, ◌∙◌, ℕ, ◌-◌, ◌++◌, List, [], false, ap}
-use Rattle.std.specs.Prelude.{if◌then◌else◌}
+use Rattle.std.proofs.Common.{◌≡◌, ◌∙◌, ℕ, ◌-◌, ◌++◌, List, [], Option, Some, None, Result, Ok, Err, IfErr, OnOk, false}
+use Rattle.std.proofs.Common.{refl, sym, ap, subst, append-nil}
+use Rattle.std.specs.Prelude.{if◌then◌else◌, ⊤}
+use Rattle.std.specs.Io.KnownBytes.{Appends}
+use Rattle.byte_streams.specs.declared.stops.Stop.{Stop}
+use Rattle.byte_streams.specs.declared.stops.Stop.TheVariants as stop
 use Rattle.chess_board.specs.Positions.{Setup}
 use Rattle.chess_board.specs.Moves.{Move}
 use Rattle.chess_problems.specs.Problems.{ProblemValue}
@@ -8,6 +12,7 @@ use Rattle.chess_problems.specs.declared.outcomes.Outcome.{Outcome}
 use Rattle.chess_notation.specs.Records.{RecordValue, problem_of}
 use Rattle.chess_notation.specs.Answers.{answer_text}
 use Rattle.mate_search.specs.inside.Truth.{truth}
+use Rattle.text_lines.specs.Writers.{BreaksOff}
 use Rattle.mate_tree.specs.declared.forms.Form.{Form}
 use Rattle.mate_tree.specs.Forms.{moves_shown}
 use Rattle.mate_tree.specs.Lines.{line}
@@ -16,24 +21,70 @@ use Rattle.mate_tree.specs.SetPlay.{set_play}
 use Rattle.mate_tree.specs.Tries.{tries}
 use Rattle.mate_tree.specs.Trees.{mate_lines, printed, tree_lines}
 use Rattle.mate_tree.specs.TreeReplies.{tree_reply}
-use Rattle.mate_tree.specs.inside.Sheets.{SheetValue, written}
-use Rattle.mate_tree.proofs.WrittenLines.{printed_is, written_three}
+use Rattle.mate_tree.specs.inside.Replies.{IsJust}
+use Rattle.mate_tree.specs.inside.Sheets.{GoesBy, SheetValue, Takes, Writes, behind, said}
+use Rattle.mate_tree.proofs.Steps.{by_as, by_on}
+use Rattle.mate_tree.proofs.WrittenLines.{printed_is, writes_more}
 
-pub mate_written : (form : Form) (q : ProblemValue) (p : Setup) (n shown : ℕ) (keys : List Move) (s t u v : SheetValue)
+pub mate_written : {a b c d : Option (List ℕ)} {s t u v : SheetValue} (form : Form) (q : ProblemValue) (p : Setup) (n shown : ℕ) (keys : List Move)
     → p ≡ q.position → shown ≡ moves_shown form.moves n - 1
-    → t ≡ written s (if form.set_play then set_play (n - 1) q.position else []) → u ≡ written t (key_lines shown n p keys)
-    → v ≡ written u (if form.tries then tries (n - 1) q.position q.avoid else []) → v ≡ written s (mate_lines form q n keys)
-mate_written form q p n shown keys s t u v at is first second third =
-    written_three s t u v _ _ _ first (second ∙ ap (λ r. written t (key_lines shown n r keys)) at
-    ∙ ap (λ d. written t (key_lines d n q.position keys)) is) third
+    → Writes a s b t (if form.set_play then set_play (n - 1) p else []) → Writes b t c u (key_lines shown n p keys)
+    → Writes c u d v (if form.tries then tries (n - 1) q.position q.avoid else []) → Writes a s d v (mate_lines form q n keys)
+mate_written {a} {b} {c} {d} {s} {t} {u} {v} form q p n shown keys at is first second third =
+    let keyed : key_lines shown n p keys ≡ key_lines (moves_shown form.moves n - 1) n q.position keys =
+    ap (λ r. key_lines shown n r keys) at ∙ ap (λ d. key_lines d n q.position keys) is in
+    writes_more (writes_more (subst (λ r. Writes a s b t (if form.set_play then set_play (n - 1) r else [])) at first)
+    (subst (Writes b t c u) keyed second)) third
 
-pub reply_written : (form : Form) (r : RecordValue) (o : Outcome) (answer : List ℕ) (s t : SheetValue)
+-- the answer, the tree, and the empty line
+pub reply_goes : (form : Form) (r : RecordValue) (o : Outcome) (answer : List ℕ) (end : Option Stop) (a b c d : Option (List ℕ)) (s t u : SheetValue)
     → o ≡ truth (problem_of r) → answer ≡ line (answer_text r o)
-    → s ≡ record { text = answer; left = form.lines; cut = false }
-    → t ≡ written s (tree_lines form (problem_of r) o) → t.text ++ line [] ≡ tree_reply form r
-reply_written form r o answer s t told answered sheet tree =
-    let lines = tree_lines form (problem_of r) in
-    let text : t.text ≡ answer ++ printed form.lines (lines o) =
-    ap (λ (v : SheetValue). v.text) (tree ∙ ap (λ v. written v (lines o)) sheet) ∙ printed_is form.lines answer (lines o) in
-    ap (λ x. x ++ line []) (text ∙ ap (λ a. a ++ printed form.lines (lines o)) answered
-    ∙ ap (λ x. line (answer_text r x) ++ printed form.lines (lines x)) told)
+    → s ≡ record { pending = []; room = record { left = form.lines; cut = false }; stop = None }
+    → Takes a s b t answer → Writes b t c u (tree_lines form (problem_of r) o)
+    → GoesBy u.stop end c u.pending d [] (line []) ⊤ → GoesBy None end a [] d [] (tree_reply form r) ⊤
+reply_goes form r o answer end a b c d s t u told answered fresh first tree last =
+    let lines = tree_lines form (problem_of r) o in
+    let text = said s.room lines in
+    let head = by_on s.stop t.stop u.stop a b c s.pending t.pending u.pending answer (said t.room lines) text
+    (t.room ≡ s.room) (u.room ≡ behind t.room lines) ⊤ (λ same. (ap (λ r. said r lines) same, λ later. tt)) first.goes tree.goes in
+    let all = by_on s.stop u.stop end a c d s.pending u.pending [] (answer ++ text) (line []) (line []) ⊤ ⊤ ⊤ (λ _. (refl, λ _. tt)) head last in
+    let shown : text ≡ printed form.lines lines =
+    ap (λ (v : SheetValue). said v.room lines) fresh ∙ printed_is form.lines lines in
+    let whole : (answer ++ text) ++ line [] ≡ tree_reply form r =
+    ap (λ x. answer ++ x ++ line []) shown
+    ∙ ap (λ x. x ++ printed form.lines lines ++ line []) answered
+    ∙ ap (λ x. line (answer_text r x) ++ printed form.lines (tree_lines form (problem_of r) x) ++ line []) told in
+    let fresh_stop = ap (λ (v : SheetValue). v.stop) fresh in
+    let fresh_pending = ap (λ (v : SheetValue). v.pending) fresh in
+    by_as None end a d [] [] ((answer ++ text) ++ line []) (tree_reply form r) ⊤ ⊤ whole (λ _. tt)
+    (subst (λ i. GoesBy i end a [] d [] ((answer ++ text) ++ line []) ⊤) fresh_stop
+    (subst (λ p. GoesBy s.stop end a p d [] ((answer ++ text) ++ line []) ⊤) fresh_pending all))
+
+pub whole_appends : (old new : Option (List ℕ)) (text : List ℕ) → GoesBy None None old [] new [] text ⊤ → Appends old new text
+whole_appends old new text (a, gone, is, on) = subst (Appends old new) (sym (is ∙ append-nil gone)) on
+
+pub part_breaks : (old new : Option (List ℕ)) (text : List ℕ) (s : Stop) → GoesBy None (Some s) old [] new [] text ⊤
+    → BreaksOff (IsJust text 0) old new s
+part_breaks old new text stop.NoMemory (broken, part) = cc
+part_breaks old new text stop.Unreadable (broken, part) = cc
+part_breaks old new text stop.Unwritable (broken, part) = (text, 0, (refl, refl), part)
+part_breaks old new text stop.NoReader (broken, part) = (text, 0, (refl, refl), part)
+
+-- ---- what has come of it where the reply is finished
+
+module _ (form : Form) (r : RecordValue) (o : Outcome) (answer : List ℕ) (a b c d : Option (List ℕ)) (s t u : SheetValue) where
+  pub finished_ok : {X E : Type 0} (end : Result X E) → o ≡ truth (problem_of r) → answer ≡ line (answer_text r o)
+      → s ≡ record { pending = []; room = record { left = form.lines; cut = false }; stop = None }
+      → Takes a s b t answer → Writes b t c u (tree_lines form (problem_of r) o)
+      → OnOk end (GoesBy u.stop None c u.pending d [] (line []) ⊤) → OnOk end (Appends a d (tree_reply form r))
+  finished_ok (Ok x) told answered fresh first tree last =
+      whole_appends a d (tree_reply form r) (reply_goes form r o answer None a b c d s t u told answered fresh first tree last)
+  finished_ok (Err e) told answered fresh first tree last = tt
+
+  pub finished_err : {X : Type 0} (end : Result X Stop) → o ≡ truth (problem_of r) → answer ≡ line (answer_text r o)
+      → s ≡ record { pending = []; room = record { left = form.lines; cut = false }; stop = None }
+      → Takes a s b t answer → Writes b t c u (tree_lines form (problem_of r) o)
+      → IfErr end (λ why. GoesBy u.stop (Some why) c u.pending d [] (line []) ⊤) → IfErr end (BreaksOff (IsJust (tree_reply form r) 0) a d)
+  finished_err (Ok x) told answered fresh first tree last = tt
+  finished_err (Err why) told answered fresh first tree last =
+      part_breaks a d (tree_reply form r) why (reply_goes form r o answer (Some why) a b c d s t u told answered fresh first tree last)

@@ -1,25 +1,29 @@
 //! The replies to an input of records whose trees are asked for.
 
-ghost use Rattle.std.specs.Prelude.{◌≡◌, ◌≢◌, ◌≤◌, ◌++◌, ℕ, List, [], IfErr, IfOk};
+ghost use Rattle.std.specs.Prelude.{◌≡◌, ◌≢◌, ◌≤◌, ◌++◌, ℕ, List, [], IfErr, IfOk, OnOk};
 ghost use Rattle.std.specs.Io.KnownBytes.{Appends};
 ghost use Rattle.byte_streams.specs.Inputs.{MayBe};
 ghost use Rattle.byte_streams.specs.Stops.{AppendsBy};
 ghost use Rattle.text_lines.specs.Refusals.{fault_line};
 ghost use Rattle.text_lines.specs.Replies.{IsReply, IsReplyToFirst};
+ghost use Rattle.text_lines.specs.Writers.{BreaksOff};
+ghost use Rattle.chess_problems.specs.Outcomes.{IsPlayable};
+ghost use Rattle.chess_notation.specs.Answers.{answer_text};
 ghost use Rattle.mate_tree.specs.Lines.{line};
 ghost use Rattle.mate_tree.specs.TreeReplies.{IsTreeReply, tree_reply};
+ghost use Rattle.mate_tree.specs.inside.Replies.{IsJust, IsRefusal};
 
 use crate::forms::Form;
 use crate::sheets::Sheet;
-use crate::trees::write_tree;
-use byte_streams::{Input, NoMemory, Stop};
+use crate::trees::{Shown, write_tree};
+use byte_streams::{Input, NoMemory, Stop, put};
 use chess_moves::Rays;
 use chess_notation::{EpdFault, Record, answer_text, read_record};
-use chess_problems::Bound;
+use chess_problems::{Bound, Outcome};
 use mate_search::{Memo, solve};
 use std::alloc::Global;
 use std::io::Write;
-use text_lines::{LineHandler, Output, answer_input, refusal};
+use text_lines::{LineWriter, Output, refusal, write_replies};
 
 /// What tells the trees of records: the bound of a record that asks for none, and what is shown of each tree.
 #[derive(Clone, Copy)]
@@ -29,29 +33,47 @@ pub struct TreeReplies<'a> {
     pub form: Form,
 }
 
-/// The reply to a record: its answer, its tree, and an empty line.
-fn record_text(
+/// The line of a record's answer.
+fn answer_line(
     alloc: Global,
     rays: &Rays,
     record: &Record,
-    form: &Form,
-    memo: &mut Memo,
+    outcome: &Outcome,
 ) -> Result<Vec<u8>, NoMemory>
-    ensures text { IfOk result (λ text. text.items ≡ tree_reply form.now «record».now) }
+    requires { IsPlayable «record».now.position outcome.now }
+    ensures { IfOk result (λ made. made.items ≡ line (answer_text «record».now outcome.now)) }
+{
+    let mut answer = answer_text(alloc, rays, record, outcome)?;
+    answer.push('\n')?;
+    Ok(answer.into_bytes())
+}
+
+/// Writes the reply to a record: its answer, its tree, and an empty line. Memory is taken before the first byte alone.
+fn write_record<O: Write>(
+    alloc: Global,
+    shown: Shown<'_>,
+    record: &Record,
+    memo: &mut Memo,
+    out: &mut O,
+) -> Result<(), Stop>
+    ensures ok { OnOk result (Appends (O.contents out.old) (O.contents out.new) (tree_reply shown.entry.form «record».now)) }
+    ensures err { IfErr result (BreaksOff (IsJust (tree_reply shown.entry.form «record».now) 0) (O.contents out.old) (O.contents out.new)) }
     ensures room { memo.new.room ≡ memo.old.room }
 {
-    let outcome = solve(rays, &record.problem(), memo);
-    let mut answer = answer_text(alloc, rays, record, &outcome)?;
-    answer.push('\n')?;
-    let mut sheet = Sheet::new(alloc, answer.into_bytes(), form.lines);
-    write_tree(rays, record, &outcome, form, memo, &mut sheet)?;
-    let mut text = sheet.into_text();
-    text.extend_from_slice(b"\n")?;
-    Ok(text)
+    let outcome = solve(shown.rays, &record.problem(), memo);
+    match answer_line(alloc, shown.rays, record, &outcome) {
+        Ok(answer) => {
+            let mut sheet = Sheet::new(shown.form.lines);
+            sheet.add(out, answer.as_slice());
+            write_tree(shown, record, &outcome, memo, &mut sheet, out);
+            sheet.finish(out)
+        }
+        Err(_) => Err(Stop::NoMemory),
+    }
 }
 
 /// The reply to a line that is refused, and an empty line.
-fn refused(alloc: Global, number: usize, fault: EpdFault) -> Result<Output, NoMemory>
+fn refused_text(alloc: Global, number: usize, fault: EpdFault) -> Result<Output, NoMemory>
     ensures fault { IfOk result (λ output. fault ≢ EpdFault.NoMemory) }
     ensures text { IfOk result (λ output. output.text.items ≡ fault_line number fault ++ line []) }
     ensures one { IfOk result (λ output. output.refused ≡ 1) }
@@ -61,7 +83,27 @@ fn refused(alloc: Global, number: usize, fault: EpdFault) -> Result<Output, NoMe
     Ok(output)
 }
 
-impl LineHandler for TreeReplies<'_> {
+/// Writes the reply to a line that is refused, and an empty line.
+fn write_refused<O: Write>(
+    alloc: Global,
+    number: usize,
+    fault: EpdFault,
+    out: &mut O,
+) -> Result<usize, Stop>
+    ensures ok { IfOk result (λ refused. (fault ≢ EpdFault.NoMemory) × (refused ≡ 1)
+        × Appends (O.contents out.old) (O.contents out.new) (fault_line number fault ++ line [])) }
+    ensures err { IfErr result (BreaksOff (IsRefusal number fault) (O.contents out.old) (O.contents out.new)) }
+{
+    match refused_text(alloc, number, fault) {
+        Ok(output) => match put(out, output.text.as_slice()) {
+            Ok(()) => Ok(output.refused),
+            Err(stop) => Err(stop),
+        },
+        Err(_) => Err(Stop::NoMemory),
+    }
+}
+
+impl LineWriter for TreeReplies<'_> {
     ghost use Rattle.mate_tree.specs.TreeReplies.{IsTreeReply, skipped};
 
     type Memory = Memo;
@@ -70,32 +112,42 @@ impl LineHandler for TreeReplies<'_> {
 
     ghost room = { λ memo. memo.room };
 
-    /// The reply to a line: the answer and the tree of its record, or its fault, and an empty line.
-    fn answer(
+    /// Writes the reply to a line: the answer and the tree of its record, as they are found, or its fault, and an empty line.
+    fn write_reply<O: Write>(
         &self,
         alloc: Global,
         number: usize,
         line: &[u8],
         memory: &mut Memo,
-    ) -> Result<Output, NoMemory> {
+        out: &mut O,
+    ) -> Result<usize, Stop> {
+        let shown = Shown {
+            rays: self.rays,
+            form: self.form,
+        };
         match read_record(alloc, self.rays, line, self.default) {
-            Ok(record) => Ok(Output {
-                text: record_text(alloc, self.rays, &record, &self.form, memory)?,
-                refused: 0,
-            }),
-            Err(fault) => refused(alloc, number, fault),
+            Ok(record) => match write_record(alloc, shown, &record, memory, out) {
+                Ok(()) => Ok(0),
+                Err(stop) => Err(stop),
+            },
+            Err(fault) => write_refused(alloc, number, fault, out),
         }
     }
 
-    fn refuse_long(&self, alloc: Global, number: usize) -> Result<Output, NoMemory> {
-        refused(alloc, number, EpdFault::TooLong)
+    fn refuse_long<O: Write>(
+        &self,
+        alloc: Global,
+        number: usize,
+        out: &mut O,
+    ) -> Result<usize, Stop> {
+        write_refused(alloc, number, EpdFault::TooLong, out)
     }
 
     ghost skips = { λ trees number line blank. skipped blank };
 }
 
-/// Tells the tree of each record of an input, line by line: the reply to each is written before the next is waited for. Gives how many
-/// lines are refused.
+/// Tells the tree of each record of an input, line by line: the reply to each is written before the next is waited for, and a tree as it
+/// is found, which is never whole in memory. Gives how many lines are refused.
 ///
 /// Where it stops before the end, the replies to some of the first lines are written.
 pub fn tree_input<I: Input + Drop, O: Write>(
@@ -114,5 +166,5 @@ pub fn tree_input<I: Input + Drop, O: Write>(
     ensures unreadable { IfErr result (λ stop. stop ≡ Stop.Unreadable → I.breaks input) }
     ensures room { memo.new.room ≡ memo.old.room }
 {
-    answer_input(alloc, trees, input, memo, out)
+    write_replies(alloc, trees, input, memo, out)
 }

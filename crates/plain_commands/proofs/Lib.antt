@@ -2,6 +2,7 @@ mod HeldFiles
 mod Shown
 mod Parts
 mod LinesFrom
+mod WrittenFrom
 mod AnsweredFiles
 mod Unopened
 mod VerifiedFiles

@@ -5,8 +5,8 @@
 //! What the words of a command line ask for is the business of `command_words`, and what is answered that of the crates of chess and of the
 //! desk. To read: `answering`, where the contract of `plain_command` says how each command ends; `sources` (a `Source` is the files that a
 //! command may read) and `files` (those of the system), `writing`, `status`; then `fen_commands` and `playing`; `solving`, over `file_answers`
-//! (each line of each file) and `lines_from` (from one on), `limited_solving`, `verifying`, `telling`, `importing` and `position_answers`
-//! likewise; `sheeting`, and `outputs`, which were made elsewhere; `replaying`,
+//! (each line of each file), `lines_from` and `written_from` (from one on), `limited_solving`, `verifying`, `telling`, `importing` and
+//! `position_answers` likewise; `sheeting`, and `outputs`, which were made elsewhere; `replaying`,
 //! over `scripts` (a text to a script), `script_lines` (its lines), `script_desk` and `script_steps` (what a line says), `script_words`; and
 //! `explaining`, over `explanations`.
 #![tactic(auto)]
@@ -36,6 +36,7 @@ mod status;
 mod telling;
 mod verifying;
 mod writing;
+mod written_from;
 
 pub use answering::{ends_by_status, plain_command};
 pub use explaining::explain;

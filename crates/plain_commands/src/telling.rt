@@ -5,9 +5,9 @@ ghost use Rattle.plain_commands.specs.Writing.{Gains};
 ghost use Rattle.plain_commands.specs.Told.{StopsTelling, Tells, TellsNone, tree_form_of};
 
 use crate::file_answers::{FileAnswers, answer_files};
-use crate::lines_from::answer_lines_from;
 use crate::solving::new_memo;
 use crate::sources::Source;
+use crate::written_from::write_lines_from;
 use byte_streams::{Input, Stop};
 use chess_moves::Rays;
 use chess_problems::Bound;
@@ -63,7 +63,7 @@ impl<'a> FileAnswers for TreeAnswers<'a> {
             default: self.bound,
             form: form_of(&self.form),
         };
-        answer_lines_from(alloc, &trees, from, input, memo, out)
+        write_lines_from(alloc, &trees, from, input, memo, out)
     }
 
     #[tactic(auto, using(crate::proofs::Unopened::no_tree_reply))]

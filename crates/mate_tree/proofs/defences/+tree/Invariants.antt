@@ -1,33 +1,34 @@
 use Rattle.std.proofs.Common.{◌≡◌, ◌+◌, ◌-◌, ◌*◌, take}
 use Rattle.std.specs.List.{flat_map}
 use Rattle.mate_tree.specs.Defences.{attack, defence, defences}
-use Rattle.mate_tree.specs.inside.Sheets.{written}
+use Rattle.mate_tree.specs.inside.Sheets.{Writes}
 use Rattle.mate_tree.proofs.defences.+tree.Given as goal
 
 abbrev pub decreases-write_defences : goal.decreases-write_defences
-decreases-write_defences l = 4 * l.at.shown
+decreases-write_defences g l = 4 * l.at.shown
 
 abbrev pub decreases-write_defence : goal.decreases-write_defence
-decreases-write_defence l = 4 * l.at.shown - 1
+decreases-write_defence g l = 4 * l.at.shown - 1
 
 abbrev pub decreases-write_attacks : goal.decreases-write_attacks
-decreases-write_attacks l = 4 * l.at.shown + 2
+decreases-write_attacks g l = 4 * l.at.shown + 2
 
 abbrev pub decreases-write_attack : goal.decreases-write_attack
-decreases-write_attack l = 4 * l.at.shown + 1
+decreases-write_attack g l = 4 * l.at.shown + 1
 
 -- the defences so far
 abbrev pub invariant-write_defences-loop-r : goal.invariant-write_defences-loop-r
-invariant-write_defences-loop-r l = record {
-  lines : l.sheet ≡ written l.initial.sheet (flat_map (defence (defences (l.at.shown - 1) (l.at.number + 1))
+invariant-write_defences-loop-r g l = record {
+  lines : Writes (g.O.Write.contents l.initial.out) l.initial.sheet (g.O.Write.contents l.out) l.sheet
+      (flat_map (defence (defences (l.at.shown - 1) (l.at.number + 1))
       (l.at.shown - 1) l.at.number l.at.left l.position) (take l.r-index l.r-items));
   room : l.memo.room ≡ l.fn.memo.room;
 }
 
 -- the moves so far
 abbrev pub invariant-write_attacks-loop-index : goal.invariant-write_attacks-loop-index
-invariant-write_attacks-loop-index l = record {
-  lines : l.sheet ≡ written l.initial.sheet
+invariant-write_attacks-loop-index g l = record {
+  lines : Writes (g.O.Write.contents l.initial.out) l.initial.sheet (g.O.Write.contents l.out) l.sheet
       (flat_map (attack (defences l.at.shown l.at.number) l.at.shown l.at.number l.at.left l.position) (take l.index l.moves));
   room : l.memo.room ≡ l.fn.memo.room;
 }

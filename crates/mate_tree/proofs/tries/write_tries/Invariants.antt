@@ -2,13 +2,14 @@ use Rattle.std.proofs.Common.{◌≡◌, codes, take}
 use Rattle.std.specs.List.{flat_map}
 use Rattle.mate_tree.specs.SetPlay.{headed}
 use Rattle.mate_tree.specs.Tries.{try_lines}
-use Rattle.mate_tree.specs.inside.Sheets.{is_some_line, written}
+use Rattle.mate_tree.specs.inside.Sheets.{Writes, is_some_line}
 use Rattle.mate_tree.proofs.tries.write_tries.Given as goal
 
 -- the moves so far
 abbrev pub invariant-loop-m : goal.invariant-loop-m
-invariant-loop-m l = record {
-  lines : l.sheet ≡ written l.initial.sheet (headed (codes "tries") (flat_map (try_lines l.left l.position l.avoid) (take l.m-index l.m-items)));
-  is_open : l.is_open ≡ is_some_line (flat_map (try_lines l.left l.position l.avoid) (take l.m-index l.m-items));
+invariant-loop-m g l = record {
+  lines : Writes (g.O.Write.contents l.initial.out) l.initial.sheet (g.O.Write.contents l.out) l.sheet
+      (headed (codes "tries") (flat_map (try_lines l.at.left l.position l.avoid) (take l.m-index l.m-items)));
+  is_open : l.is_open ≡ is_some_line (flat_map (try_lines l.at.left l.position l.avoid) (take l.m-index l.m-items));
   room : l.memo.room ≡ l.fn.memo.room;
 }

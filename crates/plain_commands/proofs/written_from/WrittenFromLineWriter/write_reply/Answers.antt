@@ -1,0 +1,24 @@
+use Rattle.std.proofs.Common.{[], sym, ◌∙◌}
+use Rattle.std.proofs.KnownBytes.{Appends-nil}
+use Rattle.plain_commands.proofs.WrittenFrom.{answered_on, breaks_behind, is_before, is_behind, passed_over, replied_behind}
+use Rattle.plain_commands.proofs.written_from.WrittenFromLineWriter.write_reply.Goals as goal
+
+pub returns-then-passes-clause-reply : goal.returns-then-passes-clause-reply
+returns-then-passes-clause-reply g c = (
+  [],
+  passed_over (g.W.LineWriter.replies c.args.self.now.writer.now) c.args.self.now.from c.args.number c.args.line.now
+      (is_before c.args.number c.args.self.now.from (sym c.passes.ensures ∙ c.if-passes.true)),
+  Appends-nil (g.O.Write.contents c.args.out.now),
+)
+
+pub returns-clause-reply : goal.returns-clause-reply
+returns-clause-reply g c =
+    replied_behind _ _ _ _ c.write_reply.result
+    (λ text n may. answered_on (g.W.LineWriter.replies c.args.self.now.writer.now) c.args.self.now.from c.args.number c.args.line.now text n
+    (is_behind c.args.number c.args.self.now.from (sym c.passes.ensures ∙ c.if-passes.false)) may) c.write_reply.ensures.reply
+
+pub returns-clause-err : goal.returns-clause-err
+returns-clause-err g c =
+    breaks_behind _ _ _ _ c.write_reply.result
+    (λ text n may. answered_on (g.W.LineWriter.replies c.args.self.now.writer.now) c.args.self.now.from c.args.number c.args.line.now text n
+    (is_behind c.args.number c.args.self.now.from (sym c.passes.ensures ∙ c.if-passes.false)) may) c.write_reply.ensures.err
