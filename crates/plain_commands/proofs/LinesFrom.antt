@@ -1,5 +1,5 @@
 -- Lines of which the first are passed over.
-use Rattle.std.proofs.Common.{◌≡◌, ◌≤◌, ◌∙◌, ◌+◌, ◌-◌, ◌++◌, ℕ, zero, suc, List, [], ◌∷◌, refl, subst, arith, drop, take}
+use Rattle.std.proofs.Common.{◌≡◌, ◌≤◌, ◌∙◌, ◌+◌, ◌-◌, ℕ, zero, suc, List, [], ◌∷◌, refl, subst, arith, drop, take}
 use Rattle.text_lines.specs.Lines.{lines_of}
 use Rattle.text_lines.specs.Replies.{IsReply, IsReplyFrom, IsReplyToFirst, LineReplies}
 use Rattle.plain_commands.specs.LinesFrom.{IsReplyOn, IsReplyToFirstOn}

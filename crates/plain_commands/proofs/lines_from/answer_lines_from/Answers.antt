@@ -1,4 +1,4 @@
-use Rattle.std.proofs.Common.{◌≤◌, ℕ, arith}
+use Rattle.std.proofs.Common.{◌≤◌, arith}
 use Rattle.std.proofs.lemmas.Result.{IfErr-weaker, IfOk-weaker}
 use Rattle.plain_commands.proofs.LinesFrom.{reply_on, reply_to_first_on}
 use Rattle.plain_commands.proofs.lines_from.answer_lines_from.Goals as goal
