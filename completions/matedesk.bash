@@ -15,7 +15,7 @@ _matedesk() {
     # With --lines it is another command.
     [[ $command != @(look|moves|perft) || " ${COMP_WORDS[*]:2:COMP_CWORD - 2} " != *' --lines '* ]] || command+=' --lines'
     case $command in
-    solve) options='--bound --memo --limit --from -h --help' ;;
+    solve) options='--bound --memo --limit --workers --from -h --help' ;;
     verify) options='--bound --memo --from -h --help' ;;
     tree) options='--bound --moves --set-play --tries --lines --from -h --help' ;;
     sheet) options='--solutions --figurines --title --bound --memo -h --help' ;;
@@ -30,7 +30,7 @@ _matedesk() {
     esac
     case $command,$before,$word in
     solve,--bound,* | verify,--bound,* | tree,--bound,* | tree,--moves,* | sheet,--bound,* | serve,--bound,*) mapfile -t COMPREPLY < <(compgen -W "$(echo {1..15})" -- "$word") ;;
-    serve,--workers,*) mapfile -t COMPREPLY < <(compgen -W "$(echo {1..16})" -- "$word") ;;
+    solve,--workers,* | serve,--workers,*) mapfile -t COMPREPLY < <(compgen -W "$(echo {1..16})" -- "$word") ;;
     solve,--memo,* | solve,--limit,* | verify,--memo,* | tree,--lines,* | sheet,--memo,* | sheet,--title,* | serve,--memo,* | *,--from,*) ;;
     'perft --lines,--lines,' | 'perft --lines,--lines,'[!-]*) mapfile -t COMPREPLY < <(compgen -W "$(echo {0..6})" -- "$word") ;;
     *' --lines,'*,-*) mapfile -t COMPREPLY < <(compgen -W "$options" -- "$word") ;;

@@ -32,6 +32,7 @@ _matedesk() {
                 '--bound=[moves within which a record without dm asks for mate]:bound:(1 2 3 4 5 6 7 8 9 10 11 12 13 14 15)' \
                 '--memo=[positions that are remembered]:positions: ' \
                 '--limit=[seconds that a record may take]:seconds: ' \
+                '--workers=[threads that solve each record]:threads:(1 2 3 4 5 6 7 8 9 10 11 12 13 14 15 16)' \
                 '--from=[line of the first file to begin with]:line: ' \
                 '*:file of records:_files'
             ;;

@@ -15,6 +15,7 @@ pub mod for_mate_desk;
 pub mod for_mate_jobs;
 pub mod for_mate_search;
 pub mod for_mate_tree;
+pub mod for_parallel_search;
 pub mod for_position_lines;
 pub mod for_problem_import;
 pub mod for_problem_sheets;

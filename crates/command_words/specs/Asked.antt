@@ -36,6 +36,7 @@ pub data Asked : Type 0 where
   divide : Text → ℕ → Asked
   lines : LineView → List Text → Asked
   solve : ℕ → ℕ → ℕ → List Text → Asked
+  solve_on : ℕ → ℕ → ℕ → ℕ → List Text → Asked
   limited : ℕ → ℕ → ℕ → ℕ → List Text → Asked
   verify : ℕ → ℕ → ℕ → List Text → Asked
   tree : ℕ → TreeForm → ℕ → List Text → Asked
@@ -132,17 +133,17 @@ some_number n = if n == 0 then None else Some n
 abbrev pub limit_in : List Row → Option ℕ
 limit_in rows = some_number (option_map_or number_or_zero (one_of (codes "S") rows) 0)
 
--- what `solve` asks for: of each record so many seconds at most, or as long as it takes
-abbrev pub solve_at : Option ℕ → ℕ → ℕ → ℕ → List Text → Asked
-solve_at None bound memo from names = solve bound memo from names
-solve_at (Some seconds) bound memo from names = limited seconds bound memo from names
+-- what `solve` asks for: of each record so many seconds at most, or as long as it takes, and then by so many workers, or by one
+abbrev pub solve_at : Option ℕ → ℕ → ℕ → ℕ → ℕ → List Text → Asked
+solve_at None workers bound memo from names = if workers == 1 then solve bound memo from names else solve_on workers bound memo from names
+solve_at (Some seconds) workers bound memo from names = limited seconds bound memo from names
 
 -- what the arguments of `solve` ask for
 abbrev pub solve_in : List Row → Option Asked
 solve_in rows =
-    option_and_then (λ bound. option_and_then
-    (λ memo. option_and_then (λ from. option_map (λ names. solve_at (limit_in rows) bound memo from names) (all_of (codes "FILE") rows))
-    (from_in rows)) (memo_size_in rows)) (bound_in rows)
+    option_and_then (λ workers. option_and_then (λ bound. option_and_then
+    (λ memo. option_and_then (λ from. option_map (λ names. solve_at (limit_in rows) workers bound memo from names) (all_of (codes "FILE") rows))
+    (from_in rows)) (memo_size_in rows)) (bound_in rows)) (workers_in rows)
 
 -- what the arguments of `verify` ask for
 abbrev pub verify_in : List Row → Option Asked
@@ -212,6 +213,7 @@ asked_by name rows =
 -- asks for a command that starts threads
 abbrev pub is_threaded : Asked → Bool
 is_threaded (serve workers bound memo names) = true
+is_threaded (solve_on workers bound memo from names) = true
 is_threaded (limited seconds bound memo from names) = true
 is_threaded uci = true
 is_threaded _ = false

@@ -30,6 +30,14 @@ workers_rule = record (wanted (codes "N")) {
   parser = Some (parser.Signed (pos 1) (pos 16));
 }
 
+-- the same of `solve`, which is 1 where it isn't given
+abbrev pub solve_workers_rule : Rule
+solve_workers_rule = record (new_rule (codes "N")) {
+  long = Some (codes "workers");
+  parser = Some (parser.Signed (pos 1) (pos 16));
+  defaults = codes "1" ∷ [];
+}
+
 -- an option that reads a number from 1 to 65,536, and is such a one where it isn't given
 abbrev pub memo_rule : Text → Rule
 memo_rule default = record (new_rule (codes "M")) {
@@ -89,7 +97,8 @@ abbrev pub with_lines_of_files : App → App
 with_lines_of_files a = with_rule (with_rule a from_rule) files_rule
 
 abbrev pub solve_app : App
-solve_app = with_lines_of_files (with_rule (with_solving_options (new_app (codes "solve")) (codes "65536")) limit_rule)
+solve_app = with_lines_of_files
+    (with_rule (with_rule (with_solving_options (new_app (codes "solve")) (codes "65536")) limit_rule) solve_workers_rule)
 
 abbrev pub verify_app : App
 verify_app = with_lines_of_files (with_solving_options (new_app (codes "verify")) (codes "65536"))

@@ -1,10 +1,10 @@
 -- What a request asks for.
 use Rattle.std.specs.Prelude.{[], map, option_map, unwrap_or}
-use Rattle.command_words.specs.Asked.{Asked, look, board, svg, play, moves, perft, divide, lines, solve}
+use Rattle.command_words.specs.Asked.{Asked, look, board, svg, play, moves, perft, divide, lines, solve, solve_on}
 use Rattle.command_words.specs.Asked.{limited, verify, tree, sheet, imports, serve, replay, explain, uci}
 use Rattle.command_words.specs.declared.request.Request.{Request}
 use Rattle.command_words.specs.declared.request.Request.TheVariants.{Look, Board, Svg, Play, Moves, Perft, Divide, Lines}
-use Rattle.command_words.specs.declared.request.Request.TheVariants.{Solve, Limited, Verify, Tree, Sheet, Import, Serve, Replay, Explain, Uci}
+use Rattle.command_words.specs.declared.request.Request.TheVariants.{Solve, SolveOn, Limited, Verify, Tree, Sheet, Import, Serve, Replay, Explain, Uci}
 
 abbrev pub plan_of : Request → Asked
 plan_of (Look fen) = look fen.now
@@ -16,6 +16,7 @@ plan_of (Perft fen depth) = perft fen.now depth
 plan_of (Divide fen depth) = divide fen.now depth
 plan_of (Lines view names) = lines view (map (λ s. s.now) names.now)
 plan_of (Solve bound memo files) = solve bound memo files.from (map (λ s. s.now) files.names.now)
+plan_of (SolveOn workers bound memo files) = solve_on workers bound memo files.from (map (λ s. s.now) files.names.now)
 plan_of (Limited asked) = limited asked.seconds asked.bound asked.memo asked.files.from (map (λ s. s.now) asked.files.names.now)
 plan_of (Verify bound memo files) = verify bound memo files.from (map (λ s. s.now) files.names.now)
 plan_of (Tree bound form files) = tree bound form files.from (map (λ s. s.now) files.names.now)

@@ -8,7 +8,7 @@ ghost use Rattle.command_words.specs.CommandLine.{moves_lines_app, moves_rule, p
 ghost use Rattle.command_words.specs.CommandLine.{serve_app, sheet_app, shown_rule, solve_app, title_rule, tree_app, uci_app, verify_app};
 ghost use Rattle.command_words.specs.CommandLine.{wanted, with_desk_apps, with_fen_apps, with_line_apps, with_lines_of_files};
 ghost use Rattle.command_words.specs.CommandLine.{with_other_apps, with_page_apps, with_problem_apps, with_record_apps, with_sheet_flags, with_sheet_options};
-ghost use Rattle.command_words.specs.CommandLine.{with_solving_options, with_tree_options, workers_rule};
+ghost use Rattle.command_words.specs.CommandLine.{with_solving_options, with_tree_options, solve_workers_rule, workers_rule};
 
 use crate::help::{
     ABOUT, ABOUT_BOARD, ABOUT_BOUND, ABOUT_CODE, ABOUT_COORDINATES, ABOUT_DEPTH, ABOUT_DIVIDE,
@@ -16,7 +16,7 @@ use crate::help::{
     ABOUT_IMPORT, ABOUT_KEEP, ABOUT_LIMIT, ABOUT_LOOK, ABOUT_LOOK_LINES, ABOUT_MEMO, ABOUT_MEMOS,
     ABOUT_MOST_LINES, ABOUT_MOVE, ABOUT_MOVES, ABOUT_MOVES_LINES, ABOUT_PERFT, ABOUT_PERFT_LINES,
     ABOUT_PLAY, ABOUT_POSITIONS, ABOUT_REPLAY, ABOUT_SCRIPT, ABOUT_SERVE, ABOUT_SET_PLAY,
-    ABOUT_SHEET, ABOUT_SHOWN, ABOUT_SOLUTIONS, ABOUT_SOLVE, ABOUT_SVG, ABOUT_TITLE, ABOUT_TREE,
+    ABOUT_SHEET, ABOUT_SHOWN, ABOUT_SOLUTIONS, ABOUT_SOLVE, ABOUT_SOLVE_WORKERS, ABOUT_SVG, ABOUT_TITLE, ABOUT_TREE,
     ABOUT_TRIES, ABOUT_UCI, ABOUT_VERIFY, ABOUT_WORKERS, AFTER_EXPLAIN, AFTER_HELP, AFTER_IMPORT,
     AFTER_LOOK, AFTER_LOOK_LINES, AFTER_MOVES, AFTER_MOVES_LINES, AFTER_PERFT, AFTER_PERFT_LINES,
     AFTER_PLAY, AFTER_REPLAY, AFTER_SERVE, AFTER_SHEET, AFTER_SOLVE, AFTER_TREE, AFTER_UCI,
@@ -61,6 +61,18 @@ fn workers_arg<'a>(alloc: Global) -> Arg<'a>
     wanted_arg(alloc, "N", ABOUT_WORKERS)
         .long("workers")
         .value_parser(value_parser!(u8).range(1..17))
+}
+
+/// The number of workers of `solve`, 1 to 16.
+fn solve_workers_arg<'a>(alloc: Global) -> Arg<'a>
+    ensures rule { rule_of result ≡ solve_workers_rule }
+    ensures local { result.global ≡ false }
+{
+    Arg::new(alloc, "N")
+        .long("workers")
+        .value_parser(value_parser!(u8).range(1..=16))
+        .default_value("1")
+        .help(ABOUT_SOLVE_WORKERS)
 }
 
 /// The number of entries of a memo, 1 to 65,536.
@@ -227,7 +239,7 @@ fn solve_command<'a>(alloc: Global) -> Result<Command<'a>, AllocError>
         .about(ABOUT_SOLVE)
         .after_help(AFTER_SOLVE);
     let command = with_solving_options(alloc, command, "65536", ABOUT_MEMO)?;
-    let command = with_arg(command, limit_arg(alloc))?;
+    let command = with_args(command, limit_arg(alloc), solve_workers_arg(alloc))?;
     with_lines_of_files(alloc, command)
 }
 

@@ -70,6 +70,8 @@ many moves may take longer than one can wait, and the lines behind it wait too: 
 
 What was found of positions is kept in a memo with room for M of them, so that it need not
 be found again. No answer depends on M: more room mostly takes less time and more memory.
+With `--workers N` each record is solved by N threads, each with a memo of its own: a hard
+problem is answered sooner, and by the same answer. For many records there is `serve`.
 
 To look for a second solution, name the author's key as a move to avoid (`am`), with
 others behind it if need be. It is left out at the first move alone:
@@ -416,6 +418,10 @@ pub const ABOUT_MEMOS: &str = "How many positions each worker's memo has room fo
 /// The option `--limit` in one line.
 pub const ABOUT_LIMIT: &str =
     "How many seconds a record may take, 1 to 86400; one that isn't decided by then is answered so";
+
+/// The option `--workers` of `solve` in one line.
+pub const ABOUT_SOLVE_WORKERS: &str =
+    "How many threads solve each record, 1 to 16, each with a memo of its own";
 
 /// The option `--from` in one line.
 pub const ABOUT_FROM: &str =

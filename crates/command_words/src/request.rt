@@ -64,11 +64,13 @@ pub struct Files<'m, 'a> {
     pub from: LineNumber,
 }
 
-/// What is asked where each record may take so many seconds: the bound of records that say none, the size of the memo, and the files.
+/// What is asked where each record may take so many seconds: how many workers, the bound of records that say none, the size of a memo, and
+/// the files.
 #[derive(Clone, Copy)]
 pub struct LimitedSolve<'m, 'a> {
     /// How many seconds, 1 to 86,400.
     pub seconds: u32,
+    pub workers: Workers,
     pub bound: Bound,
     pub memo: MemoSize,
     pub files: Files<'m, 'a>,
@@ -104,6 +106,8 @@ pub enum Request<'m, 'a> {
     Lines(LineView, &'m [&'a str]),
     /// Answer the records of files, in order, over a memo of such a size; the bound is for records that say none.
     Solve(Bound, MemoSize, Files<'m, 'a>),
+    /// The same, each record by so many workers, each over a memo of such a size.
+    SolveOn(Workers, Bound, MemoSize, Files<'m, 'a>),
     /// The same, where each record may take so many seconds.
     Limited(LimitedSolve<'m, 'a>),
     /// Hold the records of files, in order, against their own claims, over a memo of such a size; the bound is for records that say none.
@@ -309,20 +313,26 @@ fn perft_lines_in<'m, 'a>(matches: &'m ArgMatches<'a>) -> Option<Request<'m, 'a>
 fn solve_in<'m, 'a>(matches: &'m ArgMatches<'a>) -> Option<Request<'m, 'a>>
     ensures { option_map plan_of result ≡ solve_in (rows_of (found_of matches.now)) }
 {
+    let workers = workers_in(matches)?;
     let bound = bound_in(matches)?;
     let memo = memo_size_in(matches)?;
     let from = from_in(matches)?;
     let names = names_in(matches, "FILE")?;
     let files = Files { names, from };
-    Some(match limit_in(matches) {
-        Some(seconds) => Request::Limited(LimitedSolve {
+    if let Some(seconds) = limit_in(matches) {
+        return Some(Request::Limited(LimitedSolve {
             seconds,
+            workers,
             bound,
             memo,
             files,
-        }),
-        None => Request::Solve(bound, memo, files),
-    })
+        }));
+    }
+    if workers.get() == 1 {
+        Some(Request::Solve(bound, memo, files))
+    } else {
+        Some(Request::SolveOn(workers, bound, memo, files))
+    }
 }
 
 /// What the arguments of `verify` ask for.

@@ -7,15 +7,19 @@ ghost use Rattle.plain_commands.specs.Command.{Ends};
 
 use crate::limiting::solve_in_time;
 use crate::serving::serve;
+use crate::sharing::solve_on;
 use crate::talking::talk;
 use command_words::{Request, escaped, parse, request_of};
-use plain_commands::{Source, ends_by_status, limited_none, no_memory, plain_command};
+use plain_commands::{
+    Source, ends_by_status, limited_none, no_memory, plain_command, solves_none,
+};
 use std::alloc::Global;
 use std::io::Write;
 use std::sync::Wait;
 use std::thread::Threads;
 
-/// Answers words that ask for `serve`, `uci` or `solve --limit`. That they were parsed before shows that they are no fault: what is refused now is memory.
+/// Answers words that ask for `serve`, `uci`, `solve --workers` or `solve --limit`. That they were parsed before shows that they are no fault:
+/// what is refused now is memory.
 fn threaded_command<
     R: Threads + Wait + Sync + Clone + Drop + Send + 'static,
     S: Source,
@@ -32,6 +36,7 @@ where
     // How it ends with the status of what was written, and with nothing written.
     ends_by_status(source);
     limited_none();
+    solves_none();
     let Ok(texts) = escaped(alloc, words) else {
         return no_memory(err);
     };
@@ -43,6 +48,9 @@ where
         Some(Request::Serve(workers, bound, memo, names)) => serve(
             rt, alloc, *workers, *bound, *memo, names, source, out, err,
         ),
+        Some(Request::SolveOn(workers, bound, memo, files)) => solve_on(
+            rt, alloc, *workers, *bound, *memo, files, source, out, err,
+        ),
         Some(Request::Limited(asked)) => solve_in_time(rt, alloc, asked, source, out, err),
         Some(Request::Uci) => talk(rt, alloc, source, out, err),
         _ => unreachable!(),
@@ -50,7 +58,7 @@ where
 }
 
 /// The program: answers what the words ask for, of which the first is the program's own name. It reads files from `source`. Only
-/// `serve`, `uci` and `solve --limit` start threads, and wait for them.
+/// `serve`, `uci`, `solve --workers` and `solve --limit` start threads, and wait for them.
 ///
 /// A fault of `err` is passed over and changes no status.
 pub fn command<

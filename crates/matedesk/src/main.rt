@@ -1,7 +1,7 @@
 //! The program `matedesk`: it answers the words that it was called with, from the files and to the outputs of the system.
 //!
 //! Read `answering` first, where the contract of `command` is the program's, then the commands that start threads: `serving`, `talking`,
-//! and `limiting` over `tick_limit`. What a word means is the business of `command_words`, and what all other commands answer that of
+//! `sharing`, and `limiting` over `tick_limit`. What a word means is the business of `command_words`, and what all other commands answer that of
 //! `plain_commands`.
 #![tactic(auto)]
 
@@ -10,6 +10,7 @@ mod limiting;
 #[cfg(test)]
 mod serve_tests;
 mod serving;
+mod sharing;
 mod talking;
 #[cfg(test)]
 mod test_shelves;

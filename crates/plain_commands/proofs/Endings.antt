@@ -6,7 +6,7 @@ use Rattle.std.specs.Io.KnownBytes.{Keeps}
 use Rattle.clap.specs.Words.{Text}
 use Rattle.byte_streams.specs.declared.stops.Stop.{Stop}
 use Rattle.byte_streams.specs.declared.stops.Stop.TheVariants as stop
-use Rattle.command_words.specs.Asked.{Asked, look, board, svg, play, moves, perft, divide, lines, solve}
+use Rattle.command_words.specs.Asked.{Asked, look, board, svg, play, moves, perft, divide, lines, solve, solve_on}
 use Rattle.command_words.specs.Asked.{limited, verify, tree, sheet, imports, serve, replay, explain, uci}
 use Rattle.plain_commands.specs.Status.{status_of}
 use Rattle.plain_commands.specs.Solved.{SolvesNone}
@@ -30,6 +30,8 @@ stops_unread none unverified untold holds refuses (Some (divide fen depth)) old 
 stops_unread none unverified untold holds refuses (Some (lines view names)) old new kept =
     lines_at_once holds refuses (command_of view) names old new kept
 stops_unread none unverified untold holds refuses (Some (solve bound memo from names)) old new kept =
+    record { gained = []; shows = none holds bound from names; appends = Appends-kept old old new [] (Appends-nil old) kept }
+stops_unread none unverified untold holds refuses (Some (solve_on workers bound memo from names)) old new kept =
     record { gained = []; shows = none holds bound from names; appends = Appends-kept old old new [] (Appends-nil old) kept }
 stops_unread none unverified untold holds refuses (Some (limited seconds bound memo from names)) old new kept =
     limited_at_once holds refuses seconds bound from names old new kept
@@ -55,6 +57,7 @@ no_reader holds refuses (perft fen depth) old new stops = stops
 no_reader holds refuses (divide fen depth) old new stops = stops
 no_reader holds refuses (lines view names) old new stops = stops
 no_reader holds refuses (solve bound memo from names) old new stops = stops
+no_reader holds refuses (solve_on workers bound memo from names) old new stops = stops
 no_reader holds refuses (limited seconds bound memo from names) old new stops = stops
 no_reader holds refuses (verify bound memo from names) old new stops = stops
 no_reader holds refuses (tree bound form from names) old new stops = stops

@@ -10,7 +10,7 @@ use Rattle.plain_commands.specs.Writing.{Gains, GainsPart, StopsShowing}
 use Rattle.chess_views.specs.Counts.{divided_text, perft_text}
 use Rattle.chess_views.specs.Listings.{moves_text}
 use Rattle.chess_views.specs.Looks.{look_board_text, look_text}
-use Rattle.command_words.specs.Asked.{Asked, look, board, svg, play, moves, perft, divide, lines, solve}
+use Rattle.command_words.specs.Asked.{Asked, look, board, svg, play, moves, perft, divide, lines, solve, solve_on}
 use Rattle.command_words.specs.Asked.{limited, verify, tree, sheet, imports, serve, replay, explain, uci}
 use Rattle.problem_sheets.specs.Diagrams.{svg_of}
 use Rattle.plain_commands.specs.Explained.{Explains}
@@ -37,6 +37,7 @@ Shows holds (perft fen depth) refused text = ShowsFen (perft_text depth) fen ref
 Shows holds (divide fen depth) refused text = ShowsFen (divided_text depth) fen refused text
 Shows holds (lines view names) refused text = ShowsLines holds (command_of view) names refused text
 Shows holds (solve bound memo from names) refused text = Solves holds bound from names refused text
+Shows holds (solve_on workers bound memo from names) refused text = Solves holds bound from names refused text
 Shows holds (limited seconds bound memo from names) refused text = SolvesLimited holds seconds bound from names refused text
 Shows holds (verify bound memo from names) refused text = Verifies holds bound from names refused text
 Shows holds (tree bound form from names) refused text = Tells holds bound form from names refused text
@@ -63,6 +64,7 @@ StopsServing holds refuses bound names NoReader old new = GainsPart (λ text. (r
 abbrev pub Stops : (Text → Option (List ℕ)) → (Text → Type 0) → Asked → Stop → (old new : Option (List ℕ)) → Type 0
 Stops holds refuses (lines view names) stop old new = StopsLines holds refuses (command_of view) names stop old new
 Stops holds refuses (solve bound memo from names) stop old new = StopsSolving holds refuses bound from names stop old new
+Stops holds refuses (solve_on workers bound memo from names) stop old new = StopsSolving holds refuses bound from names stop old new
 Stops holds refuses (limited seconds bound memo from names) stop old new = StopsLimited holds refuses seconds bound from names stop old new
 Stops holds refuses (verify bound memo from names) stop old new = StopsVerifying holds refuses bound from names stop old new
 Stops holds refuses (tree bound form from names) stop old new = StopsTelling holds refuses bound form from names stop old new

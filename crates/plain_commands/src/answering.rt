@@ -33,7 +33,7 @@ fn is_threaded(request: &Request) -> bool
 {
     matches!(
         request,
-        Request::Serve(..) | Request::Limited(..) | Request::Uci
+        Request::Serve(..) | Request::SolveOn(..) | Request::Limited(..) | Request::Uci
     )
 }
 
@@ -76,7 +76,9 @@ fn answer<S: Source, O: Write, E: Write>(
             sheet(alloc, &asked, names, source, out, err)
         }
         Request::Import(keep, names) => import(alloc, *keep, names, source, out, err),
-        Request::Serve(..) | Request::Limited(..) | Request::Uci => unreachable!(),
+        Request::Serve(..) | Request::SolveOn(..) | Request::Limited(..) | Request::Uci => {
+            unreachable!()
+        }
         Request::Replay(name) => replay(alloc, name, source, out, err),
         Request::Explain(code) => explain(alloc, *code, out, err),
     }

@@ -19,6 +19,9 @@ pub(crate) trait FileAnswers {
     /// What is kept from line to line.
     type Memory;
 
+    /// That it may answer, as where it starts threads.
+    ghost ready: { Self → Type 0 } = { λ _. Unit {0} };
+
     /// What the file of a name with such an input is answered from the line of a number on, and how many of its lines are refused.
     ghost replies: { Self → FileReplies };
 
@@ -35,6 +38,7 @@ pub(crate) trait FileAnswers {
         memory: &mut Self::Memory,
         out: &mut O,
     ) -> Result<usize, Stop>
+        requires ready { ready self.now }
         ensures ok { IfOk result (λ count. (bytes : List ℕ) × (text : List ℕ) × MayBe (I.left input) bytes
             × replies self.now from name.now bytes text count
             × Appends (O.contents out.old) (O.contents out.new) text) }
@@ -57,6 +61,7 @@ fn answer_file<A: FileAnswers, S: Source, O: Write>(
     memory: &mut A::Memory,
     out: &mut O,
 ) -> Result<usize, Stop>
+    requires ready { A.ready answers.now }
     ensures ok { IfOk result (λ count. (input : List ℕ) × (text : List ℕ) × MayBe (S.holds source.now name.now) input
         × A.replies answers.now from name.now input text count
         × Appends (O.contents out.old) (O.contents out.new) text) }
@@ -82,6 +87,7 @@ pub(crate) fn answer_files<A: FileAnswers, S: Source, O: Write, E: Write>(
     out: &mut O,
     err: &mut E,
 ) -> Result<bool, Stop>
+    requires ready { A.ready answers.now }
     ensures ok { IfOk result (λ refused. Gains (Answers (S.holds source.now) (A.replies answers.now) files.now.from
         (map (λ s. s.now) files.now.names.now) refused) (O.contents out.old) (O.contents out.new)) }
     ensures err { IfErr result

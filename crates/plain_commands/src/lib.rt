@@ -49,7 +49,7 @@ pub use position_answers::show_lines;
 pub use replaying::replay;
 pub use scripts::{Script, ScriptFault, read_script};
 pub use sheeting::{SheetAsked, sheet};
-pub use solving::{new_memo, solve, solves_none};
+pub use solving::{new_memo, solve, solve_by, solves_none};
 pub use sources::{Source, SourceFault, holds_reads, read_file, read_files, whole};
 pub use status::{ANSWERED, MISUSED, NO_THREAD, no_memory, status_of};
 pub use writing::{complain, complain_faulty, complain_unreadable, show};

@@ -6,20 +6,20 @@ ghost use Rattle.plain_commands.specs.Solved.{LimitedNone, SolvesLimited, StopsL
 
 use crate::file_answers::{FileAnswers, answer_files};
 use crate::lines_from::answer_lines_from;
-use crate::solving::new_memo;
 use crate::sources::Source;
 use byte_streams::{Input, Stop};
-use chess_moves::Rays;
-use command_words::{LimitedSolve, LineNumber};
+use command_words::{Files, LineNumber};
 use mate_answers::{Limited, TimeLimit};
-use mate_search::Memo;
+use mate_search::Solver;
 use std::alloc::Global;
 use std::io::Write;
 
-impl<T: TimeLimit> FileAnswers for Limited<'_, T> {
+impl<T: TimeLimit, V: Solver<T>> FileAnswers for Limited<'_, T, V> {
     ghost use Rattle.plain_commands.specs.Solved.{limited_replies, first_limited_replies};
 
-    type Memory = Memo;
+    type Memory = V::Memory;
+
+    ghost ready = { λ limited. V.ready limited.solver };
 
     ghost replies = { λ limited. limited_replies limited.seconds limited.default };
 
@@ -31,39 +31,33 @@ impl<T: TimeLimit> FileAnswers for Limited<'_, T> {
         from: LineNumber,
         _name: &str,
         input: I,
-        memo: &mut Memo,
+        memory: &mut V::Memory,
         out: &mut O,
     ) -> Result<usize, Stop> {
-        answer_lines_from(alloc, self, from, input, memo, out)
+        answer_lines_from(alloc, self, from, input, memory, out)
     }
 
     fn begins_with_nothing(&self) {}
 }
 
-/// Answers as `solve` does, but that a record which `limit` stops before it is decided is answered so; gives whether a line was refused.
-/// A file that can't be read is named on `err`.
-pub fn solve_limited<T: TimeLimit, S: Source, O: Write, E: Write>(
+/// Answers as `solve` does, by who solves the records, but that a record which the limit stops before it is decided is answered so; gives
+/// whether a line was refused. A file that can't be read is named on `err`.
+pub fn solve_limited<T: TimeLimit, V: Solver<T>, S: Source, O: Write, E: Write>(
     alloc: Global,
-    asked: &LimitedSolve,
-    limit: &T,
+    limited: &Limited<T, V>,
+    files: &Files,
     source: &S,
+    memory: &mut V::Memory,
     out: &mut O,
     err: &mut E,
 ) -> Result<bool, Stop>
-    ensures ok { IfOk result (λ refused. Gains (SolvesLimited (S.holds source.now) asked.now.seconds asked.now.bound asked.now.files.from
-        (map (λ s. s.now) asked.now.files.names.now) refused) (O.contents out.old) (O.contents out.new)) }
-    ensures err { IfErr result (λ stop. StopsLimited (S.holds source.now) (S.refuses source.now) asked.now.seconds asked.now.bound
-        asked.now.files.from (map (λ s. s.now) asked.now.files.names.now) stop (O.contents out.old) (O.contents out.new)) }
+    requires ready { V.ready limited.now.solver }
+    ensures ok { IfOk result (λ refused. Gains (SolvesLimited (S.holds source.now) limited.now.seconds limited.now.default files.now.from
+        (map (λ s. s.now) files.now.names.now) refused) (O.contents out.old) (O.contents out.new)) }
+    ensures err { IfErr result (λ stop. StopsLimited (S.holds source.now) (S.refuses source.now) limited.now.seconds limited.now.default
+        files.now.from (map (λ s. s.now) files.now.names.now) stop (O.contents out.old) (O.contents out.new)) }
 {
-    let rays = Rays::new();
-    let mut memo = new_memo(alloc, asked.memo.get() as usize)?;
-    let limited = Limited {
-        rays: &rays,
-        default: asked.bound,
-        seconds: asked.seconds,
-        limit,
-    };
-    answer_files(alloc, &limited, &asked.files, source, &mut memo, out, err)
+    answer_files(alloc, limited, files, source, memory, out, err)
 }
 
 /// What that has written where it ends before it has opened a file. It does nothing: its contract is the law.

@@ -45,6 +45,8 @@ impl<H: LineHandler> LineHandler for LinesFrom<'_, H> {
 
     type Memory = H::Memory;
 
+    ghost ready = { λ lines. H.ready lines.handler.now };
+
     ghost replies = { λ lines. RepliesFrom (H.replies lines.handler.now) lines.from };
 
     ghost room = { λ memory. H.room memory };
@@ -82,6 +84,7 @@ pub(crate) fn answer_lines_from<H: LineHandler, I: Input + Drop, O: Write>(
     memory: &mut H::Memory,
     out: &mut O,
 ) -> Result<usize, Stop>
+    requires ready { H.ready handler.now }
     ensures ok { IfOk result (λ refused. (bytes : List ℕ) × (text : List ℕ) × MayBe (I.left input) bytes
         × IsReplyOn (H.replies handler.now) from bytes text refused
         × Appends (O.contents out.old) (O.contents out.new) text) }

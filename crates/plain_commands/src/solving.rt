@@ -12,7 +12,7 @@ use chess_moves::Rays;
 use chess_problems::Bound;
 use command_words::{Files, LineNumber, MemoSize};
 use mate_answers::Answers;
-use mate_search::{Memo, MemoFault};
+use mate_search::{Memo, MemoFault, Never, OneThread, Solver};
 use std::alloc::Global;
 use std::io::Write;
 
@@ -29,21 +29,16 @@ pub fn new_memo(alloc: Global, entries: usize) -> Result<Memo, Stop>
     }
 }
 
-/// Answers records, with the bound of those that say none.
-#[derive(Clone, Copy)]
-struct RecordAnswers<'a> {
-    rays: &'a Rays,
-    bound: Bound,
-}
-
-impl<'a> FileAnswers for RecordAnswers<'a> {
+impl<V: Solver<Never>> FileAnswers for Answers<'_, V> {
     ghost use Rattle.plain_commands.specs.Solved.{record_replies, first_record_replies};
 
-    type Memory = Memo;
+    type Memory = V::Memory;
 
-    ghost replies = { λ answers. record_replies answers.bound };
+    ghost ready = { λ answers. V.ready answers.solver };
 
-    ghost first = { λ answers. first_record_replies answers.bound };
+    ghost replies = { λ answers. record_replies answers.default };
+
+    ghost first = { λ answers. first_record_replies answers.default };
 
     fn answer<I: Input + Drop, O: Write>(
         &self,
@@ -51,14 +46,10 @@ impl<'a> FileAnswers for RecordAnswers<'a> {
         from: LineNumber,
         _name: &str,
         input: I,
-        memo: &mut Memo,
+        memory: &mut V::Memory,
         out: &mut O,
     ) -> Result<usize, Stop> {
-        let answers = Answers {
-            rays: self.rays,
-            default: self.bound,
-        };
-        answer_lines_from(alloc, &answers, from, input, memo, out)
+        answer_lines_from(alloc, self, from, input, memory, out)
     }
 
     #[tactic(auto, using(crate::proofs::Unopened::no_record_reply))]
@@ -83,8 +74,31 @@ pub fn solve<S: Source, O: Write, E: Write>(
 {
     let rays = Rays::new();
     let mut memo = new_memo(alloc, size.get() as usize)?;
-    let answers = RecordAnswers { rays: &rays, bound };
-    answer_files(alloc, &answers, files, source, &mut memo, out, err)
+    let answers = Answers {
+        rays: &rays,
+        default: bound,
+        solver: OneThread,
+    };
+    solve_by(alloc, &answers, files, source, &mut memo, out, err)
+}
+
+/// The same, by who solves the records, over a memory of its own.
+pub fn solve_by<V: Solver<Never>, S: Source, O: Write, E: Write>(
+    alloc: Global,
+    answers: &Answers<V>,
+    files: &Files,
+    source: &S,
+    memory: &mut V::Memory,
+    out: &mut O,
+    err: &mut E,
+) -> Result<bool, Stop>
+    requires ready { V.ready answers.now.solver }
+    ensures ok { IfOk result (λ refused. Gains (Solves (S.holds source.now) answers.now.default files.now.from
+        (map (λ s. s.now) files.now.names.now) refused) (O.contents out.old) (O.contents out.new)) }
+    ensures err { IfErr result (λ stop. StopsSolving (S.holds source.now) (S.refuses source.now) answers.now.default files.now.from
+        (map (λ s. s.now) files.now.names.now) stop (O.contents out.old) (O.contents out.new)) }
+{
+    answer_files(alloc, answers, files, source, memory, out, err)
 }
 
 /// What a `solve` that ends before it has opened a file has written. It does nothing: its contract is the law.

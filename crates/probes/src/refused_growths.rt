@@ -31,6 +31,7 @@ fn tell<R: Threads + Wait + Sync>(
         "read_record" => of_notation::tell_read_record(alloc, rays),
         "Memo::new" => of_search::tell_new_memo(alloc),
         "solve" => of_search::tell_solve(alloc, rays),
+        "OnThreads::solve" => of_search::tell_on_threads(rt, alloc, rays),
         "Job::solve" => of_search::tell_job(alloc, rays),
         "Answer::text" => of_search::tell_answer(alloc, rays),
         "answer_text" => of_search::tell_answer_text(alloc, rays),

@@ -5,8 +5,10 @@ use chess_moves::Rays;
 use chess_notation::{NoMemory, Record, answer_text, read_record};
 use chess_problems::Outcome;
 use mate_jobs::{Answer, Job, Ticket};
-use mate_search::{Memo, solve};
+use mate_search::{Guide, Memo, Never, Solver, solve};
+use parallel_search::{OnThreads, ThreadMemory};
 use std::alloc::Global;
+use std::thread::Threads;
 
 /// A mate in three, on the way to which positions are kept in a memo.
 const LINE: &[u8] = b"6k1/2r2ppp/3r4/8/8/8/8/R6K w - - dm 3; id \"two replies\";";
@@ -63,6 +65,29 @@ pub(crate) fn tell_solve(alloc: Global, rays: &Rays) -> Result<String, Stop> {
     let outcome = solve(rays, &problem, &mut memo);
     mark(alloc);
     let again = solve(rays, &problem, &mut memo);
+    let found = mate_of(alloc, &outcome)?;
+    let again = mate_of(alloc, &again)?;
+    Ok(format!(in alloc; "{found}\n{again}")?)
+}
+
+/// The same by three workers, who are made in the call. Afterwards: the outcome by their memos once more.
+pub(crate) fn tell_on_threads<R: Threads + Sync>(
+    rt: &R,
+    alloc: Global,
+    rays: &Rays,
+) -> Result<String, Stop> {
+    let problem = record_of(alloc, rays, LINE)?.problem();
+    let memo = memo_of(alloc, 64)?;
+    let solver = OnThreads { rt };
+    let guide = Guide { rays, halt: &Never };
+    mark(alloc);
+    let mut memory = ThreadMemory::new(alloc, memo, 3, 64);
+    let outcome = solver.solve(&guide, &problem, &mut memory);
+    mark(alloc);
+    let again = solver.solve(&guide, &problem, &mut memory);
+    let (Ok(outcome), Ok(again)) = (outcome, again) else {
+        return Err(Stop("stopped"));
+    };
     let found = mate_of(alloc, &outcome)?;
     let again = mate_of(alloc, &again)?;
     Ok(format!(in alloc; "{found}\n{again}")?)

@@ -1,0 +1,9 @@
+use Rattle.std.proofs.Common.{map}
+use Rattle.matedesk.proofs.Uncounted.{ends_unshared}
+use Rattle.matedesk.proofs.sharing.solve_on.Goals as goal
+
+pub returns-in_default : goal.returns-in_default
+returns-in_default g c =
+    rw c.no_memory.ensures (ends_unshared (g.S.Source.holds c.args.source.now) (g.S.Source.refuses c.args.source.now)
+    c.ends_by_status.ensures c.solves_none.ensures c.args.workers c.args.bound c.args.size
+    c.args.files.now.from (map (λ s. s.now) c.args.files.now.names.now) (g.O.Write.contents c.args.out.now))
