@@ -10,9 +10,7 @@ use crate::serving::serve;
 use crate::sharing::solve_on;
 use crate::talking::talk;
 use command_words::{Request, escaped, parse, request_of};
-use plain_commands::{
-    Source, ends_by_status, limited_none, no_memory, plain_command, solves_none,
-};
+use plain_commands::{Source, ends_by_status, limited_none, no_memory, plain_command, solves_none};
 use std::alloc::Global;
 use std::io::Write;
 use std::sync::Wait;
