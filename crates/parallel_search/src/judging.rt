@@ -26,7 +26,12 @@ fn judge_each<R: Threads + Sync, H: Halt + Sync>(
     ensures as_many { length workers.new ≡ length workers.old }
 {
     let threads = workers.len().max(1);
-    thread::for_each_mut(rt, workers, threads, &|_, worker| worker.judge(guide, asked, turns));
+    thread::for_each_mut(
+        rt,
+        workers,
+        threads,
+        &|_, worker| worker.judge(guide, asked, turns),
+    );
 }
 
 /// The same, in an order of the moves' places.
