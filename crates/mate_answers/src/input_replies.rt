@@ -30,10 +30,12 @@ fn record_text<S: Solver<Never>>(
         rays: answers.rays,
         halt: &Never,
     };
-    let Ok(outcome) = answers.solver.solve(&guide, &record.problem(), memory) else {
+    // An outcome is large, and is looked at where it lies.
+    let solved = answers.solver.solve(&guide, &record.problem(), memory);
+    let Ok(outcome) = &solved else {
         unreachable!();
     };
-    let mut text = answer_text(alloc, answers.rays, record, &outcome)?;
+    let mut text = answer_text(alloc, answers.rays, record, outcome)?;
     text.push('\n')?;
     Ok(text.into_bytes())
 }
