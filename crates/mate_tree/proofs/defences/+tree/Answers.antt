@@ -45,8 +45,14 @@ write_attack-returns-clause-lines t g c =
 
 pub write_defence-returns-in-Mate-clause-lines : goal.write_defence-returns-in-Mate-clause-lines
 write_defence-returns-in-Mate-clause-lines t g c =
-    rw (← c.after-next.ensures, ← c.soonest-outcome.ensures.truth, ← c.has_dual.ensures, c.in-Mate.is, ← c.get.ensures.moves,
-    ← c.as_slice.ensures.value)
+    rw (
+      ← c.after-next.ensures,
+      ← c.soonest-outcome.ensures.truth,
+      ← c.has_dual.ensures,
+      c.in-Mate.is,
+      ← c.get.ensures.moves,
+      ← c.as_slice.ensures.value,
+    )
     (writes_first c.write_defence_line.ensures c.write_attacks.ensures.lines)
 
 pub write_defences-loop-r-init : goal.write_defences-loop-r-init
