@@ -15,7 +15,8 @@ use std::io::Write;
 use std::sync::Wait;
 use std::thread::Threads;
 
-/// Answers words that ask for `serve`, `uci` or `solve --limit`. That they were parsed before shows that they are no fault: what is refused now is memory.
+/// Answers words that ask for `serve`, `uci` or `solve --limit`. That they were parsed before shows that they are no fault: what is refused
+/// now is memory.
 fn threaded_command<
     R: Threads + Wait + Sync + Clone + Drop + Send + 'static,
     S: Source,
