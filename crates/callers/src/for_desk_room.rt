@@ -33,7 +33,6 @@ pub fn on_threads<R: Threads + Wait + Sync>(
 pub fn one_round(
     alloc: Global,
     rays: &Rays,
-    memo: &mut Memo,
     line: &[u8],
     window: &mut Window,
     keeper: &mut Keeper,
@@ -44,7 +43,8 @@ pub fn one_round(
     window.submit(alloc, rays, line).ok()?;
     keeper.turn();
     if let Taken::Job(job) = bench.take() {
-        bench.back(Back::Solved(job.solve(rays, memo))).ok()?;
+        let mut memo = Memo::new(alloc, 16).ok()?;
+        bench.back(Back::Solved(job.solve(rays, &mut memo))).ok()?;
     }
     keeper.turn();
     window.collect()

@@ -32,15 +32,21 @@ pub(crate) fn check_moves(
     Ok(())
 }
 
-/// Refuses where the mate is not found within so many moves, with these keys and this line.
+/// A mate in so many moves, its keys and its line.
+#[derive(Clone, Copy)]
+struct Mate<'a> {
+    dm: u8,
+    keys: &'a [&'a str],
+    pv: &'a [&'a str],
+}
+
+/// Refuses where this mate is not found within so many moves.
 fn check_mate(
     rt: &impl Abort,
     alloc: Global,
     text: &str,
     bound: u8,
-    dm: u8,
-    keys: &[&str],
-    pv: &[&str],
+    wanted: &Mate,
 ) -> Result<(), Fail> {
     match outcome_of(alloc, text, bound)? {
         Outcome::Mate {
@@ -48,9 +54,9 @@ fn check_mate(
             keys: found,
             pv: line,
         } => {
-            assert_eq!(rt; moves.get(), dm, "{text}");
-            check_moves(rt, text, found.as_slice(), keys)?;
-            check_moves(rt, text, line.as_slice(), pv)
+            assert_eq!(rt; moves.get(), wanted.dm, "{text}");
+            check_moves(rt, text, found.as_slice(), wanted.keys)?;
+            check_moves(rt, text, line.as_slice(), wanted.pv)
         }
         Outcome::NoMate => Err(Fail::from("no mate")),
     }
@@ -70,7 +76,7 @@ fn finds_mates_in_one(rt: HostRuntime) -> Result<(), Fail> {
         ("rb6/kpP5/p7/8/8/8/8/7K w - - 0 1", &["c7c8n"], &["c7c8n"]),
     ];
     for (text, keys, pv) in table {
-        check_mate(&rt, rt.alloc(), text, 1, 1, keys, pv)?;
+        check_mate(&rt, rt.alloc(), text, 1, &Mate { dm: 1, keys, pv })?;
     }
     Ok(())
 }
@@ -78,33 +84,33 @@ fn finds_mates_in_one(rt: HostRuntime) -> Result<(), Fail> {
 #[test]
 fn finds_mates_in_two(rt: HostRuntime) -> Result<(), Fail> {
     let kings = "7k/8/5K2/8/8/8/8/R7 w - - 0 1";
-    let keys = ["f6g6", "f6f7"];
-    let pv = ["f6g6", "h8g8", "a1a8"];
-    check_mate(&rt, rt.alloc(), kings, 2, 2, &keys, &pv)?;
+    let wanted = Mate {
+        dm: 2,
+        keys: &["f6g6", "f6f7"],
+        pv: &["f6g6", "h8g8", "a1a8"],
+    };
+    check_mate(&rt, rt.alloc(), kings, 2, &wanted)?;
     // A bound beyond the least number changes nothing.
-    check_mate(&rt, rt.alloc(), kings, 5, 2, &keys, &pv)?;
+    check_mate(&rt, rt.alloc(), kings, 5, &wanted)?;
     assert_eq!(rt; outcome_of(rt.alloc(), kings, 1)?, Outcome::NoMate);
-    check_mate(
-        &rt,
-        rt.alloc(),
-        "7k/p7/5K2/8/8/8/8/1R6 w - - 0 1",
-        2,
-        2,
-        &keys,
-        &["f6g6", "a7a5", "b1b8"],
-    )
+    let with_pawn = "7k/p7/5K2/8/8/8/8/1R6 w - - 0 1";
+    let pv = ["f6g6", "a7a5", "b1b8"];
+    check_mate(&rt, rt.alloc(), with_pawn, 2, &Mate { pv: &pv, ..wanted })
 }
 
 #[test]
 fn finds_a_mate_in_three(rt: HostRuntime) -> Result<(), Fail> {
+    let wanted = Mate {
+        dm: 3,
+        keys: &["a1a8"],
+        pv: &["a1a8", "c7c8", "a8c8", "d6d8", "c8d8"],
+    };
     check_mate(
         &rt,
         rt.alloc(),
         "6k1/2r2ppp/3r4/8/8/8/8/R6K w - - 0 1",
         3,
-        3,
-        &["a1a8"],
-        &["a1a8", "c7c8", "a8c8", "d6d8", "c8d8"],
+        &wanted,
     )
 }
 

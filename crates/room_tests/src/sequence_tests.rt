@@ -88,15 +88,7 @@ fn check_sequence(
     let mut plain = PlainRoom::new(alloc, ring);
     for (place, kind) in sequence(number).iter().chain(THEN.iter()).enumerate() {
         let call = call_of(*kind, &plain, ring as u64);
-        let found = reply(
-            alloc,
-            tools,
-            &mut keeper,
-            &mut window,
-            &mut bench,
-            &mut hand,
-            call,
-        )?;
+        let found = reply(tools, &mut keeper, &mut window, &mut bench, &mut hand, call)?;
         let wanted = plain.reply(call)?;
         assert_eq!(rt; found, wanted, "call {place} of sequence {number}");
         assert_eq!(rt;

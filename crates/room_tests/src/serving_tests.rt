@@ -34,7 +34,12 @@ pub(crate) fn inputs_of(alloc: Global, count: usize, lines: &[&str]) -> Result<V
     Ok(inputs)
 }
 
-/// Refuses where these inputs are not served with replies of these lines, and so many refusals each.
+/// How many of these lines are the replies to refused ones.
+fn refused_in(lines: &[&str]) -> usize {
+    lines.iter().filter(|line| line.starts_with("# ")).count()
+}
+
+/// Refuses where these inputs are not served with replies of these lines, or a refusal isn't counted.
 pub(crate) fn check_served<R: Abort + Threads + Wait + Sync, G: Gate>(
     rt: &R,
     alloc: Global,
@@ -42,14 +47,13 @@ pub(crate) fn check_served<R: Abort + Threads + Wait + Sync, G: Gate>(
     benches: usize,
     gate: &G,
     replies: &[&[&str]],
-    refused: usize,
 ) -> Result<(), Fail> {
     let default = Bound::new(3).ok_or("bound")?;
     let outputs = serve(rt, alloc, &Rays::new(), inputs, default, benches, gate)?;
     assert_eq!(rt; outputs.len(), replies.len());
     for (output, lines) in outputs.iter().zip(replies) {
         assert_eq!(rt; output.text.as_slice(), input_of(alloc, lines)?.as_slice());
-        assert_eq!(rt; output.refused, refused);
+        assert_eq!(rt; output.refused, refused_in(lines));
     }
     Ok(())
 }
@@ -97,7 +101,6 @@ fn benches_work_side_by_side(rt: HostRuntime) -> Result<(), Fail> {
         2,
         &gate,
         &[&[ANSWER_A, ANSWER_B]],
-        0,
     )?;
     assert!(rt; !gate.gave_up.load(Ordering::SeqCst));
     Ok(())
@@ -143,7 +146,6 @@ fn jobs_that_are_handed_back_are_solved_later(rt: HostRuntime) -> Result<(), Fai
         1,
         &gate,
         &[&[ANSWER_A, ANSWER_A, ANSWER_A, ANSWER_A, ANSWER_A]],
-        0,
     )?;
     assert_eq!(rt; gate.handed_back.load(Ordering::SeqCst), 5);
     assert_eq!(rt; gate.passed.load(Ordering::SeqCst), 5);
@@ -162,7 +164,6 @@ fn each_input_has_its_output(rt: HostRuntime) -> Result<(), Fail> {
         2,
         &OpenGate,
         &[&[ANSWER_A], &[ANSWER_B]],
-        0,
     )
 }
 
@@ -186,7 +187,6 @@ fn refusals_stand_where_their_lines_stand(rt: HostRuntime) -> Result<(), Fail> {
         3,
         &OpenGate,
         &[&reply, &reply, &reply],
-        3,
     )
 }
 
@@ -222,7 +222,7 @@ fn as_many_empty_inputs_as_there_may_be_are_served(rt: HostRuntime) -> Result<()
     let alloc = rt.alloc();
     let inputs = inputs_of(alloc, 16, &[])?;
     let replies: [&[&str]; 16] = [&[]; 16];
-    check_served(&rt, alloc, inputs.as_slice(), 16, &OpenGate, &replies, 0)
+    check_served(&rt, alloc, inputs.as_slice(), 16, &OpenGate, &replies)
 }
 
 /// Refuses where so many inputs on so many benches are not refused by this name.

@@ -36,7 +36,7 @@ fn each_job_is_taken_once(rt: HostRuntime) -> Result<(), Fail> {
     let inputs = inputs_of(alloc, 4, &[A; 250])?;
     let reply: &[&str] = &[ANSWER_A; 250];
     let replies = [reply; 4];
-    check_served(&rt, alloc, inputs.as_slice(), 2, &gate, &replies, 0)?;
+    check_served(&rt, alloc, inputs.as_slice(), 2, &gate, &replies)?;
     assert_eq!(rt; gate.jobs.load(Ordering::SeqCst), 1000);
     // The sum of 0 to 999.
     assert_eq!(rt; gate.tickets.load(Ordering::SeqCst), 499_500);

@@ -12,6 +12,7 @@ use std::test::Fail;
 /// The benches, and the jobs that they took and have yet to give back. A bench goes by its number, a job by its ticket.
 #[derive(Drop)]
 pub(crate) struct Crew {
+    pub(crate) alloc: Global,
     benches: Vec<Bench>,
     jobs: Vec<Job>,
     memo: Memo,
@@ -21,6 +22,7 @@ pub(crate) struct Crew {
 impl Crew {
     pub(crate) fn new(alloc: Global, benches: Vec<Bench>) -> Result<Crew, Fail> {
         Ok(Crew {
+            alloc,
             benches,
             jobs: Vec::new(alloc),
             memo: Memo::new(alloc, 16)?,
@@ -28,7 +30,7 @@ impl Crew {
         })
     }
 
-    pub(crate) fn take(&mut self, alloc: Global, i: usize) -> Result<String, Fail> {
+    pub(crate) fn take(&mut self, i: usize) -> Result<String, Fail> {
         let Some(bench) = self.benches.get_mut(i) else {
             return Err("no such bench".into());
         };
@@ -36,55 +38,44 @@ impl Crew {
             Taken::Job(job) => {
                 let ticket = job.ticket().0;
                 self.jobs.push(job)?;
-                Ok(format!(in alloc; "job {ticket}")?)
+                Ok(format!(in self.alloc; "job {ticket}")?)
             }
-            Taken::Stop => Ok(format!(in alloc; "stop")?),
-            Taken::Nothing => Ok(format!(in alloc; "nothing")?),
+            Taken::Stop => Ok(format!(in self.alloc; "stop")?),
+            Taken::Nothing => Ok(format!(in self.alloc; "nothing")?),
         }
     }
 
-    pub(crate) fn solve(&mut self, alloc: Global, i: usize, ticket: u64) -> Result<String, Fail> {
+    pub(crate) fn solve(&mut self, i: usize, ticket: u64) -> Result<String, Fail> {
         let done = held(&mut self.jobs, ticket)?.solve(&self.rays, &mut self.memo);
-        self.give(alloc, i, Back::Solved(done))
+        self.give(i, Back::Solved(done))
     }
 
-    pub(crate) fn hand_back(
-        &mut self,
-        alloc: Global,
-        i: usize,
-        ticket: u64,
-    ) -> Result<String, Fail> {
+    pub(crate) fn hand_back(&mut self, i: usize, ticket: u64) -> Result<String, Fail> {
         let job = held(&mut self.jobs, ticket)?;
-        self.give(alloc, i, Back::Returned(job))
+        self.give(i, Back::Returned(job))
     }
 
     /// Gives back a job of this ticket that was not taken, and which asks what the line does.
-    pub(crate) fn make_up(
-        &mut self,
-        alloc: Global,
-        i: usize,
-        ticket: u64,
-        line: &str,
-    ) -> Result<String, Fail> {
+    pub(crate) fn make_up(&mut self, i: usize, ticket: u64, line: &str) -> Result<String, Fail> {
         let default = Bound::new(3).ok_or("bound")?;
-        let record = read_record(alloc, &self.rays, line.as_bytes(), default)?;
+        let record = read_record(self.alloc, &self.rays, line.as_bytes(), default)?;
         let job = Job::new(Ticket(ticket), record.problem());
-        self.give(alloc, i, Back::Returned(job))
+        self.give(i, Back::Returned(job))
     }
 
     /// Drops the last bench.
-    pub(crate) fn leave(&mut self, alloc: Global) -> Result<String, Fail> {
+    pub(crate) fn leave(&mut self) -> Result<String, Fail> {
         let left = self.benches.pop().is_some();
-        Ok(format!(in alloc; "left {left}")?)
+        Ok(format!(in self.alloc; "left {left}")?)
     }
 
-    fn give(&mut self, alloc: Global, i: usize, back: Back) -> Result<String, Fail> {
+    fn give(&mut self, i: usize, back: Back) -> Result<String, Fail> {
         let Some(bench) = self.benches.get_mut(i) else {
             return Err("no such bench".into());
         };
         match bench.back(back) {
-            Ok(()) => Ok(format!(in alloc; "ok")?),
-            Err(back) => refused(alloc, &back),
+            Ok(()) => Ok(format!(in self.alloc; "ok")?),
+            Err(back) => refused(self.alloc, &back),
         }
     }
 }

@@ -32,6 +32,7 @@ const UNSENT: &str = "6k1/5ppp/8/8/8/8/8/R3K3 w Q - dm 6;";
 /// What the calls are made with.
 #[derive(Drop)]
 pub(crate) struct Tools {
+    alloc: Global,
     rays: Rays,
     memo: Memo,
     unsent: Record,
@@ -50,6 +51,7 @@ pub(crate) fn make_tools(rt: &impl Abort, alloc: Global) -> Result<Tools, Fail> 
     assert_eq!(rt; text.as_str(), ANSWER_A);
     let unsent = read_record(alloc, &rays, UNSENT.as_bytes(), default)?;
     Ok(Tools {
+        alloc,
         rays,
         memo,
         unsent,
@@ -91,16 +93,11 @@ fn delivered(delivery: &Delivery, mate: &Outcome) -> Reply {
 }
 
 /// A call of the window.
-fn reply_of_window(
-    alloc: Global,
-    tools: &Tools,
-    window: &mut Window,
-    call: Call,
-) -> Result<Reply, Fail>
+fn reply_of_window(tools: &Tools, window: &mut Window, call: Call) -> Result<Reply, Fail>
     ensures { SameWindow window.old window.new }
 {
     match call {
-        Call::Submit(n) => submit(alloc, &tools.rays, window, n),
+        Call::Submit(n) => submit(tools.alloc, &tools.rays, window, n),
         Call::Withdraw(n) => match window.withdraw(n) {
             Ok(()) => Ok(Reply::Done),
             Err(fault) => Ok(refused(fault.code())),
@@ -214,7 +211,6 @@ fn reply_of_bench(
 /// A call of the window, of the keeper or of the bench.
 #[tactic(auto, using(crate::proofs::Rooms::of_then, crate::proofs::Rooms::of_window, crate::proofs::Rooms::room_same, crate::proofs::Rooms::room_then))]
 pub(crate) fn reply(
-    alloc: Global,
     tools: &mut Tools,
     keeper: &mut Keeper,
     window: &mut Window,
@@ -227,7 +223,7 @@ pub(crate) fn reply(
 {
     match call {
         Call::Submit(_) | Call::Withdraw(_) | Call::Bye | Call::Collect => {
-            reply_of_window(alloc, tools, window, call)
+            reply_of_window(tools, window, call)
         }
         Call::Turn | Call::Close | Call::SendHome => Ok(reply_of_keeper(keeper, call)),
         Call::Settle => Ok(Reply::Settled(keeper.settle(window))),

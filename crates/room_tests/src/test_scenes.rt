@@ -122,20 +122,19 @@ fn reply_of_keeper(alloc: Global, keeper: &mut Keeper, call: Call) -> Result<Str
 }
 
 /// A call of a bench.
-fn reply_of_bench(alloc: Global, crew: &mut Crew, call: Call) -> Result<String, Fail> {
+fn reply_of_bench(crew: &mut Crew, call: Call) -> Result<String, Fail> {
     match call {
-        Call::Take(i) => crew.take(alloc, i),
-        Call::Solve(i, ticket) => crew.solve(alloc, i, ticket),
-        Call::Return(i, ticket) => crew.hand_back(alloc, i, ticket),
-        Call::MakeUp(i, ticket) => crew.make_up(alloc, i, ticket, A),
-        _ => crew.leave(alloc),
+        Call::Take(i) => crew.take(i),
+        Call::Solve(i, ticket) => crew.solve(i, ticket),
+        Call::Return(i, ticket) => crew.hand_back(i, ticket),
+        Call::MakeUp(i, ticket) => crew.make_up(i, ticket, A),
+        _ => crew.leave(),
     }
 }
 
 /// A call of the window, of the keeper or of a bench.
 #[tactic(auto, using(crate::proofs::Rooms::of_then, crate::proofs::Rooms::of_window, crate::proofs::Rooms::room_same, crate::proofs::Rooms::room_then))]
 fn reply(
-    alloc: Global,
     keeper: &mut Keeper,
     window: &mut Window,
     crew: &mut Crew,
@@ -145,6 +144,7 @@ fn reply(
     ensures of { IsOf window.new keeper.new }
     ensures room { SameRoom keeper.old keeper.new }
 {
+    let alloc = crew.alloc;
     match call {
         Call::Submit(line) => told(alloc, window.submit(alloc, &crew.rays, line.as_bytes())),
         Call::Withdraw(n) => told(alloc, window.withdraw(n)),
@@ -157,7 +157,7 @@ fn reply(
         Call::Turn | Call::Byes | Call::Drained | Call::Close | Call::SendHome => {
             reply_of_keeper(alloc, keeper, call)
         }
-        _ => reply_of_bench(alloc, crew, call),
+        _ => reply_of_bench(crew, call),
     }
 }
 
@@ -191,7 +191,7 @@ pub(crate) fn check_room(
     let (mut keeper, mut window, benches) = ends_of_one(alloc, benches, ring)?;
     let mut crew = Crew::new(alloc, benches)?;
     for (number, (call, wanted)) in calls.iter().enumerate() {
-        let found = reply(alloc, &mut keeper, &mut window, &mut crew, *call)?;
+        let found = reply(&mut keeper, &mut window, &mut crew, *call)?;
         assert_eq!(rt; found.as_str(), *wanted, "call {number}");
     }
     Ok(())
@@ -222,7 +222,6 @@ pub(crate) fn ends_of_two(
 
 /// A call of the window of this number, of the keeper or of a bench, where there are two windows.
 fn reply_of_two(
-    alloc: Global,
     keeper: &mut Keeper,
     first: &mut Window,
     second: &mut Window,
@@ -236,8 +235,8 @@ fn reply_of_two(
     ensures second { IsOf second.new keeper.new }
 {
     match number {
-        0 => reply(alloc, keeper, first, crew, call),
-        _ => reply(alloc, keeper, second, crew, call),
+        0 => reply(keeper, first, crew, call),
+        _ => reply(keeper, second, crew, call),
     }
 }
 
@@ -253,15 +252,7 @@ pub(crate) fn check_two_windows(
     let (mut keeper, mut first, mut second, benches) = ends_of_two(alloc, benches, ring)?;
     let mut crew = Crew::new(alloc, benches)?;
     for (number, (at, call, wanted)) in calls.iter().enumerate() {
-        let found = reply_of_two(
-            alloc,
-            &mut keeper,
-            &mut first,
-            &mut second,
-            &mut crew,
-            *at,
-            *call,
-        )?;
+        let found = reply_of_two(&mut keeper, &mut first, &mut second, &mut crew, *at, *call)?;
         assert_eq!(rt; found.as_str(), *wanted, "call {number}");
     }
     Ok(())
