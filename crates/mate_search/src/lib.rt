@@ -5,7 +5,8 @@
 //! `specs/Laws.antt`; an outcome is exactly that.
 //!
 //! To read: `memo_entries`, `killers`, `memo`, `halting`, `searching`, `verdicts`, `principal_variation`, `solving`, `solvers`; `laws`
-//! says of the definitions what they are meant to say. `solve` takes memory for its memo alone, and never fails for want of it; `solve_until` can be stopped.
+//! says of the definitions what they are meant to say. `solve` takes memory for its memo alone, and never fails for want of it;
+//! `solve_until` can be stopped.
 #![tactic(auto)]
 
 mod halting;
