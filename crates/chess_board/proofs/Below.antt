@@ -1,16 +1,12 @@
 -- Tests of all numbers below a number.
-use Rattle.std.proofs.Common.{◌≡◌, ℕ, zero, suc, ◌+◌, ◌<◌, Bool, true, false, ◌||◌, eqb, refl, arith, add-one}
+use Rattle.std.proofs.Common.{◌≡◌, ℕ, zero, suc, ◌<◌, Bool, true, false, ◌||◌, eqb, refl, arith}
 use Rattle.std.proofs.lemmas.Bool.{eqb-true, eqb-false, and_parts, and_from, or_right, or_left}
 use Rattle.chess_board.specs.Squares.{any_below, all_below}
 
-pub any_none : (p : ℕ → Bool) → any_below 0 p ≡ false
+pub any_fails : (p : ℕ → Bool) (n : ℕ) → ((s : ℕ) → s < n → p s ≡ false) → any_below n p ≡ false
 unfolding any_below
-any_none p = refl
-
--- the step of a loop that looks for one
-pub any_more : (p : ℕ → Bool) (n : ℕ) → any_below n p ≡ false → p n ≡ false → any_below (n + 1) p ≡ false
-unfolding any_below
-any_more p n none here = rw add-one (rw (none, here))
+any_fails p zero h = refl
+any_fails p (suc n) h = let before = any_fails p n (λ s l. h s (omega arith)) in let here = h n (omega arith) in rw (before, here)
 
 pub any_at : (p : ℕ → Bool) (n s : ℕ) → s < n → p s ≡ true → any_below n p ≡ true
 unfolding any_below
@@ -38,11 +34,3 @@ all_not p n s l e = (elim (all_below n p) as (λ b. all_below n p ≡ b → b �
   | true ↦ λ t. let y = all_yes p n s t l in cc
   | false ↦ λ t. refl
 ]) refl
-
-pub all_none : (p : ℕ → Bool) → all_below 0 p ≡ true
-unfolding all_below
-all_none p = refl
-
-pub all_more : (p : ℕ → Bool) (n : ℕ) → all_below n p ≡ true → p n ≡ true → all_below (n + 1) p ≡ true
-unfolding all_below
-all_more p n so_far here = rw add-one (rw (so_far, here))

@@ -4,6 +4,10 @@ pub mod Counting
 pub mod Equality
 pub mod MenSets
 pub mod BoardWords
+pub mod SetCounts
+pub mod EndPawns
+pub mod SetScans
+pub mod KindAttacks
 pub mod SameBoards
 pub mod FieldTexts
 pub mod FaultOrder
@@ -11,6 +15,7 @@ pub mod TextParts
 pub mod RankLetters
 pub mod RankReading
 pub mod RankSteps
+pub mod RankBoards
 pub mod RankTexts
 pub mod PlacementReading
 pub mod PlacementOnce

@@ -16,6 +16,13 @@ with_front front (Some places) = Some (front ++ places)
 abbrev pub IsReadSoFar : List ℕ → List (Option Man) → Bool → List ℕ → Type 0
 IsReadSoFar text front after_digit rest = with_front front (rank_read after_digit rest) ≡ rank_read false text
 
+pub none_read : (text : List ℕ) → IsReadSoFar text [] false text
+none_read text = same (rank_read false text)
+  where
+    same : (read : Option (List (Option Man))) → with_front [] read ≡ read
+    same None = refl
+    same (Some places) = refl
+
 -- No rank is spelt so.
 abbrev pub IsNoRank : List ℕ → Type 0
 IsNoRank text = (places : List (Option Man)) → length places ≡ 8 → rank_text places ≡ text → ⊥
@@ -50,16 +57,22 @@ with_run_front : (front : List (Option Man)) (k : ℕ) (r : Option (List (Option
 with_run_front front k None = refl
 with_run_front front k (Some places) = ap Some (sym (append_assoc front (replicate k None) places))
 
+pub run_read : (text : List ℕ) (front : List (Option Man)) (after_digit : Bool) (i b : ℕ)
+    → IsReadSoFar text front after_digit (drop i text) → i < length text → b ≡ get_or text i 0 → is_run_digit b ≡ true
+    → after_digit ≡ false → IsReadSoFar text (front ++ replicate (b - 48) None) true (drop (suc i) text)
+run_read text front after_digit i b so_far inside at is_digit first =
+    let rest = rank_read true (drop (suc i) text) in
+    let goes : with_front front (rank_read after_digit (b ∷ drop (suc i) text)) ≡ with_front front (with_run (b - 48) rest) =
+    rw (is_digit, first) refl in
+    sym (with_run_front front (b - 48) rest) ∙ sym goes ∙ next_is text front after_digit i b so_far inside at
+
 pub long_run : (text : List ℕ) (front : List (Option Man)) (after_digit : Bool) (i b : ℕ)
     → IsReadSoFar text front after_digit (drop i text) → i < length text → b ≡ get_or text i 0 → is_run_digit b ≡ true
     → after_digit ≡ false → 8 < length front + (b - 48) → IsNoRank text
 long_run text front after_digit i b so_far inside at is_digit first over =
-    let rest = rank_read true (drop (suc i) text) in
-    let goes : with_front front (rank_read after_digit (b ∷ drop (suc i) text)) ≡ with_front front (with_run (b - 48) rest) =
-    rw (is_digit, first) refl in
     let total : 8 < length (front ++ replicate (b - 48) None) = rw (length-append, length-replicate) over in
-    too_long text (front ++ replicate (b - 48) None) rest
-    (sym (with_run_front front (b - 48) rest) ∙ sym goes ∙ next_is text front after_digit i b so_far inside at) total
+    too_long text (front ++ replicate (b - 48) None) (rank_read true (drop (suc i) text))
+    (run_read text front after_digit i b so_far inside at is_digit first) total
 
 pub no_man : (text : List ℕ) (front : List (Option Man)) (after_digit : Bool) (i b : ℕ) → IsReadSoFar text front after_digit
     (drop i text) → i < length text → b ≡ get_or text i 0 → is_run_digit b ≡ false → man_of_letter b ≡ None → IsNoRank text
@@ -72,16 +85,22 @@ with_man_front : (front : List (Option Man)) (man : Man) (r : Option (List (Opti
 with_man_front front man None = refl
 with_man_front front man (Some places) = ap Some (sym (append_assoc front (Some man ∷ []) places))
 
+pub man_read : (text : List ℕ) (front : List (Option Man)) (after_digit : Bool) (i b : ℕ) (man : Man)
+    → IsReadSoFar text front after_digit (drop i text) → i < length text → b ≡ get_or text i 0 → is_run_digit b ≡ false
+    → man_of_letter b ≡ Some man → IsReadSoFar text (front ++ Some man ∷ []) false (drop (suc i) text)
+man_read text front after_digit i b man so_far inside at is_digit known =
+    let rest = rank_read false (drop (suc i) text) in
+    let goes : with_front front (rank_read after_digit (b ∷ drop (suc i) text)) ≡ with_front front (with_man (Some man) rest) =
+    rw (is_digit, known) refl in
+    sym (with_man_front front man rest) ∙ sym goes ∙ next_is text front after_digit i b so_far inside at
+
 pub one_too_many : (text : List ℕ) (front : List (Option Man)) (after_digit : Bool) (i b : ℕ) (man : Man)
     → IsReadSoFar text front after_digit (drop i text) → i < length text → b ≡ get_or text i 0 → is_run_digit b ≡ false
     → man_of_letter b ≡ Some man → length front ≡ 8 → IsNoRank text
 one_too_many text front after_digit i b man so_far inside at is_digit known full =
-    let rest = rank_read false (drop (suc i) text) in
-    let goes : with_front front (rank_read after_digit (b ∷ drop (suc i) text)) ≡ with_front front (with_man (Some man) rest) =
-    rw (is_digit, known) refl in
     let total : 8 < length (front ++ Some man ∷ []) = rw length-append (omega arith) in
-    too_long text (front ++ Some man ∷ []) rest
-    (sym (with_man_front front man rest) ∙ sym goes ∙ next_is text front after_digit i b so_far inside at) total
+    too_long text (front ++ Some man ∷ []) (rank_read false (drop (suc i) text))
+    (man_read text front after_digit i b man so_far inside at is_digit known) total
 
 all_read : (text : List ℕ) (front : List (Option Man)) (after_digit : Bool) (i : ℕ)
     → IsReadSoFar text front after_digit (drop i text) → length text ≤ i → rank_read false text ≡ Some front

@@ -4,11 +4,12 @@ ghost use Rattle.std.specs.Prelude.{◌≡◌, ◌+◌, ◌*◌, ◌<◌, ◌≤
 ghost use Rattle.chess_board.specs.Squares.{gap};
 ghost use Rattle.chess_board.specs.inside.Walks.{toward_of};
 ghost use Rattle.chess_board.specs.Attacks.{is_clear as clear, is_rook_line as rook_line, is_bishop_line as bishop_line};
-ghost use Rattle.chess_board.specs.Attacks.{is_forward as forward, attacks_as as attacks, attacks_from as attacks_at};
-ghost use Rattle.chess_board.specs.Attacks.{is_attacked, is_king_attacked as king_attacked, is_in_check};
+ghost use Rattle.chess_board.specs.Attacks.{is_forward as forward, attacks_as as attacks};
+ghost use Rattle.chess_board.specs.Attacks.{is_attacked, is_in_check};
+ghost use Rattle.chess_board.specs.inside.KindAttacks.{attacked_as, attacked_by_leaper, attacked_by_slider};
 
 use crate::boards::Board;
-use crate::men::{Colour, Kind, Man, is_king_of};
+use crate::men::{Colour, Kind, Man};
 use crate::squares::{Square, file_gap_of, rank_gap_of};
 
 /// Whether a rook could go from one square to the other on an empty board.
@@ -86,42 +87,50 @@ fn attacks_as(men: &Board, man: Man, a: Square, b: Square) -> bool
     }
 }
 
-/// Whether a man of the colour stands on `from` and attacks the square.
-fn attacks_from(men: &Board, by: Colour, from: Square, square: Square) -> bool
-    ensures { result ≡ attacks_at men.now by from square }
+/// Whether one of a side's men of a kind attacks the square.
+fn is_attacked_as(men: &Board, square: Square, colour: Colour, kind: Kind) -> bool
+    ensures { result ≡ attacked_as men.now square colour kind }
 {
-    match men.man(from) {
-        Some(man) => man.colour == by && attacks_as(men, man, from, square),
-        None => false,
-    }
-}
-
-/// Whether some man of the colour attacks the square.
-pub(crate) fn is_attacked_by(men: &Board, square: Square, by: Colour) -> bool
-    ensures { result ≡ is_attacked men.now square by }
-{
-    for number in 0..64 {
-        if attacks_from(men, by, Square::numbered(number), square) {
+    let man = Man { colour, kind };
+    for from in square_sets::squares(men.men(colour, kind)) {
+        if attacks_as(men, man, Square::numbered(from), square) {
             return true;
         }
     }
     false
 }
 
-/// Whether the colour's king stands on the square and is attacked there.
-fn is_king_attacked(men: &Board, square: Square, colour: Colour) -> bool
-    ensures { result ≡ king_attacked men.now colour square }
+/// Whether a pawn, a knight or the king of the colour attacks the square.
+fn is_attacked_by_leaper(men: &Board, square: Square, colour: Colour) -> bool
+    ensures { result ≡ attacked_by_leaper men.now square colour }
 {
-    is_king_of(men.man(square), colour) && is_attacked_by(men, square, colour.other())
+    is_attacked_as(men, square, colour, Kind::Pawn)
+        || is_attacked_as(men, square, colour, Kind::Knight)
+        || is_attacked_as(men, square, colour, Kind::King)
+}
+
+/// Whether a bishop, a rook or a queen of the colour attacks the square.
+fn is_attacked_by_slider(men: &Board, square: Square, colour: Colour) -> bool
+    ensures { result ≡ attacked_by_slider men.now square colour }
+{
+    is_attacked_as(men, square, colour, Kind::Bishop)
+        || is_attacked_as(men, square, colour, Kind::Rook)
+        || is_attacked_as(men, square, colour, Kind::Queen)
+}
+
+/// Whether some man of the colour attacks the square.
+pub(crate) fn is_attacked_by(men: &Board, square: Square, by: Colour) -> bool
+    ensures { result ≡ is_attacked men.now square by }
+{
+    is_attacked_by_leaper(men, square, by) || is_attacked_by_slider(men, square, by)
 }
 
 /// Whether the colour's king is attacked.
-#[tactic(auto, using(crate::proofs::Below::any_none, crate::proofs::Below::any_more))]
 pub(crate) fn is_king_in_check(men: &Board, colour: Colour) -> bool
     ensures { result ≡ is_in_check men.now colour }
 {
-    for number in 0..64 {
-        if is_king_attacked(men, Square::numbered(number), colour) {
+    for square in square_sets::squares(men.men(colour, Kind::King)) {
+        if is_attacked_by(men, Square::numbered(square), colour.other()) {
             return true;
         }
     }

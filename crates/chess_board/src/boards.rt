@@ -1,9 +1,9 @@
 //! The men on the 64 squares, as sets of squares: a man stands in the set of its colour and in that of its kind.
 
-ghost use Rattle.std.specs.Prelude.{◌≡◌, ℕ, ◌<◌, ◌==◌, if◌then◌else◌, Some, None, is_some, length, count_by, slice_set};
+ghost use Rattle.std.specs.Prelude.{◌≡◌, ℕ, ◌<◌, ◌==◌, if◌then◌else◌, Some, None, is_some, length, count_by, replicate, slice_set};
 ghost use Rattle.square_sets.specs.Members.{has};
 ghost use Rattle.chess_board.specs.declared.men.Kind.TheVariants as kind;
-ghost use Rattle.chess_board.specs.Positions.{man_at, moved};
+ghost use Rattle.chess_board.specs.Positions.{man_at, is_empty, moved};
 ghost use Rattle.chess_board.specs.Men.{man_of, is_of, is_man};
 ghost use Rattle.chess_board.specs.inside.KindTests.{is_king_of};
 ghost use Rattle.chess_board.specs.Sets.{IsSetOf};
@@ -41,23 +41,9 @@ impl Model for Board {
 }
 
 impl Board {
-    /// The board with these men, a1 first and h8 last.
-    pub(crate) fn of(places: &[Option<Man>; 64]) -> Board
-        ensures { result ≡ places.now }
-    {
-        let mut board = Board::empty();
-        for number in 0..64 {
-            if let Some(man) = places[number as usize] {
-                board = board.with(Square::numbered(number), man);
-            }
-        }
-        board
-    }
-
     /// The board with no man on it.
-    fn empty() -> Board
-        ensures squares { length result ≡ 64 }
-        ensures empty { (square : ℕ) → square < 64 → man_at result square ≡ None }
+    pub(crate) fn empty() -> Board
+        ensures { result ≡ replicate 64 None }
     {
         Board {
             by_colour: [0; 2],
@@ -133,14 +119,35 @@ impl Board {
         ensures { result ≡ slice_set self.now square (Some man) }
     {
         let index = square.index() as u8;
-        let others = self.without(square);
-        let mut by_colour = others.by_colour;
-        let mut by_kind = others.by_kind;
+        let [white, black] = self.by_colour;
+        let [pawns, knights, bishops, rooks, queens, kings] = self.by_kind;
+        // Each word by itself: one that is written by its number in memory costs its reader a stall.
+        Board {
+            by_colour: [
+                changed(white, index, is_of_colour(man, Colour::White)),
+                changed(black, index, is_of_colour(man, Colour::Black)),
+            ],
+            by_kind: [
+                changed(pawns, index, is_of_kind(man, Kind::Pawn)),
+                changed(knights, index, is_of_kind(man, Kind::Knight)),
+                changed(bishops, index, is_of_kind(man, Kind::Bishop)),
+                changed(rooks, index, is_of_kind(man, Kind::Rook)),
+                changed(queens, index, is_of_kind(man, Kind::Queen)),
+                changed(kings, index, is_of_kind(man, Kind::King)),
+            ],
+        }
+    }
+
+    /// Puts a man on an empty square.
+    pub(crate) fn put(&mut self, square: Square, man: Man)
+        requires { man_at self.old square ≡ None }
+        ensures { self.new ≡ slice_set self.old square (Some man) }
+    {
+        let index = square.index() as u8;
         let colour = man.colour as usize;
         let kind = man.kind as usize;
-        by_colour[colour] = square_sets::with(by_colour[colour], index);
-        by_kind[kind] = square_sets::with(by_kind[kind], index);
-        Board { by_colour, by_kind }
+        self.by_colour[colour] = square_sets::with(self.by_colour[colour], index);
+        self.by_kind[kind] = square_sets::with(self.by_kind[kind], index);
     }
 
     /// The board once a man went from one square to another, where it takes the place of what stood there.
@@ -167,15 +174,48 @@ impl Board {
         self.side(colour) & self.kind(kind)
     }
 
+    /// How many men of one kind a side has.
+    pub(crate) fn count(&self, colour: Colour, kind: Kind) -> u32
+        ensures { result ≡ count_by (is_man colour kind) self.now }
+    {
+        // A part of the board is read, so that the proof knows what its type keeps.
+        let _ = &self.by_kind;
+        self.men(colour, kind).count_ones()
+    }
+
+    /// How many men a side has. Its second clause tells a caller how many squares there are.
+    pub(crate) fn side_count(&self, colour: Colour) -> u32
+        ensures count { result ≡ count_by (is_of colour) self.now }
+        ensures squares { length self.now ≡ 64 }
+    {
+        // A part of the board is read, so that the proof knows what its type keeps.
+        let _ = &self.by_kind;
+        self.side(colour).count_ones()
+    }
+
+    /// Whether a man of this colour and kind stands on a square.
+    pub(crate) fn has(&self, square: Square, colour: Colour, kind: Kind) -> bool
+        ensures { result ≡ is_man colour kind (man_at self.now square) }
+    {
+        square_sets::contains(self.men(colour, kind), square.index() as u8)
+    }
+
+    /// Whether no man stands on a square.
+    pub(crate) fn is_empty(&self, square: Square) -> bool
+        ensures { result ≡ is_empty self.now square }
+    {
+        !square_sets::contains(self.occupied(), square.index() as u8)
+    }
+
     /// The squares of a side's men.
-    fn side(&self, colour: Colour) -> u64
+    pub(crate) fn side(&self, colour: Colour) -> u64
         ensures { IsSetOf result (is_of colour) self.now }
     {
         self.by_colour[colour as usize]
     }
 
     /// The squares of both sides' men of one kind.
-    fn kind(&self, kind: Kind) -> u64
+    pub(crate) fn kind(&self, kind: Kind) -> u64
         ensures { IsSetOf result (is_of_kind kind) self.now }
     {
         self.by_kind[kind as usize]
@@ -192,6 +232,35 @@ impl Board {
         let kings = self.side(colour) & self.kind(Kind::King);
         Square::numbered(square_sets::lowest(kings))
     }
+}
+
+/// A set that has a square or not, as is said, and else the same squares.
+#[inline(always)]
+fn changed(set: u64, square: u8, there: bool) -> u64
+    requires { square < 64 }
+    ensures { (s : ℕ) → s < 64 → has result s ≡ (if s == square then there else has set s) }
+{
+    if there {
+        square_sets::with(set, square)
+    } else {
+        square_sets::without(set, square)
+    }
+}
+
+/// Whether a man is of this colour.
+#[inline(always)]
+fn is_of_colour(man: Man, colour: Colour) -> bool
+    ensures { result ≡ is_of colour (Some man) }
+{
+    man.colour == colour
+}
+
+/// Whether a man is of this kind.
+#[inline(always)]
+fn is_of_kind(man: Man, kind: Kind) -> bool
+    ensures { result ≡ is_of_kind kind (Some man) }
+{
+    man.kind == kind
 }
 
 impl Hash for Board {

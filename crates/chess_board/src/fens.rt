@@ -6,7 +6,6 @@ ghost use Rattle.chess_board.specs.Soundness.{IsSound};
 ghost use Rattle.chess_board.specs.Faults.{IsFirst, spelling_faults, field_faults};
 ghost use Rattle.chess_board.specs.Fens.{FenValue, SpellsSetup, Spells, IsAmiss, IsFault, parts, position_text, fen_text};
 
-use crate::boards::Board;
 use crate::cuts::cut_at;
 use crate::faults::FenFault;
 use crate::fields::{
@@ -89,7 +88,7 @@ fn setup_of_fields(
     ensures refused { IfErr result (λ fault. IsFirst (IsAmiss
         (record { placement = placement.now; side = side.now; castling = castling.now; target = target.now })) spelling_faults fault) }
 {
-    let Some(men) = men_of_text(placement) else {
+    let Some(board) = men_of_text(placement) else {
         return Err(FenFault::BadPlacement);
     };
     let Some(side) = side_of_text(side) else {
@@ -102,7 +101,7 @@ fn setup_of_fields(
         return Err(FenFault::BadTarget);
     };
     Ok(Setup {
-        board: Board::of(&men),
+        board,
         side,
         rights,
         target,

@@ -45,6 +45,8 @@ fn men_after(position: &Position, man: Man, m: Move) -> Board
 /// rights that are left, and the square that a double step has passed over.
 ///
 /// A legal move of a sound position leaves a sound one, so there is nothing to refuse.
+// A position that is returned through memory in parts costs its reader a stall.
+#[inline(always)]
 pub fn after(position: &Position, chosen: Move) -> Position
     requires { is_legal position.now chosen ≡ true }
     ensures { result ≡ after_setup position.now chosen }

@@ -3,9 +3,7 @@
 ghost use Rattle.std.specs.Prelude.{◌≡◌, ◌≤◌};
 ghost use Rattle.chess_board.specs.Characters.{char};
 ghost use Rattle.chess_board.specs.Men.{other_side, has_right_of};
-ghost use Rattle.chess_board.specs.Men.{is_of as place_is_of, is_pawn as place_is_pawn};
 ghost use Rattle.chess_board.specs.Placement.{kind_letter};
-ghost use Rattle.chess_board.specs.inside.KindTests.{is_king_of as place_is_king_of, is_rook_of as place_is_rook_of, is_pawn_of as place_is_pawn_of};
 
 /// One of the two sides.
 #[derive(Clone, Copy, Debug, PartialEq, Eq, Hash)]
@@ -89,55 +87,5 @@ impl Rights {
             (Colour::Black, Wing::KingSide) => self.black_king_side,
             (Colour::Black, Wing::QueenSide) => self.black_queen_side,
         }
-    }
-}
-
-/// Whether a man of the colour stands there.
-pub(crate) fn is_of(place: Option<Man>, colour: Colour) -> bool
-    ensures { result ≡ place_is_of colour place }
-{
-    match place {
-        Some(man) => man.colour == colour,
-        None => false,
-    }
-}
-
-/// Whether the colour's king stands there.
-pub(crate) fn is_king_of(place: Option<Man>, colour: Colour) -> bool
-    ensures { result ≡ place_is_king_of colour place }
-{
-    match place {
-        Some(man) => man.colour == colour && man.kind == Kind::King,
-        None => false,
-    }
-}
-
-/// Whether a rook of the colour stands there.
-pub(crate) fn is_rook_of(place: Option<Man>, colour: Colour) -> bool
-    ensures { result ≡ place_is_rook_of colour place }
-{
-    match place {
-        Some(man) => man.colour == colour && man.kind == Kind::Rook,
-        None => false,
-    }
-}
-
-/// Whether a pawn of the colour stands there.
-pub(crate) fn is_pawn_of(place: Option<Man>, colour: Colour) -> bool
-    ensures { result ≡ place_is_pawn_of colour place }
-{
-    match place {
-        Some(man) => man.colour == colour && man.kind == Kind::Pawn,
-        None => false,
-    }
-}
-
-/// Whether a pawn of either colour stands there.
-pub(crate) fn is_pawn(place: Option<Man>) -> bool
-    ensures { result ≡ place_is_pawn place }
-{
-    match place {
-        Some(man) => man.kind == Kind::Pawn,
-        None => false,
     }
 }

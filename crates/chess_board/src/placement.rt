@@ -1,28 +1,46 @@
 //! The placement field of a FEN, read and printed, rank by rank (PGN Specification, 16.1.3.1).
 
-ghost use Rattle.std.specs.Prelude.{◌≡◌, ◌+◌, ◌*◌, ◌<◌, ◌≤◌, ◌++◌, List, Option, None, length, replicate, take, drop, IfSome, IfNone};
+ghost use Rattle.std.specs.Prelude.{◌≡◌, ◌+◌, ◌<◌, ◌≤◌, ◌++◌, true, false, List, Option, length, IfSome, IfNone};
 ghost use Rattle.arrayvec.specs.ArrayString.{array_string_len};
-ghost use Rattle.arrayvec.specs.ArrayVec.{array_vec_len};
 ghost use Rattle.chess_board.specs.Placement.{man_letter, run_text, rank_text, placement_text, SpellsPlacement};
-ghost use Rattle.chess_board.specs.inside.RankReading.{kind_of_letter, man_of_letter, is_run_digit};
+ghost use Rattle.chess_board.specs.inside.RankReading.{kind_of_letter, man_of_letter, is_run_digit, IsRankEmpty, IsRankRead};
 ghost use Rattle.chess_board.specs.declared.men.Man.{Man};
 
+use crate::boards::Board;
 use crate::cuts::cut_at;
 use crate::men::{Colour, Kind, Man};
-use arrayvec::{ArrayString, ArrayVec};
+use crate::squares::Square;
+use arrayvec::ArrayString;
 
-/// The kind that a capital letter stands for.
+/// The kinds that the capital letters from B to R stand for.
+static KINDS: [Option<Kind>; 17] = [
+    Some(Kind::Bishop),
+    None,
+    None,
+    None,
+    None,
+    None,
+    None,
+    None,
+    None,
+    Some(Kind::King),
+    None,
+    None,
+    Some(Kind::Knight),
+    None,
+    Some(Kind::Pawn),
+    Some(Kind::Queen),
+    Some(Kind::Rook),
+];
+
+/// The kind that a capital letter stands for. It is looked up, since no branch could tell which letter comes next.
 fn kind_of_letter(letter: u8) -> Option<Kind>
     ensures { result ≡ kind_of_letter letter }
 {
-    match letter {
-        b'P' => Some(Kind::Pawn),
-        b'N' => Some(Kind::Knight),
-        b'B' => Some(Kind::Bishop),
-        b'R' => Some(Kind::Rook),
-        b'Q' => Some(Kind::Queen),
-        b'K' => Some(Kind::King),
-        _ => None,
+    if b'B' <= letter && letter <= b'R' {
+        KINDS[(letter - b'B') as usize]
+    } else {
+        None
     }
 }
 
@@ -30,19 +48,13 @@ fn kind_of_letter(letter: u8) -> Option<Kind>
 fn man_of_letter(letter: u8) -> Option<Man>
     ensures { result ≡ man_of_letter letter }
 {
-    if letter < b'a' {
-        let kind = kind_of_letter(letter)?;
-        Some(Man {
-            colour: Colour::White,
-            kind,
-        })
+    let (colour, capital) = if letter < b'a' {
+        (Colour::White, letter)
     } else {
-        let kind = kind_of_letter(letter - 32)?;
-        Some(Man {
-            colour: Colour::Black,
-            kind,
-        })
-    }
+        (Colour::Black, letter - 32)
+    };
+    let kind = kind_of_letter(capital)?;
+    Some(Man { colour, kind })
 }
 
 /// Whether a byte counts empty squares. A rank has eight, and a run of none is not written.
@@ -52,48 +64,41 @@ fn is_run_digit(byte: u8) -> bool
     b'0' < byte && byte < b'9'
 }
 
-/// Adds so many empty squares.
-fn push_empty(places: &mut ArrayVec<Option<Man>, 8>, count: usize)
-    requires { array_vec_len places.old + count ≤ 8 }
-    ensures { places.new.items ≡ places.old.items ++ replicate count None }
+/// Puts the men that the text of a rank spells on a board whose rank is empty, and tells whether the text spells a rank: it does not
+/// where it has another letter or digit, or two digits side by side, or too few squares or too many. The first rank is number 0.
+fn read_rank(men: &mut Board, rank: u8, text: &[u8]) -> bool
+    requires on_board { rank < 8 }
+    requires empty { IsRankEmpty men.old rank }
+    ensures read { result ≡ true → IsRankRead men.new men.old rank text.now }
+    ensures none { result ≡ false → (places : List (Option Man)) → length places ≡ 8 → rank_text places ≡ text.now → ⊥ }
 {
-    for _ in 0..count {
-        places.push(None);
-    }
-}
-
-/// The eight squares of a rank, from the a-file to the h-file, or `None` where the text spells no rank: it has
-/// another letter or digit, or two digits side by side, or too few squares or too many.
-fn rank_of_text(text: &[u8]) -> Option<ArrayVec<Option<Man>, 8>>
-    ensures read { IfSome result (λ places.
-        (length places.items ≡ 8) × (rank_text places.items ≡ text.now)) }
-    ensures none { IfNone result ((places : List (Option Man))
-        → length places ≡ 8 → rank_text places ≡ text.now → ⊥) }
-{
-    let mut places = ArrayVec::new();
+    let mut file = 0;
     let mut after_digit = false;
     for byte in text {
         let byte = *byte;
         if is_run_digit(byte) {
-            let count = (byte - b'0') as usize;
+            let count = byte - b'0';
             if after_digit {
-                return None;
+                return false;
             }
-            if places.len() + count > 8 {
-                return None;
+            if file + count > 8 {
+                return false;
             }
-            push_empty(&mut places, count);
+            file += count;
             after_digit = true;
         } else {
-            let man = man_of_letter(byte)?;
-            if places.is_full() {
-                return None;
+            let Some(man) = man_of_letter(byte) else {
+                return false;
+            };
+            if file == 8 {
+                return false;
             }
-            places.push(Some(man));
+            men.put(Square::numbered(8 * rank + file), man);
+            file += 1;
             after_digit = false;
         }
     }
-    if places.is_full() { Some(places) } else { None }
+    file == 8
 }
 
 /// A man's letter, a capital for White and a small one for Black.
@@ -139,32 +144,26 @@ fn push_rank(text: &mut ArrayString<96>, places: &[Option<Man>])
     push_run(text, empty);
 }
 
-/// Puts the squares of a rank in their places. The first rank is number 0.
-fn put_rank(men: &mut [Option<Man>; 64], rank: usize, places: &[Option<Man>])
-    requires on_board { rank < 8 }
-    requires whole { length places.now ≡ 8 }
-    ensures { men.new ≡ take (8 * rank) men.old ++ (places.now ++ drop (8 * rank + 8) men.old) }
-{
-    men[8 * rank..8 * rank + 8].copy_from_slice(places);
-}
-
-/// The men that a placement field spells, a1 first and h8 last, or `None` where the text is none: a rank is
-/// misspelt, or there are not eight ranks with a slash between each two.
-pub(crate) fn men_of_text(text: &[u8]) -> Option<[Option<Man>; 64]>
+/// The board that a placement field spells, or `None` where the text is none: a rank is misspelt, or there are not eight ranks with
+/// a slash between each two.
+pub(crate) fn men_of_text(text: &[u8]) -> Option<Board>
     ensures read { IfSome result (λ men. SpellsPlacement text.now men) }
     ensures none { IfNone result ((men : List (Option Man)) → SpellsPlacement text.now men → ⊥) }
 {
-    let mut men = [None; 64];
+    let mut men = Board::empty();
     let mut rest = text;
     for rank in (1..8).rev() {
         let (front, back) = cut_at(rest, b'/')?;
-        let places = rank_of_text(front)?;
-        put_rank(&mut men, rank, &places);
+        if !read_rank(&mut men, rank, front) {
+            return None;
+        }
         rest = back;
     }
-    let places = rank_of_text(rest)?;
-    put_rank(&mut men, 0, &places);
-    Some(men)
+    if read_rank(&mut men, 0, rest) {
+        Some(men)
+    } else {
+        None
+    }
 }
 
 /// Prints the placement field of these men, a1 first and h8 last: at most 71 bytes.

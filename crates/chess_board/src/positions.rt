@@ -186,20 +186,19 @@ pub(crate) fn sound_position(setup: &Setup) -> Result<Position, FenFault>
     ensures sound { OnOk result (IsSound setup.now) }
     ensures refused { IfErr result (λ fault. IsFirst (IsUnsoundBy setup.now) position_faults fault) }
 {
-    let places = setup.board.places();
-    if !has_one_king_each(&places) {
+    if !has_one_king_each(&setup.board) {
         return Err(FenFault::BadKings);
     }
-    if !has_no_end_pawn(&places) {
+    if !has_no_end_pawn(&setup.board) {
         return Err(FenFault::PawnOnEndRank);
     }
-    if !has_at_most_sixteen_each(&places) {
+    if !has_at_most_sixteen_each(&setup.board) {
         return Err(FenFault::TooManyMen);
     }
-    if !has_men_of_rights(&places, setup.rights) {
+    if !has_men_of_rights(&setup.board, setup.rights) {
         return Err(FenFault::RightWithoutMen);
     }
-    if !has_pawn_of_some_target(&places, setup.side, &setup.target) {
+    if !has_pawn_of_some_target(&setup.board, setup.side, &setup.target) {
         return Err(FenFault::TargetWithoutPawn);
     }
     if is_king_in_check(&setup.board, setup.side.other()) {

@@ -1,7 +1,8 @@
-use Rattle.std.proofs.Common.{◌≡◌, false}
-use Rattle.chess_board.specs.Squares.{any_below}
-use Rattle.chess_board.specs.Attacks.{is_king_attacked}
+use Rattle.chess_board.specs.declared.men.Kind.TheVariants.{King}
+use Rattle.chess_board.specs.Men.{is_man, other_side}
+use Rattle.chess_board.specs.Attacks.{is_attacked}
+use Rattle.chess_board.proofs.SetScans.{IsScan}
 use Rattle.chess_board.proofs.attacks.is_king_in_check.Given as goal
 
-abbrev pub invariant-loop-number : goal.invariant-loop-number
-invariant-loop-number l = any_below l.number (λ s. is_king_attacked l.men l.colour s) ≡ false
+abbrev pub invariant-loop-square : goal.invariant-loop-square
+invariant-loop-square l = IsScan l.square-iterator (is_man l.colour King) l.men (λ s. is_attacked l.men s (other_side l.colour))
