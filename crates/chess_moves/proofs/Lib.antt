@@ -45,6 +45,7 @@ pub mod Sifting
 pub mod Members
 pub mod LastRanks
 pub mod Walks
+pub mod SomeMen
 pub mod Tallies
 pub mod KingCounts
 pub mod Unpinned
@@ -60,3 +61,5 @@ pub mod AttackedSets
 pub mod EmptyLines
 pub mod FlightSquares
 pub mod SliderSights
+pub mod KindMates
+pub mod MatingMoves

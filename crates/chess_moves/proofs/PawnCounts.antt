@@ -175,7 +175,7 @@ module _ (info : LegalityInfo) (p : Setup) (pawns once twice left right : ℕ) (
       ways_kept p man o t (plain && has info.check_mask t) stands h.side (λ r suited.
       let own = other_colour (becomes man r).colour p.side (becomes_colour man r ∙ h.side) in
       let safe : has info.check_mask t ≡ not (is_hit (moved p.men o t (becomes man r)) info.king (other_side p.side)) =
-      h.check_mask t on ∙ safe_unpinned p.men (becomes man r) info.king o t (other_side p.side) h.sound.squares on own
+      h.check_mask o t o_on on f.0 ∙ safe_unpinned p.men (becomes man r) info.king o t (other_side p.side) h.sound.squares on own
       (λ a l. h.pin_squares o a o_on l f.0 (own_not_other p man o stands h.side)) in
       let passing = f.1 t on in
       pawn_goes_safely info p man o t r (has info.check_mask t) h stands h.side refl suited safe

@@ -1,8 +1,9 @@
 -- How a position stands: whether it ends the game by mate (FIDE Laws of Chess, article 5.1.1) or by stalemate (article 5.2.1).
-use Rattle.std.specs.Prelude.{Bool, length, ◌&&◌, not, nat_lt, if◌then◌else◌}
+use Rattle.std.specs.Prelude.{Bool, length, ◌&&◌, not, nat_lt, if◌then◌else◌, List, filter}
 use Rattle.chess_board.specs.Positions.{Setup}
 use Rattle.chess_board.specs.Attacks.{is_in_check}
 use Rattle.chess_board.specs.MakeMove.{after_setup}
+use Rattle.chess_board.specs.Moves.{Move}
 use Rattle.chess_moves.specs.declared.verdicts.Verdict.{Verdict}
 use Rattle.chess_moves.specs.declared.verdicts.Verdict.TheVariants.{Play, Mate, Stalemate}
 use Rattle.std.specs.List.{list_any}
@@ -26,3 +27,7 @@ verdict_of p = if is_mate p then Mate else (if is_stalemate p then Stalemate els
 -- Some legal move mates.
 unfoldable pub has_mating_move : Setup → Bool
 has_mating_move p = list_any (λ m. is_mate (after_setup p m)) (legal_moves p)
+
+-- the legal moves that mate
+unfoldable pub mating_moves : Setup → List Move
+mating_moves p = filter (λ m. is_mate (after_setup p m)) (legal_moves p)

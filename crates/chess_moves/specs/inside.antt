@@ -11,3 +11,4 @@ pub mod CheckSquares
 pub mod Flights
 pub mod Shifts
 pub mod SliderLines
+pub mod MateInOne

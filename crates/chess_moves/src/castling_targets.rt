@@ -10,7 +10,7 @@ ghost use Rattle.chess_moves.specs.inside.Directions.{stands_between};
 ghost use Rattle.chess_moves.specs.inside.LegalityInfo.{IsLegalityInfoOf};
 
 use crate::attackers::is_hit_over;
-use crate::legality_info::{LegalityInfo, is_checked};
+use crate::legality_info::LegalityInfo;
 use crate::ray_tables::Rays;
 use chess_board::{Colour, Position, Wing, king_goal, king_home};
 
@@ -34,6 +34,14 @@ fn is_attacked_in(rays: &Rays, info: &LegalityInfo, square: u8) -> bool
     is_hit_over(rays, info.occupied, &info.enemy, info.side.other(), square)
 }
 
+/// Whether the king of the side to move is attacked.
+fn is_checked(rays: &Rays, info: &LegalityInfo) -> bool
+    requires { info.now.king < 64 }
+    ensures { (p : Setup) → IsLegalityInfoOf info.now p → result ≡ is_attacked p.men info.now.king (other_side p.side) }
+{
+    is_attacked_in(rays, info, info.king)
+}
+
 /// Where the king goes when it castles on a wing: one square, or none.
 fn castling_target(rays: &Rays, position: &Position, info: &LegalityInfo, wing: Wing) -> u64
     requires info { IsLegalityInfoOf info.now position.now }
@@ -49,13 +57,26 @@ fn castling_target(rays: &Rays, position: &Position, info: &LegalityInfo, wing: 
     }
     let goal = king_goal(info.side, wing).index() as u8;
     let crossed = (home + goal) / 2;
-    if is_checked(info) || is_attacked_in(rays, info, crossed) || is_attacked_in(rays, info, goal) {
+    if is_checked(rays, info)
+        || is_attacked_in(rays, info, crossed)
+        || is_attacked_in(rays, info, goal)
+    {
         return 0;
     }
     square_sets::single(goal)
 }
 
-/// Where the king goes when it castles: two squares at most.
+/// Where the king goes when it castles on either wing.
+fn targets_of_wings(rays: &Rays, position: &Position, info: &LegalityInfo) -> u64
+    requires info { IsLegalityInfoOf info.now position.now }
+    ensures { (t : ℕ) → t < 64 → has result t ≡ castles position.now position.now.side info.now.king t }
+{
+    castling_target(rays, position, info, Wing::KingSide)
+        | castling_target(rays, position, info, Wing::QueenSide)
+}
+
+/// Where the king goes when it castles: two squares at most. Most kings of a search do not stand at home.
+#[inline(always)]
 pub(crate) fn castling_targets(rays: &Rays, position: &Position, info: &LegalityInfo) -> u64
     requires info { IsLegalityInfoOf info.now position.now }
     ensures { (t : ℕ) → t < 64 → has result t ≡ castles position.now position.now.side info.now.king t }
@@ -63,6 +84,5 @@ pub(crate) fn castling_targets(rays: &Rays, position: &Position, info: &Legality
     if info.king != king_home(info.side).index() as u8 {
         return 0;
     }
-    castling_target(rays, position, info, Wing::KingSide)
-        | castling_target(rays, position, info, Wing::QueenSide)
+    targets_of_wings(rays, position, info)
 }

@@ -87,6 +87,7 @@ pub(crate) fn is_told(position: &Position, check_squares: &CheckSquares, man: Ma
 }
 
 /// The squares to which a man's special moves go.
+#[inline(always)]
 pub(crate) fn special_squares(
     rays: &Rays,
     position: &Position,

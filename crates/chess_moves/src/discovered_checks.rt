@@ -20,6 +20,7 @@ use chess_board::{Man, Position};
 
 /// The squares to which a man's legal move may give check. They are all squares where it opens a line to the king, and those of
 /// its special moves stand among them.
+#[inline(always)]
 pub(crate) fn check_targets(
     rays: &Rays,
     position: &Position,

@@ -36,6 +36,7 @@ pub(crate) struct Mover {
 }
 
 /// The flights of a position, found at the first question about them.
+#[inline(always)]
 pub(crate) fn flights_once(
     rays: &Rays,
     position: &Position,
@@ -74,6 +75,7 @@ fn flights_of(rays: &Rays, position: &Position, info: &LegalityInfo) -> Flights
 }
 
 /// Of these squares those to which a man's legal move may mate: it attacks each flight from there, opens a line, or is special.
+#[inline(always)]
 pub(crate) fn squares_that_cover(
     rays: &Rays,
     position: &Position,

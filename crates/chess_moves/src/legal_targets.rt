@@ -66,7 +66,7 @@ pub(crate) fn targets_at_once(
     }
 }
 
-/// Whether a square is such a target. Of a king no other square is asked about.
+/// Whether a square is such a target. No other square is asked about, and none to which the man does not go.
 pub(crate) fn is_target(
     rays: &Rays,
     position: &Position,
@@ -90,8 +90,59 @@ pub(crate) fn is_target(
                 square_sets::contains(castling_targets(rays, position, info), target)
             }
         }
-        _ => square_sets::contains(targets_from(rays, position, info, man, origin), target),
+        Kind::Pawn => is_target_of_pawn(rays, position, info, man, origin, target),
+        Kind::Knight | Kind::Bishop | Kind::Rook | Kind::Queen => {
+            is_target_of_piece(rays, position, info, man, origin, target)
+        }
     }
+}
+
+/// Whether a square is a target of a knight, a bishop, a rook or a queen.
+fn is_target_of_piece(
+    rays: &Rays,
+    position: &Position,
+    info: &LegalityInfo,
+    man: Man,
+    origin: u8,
+    target: u8,
+) -> bool
+    requires on_board { (origin < 64) × (target < 64) }
+    requires info { IsLegalityInfoOf info.now position.now }
+    requires there { man_at position.now.men origin ≡ Some man }
+    requires own { man.colour ≡ position.now.side }
+    requires no_pawn { is_pawn_kind man.kind ≡ false }
+    requires no_king { is_king_kind man.kind ≡ false }
+    ensures { IsTarget result position.now man origin target }
+{
+    let goes = piece_targets(rays, position, info, man, origin);
+    if !square_sets::contains(goes, target) {
+        return false;
+    }
+    square_sets::contains(legal_mask(rays, info, origin), target)
+}
+
+/// Whether a square is a target of a pawn.
+fn is_target_of_pawn(
+    rays: &Rays,
+    position: &Position,
+    info: &LegalityInfo,
+    man: Man,
+    origin: u8,
+    target: u8,
+) -> bool
+    requires on_board { (origin < 64) × (target < 64) }
+    requires info { IsLegalityInfoOf info.now position.now }
+    requires there { man_at position.now.men origin ≡ Some man }
+    requires own { man.colour ≡ position.now.side }
+    requires pawn { man.kind ≡ kind.Pawn }
+    ensures { IsTarget result position.now man origin target }
+{
+    let goes = pawn_targets(rays, position, info, man, origin);
+    if !square_sets::contains(goes, target) {
+        let passing = safe_en_passant(rays, position, info, man, origin);
+        return square_sets::contains(passing, target);
+    }
+    square_sets::contains(targets_of_pawn(rays, position, info, man, origin), target)
 }
 
 /// The targets of the legal moves of a knight, a bishop, a rook or a queen.

@@ -3,9 +3,7 @@
 
 ghost use Rattle.std.specs.Prelude.{◌≡◌, ◌<◌};
 ghost use Rattle.chess_board.specs.Positions.{Setup};
-ghost use Rattle.chess_board.specs.Men.{other_side};
-ghost use Rattle.chess_board.specs.Attacks.{is_attacked};
-ghost use Rattle.chess_moves.specs.inside.LegalityInfo.{IsLegalityInfoOf};
+ghost use Rattle.chess_moves.specs.inside.LegalityInfo.{IsLegalityInfoOf, with_checks_and_pins};
 
 use crate::checks_and_pins::check_mask;
 use crate::forces::{Force, all_of, force_of};
@@ -28,36 +26,75 @@ pub(crate) struct LegalityInfo {
     pub king: u8,
     /// Where a man stands alone between the king and a slider of the other side: only men on these squares can be pinned.
     pub pin_squares: u64,
-    /// The squares on which a man other than the king answers the checks that there are: all where there is none.
+    /// The squares on which a man other than the king answers the checks that there are: all where there is none. It tells where a man
+    /// may go that stands on none of `pin_squares`.
     pub check_mask: u64,
 }
 
-/// The legality information of a position.
-pub(crate) fn legality_info_of(rays: &Rays, position: &Position) -> LegalityInfo
+/// The legality information of a position with its checks and pins not looked for: each man is taken for one that may be pinned.
+#[inline(always)]
+pub(crate) fn bare_info_of(position: &Position) -> LegalityInfo
     ensures { IsLegalityInfoOf result position.now }
 {
     let side = position.side();
-    let by = side.other();
-    let enemy = force_of(position, by);
-    let occupied = position.occupied();
-    let king = position.king(side).index() as u8;
-    let diagonal = diagonal_lines(rays, occupied, enemy.diagonal, king);
-    let straight = straight_lines(rays, occupied, enemy.straight, king);
     LegalityInfo {
         side,
-        occupied,
+        occupied: position.occupied(),
         own: all_of(&force_of(position, side)),
-        enemy,
-        king,
-        pin_squares: diagonal.held | straight.held,
-        check_mask: check_mask(rays, &enemy, by, king, diagonal.clear, straight.clear),
+        enemy: force_of(position, side.other()),
+        king: position.king(side).index() as u8,
+        pin_squares: u64::MAX,
+        check_mask: 0,
     }
 }
 
-/// Whether the king of the side to move is attacked: only then does its own square answer no check.
-pub(crate) fn is_checked(info: &LegalityInfo) -> bool
+/// The squares of the pins, and the check mask.
+#[derive(Clone, Copy)]
+struct ChecksAndPins {
+    pin_squares: u64,
+    check_mask: u64,
+}
+
+/// The checks and pins of a position, whatever its legality information says of them.
+fn checks_and_pins_of(rays: &Rays, info: &LegalityInfo) -> ChecksAndPins
     requires { info.now.king < 64 }
-    ensures { (p : Setup) → IsLegalityInfoOf info.now p → result ≡ is_attacked p.men info.now.king (other_side p.side) }
+    ensures { (p : Setup) → IsLegalityInfoOf info.now p
+        → IsLegalityInfoOf (with_checks_and_pins info.now result.pin_squares result.check_mask) p }
 {
-    !square_sets::contains(info.check_mask, info.king)
+    let by = info.side.other();
+    let diagonal = diagonal_lines(rays, info.occupied, info.enemy.diagonal, info.king);
+    let straight = straight_lines(rays, info.occupied, info.enemy.straight, info.king);
+    ChecksAndPins {
+        pin_squares: diagonal.held | straight.held,
+        check_mask: check_mask(
+            rays,
+            &info.enemy,
+            by,
+            info.king,
+            diagonal.clear,
+            straight.clear,
+        ),
+    }
+}
+
+/// The same legality information with the checks and pins found. No more than these two words is handed back by a call.
+#[inline(always)]
+pub(crate) fn with_checks_and_pins(rays: &Rays, info: LegalityInfo) -> LegalityInfo
+    requires { info.king < 64 }
+    ensures { (p : Setup) → IsLegalityInfoOf info p → IsLegalityInfoOf result p }
+{
+    let found = checks_and_pins_of(rays, &info);
+    LegalityInfo {
+        pin_squares: found.pin_squares,
+        check_mask: found.check_mask,
+        ..info
+    }
+}
+
+/// The legality information of a position.
+#[inline(always)]
+pub(crate) fn legality_info_of(rays: &Rays, position: &Position) -> LegalityInfo
+    ensures { IsLegalityInfoOf result position.now }
+{
+    with_checks_and_pins(rays, bare_info_of(position))
 }

@@ -9,8 +9,8 @@
 //! `castling_targets`, `en_passant_targets`,
 //! `pseudo_legal_targets` and `checks_and_pins` (where a man goes, and where it leaves its king safe), `legal_targets` and `promotions`;
 //! then `move_generation`, `verdicts` and `verdict_of_position`, and `perft_count`; `check_squares` and `gives_check`;
-//! `discovered_checks`, `attacked_sets`, `flights` and `mate_in_one`. `laws` says what the lists hold in words that do not speak of how
-//! they are made. No call takes memory.
+//! `discovered_checks`, `attacked_sets`, `flights`, `mate_in_one` and `mating_moves`. `laws` says what the lists hold in words that do not
+//! speak of how they are made. No call takes memory.
 #![tactic(auto)]
 
 mod attacked_sets;
@@ -28,6 +28,7 @@ mod laws;
 mod legal_targets;
 mod legality_info;
 mod mate_in_one;
+mod mating_moves;
 mod move_generation;
 mod perft_count;
 mod promotions;
@@ -41,8 +42,9 @@ pub use attackers::attacked;
 pub use gives_check::checks;
 pub use laws::{legal_listed, legal_rise, plays_listed, plays_once};
 pub use mate_in_one::has_mating_move;
-pub use move_generation::{LegalMoves, MoveList, is_legal, legal, legal_moves};
+pub use mating_moves::push_mating_moves;
+pub use move_generation::{LegalMoves, MoveList, is_legal, legal, legal_moves, legal_moves_of};
 pub use perft_count::perft;
 pub use ray_tables::{Rays, rays_in_order};
-pub use verdict_of_position::{is_mated, verdict};
+pub use verdict_of_position::{in_check, is_mated, verdict};
 pub use verdicts::Verdict;

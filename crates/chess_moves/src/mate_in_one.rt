@@ -1,71 +1,137 @@
 //! Mate in one: whether a legal move mates.
 
-ghost use Rattle.std.specs.Prelude.{◌≡◌, ◌<◌, true, IfSome, filter};
-ghost use Rattle.std.specs.List.{list_any};
+ghost use Rattle.std.specs.Prelude.{◌≡◌, ◌<◌, true, false, IfSome, Some};
+ghost use Rattle.square_sets.specs.Members.{has};
 ghost use Rattle.chess_board.specs.MakeMove.{after_setup};
 ghost use Rattle.chess_board.specs.Legality.{is_legal};
-ghost use Rattle.chess_board.specs.Men.{is_of};
+ghost use Rattle.chess_board.specs.Moves.{Move as MoveValue};
 ghost use Rattle.chess_board.specs.Positions.{man_at};
 ghost use Rattle.chess_moves.specs.inside.Flights.{AreFlightsOf};
-ghost use Rattle.chess_moves.specs.inside.Listing.{moves_to};
 ghost use Rattle.chess_moves.specs.inside.LegalityInfo.{IsLegalityInfoOf};
 ghost use Rattle.chess_moves.specs.inside.CheckSquares.{AreCheckSquaresOf};
+ghost use Rattle.chess_moves.specs.inside.MateInOne.{mates_from, kind_mates as some_of_kind_mates};
 ghost use Rattle.chess_moves.specs.Verdicts.{is_mate, has_mating_move as some_move_mates};
 
 use crate::check_squares::{CheckSquares, check_squares_of};
 use crate::discovered_checks::check_targets;
 use crate::flights::{Flights, Mover, flights_once, squares_that_cover};
 use crate::legal_targets::targets_from;
-use crate::legality_info::{LegalityInfo, legality_info_of};
+use crate::legality_info::{LegalityInfo, bare_info_of};
 use crate::move_generation::ManMoves;
-use crate::promotions::own_man;
 use crate::pseudo_legal_targets::pseudo_legal_targets;
 use crate::ray_tables::Rays;
 use crate::verdict_of_position::is_mated;
-use chess_board::{Kind, Position, after};
+use chess_board::{Kind, Man, Position, after};
 
 /// Whether some legal move mates (FIDE Laws of Chess, article 5.1.1): the last move of a search. Of the moves only those that give
-/// check, or may, are made.
+/// check, or may, are made. The men are taken kind by kind, so that none has to be looked up, and those first that mate most.
 pub fn has_mating_move(rays: &Rays, position: &Position) -> bool
     ensures { result ≡ some_move_mates position.now }
 {
-    let info = legality_info_of(rays, position);
-    let check_squares = check_squares_of(rays, position);
+    // Few men are left of whom it is asked whether they may go, and each is asked by itself.
+    let info = bare_info_of(position);
+    let checking = check_squares_of(rays, position);
     let mut flights = None;
-    for origin in square_sets::squares(info.own) {
-        if man_mates(rays, position, &info, &check_squares, &mut flights, origin) {
+    if kind_mates(rays, position, &info, &checking, &mut flights, Kind::Queen) {
+        return true;
+    }
+    if kind_mates(rays, position, &info, &checking, &mut flights, Kind::Rook) {
+        return true;
+    }
+    if kind_mates(rays, position, &info, &checking, &mut flights, Kind::Bishop) {
+        return true;
+    }
+    if kind_mates(rays, position, &info, &checking, &mut flights, Kind::Knight) {
+        return true;
+    }
+    if kind_mates(rays, position, &info, &checking, &mut flights, Kind::Pawn) {
+        return true;
+    }
+    kind_mates(rays, position, &info, &checking, &mut flights, Kind::King)
+}
+
+/// Whether a legal move of a man of this kind mates.
+#[inline(always)]
+fn kind_mates(
+    rays: &Rays,
+    position: &Position,
+    info: &LegalityInfo,
+    check_squares: &CheckSquares,
+    flights: &mut Option<Flights>,
+    kind: Kind,
+) -> bool
+    requires info { IsLegalityInfoOf info.now position.now }
+    requires check_squares { AreCheckSquaresOf check_squares.now position.now }
+    requires flights { IfSome flights.old (λ f. AreFlightsOf f position.now) }
+    ensures mates { result ≡ some_of_kind_mates position.now kind }
+    ensures flights { IfSome flights.new (λ f. AreFlightsOf f position.now) }
+{
+    let man = Man {
+        colour: info.side,
+        kind,
+    };
+    let men = position.men(info.side, kind);
+    for origin in square_sets::squares(men) {
+        let mover = Mover { man, origin };
+        if man_mates(rays, position, info, check_squares, flights, mover) {
             return true;
         }
     }
     false
 }
 
-/// Whether a legal move of the man of the side to move on a square mates. Where it goes to no square from which it may give
-/// check, the flights of the other king are not asked about; where it goes to none that may cover them, its king's safety is not.
+/// Whether a legal move of a man of the side to move mates. Where it goes to no square from which it may give check, nothing else is
+/// asked.
+#[inline(always)]
 fn man_mates(
     rays: &Rays,
     position: &Position,
     info: &LegalityInfo,
     check_squares: &CheckSquares,
     flights: &mut Option<Flights>,
-    origin: u8,
+    mover: Mover,
 ) -> bool
-    requires on_board { origin < 64 }
+    requires on_board { mover.origin < 64 }
     requires info { IsLegalityInfoOf info.now position.now }
     requires check_squares { AreCheckSquaresOf check_squares.now position.now }
     requires flights { IfSome flights.old (λ f. AreFlightsOf f position.now) }
-    requires own { is_of position.now.side (man_at position.now.men origin) ≡ true }
-    ensures mates { result ≡ list_any (λ m. is_mate (after_setup position.now m)) (filter (is_legal position.now) (moves_to origin 64)) }
+    requires there { man_at position.now.men mover.origin ≡ Some mover.man }
+    requires own { mover.man.colour ≡ position.now.side }
+    ensures mates { result ≡ mates_from position.now mover.origin }
     ensures flights { IfSome flights.new (λ f. AreFlightsOf f position.now) }
 {
-    let man = own_man(position, origin);
+    let Mover { man, origin } = mover;
     let hopes = check_targets(rays, position, info, check_squares, man, origin)
         & pseudo_legal_targets(rays, position, info, man, origin);
     if hopes == 0 {
         return false;
     }
+    mates_on(rays, position, info, flights, mover, hopes)
+}
+
+/// Whether a legal move of a man to one of these squares mates, where none to another does. Where it goes to none from which it may
+/// cover the flights of the other king, its king's safety is not asked about.
+fn mates_on(
+    rays: &Rays,
+    position: &Position,
+    info: &LegalityInfo,
+    flights: &mut Option<Flights>,
+    mover: Mover,
+    hopes: u64,
+) -> bool
+    requires on_board { mover.origin < 64 }
+    requires info { IsLegalityInfoOf info.now position.now }
+    requires flights { IfSome flights.old (λ f. AreFlightsOf f position.now) }
+    requires there { man_at position.now.men mover.origin ≡ Some mover.man }
+    requires own { mover.man.colour ≡ position.now.side }
+    requires hopes { (m : MoveValue) → is_legal position.now m ≡ true → m.origin ≡ mover.origin → m.target < 64
+        → has hopes m.target ≡ false → is_mate (after_setup position.now m) ≡ false }
+    ensures mates { result ≡ mates_from position.now mover.origin }
+    ensures flights { IfSome flights.new (λ f. AreFlightsOf f position.now) }
+{
+    let Mover { man, origin } = mover;
     let known = flights_once(rays, position, info, flights);
-    let squares = squares_that_cover(rays, position, info, known, Mover { man, origin }, hopes);
+    let squares = squares_that_cover(rays, position, info, known, mover, hopes);
     if squares == 0 {
         return false;
     }

@@ -7,13 +7,14 @@ ghost use Rattle.chess_board.specs.PseudoLegal.{suits};
 ghost use Rattle.chess_board.specs.Legality.{is_legal as is_legal_in};
 ghost use Rattle.chess_board.specs.Men.{is_of};
 ghost use Rattle.chess_board.specs.Positions.{man_at};
+ghost use Rattle.square_sets.specs.Members.{has};
 ghost use Rattle.chess_moves.specs.inside.LegalityInfo.{IsLegalityInfoOf};
 ghost use Rattle.chess_moves.specs.inside.Listing.{moves_to, legal_moves};
 ghost use Rattle.chess_moves.specs.inside.MoveGeneration.{next_promotion, man_moves};
 
 use crate::forces::{all_of, force_of};
 use crate::legal_targets::{is_target, targets_from};
-use crate::legality_info::{LegalityInfo, legality_info_of};
+use crate::legality_info::{LegalityInfo, bare_info_of, legality_info_of};
 use crate::promotions::{own_man, promotion_squares};
 use crate::ray_tables::Rays;
 use arrayvec::ArrayVec;
@@ -69,6 +70,28 @@ pub fn legal_moves<'a>(rays: &'a Rays, position: &'a Position) -> LegalMoves<'a>
     }
 }
 
+/// Of the legal moves those of the men on these squares, in the same order. The other men are not asked where they go.
+pub fn legal_moves_of<'a>(rays: &'a Rays, position: &'a Position, men: u64) -> LegalMoves<'a>
+    ensures { result ≡ filter (λ m. has men m.origin) (legal_moves position.now) }
+{
+    let info = legality_info_of(rays, position);
+    LegalMoves {
+        rays,
+        position,
+        info,
+        origins: square_sets::squares(info.own & men),
+        turn: ManMoves {
+            man: Man {
+                colour: info.side,
+                kind: Kind::King,
+            },
+            origin: 0,
+            targets: 0,
+            promotion: Kind::Knight,
+        },
+    }
+}
+
 impl<'a> Iterator for LegalMoves<'a> {
     type Item = Move;
 
@@ -76,6 +99,7 @@ impl<'a> Iterator for LegalMoves<'a> {
 
     ghost remaining = { item_count (λ left. left) };
 
+    #[inline(always)]
     fn next(&mut self) -> Option<Move> {
         while self.turn.targets == 0 {
             let origin = self.origins.next()?;
@@ -116,6 +140,7 @@ fn moves_of_man(rays: &Rays, position: &Position, info: &LegalityInfo, origin: u
 
 impl ManMoves {
     /// Takes the first of the moves.
+    #[inline(always)]
     pub(crate) fn take(&mut self) -> Move
         requires on_board { self.old.origin < 64 }
         requires some { 0 < self.old.targets }
@@ -173,7 +198,7 @@ pub fn is_legal(rays: &Rays, position: &Position, m: Move) -> bool
     if !is_suited(man, m) {
         return false;
     }
-    let info = legality_info_of(rays, position);
+    let info = bare_info_of(position);
     let target = m.target.index() as u8;
     is_target(rays, position, &info, man, origin, target)
 }

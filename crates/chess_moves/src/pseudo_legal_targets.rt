@@ -16,6 +16,7 @@ use crate::ray_tables::Rays;
 use chess_board::{Kind, Man, Position};
 
 /// What a man attacks, among the squares that are taken.
+#[inline(always)]
 pub(crate) fn attacks_of(rays: &Rays, occupied: u64, man: Man, origin: u8) -> u64
     requires { origin < 64 }
     ensures { (t : ℕ) → t < 64 → has result t ≡ hits_as (has occupied) man.colour man.kind origin t }
@@ -31,6 +32,7 @@ pub(crate) fn attacks_of(rays: &Rays, occupied: u64, man: Man, origin: u8) -> u6
 }
 
 /// Where a man goes that is no pawn, castling aside: what it attacks, but not to a man of its own.
+#[inline(always)]
 pub(crate) fn piece_targets(
     rays: &Rays,
     position: &Position,
@@ -47,6 +49,7 @@ pub(crate) fn piece_targets(
 }
 
 /// Where a pawn goes, a capture en passant aside: one step, two steps, and the enemies that it attacks.
+#[inline(always)]
 pub(crate) fn pawn_targets(
     rays: &Rays,
     position: &Position,
@@ -72,6 +75,7 @@ pub(crate) fn pawn_targets(
 }
 
 /// The targets of a man's pseudo-legal moves: where the rules let it go, whatever becomes of its king.
+#[inline(always)]
 pub(crate) fn pseudo_legal_targets(
     rays: &Rays,
     position: &Position,

@@ -9,7 +9,7 @@ ghost use Rattle.chess_moves.specs.inside.MoveGeneration.{moves_of_men, HaveOwnM
 
 use crate::attackers::attacked;
 use crate::legal_targets::{king_can_move, targets_from};
-use crate::legality_info::{LegalityInfo, legality_info_of};
+use crate::legality_info::{LegalityInfo, bare_info_of, with_checks_and_pins};
 use crate::move_generation::legal_moves;
 use crate::promotions::{count_ways, own_man};
 use crate::ray_tables::Rays;
@@ -30,9 +30,9 @@ pub fn verdict(rays: &Rays, position: &Position) -> Verdict
     }
 }
 
-/// Whether the king of the side to move is attacked.
+/// Whether the side to move is in check: its king is attacked (FIDE Laws of Chess, article 3.9.1).
 #[tactic(auto, using(crate::proofs::OneKing::in_check_is))]
-pub(crate) fn in_check(rays: &Rays, position: &Position) -> bool
+pub fn in_check(rays: &Rays, position: &Position) -> bool
     ensures { result ≡ is_in_check position.now.men position.now.side }
 {
     let side = position.side();
@@ -40,19 +40,20 @@ pub(crate) fn in_check(rays: &Rays, position: &Position) -> bool
 }
 
 /// Whether the side to move is mated (FIDE Laws of Chess, article 5.1.1), told in the order that refutes soonest: no check, a move of
-/// the king, a move of another man.
+/// the king, a move of another man. Only the last asks about checks and pins.
 pub fn is_mated(rays: &Rays, position: &Position) -> bool
     ensures { result ≡ is_mate position.now }
 {
     if !in_check(rays, position) {
         return false;
     }
-    let info = legality_info_of(rays, position);
-    if king_can_move(rays, position, &info) {
+    let bare = bare_info_of(position);
+    if king_can_move(rays, position, &bare) {
         return false;
     }
-    let king = square_sets::single(info.king);
-    !can_move(rays, position, &info, info.own & !king)
+    let info = with_checks_and_pins(rays, bare);
+    let king = square_sets::single(bare.king);
+    !can_move(rays, position, &info, bare.own & !king)
 }
 
 /// Whether one of these men of the side to move has a legal move.

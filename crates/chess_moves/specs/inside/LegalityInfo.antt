@@ -30,5 +30,11 @@ pub record IsLegalityInfoOf (info : LegalityInfo) (p : Setup) : Type 0 where
   -- a man that goes from a square outside of these opens no attack on the king
   pub pin_squares : (o a : ℕ) → o < 64 → a < 64 → has info.pin_squares o ≡ false → is_of (other_side p.side) (man_at p.men o) ≡ false
       → hits_from (slice_set p.men o None) (other_side p.side) a info.king ≡ hits_from p.men (other_side p.side) a info.king
-  pub check_mask : (t : ℕ) → t < 64 → has info.check_mask t ≡ is_in_check_mask p info.king t
+  -- and the check mask tells where it may go
+  pub check_mask : (o t : ℕ) → o < 64 → t < 64 → has info.pin_squares o ≡ false → has info.check_mask t ≡ is_in_check_mask p info.king t
   pub sound : IsSound p
+
+-- the same with other squares of pins and another check mask
+abbrev pub with_checks_and_pins : LegalityInfo → ℕ → ℕ → LegalityInfo
+with_checks_and_pins info pins mask =
+    record { side = info.side; occupied = info.occupied; own = info.own; enemy = info.enemy; king = info.king; pin_squares = pins; check_mask = mask }

@@ -5,7 +5,6 @@ use Rattle.chess_board.specs.declared.men.Wing.TheVariants.{KingSide, QueenSide}
 use Rattle.chess_board.specs.Castling.{castles_to, king_home}
 use Rattle.chess_moves.proofs.CastlingWays.{castles_says}
 use Rattle.chess_moves.proofs.SetBits.{has_none}
-use Rattle.chess_moves.proofs.SetParts.{joined}
 use Rattle.chess_moves.proofs.castling_targets.castling_targets.Goals as goal
 
 pub returns-then-info-index : goal.returns-then-info-index
@@ -16,6 +15,3 @@ returns-then-info-index c = λ t l.
     c.if-info-index.true ((castles_says p p.side wing king t h).home ∙ ap king_home (sym c.requires.info.side)
     ∙ sym (c.index.ensures.number ∙ c.king_home.ensures))) in
     has_none 0 t refl ∙ rw (none KingSide, none QueenSide) refl
-
-pub returns : goal.returns
-returns c = λ t l. joined c.castling_target.result c.castling_target-2.result t _ _ (c.castling_target.ensures t l) (c.castling_target-2.ensures t l)

@@ -23,7 +23,7 @@ returns-else-contains c =
     let unheld = sym c.contains.ensures ∙ c.if-contains.false in
     targets_where_safe p man o _ r.there r.own (λ t x on suited.
     let own = other_colour (becomes man x).colour p.side (becomes_colour man x ∙ r.own) in
-    let safe = h.check_mask t on
+    let safe = h.check_mask o t r.on_board on unheld
     ∙ safe_unpinned p.men (becomes man x) s.king o t (other_side p.side) h.sound.squares on own
     (λ a l. h.pin_squares o a r.on_board l unheld (own_not_other p man o r.there r.own)) in
     rw (has_and c.piece_targets.result s.check_mask t, c.piece_targets.ensures t on)

@@ -14,20 +14,23 @@ returns-then-not-in_check c =
 pub returns-then-king_can_move : goal.returns-then-king_can_move
 returns-then-king_can_move c =
     let p = c.args.position.now in
-    sym (mate_by p (is_in_check p.men p.side) true refl (king_moves c.legality_info_of-info.result p
-    c.legality_info_of-info.ensures (sym c.king_can_move.ensures ∙ c.if-king_can_move.true))
+    sym (mate_by p (is_in_check p.men p.side) true refl (king_moves c.bare_info_of-bare.result p
+    c.bare_info_of-bare.ensures (sym c.king_can_move.ensures ∙ c.if-king_can_move.true))
     ∙ and-false (is_in_check p.men p.side))
 
+pub can_move-requires-clause-info : goal.can_move-requires-clause-info
+can_move-requires-clause-info c = c.with_checks_and_pins-info.ensures c.args.position.now c.bare_info_of-bare.ensures
+
 pub can_move-requires-clause-men : goal.can_move-requires-clause-men
-can_move-requires-clause-men c = others_are_own c.args.position.now c.legality_info_of-info.result.own c.single-king.result
-    (omega arith) c.legality_info_of-info.ensures.own
+can_move-requires-clause-men c = others_are_own c.args.position.now c.bare_info_of-bare.result.own c.single-king.result
+    (omega arith) c.bare_info_of-bare.ensures.own
 
 pub returns : goal.returns
 returns c =
     let p = c.args.position.now in
-    let h = c.legality_info_of-info.ensures in
+    let h = c.bare_info_of-bare.ensures in
     let check : is_in_check p.men p.side ≡ true = sym c.in_check.ensures ∙ c.if-not-in_check.false in
-    let apart = moves_apart c.legality_info_of-info.result p c.single-king.result h (omega arith) c.single-king.ensures in
+    let apart = moves_apart c.bare_info_of-bare.result p c.single-king.result h (omega arith) c.single-king.ensures in
     let others : has_legal_move p ≡ c.can_move.result =
     (rw (sym c.king_can_move.ensures ∙ c.if-king_can_move.false) at apart) ∙ sym c.can_move.ensures in
     sym (mate_by p true c.can_move.result check others)

@@ -5,7 +5,7 @@ use Rattle.chess_board.specs.Legality.{is_legal}
 use Rattle.chess_moves.specs.inside.Listing.{moves_to}
 use Rattle.chess_moves.specs.Verdicts.{is_mate}
 use Rattle.chess_moves.specs.inside.MoveGeneration.{man_moves}
-use Rattle.chess_moves.proofs.mate_in_one.man_mates.Given as goal
+use Rattle.chess_moves.proofs.mate_in_one.mates_on.Given as goal
 
 -- no move so far mates
 abbrev pub invariant-loop-left : goal.invariant-loop-left
