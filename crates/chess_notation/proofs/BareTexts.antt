@@ -108,7 +108,7 @@ castling_king man m h = king man.kind ((and_parts (is_king_kind man.kind) (eqb (
   king Queen h = cc
   king King h = refl
 
-kind_same : (a b : Kind) → kind_letter a ≡ kind_letter b → a ≡ b
+pub kind_same : (a b : Kind) → kind_letter a ≡ kind_letter b → a ≡ b
 kind_same a b letters =
     let said : Some a ≡ Some b = sym (kind_said-letter a) ∙ ap kind_said letters ∙ kind_said-letter b in cc
 

@@ -40,6 +40,7 @@ pub mod PieceTexts
 pub mod PlainBytes
 pub mod RecordMade
 pub mod Rivals
+pub mod SuchMen
 pub mod SameMoves
 pub mod SanBytes
 pub mod ShownBounds

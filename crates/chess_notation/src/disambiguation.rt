@@ -7,7 +7,7 @@ ghost use Rattle.chess_notation.specs.Disambiguation.{is_such as is_such_in, is_
 
 use arrayvec::ArrayString;
 use chess_board::{Man, Move, Position, Square, push_square};
-use chess_moves::{Rays, legal_moves};
+use chess_moves::{Rays, legal_listed, legal_moves_of};
 
 /// Where the rivals of a man stand.
 #[derive(Clone, Copy)]
@@ -37,19 +37,26 @@ fn is_rival(position: &Position, man: Man, m: Move, n: Move) -> bool
     n.target == m.target && n.origin != m.origin && is_such(man, position.man(n.origin))
 }
 
-/// The rivals of the man that moves. No list of the legal moves is made.
+/// The rivals of the man that moves, among the other men of its kind: where there are none, no move is looked for.
 #[tactic(auto, unfolding(crate::specs::Disambiguation::some_rival))]
 pub(crate) fn rivals_of(rays: &Rays, position: &Position, man: Man, m: Move) -> Rivals
     ensures some { result.some ≡ some_rival position.now man m (λ n. true) }
     ensures on_file { result.on_file ≡ some_rival position.now man m (λ n. file_of n.origin == file_of m.origin) }
     ensures on_rank { result.on_rank ≡ some_rival position.now man m (λ n. rank_of n.origin == rank_of m.origin) }
 {
+    // That the squares of a legal move are on the board is this law.
+    legal_listed();
     let mut rivals = Rivals {
         some: false,
         on_file: false,
         on_rank: false,
     };
-    for n in legal_moves(rays, position) {
+    let origin = m.origin.index() as u8;
+    let others = square_sets::without(position.men(man.colour, man.kind), origin);
+    if others == 0 {
+        return rivals;
+    }
+    for n in legal_moves_of(rays, position, others) {
         if is_rival(position, man, m, n) {
             rivals.some = true;
             rivals.on_file |= n.origin.file() == m.origin.file();

@@ -11,7 +11,7 @@ use arrayvec::ArrayString;
 use chess_board::{
     Kind, Man, Move, Position, Wing, after, is_castling, is_en_passant, push_square, wing_of,
 };
-use chess_moves::{Rays, Verdict, verdict};
+use chess_moves::{Rays, in_check, is_mated};
 
 /// Whether the move captures: a man on its target, or a pawn en passant.
 fn is_capture(position: &Position, man: Man, m: Move) -> bool
@@ -91,15 +91,18 @@ fn push_bare(text: &mut ArrayString<8>, rays: &Rays, position: &Position, m: Mov
     }
 }
 
-/// Writes the suffix of mate or of check, or nothing, for the position after a move.
+/// Writes the suffix of mate or of check, or nothing, for the position after a move. Mate is asked about in check alone.
 #[tactic(auto, unfolding(crate::specs::SanText::suffix_text))]
 fn push_suffix(text: &mut ArrayString<8>, rays: &Rays, position: &Position)
     requires { array_string_len text.old < 8 }
     ensures { text.new.bytes ≡ text.old.bytes ++ suffix_text position.now }
 {
-    if verdict(rays, position) == Verdict::Mate {
+    if !in_check(rays, position) {
+        return;
+    }
+    if is_mated(rays, position) {
         text.push('#');
-    } else if position.in_check() {
+    } else {
         text.push('+');
     }
 }
