@@ -11,3 +11,4 @@ pub mod Known
 pub mod PrincipalVariations
 pub mod FirstMoves
 pub mod Told
+pub mod AtOnce

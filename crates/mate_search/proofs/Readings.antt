@@ -1,6 +1,6 @@
 -- The definitions read with their moves named.
 use Rattle.std.proofs.Common.{◌≡◌, ℕ, zero, suc, ◌+◌, ◌-◌, ◌<◌, ◌≤◌, Bool, true, false, ◌&&◌, ◌||◌, List}
-use Rattle.std.proofs.Common.{[], ◌∷◌, length, Some, None, refl, sym, ◌∙◌, arith, add-one, inl, inr}
+use Rattle.std.proofs.Common.{[], ◌∷◌, length, Some, None, Option, refl, sym, ◌∙◌, arith, add-one, inl, inr}
 use Rattle.std.specs.Prelude.{nat_lt, ◌⊎◌}
 use Rattle.std.specs.List.{Contains, list_any, list_all}
 use Rattle.std.proofs.lemmas.Bool.Decides.{nat_tests}
@@ -11,9 +11,7 @@ use Rattle.chess_board.specs.MakeMove.{after_setup}
 use Rattle.chess_moves.specs.inside.Listing.{legal_moves}
 use Rattle.chess_moves.specs.Verdicts.{has_legal_move, is_mate}
 use Rattle.mate_search.specs.Wins.{win, leaves_lost}
-use Rattle.chess_problems.specs.declared.outcomes.Outcome.{Outcome}
-use Rattle.chess_problems.specs.declared.outcomes.Outcome.TheVariants.{Mate, NoMate}
-use Rattle.mate_search.specs.inside.Truth.{dist, truth_among}
+use Rattle.mate_search.specs.inside.Truth.{dist}
 use Rattle.mate_search.specs.Laws.{WinReads, LostReads}
 use Rattle.mate_search.specs.inside.PartLaws.{KeysRead, DistReads, NoDistReads}
 use Rattle.mate_search.proofs.Searches.{any_contains, contains_any, all_contains, contains_all, filter_keeps}
@@ -88,13 +86,12 @@ pub no_dist_reads : NoDistReads
 no_dist_reads first p b = (dist_none first p b, none_dist first p b)
 
 -- The least number of moves in what is told, whatever is told besides.
-abbrev pub IsTimeTold : Setup → ℕ → Outcome → Type 0
-IsTimeTold p b (Mate n found pv) = (1 ≤ n) × (n ≤ b) × (win n p ≡ true) × ((k : ℕ) → k < n → win k p ≡ false)
-IsTimeTold p b NoMate = (n : ℕ) → n ≤ b → win n p ≡ false
+abbrev pub IsTimeTold : Setup → ℕ → Option ℕ → Type 0
+IsTimeTold p b (Some n) = (1 ≤ n) × (n ≤ b) × (win n p ≡ true) × ((k : ℕ) → k < n → win k p ≡ false)
+IsTimeTold p b None = (n : ℕ) → n ≤ b → win n p ≡ false
 
-pub time_told : (p : Setup) (b : ℕ) → IsTimeTold p b (truth_among (legal_moves p) p b)
-unfolding truth_among
-time_told p b = (elim (dist (legal_moves p) p b) as (λ o. dist (legal_moves p) p b ≡ o → IsTimeTold p b (truth_among (legal_moves p) p b)) [
+pub time_told : (p : Setup) (b : ℕ) → IsTimeTold p b (dist (legal_moves p) p b)
+time_told p b = (elim (dist (legal_moves p) p b) as (λ o. dist (legal_moves p) p b ≡ o → IsTimeTold p b (dist (legal_moves p) p b)) [
   | None ↦ λ is. rw is (λ n within. sym (all_among n p) ∙ dist_none (legal_moves p) p b is n within)
   | Some n ↦ λ is.
       let least = dist_least (legal_moves p) p b n is in

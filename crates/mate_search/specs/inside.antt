@@ -2,3 +2,5 @@ pub mod Variation
 pub mod Truth
 pub mod PartLaws
 pub mod MemoEntries
+pub mod Findings
+pub mod Transpositions

@@ -4,20 +4,23 @@
 //! `specs/Wins.antt`, keys and the principal variation in `specs/PrincipalVariation.antt`, and what there is to say of a problem in
 //! `specs/Laws.antt`; an outcome is exactly that.
 //!
-//! To read: `memo_entries`, `killers`, `memo`, `halting`, `searching`, `verdicts`, `principal_variation`, `solving`, `solvers`; `laws`
-//! says of the definitions what they are meant to say. `solve` takes memory for its memo alone, and never fails for want of it;
-//! `solve_until` can be stopped.
+//! To read: `memo_entries`, `killers`, `recent_positions`, `transpositions`, `memo`, `halting`, `searching`, `verdicts`,
+//! `principal_variation`, `findings`, `solving`, `solvers`; `laws` says of the definitions what they are meant to say. `solve` takes memory
+//! for its memo alone, and never fails for want of it; `solve_until` can be stopped.
 #![tactic(auto)]
 
+mod findings;
 mod halting;
 mod killers;
 mod laws;
 mod memo;
 mod memo_entries;
 mod principal_variation;
+mod recent_positions;
 mod searching;
 mod solvers;
 mod solving;
+mod transpositions;
 mod verdicts;
 
 pub use halting::{Guide, Halt, Never, Stopped};

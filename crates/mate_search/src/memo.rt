@@ -1,12 +1,15 @@
 //! What a search may keep of what it found.
 
-ghost use Rattle.std.specs.Prelude.{◌≡◌, ◌↔◌, ◌⊎◌, ◌<◌, ◌≤◌, Err, IfOk, codes};
+ghost use Rattle.std.specs.Prelude.{◌≡◌, ◌↔◌, ◌⊎◌, ◌<◌, ◌≤◌, Err, IfOk, IfSome, codes};
 ghost use Rattle.mate_search.specs.declared.memo.MemoFault.TheVariants.{BadSize, NoMemory};
 ghost use Rattle.mate_search.specs.inside.MemoEntries.{IsTrueOf};
 ghost use Rattle.mate_search.specs.Memos.{memo_fault_name};
+ghost use Rattle.mate_search.specs.Wins.{lost};
 
 use crate::killers::Killers;
 use crate::memo_entries::Entry;
+use crate::recent_positions::{Camps, RecentPositions};
+use crate::transpositions::{Place, Transpositions};
 use chess_board::{Move, Position, equal_reads};
 use lru::LruCache;
 use std::alloc::Global;
@@ -20,6 +23,10 @@ use thiserror::Error;
 #[derive(Drop)]
 pub struct Memo {
     cache: LruCache<Position, Entry>,
+    /// Which positions the cache may hold: to look for one that it does not costs more than to ask this.
+    recent: RecentPositions,
+    /// What was found of positions with the defender to move and one move left.
+    transpositions: Transpositions,
     killers: Killers,
 }
 
@@ -76,6 +83,8 @@ impl Memo {
         match LruCache::new(alloc, size) {
             Ok(cache) => Ok(Memo {
                 cache,
+                recent: RecentPositions::new(alloc, entries),
+                transpositions: Transpositions::none(alloc),
                 killers: Killers::none(),
             }),
             Err(_) => Err(MemoFault::NoMemory),
@@ -102,12 +111,36 @@ impl Memo {
         ensures known { IsTrueOf position.now result }
         ensures room { self.new.room ≡ self.old.room }
     {
+        // That this position is sound is a clause of this call.
+        position.side();
+        let camps = Camps::of(position);
+        if !self.may_have(camps) {
+            return Entry::nothing();
+        }
+        self.find(position, camps)
+    }
+
+    /// Whether something may be kept of a position whose men stand so.
+    #[inline(always)]
+    pub(crate) fn may_have(&self, camps: Camps) -> bool {
+        self.recent.may_have(camps)
+    }
+
+    /// What is known of a position whose men stand so, which becomes the one that was met last.
+    pub(crate) fn find(&mut self, position: &Position, camps: Camps) -> Entry
+        ensures known { IsTrueOf position.now result }
+        ensures room { self.new.room ≡ self.old.room }
+    {
         // That two positions which `==` calls equal are one is a law of sound positions.
         equal_reads();
         // That this position is sound is a clause of this call.
         position.side();
         match self.cache.get(position) {
-            Some(entry) => *entry,
+            Some(entry) => {
+                let known = *entry;
+                self.recent.meet(camps);
+                known
+            }
             None => Entry::nothing(),
         }
     }
@@ -121,7 +154,25 @@ impl Memo {
         // That two positions which `==` calls equal are one is a law of sound positions.
         equal_reads();
         // A put that is refused loses this entry and nothing else, and no outcome depends on it.
-        let _ = self.cache.put(*position, entry);
+        if self.cache.put(*position, entry).is_ok() {
+            self.recent.meet(Camps::of(position));
+        }
+    }
+
+    /// Whether the defender is lost in a position with one move left to the attacker, where that is kept in this place.
+    #[inline(always)]
+    pub(crate) fn judged(&self, place: Place, position: &Position) -> Option<bool>
+        ensures { IfSome result (λ is_lost. is_lost ≡ lost 1 position.now) }
+    {
+        self.transpositions.judged(place, position)
+    }
+
+    /// Keeps in this place whether it is. Where memory is refused, it is not kept.
+    pub(crate) fn keep_judged(&mut self, place: Place, position: &Position, is_lost: bool)
+        requires { is_lost ≡ lost 1 position.now }
+        ensures { self.new ≡ self.old }
+    {
+        self.transpositions.keep(place, position, is_lost);
     }
 
     /// The two replies that refuted last with one move left to the attacker.

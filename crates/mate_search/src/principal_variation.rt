@@ -1,6 +1,7 @@
 //! The keys of a mate and its principal variation, the line of play.
 
-ghost use Rattle.std.specs.Prelude.{◌≡◌, ◌+◌, ◌*◌, ◌<◌, ◌≤◌, ◌++◌, true, All, IfErr, IfOk, IfSome, Contains, length};
+ghost use Rattle.std.specs.Prelude.{◌≡◌, ◌+◌, ◌*◌, ◌<◌, ◌≤◌, ◌++◌, [], true, All, IfErr, IfOk, IfSome, Contains, List, Some, length};
+ghost use Rattle.chess_board.specs.Moves.{Move};
 ghost use Rattle.arrayvec.specs.ArrayVec.{array_vec_len};
 ghost use Rattle.chess_board.specs.Legality.{is_legal};
 ghost use Rattle.chess_moves.specs.inside.Listing.{legal_moves};
@@ -12,32 +13,33 @@ use crate::memo::Memo;
 use crate::searching::{loses, wins};
 use crate::verdicts::{Root, judge};
 use chess_board::{Move, Position, after};
-use chess_moves::{MoveList, legal};
+use chess_moves::{MoveList, legal_moves as all_legal};
 use chess_problems::Variation;
 
-/// Of the first moves the keys of a mate within `n` moves, in their order.
+/// Appends to a list, of the first moves, the keys of a mate within `n` moves, in their order.
 #[tactic(auto, using(crate::proofs::Searches::kept_more, crate::proofs::Searches::left_out))]
-pub(crate) fn keys_among<H: Halt>(
+pub(crate) fn push_keys<H: Halt>(
     guide: &Guide<H>,
     root: &Root,
     n: u8,
     memo: &mut Memo,
-) -> Result<MoveList, Stopped>
+    out: &mut MoveList,
+) -> Result<(), Stopped>
     requires some { 0 < n }
+    requires empty { out.old.items ≡ [] }
     requires few { length root.now.first.now ≤ 1024 }
     requires legal { All (λ m. is_legal root.now.position.now m ≡ true) root.now.first.now }
     requires told { AreTrueIn root.now.position.now root.now.told.now }
-    ensures keys { IfOk result (λ found. found.items ≡ keys root.now.first.now root.now.position.now n) }
+    ensures keys { IfOk result (λ _. out.new.items ≡ keys root.now.first.now root.now.position.now n) }
     ensures stopped { IfErr result (λ _. H.may_stop guide.now.halt.now) }
     ensures room { memo.new.room ≡ memo.old.room }
 {
-    let mut keys = MoveList::new();
     for m in root.first {
         if judge(guide, root, *m, n - 1, memo)? {
-            keys.push(*m);
+            out.push(*m);
         }
     }
-    Ok(keys)
+    Ok(())
 }
 
 /// The first of these keys.
@@ -64,8 +66,28 @@ fn least_key<H: Halt>(
     Ok(None)
 }
 
+/// The same, of all legal moves.
+fn least_of_all<H: Halt>(
+    guide: &Guide<H>,
+    position: &Position,
+    n: u8,
+    memo: &mut Memo,
+) -> Result<Option<Move>, Stopped>
+    requires some { 0 < n }
+    ensures key { IfOk result (λ found. found ≡ least_key (legal_moves position.now) position.now n) }
+    ensures legal { IfOk result (λ found. IfSome found (λ m. is_legal position.now m ≡ true)) }
+    ensures stopped { IfErr result (λ _. H.may_stop guide.now.halt.now) }
+    ensures room { memo.new.room ≡ memo.old.room }
+{
+    for m in all_legal(guide.rays, position) {
+        if loses(guide, &after(position, m), n - 1, memo)? {
+            return Ok(Some(m));
+        }
+    }
+    Ok(None)
+}
+
 /// The longest defence: the first reply after which the attacker does not mate within `j` moves.
-#[tactic(auto, using(crate::proofs::Searches::find_here, crate::proofs::Searches::find_none_more, crate::proofs::Wins::legal_each))]
 fn longest_defence<H: Halt>(
     guide: &Guide<H>,
     position: &Position,
@@ -77,17 +99,15 @@ fn longest_defence<H: Halt>(
     ensures stopped { IfErr result (λ _. H.may_stop guide.now.halt.now) }
     ensures room { memo.new.room ≡ memo.old.room }
 {
-    let replies = legal(guide.rays, position);
-    for r in replies.as_slice() {
-        if !wins(guide, &after(position, *r), j, memo)? {
-            return Ok(Some(*r));
+    for r in all_legal(guide.rays, position) {
+        if !wins(guide, &after(position, r), j, memo)? {
+            return Ok(Some(r));
         }
     }
     Ok(None)
 }
 
 /// Appends the principal variation to a mate within `n` moves, the first of which is one of these.
-#[cycle(variation)]
 pub(crate) fn push_variation<H: Halt>(
     guide: &Guide<H>,
     position: &Position,
@@ -103,12 +123,32 @@ pub(crate) fn push_variation<H: Halt>(
     ensures stopped { IfErr result (λ _. H.may_stop guide.now.halt.now) }
     ensures room { memo.new.room ≡ memo.old.room }
 {
-    let Some(m) = least_key(guide, position, first, n, memo)? else {
-        return Ok(());
-    };
-    out.push(m);
+    match least_key(guide, position, first, n, memo)? {
+        Some(m) => push_from(guide, position, m, n, memo, out),
+        None => Ok(()),
+    }
+}
+
+/// The same from this key on, the first of whatever moves there are to begin with.
+#[cycle(variation)]
+fn push_from<H: Halt>(
+    guide: &Guide<H>,
+    position: &Position,
+    key: Move,
+    n: u8,
+    memo: &mut Memo,
+    out: &mut Variation,
+) -> Result<(), Stopped>
+    requires some { 0 < n }
+    requires room { array_vec_len out.old + 2 * n ≤ 30 }
+    requires legal { is_legal position.now key ≡ true }
+    ensures variation { IfOk result (λ _. (first : List Move) → Some key ≡ least_key first position.now n → out.new.items ≡ out.old.items ++ variation first position.now n) }
+    ensures stopped { IfErr result (λ _. H.may_stop guide.now.halt.now) }
+    ensures room { memo.new.room ≡ memo.old.room }
+{
+    out.push(key);
     if n > 1 {
-        let q = after(position, m);
+        let q = after(position, key);
         if let Some(r) = longest_defence(guide, &q, n - 2, memo)? {
             out.push(r);
             push_next(guide, &after(&q, r), n - 1, memo, out)?;
@@ -117,9 +157,7 @@ pub(crate) fn push_variation<H: Halt>(
     Ok(())
 }
 
-/// The same, where the first move is any legal one. Only here a list of moves takes room, so that a mate in one needs none.
-#[tactic(auto, using(crate::proofs::Wins::legal_each))]
-#[inline(never)]
+/// The same, where the first move is any legal one.
 #[cycle(variation)]
 fn push_next<H: Halt>(
     guide: &Guide<H>,
@@ -134,12 +172,8 @@ fn push_next<H: Halt>(
     ensures stopped { IfErr result (λ _. H.may_stop guide.now.halt.now) }
     ensures room { memo.new.room ≡ memo.old.room }
 {
-    push_variation(
-        guide,
-        position,
-        legal(guide.rays, position).as_slice(),
-        n,
-        memo,
-        out,
-    )
+    match least_of_all(guide, position, n, memo)? {
+        Some(m) => push_from(guide, position, m, n, memo, out),
+        None => Ok(()),
+    }
 }

@@ -1,10 +1,14 @@
 //! Whether the side to move mates, or is mated, within so many moves of the attacker. Each search ends at once where it is to stop.
 
 ghost use Rattle.std.specs.Prelude.{◌≡◌, ◌<◌, ◌≤◌, ◌-◌, true, false, IfErr, IfOk, IfSome, None};
+ghost use Rattle.chess_board.specs.Legality.{is_legal};
+ghost use Rattle.chess_board.specs.MakeMove.{after_setup};
 ghost use Rattle.mate_search.specs.Wins.{win, lost};
 
 use crate::halting::{Guide, Halt, Stopped};
 use crate::memo::Memo;
+use crate::recent_positions::Camps;
+use crate::transpositions::place_of;
 use chess_board::{Move, Position, after};
 use chess_moves::{Rays, attacked, has_mating_move, is_legal, is_mated, legal_listed, legal_moves};
 
@@ -117,11 +121,36 @@ fn wins_by_some<H: Halt>(
     ensures room { memo.new.room ≡ memo.old.room }
 {
     for m in legal_moves(guide.rays, position) {
-        if loses(guide, &after(position, m), n - 1, memo)? {
+        if loses_again(guide, &after(position, m), n - 1, memo)? {
             return Ok(true);
         }
     }
     Ok(false)
+}
+
+/// Whether the defender loses. With one move left to the attacker that may be known from another line that led to the same position. With
+/// more it is not kept, since the guide is asked whether to stop once for each position that is searched, and by that they are counted.
+#[cycle(search)]
+fn loses_again<H: Halt>(
+    guide: &Guide<H>,
+    position: &Position,
+    k: u8,
+    memo: &mut Memo,
+) -> Result<bool, Stopped>
+    ensures lost { IfOk result (λ is_lost. is_lost ≡ lost k position.now) }
+    ensures stopped { IfErr result (λ _. H.may_stop guide.now.halt.now) }
+    ensures room { memo.new.room ≡ memo.old.room }
+{
+    if k != 1 {
+        return loses(guide, position, k, memo);
+    }
+    let place = place_of(position);
+    if let Some(is_lost) = memo.judged(place, position) {
+        return Ok(is_lost);
+    }
+    let is_lost = loses(guide, position, k, memo)?;
+    memo.keep_judged(place, position, is_lost);
+    Ok(is_lost)
 }
 
 /// Whether the defender, to move, is mated, or the attacker mates within `k` moves whatever the reply.
@@ -196,12 +225,37 @@ fn is_known_refuted(rays: &Rays, position: &Position, k: u8, memo: &mut Memo) ->
     ensures refuted { result ≡ true → lost k position.now ≡ false }
     ensures room { memo.new.room ≡ memo.old.room }
 {
+    let camps = Camps::of_plain(position);
     for r in legal_moves(rays, position) {
-        if memo.entry(&after(position, r)).answer(k) == Some(false) {
+        if is_known_to_refute(position, camps, r, k, memo) {
             return true;
         }
     }
     false
+}
+
+/// Whether the memo knows that the attacker does not mate within `k` moves after a reply. Where the squares of the men tell those after it,
+/// it is not made to tell that nothing is known, since that would cost more.
+#[inline(always)]
+fn is_known_to_refute(
+    position: &Position,
+    camps: Option<Camps>,
+    reply: Move,
+    k: u8,
+    memo: &mut Memo,
+) -> bool
+    requires legal { is_legal position.now reply ≡ true }
+    ensures refutes { result ≡ true → win k (after_setup position.now reply) ≡ false }
+    ensures room { memo.new.room ≡ memo.old.room }
+{
+    let next = match camps {
+        Some(camps) => camps.after(position.side(), reply),
+        None => Camps::of(&after(position, reply)),
+    };
+    if !memo.may_have(next) {
+        return false;
+    }
+    memo.find(&after(position, reply), next).answer(k) == Some(false)
 }
 
 /// Whether a reply that checks refutes: the attacker does not mate within `k` moves after it. No list is kept while it searches.

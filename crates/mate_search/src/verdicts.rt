@@ -53,10 +53,10 @@ pub fn leaves_lost<H: Halt>(
 
 /// Where a search begins: a position, of its legal moves those that the attacker may begin with, and verdicts on them.
 #[derive(Clone, Copy)]
-pub(crate) struct Root<'a> {
-    pub(crate) position: &'a Position,
-    pub(crate) first: &'a [Move],
-    pub(crate) told: &'a [Verdict],
+pub(crate) struct Root<'p, 'm, 't> {
+    pub(crate) position: &'p Position,
+    pub(crate) first: &'m [Move],
+    pub(crate) told: &'t [Verdict],
 }
 
 /// Whether a first move leaves the defender lost with `k` more: by a verdict, or else it is judged here.

@@ -9,37 +9,40 @@ use Rattle.mate_search.specs.Wins.{win, leaves_lost}
 use Rattle.mate_search.proofs.searching.+search.Given as goal
 
 abbrev pub decreases-wins : goal.decreases-wins
-decreases-wins g l = 8 * l.n + 3
+decreases-wins g l = 9 * l.n + 3
 
 abbrev pub decreases-wins_longer : goal.decreases-wins_longer
-decreases-wins_longer g l = 8 * l.n + 2
+decreases-wins_longer g l = 9 * l.n + 2
 
 abbrev pub decreases-least_win : goal.decreases-least_win
-decreases-least_win g l = 8 * l.n + 1
+decreases-least_win g l = 9 * l.n + 1
 
 abbrev pub decreases-wins_by_some : goal.decreases-wins_by_some
-decreases-wins_by_some g l = 8 * l.n
+decreases-wins_by_some g l = 9 * l.n
 
 abbrev pub decreases-loses : goal.decreases-loses
-decreases-loses g l = 8 * l.k + 7
+decreases-loses g l = 9 * l.k + 7
+
+abbrev pub decreases-loses_again : goal.decreases-loses_again
+decreases-loses_again g l = 9 * l.k + 8
 
 abbrev pub decreases-is_refuted_first : goal.decreases-is_refuted_first
-decreases-is_refuted_first g l = 8 * l.k + 6
+decreases-is_refuted_first g l = 9 * l.k + 6
 
 abbrev pub decreases-is_refuted_by_killer : goal.decreases-is_refuted_by_killer
-decreases-is_refuted_by_killer g l = 8 * l.k + 5
+decreases-is_refuted_by_killer g l = 9 * l.k + 5
 
 abbrev pub decreases-loses_each : goal.decreases-loses_each
-decreases-loses_each g l = 8 * l.k + 5
+decreases-loses_each g l = 9 * l.k + 5
 
 abbrev pub decreases-is_refuted_by_check : goal.decreases-is_refuted_by_check
-decreases-is_refuted_by_check g l = 8 * l.k + 4
+decreases-is_refuted_by_check g l = 9 * l.k + 4
 
 abbrev pub decreases-is_refuted_by_capture : goal.decreases-is_refuted_by_capture
-decreases-is_refuted_by_capture g l = 8 * l.k + 4
+decreases-is_refuted_by_capture g l = 9 * l.k + 4
 
 abbrev pub decreases-refutes : goal.decreases-refutes
-decreases-refutes g l = 8 * l.k + 4
+decreases-refutes g l = 9 * l.k + 4
 
 -- no mate within k moves
 abbrev pub invariant-least_win-loop-k : goal.invariant-least_win-loop-k

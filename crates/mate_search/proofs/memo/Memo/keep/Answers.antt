@@ -5,6 +5,6 @@ pub invariant_of-self : goal.invariant_of-self
 invariant_of-self c = kept_after c.equal_reads.ensures c.put.result c.self.inside.cache c.put.new.self c.args.position.now
     c.args.entry c.put.ensures.entries c.put.ensures.err c.self.invariant c.requires
 
-pub returns-clause-within : goal.returns-clause-within
-returns-clause-within c = (kept_after c.equal_reads.ensures c.put.result c.self.inside.cache c.put.new.self c.args.position.now
+pub returns-then-is_ok-clause-within : goal.returns-then-is_ok-clause-within
+returns-then-is_ok-clause-within c = (kept_after c.equal_reads.ensures c.put.result c.self.inside.cache c.put.new.self c.args.position.now
     c.args.entry c.put.ensures.entries c.put.ensures.err c.self.invariant c.requires).within

@@ -1,0 +1,212 @@
+//! Which positions a memo may hold, told in less time than it takes to look for one.
+
+use chess_board::{Colour, Kind, Move, Position, Wing};
+use std::alloc::Global;
+use std::hash::{FoldHasher, Hasher};
+
+/// How many positions there are to a word of a half, at most: most that were never met have no mark there.
+const A_WORD: usize = 8;
+
+/// How many words a half has at first. Most problems meet no more positions than it has room for.
+const FIRST_WORDS: usize = 1024;
+
+/// How many times as many it has where it grows.
+const GROWTH: usize = 8;
+
+/// The squares of White's men and of Black's: by these the filter tells positions apart.
+#[derive(Clone, Copy)]
+pub(crate) struct Camps {
+    white: u64,
+    black: u64,
+}
+
+impl Camps {
+    /// Those of a position.
+    #[inline(always)]
+    pub(crate) fn of(position: &Position) -> Camps {
+        let white = men_of(position, Colour::White);
+        Camps {
+            white,
+            black: position.occupied() & !white,
+        }
+    }
+
+    /// Those of a position where none of its moves castles or captures en passant.
+    #[inline(always)]
+    pub(crate) fn of_plain(position: &Position) -> Option<Camps> {
+        let side = position.side();
+        let is_plain = position.ep_target().is_none()
+            && !position.has_right(side, Wing::KingSide)
+            && !position.has_right(side, Wing::QueenSide);
+        if is_plain {
+            Some(Camps::of(position))
+        } else {
+            None
+        }
+    }
+
+    /// Those after a move of a side that neither castles nor captures en passant.
+    #[inline(always)]
+    pub(crate) fn after(self, side: Colour, m: Move) -> Camps {
+        let origin = 1u64.wrapping_shl(m.origin.index() as u32);
+        let target = 1u64.wrapping_shl(m.target.index() as u32);
+        match side {
+            Colour::White => Camps {
+                white: self.white & !origin | target,
+                black: self.black & !target,
+            },
+            Colour::Black => Camps {
+                white: self.white & !target,
+                black: self.black & !origin | target,
+            },
+        }
+    }
+
+    /// A number by which they are marked.
+    #[inline(always)]
+    fn hash(self) -> u64 {
+        let mut hasher = FoldHasher::default();
+        hasher.write_u64(self.white);
+        hasher.write_u64(self.black);
+        hasher.finish()
+    }
+}
+
+/// The squares of a side's men.
+#[inline(always)]
+fn men_of(position: &Position, side: Colour) -> u64 {
+    position.men(side, Kind::Pawn)
+        | position.men(side, Kind::Knight)
+        | position.men(side, Kind::Bishop)
+        | position.men(side, Kind::Rook)
+        | position.men(side, Kind::Queen)
+        | position.men(side, Kind::King)
+}
+
+/// The word of a half that a hash names; none where there are no words, of which there are a power of two.
+#[inline(always)]
+fn word_of(hash: u64, half: &[u64]) -> usize {
+    (hash >> 40) as usize & half.len().wrapping_sub(1)
+}
+
+/// The mark of a hash in its word.
+#[inline(always)]
+fn mark_of(hash: u64) -> u64 {
+    1 << (hash % 64)
+}
+
+/// Whether a half has the mark of a hash.
+#[inline(always)]
+fn has_mark(half: &[u64], hash: u64) -> bool {
+    match half.get(word_of(hash, half)) {
+        Some(word) => *word & mark_of(hash) != 0,
+        None => false,
+    }
+}
+
+/// A Bloom filter (Bloom, Space/Time Trade-offs in Hash Coding with Allowable Errors, 1970) of one hash over the positions that a memo
+/// holds, in two halves. A position is marked in the newer one at each use; once that has as many marks as the memo has entries, it takes
+/// the place of the older, and a new one begins. So what has no mark was used before as many others, and the memo, which forgets what was
+/// used least recently, holds it no more. What has one may yet be none of its positions. Where memory is refused, each may be one.
+///
+/// No proof speaks of it, since the truth of an outcome does not depend on what a memo tells.
+#[derive(Drop)]
+pub(crate) struct RecentPositions {
+    alloc: Global,
+    newer: Vec<u64>,
+    older: Vec<u64>,
+    /// How many marks were set since the newer half began, and of how many it is full: 0 before it has begun.
+    met: usize,
+    full: usize,
+    /// How many entries the memo has room for.
+    most: usize,
+}
+
+impl RecentPositions {
+    /// None yet, of a memo with room for so many entries. It asks for no memory before a position is met.
+    pub(crate) fn new(alloc: Global, entries: usize) -> RecentPositions {
+        RecentPositions {
+            alloc,
+            newer: Vec::new(alloc),
+            older: Vec::new(alloc),
+            met: 0,
+            full: 0,
+            most: entries,
+        }
+    }
+
+    /// Whether a position whose men stand so may be one that the memo holds.
+    #[inline(always)]
+    pub(crate) fn may_have(&self, camps: Camps) -> bool {
+        let hash = camps.hash();
+        self.newer.is_empty() || has_mark(&self.newer, hash) || has_mark(&self.older, hash)
+    }
+
+    /// Marks a position that is used: it was put into the memo, or found there.
+    pub(crate) fn meet(&mut self, camps: Camps) {
+        if self.full == 0 {
+            self.begin();
+        }
+        let hash = camps.hash();
+        if self.newer.is_empty() || has_mark(&self.newer, hash) {
+            return;
+        }
+        if self.met >= self.full {
+            self.make_room();
+        }
+        let number = word_of(hash, &self.newer);
+        if let Some(word) = self.newer.get_mut(number) {
+            *word |= mark_of(hash);
+        }
+        self.met = self.met.saturating_add(1);
+    }
+
+    /// Begins with the first position, or, where memory is refused, never: that position would have no mark.
+    fn begin(&mut self) {
+        self.full = self.most.min(FIRST_WORDS * A_WORD).max(1);
+        if let Ok(newer) = Vec::from_elem(self.alloc, 0, FIRST_WORDS) {
+            self.newer = newer;
+        }
+    }
+
+    /// Makes room for marks, where the newer half is full.
+    fn make_room(&mut self) {
+        if self.full < self.most {
+            self.grow();
+        } else {
+            self.turn();
+        }
+    }
+
+    /// Lets the newer half grow. Each word stands in the larger one wherever a hash that named it may name it now. Where memory is refused,
+    /// it stays as it is.
+    fn grow(&mut self) {
+        let words = self.newer.len().saturating_mul(GROWTH);
+        self.full = self.most;
+        let Ok(mut larger) = Vec::with_capacity(self.alloc, words) else {
+            return;
+        };
+        for _ in 0..GROWTH {
+            if larger.extend_from_slice(&self.newer).is_err() {
+                return;
+            }
+        }
+        self.full = self.most.min(words.saturating_mul(A_WORD));
+        self.newer = larger;
+    }
+
+    /// Lets the newer half take the older's place. Where memory for another is refused, it goes on.
+    fn turn(&mut self) {
+        self.met = 0;
+        if self.older.is_empty() {
+            match Vec::from_elem(self.alloc, 0, self.newer.len()) {
+                Ok(older) => self.older = older,
+                Err(_) => return,
+            }
+        }
+        std::mem::swap(&mut self.newer, &mut self.older);
+        for word in self.newer.iter_mut() {
+            *word = 0;
+        }
+    }
+}
