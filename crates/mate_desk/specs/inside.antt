@@ -1,4 +1,5 @@
 pub mod PlaceBits
+pub mod HeldJobs
 pub mod Keeping
 pub mod Mirrors
 pub mod Stepping

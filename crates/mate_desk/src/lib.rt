@@ -6,12 +6,13 @@
 //!
 //! To read: `refusals`; then `desks`, over `lookups`, `queues` (what one submitter has pending), `entries`, `solved`
 //! and `place_bits`. `Desk::new` takes all memory that a desk ever needs. Then `steps_and_replies`, with `held_answers`; `runs`, over
-//! `stepping`; `reply_texts`; and `history_laws`, which tells the history in plain words (`specs/HistoryLaws.antt`).
+//! `stepping` and `held_jobs`; `reply_texts`; and `history_laws`, which tells the history in plain words (`specs/HistoryLaws.antt`).
 #![tactic(auto)]
 
 mod desks;
 mod entries;
 mod held_answers;
+mod held_jobs;
 mod history_laws;
 mod lookups;
 mod place_bits;

@@ -1,8 +1,9 @@
 //! What one submitter has pending.
 
-ghost use Rattle.std.specs.Prelude.{◌≡◌, ◌+◌, ◌<◌, ◌≤◌, ◌^◌, [], true, false, length, nat_le, count_by};
+ghost use Rattle.std.specs.Prelude.{◌≡◌, ◌+◌, ◌<◌, ◌≤◌, ◌^◌, [], ◌∷◌, true, false, length, nat_le, count_by};
 ghost use Rattle.std.specs.Prelude.{Some, None, is_some, IfOk, IfErr, IfNone, IfSome};
 ghost use Rattle.std.specs.List.{list_any};
+ghost use Rattle.std.specs.VecDeque.{deque_capacity};
 ghost use Rattle.mate_desk.specs.Content.{EntryValue, lowest, waits, waits_as, has_ticket, is_out_with};
 ghost use Rattle.mate_desk.specs.Content.{Waiting as waiting_phase, Out as out, Finished as finished};
 ghost use Rattle.mate_desk.specs.Calls.{in_queue, into_phase, with_entry, ready_first, collected, withdraw_refusal_of, withdrawn_at};
@@ -13,7 +14,7 @@ ghost use Rattle.mate_desk.specs.inside.Keeping.{IsOutAt};
 use crate::entries::Entry;
 use crate::place_bits::{first_place, lower_places, with_place, without_place};
 use crate::refusals::WithdrawRefusal;
-use crate::solved::deliver;
+use crate::solved::take_solved;
 use chess_notation::Record;
 use chess_problems::Problem;
 use mate_jobs::{Delivery, Done, Job, Ticket};
@@ -47,6 +48,18 @@ impl Model for Queue {
     ghost invariant = { λ q. (q.room ≤ deque_capacity q.entries) × (q.room ≤ 64) × (length q.entries.items ≤ q.room)
         × (q.delivered + length q.entries.items < 2 ^ 64) × Rises 0 q.entries.items × Marks q.waiting q.entries.items
         × (q.room ≤ vec_capacity q.solved) × AreSolved q.solved.items q.entries.items };
+}
+
+/// The first record, which leaves.
+fn leave(entries: &mut VecDeque<Entry>) -> Entry
+    requires { 0 < length entries.old.items }
+    ensures entries { entries.old.items ≡ result ∷ entries.new.items }
+    ensures capacity { deque_capacity entries.new ≡ deque_capacity entries.old }
+{
+    match entries.pop_front() {
+        Some(entry) => entry,
+        None => unreachable!(),
+    }
 }
 
 impl Queue {
@@ -196,11 +209,18 @@ impl Queue {
         ensures delivery { Some result ≡ delivery (ready_first self.old.pending) }
         ensures content { self.new ≡ collected self.old }
     {
-        let Some(entry) = self.entries.pop_front() else {
-            unreachable!()
-        };
         self.delivered += 1;
         self.waiting = lower_places(self.waiting);
-        deliver(entry, &mut self.solved)
+        let first = &self.entries[0];
+        if !first.is_finished() {
+            return leave(&mut self.entries).into_notice();
+        }
+        // All else is done before the record is moved: an answer is large, and so it is moved straight to who collects it.
+        let is_withdrawn = first.is_withdrawn();
+        let done = take_solved(first, &mut self.solved);
+        if is_withdrawn {
+            return leave(&mut self.entries).into_notice();
+        }
+        leave(&mut self.entries).into_answer(done)
     }
 }

@@ -12,6 +12,7 @@ ghost use Rattle.mate_desk.specs.declared.runs.RunFault.TheVariants as fault;
 
 use crate::desks::Desk;
 use crate::held_answers::new_places;
+use crate::held_jobs::Hand;
 use crate::refusals::DeskFault;
 use crate::stepping::{Reader, make};
 use crate::steps_and_replies::{Reply, Step};
@@ -114,7 +115,7 @@ pub fn run(
     let Ok(mut replies) = Vec::with_capacity(alloc, steps.len()) else {
         return Err(RunFault::NoMemory);
     };
-    let Ok(mut hand) = Vec::with_capacity(alloc, steps.len().min(submitters * room)) else {
+    let Ok(mut hand) = Hand::new(alloc, steps.len().min(submitters * room)) else {
         return Err(RunFault::NoMemory);
     };
     let Ok(mut places) = new_places(alloc, most_answers(steps)) else {

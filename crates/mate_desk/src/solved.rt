@@ -2,12 +2,11 @@
 
 ghost use Rattle.std.specs.Prelude.{ℕ, ◌≡◌, ◌+◌, ◌≤◌, true, ◌<◌, length, vec_capacity, slice_get, sum_by, count_by, Some, IfSome, IfNone};
 ghost use Rattle.mate_jobs.specs.Jobs.{Task};
-ghost use Rattle.mate_desk.specs.Content.{is_ready, has_task};
-ghost use Rattle.mate_desk.specs.Deliveries.{delivery_of};
+ghost use Rattle.mate_desk.specs.Content.{is_finished, has_task};
 ghost use Rattle.mate_desk.specs.inside.Keeping.{task_of, finished_by};
 
 use crate::entries::Entry;
-use mate_jobs::{Delivery, Done};
+use mate_jobs::Done;
 
 /// Where what was solved of a record stands.
 fn place_of(solved: &[Done], entry: &Entry) -> Option<usize>
@@ -23,24 +22,17 @@ fn place_of(solved: &[Done], entry: &Entry) -> Option<usize>
     None
 }
 
-/// What is owed for a record that may be collected. What was solved of it is gone then, also where its notice is owed.
-pub(crate) fn deliver(entry: Entry, solved: &mut Vec<Done>) -> Delivery
-    requires ready { is_ready entry ≡ true }
-    requires there { (f : Task → ℕ) → finished_by f entry ≤ sum_by f solved.old.items }
-    ensures delivery { result ≡ delivery_of entry }
-    ensures gone { (f : Task → ℕ) → sum_by f solved.old.items ≡ sum_by f solved.new.items + finished_by f entry }
+/// Takes out what was solved of a finished record.
+pub(crate) fn take_solved(entry: &Entry, solved: &mut Vec<Done>) -> Done
+    requires finished { is_finished entry.now.phase ≡ true }
+    requires there { (f : Task → ℕ) → finished_by f entry.now ≤ sum_by f solved.old.items }
+    ensures own { result ≡ task_of entry.now }
+    ensures gone { (f : Task → ℕ) → sum_by f solved.old.items ≡ sum_by f solved.new.items + finished_by f entry.now }
     ensures capacity { vec_capacity solved.new ≡ vec_capacity solved.old }
 {
     entry.has_own_task();
-    if !entry.is_finished() {
-        return entry.into_notice();
-    }
-    let Some(place) = place_of(solved, &entry) else {
+    let Some(place) = place_of(solved, entry) else {
         unreachable!()
     };
-    let done = solved.swap_remove(place);
-    if entry.is_withdrawn() {
-        return entry.into_notice();
-    }
-    entry.into_answer(done)
+    solved.swap_remove(place)
 }

@@ -1,6 +1,6 @@
 //! One step at a desk with the jobs in hand.
 
-ghost use Rattle.std.specs.Prelude.{ℕ, List, ◌≡◌, ◌<◌, ◌≤◌, ◌+◌, ◌-◌, ◌^◌, Some, true, cond, vec_len, vec_capacity};
+ghost use Rattle.std.specs.Prelude.{ℕ, List, ◌≡◌, ◌<◌, ◌≤◌, ◌+◌, ◌-◌, ◌^◌, Some, true, cond, length, vec_len};
 ghost use Rattle.mate_jobs.specs.Jobs.{Task};
 ghost use Rattle.mate_desk.specs.Content.{entries, lowest};
 ghost use Rattle.mate_desk.specs.inside.Mirrors.{Makes};
@@ -9,11 +9,12 @@ ghost use Rattle.mate_desk.specs.declared.steps_and_replies.Step.TheVariants as 
 
 use crate::desks::Desk;
 use crate::held_answers::{Place, hold};
+use crate::held_jobs::Hand;
 use crate::steps_and_replies::{Reply, Step};
 use chess_moves::Rays;
 use chess_notation::read_record;
 use chess_problems::Bound;
-use mate_jobs::{Delivery, Job};
+use mate_jobs::Delivery;
 use mate_search::Memo;
 use std::alloc::Global;
 
@@ -29,17 +30,17 @@ pub(crate) struct Reader<'a> {
 pub(crate) fn make(
     reader: &Reader,
     desk: &mut Desk,
-    hand: &mut Vec<Job>,
+    hand: &mut Hand,
     places: &mut Vec<Place>,
     step: &Step,
     memo: &mut Memo,
 ) -> Reply
-    requires room { (t : ℕ) → lowest (entries desk.old) ≡ Some t → vec_len hand.old < vec_capacity hand.old }
+    requires room { (t : ℕ) → lowest (entries desk.old) ≡ Some t → length hand.old.jobs < hand.old.room }
     requires few { desk.old.next < 2 ^ 64 - 1 }
     requires place { collects step.now ≡ true → 0 < count_done desk.old → 0 < vec_len places.old }
-    ensures makes { Makes reader.now.default step.now result desk.old hand.old.items desk.new hand.new.items }
-    ensures room { vec_capacity hand.new ≡ vec_capacity hand.old }
-    ensures grows { vec_len hand.new ≤ vec_len hand.old + 1 }
+    ensures makes { Makes reader.now.default step.now result desk.old hand.old.jobs desk.new hand.new.jobs }
+    ensures room { hand.new.room ≡ hand.old.room }
+    ensures grows { length hand.new.jobs ≤ length hand.old.jobs + 1 }
     ensures few { desk.new.next ≤ desk.old.next + 1 }
     ensures left { vec_len places.new + answers result ≡ vec_len places.old }
     ensures asked_for { answers result ≤ cond (collects step.now) 1 0 }
@@ -80,11 +81,11 @@ fn submit(reader: &Reader, desk: &mut Desk, s: usize, line: &Vec<u8>) -> Reply
 }
 
 /// Takes a job into the hand.
-fn take(desk: &mut Desk, hand: &mut Vec<Job>) -> Reply
-    requires { (t : ℕ) → lowest (entries desk.old) ≡ Some t → vec_len hand.old < vec_capacity hand.old }
-    ensures makes { (default : ℕ) → Makes default step.Take result desk.old hand.old.items desk.new hand.new.items }
-    ensures room { vec_capacity hand.new ≡ vec_capacity hand.old }
-    ensures grows { vec_len hand.new ≤ vec_len hand.old + 1 }
+fn take(desk: &mut Desk, hand: &mut Hand) -> Reply
+    requires { (t : ℕ) → lowest (entries desk.old) ≡ Some t → length hand.old.jobs < hand.old.room }
+    ensures makes { (default : ℕ) → Makes default step.Take result desk.old hand.old.jobs desk.new hand.new.jobs }
+    ensures room { hand.new.room ≡ hand.old.room }
+    ensures grows { length hand.new.jobs ≤ length hand.old.jobs + 1 }
     ensures few { desk.new.next ≤ desk.old.next + 1 }
     ensures no_answer { answers result ≡ 0 }
     ensures finished { count_done desk.new ≤ count_done desk.old }
@@ -92,7 +93,7 @@ fn take(desk: &mut Desk, hand: &mut Vec<Job>) -> Reply
     match desk.take() {
         Some(job) => {
             let ticket = job.ticket();
-            hand.push_reserved(job);
+            hand.push(job);
             Reply::Job(ticket)
         }
         None => Reply::Nothing,
@@ -100,10 +101,10 @@ fn take(desk: &mut Desk, hand: &mut Vec<Job>) -> Reply
 }
 
 /// Solves a job in hand and finishes it.
-fn finish(rays: &Rays, desk: &mut Desk, hand: &mut Vec<Job>, i: usize, memo: &mut Memo) -> Reply
-    ensures makes { (default : ℕ) → Makes default (step.Finish i) result desk.old hand.old.items desk.new hand.new.items }
-    ensures room { vec_capacity hand.new ≡ vec_capacity hand.old }
-    ensures grows { vec_len hand.new ≤ vec_len hand.old + 1 }
+fn finish(rays: &Rays, desk: &mut Desk, hand: &mut Hand, i: usize, memo: &mut Memo) -> Reply
+    ensures makes { (default : ℕ) → Makes default (step.Finish i) result desk.old hand.old.jobs desk.new hand.new.jobs }
+    ensures room { hand.new.room ≡ hand.old.room }
+    ensures grows { length hand.new.jobs ≤ length hand.old.jobs + 1 }
     ensures few { desk.new.next ≤ desk.old.next + 1 }
     ensures memo_room { memo.new.room ≡ memo.old.room }
     ensures memo_within { memo.new.kept ≤ memo.new.room }
@@ -126,10 +127,10 @@ fn finish(rays: &Rays, desk: &mut Desk, hand: &mut Vec<Job>, i: usize, memo: &mu
 }
 
 /// Hands a job in hand back.
-fn hand_back(desk: &mut Desk, hand: &mut Vec<Job>, i: usize) -> Reply
-    ensures makes { (default : ℕ) → Makes default (step.HandBack i) result desk.old hand.old.items desk.new hand.new.items }
-    ensures room { vec_capacity hand.new ≡ vec_capacity hand.old }
-    ensures grows { vec_len hand.new ≤ vec_len hand.old + 1 }
+fn hand_back(desk: &mut Desk, hand: &mut Hand, i: usize) -> Reply
+    ensures makes { (default : ℕ) → Makes default (step.HandBack i) result desk.old hand.old.jobs desk.new hand.new.jobs }
+    ensures room { hand.new.room ≡ hand.old.room }
+    ensures grows { length hand.new.jobs ≤ length hand.old.jobs + 1 }
     ensures few { desk.new.next ≤ desk.old.next + 1 }
     ensures no_answer { answers result ≡ 0 }
     ensures finished { count_done desk.new ≤ count_done desk.old }

@@ -1,5 +1,5 @@
 use Rattle.std.proofs.Common.{◌≡◌, ◌⊎◌, ◌∙◌, ◌+◌, ◌*◌, ◌<◌, ◌≤◌, ap, sym, subst, inl, inr, refl, List, ◌∷◌, [], arith, length, take}
-use Rattle.std.proofs.Common.{get_or, rules, ℕ, length-append, vec_len, vec_capacity, true, false, min, nat_le, count_by}
+use Rattle.std.proofs.Common.{get_or, rules, ℕ, length-append, vec_len, true, false, min, nat_le, count_by}
 use Rattle.std.proofs.Math.Nat.{min-eq_left, min-eq_right}
 use Rattle.std.proofs.lemmas.Bool.Decides.{nat_tests}
 use Rattle.std.proofs.lemmas.List.{take_all}
@@ -36,10 +36,10 @@ pub loop-step-init : goal.loop-step-init
 loop-step-init c =
     let n : ℕ = c.args.submitters in
     let default : ℕ = c.args.default in
-    let first : MirrorsBy (λ t. nothing) n c.args.room default [] c.in-Ok.desk c.in-Ok-with_capacity-2.hand.items =
-    rw (c.in-Ok.ensures.empty, c.in-Ok-with_capacity-2.ensures.items) (start (λ t. nothing) n c.args.room default) in
+    let first : MirrorsBy (λ t. nothing) n c.args.room default [] c.in-Ok.desk c.in-Ok-new.hand.jobs =
+    rw (c.in-Ok.ensures.empty, c.in-Ok-new.ensures.jobs) (start (λ t. nothing) n c.args.room default) in
     let h : History = [] in
-    let jobs : List Task = c.in-Ok-with_capacity-2.hand.items in
+    let jobs : List Task = c.in-Ok-new.hand.jobs in
     record {
       mirrors = (λ t. nothing, first);
       in_order = first_moment (DeliversInOrder default) (in_order (λ t. nothing) n c.args.room default h c.in-Ok.desk jobs first);
@@ -47,9 +47,9 @@ loop-step-init c =
       all = first_moment (DeliversAllOnceDrained n) (all_delivered (λ t. nothing) n c.args.room default h c.in-Ok.desk jobs first);
       told = ap length c.in-Ok-with_capacity.ensures.items;
       room = search rules;
-      hand = omega (arith, c.in-Ok-with_capacity-2.ensures.len);
-      held = held_either (length c.args.steps.now) (n * c.args.room) (vec_capacity c.in-Ok-with_capacity-2.hand)
-          (omega (arith, c.in-Ok-with_capacity-2.ensures.capacity, c.min.ensures));
+      hand = omega (arith, ap length c.in-Ok-new.ensures.jobs);
+      held = held_either (length c.args.steps.now) (n * c.args.room) (c.in-Ok-new.hand.room)
+          (omega (arith, c.in-Ok-new.ensures.room, c.min.ensures));
       places = first_places (count_by collects c.args.steps.now) (count_by finishes c.args.steps.now)
           (vec_len c.in-Ok-new_places.places) (count_done c.in-Ok.desk) (c.in-Ok-new_places.ensures ∙ c.most_answers.ensures)
           (ap count_done c.in-Ok.ensures.empty ∙ none_done n c.args.room 0);
@@ -62,7 +62,7 @@ pub make-reply-requires-clause-room : goal.make-reply-requires-clause-room
 make-reply-requires-clause-room c t low =
     let i = c.loop-step.invariant in
     let h : History = past (take c.loop-step.step-index c.args.steps.now) c.loop-step.replies.items in
-    let jobs : List Task = c.loop-step.hand.items in
+    let jobs : List Task = c.loop-step.hand.jobs in
     let fits : length jobs < c.args.submitters * c.args.room =
     hand_fits i.mirrors.0 c.args.submitters c.args.room c.args.default h c.loop-step.desk jobs t i.mirrors.1 low in
     elim i.held [
@@ -87,10 +87,10 @@ loop-step-preserved c =
     let at : get_or ss k s ≡ s = sym c.step-item.is in
     let e = past_more [] ss c.loop-step.replies.items k s c.make-reply.result i.told c.loop-step-test.true at in
     let m : Mirrors n c.args.room default (record { step = s; reply = c.make-reply.result } ∷ h) c.make-reply.new.desk
-    c.make-reply.new.hand.items = c.make-reply.ensures.makes n c.args.room h i.mirrors in
+    c.make-reply.new.hand.jobs = c.make-reply.ensures.makes n c.args.room h i.mirrors in
     let now : History = record { step = s; reply = c.make-reply.result } ∷ h in
     let d : Content = c.make-reply.new.desk in
-    let left : List Task = c.make-reply.new.hand.items in
+    let left : List Task = c.make-reply.new.hand.jobs in
     record {
       mirrors = rw (c.push_reserved.ensures.items, e) m;
       in_order = rw (c.push_reserved.ensures.items, e)

@@ -10,21 +10,21 @@ use Rattle.mate_desk.proofs.stepping.hand_back.Goals as goal
 
 pub returns-then-len-i-clause-makes : goal.returns-then-len-i-clause-makes
 returns-then-len-i-clause-makes c default n room h m =
-    none_handed_back default c.args.desk.now c.args.hand.now.items c.args.i (omega arith) n room h m
+    none_handed_back default c.args.desk.now c.args.hand.now.jobs c.args.i (omega arith) n room h m
 
 pub returns-in-Ok-clause-makes : goal.returns-in-Ok-clause-makes
 returns-in-Ok-clause-makes c default n room h m =
-    let jobs : List Task = c.args.hand.now.items in
+    let jobs : List Task = c.args.hand.now.jobs in
     let job : Task = c.remove-unsolved.result in
     let at : slice_get jobs c.args.i ≡ Some job =
     slice_get-get_or jobs c.args.i job (omega arith) ∙ ap (λ (t : Task). Some t) (sym c.remove-unsolved.ensures.value) in
     let e : c.hand_back.new.self ≡ everywhere (into_phase (has_ticket job.ticket) Waiting) c.args.desk.now = c.in-Ok.ensures.by_ticket in
-    rw (c.ticket-ticket.ensures, e, c.remove-unsolved.ensures.items) (handed_back default c.args.desk.now jobs c.args.i job at
+    rw (c.ticket-ticket.ensures, e, c.remove-unsolved.ensures.jobs) (handed_back default c.args.desk.now jobs c.args.i job at
     (out_get c.args.desk.now jobs c.args.i job at m.1.out) n room h m)
 
 pub returns-in-Err-clause-makes : goal.returns-in-Err-clause-makes
 returns-in-Err-clause-makes c default n room h m =
-    let jobs : List Task = c.args.hand.now.items in
+    let jobs : List Task = c.args.hand.now.jobs in
     let job : Task = c.remove-unsolved.result in
     let at : slice_get jobs c.args.i ≡ Some job =
     slice_get-get_or jobs c.args.i job (omega arith) ∙ ap (λ (t : Task). Some t) (sym c.remove-unsolved.ensures.value) in
