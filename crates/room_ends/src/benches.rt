@@ -5,7 +5,7 @@ ghost use Rattle.rtrb.specs.Ring.{sent, known_free, producer_capacity};
 
 use crate::letters::Back;
 use crate::order_stealer::{OrderStealer, Taken};
-use rtrb::{Producer, PushError};
+use rtrb::Producer;
 
 /// A solver's end of a room: it takes orders, and gives back what came of them. It may go to a thread of its own, and no call
 /// waits.
@@ -46,10 +46,11 @@ impl Bench {
         ensures got { got self.new ≡ got self.old }
         ensures ends { SameBench self.old self.new }
     {
-        match self.back.push(back) {
-            Ok(()) => Ok(()),
-            Err(PushError::Full(value)) => Err(value),
+        if self.back.is_full() {
+            return Err(back);
         }
+        self.back.push_reserved(back);
+        Ok(())
     }
 
     /// Whether a place of the back ring is known to be free.

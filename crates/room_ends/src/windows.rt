@@ -195,6 +195,9 @@ impl Window {
         ensures none_known { IfNone result (deliveries_known self.old ≡ []) }
         ensures none_found { IfNone result (deliveries_known self.new ≡ []) }
     {
-        self.answers.pop().ok()
+        if self.answers.is_empty() {
+            return None;
+        }
+        Some(self.answers.pop_known())
     }
 }
