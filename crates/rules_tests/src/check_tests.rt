@@ -1,7 +1,8 @@
 //! The moves that give check, and those that mate, in known positions.
 
 use crate::test_positions::position_of;
-use chess_moves::{Rays, checks, has_mating_move};
+use chess_moves::{MoveList, Rays, checks, has_mating_move, push_mating_moves};
+use std::process::Abort;
 use std::test::Fail;
 
 #[test]
@@ -82,4 +83,29 @@ fn tells_whether_a_move_mates(rt: HostRuntime) -> Result<(), Fail> {
         assert_eq!(rt; has_mating_move(&rays, &position), expected, "{text}");
     }
     Ok(())
+}
+
+/// The moves of a position that mate are these.
+fn check_mates(rt: &impl Abort, text: &str, expected: &[&str]) -> Result<(), Fail> {
+    let mut list = MoveList::new();
+    push_mating_moves(&Rays::new(), &position_of(text)?, &mut list);
+    assert_eq!(rt; list.len(), expected.len(), "{text}");
+    for (m, expected) in list.as_slice().iter().zip(expected) {
+        assert_eq!(rt; m.text().as_str(), *expected, "{text}");
+    }
+    Ok(())
+}
+
+#[test]
+fn lists_each_mate(rt: HostRuntime) -> Result<(), Fail> {
+    check_mates(&rt, "6k1/5ppp/8/8/8/8/8/R5K1 w - - 0 1", &["a1a8"])?;
+    check_mates(&rt, "7k/8/6K1/8/8/8/8/R2R4 w - - 0 1", &["a1a8", "d1d8"])?;
+    check_mates(&rt, "6rk/6pp/7N/8/8/8/8/6K1 w - - 0 1", &["h6f7"])?;
+    // The rook or the queen that the pawn becomes.
+    check_mates(&rt, "k7/2P5/K7/8/8/8/8/8 w - - 0 1", &["c7c8r", "c7c8q"])?;
+    check_mates(&rt, "8/8/8/8/7p/8/7Q/2k1K2R w K - 0 1", &["e1g1"])?;
+    check_mates(&rt, "7k/5K2/8/6pP/8/7R/8/8 w - g6 0 1", &["h5g6"])?;
+    check_mates(&rt, "7k/R7/8/8/8/8/8/K7 w - - 0 1", &[])?;
+    // No check.
+    check_mates(&rt, "8/8/8/8/8/5k2/5p2/5K2 w - - 0 1", &[])
 }
