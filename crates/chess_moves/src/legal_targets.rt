@@ -66,7 +66,8 @@ pub(crate) fn targets_at_once(
     }
 }
 
-/// Whether a square is such a target. No other square is asked about, and none to which the man does not go.
+/// Whether a square is such a target. No other step of a king is asked about; of a square to which the man does not go it is asked only
+/// whether a king castles there, or a pawn captures en passant.
 pub(crate) fn is_target(
     rays: &Rays,
     position: &Position,

@@ -17,9 +17,9 @@ use std::marker::Model;
 use std::num::NonZeroUsize;
 use thiserror::Error;
 
-/// What a search found about the positions that it met last, at most as many as there is room for, and the replies that refuted
-/// last. Each entry is true and each reply is tried, so no outcome depends on what is kept. Contracts see how many entries there
-/// are, and the room.
+/// What a search found about the positions that it met last, at most as many as there is room for, and in no more of those one move
+/// from the end; and the replies that refuted last. Each entry is true and each reply is tried, so no outcome depends on what is kept.
+/// Contracts see how many entries there are, and the room.
 #[derive(Drop)]
 pub struct Memo {
     cache: LruCache<Position, Entry>,
@@ -84,7 +84,7 @@ impl Memo {
             Ok(cache) => Ok(Memo {
                 cache,
                 recent: RecentPositions::new(alloc, entries),
-                transpositions: Transpositions::none(alloc),
+                transpositions: Transpositions::none(alloc, entries),
                 killers: Killers::none(),
             }),
             Err(_) => Err(MemoFault::NoMemory),

@@ -1,5 +1,6 @@
 //! Which positions a memo may hold, told in less time than it takes to look for one.
 
+use crate::transpositions::power_of_two_within;
 use chess_board::{Colour, Kind, Move, Position, Wing};
 use std::alloc::Global;
 use std::hash::{FoldHasher, Hasher};
@@ -7,7 +8,7 @@ use std::hash::{FoldHasher, Hasher};
 /// How many positions there are to a word of a half, at most: most that were never met have no mark there.
 const A_WORD: usize = 8;
 
-/// How many words a half has at first. Most problems meet no more positions than it has room for.
+/// How many words a half has at first, at most. Most problems meet no more positions than it has room for.
 const FIRST_WORDS: usize = 1024;
 
 /// How many times as many it has where it grows.
@@ -163,8 +164,9 @@ impl RecentPositions {
 
     /// Begins with the first position, or, where memory is refused, never: that position would have no mark.
     fn begin(&mut self) {
-        self.full = self.most.min(FIRST_WORDS * A_WORD).max(1);
-        if let Ok(newer) = Vec::from_elem(self.alloc, 0, FIRST_WORDS) {
+        let words = power_of_two_within(self.most / A_WORD).min(FIRST_WORDS);
+        self.full = self.most.min(words.saturating_mul(A_WORD)).max(1);
+        if let Ok(newer) = Vec::from_elem(self.alloc, 0, words) {
             self.newer = newer;
         }
     }

@@ -10,13 +10,18 @@ use std::alloc::Global;
 use std::hash::{BuildHasher, BuildHasherDefault, FoldHasher};
 use std::marker::Model;
 
-/// How many positions are kept at first, and once so many times as many were judged, at most. They are few, so that they stay where they
-/// are read soon: lines that meet do so before long.
+/// How many positions are kept at first, and once so many times as many were judged, at most: no more than a memo has entries. They are few,
+/// so that they stay where they are read soon: lines that meet do so before long.
 const FIRST_PLACES: usize = 256;
 
 const PLACES: usize = 4096;
 
 const JUDGED_A_PLACE: usize = 4;
+
+/// The largest power of two up to a number; 1 for 0.
+pub(crate) fn power_of_two_within(number: usize) -> usize {
+    1usize.wrapping_shl(63u32.wrapping_sub((number | 1).leading_zeros()))
+}
 
 /// Whether the defender is lost in a position, with one move left to the attacker.
 #[derive(Clone, Copy)]
@@ -47,6 +52,8 @@ pub(crate) struct Transpositions {
     places: Vec<Option<Judged>>,
     /// A byte of the hash of the position in each place: most that is asked about is told to be another by it, and no place is read.
     tags: Vec<u8>,
+    /// How many places there are to be at most, a power of two.
+    most: usize,
     /// How many positions were judged since there are so many places, and after how many there are to be more.
     judged: usize,
     enough: usize,
@@ -78,12 +85,13 @@ fn is_same_position(p: &Position, q: &Position) -> bool
 }
 
 impl Transpositions {
-    /// None yet. No memory is asked for before a position is kept.
-    pub(crate) fn none(alloc: Global) -> Transpositions {
+    /// None yet, of a memo with room for so many entries. No memory is asked for before a position is kept.
+    pub(crate) fn none(alloc: Global, entries: usize) -> Transpositions {
         Transpositions {
             alloc,
             places: Vec::new(alloc),
             tags: Vec::new(alloc),
+            most: power_of_two_within(entries.min(PLACES)),
             judged: 0,
             enough: 0,
         }
@@ -141,20 +149,23 @@ impl Transpositions {
 
     /// Makes the first places, or all, and forgets what was kept. Where memory is refused, all stays as it is for as long again.
     fn grow(&mut self) {
-        let (places, enough) = if self.enough == 0 {
-            (FIRST_PLACES, FIRST_PLACES * JUDGED_A_PLACE)
+        let places = if self.tags.is_empty() {
+            self.most.min(FIRST_PLACES)
         } else {
-            (PLACES, usize::MAX)
+            self.most
         };
         self.judged = 0;
-        if let Ok(fresh) = Vec::from_elem(self.alloc, None, places) {
-            if let Ok(tags) = Vec::from_elem(self.alloc, 0, places) {
-                self.places = fresh;
-                self.tags = tags;
-                self.enough = enough;
-                return;
-            }
+        self.enough = FIRST_PLACES * JUDGED_A_PLACE;
+        let Ok(tags) = Vec::from_elem(self.alloc, 0, places) else {
+            return;
+        };
+        let Ok(fresh) = Vec::from_elem(self.alloc, None, places) else {
+            return;
+        };
+        self.places = fresh;
+        self.tags = tags;
+        if places == self.most {
+            self.enough = usize::MAX;
         }
-        self.enough = self.enough.max(FIRST_PLACES);
     }
 }
