@@ -13,6 +13,10 @@ mod input_tests;
 #[cfg(test)]
 mod memo_tests;
 #[cfg(test)]
+mod plain_search;
+#[cfg(test)]
+mod plain_search_tests;
+#[cfg(test)]
 mod record_reading_tests;
 #[cfg(test)]
 mod san_tests;
