@@ -7,7 +7,6 @@ pub mod BoardWords
 pub mod SetCounts
 pub mod EndPawns
 pub mod SetScans
-pub mod KindAttacks
 pub mod SameBoards
 pub mod FieldTexts
 pub mod FaultOrder

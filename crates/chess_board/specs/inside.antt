@@ -2,6 +2,5 @@ pub mod KindTests
 pub mod Boards
 pub mod Hashing
 pub mod Walks
-pub mod KindAttacks
 pub mod RankReading
 pub mod Homes

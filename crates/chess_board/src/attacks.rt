@@ -2,11 +2,12 @@
 
 ghost use Rattle.std.specs.Prelude.{◌≡◌, ◌+◌, ◌*◌, ◌<◌, ◌≤◌, ◌⊎◌, true, ◌||◌};
 ghost use Rattle.chess_board.specs.Squares.{gap};
+ghost use Rattle.chess_board.specs.Men.{is_of};
+ghost use Rattle.chess_board.specs.Positions.{man_at};
 ghost use Rattle.chess_board.specs.inside.Walks.{toward_of};
 ghost use Rattle.chess_board.specs.Attacks.{is_clear as clear, is_rook_line as rook_line, is_bishop_line as bishop_line};
-ghost use Rattle.chess_board.specs.Attacks.{is_forward as forward, attacks_as as attacks};
+ghost use Rattle.chess_board.specs.Attacks.{is_forward as forward, attacks_as as attacks, attacks_from as attacks_at};
 ghost use Rattle.chess_board.specs.Attacks.{is_attacked, is_in_check};
-ghost use Rattle.chess_board.specs.inside.KindAttacks.{attacked_as, attacked_by_leaper, attacked_by_slider};
 
 use crate::boards::Board;
 use crate::men::{Colour, Kind, Man};
@@ -87,42 +88,25 @@ fn attacks_as(men: &Board, man: Man, a: Square, b: Square) -> bool
     }
 }
 
-/// Whether one of a side's men of a kind attacks the square.
-fn is_attacked_as(men: &Board, square: Square, colour: Colour, kind: Kind) -> bool
-    ensures { result ≡ attacked_as men.now square colour kind }
+/// Whether the man that the colour has on `from` attacks the square.
+#[inline(always)]
+fn attacks_from(men: &Board, by: Colour, from: Square, square: Square) -> bool
+    requires { is_of by (man_at men.now from) ≡ true }
+    ensures { result ≡ attacks_at men.now by from square }
 {
-    let man = Man { colour, kind };
-    for from in square_sets::squares(men.men(colour, kind)) {
-        if attacks_as(men, man, Square::numbered(from), square) {
+    attacks_as(men, men.man_of(by, from), from, square)
+}
+
+/// Whether some man of the colour attacks the square: its men are asked one after the other, from a1 on.
+pub(crate) fn is_attacked_by(men: &Board, square: Square, by: Colour) -> bool
+    ensures { result ≡ is_attacked men.now square by }
+{
+    for from in square_sets::squares(men.side(by)) {
+        if attacks_from(men, by, Square::numbered(from), square) {
             return true;
         }
     }
     false
-}
-
-/// Whether a pawn, a knight or the king of the colour attacks the square.
-fn is_attacked_by_leaper(men: &Board, square: Square, colour: Colour) -> bool
-    ensures { result ≡ attacked_by_leaper men.now square colour }
-{
-    is_attacked_as(men, square, colour, Kind::Pawn)
-        || is_attacked_as(men, square, colour, Kind::Knight)
-        || is_attacked_as(men, square, colour, Kind::King)
-}
-
-/// Whether a bishop, a rook or a queen of the colour attacks the square.
-fn is_attacked_by_slider(men: &Board, square: Square, colour: Colour) -> bool
-    ensures { result ≡ attacked_by_slider men.now square colour }
-{
-    is_attacked_as(men, square, colour, Kind::Bishop)
-        || is_attacked_as(men, square, colour, Kind::Rook)
-        || is_attacked_as(men, square, colour, Kind::Queen)
-}
-
-/// Whether some man of the colour attacks the square.
-pub(crate) fn is_attacked_by(men: &Board, square: Square, by: Colour) -> bool
-    ensures { result ≡ is_attacked men.now square by }
-{
-    is_attacked_by_leaper(men, square, by) || is_attacked_by_slider(men, square, by)
 }
 
 /// Whether the colour's king is attacked.

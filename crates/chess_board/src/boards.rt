@@ -1,6 +1,6 @@
 //! The men on the 64 squares, as sets of squares: a man stands in the set of its colour and in that of its kind.
 
-ghost use Rattle.std.specs.Prelude.{◌≡◌, ℕ, ◌<◌, ◌==◌, if◌then◌else◌, Some, None, is_some, length, count_by, replicate, slice_set};
+ghost use Rattle.std.specs.Prelude.{◌≡◌, ℕ, ◌<◌, ◌==◌, if◌then◌else◌, true, Some, None, is_some, length, count_by, replicate, slice_set};
 ghost use Rattle.square_sets.specs.Members.{has};
 ghost use Rattle.chess_board.specs.declared.men.Kind.TheVariants as kind;
 ghost use Rattle.chess_board.specs.Positions.{man_at, is_empty, moved};
@@ -89,6 +89,26 @@ impl Board {
                 index,
             ),
         })
+    }
+
+    /// The man that a side has on a square.
+    #[inline(always)]
+    pub(crate) fn man_of(&self, colour: Colour, square: Square) -> Man
+        requires { is_of colour (man_at self.now square) ≡ true }
+        ensures { man_at self.now square ≡ Some result }
+    {
+        let index = square.index() as u8;
+        Man {
+            colour,
+            kind: kind_at(
+                self.kind(Kind::Pawn),
+                self.kind(Kind::Knight),
+                self.kind(Kind::Bishop),
+                self.kind(Kind::Rook),
+                self.kind(Kind::Queen),
+                index,
+            ),
+        }
     }
 
     /// The board without what stands on a square.
