@@ -188,6 +188,7 @@ fn targets_of_pawn(
 
 /// The targets of the king's legal moves. Each step is asked about by itself, since the king may step along the line of an attack; where
 /// it castles its goal was asked about, and castling opens no line to it.
+#[inline(always)]
 pub(crate) fn targets_of_king(
     rays: &Rays,
     position: &Position,

@@ -96,7 +96,8 @@ fn count_pawns(rays: &Rays, position: &Position, info: &LegalityInfo, pawns: u64
     count_from(rays, position, info, Kind::Pawn, alone) + count_free_pawns(info, pawns & !alone)
 }
 
-/// How many legal moves men of one kind have together.
+/// How many legal moves men of one kind have together. It is laid into its callers, once for each kind.
+#[inline(always)]
 fn count_from(rays: &Rays, position: &Position, info: &LegalityInfo, kind: Kind, men: u64) -> u64
     requires info { IsLegalityInfoOf info.now position.now }
     requires men { HaveMenOf kind men position.now }
