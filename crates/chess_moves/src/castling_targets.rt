@@ -1,6 +1,6 @@
 //! Castling targets: where the king goes that castles (FIDE Laws of Chess, article 3.8.2).
 
-ghost use Rattle.std.specs.Prelude.{◌≡◌, ℕ, ◌<◌};
+ghost use Rattle.std.specs.Prelude.{◌≡◌, ℕ, ◌<◌, IfSome};
 ghost use Rattle.square_sets.specs.Members.{has};
 ghost use Rattle.chess_board.specs.Positions.{Setup};
 ghost use Rattle.chess_board.specs.Men.{other_side};
@@ -34,18 +34,54 @@ fn is_attacked_in(rays: &Rays, info: &LegalityInfo, square: u8) -> bool
     is_hit_over(rays, info.occupied, &info.enemy, info.side.other(), square)
 }
 
-/// Whether the king of the side to move is attacked.
+/// Whether the king of the side to move is attacked. Where checks and pins were looked for, the check mask tells: no check is answered on
+/// the king's own square.
 fn is_checked(rays: &Rays, info: &LegalityInfo) -> bool
     requires { info.now.king < 64 }
     ensures { (p : Setup) → IsLegalityInfoOf info.now p → result ≡ is_attacked p.men info.now.king (other_side p.side) }
 {
-    is_attacked_in(rays, info, info.king)
+    if square_sets::contains(info.pin_squares, info.king) {
+        return is_attacked_in(rays, info, info.king);
+    }
+    !square_sets::contains(info.check_mask, info.king)
+}
+
+/// The same, found at the first question about it.
+#[inline(always)]
+fn is_checked_once(
+    rays: &Rays,
+    position: &Position,
+    info: &LegalityInfo,
+    checked: &mut Option<bool>,
+) -> bool
+    requires info { IsLegalityInfoOf info.now position.now }
+    requires checked { IfSome checked.old (λ b. b ≡ is_attacked position.now.men info.now.king (other_side position.now.side)) }
+    ensures check { result ≡ is_attacked position.now.men info.now.king (other_side position.now.side) }
+    ensures checked { IfSome checked.new (λ b. b ≡ is_attacked position.now.men info.now.king (other_side position.now.side)) }
+{
+    match *checked {
+        Some(found) => found,
+        None => {
+            let found = is_checked(rays, info);
+            *checked = Some(found);
+            found
+        }
+    }
 }
 
 /// Where the king goes when it castles on a wing: one square, or none.
-fn castling_target(rays: &Rays, position: &Position, info: &LegalityInfo, wing: Wing) -> u64
+#[inline(always)]
+fn castling_target(
+    rays: &Rays,
+    position: &Position,
+    info: &LegalityInfo,
+    checked: &mut Option<bool>,
+    wing: Wing,
+) -> u64
     requires info { IsLegalityInfoOf info.now position.now }
-    ensures { (t : ℕ) → t < 64 → has result t ≡ castles_to position.now position.now.side wing info.now.king t }
+    requires checked { IfSome checked.old (λ b. b ≡ is_attacked position.now.men info.now.king (other_side position.now.side)) }
+    ensures targets { (t : ℕ) → t < 64 → has result t ≡ castles_to position.now position.now.side wing info.now.king t }
+    ensures checked { IfSome checked.new (λ b. b ≡ is_attacked position.now.men info.now.king (other_side position.now.side)) }
 {
     let home = king_home(info.side).index() as u8;
     if info.king != home || !position.has_right(info.side, wing) {
@@ -57,7 +93,7 @@ fn castling_target(rays: &Rays, position: &Position, info: &LegalityInfo, wing: 
     }
     let goal = king_goal(info.side, wing).index() as u8;
     let crossed = (home + goal) / 2;
-    if is_checked(rays, info)
+    if is_checked_once(rays, position, info, checked)
         || is_attacked_in(rays, info, crossed)
         || is_attacked_in(rays, info, goal)
     {
@@ -66,13 +102,14 @@ fn castling_target(rays: &Rays, position: &Position, info: &LegalityInfo, wing: 
     square_sets::single(goal)
 }
 
-/// Where the king goes when it castles on either wing.
+/// Where the king goes when it castles on either wing. Whether it is in check is asked at most once.
 fn targets_of_wings(rays: &Rays, position: &Position, info: &LegalityInfo) -> u64
     requires info { IsLegalityInfoOf info.now position.now }
     ensures { (t : ℕ) → t < 64 → has result t ≡ castles position.now position.now.side info.now.king t }
 {
-    castling_target(rays, position, info, Wing::KingSide)
-        | castling_target(rays, position, info, Wing::QueenSide)
+    let mut checked = None;
+    castling_target(rays, position, info, &mut checked, Wing::KingSide)
+        | castling_target(rays, position, info, &mut checked, Wing::QueenSide)
 }
 
 /// Where the king goes when it castles: two squares at most. Most kings of a search do not stand at home.

@@ -11,13 +11,13 @@ use Rattle.chess_moves.proofs.Geometry.{eqb_back}
 use Rattle.chess_moves.proofs.CastlingWays.{castles_says, castles_from, clear_way}
 use Rattle.chess_moves.proofs.castling_targets.castling_target.Goals as goal
 use Rattle.chess_moves.proofs.castling_targets.castling_target.Goals.{
-  then-is_checked-via-then-is_checked,
-  then-is_checked-via-else-is_checked+then-is_attacked_in,
-  then-is_checked-via-else-is_checked+else-is_attacked_in+then-is_attacked_in-2,
+  then-is_checked_once-via-then-is_checked_once,
+  then-is_checked_once-via-else-is_checked_once+then-is_attacked_in,
+  then-is_checked_once-via-else-is_checked_once+else-is_attacked_in+then-is_attacked_in-2,
 }
 
-pub returns-then-between-info-ne0 : goal.returns-then-between-info-ne0
-returns-then-between-info-ne0 c = λ t l.
+pub returns-then-between-info-ne0-clause-targets : goal.returns-then-between-info-ne0-clause-targets
+returns-then-between-info-ne0-clause-targets c = λ t l.
     let p = c.args.position.now in
     let king : ℕ = c.args.info.now.king in
     let side_is = c.requires.info.side in
@@ -32,8 +32,8 @@ returns-then-between-info-ne0 c = λ t l.
     let x = (castles_says p p.side c.args.wing king t h).clear in
     cc))
 
-pub returns-then-is_checked : goal.returns-then-is_checked
-returns-then-is_checked c = λ t l.
+pub returns-then-is_checked_once-clause-targets : goal.returns-then-is_checked_once-clause-targets
+returns-then-is_checked_once-clause-targets c = λ t l.
     let p = c.args.position.now in
     let by : Colour = other_side p.side in
     let king : ℕ = c.args.info.now.king in
@@ -45,24 +45,24 @@ returns-then-is_checked c = λ t l.
     let at_goal : t ≡ c.index-goal.result = x.goal ∙ sym ((c.index-goal.ensures.number ∙ c.king_goal.ensures)
     ∙ ap (λ (colour : Colour). king_goal colour c.args.wing) info.side) in
     let midway : crossed king t ≡ (home + c.index-goal.result) / 2 = omega arith in
-    elim c.then-is_checked.branch [
-      | then-is_checked-via-then-is_checked w ↦
+    elim c.then-is_checked_once.branch [
+      | then-is_checked_once-via-then-is_checked_once w ↦
           let safe = x.safe in
-          let hit = sym (c.is_checked.ensures p info) ∙ w.if-is_checked.true in
+          let hit = sym (c.is_checked_once.ensures.check) ∙ w.if-is_checked_once.true in
           cc
-      | then-is_checked-via-else-is_checked+then-is_attacked_in w ↦
+      | then-is_checked_once-via-else-is_checked_once+then-is_attacked_in w ↦
           let safe = x.safe_way in
           let hit = ap (λ (s : ℕ). is_attacked p.men s by) midway ∙ sym (w.is_attacked_in.ensures p info) ∙ w.if-is_attacked_in.true in
           cc
-      | then-is_checked-via-else-is_checked+else-is_attacked_in+then-is_attacked_in-2 w ↦
+      | then-is_checked_once-via-else-is_checked_once+else-is_attacked_in+then-is_attacked_in-2 w ↦
           let safe = x.safe_goal in
           let hit = ap (λ (s : ℕ). is_attacked p.men s by) at_goal
           ∙ sym (w.is_attacked_in-else-is_attacked_in.ensures p info) ∙ w.if-is_attacked_in-2.true in
           cc
     ]))
 
-pub returns : goal.returns
-returns c = λ t l.
+pub returns-clause-targets : goal.returns-clause-targets
+returns-clause-targets c = λ t l.
     let p = c.args.position.now in
     let by : Colour = other_side p.side in
     let king : ℕ = c.args.info.now.king in
@@ -90,7 +90,7 @@ returns c = λ t l.
             clear = ap (λ (a : ℕ). is_clear p.men a (rook_home p.side c.args.wing))
                 (at_home ∙ (c.index-home.ensures.number ∙ c.king_home.ensures)) ∙ way
                 ∙ eq-eqb (bit_and c.castling_way-between.result c.args.info.now.occupied) 0 c.if-between-info-ne0.false;
-            safe = sym (c.is_checked.ensures p info) ∙ c.if-is_checked.false;
+            safe = sym (c.is_checked_once.ensures.check) ∙ c.if-is_checked_once.false;
             safe_way = ap (λ (s : ℕ). is_attacked p.men s by) midway ∙ sym (c.is_attacked_in.ensures p info) ∙ c.if-is_attacked_in.false;
             safe_goal = ap (λ (s : ℕ). is_attacked p.men s by) at_goal
                 ∙ sym (c.is_attacked_in-else-is_attacked_in.ensures p info) ∙ c.if-is_attacked_in-2.false;
