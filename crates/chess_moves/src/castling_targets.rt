@@ -1,6 +1,6 @@
 //! Castling targets: where the king goes that castles (FIDE Laws of Chess, article 3.8.2).
 
-ghost use Rattle.std.specs.Prelude.{◌≡◌, ℕ, ◌<◌, IfSome};
+ghost use Rattle.std.specs.Prelude.{◌≡◌, ℕ, ◌<◌, false, IfSome};
 ghost use Rattle.square_sets.specs.Members.{has};
 ghost use Rattle.chess_board.specs.Positions.{Setup};
 ghost use Rattle.chess_board.specs.Men.{other_side};
@@ -122,4 +122,18 @@ pub(crate) fn castling_targets(rays: &Rays, position: &Position, info: &Legality
         return 0;
     }
     targets_of_wings(rays, position, info)
+}
+
+/// Where the king would go that castles, whether or not it may: from home it steps to none of these squares.
+#[inline(always)]
+pub(crate) fn castling_goals(info: &LegalityInfo) -> u64
+    ensures { (p : Setup) (t : ℕ) → IsLegalityInfoOf info.now p → t < 64 → has result t ≡ false
+        → castles p p.side info.now.king t ≡ false }
+{
+    if info.king != king_home(info.side).index() as u8 {
+        return 0;
+    }
+    let king_side = square_sets::single(king_goal(info.side, Wing::KingSide).index() as u8);
+    let queen_side = square_sets::single(king_goal(info.side, Wing::QueenSide).index() as u8);
+    king_side | queen_side
 }

@@ -9,7 +9,7 @@ ghost use Rattle.chess_board.specs.Positions.{man_at};
 ghost use Rattle.chess_moves.specs.inside.LegalityInfo.{IsLegalityInfoOf};
 ghost use Rattle.chess_moves.specs.inside.CheckSquares.{AreCheckSquaresOf, squares_of as squares_for, is_special as is_special_move};
 
-use crate::castling_targets::castling_targets;
+use crate::castling_targets::castling_goals;
 use crate::directions::Leap;
 use crate::en_passant_targets::en_passant_square;
 use crate::legality_info::LegalityInfo;
@@ -86,21 +86,16 @@ pub(crate) fn is_told(position: &Position, check_squares: &CheckSquares, man: Ma
         && !is_special(position, man, m)
 }
 
-/// The squares to which a man's special moves go.
+/// The squares to which a man's special moves go; a king's that castles, whether or not it may.
 #[inline(always)]
-pub(crate) fn special_squares(
-    rays: &Rays,
-    position: &Position,
-    info: &LegalityInfo,
-    man: Man,
-) -> u64
+pub(crate) fn special_squares(position: &Position, info: &LegalityInfo, man: Man) -> u64
     requires info { IsLegalityInfoOf info.now position.now }
     ensures { (m : MoveValue) → is_legal position.now m ≡ true → man_at position.now.men m.origin ≡ Some man → m.origin < 64
         → m.target < 64 → has result m.target ≡ false → is_special_move position.now man m ≡ false }
 {
     match man.kind {
         Kind::Pawn => promotion_squares(man) | en_passant_square(position),
-        Kind::King => castling_targets(rays, position, info),
+        Kind::King => castling_goals(info),
         Kind::Knight | Kind::Bishop | Kind::Rook | Kind::Queen => 0,
     }
 }

@@ -36,7 +36,7 @@ pub(crate) fn check_targets(
     ensures { (m : MoveValue) → is_legal position.now m ≡ true → m.origin ≡ origin → m.target < 64 → has result m.target ≡ false
         → gives_check position.now m ≡ false }
 {
-    let special = special_squares(rays, position, info, man);
+    let special = special_squares(position, info, man);
     if square_sets::contains(check_squares.queen, origin) {
         squares_behind(rays, position, man, origin) | special
     } else {

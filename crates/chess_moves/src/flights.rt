@@ -93,7 +93,7 @@ pub(crate) fn squares_that_cover(
 {
     // That a legal move leaves a sound position is this law.
     sound_after();
-    let special = special_squares(rays, position, info, mover.man);
+    let special = special_squares(position, info, mover.man);
     let mut covering = hopes;
     for flight in square_sets::squares(flights.squares) {
         if covering == 0 {

@@ -16,7 +16,7 @@ returns-in-Pawn c = λ m legal there on t none.
 pub returns-in-King : goal.returns-in-King
 returns-in-King c = λ m legal there on t none.
     plain_king c.args.info.now c.args.position.now c.args.man m c.requires.info legal there on c.in-King.is
-    (sym (c.castling_targets.ensures m.target t) ∙ none)
+    (c.castling_goals.ensures c.args.position.now m.target c.requires.info t none)
 
 pub returns-in-Knight : goal.returns-in-Knight
 returns-in-Knight c = λ m legal there on t none. plain_piece c.args.position.now c.args.man m legal there
