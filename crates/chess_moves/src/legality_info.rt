@@ -24,10 +24,11 @@ pub(crate) struct LegalityInfo {
     pub enemy: Force,
     /// The square of the king of the side to move.
     pub king: u8,
-    /// Where a man stands alone between the king and a slider of the other side: only men on these squares can be pinned.
+    /// Only men on these squares can be pinned: where one stands alone between the king and a slider of the other side, or all squares
+    /// where pins were not looked for.
     pub pin_squares: u64,
     /// The squares on which a man other than the king answers the checks that there are: all where there is none. It tells where a man
-    /// may go that stands on none of `pin_squares`.
+    /// may go that stands on none of `pin_squares`, and nothing where these are all squares.
     pub check_mask: u64,
 }
 
