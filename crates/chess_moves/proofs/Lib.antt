@@ -61,5 +61,4 @@ pub mod AttackedSets
 pub mod EmptyLines
 pub mod FlightSquares
 pub mod SliderSights
-pub mod KindMates
 pub mod MatingMoves

@@ -9,7 +9,7 @@ ghost use Rattle.chess_board.specs.Positions.{man_at};
 ghost use Rattle.chess_moves.specs.inside.Flights.{AreFlightsOf};
 ghost use Rattle.chess_moves.specs.inside.LegalityInfo.{IsLegalityInfoOf};
 ghost use Rattle.chess_moves.specs.inside.CheckSquares.{AreCheckSquaresOf};
-ghost use Rattle.chess_moves.specs.inside.MateInOne.{mates_from, kind_mates as some_of_kind_mates};
+ghost use Rattle.chess_moves.specs.inside.MateInOne.{mates_from};
 ghost use Rattle.chess_moves.specs.Verdicts.{is_mate, has_mating_move as some_move_mates};
 
 use crate::check_squares::{CheckSquares, check_squares_of};
@@ -18,62 +18,27 @@ use crate::flights::{Flights, Mover, flights_once, squares_that_cover};
 use crate::legal_targets::targets_from;
 use crate::legality_info::{LegalityInfo, bare_info_of};
 use crate::move_generation::ManMoves;
+use crate::promotions::own_man;
 use crate::pseudo_legal_targets::pseudo_legal_targets;
 use crate::ray_tables::Rays;
 use crate::verdict_of_position::is_mated;
-use chess_board::{Kind, Man, Position, after};
+use chess_board::{Kind, Position, after};
 
 /// Whether some legal move mates (FIDE Laws of Chess, article 5.1.1): the last move of a search. Of the moves only those that give
-/// check, or may, are made. The men are taken kind by kind, so that none has to be looked up, and those first that mate most.
+/// check, or may, are made.
 pub fn has_mating_move(rays: &Rays, position: &Position) -> bool
     ensures { result ≡ some_move_mates position.now }
 {
     // Few men are left of whom it is asked whether they may go, and each is asked by itself.
     let info = bare_info_of(position);
-    let checking = check_squares_of(rays, position);
+    let check_squares = check_squares_of(rays, position);
     let mut flights = None;
-    if kind_mates(rays, position, &info, &checking, &mut flights, Kind::Queen) {
-        return true;
-    }
-    if kind_mates(rays, position, &info, &checking, &mut flights, Kind::Rook) {
-        return true;
-    }
-    if kind_mates(rays, position, &info, &checking, &mut flights, Kind::Bishop) {
-        return true;
-    }
-    if kind_mates(rays, position, &info, &checking, &mut flights, Kind::Knight) {
-        return true;
-    }
-    if kind_mates(rays, position, &info, &checking, &mut flights, Kind::Pawn) {
-        return true;
-    }
-    kind_mates(rays, position, &info, &checking, &mut flights, Kind::King)
-}
-
-/// Whether a legal move of a man of this kind mates.
-#[inline(always)]
-fn kind_mates(
-    rays: &Rays,
-    position: &Position,
-    info: &LegalityInfo,
-    check_squares: &CheckSquares,
-    flights: &mut Option<Flights>,
-    kind: Kind,
-) -> bool
-    requires info { IsLegalityInfoOf info.now position.now }
-    requires check_squares { AreCheckSquaresOf check_squares.now position.now }
-    requires flights { IfSome flights.old (λ f. AreFlightsOf f position.now) }
-    ensures mates { result ≡ some_of_kind_mates position.now kind }
-    ensures flights { IfSome flights.new (λ f. AreFlightsOf f position.now) }
-{
-    let man = Man {
-        colour: info.side,
-        kind,
-    };
-    let men = position.men(info.side, kind);
-    for origin in square_sets::squares(men) {
-        let mover = Mover { man, origin };
-        if man_mates(rays, position, info, check_squares, flights, mover) {
+    for origin in square_sets::squares(info.own) {
+        let mover = Mover {
+            man: own_man(position, origin),
+            origin,
+        };
+        if man_mates(rays, position, &info, &check_squares, &mut flights, mover) {
             return true;
         }
     }

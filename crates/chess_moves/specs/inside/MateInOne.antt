@@ -1,10 +1,7 @@
--- Not for believing: mate in one, told kind by kind, and man by man.
-use Rattle.std.specs.Prelude.{ℕ, Bool, ◌&&◌, List, filter}
+-- Not for believing: mate in one, told man by man.
+use Rattle.std.specs.Prelude.{ℕ, Bool, List, filter}
 use Rattle.std.specs.List.{list_any}
-use Rattle.chess_board.specs.declared.men.Kind.{Kind}
-use Rattle.chess_board.specs.Squares.{some_square}
-use Rattle.chess_board.specs.Men.{is_man}
-use Rattle.chess_board.specs.Positions.{Setup, man_at}
+use Rattle.chess_board.specs.Positions.{Setup}
 use Rattle.chess_board.specs.MakeMove.{after_setup}
 use Rattle.chess_board.specs.Legality.{is_legal}
 use Rattle.chess_board.specs.Moves.{Move}
@@ -14,10 +11,6 @@ use Rattle.chess_moves.specs.Verdicts.{is_mate}
 -- A legal move from the square mates.
 abbrev pub mates_from : Setup → ℕ → Bool
 mates_from p o = list_any (λ m. is_mate (after_setup p m)) (filter (is_legal p) (moves_to o 64))
-
--- So does one of a man of this kind.
-unfoldable pub kind_mates : Setup → Kind → Bool
-kind_mates p asked = some_square (λ o. is_man p.side asked (man_at p.men o) && mates_from p o)
 
 -- the legal moves from the square that mate
 abbrev pub mates_of : Setup → ℕ → List Move

@@ -1,53 +1,54 @@
-use Rattle.std.proofs.Common.{refl, sym, ◌∙◌}
-use Rattle.chess_moves.proofs.KindMates.{mates_by_kind}
+use Rattle.std.proofs.Common.{◌||◌, sym, ap, ◌∙◌, filter}
+use Rattle.std.specs.List.{list_any}
+use Rattle.std.proofs.lemmas.List.Folds.{list_any-append}
+use Rattle.square_sets.specs.Members.{members}
+use Rattle.chess_board.specs.MakeMove.{after_setup}
+use Rattle.chess_board.specs.Legality.{is_legal}
+use Rattle.chess_moves.specs.inside.Listing.{moves_to}
+use Rattle.chess_moves.specs.Verdicts.{is_mate, has_mating_move}
+use Rattle.chess_moves.specs.inside.MoveGeneration.{moves_of_men}
+use Rattle.chess_moves.proofs.Members.{no_members}
+use Rattle.chess_moves.proofs.Walks.{first_man, legal_of_men, own_all, own_others}
 use Rattle.chess_moves.proofs.mate_in_one.has_mating_move.Goals as goal
 
-pub returns-then-kind_mates : goal.returns-then-kind_mates
-returns-then-kind_mates c =
+pub loop-origin-init : goal.loop-origin-init
+loop-origin-init c =
     let p = c.args.position.now in
-    let found = sym c.kind_mates.ensures.mates ∙ c.if-kind_mates.true in
-    sym (mates_by_kind p c.bare_info_of-info.result.own c.bare_info_of-info.ensures.own ∙ rw (found) refl)
+    let h = c.bare_info_of-info.ensures in
+    let start = c.into_iter-origin-iterator.ensures.into_iter_gives ∙ c.squares-origin-items.ensures in
+    record {
+      any = rw start (ap (list_any (λ m. is_mate (after_setup p m))) (sym (legal_of_men p c.bare_info_of-info.result.own h.own)));
+      own = rw start (own_all p c.bare_info_of-info.result.own h.own);
+      flights = cc;
+    }
 
-pub returns-then-kind_mates-2 : goal.returns-then-kind_mates-2
-returns-then-kind_mates-2 c =
+pub returns-then-man_mates : goal.returns-then-man_mates
+unfolding has_mating_move
+returns-then-man_mates c =
     let p = c.args.position.now in
-    let none = sym c.kind_mates.ensures.mates ∙ c.if-kind_mates.false in
-    let found = sym c.kind_mates-2.ensures.mates ∙ c.if-kind_mates-2.true in
-    sym (mates_by_kind p c.bare_info_of-info.result.own c.bare_info_of-info.ensures.own ∙ rw (none, found) refl)
+    let o = c.in-Some.origin in
+    let rest = c.next.new.self in
+    let first = ap (list_any (λ m. is_mate (after_setup p m))) (first_man p c.loop-origin.origin-iterator o rest c.in-Some.ensures.steps)
+    ∙ list_any-append (λ m. is_mate (after_setup p m)) (filter (is_legal p) (moves_to o 64)) (moves_of_men p (members rest)) in
+    let found = sym c.man_mates.ensures.mates ∙ c.if-man_mates.true in
+    sym (sym c.loop-origin.invariant.any ∙ first ∙ ap (λ x. x || list_any (λ m. is_mate (after_setup p m)) (moves_of_men p (members rest))) found)
 
-pub returns-then-kind_mates-3 : goal.returns-then-kind_mates-3
-returns-then-kind_mates-3 c =
+pub loop-origin-preserved : goal.loop-origin-preserved
+loop-origin-preserved c =
     let p = c.args.position.now in
-    let none = sym c.kind_mates.ensures.mates ∙ c.if-kind_mates.false in
-    let none2 = sym c.kind_mates-2.ensures.mates ∙ c.if-kind_mates-2.false in
-    let found = sym c.kind_mates-3.ensures.mates ∙ c.if-kind_mates-3.true in
-    sym (mates_by_kind p c.bare_info_of-info.result.own c.bare_info_of-info.ensures.own ∙ rw (none, none2, found) refl)
-
-pub returns-then-kind_mates-4 : goal.returns-then-kind_mates-4
-returns-then-kind_mates-4 c =
-    let p = c.args.position.now in
-    let none = sym c.kind_mates.ensures.mates ∙ c.if-kind_mates.false in
-    let none2 = sym c.kind_mates-2.ensures.mates ∙ c.if-kind_mates-2.false in
-    let none3 = sym c.kind_mates-3.ensures.mates ∙ c.if-kind_mates-3.false in
-    let found = sym c.kind_mates-4.ensures.mates ∙ c.if-kind_mates-4.true in
-    sym (mates_by_kind p c.bare_info_of-info.result.own c.bare_info_of-info.ensures.own ∙ rw (none, none2, none3, found) refl)
-
-pub returns-then-kind_mates-5 : goal.returns-then-kind_mates-5
-returns-then-kind_mates-5 c =
-    let p = c.args.position.now in
-    let none = sym c.kind_mates.ensures.mates ∙ c.if-kind_mates.false in
-    let none2 = sym c.kind_mates-2.ensures.mates ∙ c.if-kind_mates-2.false in
-    let none3 = sym c.kind_mates-3.ensures.mates ∙ c.if-kind_mates-3.false in
-    let none4 = sym c.kind_mates-4.ensures.mates ∙ c.if-kind_mates-4.false in
-    let found = sym c.kind_mates-5.ensures.mates ∙ c.if-kind_mates-5.true in
-    sym (mates_by_kind p c.bare_info_of-info.result.own c.bare_info_of-info.ensures.own ∙ rw (none, none2, none3, none4, found) refl)
+    let o = c.in-Some.origin in
+    let rest = c.next.new.self in
+    let first = ap (list_any (λ m. is_mate (after_setup p m))) (first_man p c.loop-origin.origin-iterator o rest c.in-Some.ensures.steps)
+    ∙ list_any-append (λ m. is_mate (after_setup p m)) (filter (is_legal p) (moves_to o 64)) (moves_of_men p (members rest)) in
+    let none = sym c.man_mates.ensures.mates ∙ c.if-man_mates.false in
+    record {
+      any = sym (ap (λ x. x || list_any (λ m. is_mate (after_setup p m)) (moves_of_men p (members rest))) none)
+          ∙ sym first ∙ c.loop-origin.invariant.any;
+      own = own_others p c.loop-origin.origin-iterator o rest c.in-Some.ensures.steps c.loop-origin.invariant.own;
+      flights = c.man_mates.ensures.flights;
+    }
 
 pub returns : goal.returns
-returns c =
-    let p = c.args.position.now in
-    let none = sym c.kind_mates.ensures.mates ∙ c.if-kind_mates.false in
-    let none2 = sym c.kind_mates-2.ensures.mates ∙ c.if-kind_mates-2.false in
-    let none3 = sym c.kind_mates-3.ensures.mates ∙ c.if-kind_mates-3.false in
-    let none4 = sym c.kind_mates-4.ensures.mates ∙ c.if-kind_mates-4.false in
-    let none5 = sym c.kind_mates-5.ensures.mates ∙ c.if-kind_mates-5.false in
-    sym (mates_by_kind p c.bare_info_of-info.result.own c.bare_info_of-info.ensures.own ∙ rw (none, none2, none3, none4, none5) (sym c.kind_mates-6.ensures.mates))
+unfolding has_mating_move
+returns c = sym (ap (list_any (λ m. is_mate (after_setup c.args.position.now m))) (ap (moves_of_men c.args.position.now)
+    (no_members c.loop-origin.origin-iterator c.in-None.ensures.steps.0))) ∙ c.loop-origin.invariant.any

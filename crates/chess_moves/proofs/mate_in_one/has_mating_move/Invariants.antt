@@ -4,15 +4,16 @@ use Rattle.std.specs.Option.{IfSome}
 use Rattle.square_sets.specs.Members.{members}
 use Rattle.chess_board.specs.MakeMove.{after_setup}
 use Rattle.chess_moves.specs.inside.Flights.{AreFlightsOf}
-use Rattle.chess_moves.specs.inside.MateInOne.{kind_mates}
-use Rattle.chess_moves.specs.inside.MoveGeneration.{moves_of_men, HaveMenOf}
+use Rattle.chess_moves.specs.inside.Listing.{legal_moves}
+use Rattle.chess_moves.specs.inside.MoveGeneration.{moves_of_men, HaveOwnMen}
 use Rattle.chess_moves.specs.Verdicts.{is_mate}
-use Rattle.chess_moves.proofs.mate_in_one.kind_mates.Given as goal
+use Rattle.chess_moves.proofs.mate_in_one.has_mating_move.Given as goal
 
 -- no man so far mates
 abbrev pub invariant-loop-origin : goal.invariant-loop-origin
 invariant-loop-origin l = record {
-  any : list_any (λ m. is_mate (after_setup l.position m)) (moves_of_men l.position (members l.origin-iterator)) ≡ kind_mates l.position l.fn.kind;
-  men : HaveMenOf l.fn.kind l.origin-iterator l.position;
+  any : list_any (λ m. is_mate (after_setup l.position m)) (moves_of_men l.position (members l.origin-iterator))
+      ≡ list_any (λ m. is_mate (after_setup l.position m)) (legal_moves l.position);
+  own : HaveOwnMen l.origin-iterator l.position;
   flights : IfSome l.flights (λ f. AreFlightsOf f l.position);
 }
