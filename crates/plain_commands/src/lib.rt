@@ -1,6 +1,6 @@
 //! The commands of the program `matedesk` that start no thread: `look`, `play`, `moves` and `perft` over a position, or over files of
-//! positions, `solve`, `verify` and `tree` over files of problems, `replay` over a script, `explain` over a table of faults; and what all
-//! commands share, files by their names, what is shown, messages, and the status at the end.
+//! positions, `solve` (without `--workers` and `--limit`), `verify` and `tree` over files of problems, `replay` over a script, `explain` over
+//! a table of faults; and what all commands share, files by their names, what is shown, messages, and the status at the end.
 //!
 //! What the words of a command line ask for is the business of `command_words`, and what is answered that of the crates of chess and of the
 //! desk. To read: `answering`, where the contract of `plain_command` says how each command ends; `sources` (a `Source` is the files that a
