@@ -20,7 +20,7 @@ use crate::help::{
     ABOUT_SVG, ABOUT_TITLE, ABOUT_TREE, ABOUT_TRIES, ABOUT_UCI, ABOUT_VERIFY, ABOUT_WORKERS,
     AFTER_EXPLAIN, AFTER_HELP, AFTER_IMPORT, AFTER_LOOK, AFTER_LOOK_LINES, AFTER_MOVES,
     AFTER_MOVES_LINES, AFTER_PERFT, AFTER_PERFT_LINES, AFTER_PLAY, AFTER_REPLAY, AFTER_SERVE,
-    AFTER_SHEET, AFTER_SOLVE, AFTER_TREE, AFTER_UCI, AFTER_VERIFY, VERSION_AND_KIT,
+    AFTER_SHEET, AFTER_SOLVE, AFTER_TREE, AFTER_UCI, AFTER_VERIFY, VERSION,
 };
 use clap::{Arg, ArgAction, Command, value_parser};
 use std::alloc::{AllocError, Global};
@@ -459,7 +459,7 @@ fn bare_command<'a>(alloc: Global) -> Command<'a>
     ensures { (app_of result ≡ bare_app) × IsLocal result }
 {
     Command::new(alloc, "matedesk")
-        .version(VERSION_AND_KIT)
+        .version(VERSION)
         .about(ABOUT)
         .after_help(AFTER_HELP)
         .subcommand_required(true)

@@ -1,10 +1,7 @@
 //! The texts that `--help` and `--version` print.
 
-/// The version of the program.
+/// The version of the program, which `--version` prints behind its name.
 pub const VERSION: &str = "0.1.0";
-
-/// What `--version` prints behind the program's name: that version, and the kit by which it is proved and built.
-pub const VERSION_AND_KIT: &str = "0.1.0 (rattle-kit-13b)";
 
 /// What the program is.
 pub const ABOUT: &str =
