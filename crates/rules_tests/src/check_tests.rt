@@ -1,9 +1,43 @@
-//! The moves that give check, and those that mate, in known positions.
+//! Check, the moves that give it, and those that mate, in known positions.
 
-use crate::test_positions::position_of;
-use chess_moves::{MoveList, Rays, checks, has_mating_move, push_mating_moves};
+use crate::test_positions::{INITIAL, position_of};
+use chess_moves::{MoveList, Rays, checks, has_mating_move, in_check, push_mating_moves};
 use std::process::Abort;
 use std::test::Fail;
+
+#[test]
+fn tells_whether_the_side_to_move_is_in_check(rt: HostRuntime) -> Result<(), Fail> {
+    let table = [
+        (INITIAL, false),
+        // On a file, on a diagonal, and through a man.
+        ("7k/8/6K1/8/8/8/8/7R b - - 0 1", true),
+        ("7k/8/8/8/8/8/8/B3K3 b - - 0 1", true),
+        ("7k/8/8/4p3/8/8/8/B3K3 b - - 0 1", false),
+        (
+            "rnb1kbnr/pppp1ppp/8/4p3/6Pq/5P2/PPPPP2P/RNBQKBNR w KQkq - 1 3",
+            true,
+        ),
+        // Stalemate.
+        ("7k/5Q2/6K1/8/8/8/8/8 b - - 0 1", false),
+        ("7k/5N2/8/8/8/8/8/K7 b - - 0 1", true),
+        // Pawns attack aslant, each colour's to its front.
+        ("7k/6P1/8/8/8/8/8/K7 b - - 0 1", true),
+        ("7k/7P/8/8/8/8/8/K7 b - - 0 1", false),
+        ("7k/8/8/8/8/8/1p6/K7 w - - 0 1", true),
+        ("7k/8/8/8/8/8/p7/K7 w - - 0 1", false),
+        ("8/7P/6k1/8/8/8/8/K7 b - - 0 1", false),
+        // A man that is pinned gives check as well.
+        ("7k/8/8/8/K6r/8/8/7R w - - 0 1", true),
+        // The side's own men give none.
+        ("7k/8/8/8/8/8/8/R3K3 w - - 0 1", false),
+    ];
+    let rays = Rays::new();
+    for (text, expected) in table {
+        let position = position_of(text)?;
+        assert_eq!(rt; in_check(&rays, &position), expected, "{text}");
+    }
+    Ok(())
+}
 
 #[test]
 fn lists_each_check(rt: HostRuntime) -> Result<(), Fail> {
