@@ -2,7 +2,7 @@
 
 use crate::test_positions::{INITIAL, position_of, square_of};
 use chess_board::{Colour, Kind, Move};
-use chess_moves::{Rays, Verdict, attacked, is_legal, legal, verdict};
+use chess_moves::{Rays, Verdict, attacked, is_legal, legal, legal_moves_of, verdict};
 use std::process::Abort;
 use std::test::Fail;
 
@@ -38,6 +38,59 @@ fn lists_moves_in_order(rt: HostRuntime) -> Result<(), Fail> {
         &rt,
         "8/P7/8/8/8/8/7p/K6k w - - 0 1",
         &["a1b1", "a1a2", "a1b2", "a7a8n", "a7a8b", "a7a8r", "a7a8q"],
+    )
+}
+
+/// The legal moves of the men on these squares are these, in this order.
+fn check_list_of(
+    rt: &impl Abort,
+    text: &str,
+    names: &[&[u8; 2]],
+    expected: &[&str],
+) -> Result<(), Fail> {
+    let rays = Rays::new();
+    let position = position_of(text)?;
+    let mut men = 0;
+    for name in names {
+        men = square_sets::with(men, square_of(*name)?.index() as u8);
+    }
+    let mut left = legal_moves_of(&rays, &position, men);
+    for expected in expected {
+        let m = left.next().ok_or("a move is missing")?;
+        assert_eq!(rt; m.text().as_str(), *expected, "{text}");
+    }
+    assert!(rt; left.next().is_none(), "{text}");
+    Ok(())
+}
+
+#[test]
+fn lists_the_moves_of_some_men(rt: HostRuntime) -> Result<(), Fail> {
+    let promoting = "8/P7/8/8/8/8/7p/K6k w - - 0 1";
+    let steps = ["a1b1", "a1a2", "a1b2"];
+    let promotions = ["a7a8n", "a7a8b", "a7a8r", "a7a8q"];
+    let all = ["a1b1", "a1a2", "a1b2", "a7a8n", "a7a8b", "a7a8r", "a7a8q"];
+    check_list_of(&rt, promoting, &[b"a1"], &steps)?;
+    check_list_of(&rt, promoting, &[b"a7"], &promotions)?;
+    check_list_of(&rt, promoting, &[b"a7", b"a1", b"e4"], &all)?;
+    // A man of the other side, and none.
+    check_list_of(&rt, promoting, &[b"h2"], &[])?;
+    check_list_of(&rt, promoting, &[], &[])?;
+    // Both wings are open to the king.
+    check_list_of(
+        &rt,
+        "r3k2r/8/8/8/8/8/8/R3K2R w KQkq - 0 1",
+        &[b"e1", b"e8"],
+        &["e1c1", "e1d1", "e1f1", "e1g1", "e1d2", "e1e2", "e1f2"],
+    )?;
+    // A pinned knight has no move; a pinned rook goes along the line.
+    let knight = "4r2k/8/8/8/8/8/4N3/4K3 w - - 0 1";
+    check_list_of(&rt, knight, &[b"e2"], &[])?;
+    check_list_of(&rt, knight, &[b"e1"], &["e1d1", "e1f1", "e1d2", "e1f2"])?;
+    check_list_of(
+        &rt,
+        "4r2k/8/8/8/8/8/4R3/4K3 w - - 0 1",
+        &[b"e2"],
+        &["e2e3", "e2e4", "e2e5", "e2e6", "e2e7", "e2e8"],
     )
 }
 
