@@ -172,7 +172,8 @@ impl Memo {
         requires { is_lost ≡ lost 1 position.now }
         ensures { self.new ≡ self.old }
     {
-        self.transpositions.keep(place, position, is_lost);
+        let held = self.cache.len();
+        self.transpositions.keep(place, position, is_lost, held);
     }
 
     /// The two replies that refuted last with one move left to the attacker.

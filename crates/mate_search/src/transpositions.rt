@@ -10,13 +10,18 @@ use std::alloc::Global;
 use std::hash::{BuildHasher, BuildHasherDefault, FoldHasher};
 use std::marker::Model;
 
-/// How many positions are kept at first, and once so many times as many were judged, at most: no more than a memo has entries. They are few,
-/// so that they stay where they are read soon: lines that meet do so before long.
-const FIRST_PLACES: usize = 256;
-
+/// How many places there are, at most. They are few, so that they stay where they are read soon: lines that meet do so before long.
 const PLACES: usize = 4096;
 
-const JUDGED_A_PLACE: usize = 4;
+/// After how many positions that were judged it is looked whether there are to be more places. Each place that is made is paid for by one
+/// that was judged since places were made last.
+const JUDGED_A_LOOK: usize = 1024;
+
+/// There is at most a place for each entry that a memo holds, and one for twelve of these and six times as many that it has room for: so
+/// table and filter take less than a tenth of what the entries take and the index that a memo begins with.
+const ENTRIES_A_PLACE: usize = 12;
+
+const ROOM_AN_ENTRY: usize = 6;
 
 /// The largest power of two up to a number; 1 for 0.
 pub(crate) fn power_of_two_within(number: usize) -> usize {
@@ -49,12 +54,12 @@ impl Model for Judged {
 #[derive(Drop)]
 pub(crate) struct Transpositions {
     alloc: Global,
-    places: Vec<Option<Judged>>,
+    places: Vec<Judged>,
     /// A byte of the hash of the position in each place: most that is asked about is told to be another by it, and no place is read.
     tags: Vec<u8>,
-    /// How many places there are to be at most, a power of two.
-    most: usize,
-    /// How many positions were judged since there are so many places, and after how many there are to be more.
+    /// How many entries the memo has room for.
+    room: usize,
+    /// How many positions were judged since there are so many places, and after how many it is looked whether there are to be more.
     judged: usize,
     enough: usize,
 }
@@ -85,15 +90,15 @@ fn is_same_position(p: &Position, q: &Position) -> bool
 }
 
 impl Transpositions {
-    /// None yet, of a memo with room for so many entries. No memory is asked for before a position is kept.
+    /// None yet, of a memo with room for so many entries.
     pub(crate) fn none(alloc: Global, entries: usize) -> Transpositions {
         Transpositions {
             alloc,
             places: Vec::new(alloc),
             tags: Vec::new(alloc),
-            most: power_of_two_within(entries.min(PLACES)),
+            room: entries,
             judged: 0,
-            enough: 0,
+            enough: JUDGED_A_LOOK,
         }
     }
 
@@ -115,7 +120,7 @@ impl Transpositions {
         }
         // That two positions which `==` calls equal are one is a law of sound positions.
         equal_reads();
-        let Some(Some(judged)) = self.places.get(index) else {
+        let Some(judged) = self.places.get(index) else {
             return None;
         };
         // That both are sound is a clause of these calls.
@@ -127,12 +132,16 @@ impl Transpositions {
         None
     }
 
-    /// Keeps what was found of a position, in this place. Where memory is refused, it is not kept.
-    pub(crate) fn keep(&mut self, place: Place, position: &Position, is_lost: bool)
+    /// Keeps what was found of a position, in this place, where the memo holds so many entries. Where memory is refused, it is not kept.
+    pub(crate) fn keep(&mut self, place: Place, position: &Position, is_lost: bool, held: usize)
         requires { is_lost ≡ lost 1 position.now }
     {
+        let judged = Judged {
+            position: *position,
+            is_lost,
+        };
         if self.judged >= self.enough {
-            self.grow();
+            self.grow(held, judged);
         }
         self.judged = self.judged.saturating_add(1);
         let index = self.index_of(place);
@@ -140,32 +149,40 @@ impl Transpositions {
             *tag = place.tag;
         }
         if let Some(kept) = self.places.get_mut(index) {
-            *kept = Some(Judged {
-                position: *position,
-                is_lost,
-            });
+            *kept = judged;
         }
     }
 
-    /// Makes the first places, or all, and forgets what was kept. Where memory is refused, all stays as it is for as long again.
-    fn grow(&mut self) {
-        let places = if self.tags.is_empty() {
-            self.most.min(FIRST_PLACES)
-        } else {
-            self.most
-        };
-        self.judged = 0;
-        self.enough = FIRST_PLACES * JUDGED_A_PLACE;
+    /// How many places there may be where the memo holds so many entries: none, or a power of two.
+    fn places_for(&self, held: usize) -> usize {
+        let within = (self.room / ROOM_AN_ENTRY).saturating_add(held) / ENTRIES_A_PLACE;
+        match held.min(within).min(self.judged).min(PLACES) {
+            0 => 0,
+            places => power_of_two_within(places),
+        }
+    }
+
+    /// Makes more places where the memo holds enough entries, all with this position, and forgets what was kept. Where memory is refused, all
+    /// stays as it is until the next look.
+    fn grow(&mut self, held: usize, judged: Judged) {
+        self.enough = self.judged.saturating_add(JUDGED_A_LOOK);
+        let places = self.places_for(held);
+        if places <= self.tags.len() {
+            return;
+        }
         let Ok(tags) = Vec::from_elem(self.alloc, 0, places) else {
             return;
         };
-        let Ok(fresh) = Vec::from_elem(self.alloc, None, places) else {
+        let Ok(fresh) = Vec::from_elem(self.alloc, judged, places) else {
             return;
         };
         self.places = fresh;
         self.tags = tags;
-        if places == self.most {
-            self.enough = usize::MAX;
-        }
+        self.judged = 0;
+        self.enough = if places == PLACES {
+            usize::MAX
+        } else {
+            JUDGED_A_LOOK
+        };
     }
 }
