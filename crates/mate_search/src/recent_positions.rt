@@ -11,9 +11,6 @@ const A_WORD: usize = 8;
 /// How many words a half has at first, at most. Most problems meet no more positions than it has room for.
 const FIRST_WORDS: usize = 1024;
 
-/// How many times as many it has where it grows.
-const GROWTH: usize = 8;
-
 /// The squares of White's men and of Black's: by these the filter tells positions apart.
 #[derive(Clone, Copy)]
 pub(crate) struct Camps {
@@ -162,9 +159,17 @@ impl RecentPositions {
         self.met = self.met.saturating_add(1);
     }
 
+    /// How many words a half has for as many marks as the memo has entries, the least power of two that is enough.
+    fn words(&self) -> usize {
+        match self.most.saturating_sub(1) / A_WORD {
+            0 => 1,
+            fewer => power_of_two_within(fewer).saturating_mul(2),
+        }
+    }
+
     /// Begins with the first position, or, where memory is refused, never: that position would have no mark.
     fn begin(&mut self) {
-        let words = power_of_two_within(self.most / A_WORD).min(FIRST_WORDS);
+        let words = self.words().min(FIRST_WORDS);
         self.full = self.most.min(words.saturating_mul(A_WORD)).max(1);
         if let Ok(newer) = Vec::from_elem(self.alloc, 0, words) {
             self.newer = newer;
@@ -183,17 +188,16 @@ impl RecentPositions {
     /// Lets the newer half grow. Each word stands in the larger one wherever a hash that named it may name it now. Where memory is refused,
     /// it stays as it is.
     fn grow(&mut self) {
-        let words = self.newer.len().saturating_mul(GROWTH);
+        let words = self.words();
         self.full = self.most;
         let Ok(mut larger) = Vec::with_capacity(self.alloc, words) else {
             return;
         };
-        for _ in 0..GROWTH {
+        for _ in 0..words / FIRST_WORDS {
             if larger.extend_from_slice(&self.newer).is_err() {
                 return;
             }
         }
-        self.full = self.most.min(words.saturating_mul(A_WORD));
         self.newer = larger;
     }
 
@@ -201,10 +205,11 @@ impl RecentPositions {
     fn turn(&mut self) {
         self.met = 0;
         if self.older.is_empty() {
-            match Vec::from_elem(self.alloc, 0, self.newer.len()) {
-                Ok(older) => self.older = older,
-                Err(_) => return,
+            if let Ok(fresh) = Vec::from_elem(self.alloc, 0, self.newer.len()) {
+                self.older = fresh;
+                std::mem::swap(&mut self.newer, &mut self.older);
             }
+            return;
         }
         std::mem::swap(&mut self.newer, &mut self.older);
         for word in self.newer.iter_mut() {
