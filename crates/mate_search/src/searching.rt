@@ -130,6 +130,8 @@ fn wins_by_some<H: Halt>(
 
 /// Whether the defender loses. With one move left to the attacker that may be known from another line that led to the same position. With
 /// more it is not kept, since the guide is asked whether to stop once for each position that is searched, and by that they are counted.
+/// It is laid in, so that the stack of a search has no frame of it.
+#[inline(always)]
 #[cycle(search)]
 fn loses_again<H: Halt>(
     guide: &Guide<H>,
