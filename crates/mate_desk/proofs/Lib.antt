@@ -24,6 +24,7 @@ pub mod Handovers
 pub mod Collecting
 pub mod Finishing
 pub mod Placing
+pub mod JobOrder
 pub mod Promises
 pub mod Beginnings
 pub mod HistoryReadings

@@ -1,84 +1,45 @@
-//! The jobs in hand. Each stands in a place of its own, taken beforehand, so that where one leaves, the later ones close up without
-//! being moved.
+//! The jobs in hand. Each keeps its place until it leaves, when the job in the last place goes there; the order of taking is a list
+//! of the numbers of their places.
 
-ghost use Rattle.std.specs.Prelude.{◌≡◌, ◌<◌, ◌+◌, [], ◌∷◌, ◌++◌, length, remove, slice_index_or, vec_len, vec_capacity, IfOk};
+ghost use Rattle.std.specs.Prelude.{ℕ, ◌≡◌, ◌<◌, ◌+◌, ◌==◌, [], ◌∷◌, ◌++◌, length, remove, slice_index_or, count_by, IfOk};
 
 use mate_jobs::Job;
 use std::alloc::{AllocError, Global};
 use std::marker::Model;
 
-/// A job in its place. Contracts see the job alone.
-#[derive(Drop)]
-struct HeldJob {
-    place: Vec<Job>,
-}
-
-impl Model for HeldJob {
-    ghost use Rattle.std.specs.Prelude.{◌≡◌, ◌<◌, length, vec_capacity};
-    ghost use Rattle.mate_jobs.specs.Jobs.{Task};
-    ghost use Rattle.mate_desk.specs.inside.HeldJobs.{the_job};
-
-    ghost Value = { Task };
-
-    ghost view = { λ h. the_job h.place.items };
-
-    ghost invariant = { λ h. (length h.place.items ≡ 1) × (0 < vec_capacity h.place) };
-}
-
-impl HeldJob {
-    /// The job, and the place that it leaves.
-    fn leave(self) -> (Job, JobPlace)
-        ensures { result.0 ≡ self }
-    {
-        let HeldJob { mut place } = self;
-        let job = place.swap_remove(0);
-        (job, JobPlace { room: place })
-    }
-}
-
-/// A place for a job, with its memory, and no job there.
-#[derive(Drop)]
-struct JobPlace {
-    room: Vec<Job>,
-    ghost empty: { vec_len room ≡ 0 },
-    ghost roomy: { 0 < vec_capacity room },
-}
-
-impl JobPlace {
-    /// A place, where there is memory for one.
-    fn new(alloc: Global) -> Result<JobPlace, AllocError> {
-        Ok(JobPlace {
-            room: Vec::with_capacity(alloc, 1)?,
-        })
-    }
-
-    /// Puts a job there.
-    fn hold(self, job: Job) -> HeldJob
-        ensures { result ≡ job }
-    {
-        let JobPlace { mut room } = self;
-        room.push_reserved(job);
-        HeldJob { place: room }
-    }
-}
-
-/// The jobs in hand, in the order of taking, and the places that are free.
+/// The jobs in hand, in places that are reserved, and the number of each one's place in the order of taking.
 #[derive(Drop)]
 pub(crate) struct Hand {
-    jobs: Vec<HeldJob>,
-    free: Vec<JobPlace>,
+    jobs: Vec<Job>,
+    order: Vec<usize>,
 }
 
 impl Model for Hand {
-    ghost use Rattle.std.specs.Prelude.{◌≤◌, ◌+◌, vec_len, vec_capacity};
-    ghost use Rattle.mate_desk.specs.inside.HeldJobs.{HandValue};
+    ghost use Rattle.std.specs.Prelude.{◌≡◌, ◌≤◌, vec_len, vec_capacity};
+    ghost use Rattle.mate_desk.specs.inside.HeldJobs.{HandValue, jobs_in, AreNamedOnce};
 
     ghost Value = { HandValue };
 
-    ghost view = { λ h. record { jobs = h.jobs.items; room = vec_len h.jobs + vec_len h.free } };
+    ghost view = { λ h. record { jobs = jobs_in h.jobs.items h.order.items; room = vec_capacity h.jobs } };
 
-    ghost invariant = { λ h. (vec_len h.jobs + vec_len h.free ≤ vec_capacity h.jobs)
-        × (vec_len h.jobs + vec_len h.free ≤ vec_capacity h.free) };
+    ghost invariant = { λ h. (vec_len h.order ≡ vec_len h.jobs) × (vec_capacity h.jobs ≤ vec_capacity h.order)
+        × AreNamedOnce (vec_len h.jobs) h.order.items };
+}
+
+/// Where a place is named. It is sought from the end, where those stand that were taken last.
+fn index_of(order: &[usize], place: usize) -> usize
+    requires { 0 < count_by (λ n. n == place) order.now }
+    ensures inside { result < length order.now }
+    ensures named { (d : ℕ) → slice_index_or order.now result d ≡ place }
+{
+    let mut i = order.len();
+    while i > 0 {
+        i -= 1;
+        if order[i] == place {
+            return i;
+        }
+    }
+    unreachable!()
 }
 
 impl Hand {
@@ -88,12 +49,8 @@ impl Hand {
         ensures room { IfOk result (λ hand. hand.room ≡ room) }
     {
         let jobs = Vec::with_capacity(alloc, room)?;
-        let mut free = Vec::with_capacity(alloc, room)?;
-        for _ in 0..room {
-            let place = JobPlace::new(alloc)?;
-            free.push_reserved(place);
-        }
-        Ok(Hand { jobs, free })
+        let order = Vec::with_capacity(alloc, room)?;
+        Ok(Hand { jobs, order })
     }
 
     /// How many jobs are in hand.
@@ -109,10 +66,8 @@ impl Hand {
         ensures jobs { self.new.jobs ≡ self.old.jobs ++ job ∷ [] }
         ensures room { self.new.room ≡ self.old.room }
     {
-        match self.free.pop() {
-            Some(place) => self.jobs.push_reserved(place.hold(job)),
-            None => unreachable!(),
-        }
+        self.order.push_reserved(self.jobs.len());
+        self.jobs.push_reserved(job);
     }
 
     /// Takes a job out of the hand.
@@ -123,8 +78,13 @@ impl Hand {
         ensures fewer { length self.new.jobs + 1 ≡ length self.old.jobs }
         ensures room { self.new.room ≡ self.old.room }
     {
-        let (job, place) = self.jobs.remove(i).leave();
-        self.free.push_reserved(place);
-        job
+        let place = self.order.remove(i);
+        let last = self.jobs.len() - 1;
+        if place == last {
+            return self.jobs.swap_remove(place);
+        }
+        let moved = index_of(&self.order, last);
+        self.order[moved] = place;
+        self.jobs.swap_remove(place)
     }
 }
