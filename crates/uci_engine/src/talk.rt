@@ -19,8 +19,8 @@ use uci_commands::{
 /// How many entries a memo has at most, 10 MB.
 const MOST_ENTRIES: usize = 65_536;
 
-/// How many entries a megabyte has.
-const ENTRIES: usize = 6_553;
+/// How many entries a megabyte has, with their index and what else a memo keeps beside them, the allocator's own words too.
+const ENTRIES: usize = 5_600;
 
 /// How many keys may have lines of their own.
 const MOST_LINES: u64 = 64;
