@@ -80,11 +80,13 @@ impl Memo {
         let Some(size) = NonZeroUsize::new(entries) else {
             return Err(MemoFault::BadSize);
         };
+        let recent = RecentPositions::new(alloc, entries);
+        let transpositions = Transpositions::none(alloc, entries, recent.bytes());
         match LruCache::new(alloc, size) {
             Ok(cache) => Ok(Memo {
                 cache,
-                recent: RecentPositions::new(alloc, entries),
-                transpositions: Transpositions::none(alloc, entries),
+                recent,
+                transpositions,
                 killers: Killers::none(),
             }),
             Err(_) => Err(MemoFault::NoMemory),

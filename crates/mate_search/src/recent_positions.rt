@@ -1,6 +1,5 @@
 //! Which positions a memo may hold, told in less time than it takes to look for one.
 
-use crate::transpositions::power_of_two_within;
 use chess_board::{Colour, Kind, Move, Position, Wing};
 use std::alloc::Global;
 use std::hash::{FoldHasher, Hasher};
@@ -10,6 +9,11 @@ const A_WORD: usize = 8;
 
 /// How many words a half has at first, at most. Most problems meet no more positions than it has room for.
 const FIRST_WORDS: usize = 1024;
+
+/// The largest power of two up to a number; 1 for 0.
+fn power_of_two_within(number: usize) -> usize {
+    1usize.wrapping_shl(63u32.wrapping_sub((number | 1).leading_zeros()))
+}
 
 /// The squares of White's men and of Black's: by these the filter tells positions apart.
 #[derive(Clone, Copy)]
@@ -165,6 +169,11 @@ impl RecentPositions {
             0 => 1,
             fewer => power_of_two_within(fewer).saturating_mul(2),
         }
+    }
+
+    /// How many bytes both halves take where they have all their words.
+    pub(crate) fn bytes(&self) -> usize {
+        self.words().saturating_mul(16)
     }
 
     /// Begins with the first position, or, where memory is refused, never: that position would have no mark.

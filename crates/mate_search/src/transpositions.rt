@@ -17,16 +17,13 @@ const PLACES: usize = 4096;
 /// that was judged since places were made last.
 const JUDGED_A_LOOK: usize = 1024;
 
-/// There is at most a place for each entry that a memo holds, and one for twelve of these and six times as many that it has room for: so
-/// table and filter take less than a tenth of what the entries take and the index that a memo begins with.
-const ENTRIES_A_PLACE: usize = 12;
+/// The bytes of a place with its tag.
+const BYTES_A_PLACE: usize = 81;
 
-const ROOM_AN_ENTRY: usize = 6;
+/// The bytes of a memo's index, at least, for each entry that it has room for, and those of an entry.
+const INDEX_BYTES: usize = 31;
 
-/// The largest power of two up to a number; 1 for 0.
-pub(crate) fn power_of_two_within(number: usize) -> usize {
-    1usize.wrapping_shl(63u32.wrapping_sub((number | 1).leading_zeros()))
-}
+const ENTRY_BYTES: usize = 96;
 
 /// Whether the defender is lost in a position, with one move left to the attacker.
 #[derive(Clone, Copy)]
@@ -57,8 +54,9 @@ pub(crate) struct Transpositions {
     places: Vec<Judged>,
     /// A byte of the hash of the position in each place: most that is asked about is told to be another by it, and no place is read.
     tags: Vec<u8>,
-    /// How many entries the memo has room for.
+    /// How many entries the memo has room for, and the bytes of its filter.
     room: usize,
+    filter: usize,
     /// How many positions were judged since there are so many places, and after how many it is looked whether there are to be more.
     judged: usize,
     enough: usize,
@@ -90,22 +88,23 @@ fn is_same_position(p: &Position, q: &Position) -> bool
 }
 
 impl Transpositions {
-    /// None yet, of a memo with room for so many entries.
-    pub(crate) fn none(alloc: Global, entries: usize) -> Transpositions {
+    /// None yet, of a memo with room for so many entries, whose filter takes so many bytes.
+    pub(crate) fn none(alloc: Global, entries: usize, filter: usize) -> Transpositions {
         Transpositions {
             alloc,
             places: Vec::new(alloc),
             tags: Vec::new(alloc),
             room: entries,
+            filter,
             judged: 0,
             enough: JUDGED_A_LOOK,
         }
     }
 
-    /// The index of a place among those that there are, a power of two.
+    /// The index of a place among those that there are: so many 2^24ths of their number.
     #[inline(always)]
     fn index_of(&self, place: Place) -> usize {
-        place.number & self.tags.len().wrapping_sub(1)
+        place.number.wrapping_mul(self.tags.len()) >> 24
     }
 
     /// Whether the defender is lost in a position with one move left to the attacker, where that is kept in this place.
@@ -153,23 +152,26 @@ impl Transpositions {
         }
     }
 
-    /// How many places there may be where the memo holds so many entries: none, or a power of two.
+    /// How many places there may be where the memo holds so many entries: no more than these, and with the filter a tenth of what these and
+    /// the memo's index take.
     fn places_for(&self, held: usize) -> usize {
-        let within = (self.room / ROOM_AN_ENTRY).saturating_add(held) / ENTRIES_A_PLACE;
-        match held.min(within).min(self.judged).min(PLACES) {
-            0 => 0,
-            places => power_of_two_within(places),
-        }
+        let index = self.room.saturating_mul(INDEX_BYTES);
+        let tenth = held.saturating_mul(ENTRY_BYTES).saturating_add(index) / 10;
+        let within = tenth.saturating_sub(self.filter) / BYTES_A_PLACE;
+        held.min(within).min(self.judged).min(PLACES)
     }
 
-    /// Makes more places where the memo holds enough entries, all with this position, and forgets what was kept. Where memory is refused, all
-    /// stays as it is until the next look.
+    /// Makes more places, a quarter more at least, where the memo holds enough entries, all with this position, and forgets what was kept.
+    /// Those before go first, so that both never take memory. Where it is refused, there are none until the next look.
     fn grow(&mut self, held: usize, judged: Judged) {
         self.enough = self.judged.saturating_add(JUDGED_A_LOOK);
         let places = self.places_for(held);
-        if places <= self.tags.len() {
+        let least = (self.tags.len() / 4).saturating_add(self.tags.len());
+        if places <= self.tags.len() || places < least.min(PLACES) {
             return;
         }
+        self.tags = Vec::new(self.alloc);
+        self.places = Vec::new(self.alloc);
         let Ok(tags) = Vec::from_elem(self.alloc, 0, places) else {
             return;
         };
