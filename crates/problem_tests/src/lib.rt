@@ -13,9 +13,13 @@ mod input_tests;
 #[cfg(test)]
 mod memo_tests;
 #[cfg(test)]
+mod plain_memo;
+#[cfg(test)]
 mod plain_search;
 #[cfg(test)]
 mod plain_search_tests;
+#[cfg(test)]
+mod plain_solving;
 #[cfg(test)]
 mod record_reading_tests;
 #[cfg(test)]

@@ -3,10 +3,13 @@
 
 ghost use Rattle.std.specs.Prelude.{⊤};
 
-use crate::plain_search::{Plain, loses, made};
-use chess_board::{Position, after, read_fen};
+use crate::plain_memo::PlainMemo;
+use crate::plain_search::loses;
+use crate::plain_solving::solve_either;
+use chess_board::{Move, Position, after, read_fen};
 use chess_moves::{Rays, is_legal, legal, legal_moves};
-use mate_search::{Guide, Halt, Memo, leaves_lost};
+use chess_problems::{AvoidList, Bound, Outcome, Problem};
+use mate_search::{Guide, Halt, Memo, leaves_lost, solve_until};
 use std::alloc::Global;
 use std::cell::Cell;
 use std::process::Abort;
@@ -58,6 +61,16 @@ const BEGUN: [&str; 8] = [
     "8/1P6/8/1b2K3/2p4N/4k3/2R5/5B2 w - - 0 1",
 ];
 
+/// The position after a move, which is legal: no proof says so of each of a list here.
+fn made(rays: &Rays, position: &Position, m: Move) -> Option<Position> {
+    let _origin = m.origin;
+    if is_legal(rays, position, m) {
+        Some(after(position, m))
+    } else {
+        None
+    }
+}
+
 /// Where so many moves of both sides lead, by chance.
 fn played(rays: &Rays, begun: &Position, chance: &mut Chance, moves: usize) -> Position {
     let mut position = *begun;
@@ -73,15 +86,37 @@ fn played(rays: &Rays, begun: &Position, chance: &mut Chance, moves: usize) -> P
     position
 }
 
-/// What both forms keep of all questions so far.
+/// What both forms keep of all questions so far, and how often each asked whether to stop.
 #[derive(Drop)]
 struct Both {
     memo: Memo,
-    plain: Plain,
-    counter: Counter,
+    plain: PlainMemo,
+    asked: Counter,
+    wanted: Counter,
 }
 
 impl Both {
+    /// Nothing yet, over memos of so many entries.
+    fn new(alloc: Global, entries: usize) -> Result<Both, Fail> {
+        Ok(Both {
+            memo: Memo::new(alloc, entries)?,
+            plain: PlainMemo::new(alloc, entries).ok_or("plain")?,
+            asked: Counter {
+                asked: Cell::new(0),
+            },
+            wanted: Counter {
+                asked: Cell::new(0),
+            },
+        })
+    }
+
+    /// Refuses where one asked more often than the other, or keeps more.
+    fn check_counts(&self, rt: &impl Abort) -> Result<(), Fail> {
+        assert_eq!(rt; self.asked.asked.get(), self.wanted.asked.get());
+        assert_eq!(rt; self.memo.len(), self.plain.len());
+        Ok(())
+    }
+
     /// Asks both whether each first move leaves the defender lost with `k` more.
     fn check_first_moves(
         &mut self,
@@ -91,77 +126,168 @@ impl Both {
         k: u8,
     ) -> Result<(), Fail> {
         for m in legal_moves(rays, position) {
-            let guide = Guide {
-                rays,
-                halt: &self.counter,
-            };
             let _origin = m.origin;
             if !is_legal(rays, position, m) {
                 return Err(Fail::from("legal"));
             }
+            let guide = Guide {
+                rays,
+                halt: &self.asked,
+            };
             let found = leaves_lost(&guide, position, m, k, &mut self.memo)?;
-            let wanted = loses(rays, &after(position, m), k, &mut self.plain);
+            let guide = Guide {
+                rays,
+                halt: &self.wanted,
+            };
+            let wanted = loses(&guide, &after(position, m), k, &mut self.plain)?;
             assert_eq!(rt; found, wanted);
-            assert_eq!(rt; self.counter.asked.get(), self.plain.nodes());
-            assert_eq!(rt; self.memo.len(), self.plain.len());
+            self.check_counts(rt)?;
+        }
+        Ok(())
+    }
+
+    /// Asks both what there is to say of a problem, and gives it.
+    fn check_outcome(
+        &mut self,
+        rt: &impl Abort,
+        rays: &Rays,
+        problem: &Problem,
+    ) -> Result<Outcome, Fail> {
+        let found = solve_until(rays, problem, &mut self.memo, &self.asked)?;
+        let guide = Guide {
+            rays,
+            halt: &self.wanted,
+        };
+        let wanted = solve_either(&guide, problem, &mut self.plain)?;
+        assert_eq!(rt; found, wanted);
+        self.check_counts(rt)?;
+        Ok(found)
+    }
+
+    /// The same of a position, and then without its first key, or another move where it has none.
+    fn check_outcomes(
+        &mut self,
+        rt: &impl Abort,
+        rays: &Rays,
+        position: &Position,
+        most: u8,
+    ) -> Result<(), Fail> {
+        let mut problem = Problem {
+            position: *position,
+            bound: Bound::new(most).ok_or("bound")?,
+            avoid: AvoidList::new(),
+        };
+        let first = match self.check_outcome(rt, rays, &problem)? {
+            Outcome::Mate { keys, .. } => keys.get(0).copied(),
+            Outcome::NoMate => legal(rays, position).get(0).copied(),
+        };
+        if let Some(m) = first {
+            problem.avoid.push(m);
+            let _outcome = self.check_outcome(rt, rays, &problem)?;
+        }
+        Ok(())
+    }
+
+    /// Asks both about a position of a game that begins there: its first moves, and the problem before or behind these.
+    fn check_game(
+        &mut self,
+        rt: &impl Abort,
+        rays: &Rays,
+        text: &str,
+        chance: &mut Chance,
+        most: u8,
+    ) -> Result<(), Fail> {
+        let begun = read_fen(text.as_bytes())?.position;
+        let moves = chance.below(4).saturating_mul(2);
+        let position = played(rays, &begun, chance, moves);
+        let is_last = chance.below(2) == 0;
+        if !is_last {
+            self.check_outcomes(rt, rays, &position, most.saturating_sub(1))?;
+        }
+        for k in 0..most {
+            self.check_first_moves(rt, rays, &position, k)?;
+        }
+        if is_last {
+            self.check_outcomes(rt, rays, &position, most.saturating_sub(1))?;
         }
         Ok(())
     }
 }
 
-/// Searches positions of games, one after the other over one memo of so many entries, each for a mate in so many moves at most. Gives how
-/// many entries are kept at last.
+/// Endings with few moves, which are searched for longer mates: most positions that a large memo keeps are of these.
+const ENDINGS: [&str; 4] = [
+    "8/8/8/3k4/8/8/8/R3K3 w Q - 0 1",
+    "7k/8/8/5K2/8/1R6/8/8 w - - 0 1",
+    "8/8/4k3/8/8/2Q5/8/K7 w - - 0 1",
+    "8/1P6/8/8/2k5/8/3K4/8 w - - 0 1",
+];
+
+/// Asks for 2^62 bytes, which no system grants: `tests/refused_growths` has other requests refused between two of these.
+fn mark(alloc: Global) {
+    let _refused = Vec::<u8>::with_capacity(alloc, 1 << 62);
+}
+
+/// Searches positions of games, one after the other over one memo of so many entries: each first move for a mate in so many moves at most,
+/// and before that or behind it the problem within one less. Games of endings are searched for two moves more.
 fn check_games(
     rt: &impl Abort,
     alloc: Global,
     entries: usize,
-    games: usize,
+    games: (usize, usize),
     most: u8,
 ) -> Result<usize, Fail> {
     let rays = Rays::new();
     let mut chance = Chance {
-        state: entries as u64,
+        state: games.1 as u64,
     };
-    let mut both = Both {
-        memo: Memo::new(alloc, entries)?,
-        plain: Plain::new(alloc, entries).ok_or("plain")?,
-        counter: Counter {
-            asked: Cell::new(0),
-        },
-    };
-    for game in 0..games {
+    let mut both = Both::new(alloc, entries)?;
+    mark(alloc);
+    for game in 0..games.0 {
         let text = BEGUN.get(game % BEGUN.len()).ok_or("game")?;
-        let begun = read_fen(text.as_bytes())?.position;
-        let moves = chance.below(4).saturating_mul(2);
-        let position = played(&rays, &begun, &mut chance, moves);
-        for k in 0..most {
-            both.check_first_moves(rt, &rays, &position, k)?;
-        }
+        both.check_game(rt, &rays, text, &mut chance, most)?;
     }
+    for game in 0..games.1 {
+        let text = ENDINGS.get(game % ENDINGS.len()).ok_or("ending")?;
+        both.check_game(rt, &rays, text, &mut chance, most.saturating_add(2))?;
+    }
+    mark(alloc);
     Ok(both.memo.len())
 }
 
-/// Memos that are soon full, where the marks of a filter are begun anew again and again.
+/// Memos that are soon full, where a filter begins anew again and again: on both sides of the least with a table, and of those where a
+/// filter has twice as many words.
 #[test]
 fn small_memos_are_asked_as_often(rt: HostRuntime) -> Result<(), Fail> {
-    for entries in [1, 2, 16, 100, 256] {
-        assert_eq!(rt; check_games(&rt, rt.alloc(), entries, 16, 4)?, entries);
+    for entries in [1, 2, 10, 11, 100, 256, 257, 511, 512, 513] {
+        assert_eq!(rt; check_games(&rt, rt.alloc(), entries, (8, 4), 3)?, entries);
     }
     Ok(())
 }
 
-/// Memos that are full just where a filter has no room for more marks at first, or one position later, or once it has grown.
+/// Memos that are full just where a filter has no room for more marks at first, or one position later, or once it has grown, and on both
+/// sides of one where it has twice as many words. The largest begins anew once it has grown.
 #[test]
 fn memos_are_asked_as_often_where_a_filter_grows(rt: HostRuntime) -> Result<(), Fail> {
-    for entries in [8_192, 8_193, 9_000] {
-        assert_eq!(rt; check_games(&rt, rt.alloc(), entries, 32, 4)?, entries);
+    for (entries, endings) in [
+        (4_095, 8),
+        (4_097, 8),
+        (8_191, 16),
+        (8_192, 16),
+        (8_193, 16),
+        (9_000, 24),
+    ] {
+        assert_eq!(rt;
+            check_games(&rt, rt.alloc(), entries, (8, endings), 3)?,
+            entries
+        );
     }
     Ok(())
 }
 
-/// The largest memo, which is not full.
+/// The largest memo, which is not full. The same games as of that one of 9,000 lead to more positions than its
+/// filter has marks for.
 #[test]
 fn a_large_memo_is_asked_as_often(rt: HostRuntime) -> Result<(), Fail> {
-    assert!(rt; check_games(&rt, rt.alloc(), 65_536, 32, 4)? > 8_192);
+    assert!(rt; check_games(&rt, rt.alloc(), 65_536, (8, 24), 3)? > 10_000);
     Ok(())
 }
