@@ -1,4 +1,4 @@
-//! The jobs in hand. Each keeps its place until it leaves, when the job in the last place goes there; the order of taking is a list
+//! The jobs in hand. Where one leaves, the one in the last place goes to its place, and no other is moved; the order of taking is a list
 //! of the numbers of their places.
 
 ghost use Rattle.std.specs.Prelude.{ℕ, ◌≡◌, ◌<◌, ◌+◌, ◌==◌, [], ◌∷◌, ◌++◌, length, remove, slice_index_or, count_by, IfOk};

@@ -17,8 +17,8 @@ use std::marker::Model;
 use std::num::NonZeroUsize;
 use thiserror::Error;
 
-/// What a search found about the positions that it met last, at most as many as there is room for, and in no more of those one move
-/// from the end; and the replies that refuted last. Each entry is true and each reply is tried, so no outcome depends on what is kept.
+/// What a search found about the positions that it met last, at most as many as there is room for; what it found about positions one move
+/// from the end, no more of these than entries; and the replies that refuted last. Each entry is true and each reply is tried, so no outcome depends on what is kept.
 /// Contracts see how many entries there are, and the room.
 #[derive(Drop)]
 pub struct Memo {

@@ -20,9 +20,10 @@ const JUDGED_A_LOOK: usize = 1024;
 /// The bytes of a place with its tag.
 const BYTES_A_PLACE: usize = 81;
 
-/// The bytes of a memo's index, at least, for each entry that it has room for, and those of an entry.
+/// The bytes of a memo's index for each entry that it has room for, at least.
 const INDEX_BYTES: usize = 31;
 
+/// The bytes of an entry.
 const ENTRY_BYTES: usize = 96;
 
 /// Whether the defender is lost in a position, with one move left to the attacker.
