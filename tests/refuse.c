@@ -2,7 +2,7 @@
 // and writes a line to stream 9 for each.
 //
 // A request for 2^62 bytes is a mark, and is refused in any case. With the variable MARKED only what is asked for between a mark and
-// the next is counted, and with LEAST only what has so many bytes or more.
+// the next is counted, and with LEAST only what has so many bytes or more, with MOST no more.
 #define _GNU_SOURCE
 #include <dlfcn.h>
 #include <errno.h>
@@ -18,6 +18,9 @@ static int is_refused(size_t size) {
         return 1;
     }
     if (getenv("MARKED") && __atomic_load_n(&marks, __ATOMIC_SEQ_CST) % 2 == 0) {
+        return 0;
+    }
+    if (getenv("MOST") && size > strtoul(getenv("MOST"), 0, 10)) {
         return 0;
     }
     if (getenv("LEAST") && size < strtoul(getenv("LEAST"), 0, 10)) {

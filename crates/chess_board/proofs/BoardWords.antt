@@ -313,12 +313,6 @@ AreWordsOf-with men b square at man colour_word kind_word h on here free colour_
           ∙ ap (λ (w : List ℕ). set w (tag_of kind_type k) kind_word) h.kinds;
     }
 
--- what is written twice is written once
-pub set_twice : (l : List (Option Man)) (i : ℕ) (x y : Option Man) → set (set l i x) i y ≡ set l i y
-set_twice [] i x y = refl
-set_twice (z ∷ l) zero x y = refl
-set_twice (z ∷ l) (suc i) x y = ap (λ m. z ∷ m) (set_twice l i x y)
-
 -- no man at all
 abbrev pub no_words : Inside
 no_words = record { by_colour = 0 ∷ 0 ∷ []; by_kind = 0 ∷ 0 ∷ 0 ∷ 0 ∷ 0 ∷ 0 ∷ [] }

@@ -1,7 +1,7 @@
 //! The legality information of a position: what the legality of each of its moves asks about, its checks and pins among it, found
 //! once for it.
 
-ghost use Rattle.std.specs.Prelude.{◌≡◌, ◌<◌};
+ghost use Rattle.std.specs.Prelude.{◌<◌};
 ghost use Rattle.chess_board.specs.Positions.{Setup};
 ghost use Rattle.chess_moves.specs.inside.LegalityInfo.{IsLegalityInfoOf, with_checks_and_pins};
 

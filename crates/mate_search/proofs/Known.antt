@@ -1,10 +1,10 @@
 -- What an entry says of more and of fewer moves, and what stays true of the entries of a cache.
 use Rattle.std.proofs.Common.{◌≡◌, ℕ, zero, suc, ◌+◌, ◌-◌, ◌<◌, ◌≤◌, true, false, List, Option, Some, None, refl}
-use Rattle.std.proofs.Common.{sym, ◌∙◌, subst, inl, inr, arith, zero-add, suc-add, Result, Ok, Err, OnOk, OnErr}
+use Rattle.std.proofs.Common.{take, sym, ◌∙◌, subst, inl, inr, arith, zero-add, suc-add, Result, Ok, Err, OnOk, OnErr}
 use Rattle.std.specs.Option.{IfSome}
 use Rattle.std.specs.Map.{lookup}
 use Rattle.lru.specs.LruCache.{LruCache, lru_cache, promoted, put_entries}
-use Rattle.lru.proofs.CallerLemmas.{Contains-lookup, Contains-promoted, Contains-put_entries}
+use Rattle.lru.proofs.CallerLemmas.{Contains-lookup, Contains-promoted, Contains-put_entries, Contains-take}
 use Rattle.chess_board.specs.Positions.{Setup}
 use Rattle.chess_board.specs.Soundness.{IsSound}
 use Rattle.chess_board.specs.Laws.{are_equal, EqualReads}
@@ -12,6 +12,7 @@ use Rattle.mate_search.specs.declared.memo_entries.Entry.{Entry}
 use Rattle.mate_search.specs.Wins.{win}
 use Rattle.mate_search.specs.inside.MemoEntries.{IsTrueOf, AreTrue, IsTrueMemo}
 use Rattle.mate_search.proofs.Room.{put_within, length-promoted}
+use Rattle.std.proofs.lemmas.List.{length-take}
 use Rattle.chess_moves.specs.inside.Listing.{legal_moves}
 use Rattle.mate_search.specs.inside.Truth.{dist}
 use Rattle.mate_search.proofs.Wins.{win_more}
@@ -60,25 +61,45 @@ put_true equal c p v all h e m = elim (Contains-put_entries are_equal c p v e m)
 ]
 
 -- A put that is refused changes nothing, and one that is not leaves old entries and the new one, and the room.
-pub kept_after : {A E : Type 0} → EqualReads → (r : Result A E) (old new : LruCache Setup Entry) (p : Setup) (v : Entry)
-    → OnOk r (new ≡ lru_cache (put_entries are_equal old p v) old.cap) → OnErr r (new ≡ old) → IsTrueMemo old.entries old.cap
-    → IsTrueOf p v → IsTrueMemo new.entries new.cap
-kept_after equal (Ok a) old new p v ok err h is = subst (λ (c : LruCache Setup Entry). IsTrueMemo c.entries c.cap) (sym ok)
+pub kept_after : {A E : Type 0} → EqualReads → (r : Result A E) (old new : LruCache Setup Entry) (p : Setup) (v : Entry) (room waiting : ℕ)
+    → OnOk r (new ≡ lru_cache (put_entries are_equal old p v) old.cap) → OnErr r (new ≡ old) → IsTrueMemo old.entries old.cap room waiting
+    → IsTrueOf p v → IsTrueMemo new.entries new.cap room waiting
+kept_after equal (Ok a) old new p v room waiting ok err h is =
+    subst (λ (c : LruCache Setup Entry). IsTrueMemo c.entries c.cap room waiting) (sym ok)
     (record {
       each_true = put_true equal old p v h.each_true is;
       within = put_within are_equal old p v h.within h.some_room;
       some_room = h.some_room;
+      in_room = h.in_room;
+      whole = h.whole;
     })
-kept_after equal (Err a) old new p v ok err h is = subst (λ (c : LruCache Setup Entry). IsTrueMemo c.entries c.cap) (sym err) h
+kept_after equal (Err a) old new p v room waiting ok err h is =
+    subst (λ (c : LruCache Setup Entry). IsTrueMemo c.entries c.cap room waiting) (sym err) h
 
 -- A look-up moves an entry to the front.
-pub kept_promoted : (old new : LruCache Setup Entry) (p : Setup) → new ≡ lru_cache (promoted (are_equal p) old.entries) old.cap
-    → IsTrueMemo old.entries old.cap → IsTrueMemo new.entries new.cap
-kept_promoted old new p is h = subst (λ (c : LruCache Setup Entry). IsTrueMemo c.entries c.cap) (sym is) (record {
+pub kept_promoted : (old new : LruCache Setup Entry) (p : Setup) (room waiting : ℕ)
+    → new ≡ lru_cache (promoted (are_equal p) old.entries) old.cap
+    → IsTrueMemo old.entries old.cap room waiting → IsTrueMemo new.entries new.cap room waiting
+kept_promoted old new p room waiting is h = subst (λ (c : LruCache Setup Entry). IsTrueMemo c.entries c.cap room waiting) (sym is) (record {
   each_true = λ e m. h.each_true e (Contains-promoted (are_equal p) old.entries e m);
   within = omega (arith, length-promoted (are_equal p) old.entries, h.within);
   some_room = h.some_room;
+  in_room = h.in_room;
+  whole = h.whole;
 })
+
+-- With another capacity within the room, the first entries stay, as many as that has.
+pub kept_resized : (old new : LruCache Setup Entry) (most room before waiting : ℕ) → new ≡ lru_cache (take most old.entries) most
+    → 1 ≤ most → most ≤ room → (waiting ≡ 0 → most ≡ room)
+    → IsTrueMemo old.entries old.cap room before → IsTrueMemo new.entries new.cap room waiting
+kept_resized old new most room before waiting is some within whole h =
+    subst (λ (c : LruCache Setup Entry). IsTrueMemo c.entries c.cap room waiting) (sym is) (record {
+      each_true = λ e m. h.each_true e (Contains-take most old.entries e m);
+      within = omega (arith, length-take most old.entries);
+      some_room = some;
+      in_room = within;
+      whole = whole;
+    })
 
 -- Within as many moves as an entry rules out, there is no mate to find.
 pub none_found_within : (p : Setup) (entry : Entry) → IsTrueOf p entry → dist (legal_moves p) p entry.none_within ≡ None

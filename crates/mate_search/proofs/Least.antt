@@ -20,7 +20,7 @@ module _ (first : List Move) (p : Setup) where
   dist_kept_by b n (suc k) e = rw (suc-add k b) (dist_kept_one (k + b) n (dist_kept_by b n k e))
 
   -- a mate that was found stays the least
-  dist_kept : (a b n : ℕ) → dist first p a ≡ Some n → a ≤ b → dist first p b ≡ Some n
+  pub dist_kept : (a b n : ℕ) → dist first p a ≡ Some n → a ≤ b → dist first p b ≡ Some n
   dist_kept a b n e h = let s : (b - a) + a ≡ b = omega arith in rw s at (dist_kept_by a n (b - a) e)
 
   pub dist_found : (k b : ℕ) → dist first p k ≡ None → win_among first (k + 1) p ≡ true → k < b → dist first p b ≡ Some (k + 1)

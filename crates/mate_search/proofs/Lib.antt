@@ -12,3 +12,5 @@ pub mod PrincipalVariations
 pub mod FirstMoves
 pub mod Told
 pub mod AtOnce
+pub mod PlainMoves
+pub mod CampSets

@@ -4,3 +4,4 @@ pub mod PartLaws
 pub mod MemoEntries
 pub mod Findings
 pub mod Transpositions
+pub mod Camps

@@ -2,6 +2,7 @@
 
 ghost use Rattle.std.specs.Prelude.{◌≡◌, ◌↔◌, ◌⊎◌, ◌<◌, ◌≤◌, Err, IfOk, IfSome, codes};
 ghost use Rattle.mate_search.specs.declared.memo.MemoFault.TheVariants.{BadSize, NoMemory};
+ghost use Rattle.mate_search.specs.inside.Camps.{AreCampsOf};
 ghost use Rattle.mate_search.specs.inside.MemoEntries.{IsTrueOf};
 ghost use Rattle.mate_search.specs.Memos.{memo_fault_name};
 ghost use Rattle.mate_search.specs.Wins.{lost};
@@ -18,11 +19,16 @@ use std::num::NonZeroUsize;
 use thiserror::Error;
 
 /// What a search found about the positions that it met last, at most as many as there is room for; what it found about positions one move
-/// from the end, no more of these than entries; and the replies that refuted last. Each entry is true and each reply is tried, so no outcome depends on what is kept.
-/// Contracts see how many entries there are, and the room.
+/// from the end, no more of these than entries; and the replies that refuted last. Each entry is true and each reply is tried, so no
+/// outcome depends on what is kept. Where memory is refused, it makes do with what it has, and asks for more now and then. Contracts see
+/// how many entries there are, and the room.
 #[derive(Drop)]
 pub struct Memo {
+    /// Its capacity is the room, but where memory was refused.
     cache: LruCache<Position, Entry>,
+    room: usize,
+    /// After how many entries more it is asked again for memory that was refused; 0 where none was.
+    waiting: usize,
     /// Which positions the cache may hold: to look for one that it does not costs more than to ask this.
     recent: RecentPositions,
     /// What was found of positions with the defender to move and one move left.
@@ -37,9 +43,9 @@ impl Model for Memo {
 
     ghost Value = { MemoValue };
 
-    ghost view = { λ memo. record { kept = length memo.cache.entries; room = memo.cache.cap } };
+    ghost view = { λ memo. record { kept = length memo.cache.entries; room = memo.room } };
 
-    ghost invariant = { λ memo. IsTrueMemo memo.cache.entries memo.cache.cap };
+    ghost invariant = { λ memo. IsTrueMemo memo.cache.entries memo.cache.cap memo.room memo.waiting };
 }
 
 /// Why there is no memo.
@@ -65,6 +71,16 @@ impl MemoFault {
     }
 }
 
+/// How many entries more are met at least before memory that was refused is asked for again.
+const LEAST_WAITING: usize = 16;
+
+/// As many as there are where there may be more, and half as many where there are as many as there may be.
+fn fewer(held: usize, most: usize) -> usize
+    ensures { result ≤ held }
+{
+    if held < most { held } else { held / 2 }
+}
+
 impl Memo {
     /// An empty memo with room for so many entries, 1 to 65,536.
     pub fn new(alloc: Global, entries: usize) -> Result<Memo, MemoFault>
@@ -85,6 +101,8 @@ impl Memo {
         match LruCache::new(alloc, size) {
             Ok(cache) => Ok(Memo {
                 cache,
+                room: entries,
+                waiting: 0,
                 recent,
                 transpositions,
                 killers: Killers::none(),
@@ -105,7 +123,49 @@ impl Memo {
     pub fn room(&self) -> usize
         ensures { result ≡ self.now.room }
     {
-        self.cache.cap().get()
+        self.room
+    }
+
+    /// Asks again for memory that was refused: where a problem is begun, or as many entries were met as it has.
+    pub(crate) fn ask_again(&mut self)
+        ensures { self.new ≡ self.old }
+    {
+        self.waiting = 0;
+        if let Some(room) = NonZeroUsize::new(self.room) {
+            self.cache.resize(room);
+        }
+    }
+
+    /// Makes do without more memory, which was refused: from now on each entry takes the place of the one that was used least recently. Where
+    /// there are as many as there may be, it was the index that wanted more, and half of them go.
+    fn make_do(&mut self)
+        ensures room { self.new.room ≡ self.old.room }
+        ensures within { self.new.kept ≤ self.new.room }
+    {
+        let held = self.cache.len();
+        self.waiting = held.max(LEAST_WAITING);
+        if let Some(most) = NonZeroUsize::new(fewer(held, self.cache.cap().get())) {
+            self.cache.resize(most);
+        }
+    }
+
+    /// Whether an entry may be put: where memory was refused for the first of all, not before it is asked for again.
+    #[inline(always)]
+    fn may_put(&mut self) -> bool
+        ensures same { self.new ≡ self.old }
+        ensures within { self.new.kept ≤ self.new.room }
+    {
+        match self.waiting {
+            0 => true,
+            1 => {
+                self.ask_again();
+                true
+            }
+            more => {
+                self.waiting = more - 1;
+                !self.cache.is_empty()
+            }
+        }
     }
 
     /// What is known of a position, which becomes the one that was met last.
@@ -130,6 +190,7 @@ impl Memo {
 
     /// What is known of a position whose men stand so, which becomes the one that was met last.
     pub(crate) fn find(&mut self, position: &Position, camps: Camps) -> Entry
+        requires { AreCampsOf camps position.now.men }
         ensures known { IsTrueOf position.now result }
         ensures room { self.new.room ≡ self.old.room }
     {
@@ -147,17 +208,30 @@ impl Memo {
         }
     }
 
-    /// Keeps what is known of a position in place of what was kept of it. Where memory is refused, it is not kept.
+    /// Keeps what is known of a position in place of what was kept of it. Where memory is refused, the memo makes do with what it has.
     pub(crate) fn keep(&mut self, position: &Position, entry: Entry)
+        requires { IsTrueOf position.now entry }
+        ensures room { self.new.room ≡ self.old.room }
+        ensures within { self.new.kept ≤ self.new.room }
+    {
+        if self.may_put() {
+            self.put(position, entry);
+        }
+    }
+
+    /// Puts an entry, unless memory is refused.
+    fn put(&mut self, position: &Position, entry: Entry)
         requires { IsTrueOf position.now entry }
         ensures room { self.new.room ≡ self.old.room }
         ensures within { self.new.kept ≤ self.new.room }
     {
         // That two positions which `==` calls equal are one is a law of sound positions.
         equal_reads();
-        // A put that is refused loses this entry and nothing else, and no outcome depends on it.
+        // A put that is refused loses this entry, and no outcome depends on it.
         if self.cache.put(*position, entry).is_ok() {
             self.recent.meet(Camps::of(position));
+        } else {
+            self.make_do();
         }
     }
 

@@ -1,5 +1,12 @@
 //! Which positions a memo may hold, told in less time than it takes to look for one.
 
+ghost use Rattle.std.specs.Prelude.{◌≡◌, ◌↔◌, true, IfSome, IsSome};
+ghost use Rattle.chess_board.specs.Legality.{is_legal};
+ghost use Rattle.chess_board.specs.MakeMove.{after_setup};
+ghost use Rattle.chess_board.specs.Men.{is_of};
+ghost use Rattle.chess_board.specs.Sets.{IsSetOf};
+ghost use Rattle.mate_search.specs.inside.Camps.{AreCampsOf, IsPlain};
+
 use chess_board::{Colour, Kind, Move, Position, Wing};
 use std::alloc::Global;
 use std::hash::{FoldHasher, Hasher};
@@ -25,7 +32,9 @@ pub(crate) struct Camps {
 impl Camps {
     /// Those of a position.
     #[inline(always)]
-    pub(crate) fn of(position: &Position) -> Camps {
+    pub(crate) fn of(position: &Position) -> Camps
+        ensures { AreCampsOf result position.now.men }
+    {
         let white = men_of(position, Colour::White);
         Camps {
             white,
@@ -33,9 +42,13 @@ impl Camps {
         }
     }
 
-    /// Those of a position where none of its moves castles or captures en passant.
+    /// Those of a position whose side to move has no right to castle, and that has no en passant target: none of its moves castles or
+    /// captures en passant.
     #[inline(always)]
-    pub(crate) fn of_plain(position: &Position) -> Option<Camps> {
+    pub(crate) fn of_plain(position: &Position) -> Option<Camps>
+        ensures plain { IsSome result ↔ IsPlain position.now }
+        ensures camps { IfSome result (λ camps. AreCampsOf camps position.now.men) }
+    {
         let side = position.side();
         let is_plain = position.ep_target().is_none()
             && !position.has_right(side, Wing::KingSide)
@@ -47,12 +60,17 @@ impl Camps {
         }
     }
 
-    /// Those after a move of a side that neither castles nor captures en passant.
+    /// Those after a legal move of such a position, told from its own.
     #[inline(always)]
-    pub(crate) fn after(self, side: Colour, m: Move) -> Camps {
+    pub(crate) fn after(self, position: &Position, m: Move) -> Camps
+        requires camps { AreCampsOf self position.now.men }
+        requires plain { IsPlain position.now }
+        requires legal { is_legal position.now m ≡ true }
+        ensures { AreCampsOf result (after_setup position.now m).men }
+    {
         let origin = 1u64.wrapping_shl(m.origin.index() as u32);
         let target = 1u64.wrapping_shl(m.target.index() as u32);
-        match side {
+        match position.side() {
             Colour::White => Camps {
                 white: self.white & !origin | target,
                 black: self.black & !target,
@@ -76,7 +94,9 @@ impl Camps {
 
 /// The squares of a side's men.
 #[inline(always)]
-fn men_of(position: &Position, side: Colour) -> u64 {
+fn men_of(position: &Position, side: Colour) -> u64
+    ensures { IsSetOf result (is_of side) position.now.men }
+{
     position.men(side, Kind::Pawn)
         | position.men(side, Kind::Knight)
         | position.men(side, Kind::Bishop)

@@ -1,9 +1,10 @@
 //! Whether the side to move mates, or is mated, within so many moves of the attacker. Each search ends at once where it is to stop.
 
-ghost use Rattle.std.specs.Prelude.{◌≡◌, ◌<◌, ◌≤◌, ◌-◌, true, false, IfErr, IfOk, IfSome, None};
+ghost use Rattle.std.specs.Prelude.{◌≡◌, ◌<◌, ◌≤◌, ◌-◌, true, false, IfErr, IfOk, IfSome, IsSome, None};
 ghost use Rattle.chess_board.specs.Legality.{is_legal};
 ghost use Rattle.chess_board.specs.MakeMove.{after_setup};
 ghost use Rattle.mate_search.specs.Wins.{win, lost};
+ghost use Rattle.mate_search.specs.inside.Camps.{AreCampsOf, IsPlain};
 
 use crate::halting::{Guide, Halt, Stopped};
 use crate::memo::Memo;
@@ -246,12 +247,14 @@ fn is_known_to_refute(
     k: u8,
     memo: &mut Memo,
 ) -> bool
+    requires plain { IsSome camps → IsPlain position.now }
+    requires camps { IfSome camps (λ camps. AreCampsOf camps position.now.men) }
     requires legal { is_legal position.now reply ≡ true }
     ensures refutes { result ≡ true → win k (after_setup position.now reply) ≡ false }
     ensures room { memo.new.room ≡ memo.old.room }
 {
     let next = match camps {
-        Some(camps) => camps.after(position.side(), reply),
+        Some(camps) => camps.after(position, reply),
         None => Camps::of(&after(position, reply)),
     };
     if !memo.may_have(next) {

@@ -96,6 +96,7 @@ fn find<H: Halt>(
     ensures room { memo.new.room ≡ memo.old.room }
     ensures within { memo.new.kept ≤ memo.new.room }
 {
+    memo.ask_again();
     let dm = find_either(guide, problem, told, memo, found);
     // That a memo keeps no more than it has room for is this call's clause.
     let _kept = memo.len();

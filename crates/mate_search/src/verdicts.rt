@@ -48,6 +48,7 @@ pub fn leaves_lost<H: Halt>(
     ensures stopped { IfErr result (λ _. H.may_stop guide.now.halt.now) }
     ensures room { memo.new.room ≡ memo.old.room }
 {
+    memo.ask_again();
     loses(guide, &after(position, m), k, memo)
 }
 
@@ -75,6 +76,6 @@ pub(crate) fn judge<H: Halt>(
 {
     match verdict_on(root.told, m, k) {
         Some(is_lost) => Ok(is_lost),
-        None => leaves_lost(guide, root.position, m, k, memo),
+        None => loses(guide, &after(root.position, m), k, memo),
     }
 }

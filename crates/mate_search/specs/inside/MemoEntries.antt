@@ -15,8 +15,11 @@ pub record IsTrueOf (p : Setup) (entry : Entry) : Type 0 where
 abbrev pub AreTrue : List (Setup × Entry) → Type 0
 AreTrue entries = (e : Setup × Entry) → Contains entries e → IsTrueOf e.0 e.1
 
--- The entries of a memo are true, and no more than it has room for, whatever happened to it.
-pub record IsTrueMemo (entries : List (Setup × Entry)) (room : ℕ) : Type 0 where
+-- The entries of a memo are true, and no more than it may keep, whatever happened to it. It may keep as many as it has room for, unless it
+-- waits to ask again for memory that was refused, and never more.
+pub record IsTrueMemo (entries : List (Setup × Entry)) (cap room waiting : ℕ) : Type 0 where
   pub each_true : AreTrue entries
-  pub within : length entries ≤ room
-  pub some_room : 1 ≤ room
+  pub within : length entries ≤ cap
+  pub some_room : 1 ≤ cap
+  pub in_room : cap ≤ room
+  pub whole : waiting ≡ 0 → cap ≡ room
