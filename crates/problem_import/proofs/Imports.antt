@@ -1,6 +1,7 @@
 -- What is printed are records and refusals, one behind the other.
-use Rattle.std.proofs.Common.{◌≡◌, ◌≢◌, ◌⊎◌, inl, inr, ℕ, ◌+◌, ◌<◌, length, take, Bool, true, false, ◌||◌, Option, Result}
-use Rattle.std.proofs.Common.{Ok, Err, IfOk, IfErr, List, [], ◌∷◌, ◌++◌, refl, sym, ap, ◌∙◌, subst, append_assoc, arith}
+use Rattle.std.proofs.Common.{◌≡◌, ◌≢◌, ◌⊎◌, inl, inr, ℕ, ◌+◌, ◌<◌, ◌≤◌, length, take, Bool, true, false, ◌||◌, Option, Result}
+use Rattle.std.proofs.Common.{Ok, Err, IfOk, IfErr, List, [], ◌∷◌, ◌++◌, refl, sym, ap, ◌∙◌, subst, append_assoc, arith, length-append}
+use Rattle.std.specs.Prelude.{Contains, map, replicate}
 use Rattle.std.proofs.KnownBytes.{Appends-nil, Appends-trans}
 use Rattle.std.proofs.Math.Seq.{take-length}
 use Rattle.std.specs.Io.KnownBytes.{Appends}
@@ -11,24 +12,36 @@ use Rattle.byte_streams.specs.declared.stops.Stop.TheVariants as stop
 use Rattle.chess_notation.specs.Records.{max_line}
 use Rattle.chess_notation.specs.Words.{is_blank}
 use Rattle.std.proofs.lemmas.List.{append-nil}
+use Rattle.std.proofs.lemmas.List.Elements.{Contains-append_left, Contains-append_right, Contains-push}
 use Rattle.chess_notation.specs.declared.epd_faults.EpdFault.{EpdFault}
 use Rattle.chess_notation.specs.declared.epd_faults.EpdFault.TheVariants as kind
 use Rattle.chess_notation.specs.EpdFaults.{HasNoFault, IsFaultOf}
 use Rattle.chess_notation.specs.RecordLaws.{RecordsClear}
 use Rattle.problem_import.specs.declared.import_faults.ImportFault.{ImportFault}
+use Rattle.problem_import.specs.declared.line_kinds.LineKind.{LineKind}
+use Rattle.problem_import.specs.declared.line_kinds.LineKind.TheVariants as kinds
 use Rattle.text_lines.specs.Lines.{lines_of, without_cr}
 use Rattle.text_lines.specs.Replies.{IsReply, IsReplyFrom, IsReplyToFirst}
 use Rattle.problem_import.specs.Imports.{AreImported, EndsWithLine, ImportsAreRecords, IsClean, IsImport, IsImportOfFirst, IsImportReply}
-use Rattle.problem_import.specs.Imports.{IsRecord, none, one_if, printed, read, refused, refused_line, skipped}
+use Rattle.problem_import.specs.Imports.{IsKept, IsMade, IsRecord, none, one_if, plain, printed, read, refused, refused_line, skipped, unchanged}
+use Rattle.problem_import.specs.Imports.{told, untold}
 
-pub imported_append : (a b : List ℕ) (x y : Bool) → AreImported a x → AreImported b y → AreImported (a ++ b) (x || y)
-imported_append a b x y none more = more
-imported_append a b x y (printed line rest any is on) more =
-    subst (λ t. AreImported t (any || y)) (sym (append_assoc line (10 ∷ rest) b))
-    (printed line (rest ++ b) (any || y) is (imported_append rest b any y on more))
-imported_append a b x y (refused number fault rest any on) more =
-    subst (λ t. AreImported t true) (sym (append_assoc (refused_line number fault) rest b))
-    (refused number fault (rest ++ b) (any || y) (imported_append rest b any y on more))
+pub imported_append : (P : List ℕ → Type 0) (a b : List ℕ) (x y : Bool) → AreImported P a x → AreImported P b y → AreImported P (a ++ b) (x || y)
+imported_append P a b x y none more = more
+imported_append P a b x y (printed line rest any is kind on) more =
+    subst (λ t. AreImported P t (any || y)) (sym (append_assoc line (10 ∷ rest) b))
+    (printed line (rest ++ b) (any || y) is kind (imported_append P rest b any y on more))
+imported_append P a b x y (refused number fault rest any on) more =
+    subst (λ t. AreImported P t true) (sym (append_assoc (refused_line number fault) rest b))
+    (refused number fault (rest ++ b) (any || y) (imported_append P rest b any y on more))
+
+-- Records of one kind are records of another.
+imported_for : (P Q : List ℕ → Type 0) → ((line : List ℕ) → IsRecord line → P line → Q line) → (text : List ℕ) (any : Bool)
+    → AreImported P text any → AreImported Q text any
+imported_for P Q each text any none = none
+imported_for P Q each text any (printed line rest any' is kind on) =
+    printed line rest any' is (each line is kind) (imported_for P Q each rest any' on)
+imported_for P Q each text any (refused number fault rest any' on) = refused number fault rest any' (imported_for P Q each rest any' on)
 
 or_false : (x : Bool) → (x || false) ≡ x
 or_false true = refl
@@ -38,13 +51,14 @@ or_true : (x : Bool) → (x || true) ≡ true
 or_true true = refl
 or_true false = refl
 
-pub record_next : (old line new : List ℕ) (any : Bool) → IsRecord line → new ≡ old ++ line ++ 10 ∷ [] → AreImported old any → AreImported new any
-record_next old line new any is same before =
-    rw (same, append_assoc old line (10 ∷ [])) (subst (AreImported (old ++ (line ++ 10 ∷ []))) (or_false any)
-    (imported_append old (line ++ 10 ∷ []) any false before (printed line [] false is none)))
+pub record_next : (P : List ℕ → Type 0) (old line new : List ℕ) (any : Bool) → IsRecord line → P line → new ≡ old ++ line ++ 10 ∷ []
+    → AreImported P old any → AreImported P new any
+record_next P old line new any is kind same before =
+    rw (same, append_assoc old line (10 ∷ [])) (subst (AreImported P (old ++ (line ++ 10 ∷ []))) (or_false any)
+    (imported_append P old (line ++ 10 ∷ []) any false before (printed line [] false is kind none)))
 
-pub nothing_imported : (text : List ℕ) → text ≡ [] → AreImported text false
-nothing_imported text is = rw is none
+pub nothing_imported : (P : List ℕ → Type 0) (text : List ℕ) → text ≡ [] → AreImported P text false
+nothing_imported P text is = rw is none
 
 -- A line with a fault, which is not want of memory, is no record.
 pub refused_line_fault : RecordsClear → (line : List ℕ) (fault : EpdFault) (X : Type 0) → fault ≢ kind.NoMemory
@@ -53,16 +67,31 @@ unfolding HasNoFault
 refused_line_fault clear line fault X other (inl first) (r, reads) = clear line 3 r reads fault first.applies
 refused_line_fault clear line fault X other (inr (is, x)) (r, reads) = absurd (other is)
 
-pub clean_ends : {C E : Type 0} (clean : Bool) → (clean ≡ false → ¬ C) → (clean ≡ true → E) → C → E
-clean_ends true not_clean ends c = ends refl
-clean_ends false not_clean ends c = absurd (not_clean refl c)
+pub clean_ends : (kind : LineKind) (line text : List ℕ) → (kind ≡ kinds.Other → ¬ (IsRecord line)) → (kind ≡ kinds.Mendable → ¬ (IsClean line))
+    → (kind ≡ kinds.Clean → EndsWithLine line text) → IsClean line → EndsWithLine line text
+clean_ends kinds.Clean line text other mendable ends clean = ends refl
+clean_ends kinds.Mendable line text other mendable ends clean = absurd (mendable refl clean)
+clean_ends kinds.Other line text other mendable ends clean = absurd (other refl clean.1)
 
-pub refusal_next : (old new : List ℕ) (number : ℕ) (fault : ImportFault) (any : Bool) → new ≡ old ++ refused_line number fault
-    → AreImported old any → AreImported new true
-refusal_next old new number fault any same before =
-    rw same (subst (AreImported (old ++ refused_line number fault)) (or_true any)
-    (imported_append old (refused_line number fault) any true before
-    (subst (λ t. AreImported t true) (append-nil (refused_line number fault)) (refused number fault [] false none))))
+ended_filled : (line text : List ℕ) → EndsWithLine line text → 0 < length text
+ended_filled line text (before, is) =
+    let some : 0 < length (before ++ line ++ 10 ∷ []) = omega (arith, length-append (before ++ line) (10 ∷ [])) in
+    subst (λ t. 0 < length t) (sym is) some
+
+-- Something is printed of a record, by what the line is.
+pub record_kept : (kind : LineKind) (line before text : List ℕ) → (kind ≡ kinds.Other → ¬ (IsRecord line))
+    → (kind ≡ kinds.Mendable → 0 < length before) → (0 < length before → 0 < length text)
+    → (kind ≡ kinds.Clean → EndsWithLine line text) → IsRecord line → 0 < length text
+record_kept kinds.Clean line before text other found filled ends is = ended_filled line text (ends refl)
+record_kept kinds.Mendable line before text other found filled ends is = filled (found refl)
+record_kept kinds.Other line before text other found filled ends is = absurd (other refl is)
+
+pub refusal_next : (P : List ℕ → Type 0) (old new : List ℕ) (number : ℕ) (fault : ImportFault) (any : Bool)
+    → new ≡ old ++ refused_line number fault → AreImported P old any → AreImported P new true
+refusal_next P old new number fault any same before =
+    rw same (subst (AreImported P (old ++ refused_line number fault)) (or_true any)
+    (imported_append P old (refused_line number fault) any true before
+    (subst (λ t. AreImported P t true) (append-nil (refused_line number fault)) (refused number fault [] false none))))
 
 -- ---- replies to lines, and an input's end
 
@@ -73,44 +102,99 @@ some_if false is = refl
 none_of : (x y : Bool) → x ≡ false → y ≡ false → (x || y) ≡ false
 none_of x y one other = rw (one, other) refl
 
-abbrev Imported : List ℕ → ℕ → Type 0
-Imported text count = (any : Bool) × AreImported text any × (count ≡ 0 → any ≡ false)
+no_word : (word : List ℕ) (n : ℕ) (rest : List ℕ) → [] ≡ replicate n 32 ++ (word ++ rest) → word ≢ [] → ⊥
+no_word [] n rest is some = some refl
+no_word (b ∷ bs) n rest is some =
+    let long : 0 ≡ length (replicate n 32 ++ ((b ∷ bs) ++ rest)) = ap length is in
+    omega (arith, long, length-append (replicate n 32) ((b ∷ bs) ++ rest), length-append (b ∷ bs) rest)
 
-reply_imported : (number : ℕ) (line text : List ℕ) (count : ℕ) → IsImportReply number line text count → Imported text count
-reply_imported number line text count (skipped blank) = (false, none, λ is. refl)
-reply_imported number line text count (read text' any filled on clean) = (any, on, some_if any)
+no_empty_record : IsRecord [] → ⊥
+no_empty_record (r, reads) =
+    let (n, rest, is, word, apart, more) = reads.words in no_word reads.fields.placement n rest is word.0
 
-replies_imported : (number : ℕ) (lines : List (List ℕ)) (text : List ℕ) (count : ℕ)
-    → IsReplyFrom IsImportReply number lines text count → Imported text count
-replies_imported number [] text count (is, nobody) = rw is (false, none, λ _. refl)
-replies_imported number (line ∷ lines) text count (here, few, more, others, one, on, is, all) =
-    let (x, first, clear) = reply_imported number (without_cr line) here few one in
-    let (y, rest, clear') = replies_imported (number + 1) lines more others on in
+too_long : (line r : List ℕ) → max_line < length line → IsRecord r → r ≡ line → ⊥
+too_long line r long one is = let short : length r ≤ max_line = one.1.short in omega (arith, short, long, ap length is)
+
+pub not_both : (x : Bool) → x ≡ false → x ≡ true → ⊥
+not_both x off on = let no : false ≡ true = sym off ∙ on in cc
+
+-- What is made where no line is read is made of a line that is too long for a record.
+long_made : (keep : Bool) (line : List ℕ) → max_line < length line → (r : List ℕ) → IsRecord r → IsMade keep [] r → IsMade keep line r
+long_made keep line long r is unchanged = absurd (no_empty_record is)
+long_made keep line long r is (plain made off) = plain made off
+long_made keep line long r is (told made has on one changed) =
+    told made has on one (changed.0, λ is'. absurd (too_long line made long one is'))
+long_made keep line long r is (untold made has on changed unread) =
+    untold made has on (changed.0, λ is'. absurd (too_long line made long is is')) unread
+
+either : {A B C : Type 0} → (A → B) → A ⊎ C → B ⊎ C
+either f (inl a) = inl (f a)
+either f (inr c) = inr c
+
+made_kept : (keep : Bool) (lines : List (List ℕ)) (line r : List ℕ) → (r ≡ line → Contains lines r) → IsMade keep line r → IsKept keep lines r
+made_kept keep lines line r here unchanged = λ on. inl (here refl)
+made_kept keep lines line r here (plain made off) = λ on. absurd (not_both keep off on)
+made_kept keep lines line r here (told made has on one changed) = λ _. inr (made, has, changed.0, inl refl)
+made_kept keep lines line r here (untold made has on changed unread) = λ _. inr (made, has, changed.0, inr unread)
+
+abbrev Imported : Bool → List (List ℕ) → List ℕ → ℕ → Type 0
+Imported keep lines text count = (any : Bool) × AreImported (IsKept keep lines) text any × (count ≡ 0 → any ≡ false)
+
+reply_imported : (keep : Bool) (number : ℕ) (line : List ℕ) (lines : List (List ℕ)) (text : List ℕ) (count : ℕ)
+    → IsImportReply keep number line text count → Imported keep (line ∷ lines) text count
+reply_imported keep number line lines text count (skipped blank) = (false, none, λ is. refl)
+reply_imported keep number line lines text count (read text' any filled on clean kept) = (
+  any,
+  imported_for (IsMade keep line) (IsKept keep (line ∷ lines))
+      (λ r _. made_kept keep (line ∷ lines) line r (λ is. rw is (Contains-append_left (line ∷ []) lines line (Contains-push [] line))))
+      text' any on,
+  some_if any,
+)
+
+replies_imported : (keep : Bool) (number : ℕ) (lines : List (List ℕ)) (text : List ℕ) (count : ℕ)
+    → IsReplyFrom (IsImportReply keep) number lines text count → Imported keep (map without_cr lines) text count
+replies_imported keep number [] text count (is, nobody) = rw is (false, none, λ _. refl)
+replies_imported keep number (line ∷ lines) text count (here, few, more, others, one, on, is, all) =
+    let behind : List (List ℕ) = map without_cr lines in
+    let (x, first, clear) = reply_imported keep number (without_cr line) behind here few one in
+    let (y, rest, clear') = replies_imported keep (number + 1) lines more others on in
+    let wider = imported_for (IsKept keep behind) (IsKept keep (without_cr line ∷ behind))
+    (λ r _ kept on. either (Contains-append_right (without_cr line ∷ []) behind r) (kept on)) more y rest in
     rw is (
       x || y,
-      imported_append here more x y first rest,
+      imported_append (IsKept keep (without_cr line ∷ behind)) here more x y first wider,
       λ zero. none_of x y (clear (omega (arith, zero, all))) (clear' (omega (arith, zero, all))),
     )
 
 pub imports_are_records : ImportsAreRecords
 unfolding IsImport IsReply
-imports_are_records input text count (replies, refusals, last, any, are, ends, is, all) =
-    let (x, first, clear) = replies_imported 1 (lines_of input) replies refusals are in
+imports_are_records keep input text count (replies, refusals, last, any, are, ends, is, all) =
+    let lines : List (List ℕ) = map without_cr (lines_of input) in
+    let (x, first, clear) = replies_imported keep 1 (lines_of input) replies refusals are in
+    let end = imported_for (IsMade keep []) (IsKept keep lines)
+    (λ r one. made_kept keep lines [] r (λ empty. absurd (no_empty_record (subst IsRecord empty one)))) last any ends in
     rw is (
       x || any,
-      imported_append replies last x any first ends,
+      imported_append (IsKept keep lines) replies last x any first end,
       λ zero. none_of x any (clear (omega (arith, zero, all))) (some_if any (omega (arith, zero, all))),
     )
 
-pub read_reply : (number : ℕ) (line out text : List ℕ) (any : Bool) (count : ℕ) → is_blank line ≡ false → AreImported text any
-    → (IsClean line → EndsWithLine line text)
-    → out ≡ text → count ≡ one_if any → IsImportReply number line out count
-read_reply number line out text any count filled on clean same is = rw (same, is) (read text any filled on clean)
+some_text : (text : List ℕ) → 0 < length text → text ≢ []
+some_text text some = λ is. let none : 0 < 0 = subst (λ t. 0 < length t) is some in omega (arith, none)
 
-pub long_reply : (number : ℕ) (out text : List ℕ) (any : Bool) (count : ℕ) → AreImported text any → out ≡ text → count ≡ one_if any
-    → (line : List ℕ) → is_blank line ≡ false → max_line < length line → IsImportReply number line out count
-long_reply number out text any count on same is line filled long =
-    read_reply number line out text any count filled on (λ clean. absurd (omega (arith, clean.1.1.short, long))) same is
+pub read_reply : (keep : Bool) (number : ℕ) (line out text : List ℕ) (any : Bool) (count : ℕ) → is_blank line ≡ false
+    → AreImported (IsMade keep line) text any → (IsClean line → EndsWithLine line text) → (IsRecord line → 0 < length text)
+    → out ≡ text → count ≡ one_if any → IsImportReply keep number line out count
+read_reply keep number line out text any count filled on clean kept same is =
+    rw (same, is) (read text any filled on clean (λ one. some_text text (kept one)))
+
+pub long_reply : (keep : Bool) (number : ℕ) (out text : List ℕ) (any : Bool) (count : ℕ) → AreImported (IsMade keep []) text any
+    → out ≡ text → count ≡ one_if any
+    → (line : List ℕ) → is_blank line ≡ false → max_line < length line → IsImportReply keep number line out count
+long_reply keep number out text any count on same is line filled long =
+    let no_record : IsRecord line → ⊥ = λ one. omega (arith, one.1.short, long) in
+    let of_line = imported_for (IsMade keep []) (IsMade keep line) (long_made keep line long) text any on in
+    read_reply keep number line out text any count filled of_line (λ clean. absurd (no_record clean.1)) (λ one. absurd (no_record one)) same is
 
 -- ---- where it ends or stops
 
@@ -124,46 +208,52 @@ appends_more stop.Unreadable a b c text here before on = Appends-trans a b c tex
 appends_more stop.Unwritable a b c text here before on = part_more a b c text here before on
 appends_more stop.NoReader a b c text here before on = part_more a b c text here before on
 
-abbrev Whole : ℕ → (known old new : Option (List ℕ)) → Type 0
-Whole total known old new = (bytes : List ℕ) × (text : List ℕ) × MayBe known bytes × IsImport bytes text total × Appends old new text
+abbrev Whole : Bool → ℕ → (known old new : Option (List ℕ)) → Type 0
+Whole keep total known old new = (bytes : List ℕ) × (text : List ℕ) × MayBe known bytes × IsImport keep bytes text total
+    × Appends old new text
 
-abbrev Part : Stop → (known old new : Option (List ℕ)) → Type 0
-Part s known old new = (bytes : List ℕ) × (text : List ℕ) × MayBe known bytes × IsImportOfFirst bytes text × AppendsBy s old new text
+abbrev Part : Bool → Stop → (known old new : Option (List ℕ)) → Type 0
+Part keep s known old new = (bytes : List ℕ) × (text : List ℕ) × MayBe known bytes × IsImportOfFirst keep bytes text × AppendsBy s old new text
 
-abbrev Lines : ℕ → (known old new : Option (List ℕ)) → Type 0
-Lines count known old new = (bytes : List ℕ) × (text : List ℕ) × MayBe known bytes × IsReply IsImportReply bytes text count × Appends old new text
+abbrev Lines : Bool → ℕ → (known old new : Option (List ℕ)) → Type 0
+Lines keep count known old new = (bytes : List ℕ) × (text : List ℕ) × MayBe known bytes × IsReply (IsImportReply keep) bytes text count
+    × Appends old new text
 
-ended : (count total : ℕ) (known old middle new : Option (List ℕ)) → Lines count known old middle
-    → (last : List ℕ) × (any : Bool) × AreImported last any × (total ≡ count + one_if any) × Appends middle new last → Whole total known old new
+ended : (keep : Bool) (count total : ℕ) (known old middle new : Option (List ℕ)) → Lines keep count known old middle
+    → (last : List ℕ) × (any : Bool) × AreImported (IsMade keep []) last any × (total ≡ count + one_if any)
+    × Appends middle new last → Whole keep total known old new
 unfolding IsImport
-ended count total known old middle new (bytes, text, may, replies, before) (last, any, on, is, behind) =
+ended keep count total known old middle new (bytes, text, may, replies, before) (last, any, on, is, behind) =
     (bytes, text ++ last, may, (text, count, last, any, replies, on, refl, is), Appends-trans old middle new text last before behind)
 
-ended_by : (s : Stop) (count : ℕ) (known old middle new : Option (List ℕ)) → Lines count known old middle
-    → (last : List ℕ) × (any : Bool) × AreImported last any × AppendsBy s middle new last → Part s known old new
+ended_by : (keep : Bool) (s : Stop) (count : ℕ) (known old middle new : Option (List ℕ)) → Lines keep count known old middle
+    → (last : List ℕ) × (any : Bool) × AreImported (IsMade keep []) last any × AppendsBy s middle new last → Part keep s known old new
 unfolding IsImportOfFirst IsReply IsReplyToFirst
-ended_by s count known old middle new (bytes, text, may, replies, before) (last, any, on, behind) =
-    let Q : List (List ℕ) → Type 0 = λ ls. IsReplyFrom IsImportReply 1 ls text count in
-    let all : (n : ℕ) × (c : ℕ) × IsReplyFrom IsImportReply 1 (take n (lines_of bytes)) text c =
+ended_by keep s count known old middle new (bytes, text, may, replies, before) (last, any, on, behind) =
+    let Q : List (List ℕ) → Type 0 = λ ls. IsReplyFrom (IsImportReply keep) 1 ls text count in
+    let all : (n : ℕ) × (c : ℕ) × IsReplyFrom (IsImportReply keep) 1 (take n (lines_of bytes)) text c =
     (length (lines_of bytes), count, subst Q (sym (take-length (lines_of bytes))) replies) in
     (bytes, text ++ last, may, (text, last, any, all, on, refl), appends_more s old middle new text last before behind)
 
-pub stopped : (s : Stop) (known old new : Option (List ℕ)) → (bytes : List ℕ) × (text : List ℕ) × MayBe known bytes
-    × IsReplyToFirst IsImportReply bytes text × AppendsBy s old new text
-    → Part s known old new
+pub stopped : (keep : Bool) (s : Stop) (known old new : Option (List ℕ)) → (bytes : List ℕ) × (text : List ℕ) × MayBe known bytes
+    × IsReplyToFirst (IsImportReply keep) bytes text × AppendsBy s old new text
+    → Part keep s known old new
 unfolding IsImportOfFirst
-stopped s known old new (bytes, text, may, replies, behind) = (bytes, text, may, (text, [], false, replies, none, sym (append-nil text)), behind)
+stopped keep s known old new (bytes, text, may, replies, behind) = (bytes, text, may, (text, [], false, replies, none, sym (append-nil text)), behind)
 
-pub nothing_last : (old : Option (List ℕ)) → (last : List ℕ) × (any : Bool) × AreImported last any × Appends old old last
-nothing_last old = ([], false, none, Appends-nil old)
+pub nothing_last : (keep : Bool) (old : Option (List ℕ)) → (last : List ℕ) × (any : Bool)
+    × AreImported (IsMade keep []) last any × Appends old old last
+nothing_last keep old = ([], false, none, Appends-nil old)
 
-pub ended_if : (r : Result ℕ Stop) (count : ℕ) (known old middle new : Option (List ℕ)) → Lines count known old middle
-    → IfOk r (λ total. (last : List ℕ) × (any : Bool) × AreImported last any × (total ≡ count + one_if any) × Appends middle new last)
-    → IfOk r (λ total. Whole total known old new)
-ended_if (Ok total) count known old middle new lines last = ended count total known old middle new lines last
-ended_if (Err s) count known old middle new lines last = tt
+pub ended_if : (keep : Bool) (r : Result ℕ Stop) (count : ℕ) (known old middle new : Option (List ℕ)) → Lines keep count known old middle
+    → IfOk r (λ total. (last : List ℕ) × (any : Bool) × AreImported (IsMade keep []) last any × (total ≡ count + one_if any)
+    × Appends middle new last)
+    → IfOk r (λ total. Whole keep total known old new)
+ended_if keep (Ok total) count known old middle new lines last = ended keep count total known old middle new lines last
+ended_if keep (Err s) count known old middle new lines last = tt
 
-pub stopped_if : (r : Result ℕ Stop) (count : ℕ) (known old middle new : Option (List ℕ)) → Lines count known old middle
-    → IfErr r (λ s. (last : List ℕ) × (any : Bool) × AreImported last any × AppendsBy s middle new last) → IfErr r (λ s. Part s known old new)
-stopped_if (Ok total) count known old middle new lines last = tt
-stopped_if (Err s) count known old middle new lines last = ended_by s count known old middle new lines last
+pub stopped_if : (keep : Bool) (r : Result ℕ Stop) (count : ℕ) (known old middle new : Option (List ℕ)) → Lines keep count known old middle
+    → IfErr r (λ s. (last : List ℕ) × (any : Bool) × AreImported (IsMade keep []) last any × AppendsBy s middle new last)
+    → IfErr r (λ s. Part keep s known old new)
+stopped_if keep (Ok total) count known old middle new lines last = tt
+stopped_if keep (Err s) count known old middle new lines last = ended_by keep s count known old middle new lines last

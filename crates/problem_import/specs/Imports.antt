@@ -1,11 +1,15 @@
 -- What `import` prints (own to this project).
-use Rattle.std.specs.Prelude.{◌≡◌, ℕ, ◌+◌, ◌==◌, List, [], ◌∷◌, ◌++◌, codes, decimal, Bool, true, false, not, ◌&&◌, ◌||◌, if◌then◌else◌}
-use Rattle.std.specs.List.{list_all}
+use Rattle.std.specs.Prelude.{◌≡◌, ◌≢◌, ◌⊎◌, ℕ, ◌+◌, List, [], ◌∷◌, ◌++◌, codes, decimal, map, Contains}
+use Rattle.std.specs.Prelude.{Bool, true, false, if◌then◌else◌}
 use Rattle.chess_board.specs.Characters.{char}
 use Rattle.chess_notation.specs.Words.{is_blank}
 use Rattle.chess_notation.specs.Records.{RecordValue, Reads}
 use Rattle.chess_notation.specs.EpdFaults.{epd_fault_name}
+use Rattle.text_lines.specs.Lines.{lines_of, without_cr}
 use Rattle.text_lines.specs.Replies.{IsReply, IsReplyToFirst}
+use Rattle.problem_import.specs.Changes.{IsAny, IsChanged, telling}
+use Rattle.problem_import.specs.Mendable.{has_nothing_to_mend}
+use Rattle.problem_import.specs.declared.changes.Change.{Change}
 use Rattle.problem_import.specs.declared.import_faults.ImportFault.{ImportFault}
 use Rattle.problem_import.specs.declared.import_faults.ImportFault.TheVariants.{Record, NoFen, BadStipulation, FairyCondition}
 use Rattle.problem_import.specs.declared.import_faults.ImportFault.TheVariants.{FairyPiece, UnknownCommand}
@@ -27,34 +31,23 @@ refused_line number fault = codes "# line " ++ decimal number ++ codes ": " ++ i
 abbrev pub IsRecord : List ℕ → Type 0
 IsRecord line = (r : RecordValue) × Reads line 3 r
 
--- Lines of which each is a record, or refuses a problem; and whether one refuses.
-pub data AreImported : List ℕ → Bool → Type 0 where
-  none : AreImported [] false
-  printed : (line more : List ℕ) (any : Bool) → IsRecord line → AreImported more any → AreImported (line ++ char "\n" ∷ more) any
-  refused : (number : ℕ) (fault : ImportFault) (more : List ℕ) (any : Bool) → AreImported more any
-      → AreImported (refused_line number fault ++ more) true
+-- Lines of which each is a record of this kind, or refuses a problem; and whether one refuses.
+pub data AreImported (IsKind : List ℕ → Type 0) : List ℕ → Bool → Type 0 where
+  none : AreImported IsKind [] false
+  printed : (line more : List ℕ) (any : Bool) → IsRecord line → IsKind line → AreImported IsKind more any
+      → AreImported IsKind (line ++ char "\n" ∷ more) any
+  refused : (number : ℕ) (fault : ImportFault) (more : List ℕ) (any : Bool) → AreImported IsKind more any
+      → AreImported IsKind (refused_line number fault ++ more) true
 
--- the bytes of what may be mended outside strings: a quotation mark of another kind, a mark behind a move, a number of moves
-abbrev pub is_mendable : ℕ → Bool
-is_mendable b = (b == char "'") || (b == char "!") || (b == char "?") || (b == char "#")
-
-abbrev pub is_settled : ℕ → Bool
-is_settled b = not (is_mendable b)
-
--- The one text begins the other.
-abbrev pub begins : List ℕ → List ℕ → Bool
-begins [] text = true
-begins (x ∷ xs) [] = false
-begins (x ∷ xs) (y ∷ ys) = (x == y) && begins xs ys
-
--- The text stands somewhere in the other.
-abbrev pub is_within : List ℕ → List ℕ → Bool
-is_within part [] = false
-is_within part (b ∷ bs) = begins part (b ∷ bs) || is_within part bs
-
--- Nothing stands in the line that may be mended, neither one of these bytes nor `mate in`.
-abbrev pub has_nothing_to_mend : List ℕ → Bool
-has_nothing_to_mend line = list_all is_settled line && not (is_within (codes "ate ") line)
+-- What may be printed where a line is read, or none, which is empty: the line as it stands; without `keep` what was made; with `keep` that
+-- and what was changed, unless it would be no record then.
+pub data IsMade (keep : Bool) (line : List ℕ) : List ℕ → Type 0 where
+  unchanged : IsMade keep line line
+  plain : (made : List ℕ) → keep ≡ false → IsMade keep line made
+  told : (made : List ℕ) (has : Change → Bool) → keep ≡ true → IsRecord made → IsChanged line made has
+      → IsMade keep line (made ++ telling has)
+  untold : (made : List ℕ) (has : Change → Bool) → keep ≡ true → IsChanged line made has → ¬ (IsRecord (made ++ telling has))
+      → IsMade keep line made
 
 -- The line is a record, and there is nothing to mend.
 abbrev pub IsClean : List ℕ → Type 0
@@ -67,22 +60,33 @@ abbrev pub one_if : Bool → ℕ
 one_if any = if any then 1 else 0
 
 -- What is printed once a line is read, and how many refusals it counts for: nothing of a blank one; else what it ends, and itself where it
--- is clean.
-pub data IsImportReply (number : ℕ) (line : List ℕ) : List ℕ → ℕ → Type 0 where
-  skipped : is_blank line ≡ true → IsImportReply number line [] 0
-  read : (text : List ℕ) (any : Bool) → is_blank line ≡ false → AreImported text any → (IsClean line → EndsWithLine line text)
-      → IsImportReply number line text (one_if any)
+-- is clean. No record is lost.
+pub data IsImportReply (keep : Bool) (number : ℕ) (line : List ℕ) : List ℕ → ℕ → Type 0 where
+  skipped : is_blank line ≡ true → IsImportReply keep number line [] 0
+  read : (text : List ℕ) (any : Bool) → is_blank line ≡ false → AreImported (IsMade keep line) text any
+      → (IsClean line → EndsWithLine line text) → (IsRecord line → text ≢ []) → IsImportReply keep number line text (one_if any)
 
 -- What an input is imported as: the replies to its lines, and what its end ends.
-unfoldable pub IsImport : List ℕ → List ℕ → ℕ → Type 0
-IsImport input text count = (replies : List ℕ) × (refusals : ℕ) × (last : List ℕ) × (any : Bool)
-    × IsReply IsImportReply input replies refusals × AreImported last any × (text ≡ replies ++ last) × (count ≡ refusals + one_if any)
+unfoldable pub IsImport : Bool → List ℕ → List ℕ → ℕ → Type 0
+IsImport keep input text count = (replies : List ℕ) × (refusals : ℕ) × (last : List ℕ) × (any : Bool)
+    × IsReply (IsImportReply keep) input replies refusals × AreImported (IsMade keep []) last any
+    × (text ≡ replies ++ last) × (count ≡ refusals + one_if any)
 
 -- What there is to print where that stops.
-unfoldable pub IsImportOfFirst : List ℕ → List ℕ → Type 0
-IsImportOfFirst input text = (replies : List ℕ) × (last : List ℕ) × (any : Bool)
-    × IsReplyToFirst IsImportReply input replies × AreImported last any × (text ≡ replies ++ last)
+unfoldable pub IsImportOfFirst : Bool → List ℕ → List ℕ → Type 0
+IsImportOfFirst keep input text = (replies : List ℕ) × (last : List ℕ) × (any : Bool)
+    × IsReplyToFirst (IsImportReply keep) input replies × AreImported (IsMade keep []) last any × (text ≡ replies ++ last)
 
--- Whatever was read, what is printed are records and refusals, and no refusal where none is counted.
+-- The record tells what was changed, or would be none if it did.
+abbrev pub IsTold : List ℕ → Type 0
+IsTold line = (made : List ℕ) × (has : Change → Bool) × IsAny has × ((line ≡ made ++ telling has) ⊎ (¬ (IsRecord (line ++ telling has))))
+
+-- With `keep` the record is one of these lines as it stands, or is told.
+abbrev pub IsKept : Bool → List (List ℕ) → List ℕ → Type 0
+IsKept keep lines line = keep ≡ true → Contains lines line ⊎ IsTold line
+
+-- Whatever was read, what is printed are records and refusals, and no refusal where none is counted. With `keep` each record that doesn't
+-- stand in the input is told.
 abbrev pub ImportsAreRecords : Type 0
-ImportsAreRecords = (input text : List ℕ) (count : ℕ) → IsImport input text count → (any : Bool) × AreImported text any × (count ≡ 0 → any ≡ false)
+ImportsAreRecords = (keep : Bool) (input text : List ℕ) (count : ℕ) → IsImport keep input text count
+    → (any : Bool) × AreImported (IsKept keep (map without_cr (lines_of input))) text any × (count ≡ 0 → any ≡ false)

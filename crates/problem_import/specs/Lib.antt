@@ -1,1 +1,4 @@
+pub mod Changes
 pub mod Imports
+pub mod Mendable
+pub mod inside

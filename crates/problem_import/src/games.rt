@@ -25,8 +25,6 @@ pub(crate) struct Game {
 /// Movetext that is passed over.
 #[derive(Clone, Copy)]
 pub(crate) struct Movetext {
-    /// Whether a line of it came.
-    pub(crate) is_begun: bool,
     /// Whether a comment in braces is open.
     pub(crate) in_comment: bool,
 }
@@ -185,17 +183,8 @@ fn ends_game(text: &[u8]) -> bool {
 }
 
 impl Movetext {
-    /// Before its first line.
-    pub(crate) fn new() -> Movetext {
-        Movetext {
-            is_begun: false,
-            in_comment: false,
-        }
-    }
-
     /// Passes over a line, which may end the game.
     pub(crate) fn pass(&mut self, line: &[u8]) -> bool {
-        self.is_begun = true;
         for byte in line {
             if self.in_comment {
                 self.in_comment = *byte != b'}';

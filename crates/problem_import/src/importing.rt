@@ -1,14 +1,18 @@
 //! Inputs of collections, imported line by line.
 
-ghost use Rattle.std.specs.Prelude.{◌≡◌, ◌≢◌, ◌≤◌, ◌+◌, ℕ, Bool, List, IfErr, IfOk};
+ghost use Rattle.std.specs.Prelude.{◌≡◌, ◌≢◌, ◌≤◌, ◌<◌, ◌+◌, ℕ, Bool, List, [], false, true, IfErr, IfOk, length};
 ghost use Rattle.std.specs.Io.KnownBytes.{Appends};
 ghost use Rattle.byte_streams.specs.Inputs.{MayBe};
 ghost use Rattle.byte_streams.specs.Stops.{AppendsBy};
 ghost use Rattle.problem_import.specs.Imports.{AreImported, EndsWithLine, ImportsAreRecords, IsClean};
-ghost use Rattle.problem_import.specs.Imports.{IsImport, IsImportOfFirst, one_if as one_if_any};
+ghost use Rattle.problem_import.specs.Imports.{IsImport, IsImportOfFirst, IsMade, IsRecord, one_if as one_if_any};
+ghost use Rattle.problem_import.specs.inside.OpenProblems.{due, has_tags};
+ghost use Rattle.problem_import.specs.inside.TagPairs.{is_tag_line};
 
+use crate::changes::{Changes, Form};
 use crate::import_faults::ImportFault;
-use crate::printing::{Printed, Printing, is_clean};
+use crate::line_kinds::{LineKind, kind_of};
+use crate::printing::{Printed, Printing};
 use crate::reading::{Finding, Found, Reading, push_finding};
 use byte_streams::{Input, NoMemory, Stop, put};
 use chess_moves::Rays;
@@ -35,23 +39,54 @@ fn one_if(any: bool) -> usize
     if any { 1 } else { 0 }
 }
 
+/// Takes a line: a record ends what is open, and is taken wherever it stands; of a clean one nothing is found.
+fn take(
+    alloc: Global,
+    number: usize,
+    line: &[u8],
+    kind: LineKind,
+    reading: &mut Reading,
+    findings: &mut Vec<Finding>,
+) -> Result<(), NoMemory>
+    ensures found { IfOk result (λ _. kind ≡ LineKind.Mendable → 0 < length findings.new.items) }
+    ensures kept { IfOk result (λ _. due reading.old.open + length findings.old.items ≤ due reading.new.open + length findings.new.items) }
+    ensures more { IfOk result (λ _. kind ≡ LineKind.Other → is_tag_line line.now ≡ true → has_tags reading.old.open ≡ false
+        → due reading.old.open + length findings.old.items < due reading.new.open + length findings.new.items) }
+{
+    match kind {
+        LineKind::Clean => {
+            reading.finish(alloc, findings)?;
+            Ok(())
+        }
+        LineKind::Mendable => {
+            reading.take_record(alloc, number, line, Changes::none(Form::Line), findings)?;
+            Ok(())
+        }
+        LineKind::Other => {
+            reading.take_line(alloc, number, line, findings)?;
+            Ok(())
+        }
+    }
+}
+
 impl Imports<'_> {
-    /// What was found once a line is taken; of a line that is clean nothing itself.
+    /// What was found once a line is taken.
     fn findings(
         &self,
         alloc: Global,
         number: usize,
         line: &[u8],
-        is_clean: bool,
+        kind: LineKind,
         reading: &mut Reading,
-    ) -> Result<Vec<Finding>, NoMemory> {
+    ) -> Result<Vec<Finding>, NoMemory>
+        ensures found { IfOk result (λ findings. kind ≡ LineKind.Mendable → 0 < length findings.items) }
+        ensures kept { IfOk result (λ findings. due reading.old.open ≤ due reading.new.open + length findings.items) }
+        ensures more { IfOk result (λ findings. kind ≡ LineKind.Other → is_tag_line line.now ≡ true → has_tags reading.old.open ≡ false
+            → due reading.old.open < due reading.new.open + length findings.items) }
+    {
         let mut findings = Vec::new(alloc);
         reading.note_long(alloc, self.last_long.get(), &mut findings)?;
-        if is_clean {
-            reading.finish(alloc, &mut findings)?;
-        } else {
-            reading.take_line(alloc, number, line, &mut findings)?;
-        }
+        take(alloc, number, line, kind, reading, &mut findings)?;
         self.passes.set(reading.passes());
         Ok(findings)
     }
@@ -64,22 +99,27 @@ impl Imports<'_> {
         line: &[u8],
         reading: &mut Reading,
     ) -> Result<Printed, NoMemory>
-        ensures imported { IfOk result (λ printed. AreImported printed.text.items printed.any) }
+        ensures imported { IfOk result (λ printed. AreImported (IsMade self.now.printing.keep line.now) printed.text.items printed.any) }
         ensures clean { IfOk result (λ printed. IsClean line.now → EndsWithLine line.now printed.text.items) }
+        ensures kept { IfOk result (λ printed. IsRecord line.now → 0 < length printed.text.items) }
+        ensures ended { IfOk result (λ printed. due reading.old.open ≤ due reading.new.open + length printed.text.items) }
+        ensures begun { IfOk result (λ printed. is_tag_line line.now ≡ true → due reading.old.open ≡ 0
+            → 0 < due reading.new.open + length printed.text.items) }
     {
-        let is_clean = is_clean(alloc, self.printing.rays, line)?;
-        let findings = self.findings(alloc, number, line, is_clean, reading)?;
-        let printed = self.printing.printed(alloc, findings.as_slice())?;
-        Ok(printed.with_line_if(is_clean, line)?)
+        let kind = kind_of(alloc, self.printing.rays, line)?;
+        let findings = self.findings(alloc, number, line, kind, reading)?;
+        let printed = self.printing.printed(alloc, line, findings.as_slice())?;
+        Ok(printed.with_line_if(kind, line)?)
     }
 
     /// What is printed once the input has ended.
     fn last(&self, alloc: Global, reading: &mut Reading) -> Result<Printed, NoMemory>
-        ensures { IfOk result (λ printed. AreImported printed.text.items printed.any) }
+        ensures imported { IfOk result (λ printed. AreImported (IsMade self.now.printing.keep []) printed.text.items printed.any) }
+        ensures ended { IfOk result (λ printed. due reading.old.open ≤ length printed.text.items) }
     {
         let mut findings = Vec::new(alloc);
         reading.finish(alloc, &mut findings)?;
-        self.printing.printed(alloc, findings.as_slice())
+        self.printing.printed(alloc, b"", findings.as_slice())
     }
 }
 
@@ -101,7 +141,7 @@ impl LineHandler for Imports<'_> {
 
     type Memory = Reading;
 
-    ghost replies = { λ _. IsImportReply };
+    ghost replies = { λ imports. IsImportReply imports.printing.keep };
 
     ghost room = { λ _. 0 };
 
@@ -124,11 +164,13 @@ impl LineHandler for Imports<'_> {
             let found = Found::Fault(ImportFault::Record(EpdFault::TooLong));
             push_finding(&mut findings, Finding { number, found })?;
         }
-        let printed = self.printing.printed(alloc, findings.as_slice())?;
+        let printed = self.printing.printed(alloc, b"", findings.as_slice())?;
         Ok(output_of(printed))
     }
 
     ghost skips = { λ _ number line blank. skipped blank };
+
+    ghost unmarked = { λ _ _ _ _. tt };
 }
 
 /// Writes what is printed once the input has ended; gives at how many lines, its end for one, a problem is refused.
@@ -139,9 +181,9 @@ fn put_last<O: Write>(
     reading: &mut Reading,
     out: &mut O,
 ) -> Result<usize, Stop>
-    ensures ok { IfOk result (λ total. (last : List ℕ) × (any : Bool) × AreImported last any × (total ≡ count + one_if_any any)
-        × Appends (O.contents out.old) (O.contents out.new) last) }
-    ensures err { IfErr result (λ stop. (last : List ℕ) × (any : Bool) × AreImported last any
+    ensures ok { IfOk result (λ total. (last : List ℕ) × (any : Bool) × AreImported (IsMade imports.now.printing.keep []) last any
+        × (total ≡ count + one_if_any any) × Appends (O.contents out.old) (O.contents out.new) last) }
+    ensures err { IfErr result (λ stop. (last : List ℕ) × (any : Bool) × AreImported (IsMade imports.now.printing.keep []) last any
         × AppendsBy stop (O.contents out.old) (O.contents out.new) last) }
     ensures readable { IfErr result (λ stop. stop ≢ Stop.Unreadable) }
 {
@@ -165,10 +207,10 @@ fn import_lines<I: Input + Drop, O: Write>(
     reading: &mut Reading,
     out: &mut O,
 ) -> Result<usize, Stop>
-    ensures ok { IfOk result (λ count. (bytes : List ℕ) × (text : List ℕ) × MayBe (I.left input) bytes × IsImport bytes text count
-        × Appends (O.contents out.old) (O.contents out.new) text) }
-    ensures err { IfErr result (λ stop. (bytes : List ℕ) × (text : List ℕ) × MayBe (I.left input) bytes × IsImportOfFirst bytes text
-        × AppendsBy stop (O.contents out.old) (O.contents out.new) text) }
+    ensures ok { IfOk result (λ count. (bytes : List ℕ) × (text : List ℕ) × MayBe (I.left input) bytes
+        × IsImport imports.now.printing.keep bytes text count × Appends (O.contents out.old) (O.contents out.new) text) }
+    ensures err { IfErr result (λ stop. (bytes : List ℕ) × (text : List ℕ) × MayBe (I.left input) bytes
+        × IsImportOfFirst imports.now.printing.keep bytes text × AppendsBy stop (O.contents out.old) (O.contents out.new) text) }
     ensures unreadable { IfErr result (λ stop. stop ≡ Stop.Unreadable → I.breaks input) }
 {
     match answer_input(alloc, imports, input, reading, out) {
@@ -188,9 +230,9 @@ pub fn import_input<I: Input + Drop, O: Write>(
     input: I,
     out: &mut O,
 ) -> Result<usize, Stop>
-    ensures ok { IfOk result (λ count. (bytes : List ℕ) × (text : List ℕ) × MayBe (I.left input) bytes × IsImport bytes text count
+    ensures ok { IfOk result (λ count. (bytes : List ℕ) × (text : List ℕ) × MayBe (I.left input) bytes × IsImport keep bytes text count
         × Appends (O.contents out.old) (O.contents out.new) text) }
-    ensures err { IfErr result (λ stop. (bytes : List ℕ) × (text : List ℕ) × MayBe (I.left input) bytes × IsImportOfFirst bytes text
+    ensures err { IfErr result (λ stop. (bytes : List ℕ) × (text : List ℕ) × MayBe (I.left input) bytes × IsImportOfFirst keep bytes text
         × AppendsBy stop (O.contents out.old) (O.contents out.new) text) }
     ensures unreadable { IfErr result (λ stop. stop ≡ Stop.Unreadable → I.breaks input) }
 {

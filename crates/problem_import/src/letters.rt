@@ -1,5 +1,9 @@
 //! Texts in UTF-8 or Latin-1, made into printable ASCII.
 
+ghost use Rattle.std.specs.Prelude.{◌≡◌, IfOk, true};
+ghost use Rattle.std.specs.List.{list_all};
+ghost use Rattle.chess_notation.specs.Operations.{is_printable};
+
 use crate::changes::Changes;
 use crate::texts::push_byte;
 use std::alloc::{AllocError, Global};
@@ -67,7 +71,9 @@ fn is_single_mark(c: char) -> bool {
 }
 
 /// Whether a line is printable ASCII alone.
-fn is_plain(line: &[u8]) -> bool {
+fn is_plain(line: &[u8]) -> bool
+    ensures { result ≡ list_all is_printable line.now }
+{
     for byte in line {
         if *byte < b' ' || b'~' < *byte {
             return false;
@@ -146,7 +152,9 @@ pub(crate) fn ascii_text(
     alloc: Global,
     line: &[u8],
     changes: &mut Changes,
-) -> Result<Vec<u8>, AllocError> {
+) -> Result<Vec<u8>, AllocError>
+    ensures plain { IfOk result (λ text. list_all is_printable line.now ≡ true → text.items ≡ line.now) }
+{
     if is_plain(line) {
         return Vec::from_slice(alloc, line);
     }

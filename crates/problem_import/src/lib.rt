@@ -2,7 +2,7 @@
 //!
 //! What a record is, is `chess_notation`'s business, and lines are `text_lines`'s. To read: `specs/Imports.antt` and `importing`, where
 //! the law of what is printed stands, over `printing` and `import_faults`; `reading`, which tells the forms apart; then each form:
-//! `mending` (over `tokens`, `lengths`, `letters` and `changes`), `games`, and `popeye` (over `popeye_words` and `diagrams`).
+//! `mending` (over `tokens`, `lengths`, `letters` and `changes`), `games` (and `tag_pairs`), and `popeye` (over `popeye_words` and `diagrams`).
 #![tactic(auto)]
 
 mod changes;
@@ -12,11 +12,13 @@ mod import_faults;
 mod importing;
 mod lengths;
 mod letters;
+mod line_kinds;
 mod mending;
 mod popeye;
 mod popeye_words;
 mod printing;
 mod reading;
+mod tag_pairs;
 mod texts;
 mod tokens;
 

@@ -200,6 +200,9 @@ impl Mending<'_> {
             if !segment.is_ended {
                 self.changes.semicolon = true;
             }
+            if segment.text.is_empty() {
+                self.changes.operation = true;
+            }
             self.push_segment(segment.text)?;
             rest = segment.rest;
         }

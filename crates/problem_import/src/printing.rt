@@ -1,18 +1,17 @@
 //! What is printed: records by the grammar, and refusals.
 
-ghost use Rattle.std.specs.Prelude.{◌≡◌, ◌++◌, ◌∷◌, [], IfOk, None, true, false};
-ghost use Rattle.std.specs.List.{list_all};
+ghost use Rattle.std.specs.Prelude.{◌≡◌, ◌<◌, ◌++◌, ◌∷◌, [], ℕ, Bool, List, IfNone, IfOk, IfSome, length};
 ghost use Rattle.chess_board.specs.Characters.{char};
-ghost use Rattle.problem_import.specs.Imports.{AreImported, EndsWithLine, IsClean, IsRecord, begins as does_begin};
-ghost use Rattle.problem_import.specs.Imports.{is_mendable as is_mendable_byte, is_settled, is_within as is_text_within};
-ghost use Rattle.problem_import.specs.Imports.{refused_line};
+ghost use Rattle.problem_import.specs.Changes.{telling};
+ghost use Rattle.problem_import.specs.Imports.{AreImported, EndsWithLine, IsMade, IsRecord, refused_line};
+ghost use Rattle.problem_import.specs.inside.KeptChanges.{has_change};
 
 use crate::changes::Changes;
 use crate::import_faults::ImportFault;
+use crate::line_kinds::{LineKind, record_fault};
 use crate::reading::{Finding, Found};
 use byte_streams::NoMemory;
 use chess_moves::Rays;
-use chess_notation::{Bound, EpdFault, read_record, records_clear};
 use std::alloc::{AllocError, Global};
 
 /// What is printed, and whether a problem is refused there.
@@ -29,107 +28,15 @@ pub(crate) struct Printing<'a> {
     pub(crate) keep: bool,
 }
 
-/// The text of a record that tells in `c9` what was changed.
-fn telling_text(alloc: Global, text: &[u8], changes: &Changes) -> Result<Vec<u8>, AllocError> {
-    let mut names = Vec::new(alloc);
-    changes.push_names(&mut names)?;
-    let mut telling = Vec::from_slice(alloc, text)?;
-    if !names.is_empty() {
-        telling.extend_from_slice(b" c9 \"import: ")?;
-        telling.extend_from_slice(names.as_slice())?;
-        telling.extend_from_slice(b"\";")?;
-    }
-    Ok(telling)
-}
-
-/// The bound of a record that asks for none: whether a line is one doesn't depend on it.
-fn some_bound() -> Bound
-    ensures { result ≡ 3 }
+/// A record, and behind it the operation that tells what was changed.
+fn telling_text(alloc: Global, text: &[u8], changes: &Changes) -> Result<Vec<u8>, AllocError>
+    ensures { IfOk result (λ told. told.items ≡ text.now ++ telling (has_change changes.now)) }
 {
-    match Bound::new(3) {
-        Some(bound) => bound,
-        None => unreachable!(),
-    }
-}
-
-/// What a line that is no record is refused by; nothing for one that is.
-fn record_fault(alloc: Global, rays: &Rays, line: &[u8]) -> Result<Option<EpdFault>, NoMemory>
-    ensures record { IfOk result (λ fault. fault ≡ None → IsRecord line.now) }
-    ensures none { IfOk result (λ fault. IsRecord line.now → fault ≡ None) }
-{
-    // That a line with a fault is no record is this law.
-    records_clear();
-    let Err(fault) = read_record(alloc, rays, line, some_bound()) else {
-        return Ok(None);
-    };
-    if fault == EpdFault::NoMemory {
-        return Err(NoMemory);
-    }
-    Ok(Some(fault))
-}
-
-/// Whether the one text begins the other.
-fn begins(part: &[u8], text: &[u8]) -> bool
-    ensures { result ≡ does_begin part.now text.now }
-{
-    let mut left = part;
-    let mut right = text;
-    while let [first, lefts @ ..] = left {
-        match right {
-            [] => return false,
-            [second, rights @ ..] => {
-                if *first != *second {
-                    return false;
-                }
-                left = lefts;
-                right = rights;
-            }
-        }
-    }
-    true
-}
-
-/// Whether a text stands somewhere in another.
-fn is_within(part: &[u8], text: &[u8]) -> bool
-    ensures { result ≡ is_text_within part.now text.now }
-{
-    let mut rest = text;
-    while let [_, more @ ..] = rest {
-        if begins(part, rest) {
-            return true;
-        }
-        rest = more;
-    }
-    false
-}
-
-fn is_mendable(byte: u8) -> bool
-    ensures { result ≡ is_mendable_byte byte }
-{
-    byte == b'\'' || byte == b'!' || byte == b'?' || byte == b'#'
-}
-
-/// Whether no byte may be mended.
-fn have_no_mendable(line: &[u8]) -> bool
-    ensures { result ≡ list_all is_settled line.now }
-{
-    for byte in line {
-        if is_mendable(*byte) {
-            return false;
-        }
-    }
-    true
-}
-
-/// Whether a line is a record in which there is nothing to mend.
-pub(crate) fn is_clean(alloc: Global, rays: &Rays, line: &[u8]) -> Result<bool, NoMemory>
-    ensures record { IfOk result (λ clean. clean ≡ true → IsRecord line.now) }
-    ensures all { IfOk result (λ clean. clean ≡ false → ¬ (IsClean line.now)) }
-{
-    if !have_no_mendable(line) || is_within(b"ate ", line) {
-        return Ok(false);
-    }
-    Ok(record_fault(alloc, rays, line)?.is_none())
+    let mut told = Vec::from_slice(alloc, text)?;
+    told.extend_from_slice(b" c9 \"import")?;
+    changes.push_names(&mut told)?;
+    told.extend_from_slice(b"\";")?;
+    Ok(told)
 }
 
 /// Adds a line and its newline.
@@ -156,7 +63,7 @@ fn refusal_text(alloc: Global, number: usize, fault: ImportFault) -> Result<Vec<
 impl Printed {
     /// Nothing.
     pub(crate) fn new(alloc: Global) -> Printed
-        ensures { AreImported result.text.items result.any }
+        ensures { (keep : Bool) (line : List ℕ) → AreImported (IsMade keep line) result.text.items result.any }
     {
         Printed {
             text: Vec::new(alloc),
@@ -165,26 +72,29 @@ impl Printed {
     }
 
     /// Adds a record.
-    pub(crate) fn push_record(&mut self, line: &[u8]) -> Result<(), AllocError>
-        requires { IsRecord line.now }
-        ensures imported { IfOk result (λ _. AreImported self.old.text.items self.old.any → AreImported self.new.text.items self.new.any) }
-        ensures text { IfOk result (λ _. self.new.text.items ≡ self.old.text.items ++ line.now ++ char "\n" ∷ []) }
+    pub(crate) fn push_record(&mut self, made: &[u8]) -> Result<(), AllocError>
+        requires { IsRecord made.now }
+        ensures imported { IfOk result (λ _. (keep : Bool) (line : List ℕ) → IsMade keep line made.now
+            → AreImported (IsMade keep line) self.old.text.items self.old.any
+            → AreImported (IsMade keep line) self.new.text.items self.new.any) }
+        ensures text { IfOk result (λ _. self.new.text.items ≡ self.old.text.items ++ made.now ++ char "\n" ∷ []) }
     {
-        push_line(&mut self.text, line)?;
+        push_line(&mut self.text, made)?;
         Ok(())
     }
 
     /// The same with a line behind it, if that is clean.
-    pub(crate) fn with_line_if(self, is_clean: bool, line: &[u8]) -> Result<Printed, AllocError>
-        requires imported { AreImported self.text.items self.any }
-        requires record { is_clean ≡ true → IsRecord line.now }
-        ensures imported { IfOk result (λ printed. AreImported printed.text.items printed.any) }
-        ensures clean { IfOk result (λ printed. is_clean ≡ true → EndsWithLine line.now printed.text.items) }
+    pub(crate) fn with_line_if(self, kind: LineKind, line: &[u8]) -> Result<Printed, AllocError>
+        requires { kind ≡ LineKind.Clean → IsRecord line.now }
+        ensures imported { IfOk result (λ printed. (keep : Bool) → AreImported (IsMade keep line.now) self.text.items self.any
+            → AreImported (IsMade keep line.now) printed.text.items printed.any) }
+        ensures clean { IfOk result (λ printed. kind ≡ LineKind.Clean → EndsWithLine line.now printed.text.items) }
+        ensures filled { IfOk result (λ printed. 0 < length self.text.items → 0 < length printed.text.items) }
     {
         let mut printed = self;
-        if !is_clean {
+        let LineKind::Clean = kind else {
             return Ok(printed);
-        }
+        };
         printed.push_record(line)?;
         Ok(printed)
     }
@@ -196,68 +106,103 @@ impl Printed {
         number: usize,
         fault: ImportFault,
     ) -> Result<(), AllocError>
-        ensures { IfOk result (λ _. AreImported self.old.text.items self.old.any → AreImported self.new.text.items self.new.any) }
+        ensures imported { IfOk result (λ _. (keep : Bool) (line : List ℕ) → AreImported (IsMade keep line) self.old.text.items self.old.any
+            → AreImported (IsMade keep line) self.new.text.items self.new.any) }
+        ensures filled { IfOk result (λ _. 0 < length self.new.text.items) }
     {
         let line = refusal_text(alloc, number, fault)?;
         self.text.extend_from_slice(line.as_slice())?;
         self.any = true;
         Ok(())
     }
-
-    /// Adds a line if it is a record; gives what it is refused by.
-    fn push_if_record(
-        &mut self,
-        alloc: Global,
-        rays: &Rays,
-        line: &[u8],
-    ) -> Result<Option<EpdFault>, NoMemory>
-        ensures { IfOk result (λ _. AreImported self.old.text.items self.old.any → AreImported self.new.text.items self.new.any) }
-    {
-        let fault = record_fault(alloc, rays, line)?;
-        if fault.is_none() {
-            self.push_record(line)?;
-        }
-        Ok(fault)
-    }
 }
 
 impl Printing<'_> {
-    /// Adds the record that a text is, telling what was changed where that is asked for and leaves it a record; or its fault.
+    /// The record that tells what was changed, where that is asked for, something was changed, and it is a record still.
+    fn told(
+        &self,
+        alloc: Global,
+        line: &[u8],
+        text: &[u8],
+        changes: &Changes,
+    ) -> Result<Option<Vec<u8>>, NoMemory>
+        requires { IsRecord text.now }
+        ensures record { IfOk result (λ told. IfSome told (λ more. IsRecord more.items)) }
+        ensures told { IfOk result (λ told. IfSome told (λ more. IsMade self.now.keep line.now more.items)) }
+        ensures none { IfOk result (λ told. IfNone told (IsMade self.now.keep line.now text.now)) }
+    {
+        if !self.keep {
+            return Ok(None);
+        }
+        if changes.is_line(line, text) {
+            return Ok(None);
+        }
+        let told = telling_text(alloc, text, changes)?;
+        let None = record_fault(alloc, self.rays, told.as_slice())? else {
+            return Ok(None);
+        };
+        Ok(Some(told))
+    }
+
+    /// Adds a record that was made.
+    fn push_made(
+        &self,
+        alloc: Global,
+        printed: &mut Printed,
+        line: &[u8],
+        text: &[u8],
+        changes: &Changes,
+    ) -> Result<(), NoMemory>
+        requires { IsRecord text.now }
+        ensures imported { IfOk result (λ _. AreImported (IsMade self.now.keep line.now) printed.old.text.items printed.old.any
+            → AreImported (IsMade self.now.keep line.now) printed.new.text.items printed.new.any) }
+        ensures filled { IfOk result (λ _. 0 < length printed.new.text.items) }
+    {
+        let Some(told) = self.told(alloc, line, text, changes)? else {
+            printed.push_record(text)?;
+            return Ok(());
+        };
+        printed.push_record(told.as_slice())?;
+        Ok(())
+    }
+
+    /// Adds the record that a text is, or its fault.
     fn push_text(
         &self,
         alloc: Global,
         printed: &mut Printed,
+        line: &[u8],
         number: usize,
         text: &[u8],
         changes: &Changes,
     ) -> Result<(), NoMemory>
-        ensures { IfOk result (λ _. AreImported printed.old.text.items printed.old.any → AreImported printed.new.text.items printed.new.any) }
+        ensures imported { IfOk result (λ _. AreImported (IsMade self.now.keep line.now) printed.old.text.items printed.old.any
+            → AreImported (IsMade self.now.keep line.now) printed.new.text.items printed.new.any) }
+        ensures filled { IfOk result (λ _. 0 < length printed.new.text.items) }
     {
-        if self.keep {
-            let telling = telling_text(alloc, text, changes)?;
-            if printed
-                .push_if_record(alloc, self.rays, telling.as_slice())?
-                .is_none()
-            {
-                return Ok(());
-            }
-        }
-        match printed.push_if_record(alloc, self.rays, text)? {
-            None => Ok(()),
-            Some(fault) => {
-                printed.push_refusal(alloc, number, ImportFault::Record(fault))?;
-                Ok(())
-            }
-        }
+        let Some(fault) = record_fault(alloc, self.rays, text)? else {
+            return self.push_made(alloc, printed, line, text, changes);
+        };
+        printed.push_refusal(alloc, number, ImportFault::Record(fault))?;
+        Ok(())
     }
 
     /// Adds what was found.
-    fn push(&self, alloc: Global, printed: &mut Printed, finding: &Finding) -> Result<(), NoMemory>
-        ensures { IfOk result (λ _. AreImported printed.old.text.items printed.old.any → AreImported printed.new.text.items printed.new.any) }
+    fn push(
+        &self,
+        alloc: Global,
+        printed: &mut Printed,
+        line: &[u8],
+        finding: &Finding,
+    ) -> Result<(), NoMemory>
+        ensures imported { IfOk result (λ _. AreImported (IsMade self.now.keep line.now) printed.old.text.items printed.old.any
+            → AreImported (IsMade self.now.keep line.now) printed.new.text.items printed.new.any) }
+        ensures filled { IfOk result (λ _. 0 < length printed.new.text.items) }
     {
         match &finding.found {
             Found::Text(text, changes) => {
-                self.push_text(alloc, printed, finding.number, text.as_slice(), changes)
+                let text = text.as_slice();
+                self.push_text(alloc, printed, line, finding.number, text, changes)
             }
             Found::Fault(fault) => {
                 printed.push_refusal(alloc, finding.number, *fault)?;
@@ -266,13 +211,19 @@ impl Printing<'_> {
         }
     }
 
-    /// What is printed of what was found.
-    pub(crate) fn printed(&self, alloc: Global, findings: &[Finding]) -> Result<Printed, NoMemory>
-        ensures { IfOk result (λ printed. AreImported printed.text.items printed.any) }
+    /// What is printed of what was found where a line was read, or none, which is empty.
+    pub(crate) fn printed(
+        &self,
+        alloc: Global,
+        line: &[u8],
+        findings: &[Finding],
+    ) -> Result<Printed, NoMemory>
+        ensures imported { IfOk result (λ printed. AreImported (IsMade self.now.keep line.now) printed.text.items printed.any) }
+        ensures filled { IfOk result (λ printed. 0 < length findings.now → 0 < length printed.text.items) }
     {
         let mut printed = Printed::new(alloc);
         for finding in findings {
-            self.push(alloc, &mut printed, finding)?;
+            self.push(alloc, &mut printed, line, finding)?;
         }
         Ok(printed)
     }

@@ -1,5 +1,9 @@
 //! The forms told apart, line by line, and what the lines so far have said of problems that are open.
 
+ghost use Rattle.std.specs.Prelude.{◌≡◌, ◌≤◌, ◌<◌, ◌+◌, IfOk, length, false, true};
+ghost use Rattle.problem_import.specs.inside.OpenProblems.{due, goes_on as does_go_on, has_tags};
+ghost use Rattle.problem_import.specs.inside.TagPairs.{is_tag_line, is_tag_pair as is_tag_pair_text};
+
 use crate::changes::{Changes, Form};
 use crate::games::{Game, Movetext};
 use crate::import_faults::ImportFault;
@@ -7,6 +11,7 @@ use crate::letters::ascii_text;
 use crate::mending::mended_line;
 use crate::popeye::PopeyeProblem;
 use crate::popeye_words::{Command, command_of};
+use crate::tag_pairs::{begins_with, is_tag_pair};
 use crate::texts::{trimmed, word_at};
 use std::alloc::{AllocError, Global};
 
@@ -26,7 +31,7 @@ pub(crate) struct Finding {
 
 /// What is open between two lines.
 #[derive(Drop)]
-enum Open {
+pub(crate) enum Open {
     Nothing,
     Game(Game),
     Movetext(Movetext),
@@ -34,10 +39,9 @@ enum Open {
 }
 
 /// Adds a finding.
-pub(crate) fn push_finding(
-    findings: &mut Vec<Finding>,
-    finding: Finding,
-) -> Result<(), AllocError> {
+pub(crate) fn push_finding(findings: &mut Vec<Finding>, finding: Finding) -> Result<(), AllocError>
+    ensures { IfOk result (λ _. length findings.new.items ≡ length findings.old.items + 1) }
+{
     findings.push(finding)?;
     Ok(())
 }
@@ -45,7 +49,7 @@ pub(crate) fn push_finding(
 /// What goes from line to line: no more than a problem.
 #[derive(Drop)]
 pub(crate) struct Reading {
-    open: Open,
+    pub(crate) open: Open,
     /// The number of the last line that wasn't blank.
     last: usize,
 }
@@ -85,7 +89,10 @@ impl Reading {
         &mut self,
         alloc: Global,
         findings: &mut Vec<Finding>,
-    ) -> Result<(), AllocError> {
+    ) -> Result<(), AllocError>
+        ensures found { IfOk result (λ _. length findings.new.items ≡ due self.old.open + length findings.old.items) }
+        ensures ended { self.new.open ≡ Open.Nothing }
+    {
         let open = std::mem::replace(&mut self.open, Open::Nothing);
         match open {
             Open::Game(game) => finish_game(alloc, game, findings),
@@ -95,12 +102,35 @@ impl Reading {
     }
 
     /// Passes over a line of movetext.
-    fn pass(&mut self, line: &[u8]) {
-        let is_over = match &mut self.open {
-            Open::Movetext(movetext) => movetext.pass(line),
-            _ => false,
+    fn pass(&mut self, line: &[u8])
+        ensures { due self.new.open ≡ due self.old.open }
+    {
+        let Open::Movetext(movetext) = &mut self.open else {
+            return;
         };
-        if is_over {
+        if movetext.pass(line) {
+            self.open = Open::Nothing;
+        }
+    }
+
+    /// Whether a comment is open, in movetext that is passed over.
+    fn in_comment(&self) -> bool {
+        match &self.open {
+            Open::Movetext(movetext) => movetext.in_comment,
+            _ => false,
+        }
+    }
+
+    /// Ends movetext at an empty line before a line of such a number.
+    fn end_movetext(&mut self, number: usize)
+        ensures due { due self.new.open ≡ due self.old.open }
+        ensures tags { has_tags self.new.open ≡ has_tags self.old.open }
+        ensures last { self.new.last ≡ self.old.last }
+    {
+        if number <= self.last.saturating_add(1) {
+            return;
+        }
+        if let Open::Movetext(_) = &self.open {
             self.open = Open::Nothing;
         }
     }
@@ -111,15 +141,53 @@ impl Reading {
         alloc: Global,
         number: usize,
         findings: &mut Vec<Finding>,
-    ) -> Result<(), AllocError> {
-        if self.last < number && self.passes() {
-            self.finish(alloc, findings)?;
-            self.open = Open::Movetext(Movetext {
-                is_begun: true,
-                in_comment: false,
-            });
-            self.last = number;
+    ) -> Result<(), AllocError>
+        ensures kept { IfOk result (λ _. due self.old.open + length findings.old.items ≤ due self.new.open + length findings.new.items) }
+        ensures tags { IfOk result (λ _. has_tags self.old.open ≡ false → has_tags self.new.open ≡ false) }
+    {
+        if number <= self.last || !self.passes() {
+            return Ok(());
         }
+        self.finish(alloc, findings)?;
+        self.open = Open::Movetext(Movetext { in_comment: false });
+        self.last = number;
+        Ok(())
+    }
+
+    /// Whether a game's tag pairs are open.
+    fn has_tags(&self) -> bool
+        ensures { result ≡ has_tags self.now.open }
+    {
+        match &self.open {
+            Open::Game(_) => true,
+            _ => false,
+        }
+    }
+
+    /// Whether tag pairs at a line of such a number belong to a game that is open.
+    fn goes_on(&self, number: usize) -> bool
+        ensures { result ≡ does_go_on self.now.open self.now.last number }
+    {
+        self.has_tags() && number <= self.last.saturating_add(1)
+    }
+
+    /// Opens a game, unless one goes on.
+    fn open_game(
+        &mut self,
+        alloc: Global,
+        number: usize,
+        changes: Changes,
+        findings: &mut Vec<Finding>,
+    ) -> Result<(), AllocError>
+        ensures kept { IfOk result (λ _. due self.old.open + length findings.old.items ≤ due self.new.open + length findings.new.items) }
+        ensures more { IfOk result (λ _. does_go_on self.old.open self.old.last number ≡ false
+            → due self.old.open + length findings.old.items < due self.new.open + length findings.new.items) }
+    {
+        if self.goes_on(number) {
+            return Ok(());
+        }
+        self.finish(alloc, findings)?;
+        self.open = Open::Game(Game::new(alloc, number, changes.of(Form::Game)));
         Ok(())
     }
 
@@ -131,12 +199,12 @@ impl Reading {
         line: &'t [u8],
         changes: Changes,
         findings: &mut Vec<Finding>,
-    ) -> Result<&'t [u8], AllocError> {
-        let goes_on = number <= self.last.saturating_add(1) && matches!(&self.open, Open::Game(_));
-        if !goes_on {
-            self.finish(alloc, findings)?;
-            self.open = Open::Game(Game::new(alloc, number, changes.of(Form::Game)));
-        }
+    ) -> Result<&'t [u8], AllocError>
+        ensures kept { IfOk result (λ _. due self.old.open + length findings.old.items ≤ due self.new.open + length findings.new.items) }
+        ensures more { IfOk result (λ _. does_go_on self.old.open self.old.last number ≡ false
+            → due self.old.open + length findings.old.items < due self.new.open + length findings.new.items) }
+    {
+        self.open_game(alloc, number, changes, findings)?;
         match &mut self.open {
             Open::Game(game) => {
                 game.changes = game.changes.and(changes);
@@ -154,23 +222,35 @@ impl Reading {
         line: &[u8],
         changes: Changes,
         findings: &mut Vec<Finding>,
-    ) -> Result<(), AllocError> {
-        let has_next = match &mut self.open {
-            Open::Popeye(problem) => {
-                problem.changes = problem.changes.and(changes);
-                problem.take_line(line)?;
-                if !problem.is_ended {
-                    return Ok(());
-                }
-                problem.has_next
-            }
-            _ => return Ok(()),
+    ) -> Result<(), AllocError>
+        ensures { IfOk result (λ _. due self.old.open + length findings.old.items ≤ due self.new.open + length findings.new.items) }
+    {
+        let Open::Popeye(problem) = &mut self.open else {
+            return Ok(());
         };
+        problem.changes = problem.changes.and(changes);
+        problem.take_line(line)?;
+        if !problem.is_ended {
+            return Ok(());
+        }
+        let has_next = problem.has_next;
         self.finish(alloc, findings)?;
         if has_next {
             let changes = Changes::none(Form::Popeye);
             self.open = Open::Popeye(PopeyeProblem::new(alloc, number, changes));
         }
+        Ok(())
+    }
+
+    /// Ends the tag pairs of a game that is open.
+    fn end_tags(&mut self, alloc: Global, findings: &mut Vec<Finding>) -> Result<(), AllocError>
+        ensures { IfOk result (λ _. due self.old.open + length findings.old.items ≤ due self.new.open + length findings.new.items) }
+    {
+        let Open::Game(_) = &self.open else {
+            return Ok(());
+        };
+        self.finish(alloc, findings)?;
+        self.open = Open::Movetext(Movetext { in_comment: false });
         Ok(())
     }
 
@@ -180,24 +260,26 @@ impl Reading {
         alloc: Global,
         line: &[u8],
         findings: &mut Vec<Finding>,
-    ) -> Result<(), AllocError> {
-        if matches!(&self.open, Open::Game(_)) {
-            self.finish(alloc, findings)?;
-            self.open = Open::Movetext(Movetext::new());
-        }
+    ) -> Result<(), AllocError>
+        ensures { IfOk result (λ _. due self.old.open + length findings.old.items ≤ due self.new.open + length findings.new.items) }
+    {
+        self.end_tags(alloc, findings)?;
         self.pass(line);
         Ok(())
     }
 
-    /// Takes a line as a record that may want mending.
-    fn take_record(
+    /// Takes a line in printable ASCII as a record that may want mending.
+    pub(crate) fn take_record(
         &mut self,
         alloc: Global,
         number: usize,
         line: &[u8],
         changes: Changes,
         findings: &mut Vec<Finding>,
-    ) -> Result<(), AllocError> {
+    ) -> Result<(), AllocError>
+        ensures found { IfOk result (λ _. length findings.new.items ≡ due self.old.open + length findings.old.items + 1) }
+        ensures ended { IfOk result (λ _. self.new.open ≡ Open.Nothing) }
+    {
         self.finish(alloc, findings)?;
         let mut changes = changes;
         let text = mended_line(alloc, line, &mut changes)?;
@@ -210,7 +292,46 @@ impl Reading {
         )
     }
 
-    /// Takes a line that is neither blank nor a remark, nor within a comment.
+    /// Begins a problem for Popeye behind its first word.
+    fn begin_popeye(
+        &mut self,
+        alloc: Global,
+        number: usize,
+        behind: &[u8],
+        changes: Changes,
+        findings: &mut Vec<Finding>,
+    ) -> Result<(), AllocError>
+        ensures { IfOk result (λ _. due self.old.open + length findings.old.items < due self.new.open + length findings.new.items) }
+    {
+        self.finish(alloc, findings)?;
+        let problem = PopeyeProblem::new(alloc, number, Changes::none(Form::Popeye));
+        self.open = Open::Popeye(problem);
+        self.take_popeye(alloc, number, behind, changes, findings)?;
+        Ok(())
+    }
+
+    /// Takes a line of tag pairs, and what stands behind them.
+    fn take_game(
+        &mut self,
+        alloc: Global,
+        number: usize,
+        line: &[u8],
+        changes: Changes,
+        findings: &mut Vec<Finding>,
+    ) -> Result<(), AllocError>
+        ensures kept { IfOk result (λ _. due self.old.open + length findings.old.items ≤ due self.new.open + length findings.new.items) }
+        ensures more { IfOk result (λ _. does_go_on self.old.open self.old.last number ≡ false
+            → due self.old.open + length findings.old.items < due self.new.open + length findings.new.items) }
+    {
+        let rest = self.take_tags(alloc, number, line, changes, findings)?;
+        if rest.is_empty() {
+            return Ok(());
+        }
+        self.take_movetext(alloc, rest, findings)?;
+        Ok(())
+    }
+
+    /// Takes a line that isn't within a comment.
     fn take_problem_line(
         &mut self,
         alloc: Global,
@@ -218,28 +339,56 @@ impl Reading {
         line: &[u8],
         changes: Changes,
         findings: &mut Vec<Finding>,
-    ) -> Result<(), AllocError> {
-        let (first, behind) = word_at(line);
-        if line.starts_with(b"[") {
-            let rest = self.take_tags(alloc, number, line, changes, findings)?;
-            if rest.is_empty() {
-                return Ok(());
-            }
-            return self.take_movetext(alloc, rest, findings);
+    ) -> Result<(), AllocError>
+        ensures kept { IfOk result (λ _. due self.old.open + length findings.old.items ≤ due self.new.open + length findings.new.items) }
+        ensures more { IfOk result (λ _. is_tag_pair_text line.now ≡ true → does_go_on self.old.open self.old.last number ≡ false
+            → due self.old.open + length findings.old.items < due self.new.open + length findings.new.items) }
+    {
+        if begins_with(b'[', line) {
+            self.take_game(alloc, number, line, changes, findings)?;
+            return Ok(());
         }
+        if is_remark(line) {
+            return Ok(());
+        }
+        let (first, behind) = word_at(line);
         if command_of(first) == Some(Command::Begin) {
-            self.finish(alloc, findings)?;
-            let problem = PopeyeProblem::new(alloc, number, Changes::none(Form::Popeye));
-            self.open = Open::Popeye(problem);
-            return self.take_popeye(alloc, number, behind, changes, findings);
+            self.begin_popeye(alloc, number, behind, changes, findings)?;
+            return Ok(());
         }
         if matches!(&self.open, Open::Popeye(_)) {
-            return self.take_popeye(alloc, number, line, changes, findings);
+            self.take_popeye(alloc, number, line, changes, findings)?;
+            return Ok(());
         }
         if self.passes() && !begins_with_placement(line) {
-            return self.take_movetext(alloc, line, findings);
+            self.take_movetext(alloc, line, findings)?;
+            return Ok(());
         }
-        self.take_record(alloc, number, line, changes, findings)
+        self.take_record(alloc, number, line, changes, findings)?;
+        Ok(())
+    }
+
+    /// Takes a text that isn't empty, in printable ASCII. One that is a tag pair isn't passed over where a comment is open, so that a game
+    /// doesn't disappear in a comment that nobody ended.
+    fn take_text(
+        &mut self,
+        alloc: Global,
+        number: usize,
+        text: &[u8],
+        changes: Changes,
+        findings: &mut Vec<Finding>,
+    ) -> Result<(), AllocError>
+        ensures kept { IfOk result (λ _. due self.old.open + length findings.old.items ≤ due self.new.open + length findings.new.items) }
+        ensures more { IfOk result (λ _. is_tag_pair_text text.now ≡ true → does_go_on self.old.open self.old.last number ≡ false
+            → due self.old.open + length findings.old.items < due self.new.open + length findings.new.items) }
+    {
+        if self.in_comment() && !is_tag_pair(text) {
+            self.pass(text);
+            return Ok(());
+        }
+        self.end_movetext(number);
+        self.take_problem_line(alloc, number, text, changes, findings)?;
+        Ok(())
     }
 
     /// Takes a line that isn't of spaces alone, by its number; what it ends or says is found.
@@ -249,36 +398,27 @@ impl Reading {
         number: usize,
         line: &[u8],
         findings: &mut Vec<Finding>,
-    ) -> Result<(), AllocError> {
+    ) -> Result<(), AllocError>
+        ensures kept { IfOk result (λ _. due self.old.open + length findings.old.items ≤ due self.new.open + length findings.new.items) }
+        ensures more { IfOk result (λ _. is_tag_line line.now ≡ true → does_go_on self.old.open self.old.last number ≡ false
+            → due self.old.open + length findings.old.items < due self.new.open + length findings.new.items) }
+    {
         let mut changes = Changes::none(Form::Line);
         let text = ascii_text(alloc, line, &mut changes)?;
         let text = trimmed(text.as_slice());
         if text.is_empty() {
             return Ok(());
         }
-        let in_comment = match &self.open {
-            Open::Movetext(movetext) => movetext.in_comment,
-            _ => false,
-        };
-        let is_behind_game = match &self.open {
-            Open::Movetext(movetext) => movetext.is_begun && number > self.last.saturating_add(1),
-            _ => false,
-        };
-        if is_behind_game && !in_comment {
-            self.open = Open::Nothing;
-        }
-        if in_comment {
-            self.pass(text);
-        } else if !is_remark(text) {
-            self.take_problem_line(alloc, number, text, changes, findings)?;
-        }
+        self.take_text(alloc, number, text, changes, findings)?;
         self.last = number;
         Ok(())
     }
 }
 
 /// What the tag pairs of a game say.
-fn finish_game(alloc: Global, game: Game, findings: &mut Vec<Finding>) -> Result<(), AllocError> {
+fn finish_game(alloc: Global, game: Game, findings: &mut Vec<Finding>) -> Result<(), AllocError>
+    ensures { IfOk result (λ _. length findings.new.items ≡ length findings.old.items + 1) }
+{
     let mut game = game;
     let found = if game.has_fen {
         let text = game.text(alloc)?;
@@ -300,7 +440,9 @@ fn finish_popeye(
     alloc: Global,
     problem: &PopeyeProblem,
     findings: &mut Vec<Finding>,
-) -> Result<(), AllocError> {
+) -> Result<(), AllocError>
+    ensures { IfOk result (λ _. length findings.new.items ≡ length findings.old.items + 1) }
+{
     let found = match problem.first_fault() {
         Some(fault) => Found::Fault(fault),
         None => Found::Text(problem.text(alloc)?, problem.changes),

@@ -1,9 +1,15 @@
 //! Texts of bytes: what stands at their ends, and their words.
 
+ghost use Rattle.std.specs.Prelude.{◌≡◌, drop};
+ghost use Rattle.chess_notation.specs.Words.{after_spaces as text_after_spaces};
+ghost use Rattle.problem_import.specs.inside.TagPairs.{trimmed as trimmed_text};
+
 use std::alloc::AllocError;
 
 /// A text without spaces at either end.
-pub(crate) fn trimmed(text: &[u8]) -> &[u8] {
+pub(crate) fn trimmed(text: &[u8]) -> &[u8]
+    ensures { result.now ≡ trimmed_text text.now }
+{
     text.trim_ascii()
 }
 
@@ -22,6 +28,17 @@ pub(crate) fn word_at(text: &[u8]) -> (&[u8], &[u8]) {
     front_word(text.trim_ascii_start())
 }
 
+/// The text from its first byte that is no space.
+pub(crate) fn after_spaces(text: &[u8]) -> &[u8]
+    ensures { result.now ≡ text_after_spaces text.now }
+{
+    let mut rest = text;
+    while let [b' ', more @ ..] = rest {
+        rest = more;
+    }
+    rest
+}
+
 /// Whether a text is one or more digits.
 pub(crate) fn are_digits(text: &[u8]) -> bool {
     for byte in text {
@@ -38,7 +55,9 @@ pub(crate) fn is_word(word: &[u8], other: &str) -> bool {
 }
 
 /// A text without a number of bytes at its front.
-pub(crate) fn without_first(text: &[u8], count: usize) -> &[u8] {
+pub(crate) fn without_first(text: &[u8], count: usize) -> &[u8]
+    ensures { result.now ≡ drop count text.now }
+{
     text.split_at(count.min(text.len())).1
 }
 

@@ -3,5 +3,5 @@ use Rattle.problem_import.proofs.importing.ImportsLineHandler.refuse_long.Goals 
 
 pub returns-clause-reply : goal.returns-clause-reply
 returns-clause-reply c =
-    long_reply c.args.number c.output_of.result.text.items c.in_ok-printed.printed.text.items c.in_ok-printed.printed.any c.output_of.result.refused
-    c.in_ok-printed.ensures c.output_of.ensures.text c.output_of.ensures.refused
+    long_reply c.args.self.now.printing.keep c.args.number c.output_of.result.text.items c.in_ok-printed.printed.text.items
+    c.in_ok-printed.printed.any c.output_of.result.refused c.in_ok-printed.ensures.imported c.output_of.ensures.text c.output_of.ensures.refused

@@ -1,6 +1,7 @@
+use Rattle.problem_import.specs.Imports.{IsMade}
 use Rattle.problem_import.proofs.Imports.{record_next}
 use Rattle.problem_import.proofs.printing.Printed.push_record.Goals as goal
 
 pub returns-clause-imported : goal.returns-clause-imported
-returns-clause-imported c = record_next c.args.self.now.text.items c.args.line.now c.push_line.new.text.items
-    c.args.self.now.any c.requires c.in_ok-push_line.ensures
+returns-clause-imported c = λ keep line kind. record_next (IsMade keep line) c.args.self.now.text.items c.args.made.now c.push_line.new.text.items
+    c.args.self.now.any c.requires kind c.in_ok-push_line.ensures

@@ -1,5 +1,9 @@
-use Rattle.problem_import.specs.Imports.{AreImported}
+use Rattle.std.proofs.Common.{◌<◌, length}
+use Rattle.problem_import.specs.Imports.{AreImported, IsMade}
 use Rattle.problem_import.proofs.printing.Printing.printed.Given as goal
 
 abbrev pub invariant-loop-finding : goal.invariant-loop-finding
-invariant-loop-finding l = AreImported l.printed.text.items l.printed.any
+invariant-loop-finding l = record {
+  imported : AreImported (IsMade l.self.keep l.line) l.printed.text.items l.printed.any;
+  filled : 0 < l.finding-index → 0 < length l.printed.text.items;
+}

@@ -1,0 +1,3 @@
+pub mod KeptChanges
+pub mod OpenProblems
+pub mod TagPairs
