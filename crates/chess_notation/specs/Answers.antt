@@ -1,6 +1,6 @@
 -- The text that answers a record: its four fields, then operations in ASCII order of opcode (PGN Specification, sections 16.2.4
 -- and 16.2.5). Own to this project: that there is no mate is said in `c0`.
-use Rattle.std.specs.Prelude.{ℕ, List, [], ◌∷◌, ◌++◌, codes, map, decimal, if◌then◌else◌}
+use Rattle.std.specs.Prelude.{ℕ, zero, suc, List, [], ◌∷◌, ◌++◌, codes, map, decimal, if◌then◌else◌}
 use Rattle.chess_board.specs.Characters.{char}
 use Rattle.chess_board.specs.Positions.{Setup}
 use Rattle.chess_board.specs.Fens.{position_text}
@@ -57,8 +57,16 @@ comment_entry front n back =
 abbrev pub none_entry : ℕ → Entry
 none_entry bound = comment_entry (codes "no mate in ") bound []
 
-abbrev pub undecided_entry : ℕ → Entry
-undecided_entry seconds = comment_entry (codes "not decided in ") seconds (codes " s")
+-- what is known of the moves within which there is no mate; nothing of none
+abbrev pub none_so_far : ℕ → List ℕ
+none_so_far zero = []
+none_so_far (suc n) = codes "no mate in " ++ (decimal (suc n) ++ codes ", ")
+
+abbrev pub undecided_front : ℕ → ℕ → List ℕ
+undecided_front none bound = none_so_far none ++ (codes "not decided within " ++ (decimal bound ++ codes " in "))
+
+abbrev pub undecided_entry : ℕ → ℕ → ℕ → Entry
+undecided_entry none bound seconds = comment_entry (undecided_front none bound) seconds (codes " s")
 
 -- the operations of an answer: those that the record keeps, and those of the outcome, each at its place
 abbrev pub answer_entries : RecordValue → Outcome → List Entry
@@ -69,6 +77,8 @@ answer_entries r NoMate = with_entry (none_entry r.bound) r.rest
 unfoldable pub answer_text : RecordValue → Outcome → List ℕ
 answer_text r outcome = position_text r.position ++ entries_text (answer_entries r outcome)
 
--- the answer to a record whose problem was not decided in so many seconds
-unfoldable pub undecided_text : RecordValue → ℕ → List ℕ
-undecided_text r seconds = position_text r.position ++ entries_text (with_entry (undecided_entry seconds) r.rest)
+-- the answer to a record whose problem was not decided in so many seconds, but that there is no mate within so many moves: it asks what
+-- the record asked
+unfoldable pub undecided_text : RecordValue → ℕ → ℕ → List ℕ
+undecided_text r none seconds = position_text r.position
+    ++ entries_text (with_entry (undecided_entry none r.bound seconds) (with_entry (length_entry r.bound) r.rest))

@@ -9,6 +9,7 @@ ghost use Rattle.chess_notation.specs.SanText.{san_text};
 ghost use Rattle.chess_notation.specs.inside.Merging.{with_entries};
 ghost use Rattle.chess_notation.specs.Answers.{entry_text, entries_text, with_text, in_order, operand_words, line_texts, keys_entry};
 ghost use Rattle.chess_notation.specs.Answers.{length_entry, line_entry, none_entry, comment_entry, undecided_entry};
+ghost use Rattle.chess_notation.specs.Answers.{none_so_far as none_so_far_of, undecided_front as undecided_front_of};
 ghost use Rattle.chess_notation.specs.Answers.{answer_text as answer_text_of, undecided_text as undecided_text_of};
 ghost use Rattle.chess_problems.specs.Outcomes.{AreLegal, IsPlayable};
 
@@ -268,18 +269,47 @@ fn push_no_mate(alloc: Global, text: &mut String, record: &Record) -> Result<(),
     Ok(())
 }
 
-/// Adds the operation of a problem that was not decided in so many seconds, at its place among those that the record keeps.
+/// Says within how many moves there is no mate, where there are any.
+fn push_none_so_far(alloc: Global, text: &mut String, none: u8) -> Result<(), AllocError>
+    ensures { OnOk result (string_bytes text.new ≡ string_bytes text.old ++ none_so_far_of none) }
+{
+    if none == 0 {
+        return Ok(());
+    }
+    text.push_str("no mate in ")?;
+    text.push_str(none.to_string(alloc)?.as_str())?;
+    text.push_str(", ")?;
+    Ok(())
+}
+
+/// What is said before the seconds in which a problem was not decided.
+fn undecided_front(alloc: Global, none: u8, bound: Bound) -> Result<String, AllocError>
+    ensures { IfOk result (λ text. string_bytes text ≡ undecided_front_of none bound) }
+{
+    let mut front = String::new(alloc);
+    push_none_so_far(alloc, &mut front, none)?;
+    front.push_str("not decided within ")?;
+    front.push_str(bound.get().to_string(alloc)?.as_str())?;
+    front.push_str(" in ")?;
+    Ok(front)
+}
+
+/// Adds the operations of a problem that was not decided in so many seconds, each at its place among those that the record keeps.
 fn push_undecided(
     alloc: Global,
     text: &mut String,
     record: &Record,
+    none: u8,
     seconds: u32,
 ) -> Result<(), AllocError>
     ensures { OnOk result (string_bytes text.new ≡ string_bytes text.old
-        ++ entries_text (with_entries (undecided_entry seconds ∷ []) «record».now.rest)) }
+        ++ entries_text (with_entries (undecided_entry none «record».now.bound seconds ∷ length_entry «record».now.bound ∷ []) «record».now.rest)) }
 {
+    let front = undecided_front(alloc, none, record.bound)?;
     let left = push_until(text, b"c0", record.rest.as_slice())?;
-    push_comment(alloc, text, "not decided in ", seconds, " s")?;
+    push_comment(alloc, text, front.as_str(), seconds, " s")?;
+    let left = push_until(text, b"dm", left)?;
+    push_length(alloc, text, record.bound)?;
     push_operations(text, left)?;
     Ok(())
 }
@@ -317,15 +347,20 @@ pub fn answer_text(
     Ok(text)
 }
 
-/// The text that answers a record whose problem was not decided in so many seconds: the four fields of its position, and then in
-/// ASCII order of opcode the operations that it keeps and `c0`, which says so and claims nothing of the problem. Only a growth that is
-/// refused is an error.
+/// The text that answers a record whose problem was not decided in so many seconds, but that there is no mate within `none` moves: the four
+/// fields of its position, and then in ASCII order of opcode the operations that it keeps, `c0`, which says so, and `dm`, the bound that is
+/// asked, so that whoever reads it as a record asks the same. Only a growth that is refused is an error.
 #[tactic(auto, unfolding(crate::specs::Answers::undecided_text))]
-pub fn undecided_text(alloc: Global, record: &Record, seconds: u32) -> Result<String, NoMemory>
-    ensures { IfOk result (λ text. string_bytes text ≡ undecided_text_of «record».now seconds) }
+pub fn undecided_text(
+    alloc: Global,
+    record: &Record,
+    none: u8,
+    seconds: u32,
+) -> Result<String, NoMemory>
+    ensures { IfOk result (λ text. string_bytes text ≡ undecided_text_of «record».now none seconds) }
 {
     let mut text = String::new(alloc);
     text.push_str(record.position.text().as_str())?;
-    push_undecided(alloc, &mut text, record, seconds)?;
+    push_undecided(alloc, &mut text, record, none, seconds)?;
     Ok(text)
 }

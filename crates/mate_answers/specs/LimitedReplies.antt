@@ -1,21 +1,39 @@
 -- The replies to records each of which may take so many seconds (own to this project).
-use Rattle.std.specs.Prelude.{◌≡◌, ◌⊎◌, ℕ, List, ◌∷◌, [], ◌++◌, false}
+use Rattle.std.specs.Prelude.{◌≡◌, ◌<◌, ℕ, List, ◌∷◌, [], ◌++◌, false}
 use Rattle.chess_board.specs.Characters.{char}
 use Rattle.chess_notation.specs.Words.{is_blank}
+use Rattle.chess_problems.specs.Problems.{ProblemValue}
+use Rattle.chess_problems.specs.declared.outcomes.Outcome.TheVariants.{NoMate}
 use Rattle.chess_notation.specs.Records.{RecordValue, Reads}
 use Rattle.chess_notation.specs.Answers.{undecided_text}
-use Rattle.mate_answers.specs.InputReplies.{answer_line, IsLineReply}
+use Rattle.mate_answers.specs.InputReplies.{IsLineReply}
+use Rattle.mate_search.specs.inside.Truth.{truth}
 
--- the reply to a line that says this record, where its problem was not decided: it claims nothing
-abbrev pub undecided_line : ℕ → RecordValue → List ℕ
-undecided_line seconds r = undecided_text r seconds ++ char "\n" ∷ []
+-- what a record asks, within so many moves instead
+abbrev pub problem_within : ℕ → RecordValue → ProblemValue
+problem_within n r = record { position = r.position; bound = n; avoid = r.avoid }
 
--- the reply to a line that says this record: what is true of its problem, or that it was not decided
-abbrev pub IsLimitedLine : ℕ → RecordValue → List ℕ → Type 0
-IsLimitedLine seconds r text = (text ≡ answer_line r) ⊎ (text ≡ undecided_line seconds r)
+-- That there is no mate within so many moves of fewer than the record asks for.
+pub record IsNoneSoFar (r : RecordValue) (none : ℕ) : Type 0 where
+  pub fewer : none < r.bound
+  pub no_mate : truth (problem_within none r) ≡ NoMate
 
--- What one line is answered, and how many refusals that is: as without a limit, or that it was not decided.
+-- the reply to a line that says this record, where no more is known of its problem in time than that there is no mate within so many moves
+abbrev pub undecided_line : ℕ → ℕ → RecordValue → List ℕ
+undecided_line none seconds r = undecided_text r none seconds ++ char "\n" ∷ []
+
+-- A reply to a line that says this record is that it was not decided, and what is true so far.
+abbrev pub IsUndecidedLine : ℕ → RecordValue → List ℕ → Type 0
+IsUndecidedLine seconds r text = (none : ℕ) × IsNoneSoFar r none × (text ≡ undecided_line none seconds r)
+
+-- What one line is answered, and how many refusals that is: as without a limit, or that it was not decided, and what is true so far.
 pub data IsLimitedReply (seconds default number : ℕ) (line : List ℕ) : List ℕ → ℕ → Type 0 where
   decided : (text : List ℕ) (count : ℕ) → IsLineReply default number line text count → IsLimitedReply seconds default number line text count
-  undecided : (r : RecordValue) → is_blank line ≡ false → Reads line default r
-      → IsLimitedReply seconds default number line (undecided_line seconds r) 0
+  undecided : (r : RecordValue) (none : ℕ) → is_blank line ≡ false → Reads line default r → IsNoneSoFar r none
+      → IsLimitedReply seconds default number line (undecided_line none seconds r) 0
+
+-- What one line is answered, and how many of its replies are that it was not decided: one or none.
+pub data IsLateReply (seconds default number : ℕ) (line : List ℕ) : List ℕ → ℕ → Type 0 where
+  in_time : (text : List ℕ) (count : ℕ) → IsLineReply default number line text count → IsLateReply seconds default number line text 0
+  late : (r : RecordValue) (none : ℕ) → is_blank line ≡ false → Reads line default r → IsNoneSoFar r none
+      → IsLateReply seconds default number line (undecided_line none seconds r) 1

@@ -81,6 +81,8 @@ impl<S: Solver<Never>> LineHandler for Answers<'_, S> {
     }
 
     ghost skips = { λ answers number line blank. skipped blank };
+
+    ghost unmarked = { λ _ _ _ _. tt };
 }
 
 /// Answers an input line by line: each line before the next is waited for. Gives how many lines are refused.

@@ -134,6 +134,8 @@ impl LineHandler for ClaimRows<'_> {
     }
 
     ghost skips = { λ rows number line blank. skipped blank };
+
+    ghost unmarked = { λ _ _ _ _. tt };
 }
 
 /// Holds each line of an input against its own claims: the row of each is written before the next is waited for. Gives how many lines

@@ -144,6 +144,8 @@ impl LineWriter for TreeReplies<'_> {
     }
 
     ghost skips = { λ trees number line blank. skipped blank };
+
+    ghost unmarked = { λ _ _ _ _. tt };
 }
 
 /// Tells the tree of each record of an input, line by line: the reply to each is written before the next is waited for, and a tree as it

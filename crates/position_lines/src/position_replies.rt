@@ -64,6 +64,8 @@ impl<V: FenView> LineHandler for Positions<'_, V> {
     }
 
     ghost skips = { λ positions number line blank. skipped blank };
+
+    ghost unmarked = { λ _ _ _ _. tt };
 }
 
 /// Answers an input of positions line by line by what is shown of each: each line before the next is waited for. Gives how many lines are

@@ -1,4 +1,4 @@
--- How a diagram is drawn (Scalable Vector Graphics 2), as White sees it: each man's shape at its square. Squares are 45 wide.
+-- How a diagram is drawn (Scalable Vector Graphics 2), as White or as Black sees it: each man's shape at its square. Squares are 45 wide.
 use Rattle.std.specs.Prelude.{ℕ, zero, suc, ◌-◌, ◌*◌, List, [], ◌∷◌, ◌++◌, codes, decimal, Option, if◌then◌else◌}
 use Rattle.std.specs.Option.{option_map_or}
 use Rattle.chess_board.specs.declared.men.Colour.{Colour}
@@ -12,7 +12,7 @@ use Rattle.chess_board.specs.Men.{is_colour}
 use Rattle.chess_board.specs.Placement.{man_letter}
 use Rattle.chess_board.specs.Positions.{Setup, man_at}
 use Rattle.chess_board.specs.Squares.{file_of, rank_of}
-use Rattle.problem_sheets.specs.declared.shapes.TheConstants.{SHAPES}
+use Rattle.problem_sheets.specs.declared.shapes.TheConstants.{BOARD, WHITE_COORDINATES, BLACK_COORDINATES, MEN}
 
 -- the texts of the numbers below n, from 0 on
 unfoldable pub each_below : ℕ → (ℕ → List ℕ) → List ℕ
@@ -23,9 +23,20 @@ each_below (suc n) text = each_below n text ++ text n
 abbrev pub each_square : (ℕ → List ℕ) → List ℕ
 each_square text = each_below 64 text
 
--- the place of a square: the eighth rank is the highest
-unfoldable pub place_text : ℕ → List ℕ
-place_text square = codes "\" x=\"" ++ decimal (45 * file_of square) ++ codes "\" y=\"" ++ decimal (45 * (7 - rank_of square)) ++ codes "\"/>"
+-- how many squares stand to the left of a square, and above it, as a side sees the board: the eighth rank is the highest for White, and
+-- the first for Black
+abbrev pub column_from : Colour → ℕ → ℕ
+column_from White square = file_of square
+column_from Black square = 7 - file_of square
+
+abbrev pub row_from : Colour → ℕ → ℕ
+row_from White square = 7 - rank_of square
+row_from Black square = rank_of square
+
+-- the place of a square
+unfoldable pub place_text : Colour → ℕ → List ℕ
+place_text from square =
+    codes "\" x=\"" ++ decimal (45 * column_from from square) ++ codes "\" y=\"" ++ decimal (45 * row_from from square) ++ codes "\"/>"
 
 -- a man's shape, called by its letter as in FEN, at a square
 unfoldable pub use_text : List ℕ
@@ -34,11 +45,11 @@ use_text = codes "<use href=\"#"
 unfoldable pub letter_text : Man → List ℕ
 letter_text man = man_letter man ∷ []
 
-unfoldable pub shape_text : Man → ℕ → List ℕ
-shape_text man square = use_text ++ letter_text man ++ place_text square
+unfoldable pub shape_text : Colour → Man → ℕ → List ℕ
+shape_text from man square = use_text ++ letter_text man ++ place_text from square
 
-abbrev pub shape_at : List (Option Man) → ℕ → List ℕ
-shape_at men square = option_map_or (λ man. shape_text man square) (man_at men square) []
+abbrev pub shape_at : Colour → List (Option Man) → ℕ → List ℕ
+shape_at from men square = option_map_or (λ man. shape_text from man square) (man_at men square) []
 
 abbrev pub kind_name : Kind → List ℕ
 kind_name Pawn = codes "pawn "
@@ -67,36 +78,47 @@ side_words Black = codes "Black to move"
 unfoldable pub label_text : Setup → List ℕ
 label_text p = side_words p.side ++ each_square (name_at White p.men) ++ each_square (name_at Black p.men)
 
--- Where Black moves, the diagram is marked.
-abbrev pub mark_text : Colour → List ℕ
-mark_text White = []
-mark_text Black = codes "<use href=\"#mark\"/>"
+-- Where Black moves, the diagram seen from such a side is marked, by Black's own side: above White's, below as Black sees it.
+abbrev pub mark_text : Colour → Colour → List ℕ
+mark_text from White = []
+mark_text White Black = codes "<use href=\"#mark\"/>"
+mark_text Black Black = codes "<use href=\"#mark\" y=\"348\"/>"
 
 -- the board, the men on it, and the mark
 unfoldable pub board_text : List ℕ
 board_text = codes "<use href=\"#board\"/>"
 
-unfoldable pub drawing_text : Setup → List ℕ
-drawing_text p = board_text ++ each_square (shape_at p.men) ++ mark_text p.side
+unfoldable pub drawing_text : Colour → Setup → List ℕ
+drawing_text from p = board_text ++ each_square (shape_at from p.men) ++ mark_text from p.side
 
--- a diagram of a page, which has the shapes elsewhere
+-- a diagram of a page, which has the shapes elsewhere, as White sees it
 unfoldable pub diagram_start : List ℕ
 diagram_start = codes "<svg viewBox=\"-20 -3 392 386\" role=\"img\" aria-label=\""
 
 unfoldable pub diagram_text : Setup → List ℕ
-diagram_text p = diagram_start ++ label_text p ++ codes "\">" ++ drawing_text p ++ codes "</svg>"
+diagram_text p = diagram_start ++ label_text p ++ codes "\">" ++ drawing_text White p ++ codes "</svg>"
 
--- the shapes: the board, the men, the mark
-unfoldable pub shapes : List ℕ
-shapes = SHAPES.now
+-- the shapes: the board with its coordinates as a side sees it, the mark, the men
+unfoldable pub board_shape : List ℕ
+board_shape = BOARD.now
+
+unfoldable pub coordinates : Colour → List ℕ
+coordinates White = WHITE_COORDINATES.now
+coordinates Black = BLACK_COORDINATES.now
+
+unfoldable pub men_shapes : List ℕ
+men_shapes = MEN.now
+
+unfoldable pub shapes : Colour → List ℕ
+shapes from = board_shape ++ coordinates from ++ men_shapes
 
 -- a diagram alone, with its shapes
 unfoldable pub svg_start : List ℕ
 svg_start = codes "<svg xmlns=\"http://www.w3.org/2000/svg\" viewBox=\"-20 -3 392 386\" role=\"img\" aria-label=\""
 
-unfoldable pub svg_text : Setup → List ℕ
-svg_text p = svg_start ++ label_text p ++ codes "\">\n" ++ shapes ++ drawing_text p ++ codes "</svg>\n"
+unfoldable pub svg_text : Colour → Setup → List ℕ
+svg_text from p = svg_start ++ label_text p ++ codes "\">\n" ++ shapes from ++ drawing_text from p ++ codes "</svg>\n"
 
 -- that of a FEN's position
-abbrev pub svg_of : FenValue → List ℕ
-svg_of f = svg_text f.position
+abbrev pub svg_of : Colour → FenValue → List ℕ
+svg_of from f = svg_text from f.position

@@ -2,6 +2,7 @@
 use Rattle.std.specs.Prelude.{ℕ, List, [], ◌∷◌, ◌++◌, codes, if◌then◌else◌}
 use Rattle.problem_sheets.specs.declared.page_parts.TheConstants.{PAGE_START, STYLE, PAGE_END}
 use Rattle.problem_sheets.specs.declared.pages.Form.{Form}
+use Rattle.chess_board.specs.declared.men.Colour.TheVariants.{White}
 use Rattle.problem_sheets.specs.Contents.{ContentsValue}
 use Rattle.problem_sheets.specs.Diagrams.{shapes}
 use Rattle.problem_sheets.specs.Escaping.{escaped}
@@ -19,7 +20,7 @@ unfoldable pub page_end : List ℕ
 page_end = PAGE_END.now
 
 unfoldable pub head_text : List ℕ → List ℕ
-head_text title = page_start ++ escaped title ++ style ++ shapes ++ codes "</svg>\n<h1>" ++ escaped title ++ codes "</h1>\n"
+head_text title = page_start ++ escaped title ++ style ++ shapes White ++ codes "</svg>\n<h1>" ++ escaped title ++ codes "</h1>\n"
 
 abbrev pub section_text : List ℕ → List ℕ → List ℕ
 section_text name paragraphs = codes "<section>\n<h2>" ++ name ++ codes "</h2>\n" ++ paragraphs ++ codes "</section>\n"

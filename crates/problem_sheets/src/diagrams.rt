@@ -3,11 +3,12 @@
 ghost use Rattle.std.specs.Prelude.{◌≡◌, ◌++◌, IfOk, decimal};
 ghost use Rattle.chess_board.specs.Fields.{square_text};
 ghost use Rattle.chess_board.specs.Placement.{man_letter};
-ghost use Rattle.problem_sheets.specs.Diagrams.{board_text, colour_name, diagram_start, diagram_text, drawing_text, each_square};
-ghost use Rattle.problem_sheets.specs.Diagrams.{kind_name, label_text, letter_text, mark_text, name_at, name_text, place_text};
-ghost use Rattle.problem_sheets.specs.Diagrams.{shape_at, shape_text, shapes, side_words, svg_start, svg_text, use_text};
+ghost use Rattle.problem_sheets.specs.Diagrams.{board_shape, board_text, colour_name, column_from, coordinates, diagram_start, diagram_text};
+ghost use Rattle.problem_sheets.specs.Diagrams.{drawing_text, each_square, kind_name, label_text, letter_text, mark_text, men_shapes, name_at};
+ghost use Rattle.problem_sheets.specs.Diagrams.{name_text, place_text, row_from, shape_at, shape_text, shapes, side_words};
+ghost use Rattle.problem_sheets.specs.Diagrams.{svg_start, svg_text, use_text};
 
-use crate::shapes::SHAPES;
+use crate::shapes::{BLACK_COORDINATES, BOARD, MEN, WHITE_COORDINATES};
 use chess_board::{Colour, Kind, Man, Position, Square};
 use itoa::Buffer;
 use std::alloc::{AllocError, Global};
@@ -31,15 +32,35 @@ pub(crate) fn push_number(text: &mut Vec<u8>, number: usize) -> Result<(), Alloc
     Ok(())
 }
 
-/// Adds the place of a square.
+/// How many squares stand to the left of a square, as a side sees the board.
+fn column_from(from: Colour, square: Square) -> u8
+    ensures { result ≡ column_from from square }
+{
+    match from {
+        Colour::White => square.file(),
+        Colour::Black => 7 - square.file(),
+    }
+}
+
+/// How many stand above it.
+fn row_from(from: Colour, square: Square) -> u8
+    ensures { result ≡ row_from from square }
+{
+    match from {
+        Colour::White => 7 - square.rank(),
+        Colour::Black => square.rank(),
+    }
+}
+
+/// Adds the place of a square, as a side sees the board.
 #[tactic(auto, unfolding(crate::specs::Diagrams::place_text))]
-fn push_place(text: &mut Vec<u8>, square: Square) -> Result<(), AllocError>
-    ensures { IfOk result (λ _. text.new.items ≡ text.old.items ++ place_text square) }
+fn push_place(text: &mut Vec<u8>, from: Colour, square: Square) -> Result<(), AllocError>
+    ensures { IfOk result (λ _. text.new.items ≡ text.old.items ++ place_text from square) }
 {
     text.extend_from_slice(b"\" x=\"")?;
-    push_number(text, 45 * (square.file() as usize))?;
+    push_number(text, 45 * (column_from(from, square) as usize))?;
     text.extend_from_slice(b"\" y=\"")?;
-    push_number(text, 45 * (7 - square.rank() as usize))?;
+    push_number(text, 45 * (row_from(from, square) as usize))?;
     text.extend_from_slice(b"\"/>")?;
     Ok(())
 }
@@ -63,31 +84,36 @@ fn push_letter(text: &mut Vec<u8>, man: Man) -> Result<(), AllocError>
 
 /// Adds a man's shape at a square.
 #[tactic(auto, unfolding(crate::specs::Diagrams::shape_text))]
-fn push_shape(text: &mut Vec<u8>, man: Man, square: Square) -> Result<(), AllocError>
-    ensures { IfOk result (λ _. text.new.items ≡ text.old.items ++ shape_text man square) }
+fn push_shape(text: &mut Vec<u8>, from: Colour, man: Man, square: Square) -> Result<(), AllocError>
+    ensures { IfOk result (λ _. text.new.items ≡ text.old.items ++ shape_text from man square) }
 {
     push_use(text)?;
     push_letter(text, man)?;
-    push_place(text, square)?;
+    push_place(text, from, square)?;
     Ok(())
 }
 
 /// Adds the shape of the man on a square, if one stands there.
-fn push_shape_at(text: &mut Vec<u8>, position: &Position, square: Square) -> Result<(), AllocError>
-    ensures { IfOk result (λ _. text.new.items ≡ text.old.items ++ shape_at position.now.men square) }
+fn push_shape_at(
+    text: &mut Vec<u8>,
+    from: Colour,
+    position: &Position,
+    square: Square,
+) -> Result<(), AllocError>
+    ensures { IfOk result (λ _. text.new.items ≡ text.old.items ++ shape_at from position.now.men square) }
 {
     match position.man(square) {
-        Some(man) => push_shape(text, man, square),
+        Some(man) => push_shape(text, from, man, square),
         None => Ok(()),
     }
 }
 
 /// Adds the shape of each man at its square.
-fn push_shapes(text: &mut Vec<u8>, position: &Position) -> Result<(), AllocError>
-    ensures { IfOk result (λ _. text.new.items ≡ text.old.items ++ each_square (shape_at position.now.men)) }
+fn push_shapes(text: &mut Vec<u8>, from: Colour, position: &Position) -> Result<(), AllocError>
+    ensures { IfOk result (λ _. text.new.items ≡ text.old.items ++ each_square (shape_at from position.now.men)) }
 {
     for number in 0..64 {
-        push_shape_at(text, position, Square::numbered(number))?;
+        push_shape_at(text, from, position, Square::numbered(number))?;
     }
     Ok(())
 }
@@ -183,13 +209,16 @@ fn push_label(text: &mut Vec<u8>, position: &Position) -> Result<(), AllocError>
     Ok(())
 }
 
-/// Adds the mark of a side that moves: Black has one.
-fn push_mark(text: &mut Vec<u8>, position: &Position) -> Result<(), AllocError>
-    ensures { IfOk result (λ _. text.new.items ≡ text.old.items ++ mark_text position.now.side) }
+/// Adds the mark of a side that moves: Black has one, by its own side of the board.
+fn push_mark(text: &mut Vec<u8>, from: Colour, position: &Position) -> Result<(), AllocError>
+    ensures { IfOk result (λ _. text.new.items ≡ text.old.items ++ mark_text from position.now.side) }
 {
-    match position.side() {
-        Colour::White => Ok(()),
-        Colour::Black => text.extend_from_slice(b"<use href=\"#mark\"/>"),
+    match (position.side(), from) {
+        (Colour::White, _) => Ok(()),
+        (Colour::Black, Colour::White) => text.extend_from_slice(b"<use href=\"#mark\"/>"),
+        (Colour::Black, Colour::Black) => {
+            text.extend_from_slice(b"<use href=\"#mark\" y=\"348\"/>")
+        }
     }
 }
 
@@ -203,12 +232,12 @@ fn push_board(text: &mut Vec<u8>) -> Result<(), AllocError>
 
 /// Adds the board, the men on it, and the mark of the side that moves.
 #[tactic(auto, unfolding(crate::specs::Diagrams::drawing_text))]
-fn push_drawing(text: &mut Vec<u8>, position: &Position) -> Result<(), AllocError>
-    ensures { IfOk result (λ _. text.new.items ≡ text.old.items ++ drawing_text position.now) }
+fn push_drawing(text: &mut Vec<u8>, from: Colour, position: &Position) -> Result<(), AllocError>
+    ensures { IfOk result (λ _. text.new.items ≡ text.old.items ++ drawing_text from position.now) }
 {
     push_board(text)?;
-    push_shapes(text, position)?;
-    push_mark(text, position)?;
+    push_shapes(text, from, position)?;
+    push_mark(text, from, position)?;
     Ok(())
 }
 
@@ -220,7 +249,7 @@ fn push_diagram_start(text: &mut Vec<u8>) -> Result<(), AllocError>
     text.extend_from_slice(b"<svg viewBox=\"-20 -3 392 386\" role=\"img\" aria-label=\"")
 }
 
-/// Adds a diagram to a page, which has the shapes elsewhere.
+/// Adds a diagram to a page, which has the shapes elsewhere, as White sees it.
 #[tactic(auto, unfolding(crate::specs::Diagrams::diagram_text))]
 pub(crate) fn push_diagram(text: &mut Vec<u8>, position: &Position) -> Result<(), AllocError>
     ensures { IfOk result (λ _. text.new.items ≡ text.old.items ++ diagram_text position.now) }
@@ -228,17 +257,48 @@ pub(crate) fn push_diagram(text: &mut Vec<u8>, position: &Position) -> Result<()
     push_diagram_start(text)?;
     push_label(text, position)?;
     text.extend_from_slice(b"\">")?;
-    push_drawing(text, position)?;
+    push_drawing(text, Colour::White, position)?;
     text.extend_from_slice(b"</svg>")?;
     Ok(())
 }
 
-/// Adds the shapes of the board, of the men and of the mark.
-#[tactic(auto, unfolding(crate::specs::Diagrams::shapes))]
-pub(crate) fn push_all_shapes(text: &mut Vec<u8>) -> Result<(), AllocError>
-    ensures { IfOk result (λ _. text.new.items ≡ text.old.items ++ shapes) }
+/// The coordinates of a board as a side sees it.
+#[tactic(auto, unfolding(crate::specs::Diagrams::coordinates))]
+fn coordinates(from: Colour) -> &'static str
+    ensures { result.now ≡ coordinates from }
 {
-    text.extend_from_slice(SHAPES.as_bytes())?;
+    match from {
+        Colour::White => WHITE_COORDINATES,
+        Colour::Black => BLACK_COORDINATES,
+    }
+}
+
+/// Adds the shape of the board, up to its coordinates.
+#[tactic(auto, unfolding(crate::specs::Diagrams::board_shape))]
+fn push_board_shape(text: &mut Vec<u8>) -> Result<(), AllocError>
+    ensures { IfOk result (λ _. text.new.items ≡ text.old.items ++ board_shape) }
+{
+    text.extend_from_slice(BOARD.as_bytes())?;
+    Ok(())
+}
+
+/// Adds what follows them: the shapes of the mark and of the men.
+#[tactic(auto, unfolding(crate::specs::Diagrams::men_shapes))]
+fn push_men_shapes(text: &mut Vec<u8>) -> Result<(), AllocError>
+    ensures { IfOk result (λ _. text.new.items ≡ text.old.items ++ men_shapes) }
+{
+    text.extend_from_slice(MEN.as_bytes())?;
+    Ok(())
+}
+
+/// Adds all shapes: of the board as a side sees it, of the mark and of the men.
+#[tactic(auto, unfolding(crate::specs::Diagrams::shapes))]
+pub(crate) fn push_all_shapes(text: &mut Vec<u8>, from: Colour) -> Result<(), AllocError>
+    ensures { IfOk result (λ _. text.new.items ≡ text.old.items ++ shapes from) }
+{
+    push_board_shape(text)?;
+    text.extend_from_slice(coordinates(from).as_bytes())?;
+    push_men_shapes(text)?;
     Ok(())
 }
 
@@ -252,18 +312,18 @@ fn push_svg_start(text: &mut Vec<u8>) -> Result<(), AllocError>
     )
 }
 
-/// A diagram alone, as an image in Scalable Vector Graphics, with a newline at its end: White below, each man at its square, a mark
-/// where Black moves, and in words what it shows.
+/// A diagram alone, as an image in Scalable Vector Graphics, with a newline at its end: the side that it is seen from below, each man at
+/// its square, a mark where Black moves, and in words what it shows.
 #[tactic(auto, unfolding(crate::specs::Diagrams::svg_text))]
-pub fn svg_text(alloc: Global, position: &Position) -> Result<Vec<u8>, AllocError>
-    ensures { IfOk result (λ text. text.items ≡ svg_text position.now) }
+pub fn svg_text(alloc: Global, position: &Position, from: Colour) -> Result<Vec<u8>, AllocError>
+    ensures { IfOk result (λ text. text.items ≡ svg_text from position.now) }
 {
     let mut text = Vec::new(alloc);
     push_svg_start(&mut text)?;
     push_label(&mut text, position)?;
     text.extend_from_slice(b"\">\n")?;
-    push_all_shapes(&mut text)?;
-    push_drawing(&mut text, position)?;
+    push_all_shapes(&mut text, from)?;
+    push_drawing(&mut text, from, position)?;
     text.extend_from_slice(b"</svg>\n")?;
     Ok(text)
 }

@@ -16,7 +16,7 @@ pub(crate) const STYLE: &str = "</title>
 :root { --paper: #fff; --ink: #111; --faint: #666; --light: #fff; --dark: #c9c9c9 }
 @media (prefers-color-scheme: dark) { @media screen {
   :root { --paper: #1c1c1c; --ink: #e8e8e8; --faint: #a0a0a0; --light: #d8d8d8; --dark: #8f8f8f } } }
-body { margin: 1rem; background: var(--paper); color: var(--ink); font: 1rem/1.35 Georgia, serif }
+body { margin: 1rem; background: var(--paper); color: var(--ink); font: 1rem/1.35 Georgia, serif; overflow-wrap: anywhere }
 h1 { font-size: 1.4rem; text-align: center; margin: 0 0 1rem }
 h2 { font-size: 1.1rem }
 main { display: grid; grid-template-columns: repeat(auto-fill, minmax(min(17rem, 100%), 1fr)); gap: 1.5rem 2rem }
@@ -27,7 +27,7 @@ figure svg { display: block; width: 100%; color: var(--ink) }
 figcaption { padding-left: 5% }
 cite, small, code { display: block }
 cite:empty, small:empty { display: none }
-code { font-size: .7rem; color: var(--faint); overflow-wrap: anywhere; cursor: copy }
+code { font-size: .7rem; color: var(--faint); cursor: copy }
 code:hover { color: inherit }
 section p { margin: .2rem 0; break-inside: avoid }
 section { max-width: 45rem; margin: 2rem auto 0 }

@@ -11,6 +11,7 @@ use crate::page_parts::{PAGE_END, PAGE_START, STYLE};
 use crate::problems::push_problems;
 use crate::solutions::{Notation, push_solutions};
 use byte_streams::NoMemory;
+use chess_board::Colour;
 use chess_moves::Rays;
 use mate_search::Memo;
 use std::alloc::{AllocError, Global};
@@ -59,7 +60,7 @@ fn push_head(text: &mut Vec<u8>, title: &[u8]) -> Result<(), AllocError>
     push_start(text)?;
     push_escaped(text, title)?;
     push_style(text)?;
-    push_all_shapes(text)?;
+    push_all_shapes(text, Colour::White)?;
     text.extend_from_slice(b"</svg>\n<h1>")?;
     push_escaped(text, title)?;
     text.extend_from_slice(b"</h1>\n")?;

@@ -1,9 +1,8 @@
 //! The shapes that diagrams are made of, drawn for this program: the board with its coordinates, six kinds of men in two colours, and the
-//! mark of a side that moves. They want no font but for the coordinates.
+//! mark of a side that moves. They want no font but for the coordinates. Together they are definitions of Scalable Vector Graphics.
 
-/// Definitions of Scalable Vector Graphics. A man's shape is called by its letter as in FEN, and stands on a square of 45 by 45. White's men
-/// are filled white and Black's black; lines within them have the other colour.
-pub(crate) const SHAPES: &str = "<defs>
+/// The board up to its coordinates: 64 squares of 45 by 45, which look the same from either side.
+pub(crate) const BOARD: &str = "<defs>
 <path id='dark' d='M45 0h45v45h-45zM135 0h45v45h-45zM225 0h45v45h-45zM315 0h45v45h-45zM0 45h45v45h-45zM90
 45h45v45h-45zM180 45h45v45h-45zM270 45h45v45h-45z'/>
 <g id='board'>
@@ -12,9 +11,23 @@ pub(crate) const SHAPES: &str = "<defs>
 y='270'/></g>
 <path fill='none' stroke='currentColor' stroke-width='2' d='M0 0h360v360H0z'/>
 <g fill='currentColor' font-family='sans-serif' font-size='13' text-anchor='middle'>
-<text x='22.5 67.5 112.5 157.5 202.5 247.5 292.5 337.5' y='377'>abcdefgh</text>
+";
+
+/// The coordinates of a board as White sees it: files from left to right, ranks from above.
+pub(crate) const WHITE_COORDINATES: &str =
+    "<text x='22.5 67.5 112.5 157.5 202.5 247.5 292.5 337.5' y='377'>abcdefgh</text>
 <text x='-11 -11 -11 -11 -11 -11 -11 -11' y='27 72 117 162 207 252 297 342'>87654321</text>
-</g>
+";
+
+/// Those of a board as Black sees it.
+pub(crate) const BLACK_COORDINATES: &str =
+    "<text x='22.5 67.5 112.5 157.5 202.5 247.5 292.5 337.5' y='377'>hgfedcba</text>
+<text x='-11 -11 -11 -11 -11 -11 -11 -11' y='27 72 117 162 207 252 297 342'>12345678</text>
+";
+
+/// What follows: the board's end, the mark, and the men. A man's shape is called by its letter as in FEN, and stands on a square. White's
+/// men are filled white and Black's black; lines within them have the other colour.
+pub(crate) const MEN: &str = "</g>
 </g>
 <circle id='mark' cx='366.5' cy='6' r='5' fill='currentColor'/>
 <g id='pawn' stroke-width='1.6' stroke-linejoin='round' stroke-linecap='round'>

@@ -11,6 +11,8 @@ mod avoid_tests;
 #[cfg(test)]
 mod input_tests;
 #[cfg(test)]
+mod limited_tests;
+#[cfg(test)]
 mod memo_tests;
 #[cfg(test)]
 mod plain_memo;

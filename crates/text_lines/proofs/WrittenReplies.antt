@@ -1,5 +1,5 @@
 -- What an output gains by the reply to a line, by what may be that reply.
-use Rattle.std.proofs.Common.{◌≡◌, ◌≤◌, ℕ, List, Option, Result, Ok, Err, IfErr, IfOk, true, false, subst, sym}
+use Rattle.std.proofs.Common.{◌≡◌, ◌≤◌, ◌+◌, ◌-◌, ℕ, List, Option, Result, Ok, Err, IfErr, IfOk, true, false, subst, sym, arith}
 use Rattle.std.specs.Io.KnownBytes.{Appends, Keeps}
 use Rattle.byte_streams.specs.declared.stops.Stop.{Stop}
 use Rattle.byte_streams.specs.declared.stops.Stop.TheVariants as stop
@@ -57,3 +57,15 @@ module _ (P : List ℕ → ℕ → Type 0) (old new : Option (List ℕ)) where
 pub whole_few : (A : ℕ → Type 0) (count : ℕ) (r : Result ℕ Stop) → count ≤ 1 → IfOk r (λ n. (n ≡ count) × A n) → IfOk r (λ n. n ≤ 1)
 whole_few A count (Ok n) few (is, on) = subst (λ m. m ≤ 1) (sym is) few
 whole_few A count (Err e) few put = tt
+
+-- ---- how many marks there are more
+
+pub none_more : (P : ℕ → Type 0) (n : ℕ) → P 0 → P (n - n)
+none_more P n none = subst P (omega arith) none
+
+pub more_between : (P : ℕ → Type 0) (a b c : ℕ) → a ≤ b → b ≤ c → P ((b - a) + (c - b)) → P (c - a)
+more_between P a b c first second all = subst P (omega (arith, first, second)) all
+
+-- what is said of a line is said of the same line
+pub said_of : (R : List ℕ → List ℕ → ℕ → Type 0) (line same text : List ℕ) (n : ℕ) → line ≡ same → R line text n → R same text n
+said_of R line same text n is says = subst (λ l. R l text n) is says

@@ -9,6 +9,10 @@ use Rattle.byte_streams.specs.Stops.{AppendsPart}
 abbrev pub Replied : (List ℕ → ℕ → Type 0) → (old new : Option (List ℕ)) → ℕ → Type 0
 Replied may old new refusals = (text : List ℕ) × may text refusals × Appends old new text
 
+-- What a reply may be, and how many marks it has beside.
+abbrev pub Marked : (may marks : List ℕ → ℕ → Type 0) → ℕ → List ℕ → ℕ → Type 0
+Marked may marks count text refusals = may text refusals × marks text count
+
 -- a first part of such a reply
 abbrev pub PartReplied : (List ℕ → ℕ → Type 0) → (old new : Option (List ℕ)) → Type 0
 PartReplied may old new = (text : List ℕ) × (refusals : ℕ) × may text refusals × AppendsPart old new text

@@ -1,6 +1,6 @@
 //! The replies to an input, line by line.
 
-ghost use Rattle.std.specs.Prelude.{◌≡◌, ◌<◌, ◌≤◌, ℕ, List, [], IfErr, IfOk, length, true, false};
+ghost use Rattle.std.specs.Prelude.{◌≡◌, ◌<◌, ◌≤◌, ◌-◌, ℕ, List, [], IfErr, IfOk, length, true, false};
 ghost use Rattle.std.specs.Io.KnownBytes.{Appends};
 ghost use Rattle.byte_streams.specs.Inputs.{MayBe};
 ghost use Rattle.byte_streams.specs.Stops.{AppendsBy, AppendsPart, is_of_output};
@@ -32,6 +32,12 @@ pub trait LineHandler {
     /// What a line is answered: its number in the input, from 1, the line without its CR, the text, and how many refusals that is.
     ghost replies: { Self → ℕ → List ℕ → List ℕ → ℕ → Type 0 };
 
+    /// What a line is answered, and how many marks that is: what is counted beside refusals, where anything is.
+    ghost marks: { Self → ℕ → List ℕ → List ℕ → ℕ → Type 0 } = { λ _ _ _ _ _. Unit {0} };
+
+    /// How many marks there were so far.
+    ghost tally: { Self.Memory → ℕ } = { λ _. 0 };
+
     /// What of the memory stays as it is.
     ghost room: { Self.Memory → ℕ };
 
@@ -47,6 +53,8 @@ pub trait LineHandler {
         requires filled { is_blank line.now ≡ false }
         requires short { length line.now ≤ max_line }
         ensures reply { IfOk result (λ output. replies self.now number line.now output.text.items output.refused) }
+        ensures marked { IfOk result (λ output. marks self.now number line.now output.text.items (tally memory.new - tally memory.old)) }
+        ensures grows { IfOk result (λ _. tally memory.old ≤ tally memory.new) }
         ensures few { IfOk result (λ output. output.refused ≤ 1) }
         ensures room { room memory.new ≡ room memory.old };
 
@@ -54,10 +62,15 @@ pub trait LineHandler {
     fn refuse_long(&self, alloc: Global, number: usize) -> Result<Output, NoMemory>
         ensures reply { IfOk result (λ output. (line : List ℕ) → is_blank line ≡ false → max_line < length line
             → replies self.now number line output.text.items output.refused) }
+        ensures marked { IfOk result (λ output. (line : List ℕ) → is_blank line ≡ false → max_line < length line
+            → marks self.now number line output.text.items 0) }
         ensures few { IfOk result (λ output. output.refused ≤ 1) };
 
     /// A blank line is answered with nothing.
     ghost skips: { (handler : Self) (number : ℕ) (line : List ℕ) → is_blank line ≡ true → replies handler number line [] 0 };
+
+    /// That has no mark.
+    ghost unmarked: { (handler : Self) (number : ℕ) (line : List ℕ) → is_blank line ≡ true → marks handler number line [] 0 };
 }
 
 /// A handler's replies, each of which is whole before it is written.
@@ -72,6 +85,10 @@ impl<H: LineHandler> LineWriter for Whole<'_, H> {
     ghost ready = { λ whole. H.ready whole.handler.now };
 
     ghost replies = { λ whole. H.replies whole.handler.now };
+
+    ghost marks = { λ whole. H.marks whole.handler.now };
+
+    ghost tally = { λ memory. H.tally memory };
 
     ghost room = { λ memory. H.room memory };
 
@@ -102,6 +119,8 @@ impl<H: LineHandler> LineWriter for Whole<'_, H> {
     }
 
     ghost skips = { λ whole number line blank. H.skips whole.handler.now number line blank };
+
+    ghost unmarked = { λ whole number line blank. H.unmarked whole.handler.now number line blank };
 }
 
 /// Writes a reply; gives how many lines it refuses.
@@ -115,7 +134,8 @@ fn put_reply<O: Write>(out: &mut O, output: &Output) -> Result<usize, Stop>
     }
 }
 
-/// Answers an input line by line: each line before the next is waited for. Gives how many lines are refused.
+/// Answers an input line by line: each line before the next is waited for. Gives how many lines are refused; how many marks there are
+/// more, the memory tells.
 ///
 /// Where it stops before the end, the replies to some of the first lines are written. A line is taken into memory no further
 /// than a record is long.
@@ -130,6 +150,11 @@ pub fn answer_input<H: LineHandler, I: Input + Drop, O: Write>(
     ensures ok { IfOk result (λ refused. (bytes : List ℕ) × (text : List ℕ) × MayBe (I.left input) bytes
         × IsReply (H.replies handler.now) bytes text refused
         × Appends (O.contents out.old) (O.contents out.new) text) }
+    ensures marked { IfOk result (λ refused. (bytes : List ℕ) × (text : List ℕ) × MayBe (I.left input) bytes
+        × (IsReply (H.replies handler.now) bytes text refused
+        × IsReply (H.marks handler.now) bytes text (H.tally memory.new - H.tally memory.old))
+        × Appends (O.contents out.old) (O.contents out.new) text) }
+    ensures grows { IfOk result (λ _. H.tally memory.old ≤ H.tally memory.new) }
     ensures err { IfErr result (λ stop. (bytes : List ℕ) × (text : List ℕ) × MayBe (I.left input) bytes
         × IsReplyToFirst (H.replies handler.now) bytes text
         × AppendsBy stop (O.contents out.old) (O.contents out.new) text) }

@@ -1,6 +1,6 @@
 //! The lines of an input, answered on an output one by one.
 
-ghost use Rattle.std.specs.Prelude.{◌≡◌, ◌<◌, ◌≤◌, ℕ, Bool, List, [], IfErr, IfOk, length, true, false};
+ghost use Rattle.std.specs.Prelude.{◌≡◌, ◌<◌, ◌≤◌, ◌-◌, ℕ, Bool, List, [], IfErr, IfOk, length, true, false};
 ghost use Rattle.std.specs.Io.KnownBytes.{Appends, Keeps};
 ghost use Rattle.byte_streams.specs.Inputs.{MayBe};
 ghost use Rattle.byte_streams.specs.Stops.{AppendsBy, AppendsPart, is_of_output};
@@ -8,7 +8,7 @@ ghost use Rattle.chess_notation.specs.Records.{max_line};
 ghost use Rattle.chess_notation.specs.Words.{is_blank};
 ghost use Rattle.text_lines.specs.Lines.{without_cr as text_without_cr};
 ghost use Rattle.text_lines.specs.Replies.{IsReply, IsReplyToFirst};
-ghost use Rattle.text_lines.specs.Writers.{BreaksOff, Replied};
+ghost use Rattle.text_lines.specs.Writers.{BreaksOff, Marked, Replied};
 ghost use Rattle.text_lines.specs.inside.InputLines.{IsKept, TakesLine, left_of};
 
 use crate::input_lines::{Kept, Lines, MAX_LINE, without_cr};
@@ -28,6 +28,12 @@ pub trait LineWriter {
     /// What a line is answered: its number in the input, from 1, the line without its CR, the text, and how many refusals that is.
     ghost replies: { Self → ℕ → List ℕ → List ℕ → ℕ → Type 0 };
 
+    /// What a line is answered, and how many marks that is: what is counted beside refusals, where anything is.
+    ghost marks: { Self → ℕ → List ℕ → List ℕ → ℕ → Type 0 } = { λ _ _ _ _ _. Unit {0} };
+
+    /// How many marks there were so far.
+    ghost tally: { Self.Memory → ℕ } = { λ _. 0 };
+
     /// What of the memory stays as it is.
     ghost room: { Self.Memory → ℕ };
 
@@ -44,9 +50,11 @@ pub trait LineWriter {
         requires ready { ready self.now }
         requires filled { is_blank line.now ≡ false }
         requires short { length line.now ≤ max_line }
-        ensures reply { IfOk result (Replied (replies self.now number line.now) (O.contents out.old) (O.contents out.new)) }
+        ensures reply { IfOk result (Replied (Marked (replies self.now number line.now) (marks self.now number line.now)
+            (tally memory.new - tally memory.old)) (O.contents out.old) (O.contents out.new)) }
         ensures err { IfErr result (BreaksOff (replies self.now number line.now) (O.contents out.old) (O.contents out.new)) }
         ensures few { IfOk result (λ refused. refused ≤ 1) }
+        ensures grows { IfOk result (λ _. tally memory.old ≤ tally memory.new) }
         ensures room { room memory.new ≡ room memory.old };
 
     /// Writes the reply to a line that is longer than a record may be, whatever stands in it.
@@ -56,14 +64,18 @@ pub trait LineWriter {
         number: usize,
         out: &mut O,
     ) -> Result<usize, Stop>
-        ensures reply { IfOk result (Replied (λ text refusals. (line : List ℕ) → is_blank line ≡ false → max_line < length line
-            → replies self.now number line text refusals) (O.contents out.old) (O.contents out.new)) }
+        ensures reply { IfOk result (Replied (Marked (λ text refusals. (line : List ℕ) → is_blank line ≡ false → max_line < length line
+            → replies self.now number line text refusals) (λ text count. (line : List ℕ) → is_blank line ≡ false → max_line < length line
+            → marks self.now number line text count) 0) (O.contents out.old) (O.contents out.new)) }
         ensures err { IfErr result (BreaksOff (λ text refusals. (line : List ℕ) → is_blank line ≡ false → max_line < length line
             → replies self.now number line text refusals) (O.contents out.old) (O.contents out.new)) }
         ensures few { IfOk result (λ refused. refused ≤ 1) };
 
     /// A blank line is answered with nothing.
     ghost skips: { (writer : Self) (number : ℕ) (line : List ℕ) → is_blank line ≡ true → replies writer number line [] 0 };
+
+    /// That has no mark.
+    ghost unmarked: { (writer : Self) (number : ℕ) (line : List ℕ) → is_blank line ≡ true → marks writer number line [] 0 };
 }
 
 /// Writes the reply to a line by what is kept of it: a line of which bytes are left out is blank or too long.
@@ -77,11 +89,14 @@ fn answer_kept<W: LineWriter, O: Write>(
 ) -> Result<usize, Stop>
     requires ready { W.ready writer.now }
     requires kept { (line : List ℕ) × IsKept kept.now line }
-    ensures reply { IfOk result (Replied (λ text refusals. (line : List ℕ) → IsKept kept.now line
-        → W.replies writer.now number (text_without_cr line) text refusals) (O.contents out.old) (O.contents out.new)) }
+    ensures reply { IfOk result (Replied (Marked (λ text refusals. (line : List ℕ) → IsKept kept.now line
+        → W.replies writer.now number (text_without_cr line) text refusals) (λ text count. (line : List ℕ) → IsKept kept.now line
+        → W.marks writer.now number (text_without_cr line) text count) (W.tally memory.new - W.tally memory.old))
+        (O.contents out.old) (O.contents out.new)) }
     ensures err { IfErr result (BreaksOff (λ text refusals. (line : List ℕ) → IsKept kept.now line
         → W.replies writer.now number (text_without_cr line) text refusals) (O.contents out.old) (O.contents out.new)) }
     ensures few { IfOk result (λ refused. refused ≤ 1) }
+    ensures grows { IfOk result (λ _. W.tally memory.old ≤ W.tally memory.new) }
     ensures room { W.room memory.new ≡ W.room memory.old }
 {
     if kept.is_blank() {
@@ -113,9 +128,11 @@ fn answer_next<W: LineWriter, I: Input + Drop, O: Write>(
     requires ready { W.ready writer.now }
     ensures ok { IfOk result (λ answered. (line : List ℕ) × (here : List ℕ)
         × W.replies writer.now number (text_without_cr line) here answered.refused
+        × W.marks writer.now number (text_without_cr line) here (W.tally memory.new - W.tally memory.old)
         × TakesLine answered.is_last (left_of I.left lines.old) (left_of I.left lines.new) line
         × Appends (O.contents out.old) (O.contents out.new) here) }
     ensures few { IfOk result (λ answered. answered.refused ≤ 1) }
+    ensures grows { IfOk result (λ _. W.tally memory.old ≤ W.tally memory.new) }
     ensures unanswered { IfErr result (λ stop. is_of_output stop ≡ false → Keeps (O.contents out.old) (O.contents out.new)) }
     ensures cut { IfErr result (λ stop. is_of_output stop ≡ true → (is_last : Bool) × (line : List ℕ) × (here : List ℕ) × (count : ℕ)
         × W.replies writer.now number (text_without_cr line) here count
@@ -135,7 +152,8 @@ fn answer_next<W: LineWriter, I: Input + Drop, O: Write>(
     }
 }
 
-/// Answers an input line by line: each line before the next is waited for. Gives how many lines are refused.
+/// Answers an input line by line: each line before the next is waited for. Gives how many lines are refused; how many marks there are
+/// more, the memory tells.
 ///
 /// Where it stops before the end, the replies to some of the first lines are written. A line is taken into memory no further
 /// than a record is long.
@@ -150,6 +168,11 @@ pub fn write_replies<W: LineWriter, I: Input + Drop, O: Write>(
     ensures ok { IfOk result (λ refused. (bytes : List ℕ) × (text : List ℕ) × MayBe (I.left input) bytes
         × IsReply (W.replies writer.now) bytes text refused
         × Appends (O.contents out.old) (O.contents out.new) text) }
+    ensures marked { IfOk result (λ refused. (bytes : List ℕ) × (text : List ℕ) × MayBe (I.left input) bytes
+        × (IsReply (W.replies writer.now) bytes text refused
+        × IsReply (W.marks writer.now) bytes text (W.tally memory.new - W.tally memory.old))
+        × Appends (O.contents out.old) (O.contents out.new) text) }
+    ensures grows { IfOk result (λ _. W.tally memory.old ≤ W.tally memory.new) }
     ensures err { IfErr result (λ stop. (bytes : List ℕ) × (text : List ℕ) × MayBe (I.left input) bytes
         × IsReplyToFirst (W.replies writer.now) bytes text
         × AppendsBy stop (O.contents out.old) (O.contents out.new) text) }

@@ -3,13 +3,17 @@ use Rattle.std.proofs.KnownBytes.{Appends-nil}
 use Rattle.chess_notation.specs.Records.{max_line}
 use Rattle.text_lines.specs.Lines.{without_cr}
 use Rattle.text_lines.proofs.KeptLines.{kept_filled, kept_long, kept_short}
-use Rattle.text_lines.proofs.WrittenReplies.{breaks_as, replied_as}
+use Rattle.text_lines.proofs.WrittenReplies.{breaks_as, none_more, replied_as, said_of}
 use Rattle.text_lines.proofs.writers.answer_kept.Goals as goal
 
 pub returns-then-is_blank-clause-reply : goal.returns-then-is_blank-clause-reply
 returns-then-is_blank-clause-reply g c = (
   [],
-  λ line is. g.met.W.LineWriter.skips c.args.writer.now c.args.number _ (sym (c.is_blank.ensures line is) ∙ c.if-is_blank.true),
+  (
+    λ line is. g.met.W.LineWriter.skips c.args.writer.now c.args.number _ (sym (c.is_blank.ensures line is) ∙ c.if-is_blank.true),
+    λ line is. none_more (g.W.LineWriter.marks c.args.writer.now c.args.number (without_cr line) []) _
+        (g.met.W.LineWriter.unmarked c.args.writer.now c.args.number _ (sym (c.is_blank.ensures line is) ∙ c.if-is_blank.true)),
+  ),
   Appends-nil (g.O.Write.contents c.args.out.now),
 )
 
@@ -19,7 +23,11 @@ returns-then-line-gt-MAX_LINE-clause-reply g c =
     c.without_cr-line.ensures ∙ ap without_cr c.as_slice.ensures.value in
     let long = subst (λ (l : List ℕ). max_line < length l) kept c.if-line-gt-MAX_LINE.true in
     replied_as _ _ _ _ c.refuse_long.result
-    (λ text n may line is. may (without_cr line) (sym (c.is_blank.ensures line is) ∙ c.if-is_blank.false) (kept_long c.args.kept.now line is long))
+    (λ text n (may, marks). (
+      λ line is. may (without_cr line) (sym (c.is_blank.ensures line is) ∙ c.if-is_blank.false) (kept_long c.args.kept.now line is long),
+      λ line is. none_more (g.W.LineWriter.marks c.args.writer.now c.args.number (without_cr line) text) _
+          (marks (without_cr line) (sym (c.is_blank.ensures line is) ∙ c.if-is_blank.false) (kept_long c.args.kept.now line is long)),
+    ))
     c.refuse_long.ensures.reply
 
 pub returns-then-line-gt-MAX_LINE-clause-err : goal.returns-then-line-gt-MAX_LINE-clause-err
@@ -45,8 +53,12 @@ returns-clause-reply g c =
     c.without_cr-line.ensures ∙ ap without_cr c.as_slice.ensures.value in
     let short = subst (λ (l : List ℕ). length l ≤ max_line) kept c.if-line-gt-MAX_LINE.false in
     replied_as _ _ _ _ c.write_reply.result
-    (λ text n may line is. subst (λ l. g.W.LineWriter.replies c.args.writer.now c.args.number l text n)
-    (kept ∙ ap without_cr (kept_short c.args.kept.now line is short)) may) c.write_reply.ensures.reply
+    (λ text n (may, marks). (
+      λ line is. subst (λ l. g.W.LineWriter.replies c.args.writer.now c.args.number l text n)
+          (kept ∙ ap without_cr (kept_short c.args.kept.now line is short)) may,
+      λ line is. said_of (g.W.LineWriter.marks c.args.writer.now c.args.number) _ (without_cr line) text _
+          (kept ∙ ap without_cr (kept_short c.args.kept.now line is short)) marks,
+    )) c.write_reply.ensures.reply
 
 pub returns-clause-err : goal.returns-clause-err
 returns-clause-err g c =

@@ -3,6 +3,8 @@ use Rattle.std.proofs.lemmas.Result.{err_from_is_err_and}
 use Rattle.std.proofs.KnownBytes.{Appends-nil, Appends-trans, Consumes-nil, Consumes-trans}
 use Rattle.std.specs.Io.KnownBytes.{Consumes}
 use Rattle.text_lines.specs.inside.InputLines.{TakesLine, left_of}
+use Rattle.text_lines.specs.Replies.{IsReply, IsReplyFrom}
+use Rattle.text_lines.proofs.WrittenReplies.{more_between}
 use Rattle.text_lines.proofs.LineReplies.{gave_up, last_reply, opens_more, replies_next, stopped}
 use Rattle.text_lines.proofs.writers.write_replies.Goals as goal
 
@@ -16,6 +18,8 @@ loop-number-init g c = (
         (Consumes-nil (left_of g.I.Input.left c.new-lines.result));
     opens = λ rest. refl;
     replies = (refl, refl);
+    marks = (refl, omega arith);
+    grows = omega arith;
     number = omega arith;
     appends = Appends-nil (g.O.Write.contents c.args.out.now);
     few = omega arith;
@@ -38,7 +42,7 @@ returns-in_err-answered-clause-err g c =
 pub returns-then-answered-clause-ok : goal.returns-then-answered-clause-ok
 returns-then-answered-clause-ok g c =
     let (seen, lines, text, so_far) = c.loop-number.invariant in
-    let (line, here, reply, takes, appends) = c.in_ok-answered.ensures.ok in
+    let (line, here, reply, marks, takes, appends) = c.in_ok-answered.ensures.ok in
     let takes' = subst (λ b. TakesLine b (left_of g.I.Input.left c.loop-number.lines)
     (left_of g.I.Input.left c.answer_next.new.lines) line) c.if-answered.true takes in
     let (may, replies) = last_reply (g.W.LineWriter.replies c.args.writer.now) c.loop-number.number c.loop-number.refused
@@ -46,10 +50,33 @@ returns-then-answered-clause-ok g c =
     so_far.taken so_far.opens so_far.replies so_far.number takes' reply in
     (seen ++ line, text ++ here, may, replies, Appends-trans _ _ _ text here so_far.appends appends)
 
+pub returns-then-answered-clause-marked : goal.returns-then-answered-clause-marked
+returns-then-answered-clause-marked g c =
+    let (seen, lines, text, so_far) = c.loop-number.invariant in
+    let (line, here, reply, marks, takes, appends) = c.in_ok-answered.ensures.ok in
+    let takes' = subst (λ b. TakesLine b (left_of g.I.Input.left c.loop-number.lines)
+    (left_of g.I.Input.left c.answer_next.new.lines) line) c.if-answered.true takes in
+    let (may, replies) = last_reply (g.W.LineWriter.replies c.args.writer.now) c.loop-number.number c.loop-number.refused
+    c.in_ok-answered.answered.refused (g.I.Input.left c.args.input) _ _ seen line text here lines
+    so_far.taken so_far.opens so_far.replies so_far.number takes' reply in
+    let (same, all) = last_reply (g.W.LineWriter.marks c.args.writer.now) c.loop-number.number _ _
+    (g.I.Input.left c.args.input) _ _ seen line text here lines
+    so_far.taken so_far.opens so_far.marks so_far.number takes' marks in (
+      seen ++ line,
+      text ++ here,
+      may,
+      (
+        replies,
+        more_between (IsReply (g.W.LineWriter.marks c.args.writer.now) (seen ++ line) (text ++ here)) _ _ _
+            so_far.grows c.in_ok-answered.ensures.grows all,
+      ),
+      Appends-trans _ _ _ text here so_far.appends appends,
+    )
+
 pub loop-number-preserved : goal.loop-number-preserved
 loop-number-preserved g c =
     let (seen, lines, text, so_far) = c.loop-number.invariant in
-    let (line, here, reply, takes, appends) = c.in_ok-answered.ensures.ok in
+    let (line, here, reply, marks, takes, appends) = c.in_ok-answered.ensures.ok in
     let (one, on) = subst (λ b. TakesLine b (left_of g.I.Input.left c.loop-number.lines)
     (left_of g.I.Input.left c.answer_next.new.lines) line) c.if-answered.false takes in (
       seen ++ (line ++ 10 ∷ []),
@@ -60,6 +87,10 @@ loop-number-preserved g c =
         opens = opens_more seen line lines one so_far.opens;
         replies = replies_next (g.W.LineWriter.replies c.args.writer.now) c.loop-number.number lines line text here
             c.loop-number.refused c.in_ok-answered.answered.refused so_far.number so_far.replies reply;
+        marks = more_between (IsReplyFrom (g.W.LineWriter.marks c.args.writer.now) 1 (lines ++ line ∷ []) (text ++ here)) _ _ _
+            so_far.grows c.in_ok-answered.ensures.grows
+            (replies_next (g.W.LineWriter.marks c.args.writer.now) c.loop-number.number lines line text here _ _ so_far.number so_far.marks marks);
+        grows = omega (arith, so_far.grows, c.in_ok-answered.ensures.grows);
         number = omega (arith, so_far.number, length-append lines (line ∷ []));
         appends = Appends-trans _ _ _ text here so_far.appends appends;
         few = omega (arith, so_far.few, c.in_ok-answered.ensures.few);

@@ -1,4 +1,4 @@
-use Rattle.std.proofs.Common.{◌≡◌, ◌+◌, ◌<◌, ℕ, List, length}
+use Rattle.std.proofs.Common.{◌≡◌, ◌+◌, ◌-◌, ◌<◌, ◌≤◌, ℕ, List, length}
 use Rattle.std.specs.Io.KnownBytes.{Appends, Consumes}
 use Rattle.text_lines.specs.Replies.{IsReplyFrom}
 use Rattle.text_lines.specs.inside.InputLines.{left_of}
@@ -11,6 +11,8 @@ invariant-loop-number g l = (seen : List ℕ) × (lines : List (List ℕ)) × (t
   taken : Consumes (g.I.Input.left l.fn.input) (left_of g.I.Input.left l.lines) seen;
   opens : Opens seen lines;
   replies : IsReplyFrom (g.W.LineWriter.replies l.writer) 1 lines text l.refused;
+  marks : IsReplyFrom (g.W.LineWriter.marks l.writer) 1 lines text (g.W.LineWriter.tally l.memory - g.W.LineWriter.tally l.initial.memory);
+  grows : g.W.LineWriter.tally l.initial.memory ≤ g.W.LineWriter.tally l.memory;
   number : length lines + 1 ≡ l.number;
   appends : Appends (g.O.Write.contents l.initial.out) (g.O.Write.contents l.out) text;
   few : l.refused < l.number;

@@ -1,15 +1,9 @@
-use Rattle.std.proofs.Common.{inl, inr}
 use Rattle.std.proofs.lemmas.Result.{IfOk-weaker}
 use Rattle.mate_answers.specs.InputReplies.{IsLineReply, answer_line, answered}
-use Rattle.mate_answers.specs.LimitedReplies.{IsLimitedReply, decided, undecided}
+use Rattle.mate_answers.specs.LimitedReplies.{IsLateReply, IsLimitedReply, decided, in_time, late, undecided}
+use Rattle.mate_answers.proofs.Limits.{none_more, one_more}
 use Rattle.mate_answers.proofs.LineReplies.{reply_refused}
 use Rattle.mate_answers.proofs.limited_replies.LimitedLineHandler.answer.Goals as goal
-
-pub returns-in_ok-limited_text-in-Ok-clause-reply : goal.returns-in_ok-limited_text-in-Ok-clause-reply
-returns-in_ok-limited_text-in-Ok-clause-reply g c = elim c.in_ok-limited_text-in-Ok.ensures.text [
-  | inl told ↦ rw told (decided (answer_line c.in-Ok.record) 0 (answered c.in-Ok.record c.requires.filled c.in-Ok.ensures.reads))
-  | inr late ↦ rw late (undecided c.in-Ok.record c.requires.filled c.in-Ok.ensures.reads)
-]
 
 pub returns-in-Err-clause-reply : goal.returns-in-Err-clause-reply
 returns-in-Err-clause-reply g c =
@@ -19,3 +13,36 @@ returns-in-Err-clause-reply g c =
     (reply_refused c.args.self.now.default c.args.number c.args.line.now c.in-Err.fault (λ output. output.text.items)
     (λ output. output.refused) c.refusal.result
     c.requires.filled c.in-Err.ensures.refused c.refusal.ensures.fault c.refusal.ensures.text c.refusal.ensures.one)
+
+pub returns-in-Err-clause-marked : goal.returns-in-Err-clause-marked
+returns-in-Err-clause-marked g c =
+    IfOk-weaker c.refusal.result (λ output. IsLineReply c.args.self.now.default c.args.number c.args.line.now output.text.items output.refused)
+    _ (λ output told. none_more (IsLateReply c.args.self.now.seconds c.args.self.now.default c.args.number c.args.line.now output.text.items)
+    c.args.memory.now.undecided (in_time output.text.items output.refused told))
+    (reply_refused c.args.self.now.default c.args.number c.args.line.now c.in-Err.fault (λ output. output.text.items)
+    (λ output. output.refused) c.refusal.result
+    c.requires.filled c.in-Err.ensures.refused c.refusal.ensures.fault c.refusal.ensures.text c.refusal.ensures.one)
+
+pub returns-then-said-clause-reply : goal.returns-then-said-clause-reply
+returns-then-said-clause-reply g c =
+    rw (c.in_ok-said-in-Ok.ensures.decided c.if-said.true)
+    (decided (answer_line c.in-Ok.record) 0 (answered c.in-Ok.record c.requires.filled c.in-Ok.ensures.reads))
+
+pub returns-then-said-clause-marked : goal.returns-then-said-clause-marked
+returns-then-said-clause-marked g c =
+    none_more (IsLateReply c.args.self.now.seconds c.args.self.now.default c.args.number c.args.line.now c.in_ok-said-in-Ok.said.text.items)
+    c.args.memory.now.undecided
+    (rw (c.in_ok-said-in-Ok.ensures.decided c.if-said.true)
+    (in_time (answer_line c.in-Ok.record) 0 (answered c.in-Ok.record c.requires.filled c.in-Ok.ensures.reads)))
+
+pub returns-in-Some-clause-reply : goal.returns-in-Some-clause-reply
+returns-in-Some-clause-reply g c =
+    let (none, so_far, is) = c.in_ok-said-in-Ok.ensures.undecided c.if-said.false in
+    rw is (undecided c.in-Ok.record none c.requires.filled c.in-Ok.ensures.reads so_far)
+
+pub returns-in-Some-clause-marked : goal.returns-in-Some-clause-marked
+returns-in-Some-clause-marked g c =
+    let (none, so_far, is) = c.in_ok-said-in-Ok.ensures.undecided c.if-said.false in
+    one_more (IsLateReply c.args.self.now.seconds c.args.self.now.default c.args.number c.args.line.now c.in_ok-said-in-Ok.said.text.items)
+    c.args.memory.now.undecided c.in-Some.more c.in-Some.ensures.1
+    (rw is (late c.in-Ok.record none c.requires.filled c.in-Ok.ensures.reads so_far))

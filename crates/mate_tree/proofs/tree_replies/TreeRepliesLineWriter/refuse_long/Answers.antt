@@ -6,7 +6,8 @@ use Rattle.mate_tree.proofs.tree_replies.TreeRepliesLineWriter.refuse_long.Goals
 pub returns-clause-reply : goal.returns-clause-reply
 returns-clause-reply g c =
     refused_replied _ _ _ c.args.number fault.TooLong c.write_refused.result
-    (long_refused c.args.self.now.form c.args.self.now.default c.args.number) c.write_refused.ensures.ok
+    (λ text n is. (long_refused c.args.self.now.form c.args.self.now.default c.args.number text n is, λ line some long. tt))
+    c.write_refused.ensures.ok
 
 pub returns-clause-err : goal.returns-clause-err
 returns-clause-err g c =

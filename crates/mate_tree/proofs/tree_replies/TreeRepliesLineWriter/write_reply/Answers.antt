@@ -4,8 +4,11 @@ use Rattle.mate_tree.proofs.RefusedLines.{breaks_read, few_refused, refused_brea
 use Rattle.mate_tree.proofs.tree_replies.TreeRepliesLineWriter.write_reply.Goals as goal
 
 pub returns-in-Ok-write_record-clause-reply : goal.returns-in-Ok-write_record-clause-reply
-returns-in-Ok-write_record-clause-reply g c =
-    (tree_reply c.args.self.now.form c.in-Ok.record, answered c.in-Ok.record c.requires.filled c.in-Ok.ensures.reads, c.in-Ok-write_record.ensures.ok)
+returns-in-Ok-write_record-clause-reply g c = (
+  tree_reply c.args.self.now.form c.in-Ok.record,
+  (answered c.in-Ok.record c.requires.filled c.in-Ok.ensures.reads, tt),
+  c.in-Ok-write_record.ensures.ok,
+)
 
 pub returns-in-Ok-clause-err : goal.returns-in-Ok-clause-err
 returns-in-Ok-clause-err g c =
@@ -15,10 +18,12 @@ returns-in-Ok-clause-err g c =
 
 pub returns-clause-reply : goal.returns-clause-reply
 returns-clause-reply g c =
-    refused_replied (IsTreeReply c.args.self.now.form c.args.self.now.default c.args.number c.args.line.now) _ _ c.args.number c.in-Err.fault
-    c.write_refused.result
-    (reply_refused c.args.self.now.form c.args.self.now.default c.args.number c.args.line.now c.in-Err.fault
-    c.requires.filled c.in-Err.ensures.refused)
+    refused_replied _ _ _ c.args.number c.in-Err.fault c.write_refused.result
+    (λ text n is. (
+      reply_refused c.args.self.now.form c.args.self.now.default c.args.number c.args.line.now c.in-Err.fault
+          c.requires.filled c.in-Err.ensures.refused text n is,
+      tt,
+    ))
     c.write_refused.ensures.ok
 
 pub returns-clause-err : goal.returns-clause-err

@@ -4,7 +4,8 @@ use Rattle.text_lines.proofs.replies.WholeLineWriter.refuse_long.Goals as goal
 
 pub returns-in-Ok-clause-reply : goal.returns-in-Ok-clause-reply
 returns-in-Ok-clause-reply g c =
-    whole_replied _ _ _ c.in-Ok.output.text.items c.in-Ok.output.refused c.put_reply.result c.in-Ok.ensures.reply c.put_reply.ensures.ok
+    whole_replied _ _ _ c.in-Ok.output.text.items c.in-Ok.output.refused c.put_reply.result
+    (c.in-Ok.ensures.reply, c.in-Ok.ensures.marked) c.put_reply.ensures.ok
 
 pub returns-in-Ok-clause-err : goal.returns-in-Ok-clause-err
 returns-in-Ok-clause-err g c =
