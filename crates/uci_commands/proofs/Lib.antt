@@ -1,4 +1,5 @@
 pub mod MovesKept
+pub mod NamesAlike
 pub mod NumberValues
 pub mod SpaceCuts
 pub mod WordTexts

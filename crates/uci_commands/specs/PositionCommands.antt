@@ -7,7 +7,7 @@ use Rattle.chess_views.specs.Played.{played}
 use Rattle.position_lines.specs.LineFens.{line_fen, spaced}
 use Rattle.uci_commands.specs.Marks.{before, behind}
 use Rattle.uci_commands.specs.declared.position_commands.PositionFault.{PositionFault}
-use Rattle.uci_commands.specs.declared.position_commands.PositionFault.TheVariants.{NoPosition, Fen, NoSuchMove, NoMemory}
+use Rattle.uci_commands.specs.declared.position_commands.PositionFault.TheVariants.{NoPosition, Fen, NoSuchMove, TooLong, NoMemory}
 
 -- the position in which a game begins (FIDE Laws of Chess, article 2.3)
 abbrev pub start_text : List ℕ
@@ -48,4 +48,5 @@ abbrev pub IsPositionFault : List (List ℕ) → PositionFault → Type 0
 IsPositionFault words NoPosition = fen_said words ≡ None
 IsPositionFault words (Fen fault) = (text : List ℕ) × (fen_said words ≡ Some text) × IsFault text fault
 IsPositionFault words (NoSuchMove number) = LeadsNowhere words number
+IsPositionFault words TooLong = ⊥
 IsPositionFault words NoMemory = ⊤

@@ -29,6 +29,9 @@ pub enum PositionFault {
     /// The word of this number behind `moves`, counted from 1, names no legal move.
     #[error("NoSuchMove")]
     NoSuchMove(usize),
+    /// Its line is longer than what is read of one. No words have this fault.
+    #[error("TooLong")]
+    TooLong,
     /// Memory was refused.
     #[error("NoMemory")]
     NoMemory,

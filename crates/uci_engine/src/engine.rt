@@ -106,7 +106,7 @@ fn run_threads<R: Threads + Wait + Sync, I: Input + Drop + Send, O: Write>(
             } = ends;
             let counting = move ||
                 requires { IsSync R.row }
-            { signals.run_clock(rt) };
+            { signals.run_clock(rt, searcher.events) };
             let Ok(_clock) = scope.spawn(counting) else {
                 return Err(TalkFault::NoThread);
             };

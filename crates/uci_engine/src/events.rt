@@ -2,7 +2,7 @@
 
 use byte_streams::InputFault;
 
-/// What has come, from the thread that reads or from the one that searches.
+/// What has come, from the thread that reads, from the one that searches or from the one that counts time.
 #[derive(Drop)]
 pub(crate) enum Event {
     /// A line of the input.
@@ -11,6 +11,8 @@ pub(crate) enum Event {
     End(Option<InputFault>),
     /// Lines to be written at once, while a search goes on.
     Said(Vec<u8>),
+    /// The search of this number goes on for so long that it is to be told how far it is.
+    Tick(u64),
     /// What to play, from a search that is over, and why where it found no mate.
     Found(Vec<u8>),
     /// A search for which memory was refused.

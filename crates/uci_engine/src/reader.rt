@@ -11,8 +11,8 @@ use uci_commands::words_of;
 /// How many bytes are asked for at once.
 const PIECE: usize = 4096;
 
-/// How long a line may be. What stands behind that isn't read.
-const MAX_LINE: usize = 65_536;
+/// How many bytes of a line are read.
+pub(crate) const MAX_LINE: usize = 65_536;
 
 /// An input, of which lines are taken.
 #[derive(Drop)]
@@ -24,22 +24,26 @@ struct Lines<I: Drop> {
     taken: usize,
 }
 
-/// A byte of a line as it is read: tabs are spaces, and a CR is one.
+/// A byte of a line as it is read: tabs are spaces, and a CR is one. What is not ASCII stands in no command: as `?` it is refused where it
+/// matters.
 fn plain(byte: u8) -> u8 {
     if byte == b'\t' || byte == b'\r' {
         b' '
-    } else {
+    } else if byte < 128 {
         byte
+    } else {
+        b'?'
     }
 }
 
-/// Adds bytes to a line up to its newline; gives how many there were with that, and whether it came.
+/// Adds bytes to a line up to its newline; gives how many there were with that, and whether it came. Of a longer line one more byte is kept
+/// than is read, by which it is known.
 fn take_bytes(line: &mut Vec<u8>, bytes: &[u8]) -> Result<(usize, bool), AllocError> {
     for (index, byte) in bytes.iter().enumerate() {
         if *byte == b'\n' {
             return Ok((index + 1, true));
         }
-        if line.len() < MAX_LINE {
+        if line.len() <= MAX_LINE {
             line.push(plain(*byte))?;
         }
     }

@@ -2,7 +2,7 @@
 
 use crate::events::Event;
 use crate::signals::Signals;
-use crate::texts::{Progress, push_best, push_length, push_mate, push_none};
+use crate::texts::{Progress, push_best, push_length, push_mate, push_none, refusal_line};
 use crate::watches::Watch;
 use chess_board::Move;
 use chess_moves::{MoveList, Rays, legal};
@@ -11,15 +11,15 @@ use crossbeam_channel::{Receiver, Sender};
 use mate_search::{Memo, Stopped, solve_until};
 use std::alloc::{AllocError, Global};
 use std::sync::Wait;
-use uci_commands::{only_these, within};
+use uci_commands::{PositionFault, only_these, within};
 
 /// A search to be made.
 #[derive(Drop)]
 pub(crate) struct Job {
     /// Its number, by which it is told to stop.
     pub(crate) number: u64,
-    /// The position, the moves that it is kept from, and the greatest length of a mate that is looked for.
-    pub(crate) problem: Problem,
+    /// The position, the moves that it is kept from, and the greatest length of a mate that is looked for; or why there is no position.
+    pub(crate) problem: Result<Problem, PositionFault>,
     /// How many keys have lines of their own.
     pub(crate) multi_pv: u64,
     /// How many positions may be searched.
@@ -63,11 +63,10 @@ fn first_move(rays: &Rays, problem: &Problem) -> Option<Move> {
 
 impl Searcher<'_> {
     /// How far a search has come.
-    fn progress(&self, moves: u64, watch: &Watch) -> Progress {
+    fn progress(&self, moves: u64) -> Progress {
         Progress {
             moves,
-            nodes: watch.nodes(),
-            time: self.signals.elapsed(),
+            costs: self.signals.costs(),
         }
     }
 
@@ -98,7 +97,7 @@ impl Searcher<'_> {
         };
         match solve_until(self.rays, &alone, memo, watch) {
             Ok(Outcome::Mate { pv, .. }) => {
-                let progress = self.progress(u64::from(problem.bound.get()), watch);
+                let progress = self.progress(u64::from(problem.bound.get()));
                 push_mate(text, &progress, rank, pv.as_slice())
             }
             _ => Ok(()),
@@ -106,14 +105,9 @@ impl Searcher<'_> {
     }
 
     /// The line of the first key.
-    fn first_line(
-        &self,
-        problem: &Problem,
-        pv: &[Move],
-        watch: &Watch,
-    ) -> Result<Vec<u8>, AllocError> {
+    fn first_line(&self, problem: &Problem, pv: &[Move]) -> Result<Vec<u8>, AllocError> {
         let mut text = Vec::new(self.alloc);
-        let progress = self.progress(u64::from(problem.bound.get()), watch);
+        let progress = self.progress(u64::from(problem.bound.get()));
         push_mate(&mut text, &progress, 1, pv)?;
         Ok(text)
     }
@@ -138,42 +132,60 @@ impl Searcher<'_> {
         Ok(text)
     }
 
-    /// What to play where a mate was found.
-    fn best_text(&self, keys: &MoveList) -> Result<Vec<u8>, AllocError> {
+    /// What to play, from a search that has no more to say.
+    fn best_text(&self, best: Option<Move>) -> Result<Vec<u8>, AllocError> {
         let mut text = Vec::new(self.alloc);
-        push_best(&mut text, keys.as_slice().first().copied())?;
+        push_best(&mut text, best)?;
         Ok(text)
     }
 
     /// Searches for a mate in one move, two and so on, and sends a line for each; gives the last lines.
-    fn search<R: Wait>(&self, rt: &R, job: &Job, memo: &mut Memo) -> Result<Vec<u8>, AllocError> {
+    fn search<R: Wait>(
+        &self,
+        rt: &R,
+        asked: &Problem,
+        job: &Job,
+        memo: &mut Memo,
+    ) -> Result<Vec<u8>, AllocError> {
         let watch = Watch::new(self.signals, job.number, job.most_nodes);
-        let most = job.problem.bound.get();
-        if first_move(self.rays, &job.problem).is_none() {
-            return self.none_text(&job.problem, 0);
+        let most = asked.bound.get();
+        if first_move(self.rays, asked).is_none() {
+            return self.none_text(asked, 0);
         }
         for before in 0..most {
             let Some(bound) = Bound::new(before + 1) else {
                 unreachable!();
             };
-            let problem = within(&job.problem, bound);
+            let problem = within(asked, bound);
             match solve_until(self.rays, &problem, memo, &watch) {
                 Ok(Outcome::Mate { keys, pv, .. }) => {
-                    let first = self.first_line(&problem, pv.as_slice(), &watch)?;
+                    let first = self.first_line(&problem, pv.as_slice())?;
                     let _ = self.events.send(rt, Event::Said(first));
                     let more = self.more_lines(&problem, &keys, job, memo, &watch)?;
                     let _ = self.events.send(rt, Event::Said(more));
-                    return self.best_text(&keys);
+                    return self.best_text(keys.as_slice().first().copied());
                 }
                 Ok(Outcome::NoMate) => {
                     let mut text = Vec::new(self.alloc);
-                    push_length(&mut text, &self.progress(u64::from(before + 1), &watch))?;
+                    push_length(&mut text, &self.progress(u64::from(before + 1)))?;
                     let _ = self.events.send(rt, Event::Said(text));
                 }
-                Err(Stopped) => return self.none_text(&job.problem, u64::from(before)),
+                Err(Stopped) => return self.none_text(asked, u64::from(before)),
             }
         }
-        self.none_text(&job.problem, u64::from(most))
+        self.none_text(asked, u64::from(most))
+    }
+
+    /// Searches, or tells why there is no position; gives the last lines.
+    fn answer<R: Wait>(&self, rt: &R, job: &Job, memo: &mut Memo) -> Result<Vec<u8>, AllocError> {
+        match &job.problem {
+            Ok(problem) => self.search(rt, problem, job, memo),
+            Err(fault) => {
+                let why = refusal_line(self.alloc, *fault)?;
+                let _ = self.events.send(rt, Event::Said(why));
+                self.best_text(None)
+            }
+        }
     }
 
     /// What was kept of searches before, or nothing where that is to be forgotten or of another size; none where memory is refused.
@@ -203,7 +215,7 @@ impl Searcher<'_> {
                 let _ = self.events.send(rt, Event::Refused);
                 return;
             };
-            let event = match self.search(rt, &job, &mut memory.memo) {
+            let event = match self.answer(rt, &job, &mut memory.memo) {
                 Ok(text) => Event::Found(text),
                 Err(_) => Event::Refused,
             };

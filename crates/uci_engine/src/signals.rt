@@ -1,11 +1,19 @@
-//! What the threads of an engine tell each other in words that they share: which searches are to stop, and how long one has lasted.
+//! What the threads of an engine tell each other in words that they share: which searches are to stop, how long one has lasted, and how many
+//! positions it has searched.
 
+use crate::events::Event;
+use crate::texts::Costs;
+use crossbeam_channel::Sender;
+use std::alloc::Global;
 use std::sync::Wait;
 use std::sync::atomic::{AtomicU64, Ordering};
 use std::time::Duration;
 
 /// How many milliseconds the clock's thread parks at once while a search is timed.
 const TICK: u64 = 5;
+
+/// After how many milliseconds it is told, again and again, how far a search is: often enough that it is each second where ticks are late.
+const TELLING: u64 = 250;
 
 /// That a search may last as long as it will.
 pub(crate) const FOR_EVER: u64 = u64::MAX;
@@ -24,6 +32,8 @@ pub(crate) struct Signals {
     elapsed: AtomicU64,
     /// After how many it is to stop.
     limit: AtomicU64,
+    /// How many positions it has searched.
+    nodes: AtomicU64,
     /// Whether the clock's thread is to end.
     has_ended: AtomicU64,
     /// Changes with each of these, and the clock's thread parks while it doesn't.
@@ -38,6 +48,7 @@ impl Signals {
             timed: AtomicU64::new(NONE),
             elapsed: AtomicU64::new(0),
             limit: AtomicU64::new(FOR_EVER),
+            nodes: AtomicU64::new(0),
             has_ended: AtomicU64::new(0),
             changes: AtomicU64::new(0),
         }
@@ -75,6 +86,7 @@ impl Signals {
         self.timed.store(NONE, Ordering::SeqCst);
         self.elapsed.store(0, Ordering::SeqCst);
         self.limit.store(limit, Ordering::SeqCst);
+        self.nodes.store(0, Ordering::SeqCst);
         self.timed.store(number, Ordering::SeqCst);
         self.wake_clock();
     }
@@ -92,8 +104,21 @@ impl Signals {
     }
 
     /// How many milliseconds the search that is timed has lasted.
-    pub(crate) fn elapsed(&self) -> u64 {
+    fn elapsed(&self) -> u64 {
         self.elapsed.load(Ordering::SeqCst)
+    }
+
+    /// Counts one position more; gives how many there are.
+    pub(crate) fn count_node(&self) -> u64 {
+        self.nodes.fetch_add(1, Ordering::SeqCst).saturating_add(1)
+    }
+
+    /// What the search that was timed last has cost. The position that it began with was searched, too.
+    pub(crate) fn costs(&self) -> Costs {
+        Costs {
+            nodes: self.nodes.load(Ordering::SeqCst).max(1),
+            time: self.elapsed(),
+        }
     }
 
     /// The clock's thread is to end.
@@ -102,20 +127,25 @@ impl Signals {
         self.wake_clock();
     }
 
-    /// Counts a tick of the search of this number, and tells it to stop once its time is up.
-    fn tick(&self, number: u64) {
+    /// Counts a tick of the search of this number, and tells it to stop once its time is up. It answers whether it is to be told how far that
+    /// is.
+    fn tick(&self, number: u64) -> bool {
         if self.timed.load(Ordering::SeqCst) != number {
-            return;
+            return false;
         }
-        let before = self.elapsed.fetch_add(TICK, Ordering::SeqCst);
-        if before.saturating_add(TICK) >= self.limit.load(Ordering::SeqCst) {
+        let elapsed = self
+            .elapsed
+            .fetch_add(TICK, Ordering::SeqCst)
+            .saturating_add(TICK);
+        if elapsed >= self.limit.load(Ordering::SeqCst) {
             self.stop(number);
         }
+        elapsed % TELLING < TICK
     }
 
     /// What the clock's thread does: it counts time by parking, since no clock is at hand. A wake-up that comes too early counts as a
     /// tick.
-    pub(crate) fn run_clock<R: Wait>(&self, rt: &R) {
+    pub(crate) fn run_clock<R: Wait>(&self, rt: &R, events: &Sender<Event, Global>) {
         for _ in rt.forever() {
             let changes = (self.changes.load(Ordering::SeqCst) % 4_294_967_296) as u32;
             if self.has_ended.load(Ordering::SeqCst) != 0 {
@@ -127,7 +157,10 @@ impl Signals {
             } else {
                 self.changes
                     .park_timeout(rt, changes, Duration::from_millis(TICK));
-                self.tick(number);
+                if self.tick(number) {
+                    // Time is counted on where there is no room.
+                    let _ = events.try_send(rt, Event::Tick(number));
+                }
             }
         }
     }

@@ -3,17 +3,19 @@
 use crate::commands::{Command, command_in};
 use crate::events::Event;
 use crate::plans::{bound_near, bound_of, time_of};
+use crate::reader::MAX_LINE;
 use crate::searcher::Job;
 use crate::signals::{FOR_EVER, Signals};
-use crate::texts::{fault_line, line, move_line, push, push_count};
+use crate::texts::{costs_line, line, push, push_option, range_line, refusal_line};
 use byte_streams::{InputFault, Stop};
-use chess_board::{Colour, Fen, FenFault};
+use chess_board::{Colour, Fen};
 use chess_moves::Rays;
 use chess_problems::{AvoidList, Bound, Problem};
 use chess_views::look_board_text;
 use std::alloc::{AllocError, Global};
 use uci_commands::{
-    Go, PositionFault, Setting, only_these, place, read_go, read_setting, searched_moves, words_of,
+    Board, Go, PositionFault, Setting, Spin, only_these, read_go, read_setting, searched_moves,
+    words_of,
 };
 
 /// How many entries a memo has at most, 10 MB.
@@ -21,9 +23,6 @@ const MOST_ENTRIES: usize = 65_536;
 
 /// How many entries a megabyte has, with their index and what else a memo keeps beside them, the allocator's own words too.
 const ENTRIES: usize = 5_600;
-
-/// How many keys may have lines of their own.
-const MOST_LINES: u64 = 64;
 
 /// A search that is made once those before it are over.
 #[derive(Drop)]
@@ -64,7 +63,7 @@ pub(crate) struct Talk<'a> {
     signals: &'a Signals,
     /// The version that it gives for its own.
     version: &'a str,
-    fen: Fen,
+    board: Board,
     bound: Bound,
     lines: u64,
     entries: usize,
@@ -93,7 +92,10 @@ impl<'a> Talk<'a> {
             rays,
             signals,
             version,
-            fen,
+            board: Board {
+                taken: fen,
+                refused: None,
+            },
             bound,
             lines: 1,
             entries: MOST_ENTRIES,
@@ -112,76 +114,80 @@ impl<'a> Talk<'a> {
         push(&mut text, "id name matedesk ")?;
         push(&mut text, self.version)?;
         push(&mut text, "\nid author the matedesk authors\n")?;
+        push_option(&mut text, Spin::Hash, Spin::Hash.most())?;
+        push_option(&mut text, Spin::Bound, Spin::Bound.most())?;
+        push_option(&mut text, Spin::MultiPv, 1)?;
         push(
             &mut text,
-            "option name Hash type spin default 10 min 1 max 10\n",
-        )?;
-        push(
-            &mut text,
-            "option name Bound type spin default 15 min 1 max 15\n",
-        )?;
-        push_count(
-            &mut text,
-            "option name MultiPV type spin default 1 min 1 max ",
-            MOST_LINES,
-        )?;
-        push(
-            &mut text,
-            "\noption name Ponder type check default false\nuciok\n",
+            "option name Ponder type check default false\nuciok\n",
         )?;
         Ok(text)
     }
 
-    /// Sets an option.
-    fn set(&mut self, setting: Setting) {
-        match setting {
-            Setting::Hash(megabytes) => {
-                let megabytes = megabytes.max(1).min(10) as usize;
+    /// Sets an option to a value of its range.
+    fn set(&mut self, spin: Spin, value: u64) {
+        match spin {
+            Spin::Hash => {
+                let megabytes = value.max(1).min(10) as usize;
                 self.entries = if megabytes == 10 {
                     MOST_ENTRIES
                 } else {
                     ENTRIES * megabytes
                 };
             }
-            Setting::Bound(moves) => self.bound = bound_near(moves, self.bound),
-            Setting::MultiPv(lines) => self.lines = lines.max(1).min(MOST_LINES),
+            Spin::Bound => self.bound = bound_near(value, self.bound),
+            Spin::MultiPv => self.lines = value,
         }
     }
 
-    /// Takes up a position; one that isn't said right is answered by its fault.
-    fn take_position(&mut self, words: &[&str]) -> Result<Vec<u8>, AllocError> {
-        match place(self.alloc, self.rays, words, &mut self.fen) {
-            Ok(()) => Ok(Vec::new(self.alloc)),
-            Err(PositionFault::Fen(fault)) => fault_line(self.alloc, fault.code()),
-            // Where no FEN is begun, there are none of its fields.
-            Err(PositionFault::NoPosition) => fault_line(self.alloc, FenFault::FieldCount.code()),
-            Err(PositionFault::NoSuchMove(number)) => move_line(self.alloc, number as u64),
-            Err(PositionFault::NoMemory) => Err(AllocError),
+    /// Sets the option that the words name; a value out of its range is told, and leaves it as it was.
+    fn set_option(&mut self, words: &[&str]) -> Result<Vec<u8>, AllocError> {
+        match read_setting(words) {
+            Some(Setting::Value(spin, value)) => {
+                self.set(spin, value);
+                Ok(Vec::new(self.alloc))
+            }
+            Some(Setting::OutOfRange(spin)) => range_line(self.alloc, spin),
+            None => Ok(Vec::new(self.alloc)),
         }
+    }
+
+    /// Takes up a position, unless it isn't said right.
+    fn take_position(&mut self, words: &[&str]) -> Result<Vec<u8>, AllocError> {
+        match self.board.take(self.alloc, self.rays, words) {
+            Ok(()) => Ok(Vec::new(self.alloc)),
+            Err(fault) => refusal_line(self.alloc, fault),
+        }
+    }
+
+    /// Takes up no position, since its line is cut: behind that may be moves.
+    fn refuse_position(&mut self) -> Result<Vec<u8>, AllocError> {
+        self.board.refuse(PositionFault::TooLong);
+        refusal_line(self.alloc, PositionFault::TooLong)
     }
 
     /// The problem that a search asks.
-    fn problem(&self, go: &Go, words: &[&str]) -> Problem {
-        let position = self.fen.position;
+    fn problem(&self, go: &Go, words: &[&str]) -> Result<Problem, PositionFault> {
+        let position = self.board.searched()?.position;
         let bound = bound_of(go, self.bound);
         let moves = searched_moves(self.rays, &position, words);
         if !moves.is_empty() {
             if let Some(problem) = only_these(self.rays, &position, bound, moves.as_slice()) {
-                return problem;
+                return Ok(problem);
             }
         }
-        Problem {
+        Ok(Problem {
             position,
             bound,
             avoid: AvoidList::new(),
-        }
+        })
     }
 
     /// Plans a search. One that goes on is told to stop.
     fn plan(&mut self, words: &[&str]) -> Result<(), AllocError> {
         self.stop();
         let go = read_go(words);
-        let side = self.fen.position.side();
+        let side = self.board.taken.position.side();
         self.number = self.number.saturating_add(1);
         let plan = Plan {
             job: Job {
@@ -223,20 +229,19 @@ impl<'a> Talk<'a> {
     /// What a line is answered at once.
     fn obey(&mut self, line_read: &[u8]) -> Result<Vec<u8>, AllocError> {
         let nothing = Vec::new(self.alloc);
-        let Some(words) = words_of(self.alloc, line_read)? else {
+        let is_cut = line_read.len() > MAX_LINE;
+        let (kept, _) = line_read.split_at(line_read.len().min(MAX_LINE));
+        let Some(words) = words_of(self.alloc, kept)? else {
             return Ok(nothing);
         };
         let (command, rest) = command_in(words.as_slice());
         match command {
             Command::Uci => return self.introduce(),
             Command::IsReady => return line(self.alloc, "readyok"),
+            Command::Position if is_cut => return self.refuse_position(),
             Command::Position => return self.take_position(rest),
-            Command::Board => return look_board_text(self.alloc, &self.fen, Colour::White),
-            Command::SetOption => {
-                if let Some(setting) = read_setting(rest) {
-                    self.set(setting);
-                }
-            }
+            Command::Board => return look_board_text(self.alloc, &self.board.taken, Colour::White),
+            Command::SetOption => return self.set_option(rest),
             Command::NewGame => self.is_fresh = true,
             Command::Go => self.plan(rest)?,
             Command::Stop => self.stop(),
@@ -279,6 +284,16 @@ impl<'a> Talk<'a> {
         Some(plan.job)
     }
 
+    /// Tells what the search of this number has cost so far, unless it is over.
+    fn tell(&self, number: u64) -> Result<Vec<u8>, AllocError> {
+        match &self.going {
+            Some(going) if going.number == number && going.found.is_none() => {
+                costs_line(self.alloc, &self.signals.costs())
+            }
+            _ => Ok(Vec::new(self.alloc)),
+        }
+    }
+
     /// Keeps the last lines of the search that is made.
     fn keep(&mut self, found: Vec<u8>) {
         self.signals.stop_clock();
@@ -292,6 +307,7 @@ impl<'a> Talk<'a> {
         let mut text = match event {
             Event::Line(line_read) => self.obey(line_read.as_slice())?,
             Event::Said(said) => said,
+            Event::Tick(number) => self.tell(number)?,
             Event::Refused => return Err(Stop::NoMemory),
             Event::Found(found) => {
                 self.keep(found);

@@ -1,8 +1,10 @@
 //! The lines that an engine writes.
 
-use chess_board::Move;
+use crate::reader::MAX_LINE;
+use chess_board::{FenFault, Move};
 use itoa::Buffer;
 use std::alloc::{AllocError, Global};
+use uci_commands::{PositionFault, Spin};
 
 /// Adds words to a text.
 pub(crate) fn push(text: &mut Vec<u8>, words: &str) -> Result<(), AllocError> {
@@ -30,29 +32,65 @@ pub(crate) fn line(alloc: Global, words: &str) -> Result<Vec<u8>, AllocError> {
     Ok(text)
 }
 
-/// The line of a fault, by its code.
-pub(crate) fn fault_line(alloc: Global, code: &str) -> Result<Vec<u8>, AllocError> {
+/// Adds the line of an option: its range, and its value where none is set.
+pub(crate) fn push_option(text: &mut Vec<u8>, spin: Spin, default: u64) -> Result<(), AllocError> {
+    push(text, "option name ")?;
+    push(text, spin.name())?;
+    push_count(text, " type spin default ", default)?;
+    push_count(text, " min 1 max ", spin.most())?;
+    push(text, "\n")
+}
+
+/// The line that tells what values an option may have.
+pub(crate) fn range_line(alloc: Global, spin: Spin) -> Result<Vec<u8>, AllocError> {
     let mut text = Vec::new(alloc);
     push(&mut text, "info string ")?;
-    push(&mut text, code)?;
+    push(&mut text, spin.name())?;
+    push_count(&mut text, " is a number from 1 to ", spin.most())?;
     push(&mut text, "\n")?;
     Ok(text)
 }
 
-/// The line of a word that names no legal move, by its number among the moves.
-pub(crate) fn move_line(alloc: Global, number: u64) -> Result<Vec<u8>, AllocError> {
+/// Adds the code of a position's fault, or what its code doesn't say.
+fn push_fault(text: &mut Vec<u8>, fault: PositionFault) -> Result<(), AllocError> {
+    match fault {
+        PositionFault::Fen(fault) => push(text, fault.code()),
+        // Where no FEN is begun, there are none of its fields.
+        PositionFault::NoPosition => push(text, FenFault::FieldCount.code()),
+        PositionFault::NoSuchMove(number) => {
+            push_count(text, "move ", number as u64)?;
+            push(text, ": NoSuchMove")
+        }
+        PositionFault::TooLong => push_count(
+            text,
+            "the line has more bytes than ",
+            MAX_LINE as u64,
+        ),
+        PositionFault::NoMemory => Err(AllocError),
+    }
+}
+
+/// The line that says why a position is not taken.
+pub(crate) fn refusal_line(alloc: Global, fault: PositionFault) -> Result<Vec<u8>, AllocError> {
     let mut text = Vec::new(alloc);
-    push_count(&mut text, "info string move ", number)?;
-    push(&mut text, ": NoSuchMove\n")?;
+    push(&mut text, "info string ")?;
+    push_fault(&mut text, fault)?;
+    push(&mut text, "\n")?;
     Ok(text)
 }
 
-/// How far a search has come: to so many moves, over so many positions, in so many milliseconds.
+/// What a search has cost so far: positions, and milliseconds.
+#[derive(Clone, Copy)]
+pub(crate) struct Costs {
+    pub(crate) nodes: u64,
+    pub(crate) time: u64,
+}
+
+/// How far a search has come: to so many moves.
 #[derive(Clone, Copy)]
 pub(crate) struct Progress {
     pub(crate) moves: u64,
-    pub(crate) nodes: u64,
-    pub(crate) time: u64,
+    pub(crate) costs: Costs,
 }
 
 /// Adds what `info` begins with. A mate in n moves is 2n - 1 halfmoves deep.
@@ -62,18 +100,27 @@ fn push_depth(text: &mut Vec<u8>, progress: &Progress) -> Result<(), AllocError>
 }
 
 /// Adds what it cost.
-fn push_costs(text: &mut Vec<u8>, progress: &Progress) -> Result<(), AllocError> {
-    let time = progress.time;
-    let rate = progress.nodes.saturating_mul(1000) / time.max(1);
-    push_count(text, " nodes ", progress.nodes)?;
+fn push_costs(text: &mut Vec<u8>, costs: &Costs) -> Result<(), AllocError> {
+    let Costs { nodes, time } = *costs;
+    let rate = nodes.saturating_mul(1000) / time.max(1);
+    push_count(text, " nodes ", nodes)?;
     push_count(text, " time ", time)?;
     push_count(text, " nps ", rate)
+}
+
+/// The line of a search that goes on.
+pub(crate) fn costs_line(alloc: Global, costs: &Costs) -> Result<Vec<u8>, AllocError> {
+    let mut text = Vec::new(alloc);
+    push(&mut text, "info")?;
+    push_costs(&mut text, costs)?;
+    push(&mut text, "\n")?;
+    Ok(text)
 }
 
 /// Adds the line of a length in which there is no mate.
 pub(crate) fn push_length(text: &mut Vec<u8>, progress: &Progress) -> Result<(), AllocError> {
     push_depth(text, progress)?;
-    push_costs(text, progress)?;
+    push_costs(text, &progress.costs)?;
     push(text, "\n")
 }
 
@@ -87,7 +134,7 @@ pub(crate) fn push_mate(
     push_depth(text, progress)?;
     push_count(text, " multipv ", rank)?;
     push_count(text, " score mate ", progress.moves)?;
-    push_costs(text, progress)?;
+    push_costs(text, &progress.costs)?;
     push(text, " pv")?;
     for m in pv {
         push_move(text, " ", *m)?;

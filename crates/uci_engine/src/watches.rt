@@ -4,7 +4,6 @@ ghost use Rattle.std.specs.Prelude.{⊤};
 
 use crate::signals::Signals;
 use mate_search::Halt;
-use std::cell::Cell;
 
 /// Watches one search: it is to stop once a signal says so, or more positions were searched than it may.
 #[derive(Drop)]
@@ -12,7 +11,6 @@ pub(crate) struct Watch<'a> {
     signals: &'a Signals,
     number: u64,
     most_nodes: u64,
-    nodes: Cell<u64>,
 }
 
 impl<'a> Watch<'a> {
@@ -22,13 +20,7 @@ impl<'a> Watch<'a> {
             signals,
             number,
             most_nodes,
-            nodes: Cell::new(0),
         }
-    }
-
-    /// How many positions were searched.
-    pub(crate) fn nodes(&self) -> u64 {
-        self.nodes.get()
     }
 }
 
@@ -36,8 +28,7 @@ impl Halt for Watch<'_> {
     ghost may_stop = { λ _. ⊤ };
 
     fn is_stopped(&self) -> bool {
-        let nodes = self.nodes.get().saturating_add(1);
-        self.nodes.set(nodes);
+        let nodes = self.signals.count_node();
         nodes > self.most_nodes || self.signals.is_stopped(self.number)
     }
 }

@@ -6,8 +6,8 @@ use chess_problems::Bound;
 use std::alloc::Global;
 use std::test::Fail;
 use uci_commands::{
-    PositionFault, Setting, only_these, place, read_go, read_setting, searched_moves, start_fen,
-    within, words_of,
+    Board, PositionFault, Setting, Spin, only_these, place, read_go, read_setting, searched_moves,
+    start_fen, within, words_of,
 };
 
 /// Has a position said in place of the first, and gives it, or the fault, by their texts.
@@ -20,7 +20,7 @@ fn is_said(alloc: Global, line: &str, wanted: &str) -> Result<bool, Fail> {
         Err(PositionFault::Fen(fault)) => fault.code() == wanted,
         Err(PositionFault::NoPosition) => "NoPosition" == wanted,
         Err(PositionFault::NoSuchMove(number)) => number == 2 && "NoSuchMove" == wanted,
-        Err(PositionFault::NoMemory) => false,
+        Err(PositionFault::TooLong | PositionFault::NoMemory) => false,
     };
     Ok(said)
 }
@@ -60,6 +60,30 @@ fn reads_positions(rt: HostRuntime) -> Result<(), Fail> {
 }
 
 #[test]
+fn searches_none_behind_a_refused_one(rt: HostRuntime) -> Result<(), Fail> {
+    let alloc = rt.alloc();
+    let rays = Rays::new();
+    let start = start_fen().ok_or("start")?;
+    let mut board = Board {
+        taken: start,
+        refused: None,
+    };
+    let words = words_of(alloc, b"startpos moves e2e4 e2e4")?.ok_or("words")?;
+    let is_refused = board.take(alloc, &rays, words.as_slice()).is_err()
+        && board.searched().err() == Some(PositionFault::NoSuchMove(2))
+        && board.taken == start;
+    let words = words_of(alloc, b"startpos moves e2e4")?.ok_or("words")?;
+    let is_taken = board.take(alloc, &rays, words.as_slice()).is_ok()
+        && board.searched().is_ok_and(|fen| *fen == board.taken)
+        && board.taken != start;
+    if is_refused && is_taken {
+        Ok(())
+    } else {
+        Err(Fail::from("board"))
+    }
+}
+
+#[test]
 fn reads_how_to_search(rt: HostRuntime) -> Result<(), Fail> {
     let line = b"wtime 300 btime 99999999999 winc x mate 3 infinite movetime";
     let words = words_of(rt.alloc(), line)?.ok_or("words")?;
@@ -81,11 +105,37 @@ fn reads_how_to_search(rt: HostRuntime) -> Result<(), Fail> {
 #[test]
 fn reads_options(rt: HostRuntime) -> Result<(), Fail> {
     let alloc = rt.alloc();
-    let table: [(&str, Option<Setting>); 5] = [
-        ("name Hash value 7", Some(Setting::Hash(7))),
-        ("name Bound value 4", Some(Setting::Bound(4))),
-        ("name MultiPV value 2", Some(Setting::MultiPv(2))),
-        ("name Hash", None),
+    let table: [(&str, Option<Setting>); 16] = [
+        ("name Hash value 7", Some(Setting::Value(Spin::Hash, 7))),
+        ("name Bound value 4", Some(Setting::Value(Spin::Bound, 4))),
+        (
+            "name MultiPV value 2",
+            Some(Setting::Value(Spin::MultiPv, 2)),
+        ),
+        ("name hash value 1", Some(Setting::Value(Spin::Hash, 1))),
+        ("name HASH value 10", Some(Setting::Value(Spin::Hash, 10))),
+        ("name bOUND value 15", Some(Setting::Value(Spin::Bound, 15))),
+        (
+            "name multipv value 64",
+            Some(Setting::Value(Spin::MultiPv, 64)),
+        ),
+        (
+            "name Hash value 1024",
+            Some(Setting::OutOfRange(Spin::Hash)),
+        ),
+        (
+            "name Bound value 20",
+            Some(Setting::OutOfRange(Spin::Bound)),
+        ),
+        ("name Bound value 0", Some(Setting::OutOfRange(Spin::Bound))),
+        (
+            "name MultiPV value 65",
+            Some(Setting::OutOfRange(Spin::MultiPv)),
+        ),
+        ("name Hash value -1", Some(Setting::OutOfRange(Spin::Hash))),
+        ("name Hash", Some(Setting::OutOfRange(Spin::Hash))),
+        ("name Has value 3", None),
+        ("name Hashes value 3", None),
         ("name Ponder value true", None),
     ];
     for (line, wanted) in table {
