@@ -3,3 +3,4 @@ mod JoinedWords
 mod Numbers
 pub mod OnLiterals
 mod Parsed
+mod Tables

@@ -29,7 +29,7 @@ use Rattle.command_words.specs.declared.request.MoveForm.TheVariants.{San, Coord
 pub data Asked : Type 0 where
   look : Text → Asked
   board : Text → Colour → Asked
-  svg : Text → Asked
+  svg : Text → Colour → Asked
   play : Text → List Text → Asked
   moves : MoveForm → Text → Asked
   perft : Text → ℕ → Asked
@@ -44,7 +44,7 @@ pub data Asked : Type 0 where
   imports : Bool → List Text → Asked
   serve : ℕ → ℕ → ℕ → List Text → Asked
   replay : Text → Asked
-  explain : Option Text → Asked
+  explain : List Text → Asked
   uci : Asked
 
 -- the number that a word stands for, which `clap` has read; none above the depths that are counted
@@ -83,14 +83,17 @@ is_given id rows = option_map_or (λ value. bytes_eq value (codes "true")) (firs
 unfoldable pub side_in : List Row → Colour
 side_in rows = if is_given (codes "flip") rows then Black else White
 
+abbrev pub svg_at : List Row → Text → Option Asked
+svg_at rows fen = if is_given (codes "board") rows then None else Some (svg fen (side_in rows))
+
 abbrev pub look_at : List Row → Text → Option Asked
 look_at rows fen =
-    if is_given (codes "svg") rows then Some (svg fen)
+    if is_given (codes "svg") rows then svg_at rows fen
     else if is_given (codes "board") rows then Some (board fen (side_in rows))
     else if is_given (codes "flip") rows then None
     else Some (look fen)
 
--- what the arguments of `look` ask for; nothing where a board is to be turned that isn't asked for
+-- what the arguments of `look` ask for; nothing where the board is to be both drawn and an image, or is to be turned and neither
 unfoldable pub look_in : List Row → Option Asked
 look_in rows = option_and_then (look_at rows) (first_of (codes "FEN") rows)
 
@@ -119,8 +122,12 @@ perft_in rows = option_and_then (λ depth. option_map (perft_at rows depth) (fir
 unfoldable pub lines_in : LineView → List Row → Option Asked
 lines_in view rows = option_map (lines view) (all_of (codes "FILE") rows)
 
+-- the same of `look --lines`, which draws no image
 unfoldable pub look_lines_in : List Row → Option Asked
-look_lines_in rows = lines_in (if is_given (codes "board") rows then shown.Board else shown.Look) rows
+look_lines_in rows =
+    if is_given (codes "board") rows then lines_in (shown.Board (side_in rows)) rows
+    else if is_given (codes "flip") rows then None
+    else lines_in shown.Look rows
 
 unfoldable pub perft_lines_in : List Row → Option Asked
 perft_lines_in rows = option_and_then (λ depth. lines_in (shown.Perft depth) rows) (depth_in rows)
@@ -202,7 +209,7 @@ unfoldable pub desk_asked_by : Text → List Row → Option Asked
 desk_asked_by name rows =
     if bytes_eq name (codes "serve") then serve_in rows
     else if bytes_eq name (codes "replay") then option_map replay (first_of (codes "SCRIPT") rows)
-    else if bytes_eq name (codes "explain") then Some (explain (first_of (codes "CODE") rows))
+    else if bytes_eq name (codes "explain") then Some (explain (unwrap_or (all_of (codes "WORD") rows) []))
     else if bytes_eq name (codes "uci") then Some uci
     else lines_asked_by name rows
 

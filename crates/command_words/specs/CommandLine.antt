@@ -81,9 +81,9 @@ flag_rule name = record (new_rule name) { long = Some name; action = Some SetTru
 unfoldable pub title_rule : Rule
 title_rule = record (new_rule (codes "T")) { long = Some (codes "title"); defaults = codes "Chess problems" ∷ [] }
 
--- no move, or one or more
-unfoldable pub moves_rule : Rule
-moves_rule = record (new_rule (codes "MOVE")) { range = Some (record { start_inclusive = 0; end_inclusive = usize_max }) }
+-- no word, or one or more
+unfoldable pub words_rule : Text → Rule
+words_rule id = record (new_rule id) { range = Some (record { start_inclusive = 0; end_inclusive = usize_max }) }
 
 -- one name or more
 unfoldable pub files_rule : Rule
@@ -142,7 +142,7 @@ look_app =
     (flag_rule (codes "svg"))) (wanted (codes "FEN"))
 
 unfoldable pub play_app : App
-play_app = with_rule (with_rule (new_app (codes "play")) (wanted (codes "FEN"))) moves_rule
+play_app = with_rule (with_rule (new_app (codes "play")) (wanted (codes "FEN"))) (words_rule (codes "MOVE"))
 
 unfoldable pub moves_app : App
 moves_app = with_rule (with_rule (with_rule (new_app (codes "moves")) (flag_rule (codes "coordinates")))
@@ -153,7 +153,8 @@ perft_app = with_rule (with_rule (with_rule (new_app (codes "perft")) (flag_rule
 
 -- the commands that answer lines of positions
 unfoldable pub look_lines_app : App
-look_lines_app = with_rule (with_rule (new_app (codes "look --lines")) (flag_rule (codes "board"))) files_rule
+look_lines_app =
+    with_rule (with_rule (with_rule (new_app (codes "look --lines")) (flag_rule (codes "board"))) (flag_rule (codes "flip"))) files_rule
 
 unfoldable pub moves_lines_app : App
 moves_lines_app = with_rule (new_app (codes "moves --lines")) files_rule
@@ -162,7 +163,7 @@ unfoldable pub perft_lines_app : App
 perft_lines_app = with_rule (with_rule (new_app (codes "perft --lines")) depth_rule) files_rule
 
 unfoldable pub explain_app : App
-explain_app = with_rule (new_app (codes "explain")) (new_rule (codes "CODE"))
+explain_app = with_rule (new_app (codes "explain")) (words_rule (codes "WORD"))
 
 unfoldable pub uci_app : App
 uci_app = new_app (codes "uci")

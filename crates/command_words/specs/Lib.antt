@@ -1,6 +1,8 @@
+pub mod Arguments
 pub mod Asked
 pub mod ClapWords
 pub mod CommandLine
+pub mod Commands
 pub mod Limits
 pub mod Hyphens
 pub mod LineCommands

@@ -9,7 +9,7 @@ use Rattle.command_words.specs.declared.request.Request.TheVariants.{Solve, Solv
 abbrev pub plan_of : Request → Asked
 plan_of (Look fen) = look fen.now
 plan_of (Board fen side) = board fen.now side
-plan_of (Svg fen) = svg fen.now
+plan_of (Svg fen side) = svg fen.now side
 plan_of (Play fen names) = play fen.now (unwrap_or (option_map (λ names. map (λ s. s.now) names.now) names) [])
 plan_of (Moves form fen) = moves form fen.now
 plan_of (Perft fen depth) = perft fen.now depth
@@ -24,5 +24,5 @@ plan_of (Sheet bound memo form title names) = sheet bound memo form title.now (m
 plan_of (Import keep names) = imports keep (map (λ s. s.now) names.now)
 plan_of (Serve workers bound memo names) = serve workers bound memo (map (λ s. s.now) names.now)
 plan_of (Replay name) = replay name.now
-plan_of (Explain code) = explain (option_map (λ s. s.now) code)
+plan_of (Explain words) = explain (unwrap_or (option_map (λ words. map (λ s. s.now) words.now) words) [])
 plan_of Uci = uci

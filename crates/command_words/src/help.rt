@@ -37,6 +37,7 @@ Status:
   2  the words ask for nothing, or `serve` is given more than 16 files
   3  no memory, or no thread
   4  a file can't be read, or the output can't be written
+  5  some record was not decided within the seconds of `solve --limit`
 
 `matedesk COMMAND --help` says more about a command.";
 
@@ -66,9 +67,11 @@ bound N, the answer says `c0 \"no mate in N\"`. A line that is no record is answ
 `# line K: CODE`: K is its number in its file, and CODE names its fault. A bound of
 many moves may take longer than one can wait, and the lines behind it wait too: with
 `--limit S` a record that isn't decided within S seconds is answered
-`c0 \"not decided in S s\"`, which claims nothing, and the next one is begun. With --progress
-standard error says which line is solved and for how long, twice a second on a terminal and
-every ten seconds elsewhere, and at the end how often there was which answer.
+`c0 \"no mate in K, not decided within N in S s\"` with its bound N as `dm`: there is no mate
+within K moves, more is not known, and it asks the same again. The last line on standard
+error then counts such records, and the status is 5. With --progress standard
+error says which line is solved and for how long, twice a second on a terminal and every
+ten seconds elsewhere, and at the end how often there was which answer.
 
 What was found of positions is kept in a memo with room for M of them, so that it need not
 be found again. No answer depends on M: more room mostly takes less time and more memory.
@@ -89,6 +92,7 @@ Status:
   2  the words ask for nothing
   3  no memory; with `--limit` also no thread
   4  a FILE can't be read, or the output can't be written
+  5  with `--limit`: every line was answered or refused, and some record was not decided
 At 3 and 4 the first of the answers may have been written.";
 
 /// `verify` in one line.
@@ -308,15 +312,17 @@ problems: it looks for a forced mate, and plays the first legal move where it fi
   isready                `readyok`
   setoption name NAME value N
                          Hash N: megabytes of the memo, 1 to 10. Bound N: how many moves
-                         are looked at, 1 to 15. MultiPV N: how many keys have lines
+                         are looked at, 1 to 15. MultiPV N: how many keys have lines, 1 to
+                         64. NAME in any case; `info string` where N is not of these
   ucinewgame             forgets what it found
   position startpos|fen FEN [moves MOVE..]
-                         the position; `info string CODE` where it is refused, which leaves
-                         the one before: `matedesk explain CODE` says what CODE means
+                         the position; `info string CODE` where it is refused, and again for
+                         each `go` until one is taken, which then plays nothing:
+                         `matedesk explain CODE` says what CODE means
   go [mate N] [depth N] [movetime MS] [nodes N] [infinite] [ponder] [wtime MS] [btime MS]
      [winc MS] [binc MS] [movestogo N] [searchmoves MOVE..]
-                         looks for a mate in 1, in 2 and so on; `info` for each of them, and
-                         `bestmove`. `depth` counts moves of both sides
+                         looks for a mate in 1, in 2 and so on; `info` for each of them and
+                         for each second, and `bestmove`. `depth` counts moves of both sides
   stop, ponderhit, quit  as the interface has them
   d                      the board
 
@@ -324,8 +330,8 @@ Example:
   $ matedesk uci
   position fen 7k/8/5K2/8/8/8/8/R7 w - - 0 1
   go mate 2
-  info depth 1 nodes 0 time 0 nps 0
-  info depth 3 multipv 1 score mate 2 nodes 0 time 0 nps 0 pv f6g6 h8g8 a1a8
+  info depth 1 nodes 1 time 0 nps 1000
+  info depth 3 multipv 1 score mate 2 nodes 1 time 0 nps 1000 pv f6g6 h8g8 a1a8
   bestmove f6g6
   quit
 
@@ -463,15 +469,16 @@ Example:
      a b c d e f g h
   White to move
 
-Options stand before FEN. A FEN that gives no sound position is refused: the error
-output names its first fault, which `matedesk explain CODE` explains, and the status
-is 1. For many positions there is `matedesk look --lines`.";
+Options stand before FEN: --board or --svg, and --flip with one of them. A FEN that gives
+no sound position is refused: the error output names its first fault, which `matedesk
+explain CODE` explains, and the status is 1. For many positions there is `matedesk look
+--lines`.";
 
 /// The option `--board` in one line.
 pub const ABOUT_BOARD: &str = "Draws the board too, and says who is to move";
 
 /// The option `--flip` in one line.
-pub const ABOUT_FLIP: &str = "Draws it from Black's side; goes with --board";
+pub const ABOUT_FLIP: &str = "Draws the board from Black's side";
 
 /// `play` in one line.
 pub const ABOUT_PLAY: &str = "Makes moves from a FEN, and shows the position reached";
@@ -626,13 +633,16 @@ pub const ABOUT_POSITIONS: &str =
     "Files of positions, each answered in its place; `-` is standard input";
 
 /// `explain` in one line.
-pub const ABOUT_EXPLAIN: &str = "Says what the code of a fault means, or lists all codes";
+pub const ABOUT_EXPLAIN: &str =
+    "Says what the codes of faults and verdicts mean, or lists them all";
 
 /// What stands below the arguments of `explain`.
 pub const AFTER_EXPLAIN: &str =
-    "CODE is a word by which something is refused: a FEN or a move (`matedesk: CODE`), a line of
-records (`# line K: CODE`), a step of a script (`refused CODE`), a desk or a room. Told
-are what it means, where it comes, an example that has it, and the same mended.
+    "The words of a reply will do as they are printed, in any case; behind a `#` they stand in
+quotes. Each that is a code is explained: by it a FEN or a move is refused (`matedesk:
+CODE`), a line of records (`# line K: CODE`), a step of a script (`refused CODE`), a desk
+or a room; or `verify` says so of a record. Told are what it means, where it comes, an
+example that has it, and the same mended.
 
 Example:
   $ matedesk explain OpponentInCheck
@@ -646,11 +656,11 @@ Example:
   Mended:
   4k3/8/8/8/8/8/8/4RK2 b - - 0 1
 
-Without CODE all are listed, with a sentence for each. Where there is no such code the
-error output says NoSuchFault, and the status is 1.";
+Without a WORD all are listed, with a sentence for each. Where no word is a code the error
+output says NoSuchFault, and the status is 1.";
 
-/// The argument CODE in one line.
-pub const ABOUT_CODE: &str = "The code of a fault, as `BadKings`";
+/// The argument WORD in one line.
+pub const ABOUT_WORD: &str = "Words of a reply, as `Fen BadKings` or `cooked`";
 
 /// The argument DEPTH in one line.
 pub const ABOUT_DEPTH: &str = "How many moves a line has, 0 to 6";

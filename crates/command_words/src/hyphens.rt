@@ -9,25 +9,29 @@ ghost use Rattle.command_words.specs.Hyphens.{escape_at, hyphened_at, is_hyphene
 ghost use Rattle.command_words.specs.LineCommands.{given};
 
 use crate::line_commands::join_lines;
+use crate::texts::is_same;
 use std::alloc::{AllocError, Global};
 
 /// Whether the first word of the command, options aside, is a FEN.
 fn takes_fen(name: &str) -> bool
     ensures { result ≡ takes_fen name.now }
 {
-    name == "look" || name == "play" || name == "moves" || name == "perft"
+    is_same(name, "look")
+        || is_same(name, "play")
+        || is_same(name, "moves")
+        || is_same(name, "perft")
 }
 
 /// Whether the word is an option of the command, which may stand before its FEN.
 pub(crate) fn is_option_of(name: &str, word: &str) -> bool
     ensures { result ≡ is_option_of name.now word.now }
 {
-    if name == "look" {
-        word == "--board" || word == "--flip" || word == "--svg"
-    } else if name == "moves" {
-        word == "--coordinates" || word == "--fen"
+    if is_same(name, "look") {
+        is_same(word, "--board") || is_same(word, "--flip") || is_same(word, "--svg")
+    } else if is_same(name, "moves") {
+        is_same(word, "--coordinates") || is_same(word, "--fen")
     } else {
-        name == "perft" && word == "--divide"
+        is_same(name, "perft") && is_same(word, "--divide")
     }
 }
 
@@ -39,7 +43,7 @@ fn is_hyphened(word: &str) -> bool
         Some(byte) => *byte == b'-',
         None => false,
     };
-    starts && !(word == "--" || word == "-h" || word == "--help")
+    starts && !(is_same(word, "--") || is_same(word, "-h") || is_same(word, "--help"))
 }
 
 /// How many words stand before a FEN that begins with a hyphen, where these stand behind the first two.

@@ -7,17 +7,18 @@ ghost use Rattle.std.specs.Prelude.{◌≡◌, ◌≤◌, ◌<◌, ◌+◌, IfOk
 ghost use Rattle.command_words.specs.LineCommands.{joined, lines_at as lines_stand_at, lines_name as name_of_lines, mark_of as mark_in};
 
 use crate::hyphens::is_option_of;
+use crate::texts::is_same;
 use std::alloc::AllocError;
 
 /// The name of the command over lines that belongs to a command over a FEN.
 fn lines_name(name: &str) -> Option<&'static str>
     ensures { option_map (λ s. s.now) result ≡ name_of_lines name.now }
 {
-    if name == "look" {
+    if is_same(name, "look") {
         Some("look --lines")
-    } else if name == "moves" {
+    } else if is_same(name, "moves") {
         Some("moves --lines")
-    } else if name == "perft" {
+    } else if is_same(name, "perft") {
         Some("perft --lines")
     } else {
         None
@@ -33,7 +34,7 @@ fn lines_at(name: &str, words: &[&str]) -> Option<usize>
     let mut at = 2;
     let mut rest = words;
     while let [word, more @ ..] = rest {
-        if *word == "--lines" {
+        if is_same(word, "--lines") {
             return Some(at);
         }
         if !is_option_of(name, word) {

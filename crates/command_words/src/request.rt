@@ -7,13 +7,14 @@ ghost use Rattle.clap.specs.Words.{all_of, first_of, found_of, kind_of, one_of, 
 ghost use Rattle.command_words.specs.Asked.{desk_asked_by, lines_asked_by, records_asked_by};
 ghost use Rattle.command_words.specs.Asked.{asked_by, asked_exactly, bound_in, depth_in, form_in, from_in, is_given, limit_in, lines_in, look_in};
 ghost use Rattle.command_words.specs.Asked.{look_lines_in, memo_size_in, moves_in, number_or_zero, perft_in, perft_lines_in, play_in};
-ghost use Rattle.command_words.specs.Asked.{side_in, workers_in, serve_in, solve_in, some_number, tree_form_in, tree_in, verify_in};
+ghost use Rattle.command_words.specs.Asked.{side_in, svg_at, workers_in, serve_in, solve_in, some_number, tree_form_in, tree_in, verify_in};
 ghost use Rattle.command_words.specs.Asked.{sheet_form_in, sheet_in, import_in, asked_of, asks_display_exactly, is_display, may_display_exactly};
 ghost use Rattle.command_words.specs.Asked.{progress_of};
 ghost use Rattle.command_words.specs.Request.{plan_of};
 
 use crate::command_line::desk_command;
 use crate::limits::{Depth, LineNumber, MemoSize, Workers};
+use crate::texts::is_same;
 use chess_board::Colour;
 use chess_problems::Bound;
 use clap::error::ErrorKind;
@@ -38,8 +39,8 @@ pub enum MoveForm {
 pub enum LineView {
     /// Its FEN in canonical form, and whether the side to move is in check.
     Look,
-    /// The same, with the board as White sees it.
-    Board,
+    /// The same, with the board as it is seen from a side.
+    Board(Colour),
     /// Its legal moves in SAN on one line, or how the game has ended.
     Moves,
     /// The number of lines of so many legal moves.
@@ -94,8 +95,8 @@ pub enum Request<'m, 'a> {
     Look(&'a str),
     /// The same, with the board as it is seen from a side.
     Board(&'a str, Colour),
-    /// Draw the board of a FEN as an image.
-    Svg(&'a str),
+    /// Draw the board of a FEN, as it is seen from a side, as an image.
+    Svg(&'a str, Colour),
     /// Make moves one after the other from a FEN, where any are given, and show the position reached.
     Play(&'a str, Option<&'m [&'a str]>),
     /// List the legal moves of a FEN in such a form, or say how the game has ended.
@@ -126,8 +127,8 @@ pub enum Request<'m, 'a> {
     Serve(Workers, Bound, MemoSize, &'m [&'a str]),
     /// Run the script of a file at a desk.
     Replay(&'a str),
-    /// Explain the fault of such a code, or list them all.
-    Explain(Option<&'a str>),
+    /// Explain the faults that these words name, or list them all where none are given.
+    Explain(Option<&'m [&'a str]>),
     /// Answer a board's questions, as an engine.
     Uci,
 }
@@ -217,7 +218,7 @@ fn is_given(matches: &ArgMatches, id: &str) -> bool
     ensures { result ≡ is_given id.now (rows_of (found_of matches.now)) }
 {
     match text_in(matches, id) {
-        Some(value) => value == "true",
+        Some(value) => is_same(value, "true"),
         None => false,
     }
 }
@@ -234,14 +235,25 @@ fn side_in(matches: &ArgMatches) -> Colour
     }
 }
 
-/// What the arguments of `look` ask for; nothing where a board is to be turned that isn't asked for.
+/// What the arguments of `look` ask for, where the board is drawn as an image; nothing where it is to be drawn in letters, too.
+fn svg_in<'m, 'a>(matches: &'m ArgMatches<'a>, fen: &'a str) -> Option<Request<'m, 'a>>
+    ensures { option_map plan_of result ≡ svg_at (rows_of (found_of matches.now)) fen.entry.now }
+{
+    if is_given(matches, "board") {
+        None
+    } else {
+        Some(Request::Svg(fen, side_in(matches)))
+    }
+}
+
+/// What the arguments of `look` ask for; nothing where the board is to be both drawn and an image, or is to be turned and neither.
 #[tactic(auto, unfolding(crate::specs::Asked::look_in))]
 fn look_in<'m, 'a>(matches: &'m ArgMatches<'a>) -> Option<Request<'m, 'a>>
     ensures { option_map plan_of result ≡ look_in (rows_of (found_of matches.now)) }
 {
     let fen = text_in(matches, "FEN")?;
     if is_given(matches, "svg") {
-        Some(Request::Svg(fen))
+        svg_in(matches, fen)
     } else if is_given(matches, "board") {
         Some(Request::Board(fen, side_in(matches)))
     } else if is_given(matches, "flip") {
@@ -303,16 +315,19 @@ fn perft_in<'m, 'a>(matches: &'m ArgMatches<'a>) -> Option<Request<'m, 'a>>
 fn lines_in<'m, 'a>(matches: &'m ArgMatches<'a>, view: LineView) -> Option<Request<'m, 'a>>
     ensures { option_map plan_of result ≡ lines_in view (rows_of (found_of matches.now)) }
 {
-    names_in(matches, "FILE").map(|names| Request::Lines(view, names))
+    let names = names_in(matches, "FILE")?;
+    Some(Request::Lines(view, names))
 }
 
-/// What the arguments of `look --lines` ask for.
+/// What the arguments of `look --lines` ask for; nothing where a board is to be turned that isn't drawn.
 #[tactic(auto, unfolding(crate::specs::Asked::look_lines_in))]
 fn look_lines_in<'m, 'a>(matches: &'m ArgMatches<'a>) -> Option<Request<'m, 'a>>
     ensures { option_map plan_of result ≡ look_lines_in (rows_of (found_of matches.now)) }
 {
     if is_given(matches, "board") {
-        lines_in(matches, LineView::Board)
+        lines_in(matches, LineView::Board(side_in(matches)))
+    } else if is_given(matches, "flip") {
+        None
     } else {
         lines_in(matches, LineView::Look)
     }
@@ -441,7 +456,8 @@ fn import_in<'m, 'a>(matches: &'m ArgMatches<'a>) -> Option<Request<'m, 'a>>
     ensures { option_map plan_of result ≡ import_in (rows_of (found_of matches.now)) }
 {
     let keep = is_given(matches, "keep");
-    names_in(matches, "FILE").map(|names| Request::Import(keep, names))
+    let names = names_in(matches, "FILE")?;
+    Some(Request::Import(keep, names))
 }
 
 /// What the arguments of `serve` ask for.
@@ -452,7 +468,8 @@ fn serve_in<'m, 'a>(matches: &'m ArgMatches<'a>) -> Option<Request<'m, 'a>>
     let workers = workers_in(matches)?;
     let bound = bound_in(matches)?;
     let memo = memo_size_in(matches)?;
-    names_in(matches, "FILE").map(|names| Request::Serve(workers, bound, memo, names))
+    let names = names_in(matches, "FILE")?;
+    Some(Request::Serve(workers, bound, memo, names))
 }
 
 /// What the arguments of a command ask for, by its name: of a command over lines of positions.
@@ -460,11 +477,11 @@ fn serve_in<'m, 'a>(matches: &'m ArgMatches<'a>) -> Option<Request<'m, 'a>>
 fn line_request_by<'m, 'a>(name: &str, matches: &'m ArgMatches<'a>) -> Option<Request<'m, 'a>>
     ensures { option_map plan_of result ≡ lines_asked_by name.now (rows_of (found_of matches.now)) }
 {
-    if name == "look --lines" {
+    if is_same(name, "look --lines") {
         look_lines_in(matches)
-    } else if name == "moves --lines" {
+    } else if is_same(name, "moves --lines") {
         lines_in(matches, LineView::Moves)
-    } else if name == "perft --lines" {
+    } else if is_same(name, "perft --lines") {
         perft_lines_in(matches)
     } else {
         None
@@ -476,13 +493,13 @@ fn line_request_by<'m, 'a>(name: &str, matches: &'m ArgMatches<'a>) -> Option<Re
 fn desk_request_by<'m, 'a>(name: &str, matches: &'m ArgMatches<'a>) -> Option<Request<'m, 'a>>
     ensures { option_map plan_of result ≡ desk_asked_by name.now (rows_of (found_of matches.now)) }
 {
-    if name == "serve" {
+    if is_same(name, "serve") {
         serve_in(matches)
-    } else if name == "replay" {
+    } else if is_same(name, "replay") {
         text_in(matches, "SCRIPT").map(Request::Replay)
-    } else if name == "explain" {
-        Some(Request::Explain(text_in(matches, "CODE")))
-    } else if name == "uci" {
+    } else if is_same(name, "explain") {
+        Some(Request::Explain(names_in(matches, "WORD")))
+    } else if is_same(name, "uci") {
         Some(Request::Uci)
     } else {
         line_request_by(name, matches)
@@ -494,15 +511,15 @@ fn desk_request_by<'m, 'a>(name: &str, matches: &'m ArgMatches<'a>) -> Option<Re
 fn record_request_by<'m, 'a>(name: &str, matches: &'m ArgMatches<'a>) -> Option<Request<'m, 'a>>
     ensures { option_map plan_of result ≡ records_asked_by name.now (rows_of (found_of matches.now)) }
 {
-    if name == "solve" {
+    if is_same(name, "solve") {
         solve_in(matches)
-    } else if name == "verify" {
+    } else if is_same(name, "verify") {
         verify_in(matches)
-    } else if name == "tree" {
+    } else if is_same(name, "tree") {
         tree_in(matches)
-    } else if name == "sheet" {
+    } else if is_same(name, "sheet") {
         sheet_in(matches)
-    } else if name == "import" {
+    } else if is_same(name, "import") {
         import_in(matches)
     } else {
         desk_request_by(name, matches)
@@ -514,13 +531,13 @@ fn record_request_by<'m, 'a>(name: &str, matches: &'m ArgMatches<'a>) -> Option<
 fn request_by<'m, 'a>(name: &str, matches: &'m ArgMatches<'a>) -> Option<Request<'m, 'a>>
     ensures { option_map plan_of result ≡ asked_by name.now (rows_of (found_of matches.now)) }
 {
-    if name == "look" {
+    if is_same(name, "look") {
         look_in(matches)
-    } else if name == "play" {
+    } else if is_same(name, "play") {
         play_in(matches)
-    } else if name == "moves" {
+    } else if is_same(name, "moves") {
         moves_in(matches)
-    } else if name == "perft" {
+    } else if is_same(name, "perft") {
         perft_in(matches)
     } else {
         record_request_by(name, matches)

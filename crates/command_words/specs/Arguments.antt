@@ -1,0 +1,62 @@
+-- What `clap` reads of the arguments of the commands.
+use Rattle.std.specs.Prelude.{Some, map, codes}
+use Rattle.clap.specs.Lexer.{usize_max}
+use Rattle.clap.specs.Words.{Rule}
+use Rattle.clap.specs.declared.builder.action.ArgAction.TheVariants.{SetTrue}
+use Rattle.clap.specs.declared.builder.value_parser.ValueParser.TheVariants as parser
+use Rattle.command_words.specs.ClapWords.{new_rule}
+use Rattle.command_words.specs.CommandLine.{bound_rule, depth_rule, files_rule, flag_rule, from_rule, limit_rule, memo_rule, most_lines_rule}
+use Rattle.command_words.specs.CommandLine.{progress_rule, shown_rule, solve_workers_rule, title_rule, wanted, words_rule, workers_rule}
+use Rattle.command_words.specs.declared.arguments.Argument.{Argument}
+use Rattle.command_words.specs.declared.arguments.Argument.TheVariants as argument
+use Rattle.command_words.specs.declared.arguments.Form.{Form}
+use Rattle.command_words.specs.declared.arguments.Form.TheVariants as form
+use Rattle.command_words.specs.declared.arguments.Row.{Row}
+
+-- an argument as the table has it, but for its form
+abbrev pub plain_rule : Row → Rule
+plain_rule row = record (new_rule row.id.now) { defaults = map (λ s. s.now) row.defaults.now; required = row.required }
+
+abbrev pub formed : Row → Form → Rule
+formed row form.Word = plain_rule row
+formed row (form.Words least) = record (plain_rule row) { range = Some (record { start_inclusive = least; end_inclusive = usize_max }) }
+formed row (form.Number least most) = record (plain_rule row) { parser = Some (parser.Signed least most) }
+formed row form.TextOption = record (plain_rule row) { long = Some row.long.now }
+formed row (form.NumberOption least most) = record (plain_rule row) { long = Some row.long.now; parser = Some (parser.Signed least most) }
+formed row form.Flag = record (plain_rule row) { long = Some row.id.now; action = Some SetTrue }
+
+-- an argument as the table has it
+unfoldable pub row_rule : Row → Rule
+row_rule row = formed row row.form
+
+-- what is read of an argument
+unfoldable pub argument_rule : Argument → Rule
+argument_rule argument.Fen = wanted (codes "FEN")
+argument_rule argument.Script = wanted (codes "SCRIPT")
+argument_rule argument.Depth = depth_rule
+argument_rule argument.Move = words_rule (codes "MOVE")
+argument_rule argument.Word = words_rule (codes "WORD")
+argument_rule argument.File = files_rule
+argument_rule argument.Positions = files_rule
+argument_rule argument.Bound = bound_rule
+argument_rule argument.Workers = workers_rule
+argument_rule argument.SolveWorkers = solve_workers_rule
+argument_rule argument.Memo = memo_rule (codes "65536")
+argument_rule argument.Memos = memo_rule (codes "16384")
+argument_rule argument.From = from_rule
+argument_rule argument.Limit = limit_rule
+argument_rule argument.Shown = shown_rule
+argument_rule argument.MostLines = most_lines_rule
+argument_rule argument.Title = title_rule
+argument_rule argument.Progress = progress_rule
+argument_rule argument.SetPlay = flag_rule (codes "set-play")
+argument_rule argument.Tries = flag_rule (codes "tries")
+argument_rule argument.Solutions = flag_rule (codes "solutions")
+argument_rule argument.Figurines = flag_rule (codes "figurines")
+argument_rule argument.Keep = flag_rule (codes "keep")
+argument_rule argument.Board = flag_rule (codes "board")
+argument_rule argument.Flip = flag_rule (codes "flip")
+argument_rule argument.Svg = flag_rule (codes "svg")
+argument_rule argument.Coordinates = flag_rule (codes "coordinates")
+argument_rule argument.Fens = flag_rule (codes "fen")
+argument_rule argument.Divide = flag_rule (codes "divide")

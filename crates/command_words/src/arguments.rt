@@ -1,0 +1,361 @@
+//! The arguments of the commands.
+
+ghost use Rattle.std.specs.Prelude.{◌≡◌};
+ghost use Rattle.command_words.specs.Arguments.{argument_rule, row_rule};
+
+use crate::help::{
+    ABOUT_BOARD, ABOUT_BOUND, ABOUT_COORDINATES, ABOUT_DEPTH, ABOUT_DIVIDE, ABOUT_FEN, ABOUT_FENS,
+    ABOUT_FIGURINES, ABOUT_FILE, ABOUT_FLIP, ABOUT_FROM, ABOUT_KEEP, ABOUT_LIMIT, ABOUT_MEMO,
+    ABOUT_MEMOS, ABOUT_MOST_LINES, ABOUT_MOVE, ABOUT_POSITIONS, ABOUT_PROGRESS, ABOUT_SCRIPT,
+    ABOUT_SET_PLAY, ABOUT_SHOWN, ABOUT_SOLUTIONS, ABOUT_SOLVE_WORKERS, ABOUT_SVG, ABOUT_TITLE,
+    ABOUT_TRIES, ABOUT_WORD, ABOUT_WORKERS,
+};
+
+/// The arguments of the commands.
+#[derive(Clone, Copy)]
+pub(crate) enum Argument {
+    Fen,
+    Script,
+    Depth,
+    Move,
+    Word,
+    File,
+    Positions,
+    Bound,
+    Workers,
+    SolveWorkers,
+    Memo,
+    Memos,
+    From,
+    Limit,
+    Shown,
+    MostLines,
+    Title,
+    Progress,
+    SetPlay,
+    Tries,
+    Solutions,
+    Figurines,
+    Keep,
+    Board,
+    Flip,
+    Svg,
+    Coordinates,
+    Fens,
+    Divide,
+}
+
+/// What is given as an argument.
+#[derive(Clone, Copy)]
+pub(crate) enum Form {
+    Word,
+    /// So many words or more.
+    Words(usize),
+    /// A number from one to another.
+    Number(i64, i64),
+    /// An option with a text.
+    TextOption,
+    /// An option with a number from one to another.
+    NumberOption(i64, i64),
+    /// An option with no value, whose name is its id.
+    Flag,
+}
+
+/// What `clap` is told of an argument.
+#[derive(Clone, Copy)]
+pub(crate) struct Row {
+    pub(crate) id: &'static str,
+    /// The name of an option with a value.
+    pub(crate) long: &'static str,
+    pub(crate) form: Form,
+    pub(crate) defaults: &'static [&'static str],
+    pub(crate) required: bool,
+    pub(crate) help: &'static str,
+}
+
+/// An argument that need not be given.
+const OPTIONAL: Row = Row {
+    id: "",
+    long: "",
+    form: Form::Word,
+    defaults: &[],
+    required: false,
+    help: "",
+};
+
+/// One that has to be given.
+const WANTED: Row = Row {
+    required: true,
+    ..OPTIONAL
+};
+
+const FLAG: Row = Row {
+    form: Form::Flag,
+    ..OPTIONAL
+};
+
+static FEN: Row = Row {
+    id: "FEN",
+    help: ABOUT_FEN,
+    ..WANTED
+};
+
+static SCRIPT: Row = Row {
+    id: "SCRIPT",
+    help: ABOUT_SCRIPT,
+    ..WANTED
+};
+
+/// The number of moves of `perft`, 0 to 6.
+static DEPTH: Row = Row {
+    id: "DEPTH",
+    form: Form::Number(0, 6),
+    help: ABOUT_DEPTH,
+    ..WANTED
+};
+
+/// No word, or one or more.
+const WORDS: Row = Row {
+    form: Form::Words(0),
+    ..OPTIONAL
+};
+
+static MOVE: Row = Row {
+    id: "MOVE",
+    help: ABOUT_MOVE,
+    ..WORDS
+};
+
+static WORD: Row = Row {
+    id: "WORD",
+    help: ABOUT_WORD,
+    ..WORDS
+};
+
+/// The names of files, one or more.
+const FILES: Row = Row {
+    id: "FILE",
+    form: Form::Words(1),
+    ..WANTED
+};
+
+static FILE: Row = Row {
+    help: ABOUT_FILE,
+    ..FILES
+};
+
+static POSITIONS: Row = Row {
+    help: ABOUT_POSITIONS,
+    ..FILES
+};
+
+/// The numbers of `--bound`.
+const BOUNDS: Form = Form::NumberOption(1, 15);
+
+/// The bound of problems that don't say theirs.
+static BOUND: Row = Row {
+    id: "B",
+    long: "bound",
+    form: BOUNDS,
+    defaults: &["3"],
+    help: ABOUT_BOUND,
+    ..OPTIONAL
+};
+
+/// A number of workers, 1 to 16.
+const COUNT: Row = Row {
+    id: "N",
+    long: "workers",
+    form: Form::NumberOption(1, 16),
+    ..OPTIONAL
+};
+
+/// The number of workers of `serve`.
+static WORKERS: Row = Row {
+    required: true,
+    help: ABOUT_WORKERS,
+    ..COUNT
+};
+
+static SOLVE_WORKERS: Row = Row {
+    defaults: &["1"],
+    help: ABOUT_SOLVE_WORKERS,
+    ..COUNT
+};
+
+/// A number of entries of a memo, 1 to 65,536.
+const ENTRIES: Row = Row {
+    id: "M",
+    long: "memo",
+    form: Form::NumberOption(1, 65_536),
+    ..OPTIONAL
+};
+
+static MEMO: Row = Row {
+    defaults: &["65536"],
+    help: ABOUT_MEMO,
+    ..ENTRIES
+};
+
+/// The memo of each worker of `serve`.
+static MEMOS: Row = Row {
+    defaults: &["16384"],
+    help: ABOUT_MEMOS,
+    ..ENTRIES
+};
+
+/// The number of the line that is the first to be answered, 1 to 1,000,000,000.
+static FROM: Row = Row {
+    id: "K",
+    long: "from",
+    form: Form::NumberOption(1, 1_000_000_000),
+    defaults: &["1"],
+    help: ABOUT_FROM,
+    ..OPTIONAL
+};
+
+/// How many seconds a record may take, 1 to 86,400.
+static LIMIT: Row = Row {
+    id: "S",
+    long: "limit",
+    form: Form::NumberOption(1, 86_400),
+    help: ABOUT_LIMIT,
+    ..OPTIONAL
+};
+
+/// How many of the attacker's moves are shown of a tree, 1 to 15.
+static SHOWN: Row = Row {
+    id: "D",
+    long: "moves",
+    form: Form::NumberOption(1, 15),
+    help: ABOUT_SHOWN,
+    ..OPTIONAL
+};
+
+/// How many lines of a tree there are at most, 1 to 1,000,000.
+static MOST_LINES: Row = Row {
+    id: "N",
+    long: "lines",
+    form: Form::NumberOption(1, 1_000_000),
+    help: ABOUT_MOST_LINES,
+    ..OPTIONAL
+};
+
+static TITLE: Row = Row {
+    id: "T",
+    long: "title",
+    form: Form::TextOption,
+    defaults: &["Chess problems"],
+    help: ABOUT_TITLE,
+    ..OPTIONAL
+};
+
+static PROGRESS: Row = Row {
+    id: "progress",
+    help: ABOUT_PROGRESS,
+    ..FLAG
+};
+
+static SET_PLAY: Row = Row {
+    id: "set-play",
+    help: ABOUT_SET_PLAY,
+    ..FLAG
+};
+
+static TRIES: Row = Row {
+    id: "tries",
+    help: ABOUT_TRIES,
+    ..FLAG
+};
+
+static SOLUTIONS: Row = Row {
+    id: "solutions",
+    help: ABOUT_SOLUTIONS,
+    ..FLAG
+};
+
+static FIGURINES: Row = Row {
+    id: "figurines",
+    help: ABOUT_FIGURINES,
+    ..FLAG
+};
+
+static KEEP: Row = Row {
+    id: "keep",
+    help: ABOUT_KEEP,
+    ..FLAG
+};
+
+static BOARD: Row = Row {
+    id: "board",
+    help: ABOUT_BOARD,
+    ..FLAG
+};
+
+static FLIP: Row = Row {
+    id: "flip",
+    help: ABOUT_FLIP,
+    ..FLAG
+};
+
+static SVG: Row = Row {
+    id: "svg",
+    help: ABOUT_SVG,
+    ..FLAG
+};
+
+static COORDINATES: Row = Row {
+    id: "coordinates",
+    help: ABOUT_COORDINATES,
+    ..FLAG
+};
+
+static FENS: Row = Row {
+    id: "fen",
+    help: ABOUT_FENS,
+    ..FLAG
+};
+
+static DIVIDE: Row = Row {
+    id: "divide",
+    help: ABOUT_DIVIDE,
+    ..FLAG
+};
+
+/// What `clap` is told of an argument.
+#[tactic(auto, unfolding(crate::proofs::Tables::rows_on_literals))]
+pub(crate) fn row_of(argument: Argument) -> &'static Row
+    ensures { row_rule result.now ≡ argument_rule argument }
+{
+    match argument {
+        Argument::Fen => &FEN,
+        Argument::Script => &SCRIPT,
+        Argument::Depth => &DEPTH,
+        Argument::Move => &MOVE,
+        Argument::Word => &WORD,
+        Argument::File => &FILE,
+        Argument::Positions => &POSITIONS,
+        Argument::Bound => &BOUND,
+        Argument::Workers => &WORKERS,
+        Argument::SolveWorkers => &SOLVE_WORKERS,
+        Argument::Memo => &MEMO,
+        Argument::Memos => &MEMOS,
+        Argument::From => &FROM,
+        Argument::Limit => &LIMIT,
+        Argument::Shown => &SHOWN,
+        Argument::MostLines => &MOST_LINES,
+        Argument::Title => &TITLE,
+        Argument::Progress => &PROGRESS,
+        Argument::SetPlay => &SET_PLAY,
+        Argument::Tries => &TRIES,
+        Argument::Solutions => &SOLUTIONS,
+        Argument::Figurines => &FIGURINES,
+        Argument::Keep => &KEEP,
+        Argument::Board => &BOARD,
+        Argument::Flip => &FLIP,
+        Argument::Svg => &SVG,
+        Argument::Coordinates => &COORDINATES,
+        Argument::Fens => &FENS,
+        Argument::Divide => &DIVIDE,
+    }
+}
