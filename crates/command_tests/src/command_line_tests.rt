@@ -20,16 +20,24 @@ fn misused_words_end_with_two(rt: HostRuntime) -> Result<(), Fail> {
         ("look", "required arguments were not provided"),
         ("look --", "required arguments were not provided"),
         ("look a b", "unexpected argument 'b'"),
-        ("look --flip a", "matedesk: --flip goes with --board"),
+        (
+            "look --flip a",
+            "matedesk: --flip goes with --board or --svg",
+        ),
+        ("look --svg --board a", "and these not with each other"),
+        (
+            "look --svg --board --flip a",
+            "and these not with each other",
+        ),
         ("look --board", "required arguments were not provided"),
         ("look --board --board a", "cannot be used multiple times"),
         ("look -- -abc d", "unexpected argument 'd'"),
         ("look --lines", "required arguments were not provided"),
-        ("look --flip --lines a", "unexpected argument '--flip'"),
         (
-            "look --lines --board --flip a",
-            "unexpected argument '--flip'",
+            "look --flip --lines a",
+            "matedesk: --flip goes with --board",
         ),
+        ("look --lines --svg a", "unexpected argument '--svg'"),
         ("look --lines --lines a", "unexpected argument '--lines'"),
         ("look a --lines", "unexpected argument '--lines'"),
         ("moves --lines", "required arguments were not provided"),
@@ -89,7 +97,7 @@ fn misused_words_end_with_two(rt: HostRuntime) -> Result<(), Fail> {
         ("serve --memo 1 a", "required arguments were not provided"),
         ("replay --memo 1 a", "unexpected argument '--memo'"),
         ("serve --workers 1 -abc", "unexpected argument '-a'"),
-        ("explain a b", "unexpected argument 'b'"),
+        ("explain --all", "unexpected argument '--all'"),
     ];
     for (line, text) in rows {
         let mut words = Vec::new(alloc);
@@ -149,7 +157,7 @@ fn help_and_version_go_to_out(rt: HostRuntime) -> Result<(), Fail> {
             "perft --lines -h",
             "Usage: matedesk perft --lines <DEPTH> <FILE>...",
         ),
-        ("explain -h", "Usage: matedesk explain [CODE]"),
+        ("explain -h", "Usage: matedesk explain [WORD]..."),
         (
             "solve --help",
             "7k/8/5K2/8/8/8/8/R7 w - - bm Kf7 Kg6; dm 2; pv Kg6 Kg8 Ra8#;",

@@ -25,9 +25,11 @@ A record is one line. Two may have run together, or a comment is long.
     assert_eq!(rt; without_example.out.as_slice(), text.as_bytes());
     for word in [
         "",
-        "opponentincheck",
-        "OpponentInCheck ",
-        "Fen OpponentInCheck",
+        " ",
+        "OpponentInChecks",
+        "Opponent In Check",
+        "OpponentInCheck.",
+        "FenOpponentInCheck",
     ] {
         let refused = run(&rt, &["explain", word], ALWAYS, ALWAYS)?;
         assert_eq!(rt; refused.status, 1, "{word}");
@@ -37,6 +39,51 @@ A record is one line. Two may have run together, or a comment is long.
             b"matedesk: NoSuchFault\n".as_slice(),
             "{word}"
         );
+    }
+    Ok(())
+}
+
+const CLOSED: &str = "Closed: a record is submitted behind `close`.
+A closed desk accepts no record; what it has accepted is answered.
+
+Example:
+desk 1 1 3
+close
+submit 0 7k/8/5K2/8/8/8/8/R7 w - - dm 2;
+
+Mended:
+desk 1 1 3
+submit 0 7k/8/5K2/8/8/8/8/R7 w - - dm 2;
+close
+";
+
+const SOUND: &str = "sound: none of the other verdicts applies.
+The record is as it claims to be: nothing is to be mended.
+";
+
+#[test]
+fn the_words_of_a_reply_are_explained(rt: HostRuntime) -> Result<(), Fail> {
+    let alloc = rt.alloc();
+    let both = format!(in alloc; "{SOUND}\n{CLOSED}")?;
+    let twice = format!(in alloc; "{CLOSED}\n{CLOSED}")?;
+    let rows = [
+        (["closed", "", ""], CLOSED),
+        (["CLOSED", "", ""], CLOSED),
+        (["refused", "Closed", ""], CLOSED),
+        (["refused Closed", "", ""], CLOSED),
+        (["  closed\t", "", ""], CLOSED),
+        (["12\tsound\t#2\t#2\tKf7\tKf7\tclosed.epd", "", ""], SOUND),
+        (["sound", "closed", ""], both.as_str()),
+        (["sound\nclosed\r\n", "", ""], both.as_str()),
+        (["sound 1, wrong.", "x", "closed"], both.as_str()),
+        (["Closed", "closed", ""], twice.as_str()),
+    ];
+    for (replies, text) in rows {
+        let [first, second, third] = replies;
+        let ended = run(&rt, &["explain", first, second, third], ALWAYS, ALWAYS)?;
+        assert_eq!(rt; ended.status, 0, "{first}");
+        assert_eq!(rt; ended.out.as_slice(), text.as_bytes(), "{first}");
+        assert_eq!(rt; ended.err.as_slice(), b"".as_slice(), "{first}");
     }
     Ok(())
 }
@@ -55,7 +102,7 @@ fn all_faults_are_listed(rt: HostRuntime) -> Result<(), Fail> {
             .iter()
             .filter(|byte| **byte == b'\n')
             .count(),
-        40
+        46
     );
     Ok(())
 }

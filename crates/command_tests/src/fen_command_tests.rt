@@ -136,6 +136,7 @@ fn a_hyphened_fen_stands_behind_options(rt: HostRuntime) -> Result<(), Fail> {
         ["moves", "--fen", "--board", ""],
         ["look", "--board", "--flip", "--"],
         ["look", "--board", "--flip", "-V"],
+        ["look", "--svg", "--flip", "-V"],
         ["perft", "--divide", "-abc", "1"],
         ["play", "-abc", "e4", "--help"],
     ];
@@ -211,6 +212,44 @@ fn a_board_is_seen_from_either_side(rt: HostRuntime) -> Result<(), Fail> {
         let want = format!(in alloc; "{fen}\nno check\n{board}Black to move\n")?;
         assert_eq!(rt; ended.status, 0);
         assert_eq!(rt; ended.out.as_slice(), want.as_bytes());
+    }
+    Ok(())
+}
+
+/// Whether the text holds the words.
+fn holds(text: &[u8], words: &str) -> bool {
+    match str::from_utf8(text) {
+        Ok(text) => text.contains(words),
+        Err(_) => false,
+    }
+}
+
+#[test]
+fn a_diagram_is_seen_from_either_side(rt: HostRuntime) -> Result<(), Fail> {
+    let fen = "7k/8/5K2/8/8/8/8/6R1 b - - 0 1";
+    let white = [
+        "abcdefgh</text>",
+        "87654321</text>",
+        "<use href=\"#R\" x=\"270\" y=\"315\"/><use href=\"#K\" x=\"225\" y=\"90\"/>",
+        "<use href=\"#k\" x=\"315\" y=\"0\"/><use href=\"#mark\"/></svg>",
+    ];
+    let black = [
+        "hgfedcba</text>",
+        "12345678</text>",
+        "<use href=\"#R\" x=\"45\" y=\"0\"/><use href=\"#K\" x=\"90\" y=\"225\"/>",
+        "<use href=\"#k\" x=\"0\" y=\"315\"/><use href=\"#mark\" y=\"348\"/></svg>",
+    ];
+    for (words, parts) in [
+        (["look", "--svg", fen, ""], white),
+        (["look", "--svg", "--flip", fen], black),
+        (["look", fen, "--flip", "--svg"], black),
+    ] {
+        let given = if words[3].is_empty() { 3 } else { 4 };
+        let ended = run(&rt, &words[..given], ALWAYS, ALWAYS)?;
+        assert_eq!(rt; ended.status, 0);
+        for part in parts {
+            assert!(rt; holds(ended.out.as_slice(), part), "{part}");
+        }
     }
     Ok(())
 }

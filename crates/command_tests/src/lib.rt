@@ -1,5 +1,5 @@
 //! Tests of the commands that start no thread, by the public calls of `plain_commands` and of the crates that it stands on. The files and
-//! writers that they use stand in `test_shelves`. What runs `serve` is tested in the program `matedesk`.
+//! writers that they use stand in `test_shelves`.
 #![tactic(auto)]
 
 #[cfg(test)]
@@ -18,3 +18,5 @@ mod script_tests;
 mod solve_tests;
 #[cfg(test)]
 mod test_shelves;
+#[cfg(test)]
+mod worked_tests;

@@ -37,6 +37,10 @@ fn each_line_is_answered_in_its_place(rt: HostRuntime) -> Result<(), Fail> {
         "7k/8/5K2/8/8/8/8/R7 w - - 0 1\nno check\n8  . . . . . . . k\n7  . . . . . . . .\n6  . . . . . K . .\n\
         5  . . . . . . . .\n4  . . . . . . . .\n3  . . . . . . . .\n2  . . . . . . . .\n1  R . . . . . . .\n   a b c d e f g h\n\
         White to move\n";
+    let turned =
+        "7k/8/5K2/8/8/8/8/R7 w - - 0 1\nno check\n1  . . . . . . . R\n2  . . . . . . . .\n3  . . . . . . . .\n\
+        4  . . . . . . . .\n5  . . . . . . . .\n6  . . K . . . . .\n7  . . . . . . . .\n8  k . . . . . . .\n   h g f e d c b a\n\
+        White to move\n";
     let rows = [
         ("look --lines lines", ALWAYS, 1, LOOKS),
         ("moves --lines lines", ALWAYS, 1, MOVES),
@@ -49,6 +53,10 @@ fn each_line_is_answered_in_its_place(rt: HostRuntime) -> Result<(), Fail> {
         ),
         ("look --board --lines one", ALWAYS, 0, board),
         ("look --lines --board one", ALWAYS, 0, board),
+        ("look --board --flip --lines one", ALWAYS, 0, turned),
+        ("look --flip --lines --board one", ALWAYS, 0, turned),
+        ("look --lines --flip --board one", ALWAYS, 0, turned),
+        ("look --lines --flip one", ALWAYS, 2, ""),
         ("perft --lines 2 start empty start", ALWAYS, 0, "400\n400\n"),
         (
             "moves --lines bad bad",

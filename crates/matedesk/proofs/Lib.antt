@@ -1,3 +1,2 @@
 mod ServedFiles
-mod Worked
 mod Uncounted

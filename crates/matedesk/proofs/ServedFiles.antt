@@ -155,6 +155,7 @@ in_vain holds refuses workers bound memo names old many = record {
   misused = λ is. (many, Keeps-refl old);
   no_memory = λ is. absurd (omega (arith, is));
   no_access = λ is. absurd (omega (arith, is));
+  in_part = λ is. absurd (omega (arith, is));
   bounded = omega arith;
 }
 
@@ -166,6 +167,7 @@ given_out holds refuses workers bound memo names old = record {
   misused = λ is. absurd (omega (arith, is));
   no_memory = λ is. Keeps-refl old;
   no_access = λ is. absurd (omega (arith, is));
+  in_part = λ is. absurd (omega (arith, is));
   bounded = omega arith;
 }
 

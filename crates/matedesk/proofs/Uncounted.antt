@@ -1,13 +1,15 @@
 -- What there is of a command that starts threads, where memory gives out before it does.
-use Rattle.std.proofs.Common.{◌≡◌, true, ℕ, List, [], Option, Some, None, Err, refl}
-use Rattle.std.specs.Bool.{⊤}
+use Rattle.std.proofs.Common.{◌≡◌, ◌<◌, ◌-◌, Bool, true, ℕ, zero, suc, List, [], Option, Some, None, Result, Ok, Err, IfOk, IfErr, refl, subst, arith}
 use Rattle.std.proofs.KnownBytes.{Appends-nil, Keeps-refl}
+use Rattle.byte_streams.specs.declared.stops.Stop.{Stop}
 use Rattle.byte_streams.specs.declared.stops.Stop.TheVariants as stop
 use Rattle.clap.specs.Words.{Text}
 use Rattle.command_words.specs.Asked.{Asked, look, board, svg, play, moves, perft, divide, lines, solve, solve_on, limited}
 use Rattle.command_words.specs.Asked.{verify, tree, sheet, imports, serve, replay, explain, uci, asks_threads}
-use Rattle.plain_commands.specs.Command.{Ends, EndsByStatus}
-use Rattle.plain_commands.specs.Solved.{LimitedNone, SolvesNone}
+use Rattle.plain_commands.specs.Command.{Ends, EndsByStatus, EndsInPart}
+use Rattle.plain_commands.specs.Status.{status_of}
+use Rattle.plain_commands.specs.Writing.{Gains}
+use Rattle.plain_commands.specs.Solved.{LimitedNone, SolvesLimited, SolvesNone, StopsLimited}
 
 -- Nothing is written, and the status is that of no memory.
 pub ends_uncounted : (holds : Text → Option (List ℕ)) (refuses : Text → Type 0) → EndsByStatus holds refuses → LimitedNone
@@ -36,7 +38,7 @@ ends_unstarted holds refuses ends none unsolved (Some uci) threads out = ends uc
 ends_unstarted holds refuses ends none unsolved None threads out = cc
 ends_unstarted holds refuses ends none unsolved (Some (look fen)) threads out = cc
 ends_unstarted holds refuses ends none unsolved (Some (board fen side)) threads out = cc
-ends_unstarted holds refuses ends none unsolved (Some (svg fen)) threads out = cc
+ends_unstarted holds refuses ends none unsolved (Some (svg fen side)) threads out = cc
 ends_unstarted holds refuses ends none unsolved (Some (play fen words)) threads out = cc
 ends_unstarted holds refuses ends none unsolved (Some (moves form fen)) threads out = cc
 ends_unstarted holds refuses ends none unsolved (Some (perft fen depth)) threads out = cc
@@ -48,4 +50,30 @@ ends_unstarted holds refuses ends none unsolved (Some (tree bound form from name
 ends_unstarted holds refuses ends none unsolved (Some (sheet bound memo form title names)) threads out = cc
 ends_unstarted holds refuses ends none unsolved (Some (imports keep names)) threads out = cc
 ends_unstarted holds refuses ends none unsolved (Some (replay name)) threads out = cc
-ends_unstarted holds refuses ends none unsolved (Some (explain code)) threads out = cc
+ends_unstarted holds refuses ends none unsolved (Some (explain words)) threads out = cc
+
+-- All is shown, whether or not some records were not decided, or it stopped.
+ends_in_time_by : (holds : Text → Option (List ℕ)) (refuses : Text → Type 0) → EndsByStatus holds refuses → EndsInPart holds refuses
+    → (seconds bound memo from : ℕ) (names : List Text) (ended : Result Bool Stop) (undecided status : ℕ) (old new : Option (List ℕ))
+    → IfOk ended (λ _. 0 < undecided → status ≡ 5) → (undecided ≡ 0 → status ≡ status_of ended) → IfErr ended (λ _. status ≡ status_of ended)
+    → IfOk ended (λ refused. Gains (SolvesLimited holds seconds bound from names refused undecided) old new)
+    → IfErr ended (λ stop. StopsLimited holds refuses seconds bound from names stop old new)
+    → Ends holds refuses (Some (limited seconds bound memo from names)) status old new
+ends_in_time_by holds refuses ends in_part seconds bound memo from names (Ok refused) zero status old new late decided stopped ok err =
+    ends (limited seconds bound memo from names) (Ok refused) status old new (decided refl) ok tt
+ends_in_time_by holds refuses ends in_part seconds bound memo from names (Ok refused) (suc n) status old new late decided stopped ok err =
+    rw (late (omega arith)) (in_part (limited seconds bound memo from names) old new (refused, suc n, omega arith, ok))
+ends_in_time_by holds refuses ends in_part seconds bound memo from names (Err stop) undecided status old new late decided stopped ok err =
+    ends (limited seconds bound memo from names) (Err stop) status old new stopped tt err
+
+pub ends_in_time : (holds : Text → Option (List ℕ)) (refuses : Text → Type 0) → EndsByStatus holds refuses → EndsInPart holds refuses
+    → (seconds bound memo from : ℕ) (names : List Text) (ended : Result Bool Stop) (before undecided status : ℕ) (old new : Option (List ℕ))
+    → before ≡ 0 → IfOk ended (λ _. 0 < undecided → status ≡ 5) → (undecided ≡ 0 → status ≡ status_of ended)
+    → IfErr ended (λ _. status ≡ status_of ended)
+    → IfOk ended (λ refused. Gains (SolvesLimited holds seconds bound from names refused (undecided - before)) old new)
+    → IfErr ended (λ stop. StopsLimited holds refuses seconds bound from names stop old new)
+    → Ends holds refuses (Some (limited seconds bound memo from names)) status old new
+ends_in_time holds refuses ends in_part seconds bound memo from names ended before undecided status old new none late decided stopped ok err =
+    let all : undecided - before ≡ undecided = omega (arith, none) in
+    ends_in_time_by holds refuses ends in_part seconds bound memo from names ended undecided status old new late decided stopped
+    (subst (λ n. IfOk ended (λ refused. Gains (SolvesLimited holds seconds bound from names refused n) old new)) all ok) err

@@ -1,8 +1,9 @@
 //! The command `solve --limit`.
 
-ghost use Rattle.std.specs.Prelude.{◌≡◌, IfErr, IfOk, Some, map};
+ghost use Rattle.std.specs.Prelude.{◌≡◌, ◌<◌, ◌-◌, IfErr, IfOk, Some, map};
 ghost use Rattle.command_words.specs.Asked.{limited as limited_asked};
 ghost use Rattle.plain_commands.specs.Command.{Ends};
+ghost use Rattle.plain_commands.specs.Status.{status_of};
 ghost use Rattle.plain_commands.specs.Solved.{SolvesLimited, StopsLimited};
 ghost use Rattle.plain_commands.specs.Writing.{Gains};
 
@@ -12,11 +13,12 @@ use byte_streams::Stop;
 use chess_moves::Rays;
 use chess_problems::{Outcome, Problem};
 use command_words::LimitedSolve;
-use mate_answers::Limited;
+use mate_answers::{Limited, LimitedMemory};
 use mate_search::{Guide, Solver, Stopped};
 use parallel_search::{ThreadMemory, solve_on_threads};
 use plain_commands::{
-    NO_THREAD, Source, complain, ends_by_status, limited_none, no_memory, solve_limited, status_of,
+    NO_THREAD, Source, complain, ends_by_status, ends_in_part, in_part, limited_none, no_memory,
+    solve_limited, status_of,
 };
 use std::alloc::{AllocError, Global};
 use std::io::Write;
@@ -97,19 +99,32 @@ fn unsolved<E: Write>(fault: Uncounted, err: &mut E) -> u8
     NO_THREAD
 }
 
-/// Answers each line of each file as `solve` does, but that a record which the limit stops before it is decided is answered so.
+/// The status of a command that ended so, and how many records were not decided then.
+fn status_in_time<E: Write>(ended: Result<bool, Stop>, undecided: usize, err: &mut E) -> u8
+    ensures in_part { IfOk ended (λ _. 0 < undecided → result ≡ 5) }
+    ensures decided { undecided ≡ 0 → result ≡ status_of ended }
+    ensures stopped { IfErr ended (λ _. result ≡ status_of ended) }
+{
+    match ended {
+        Ok(_) if undecided > 0 => in_part(err, undecided),
+        _ => status_of(ended, err),
+    }
+}
+
+/// Answers each line of each file as `solve` does, but that a record which the limit stops before it is decided is answered so, and counted.
 fn solve_until_stopped<R: Threads + Sync, S: Source, O: Write, E: Write>(
     rt: &R,
     alloc: Global,
     asked: &LimitedSolve,
     limit: &TickLimit,
-    memory: &mut ThreadMemory,
+    memory: &mut LimitedMemory<ThreadMemory>,
     source: &S,
     out: &mut O,
     err: &mut E,
 ) -> Result<bool, Stop>
     ensures ok { IfOk result (λ refused. Gains (SolvesLimited (S.holds source.now) asked.now.seconds asked.now.bound asked.now.files.from
-        (map (λ s. s.now) asked.now.files.names.now) refused) (O.contents out.old) (O.contents out.new)) }
+        (map (λ s. s.now) asked.now.files.names.now) refused (memory.new.undecided - memory.old.undecided))
+        (O.contents out.old) (O.contents out.new)) }
     ensures err { IfErr result (λ stop. StopsLimited (S.holds source.now) (S.refuses source.now) asked.now.seconds asked.now.bound
         asked.now.files.from (map (λ s. s.now) asked.now.files.names.now) stop (O.contents out.old) (O.contents out.new)) }
 {
@@ -134,24 +149,26 @@ fn solve_counted<
     rt: &R,
     alloc: Global,
     asked: &LimitedSolve,
-    memory: &mut ThreadMemory,
+    memory: &mut LimitedMemory<ThreadMemory>,
     source: &S,
     out: &mut O,
     err: &mut E,
 ) -> u8
+    requires none { memory.old.undecided ≡ 0 }
     ensures { Ends (S.holds source.now) (S.refuses source.now)
         (Some (limited_asked asked.now.seconds asked.now.bound asked.now.memo asked.now.files.from
         (map (λ s. s.now) asked.now.files.names.now))) result (O.contents out.old) (O.contents out.new) }
 {
     // How it ends with the status of what was written, and with nothing written.
     ends_by_status(source);
+    ends_in_part(source);
     limited_none();
     match start(rt, alloc, asked.seconds) {
         Ok(Counting { limit, thread }) => {
             let ended = solve_until_stopped(rt, alloc, asked, &*limit, memory, source, out, err);
             limit.end();
             thread.join(rt);
-            status_of(ended, err)
+            status_in_time(ended, memory.undecided, err)
         }
         Err(fault) => unsolved(fault, err),
     }
@@ -172,8 +189,12 @@ pub fn solve_in_time<
     // How it ends with nothing written.
     ends_by_status(source);
     limited_none();
-    let Ok(mut memory) = thread_memory(alloc, asked.workers, asked.memo) else {
+    let Ok(memory) = thread_memory(alloc, asked.workers, asked.memo) else {
         return no_memory(err);
+    };
+    let mut memory = LimitedMemory {
+        memory,
+        undecided: 0,
     };
     solve_counted(rt, alloc, asked, &mut memory, source, out, err)
 }

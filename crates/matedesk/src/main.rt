@@ -12,17 +12,11 @@ mod limiting;
 mod progress;
 mod progress_thread;
 mod said;
-#[cfg(test)]
-mod serve_tests;
 mod serving;
 mod sharing;
 mod talking;
-#[cfg(test)]
-mod test_shelves;
 mod tick_limit;
 mod watched_files;
-#[cfg(test)]
-mod worked_tests;
 
 use answering::command;
 use plain_commands::{FileSystem, MISUSED, complain, no_memory};

@@ -61,20 +61,29 @@ fn number_in(digits: &[u8]) -> u8 {
     number
 }
 
+/// What is said where there is no mate within so many moves: that this is the bound, or how long it took behind a comma.
+fn said_of_none(moves: &[u8]) -> Said {
+    if moves.contains(&b',') {
+        Said::Undecided
+    } else {
+        Said::NoMate
+    }
+}
+
 /// What an operation says, with the space before it.
 fn said_in(operation: &[u8]) -> Said {
     if let Some(digits) = operation.strip_prefix(b" dm ".as_slice()) {
         Said::Mate(number_in(digits))
-    } else if operation.starts_with(b" c0 \"no mate in ") {
-        Said::NoMate
-    } else if operation.starts_with(b" c0 \"not decided in ") {
+    } else if operation.starts_with(b" c0 \"not decided within ") {
         Said::Undecided
+    } else if let Some(moves) = operation.strip_prefix(b" c0 \"no mate in ".as_slice()) {
+        said_of_none(moves)
     } else {
         Said::Nothing
     }
 }
 
-/// What operations say: the number of moves where there is one, whatever a comment says.
+/// What operations say: that nothing was found in time, or the number of moves where there is one, whatever another comment says.
 fn said_by_operations(operations: &[u8]) -> Said {
     let mut rest = operations;
     let mut said = Said::Nothing;
@@ -84,6 +93,7 @@ fn said_by_operations(operations: &[u8]) -> Said {
         };
         match said_in(operation) {
             Said::Mate(moves) => return Said::Mate(moves),
+            Said::Undecided => return Said::Undecided,
             Said::Nothing => {}
             comment => said = comment,
         }

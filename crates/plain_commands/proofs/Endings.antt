@@ -14,7 +14,7 @@ use Rattle.plain_commands.specs.Verified.{VerifiesNone}
 use Rattle.plain_commands.specs.Told.{TellsNone}
 use Rattle.plain_commands.specs.PositionLines.{command_of}
 use Rattle.plain_commands.proofs.Unopened.{imports_at_once, limited_at_once, lines_at_once}
-use Rattle.plain_commands.specs.Command.{Ends, EndsByStatus, Shown, Stops, StopsBy}
+use Rattle.plain_commands.specs.Command.{Ends, EndsByStatus, EndsInPart, Shown, Stops, StopsBy}
 
 -- Where memory gives out at once, nothing is written.
 stops_unread : SolvesNone → VerifiesNone → TellsNone → (holds : Text → Option (List ℕ)) (refuses : Text → Type 0)
@@ -22,7 +22,7 @@ stops_unread : SolvesNone → VerifiesNone → TellsNone → (holds : Text → O
 stops_unread none unverified untold holds refuses None old new kept = kept
 stops_unread none unverified untold holds refuses (Some (look fen)) old new kept = kept
 stops_unread none unverified untold holds refuses (Some (board fen side)) old new kept = kept
-stops_unread none unverified untold holds refuses (Some (svg fen)) old new kept = kept
+stops_unread none unverified untold holds refuses (Some (svg fen side)) old new kept = kept
 stops_unread none unverified untold holds refuses (Some (play fen words)) old new kept = kept
 stops_unread none unverified untold holds refuses (Some (moves form fen)) old new kept = kept
 stops_unread none unverified untold holds refuses (Some (perft fen depth)) old new kept = kept
@@ -40,17 +40,18 @@ stops_unread none unverified untold holds refuses (Some (verify bound memo from 
 stops_unread none unverified untold holds refuses (Some (tree bound form from names)) old new kept =
     record { gained = []; shows = untold holds bound form from names; appends = Appends-kept old old new [] (Appends-nil old) kept }
 stops_unread none unverified untold holds refuses (Some (sheet bound memo form title names)) old new kept = kept
-stops_unread none unverified untold holds refuses (Some (imports keep names)) old new kept = imports_at_once holds refuses names old new kept
+stops_unread none unverified untold holds refuses (Some (imports keep names)) old new kept =
+    imports_at_once holds refuses keep names old new kept
 stops_unread none unverified untold holds refuses (Some (serve workers bound memo names)) old new kept = kept
 stops_unread none unverified untold holds refuses (Some (replay name)) old new kept = kept
-stops_unread none unverified untold holds refuses (Some (explain code)) old new kept = kept
+stops_unread none unverified untold holds refuses (Some (explain words)) old new kept = kept
 stops_unread none unverified untold holds refuses (Some uci) old new kept = tt
 
 no_reader : (holds : Text → Option (List ℕ)) (refuses : Text → Type 0) (a : Asked) (old new : Option (List ℕ))
     → Stops holds refuses a stop.NoReader old new → Stops holds refuses a stop.Unwritable old new
 no_reader holds refuses (look fen) old new stops = stops
 no_reader holds refuses (board fen side) old new stops = stops
-no_reader holds refuses (svg fen) old new stops = stops
+no_reader holds refuses (svg fen side) old new stops = stops
 no_reader holds refuses (play fen words) old new stops = stops
 no_reader holds refuses (moves form fen) old new stops = stops
 no_reader holds refuses (perft fen depth) old new stops = stops
@@ -65,7 +66,7 @@ no_reader holds refuses (sheet bound memo form title names) old new stops = stop
 no_reader holds refuses (imports keep names) old new stops = stops
 no_reader holds refuses (serve workers bound memo names) old new stops = stops
 no_reader holds refuses (replay name) old new stops = stops
-no_reader holds refuses (explain code) old new stops = stops
+no_reader holds refuses (explain words) old new stops = stops
 no_reader holds refuses uci old new stops = stops
 
 ends_here : (holds : Text → Option (List ℕ)) (refuses : Text → Type 0) (a : Asked) (r : Result Bool Stop)
@@ -77,6 +78,7 @@ ends_here holds refuses a (Ok false) old new ok err = record {
   misused = λ is. absurd (omega (arith, is));
   no_memory = λ is. absurd (omega (arith, is));
   no_access = λ is. absurd (omega (arith, is));
+  in_part = λ is. absurd (omega (arith, is));
   bounded = omega arith;
 }
 ends_here holds refuses a (Ok true) old new ok err = record {
@@ -85,6 +87,7 @@ ends_here holds refuses a (Ok true) old new ok err = record {
   misused = λ is. absurd (omega (arith, is));
   no_memory = λ is. absurd (omega (arith, is));
   no_access = λ is. absurd (omega (arith, is));
+  in_part = λ is. absurd (omega (arith, is));
   bounded = omega arith;
 }
 ends_here holds refuses a (Err stop.NoMemory) old new ok err = record {
@@ -93,6 +96,7 @@ ends_here holds refuses a (Err stop.NoMemory) old new ok err = record {
   misused = λ is. absurd (omega (arith, is));
   no_memory = λ is. err;
   no_access = λ is. absurd (omega (arith, is));
+  in_part = λ is. absurd (omega (arith, is));
   bounded = omega arith;
 }
 ends_here holds refuses a (Err stop.Unreadable) old new ok err = record {
@@ -101,6 +105,7 @@ ends_here holds refuses a (Err stop.Unreadable) old new ok err = record {
   misused = λ is. absurd (omega (arith, is));
   no_memory = λ is. absurd (omega (arith, is));
   no_access = λ is. inl err;
+  in_part = λ is. absurd (omega (arith, is));
   bounded = omega arith;
 }
 ends_here holds refuses a (Err stop.Unwritable) old new ok err = record {
@@ -109,6 +114,7 @@ ends_here holds refuses a (Err stop.Unwritable) old new ok err = record {
   misused = λ is. absurd (omega (arith, is));
   no_memory = λ is. absurd (omega (arith, is));
   no_access = λ is. inr err;
+  in_part = λ is. absurd (omega (arith, is));
   bounded = omega arith;
 }
 ends_here holds refuses a (Err stop.NoReader) old new ok err = record {
@@ -117,6 +123,7 @@ ends_here holds refuses a (Err stop.NoReader) old new ok err = record {
   misused = λ is. absurd (omega (arith, is));
   no_memory = λ is. absurd (omega (arith, is));
   no_access = λ is. inr (no_reader holds refuses a old new err);
+  in_part = λ is. absurd (omega (arith, is));
   bounded = omega arith;
 }
 
@@ -130,6 +137,18 @@ ends_by holds refuses a r status old new is ok err =
 pub ends_by_status : (holds : Text → Option (List ℕ)) (refuses : Text → Type 0) → EndsByStatus holds refuses
 ends_by_status holds refuses = ends_by holds refuses
 
+-- Where some records were not decided.
+pub ends_in_part : (holds : Text → Option (List ℕ)) (refuses : Text → Type 0) → EndsInPart holds refuses
+ends_in_part holds refuses a old new shown = record {
+  answered = λ is. absurd (omega (arith, is));
+  refused = λ is. absurd (omega (arith, is));
+  misused = λ is. absurd (omega (arith, is));
+  no_memory = λ is. absurd (omega (arith, is));
+  no_access = λ is. absurd (omega (arith, is));
+  in_part = λ is. shown;
+  bounded = omega arith;
+}
+
 -- The words ask for nothing, or memory gave out before that was known.
 pub ends_unasked : SolvesNone → VerifiesNone → TellsNone → (holds : Text → Option (List ℕ)) (refuses : Text → Type 0)
     (asks : Option Asked) (status : ℕ) (old new : Option (List ℕ)) → status ≢ 1 → status ≤ 4
@@ -140,5 +159,6 @@ ends_unasked none unverified untold holds refuses asks status old new not_refuse
   misused = λ is. (rw (unasked (λ other. absurd (omega (arith, is, other)))) tt, kept (inl is));
   no_memory = λ is. stops_unread none unverified untold holds refuses asks old new (kept (inr is));
   no_access = λ is. rw (unasked (λ other. absurd (omega (arith, is, other)))) tt;
-  bounded = within;
+  in_part = λ is. absurd (omega (arith, is, within));
+  bounded = omega (arith, within);
 }

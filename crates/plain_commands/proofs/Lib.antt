@@ -7,10 +7,4 @@ mod AnsweredFiles
 mod Unopened
 mod VerifiedFiles
 mod WrittenOutputs
-mod Cuts
-mod DeskLaws
-mod NumberLaws
-mod OneScript
-mod ScriptLaws
-mod StepLaws
 mod Endings

@@ -114,15 +114,15 @@ lines_at_once holds refuses command names old new kept =
       appends = Appends-kept old old new [] (Appends-nil old) kept;
     }
 
-pub no_import : (from : ℕ) (name input : List ℕ) → first_import_replies from name input []
+pub no_import : (keep : Bool) (from : ℕ) (name input : List ℕ) → first_import_replies keep from name input []
 unfolding IsImportOfFirst IsReplyToFirstBy
-no_import from name input = ([], [], false, (0, 0, (refl, refl)), nothing_imported, refl)
+no_import keep from name input = ([], [], false, (0, 0, (refl, refl)), nothing_imported, refl)
 
-pub imports_at_once : (holds : List ℕ → Option (List ℕ)) (refuses : List ℕ → Type 0) (names : List (List ℕ))
+pub imports_at_once : (holds : List ℕ → Option (List ℕ)) (refuses : List ℕ → Type 0) (keep : Bool) (names : List (List ℕ))
     (old new : Option (List ℕ)) → Keeps old new
-    → StopsImporting holds refuses names stop.NoMemory old new
-imports_at_once holds refuses names old new kept =
-    record { gained = []; shows = answers_none holds _ _ 1 names no_import; appends = Appends-kept old old new [] (Appends-nil old) kept }
+    → StopsImporting holds refuses keep names stop.NoMemory old new
+imports_at_once holds refuses keep names old new kept =
+    record { gained = []; shows = answers_none holds _ _ 1 names (no_import keep); appends = Appends-kept old old new [] (Appends-nil old) kept }
 
 pub no_tree_reply : (form : TreeForm) (bound from : ℕ) (name input : List ℕ) → first_tree_replies form bound from name input []
 no_tree_reply form bound from name input = no_reply_on _ from input

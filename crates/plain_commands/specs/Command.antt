@@ -1,5 +1,5 @@
 -- How a command ends, and the program with it.
-use Rattle.std.specs.Prelude.{◌≡◌, ◌≤◌, ◌⊎◌, ℕ, Bool, List, Option, None, Some, Result, IfErr, IfOk, IfSome, IsSomeAnd, true, false, ⊤}
+use Rattle.std.specs.Prelude.{◌≡◌, ◌<◌, ◌≤◌, ◌⊎◌, ℕ, Bool, List, Option, None, Some, Result, IfErr, IfOk, IfSome, IsSomeAnd, true, false, ⊤}
 use Rattle.std.specs.Io.KnownBytes.{Keeps}
 use Rattle.clap.specs.Words.{Text}
 use Rattle.byte_streams.specs.declared.stops.Stop.{Stop}
@@ -13,7 +13,7 @@ use Rattle.chess_views.specs.Looks.{look_board_text, look_text}
 use Rattle.command_words.specs.Asked.{Asked, look, board, svg, play, moves, perft, divide, lines, solve, solve_on}
 use Rattle.command_words.specs.Asked.{limited, verify, tree, sheet, imports, serve, replay, explain, uci}
 use Rattle.problem_sheets.specs.Diagrams.{svg_of}
-use Rattle.plain_commands.specs.Explained.{Explains}
+use Rattle.fault_explanations.specs.Explained.{Explains}
 use Rattle.plain_commands.specs.FenCommands.{ShowsFen, columns_of}
 use Rattle.plain_commands.specs.Played.{ShowsPlay}
 use Rattle.plain_commands.specs.PositionLines.{ShowsLines, StopsLines, command_of}
@@ -30,7 +30,7 @@ use Rattle.plain_commands.specs.Served.{HaveNoWindows, Serves}
 abbrev pub Shows : (Text → Option (List ℕ)) → Asked → Bool → List ℕ → Type 0
 Shows holds (look fen) refused text = ShowsFen look_text fen refused text
 Shows holds (board fen side) refused text = ShowsFen (look_board_text side) fen refused text
-Shows holds (svg fen) refused text = ShowsFen svg_of fen refused text
+Shows holds (svg fen side) refused text = ShowsFen (svg_of side) fen refused text
 Shows holds (play fen words) refused text = ShowsPlay fen words refused text
 Shows holds (moves form fen) refused text = ShowsFen (moves_text (columns_of form)) fen refused text
 Shows holds (perft fen depth) refused text = ShowsFen (perft_text depth) fen refused text
@@ -38,20 +38,26 @@ Shows holds (divide fen depth) refused text = ShowsFen (divided_text depth) fen 
 Shows holds (lines view names) refused text = ShowsLines holds (command_of view) names refused text
 Shows holds (solve bound memo from names) refused text = Solves holds bound from names refused text
 Shows holds (solve_on workers bound memo from names) refused text = Solves holds bound from names refused text
-Shows holds (limited seconds bound memo from names) refused text = SolvesLimited holds seconds bound from names refused text
+Shows holds (limited seconds bound memo from names) refused text = SolvesLimited holds seconds bound from names refused 0 text
 Shows holds (verify bound memo from names) refused text = Verifies holds bound from names refused text
 Shows holds (tree bound form from names) refused text = Tells holds bound form from names refused text
 Shows holds (sheet bound memo form title names) refused text = Sheets holds bound form title names refused text
-Shows holds (imports keep names) refused text = ImportsFiles holds names refused text
+Shows holds (imports keep names) refused text = ImportsFiles holds keep names refused text
 Shows holds (serve workers bound memo names) refused text = Serves holds bound names refused text
 Shows holds (replay name) refused text = ReplaysFile (holds name) refused text
-Shows holds (explain code) refused text = Explains code refused text
+Shows holds (explain words) refused text = Explains words refused text
 Shows holds uci refused text = ⊤
 
 -- The output gained what a command shows. What `uci` writes isn't told, and it refuses nothing.
 abbrev pub Shown : (Text → Option (List ℕ)) → Asked → Bool → (old new : Option (List ℕ)) → Type 0
 Shown holds uci refused old new = refused ≡ false
 Shown holds asks refused old new = Gains (Shows holds asks refused) old new
+
+-- The output gained what `solve --limit` shows where some records were not decided, and whether or not a line is refused.
+abbrev pub ShownInPart : (Text → Option (List ℕ)) → Asked → (old new : Option (List ℕ)) → Type 0
+ShownInPart holds (limited seconds bound memo from names) old new =
+    (refused : Bool) × (undecided : ℕ) × (0 < undecided) × Gains (SolvesLimited holds seconds bound from names refused undecided) old new
+ShownInPart holds asks old new = ⊥
 
 -- What the output gained where `serve` stops: nothing where memory gives out, no thread is to be had or a file can't be read, which
 -- may be refused; and where a write breaks off, a first part of the replies to all files.
@@ -69,7 +75,7 @@ Stops holds refuses (limited seconds bound memo from names) stop old new = Stops
 Stops holds refuses (verify bound memo from names) stop old new = StopsVerifying holds refuses bound from names stop old new
 Stops holds refuses (tree bound form from names) stop old new = StopsTelling holds refuses bound form from names stop old new
 Stops holds refuses (sheet bound memo form title names) stop old new = StopsSheet holds refuses bound form title names stop old new
-Stops holds refuses (imports keep names) stop old new = StopsImporting holds refuses names stop old new
+Stops holds refuses (imports keep names) stop old new = StopsImporting holds refuses keep names stop old new
 Stops holds refuses (serve workers bound memo names) stop old new = StopsServing holds refuses bound names stop old new
 Stops holds refuses (replay name) stop old new = StopsReplaying (holds name) (refuses name) stop old new
 Stops holds refuses uci stop old new = ⊤
@@ -100,10 +106,16 @@ pub record Ends (holds : Text → Option (List ℕ)) (refuses : Text → Type 0)
   pub no_memory : status ≡ 3 → StopsBy holds refuses asks NoMemory old new
   -- 4: a file can't be read, or the output can't be written
   pub no_access : status ≡ 4 → IfSome asks (λ a. Stops holds refuses a Unreadable old new ⊎ Stops holds refuses a Unwritable old new)
-  pub bounded : status ≤ 4
+  -- 5: all lines are answered, and some records were not decided in time
+  pub in_part : status ≡ 5 → IsSomeAnd asks (λ a. ShownInPart holds a old new)
+  pub bounded : status ≤ 5
 
 -- Whatever a command has shown, or where it stopped, with the status of that it ends so.
 abbrev pub EndsByStatus : (Text → Option (List ℕ)) → (Text → Type 0) → Type 0
 EndsByStatus holds refuses = (a : Asked) (r : Result Bool Stop) (status : ℕ) (old new : Option (List ℕ)) → status ≡ status_of r
     → IfOk r (λ refused. Shown holds a refused old new) → IfErr r (λ stop. Stops holds refuses a stop old new)
     → Ends holds refuses (Some a) status old new
+
+-- Where some records were not decided, it ends so.
+abbrev pub EndsInPart : (Text → Option (List ℕ)) → (Text → Type 0) → Type 0
+EndsInPart holds refuses = (a : Asked) (old new : Option (List ℕ)) → ShownInPart holds a old new → Ends holds refuses (Some a) 5 old new

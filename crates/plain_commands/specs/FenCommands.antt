@@ -25,7 +25,7 @@ columns_of SanCoordinatesFen = column.SanCoordinatesFen
 abbrev pub shown_text : FenCommand → FenValue → List ℕ
 shown_text Look v = look_text v
 shown_text (Board side) v = look_board_text side v
-shown_text Svg v = svg_of v
+shown_text (Svg side) v = svg_of side v
 shown_text (Moves form) v = moves_text (columns_of form) v
 shown_text MovesLine v = moves_line v
 shown_text (Perft depth) v = perft_text depth v

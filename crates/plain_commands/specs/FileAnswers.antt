@@ -23,6 +23,21 @@ AreReplies Replies from (name ∷ names) (input ∷ inputs) text refusals = (her
     × Replies from name input here count × AreReplies Replies 1 names inputs more others × (text ≡ here ++ more) × (refusals ≡ count + others)
 AreReplies Replies from _ _ text refusals = ⊥
 
+-- The same, and how many marks the replies have.
+abbrev pub FileTold : Type 1
+FileTold = ℕ → List ℕ → List ℕ → List ℕ → ℕ → ℕ → Type 0
+
+-- what has no marks, or none that anybody counts
+abbrev pub unmarked : FileReplies → FileTold
+unmarked Replies from name input text refusals marks = Replies from name input text refusals
+
+abbrev pub AreTold : FileTold → ℕ → (names inputs : List (List ℕ)) → List ℕ → (refusals marks : ℕ) → Type 0
+AreTold Told from [] [] text refusals marks = (text ≡ []) × (refusals ≡ 0) × (marks ≡ 0)
+AreTold Told from (name ∷ names) (input ∷ inputs) text refusals marks = (here : List ℕ) × (count : ℕ) × (few : ℕ) × (more : List ℕ) × (others : ℕ)
+    × (rest : ℕ) × Told from name input here count few × AreTold Told 1 names inputs more others rest
+    × (text ≡ here ++ more) × (refusals ≡ count + others) × (marks ≡ few + rest)
+AreTold Told from _ _ text refusals marks = ⊥
+
 -- The replies to what the names hold, and whether a line of it is refused.
 pub record Answers (holds : List ℕ → Option (List ℕ)) (Replies : FileReplies) (from : ℕ) (names : List (List ℕ))
     (refused : Bool) (gained : List ℕ) : Type 0 where
@@ -30,6 +45,15 @@ pub record Answers (holds : List ℕ → Option (List ℕ)) (Replies : FileRepli
   pub refusals : ℕ
   pub given : Holds holds names inputs
   pub are_replies : AreReplies Replies from names inputs gained refusals
+  pub refusal : refused ≡ nat_lt 0 refusals
+
+-- The same, and how many marks the replies have.
+pub record AnswersTold (holds : List ℕ → Option (List ℕ)) (Told : FileTold) (from : ℕ) (names : List (List ℕ))
+    (refused : Bool) (marks : ℕ) (gained : List ℕ) : Type 0 where
+  pub inputs : List (List ℕ)
+  pub refusals : ℕ
+  pub given : Holds holds names inputs
+  pub are_told : AreTold Told from names inputs gained refusals marks
   pub refusal : refused ≡ nat_lt 0 refusals
 
 -- the number of the line from which on a file is answered that stands behind such inputs

@@ -10,10 +10,8 @@ pub mod Solved
 pub mod Verified
 pub mod Told
 pub mod Imported
-pub mod Scripts
 pub mod Replayed
 pub mod inside
 pub mod Served
 pub mod Sheeted
-pub mod Explained
 pub mod Command

@@ -1,7 +1,6 @@
 -- What `look`, `moves` and `perft` show of lines of positions.
 use Rattle.std.specs.Prelude.{ℕ, Bool, List, Option}
 use Rattle.byte_streams.specs.declared.stops.Stop.{Stop}
-use Rattle.chess_board.specs.declared.men.Colour.TheVariants.{White}
 use Rattle.text_lines.specs.Replies.{IsReply, IsReplyToFirst}
 use Rattle.position_lines.specs.PositionReplies.{IsPositionReply}
 use Rattle.command_words.specs.declared.request.LineView.{LineView}
@@ -14,7 +13,7 @@ use Rattle.plain_commands.specs.FileAnswers.{Answers, StopsAnswering}
 -- the command over a FEN whose text answers a line
 abbrev pub command_of : LineView → FenCommand
 command_of asks.Look = Look
-command_of asks.Board = Board White
+command_of (asks.Board side) = Board side
 command_of asks.Moves = MovesLine
 command_of (asks.Perft depth) = Perft depth
 

@@ -12,7 +12,7 @@ use Rattle.mate_desk.specs.declared.steps_and_replies.Step.{Step}
 use Rattle.byte_streams.specs.Inputs.{MayBe}
 use Rattle.byte_streams.specs.declared.stops.Stop.{Stop}
 use Rattle.byte_streams.specs.declared.stops.Stop.TheVariants.{NoMemory, Unreadable, Unwritable, NoReader}
-use Rattle.plain_commands.specs.Scripts.{IsFirstFault, IsScript, ScriptValue, step_value}
+use Rattle.desk_scripts.specs.Scripts.{IsFirstFault, IsScript, ScriptValue, step_value}
 use Rattle.chess_views.specs.Lines.{line}
 use Rattle.plain_commands.specs.Writing.{GainsPart}
 

@@ -1,9 +1,9 @@
 -- What `solve` shows.
 use Rattle.std.specs.Prelude.{ℕ, Bool, List, [], Option, ⊤}
 use Rattle.mate_answers.specs.InputReplies.{IsLineReply}
-use Rattle.mate_answers.specs.LimitedReplies.{IsLimitedReply}
+use Rattle.mate_answers.specs.LimitedReplies.{IsLateReply, IsLimitedReply}
 use Rattle.byte_streams.specs.declared.stops.Stop.{Stop}
-use Rattle.plain_commands.specs.FileAnswers.{Answers, AnswersFirst, StopsAnswering}
+use Rattle.plain_commands.specs.FileAnswers.{Answers, AnswersFirst, AnswersTold, StopsAnswering}
 use Rattle.plain_commands.specs.LinesFrom.{IsReplyOn, IsReplyToFirstOn}
 
 -- What records are answered where they ask for no bound but this, whatever their file is called.
@@ -26,11 +26,18 @@ StopsSolving holds refuses bound from names stop old new =
 abbrev pub limited_replies : ℕ → ℕ → ℕ → List ℕ → List ℕ → List ℕ → ℕ → Type 0
 limited_replies seconds bound from name input text refusals = IsReplyOn (IsLimitedReply seconds bound) from input text refusals
 
+-- The same, and how many records were not decided.
+abbrev pub limited_told : ℕ → ℕ → ℕ → List ℕ → List ℕ → List ℕ → (refusals undecided : ℕ) → Type 0
+limited_told seconds bound from name input text refusals undecided =
+    limited_replies seconds bound from name input text refusals × IsReplyOn (IsLateReply seconds bound) from input text undecided
+
 abbrev pub first_limited_replies : ℕ → ℕ → ℕ → List ℕ → List ℕ → List ℕ → Type 0
 first_limited_replies seconds bound from name input text = IsReplyToFirstOn (IsLimitedReply seconds bound) from input text
 
-abbrev pub SolvesLimited : (List ℕ → Option (List ℕ)) → (seconds bound from : ℕ) → List (List ℕ) → Bool → List ℕ → Type 0
-SolvesLimited holds seconds bound from names refused gained = Answers holds (limited_replies seconds bound) from names refused gained
+-- The replies to what the names hold, whether a line of it is refused, and how many records were not decided.
+abbrev pub SolvesLimited : (List ℕ → Option (List ℕ)) → (seconds bound from : ℕ) → List (List ℕ) → Bool → ℕ → List ℕ → Type 0
+SolvesLimited holds seconds bound from names refused undecided gained =
+    AnswersTold holds (limited_told seconds bound) from names refused undecided gained
 
 abbrev pub StopsLimited : (List ℕ → Option (List ℕ)) → (List ℕ → Type 0) → (seconds bound from : ℕ) → List (List ℕ) → Stop
     → (old new : Option (List ℕ)) → Type 0

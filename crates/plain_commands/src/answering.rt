@@ -5,9 +5,9 @@ ghost use Rattle.std.specs.String.{string_bytes};
 ghost use Rattle.clap.specs.Words.{kind_of};
 ghost use Rattle.command_words.specs.Asked.{asked, asks_display, asks_threads, is_display, is_threaded, may_display};
 ghost use Rattle.command_words.specs.Request.{plan_of};
-ghost use Rattle.plain_commands.specs.Command.{Ends, EndsByStatus, Shown, Stops};
+ghost use Rattle.plain_commands.specs.Command.{Ends, EndsByStatus, EndsInPart, Shown, Stops};
 
-use crate::explaining::explain;
+use crate::explaining::explain_given;
 use crate::fen_commands::{FenCommand, show_fen};
 use crate::importing::import;
 use crate::playing::play_given;
@@ -53,7 +53,7 @@ fn answer<S: Source, O: Write, E: Write>(
     match request {
         Request::Look(fen) => show_fen(alloc, FenCommand::Look, fen, out, err),
         Request::Board(fen, side) => show_fen(alloc, FenCommand::Board(*side), fen, out, err),
-        Request::Svg(fen) => show_fen(alloc, FenCommand::Svg, fen, out, err),
+        Request::Svg(fen, side) => show_fen(alloc, FenCommand::Svg(*side), fen, out, err),
         Request::Play(fen, moves) => play_given(alloc, fen, *moves, out, err),
         Request::Moves(form, fen) => show_fen(alloc, FenCommand::Moves(*form), fen, out, err),
         Request::Perft(fen, depth) => show_fen(alloc, FenCommand::Perft(*depth), fen, out, err),
@@ -80,12 +80,12 @@ fn answer<S: Source, O: Write, E: Write>(
             unreachable!()
         }
         Request::Replay(name) => replay(alloc, name, source, out, err),
-        Request::Explain(code) => explain(alloc, *code, out, err),
+        Request::Explain(words) => explain_given(alloc, *words, out, err),
     }
 }
 
 /// Answers what the words ask for, unless that starts threads. Matches that ask for nothing are a misuse like any other: `clap` takes `--flip`
-/// alone.
+/// alone, and `--board` beside `--svg`.
 fn run<S: Source, O: Write, E: Write>(
     alloc: Global,
     request: &Option<Request>,
@@ -101,7 +101,10 @@ fn run<S: Source, O: Write, E: Write>(
     ensures kept { IfNone result ((out.new ≡ out.old) × (err.new ≡ err.old)) }
 {
     let Some(request) = request else {
-        complain(err, "--flip goes with --board");
+        complain(
+            err,
+            "--flip goes with --board or --svg, and these not with each other",
+        );
         return Some(MISUSED);
     };
     if is_threaded(request) {
@@ -177,6 +180,12 @@ pub fn plain_command<S: Source, O: Write, E: Write>(
         Err(error) => Some(usage(&error, out, err)),
     }
 }
+
+/// How a `solve --limit` has ended that showed all, of which some records were not decided. It does nothing: its contract is the law.
+#[tactic(auto, using(crate::proofs::Endings::ends_in_part))]
+pub fn ends_in_part<S: Source>(source: &S)
+    ensures { EndsInPart (S.holds source.now) (S.refuses source.now) }
+{}
 
 /// How a command that ended with a status of `status_of` has ended. It does nothing: its contract is the law.
 pub fn ends_by_status<S: Source>(source: &S)

@@ -26,8 +26,8 @@ pub enum FenCommand {
     Look,
     /// The same, with the board as it is seen from a side.
     Board(Colour),
-    /// The board as an image.
-    Svg,
+    /// The board as it is seen from a side, as an image.
+    Svg(Colour),
     /// The legal moves in such a form, or how the game has ended where there is none.
     Moves(MoveForm),
     /// The same in SAN on one line.
@@ -76,7 +76,7 @@ pub(crate) fn shown_text(
     match command {
         FenCommand::Look => look_text(alloc, fen),
         FenCommand::Board(side) => look_board_text(alloc, fen, side),
-        FenCommand::Svg => svg_text(alloc, &fen.position),
+        FenCommand::Svg(side) => svg_text(alloc, &fen.position, side),
         FenCommand::Moves(form) => moves_text(alloc, rays, fen, columns_of(form)),
         FenCommand::MovesLine => moves_line(alloc, rays, fen),
         FenCommand::Perft(depth) => perft_text(alloc, rays, fen, depth.get()),

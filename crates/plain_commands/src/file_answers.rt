@@ -1,11 +1,11 @@
 //! Files that are answered line by line, one after the other.
 
-ghost use Rattle.std.specs.Prelude.{◌≡◌, ◌≤◌, ℕ, List, [], IfErr, IfOk, map, nat_lt};
+ghost use Rattle.std.specs.Prelude.{◌≡◌, ◌≤◌, ◌-◌, ℕ, List, [], IfErr, IfOk, map, nat_lt};
 ghost use Rattle.std.specs.Io.KnownBytes.{Appends};
 ghost use Rattle.byte_streams.specs.Inputs.{MayBe};
 ghost use Rattle.byte_streams.specs.Stops.{AppendsBy};
 ghost use Rattle.plain_commands.specs.Writing.{Gains};
-ghost use Rattle.plain_commands.specs.FileAnswers.{Answers, FileReplies, FirstReplies, StopsAnswering};
+ghost use Rattle.plain_commands.specs.FileAnswers.{Answers, AnswersTold, FileReplies, FileTold, FirstReplies, StopsAnswering};
 
 use crate::sources::{Source, holds_reads};
 use crate::writing::complain_unreadable;
@@ -33,6 +33,15 @@ pub(crate) trait FileAnswers {
     /// What the file of a name with such an input is answered from the line of a number on, and how many of its lines are refused.
     ghost replies: { Self → FileReplies };
 
+    /// The same, and how many marks that is: what is counted beside refusals, where anything is.
+    ghost told: { Self → FileTold };
+
+    /// How many marks there were so far.
+    ghost tally: { Self.Memory → ℕ } = { λ _. 0 };
+
+    ghost tells: { (answers : Self) (from : ℕ) (name input text : List ℕ) (refusals marks : ℕ)
+        → told answers from name input text refusals marks → replies answers from name input text refusals };
+
     /// What some of the first lines of it are answered.
     ghost first: { Self → FirstReplies };
 
@@ -47,8 +56,9 @@ pub(crate) trait FileAnswers {
     ) -> Result<usize, Stop>
         requires ready { ready self.now }
         ensures ok { IfOk result (λ count. (bytes : List ℕ) × (text : List ℕ) × MayBe (I.left input) bytes
-            × replies self.now start.now.from start.now.name.now bytes text count
+            × told self.now start.now.from start.now.name.now bytes text count (tally memory.new - tally memory.old)
             × Appends (O.contents out.old) (O.contents out.new) text) }
+        ensures grows { IfOk result (λ _. tally memory.old ≤ tally memory.new) }
         ensures err { IfErr result (λ stop. (bytes : List ℕ) × (text : List ℕ) × MayBe (I.left input) bytes
             × first self.now start.now.from start.now.name.now bytes text
             × AppendsBy stop (O.contents out.old) (O.contents out.new) text) }
@@ -69,8 +79,9 @@ fn answer_file<A: FileAnswers, S: Source, O: Write>(
 ) -> Result<usize, Stop>
     requires ready { A.ready answers.now }
     ensures ok { IfOk result (λ count. (input : List ℕ) × (text : List ℕ) × MayBe (S.holds start.now.source.now start.now.name.now) input
-        × A.replies answers.now start.now.from start.now.name.now input text count
+        × A.told answers.now start.now.from start.now.name.now input text count (A.tally memory.new - A.tally memory.old)
         × Appends (O.contents out.old) (O.contents out.new) text) }
+    ensures grows { IfOk result (λ _. A.tally memory.old ≤ A.tally memory.new) }
     ensures err { IfErr result (λ stop. (input : List ℕ) × (text : List ℕ) × MayBe (S.holds start.now.source.now start.now.name.now) input
         × A.first answers.now start.now.from start.now.name.now input text
         × AppendsBy stop (O.contents out.old) (O.contents out.new) text) }
@@ -83,7 +94,8 @@ fn answer_file<A: FileAnswers, S: Source, O: Write>(
 }
 
 /// Answers each line of each file in order, but those of the first file that are passed over, and opens a file only after the answers to
-/// those before were written; gives whether a line was refused. A file that can't be read is named on `err`.
+/// those before were written; gives whether a line was refused; how many marks there are more, the memory tells. A file that can't be read
+/// is named on `err`.
 pub(crate) fn answer_files<A: FileAnswers, S: Source, O: Write, E: Write>(
     alloc: Global,
     answers: &A,
@@ -96,6 +108,8 @@ pub(crate) fn answer_files<A: FileAnswers, S: Source, O: Write, E: Write>(
     requires ready { A.ready answers.now }
     ensures ok { IfOk result (λ refused. Gains (Answers (S.holds source.now) (A.replies answers.now) files.now.from
         (map (λ s. s.now) files.now.names.now) refused) (O.contents out.old) (O.contents out.new)) }
+    ensures told { IfOk result (λ refused. Gains (AnswersTold (S.holds source.now) (A.told answers.now) files.now.from
+        (map (λ s. s.now) files.now.names.now) refused (A.tally memory.new - A.tally memory.old)) (O.contents out.old) (O.contents out.new)) }
     ensures err { IfErr result
         (λ stop. StopsAnswering (S.holds source.now) (S.refuses source.now) (A.replies answers.now) (A.first answers.now)
         files.now.from (map (λ s. s.now) files.now.names.now) stop (O.contents out.old) (O.contents out.new)) }

@@ -22,13 +22,18 @@ struct Imports<'a> {
 }
 
 impl<'a> FileAnswers for Imports<'a> {
+    ghost use Rattle.plain_commands.specs.FileAnswers.{unmarked};
     ghost use Rattle.plain_commands.specs.Imported.{import_replies, first_import_replies};
 
     type Memory = ();
 
-    ghost replies = { λ _. import_replies };
+    ghost replies = { λ imports. import_replies imports.keep };
 
-    ghost first = { λ _. first_import_replies };
+    ghost told = { λ imports. unmarked (import_replies imports.keep) };
+
+    ghost tells = { λ _ _ _ _ _ _ _ told. told };
+
+    ghost first = { λ imports. first_import_replies imports.keep };
 
     fn answer<S: Source, I: Input + Drop, O: Write>(
         &self,
@@ -54,9 +59,9 @@ pub fn import<S: Source, O: Write, E: Write>(
     out: &mut O,
     err: &mut E,
 ) -> Result<bool, Stop>
-    ensures ok { IfOk result (λ refused. Gains (ImportsFiles (S.holds source.now) (map (λ s. s.now) names.now) refused)
+    ensures ok { IfOk result (λ refused. Gains (ImportsFiles (S.holds source.now) keep (map (λ s. s.now) names.now) refused)
         (O.contents out.old) (O.contents out.new)) }
-    ensures err { IfErr result (λ stop. StopsImporting (S.holds source.now) (S.refuses source.now)
+    ensures err { IfErr result (λ stop. StopsImporting (S.holds source.now) (S.refuses source.now) keep
         (map (λ s. s.now) names.now) stop (O.contents out.old) (O.contents out.new)) }
 {
     let rays = Rays::new();

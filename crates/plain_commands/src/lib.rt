@@ -6,14 +6,12 @@
 //! desk. To read: `answering`, where the contract of `plain_command` says how each command ends; `sources` (a `Source` is the files that a
 //! command may read) and `files` (those of the system), `writing`, `status`; then `fen_commands` and `playing`; `solving`, over `file_answers`
 //! (each line of each file), `lines_from` and `written_from` (from one on), `limited_solving`, `verifying`, `telling`, `importing` and
-//! `position_answers` likewise; `sheeting`, and `outputs`, which were made elsewhere; `replaying`,
-//! over `scripts` (a text to a script), `script_lines` (its lines), `script_desk` and `script_steps` (what a line says), `script_words`; and
-//! `explaining`, over `explanations`.
+//! `position_answers` likewise; `sheeting`, and `outputs`, which were made elsewhere; `replaying`, over the scripts of `desk_scripts`; and
+//! `explaining`, over `fault_explanations`.
 #![tactic(auto)]
 
 mod answering;
 mod explaining;
-mod explanations;
 mod fen_commands;
 mod file_answers;
 mod files;
@@ -24,11 +22,6 @@ mod outputs;
 mod playing;
 mod position_answers;
 mod replaying;
-mod script_desk;
-mod script_lines;
-mod script_steps;
-mod script_words;
-mod scripts;
 mod sheeting;
 mod solving;
 mod sources;
@@ -38,9 +31,10 @@ mod verifying;
 mod writing;
 mod written_from;
 
-pub use answering::{ends_by_status, plain_command};
+pub use answering::{ends_by_status, ends_in_part, plain_command};
+pub use desk_scripts::{Script, ScriptFault, read_script};
 pub use explaining::explain;
-pub use explanations::{Example, Explanation};
+pub use fault_explanations::{Example, Explanation};
 pub use fen_commands::{FenCommand, show_fen};
 pub use files::{FileSystem, Reading, Stream};
 pub use limited_solving::{limited_none, solve_limited};
@@ -48,9 +42,8 @@ pub use outputs::put_outputs;
 pub use playing::play_moves;
 pub use position_answers::show_lines;
 pub use replaying::replay;
-pub use scripts::{Script, ScriptFault, read_script};
 pub use sheeting::{SheetAsked, sheet};
 pub use solving::{new_memo, solve, solve_by, solves_none};
 pub use sources::{Source, SourceFault, holds_reads, read_file, read_files, whole};
-pub use status::{ANSWERED, MISUSED, NO_THREAD, no_memory, status_of};
+pub use status::{ANSWERED, MISUSED, NO_THREAD, in_part, no_memory, status_of};
 pub use writing::{complain, complain_faulty, complain_unreadable, show};

@@ -1,6 +1,6 @@
 //! The command `solve` where each record may take so many seconds.
 
-ghost use Rattle.std.specs.Prelude.{◌≡◌, IfErr, IfOk, map};
+ghost use Rattle.std.specs.Prelude.{◌≡◌, ◌-◌, IfErr, IfOk, map};
 ghost use Rattle.plain_commands.specs.Writing.{Gains};
 ghost use Rattle.plain_commands.specs.Solved.{LimitedNone, SolvesLimited, StopsLimited};
 
@@ -9,19 +9,25 @@ use crate::lines_from::answer_lines_from;
 use crate::sources::Source;
 use byte_streams::{Input, Stop};
 use command_words::Files;
-use mate_answers::{Limited, TimeLimit};
+use mate_answers::{Limited, LimitedMemory, TimeLimit};
 use mate_search::Solver;
 use std::alloc::Global;
 use std::io::Write;
 
 impl<T: TimeLimit, V: Solver<T>> FileAnswers for Limited<'_, T, V> {
-    ghost use Rattle.plain_commands.specs.Solved.{limited_replies, first_limited_replies};
+    ghost use Rattle.plain_commands.specs.Solved.{limited_replies, limited_told, first_limited_replies};
 
-    type Memory = V::Memory;
+    type Memory = LimitedMemory<V::Memory>;
 
     ghost ready = { λ limited. V.ready limited.solver };
 
     ghost replies = { λ limited. limited_replies limited.seconds limited.default };
+
+    ghost told = { λ limited. limited_told limited.seconds limited.default };
+
+    ghost tally = { λ memory. memory.undecided };
+
+    ghost tells = { λ _ _ _ _ _ _ _ told. told.0 };
 
     ghost first = { λ limited. first_limited_replies limited.seconds limited.default };
 
@@ -30,7 +36,7 @@ impl<T: TimeLimit, V: Solver<T>> FileAnswers for Limited<'_, T, V> {
         alloc: Global,
         start: &FileStart<S>,
         input: I,
-        memory: &mut V::Memory,
+        memory: &mut LimitedMemory<V::Memory>,
         out: &mut O,
     ) -> Result<usize, Stop> {
         answer_lines_from(alloc, self, start, input, memory, out)
@@ -40,19 +46,19 @@ impl<T: TimeLimit, V: Solver<T>> FileAnswers for Limited<'_, T, V> {
 }
 
 /// Answers as `solve` does, by who solves the records, but that a record which the limit stops before it is decided is answered so; gives
-/// whether a line was refused. A file that can't be read is named on `err`.
+/// whether a line was refused. How many records were not decided, the memory counts. A file that can't be read is named on `err`.
 pub fn solve_limited<T: TimeLimit, V: Solver<T>, S: Source, O: Write, E: Write>(
     alloc: Global,
     limited: &Limited<T, V>,
     files: &Files,
     source: &S,
-    memory: &mut V::Memory,
+    memory: &mut LimitedMemory<V::Memory>,
     out: &mut O,
     err: &mut E,
 ) -> Result<bool, Stop>
     requires ready { V.ready limited.now.solver }
     ensures ok { IfOk result (λ refused. Gains (SolvesLimited (S.holds source.now) limited.now.seconds limited.now.default files.now.from
-        (map (λ s. s.now) files.now.names.now) refused) (O.contents out.old) (O.contents out.new)) }
+        (map (λ s. s.now) files.now.names.now) refused (memory.new.undecided - memory.old.undecided)) (O.contents out.old) (O.contents out.new)) }
     ensures err { IfErr result (λ stop. StopsLimited (S.holds source.now) (S.refuses source.now) limited.now.seconds limited.now.default
         files.now.from (map (λ s. s.now) files.now.names.now) stop (O.contents out.old) (O.contents out.new)) }
 {

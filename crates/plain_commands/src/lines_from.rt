@@ -1,6 +1,6 @@
 //! Lines of an input that are passed over, and those behind them.
 
-ghost use Rattle.std.specs.Prelude.{◌≡◌, ℕ, List, [], IfErr, IfOk, nat_lt};
+ghost use Rattle.std.specs.Prelude.{◌≡◌, ◌≤◌, ◌-◌, ℕ, List, [], IfErr, IfOk, nat_lt};
 ghost use Rattle.std.specs.Io.KnownBytes.{Appends};
 ghost use Rattle.byte_streams.specs.Inputs.{MayBe};
 ghost use Rattle.byte_streams.specs.Stops.{AppendsBy};
@@ -50,6 +50,10 @@ impl<H: LineHandler, S: Source> LineHandler for LinesFrom<'_, H, S> {
 
     ghost replies = { λ lines. RepliesFrom (H.replies lines.handler.now) lines.start.now.from };
 
+    ghost marks = { λ lines. RepliesFrom (H.marks lines.handler.now) lines.start.now.from };
+
+    ghost tally = { λ memory. H.tally memory };
+
     ghost room = { λ memory. H.room memory };
 
     fn answer(
@@ -79,10 +83,15 @@ impl<H: LineHandler, S: Source> LineHandler for LinesFrom<'_, H, S> {
     }
 
     ghost skips = { λ lines number line blank. record { passed = λ _. (refl, refl); answered = λ _. H.skips lines.handler.now number line blank } };
+
+    ghost unmarked = { λ lines number line blank. record {
+      passed = λ _. (refl, refl);
+      answered = λ _. H.unmarked lines.handler.now number line blank;
+    } };
 }
 
 /// Answers an input line by line from that of a number on, as `text_lines` does. The lines before it keep their numbers, and are read no
-/// further than to their ends. Gives how many lines are refused.
+/// further than to their ends. Gives how many lines are refused; how many marks there are more, the memory tells.
 pub(crate) fn answer_lines_from<H: LineHandler, S: Source, I: Input + Drop, O: Write>(
     alloc: Global,
     handler: &H,
@@ -95,6 +104,11 @@ pub(crate) fn answer_lines_from<H: LineHandler, S: Source, I: Input + Drop, O: W
     ensures ok { IfOk result (λ refused. (bytes : List ℕ) × (text : List ℕ) × MayBe (I.left input) bytes
         × IsReplyOn (H.replies handler.now) start.now.from bytes text refused
         × Appends (O.contents out.old) (O.contents out.new) text) }
+    ensures marked { IfOk result (λ refused. (bytes : List ℕ) × (text : List ℕ) × MayBe (I.left input) bytes
+        × (IsReplyOn (H.replies handler.now) start.now.from bytes text refused
+        × IsReplyOn (H.marks handler.now) start.now.from bytes text (H.tally memory.new - H.tally memory.old))
+        × Appends (O.contents out.old) (O.contents out.new) text) }
+    ensures grows { IfOk result (λ _. H.tally memory.old ≤ H.tally memory.new) }
     ensures err { IfErr result (λ stop. (bytes : List ℕ) × (text : List ℕ) × MayBe (I.left input) bytes
         × IsReplyToFirstOn (H.replies handler.now) start.now.from bytes text
         × AppendsBy stop (O.contents out.old) (O.contents out.new) text) }

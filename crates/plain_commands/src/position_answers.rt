@@ -8,7 +8,7 @@ use crate::fen_commands::{FenCommand, shown_text};
 use crate::file_answers::{FileAnswers, FileStart, answer_files};
 use crate::sources::Source;
 use byte_streams::{Input, Stop};
-use chess_board::{Colour, Fen};
+use chess_board::Fen;
 use chess_moves::Rays;
 use command_words::{Files, LineNumber, LineView};
 use position_lines::{FenView, answer_positions};
@@ -33,11 +33,16 @@ impl FenView for PositionAnswers<'_> {
 }
 
 impl FileAnswers for PositionAnswers<'_> {
+    ghost use Rattle.plain_commands.specs.FileAnswers.{unmarked};
     ghost use Rattle.plain_commands.specs.PositionLines.{first_position_replies, position_replies};
 
     type Memory = ();
 
     ghost replies = { λ answers. position_replies answers.command };
+
+    ghost told = { λ answers. unmarked (position_replies answers.command) };
+
+    ghost tells = { λ _ _ _ _ _ _ _ told. told };
 
     ghost first = { λ answers. first_position_replies answers.command };
 
@@ -61,7 +66,7 @@ fn command_of(view: LineView) -> FenCommand
 {
     match view {
         LineView::Look => FenCommand::Look,
-        LineView::Board => FenCommand::Board(Colour::White),
+        LineView::Board(side) => FenCommand::Board(side),
         LineView::Moves => FenCommand::MovesLine,
         LineView::Perft(depth) => FenCommand::Perft(depth),
     }

@@ -3,9 +3,8 @@
 ghost use Rattle.std.specs.Prelude.{◌≡◌, ℕ, [], IfErr, IfOk, IfSome, IfNone, false, true, map};
 ghost use Rattle.plain_commands.specs.Writing.{Gains};
 ghost use Rattle.plain_commands.specs.Replayed.{HasNoDesk, Replays, ReplaysFile, Runs, StopsReplaying, reply_lines as lines_of_replies};
-ghost use Rattle.plain_commands.specs.Scripts.{IsFirstFault, IsScript, script_value};
+ghost use Rattle.desk_scripts.specs.Scripts.{IsFirstFault, IsScript, script_value};
 
-use crate::scripts::{Script, ScriptFault, read_script};
 use crate::solving::new_memo;
 use crate::sources::{Source, read_file};
 use crate::writing::{complain, complain_faulty, show};
@@ -13,6 +12,7 @@ use byte_streams::Stop;
 use chess_moves::Rays;
 use chess_notation::NoMemory;
 use chess_views::push_line;
+use desk_scripts::{Script, ScriptFault, read_script};
 use mate_desk::{Reply, RunFault, reply_text, run};
 use std::alloc::Global;
 use std::io::Write;

@@ -30,6 +30,7 @@ pub fn new_memo(alloc: Global, entries: usize) -> Result<Memo, Stop>
 }
 
 impl<V: Solver<Never>> FileAnswers for Answers<'_, V> {
+    ghost use Rattle.plain_commands.specs.FileAnswers.{unmarked};
     ghost use Rattle.plain_commands.specs.Solved.{record_replies, first_record_replies};
 
     type Memory = V::Memory;
@@ -37,6 +38,10 @@ impl<V: Solver<Never>> FileAnswers for Answers<'_, V> {
     ghost ready = { λ answers. V.ready answers.solver };
 
     ghost replies = { λ answers. record_replies answers.default };
+
+    ghost told = { λ answers. unmarked (record_replies answers.default) };
+
+    ghost tells = { λ _ _ _ _ _ _ _ told. told };
 
     ghost first = { λ answers. first_record_replies answers.default };
 

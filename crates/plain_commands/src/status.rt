@@ -3,7 +3,7 @@
 ghost use Rattle.std.specs.Prelude.{◌≡◌};
 ghost use Rattle.plain_commands.specs.Status.{status_of};
 
-use crate::writing::complain;
+use crate::writing::{complain, complain_undecided};
 use byte_streams::Stop;
 use std::io::Write;
 
@@ -22,12 +22,23 @@ pub const UNREADABLE: u8 = 4;
 /// The output can't be written.
 pub const UNWRITABLE: u8 = 4;
 
+/// Everything was answered, but some records were not decided in time.
+pub const IN_PART: u8 = 5;
+
 /// Says that memory was refused, and gives the status.
 pub fn no_memory<E: Write>(err: &mut E) -> u8
     ensures { result ≡ 3 }
 {
     complain(err, "no memory");
     NO_MEMORY
+}
+
+/// Says how many records were not decided, and gives the status.
+pub fn in_part<E: Write>(err: &mut E, undecided: usize) -> u8
+    ensures { result ≡ 5 }
+{
+    complain_undecided(err, undecided);
+    IN_PART
 }
 
 /// Says that the output can't be written, and gives the status.

@@ -41,11 +41,16 @@ fn form_of(form: &TreeForm) -> Form
 }
 
 impl<'a> FileAnswers for TreeAnswers<'a> {
+    ghost use Rattle.plain_commands.specs.FileAnswers.{unmarked};
     ghost use Rattle.plain_commands.specs.Told.{tree_replies, first_tree_replies};
 
     type Memory = Memo;
 
     ghost replies = { λ answers. tree_replies answers.form answers.bound };
+
+    ghost told = { λ answers. unmarked (tree_replies answers.form answers.bound) };
+
+    ghost tells = { λ _ _ _ _ _ _ _ told. told };
 
     ghost first = { λ answers. first_tree_replies answers.form answers.bound };
 

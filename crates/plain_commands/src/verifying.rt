@@ -39,11 +39,16 @@ fn prefix_of(alloc: Global, several: bool, name: &str) -> Result<Vec<u8>, AllocE
 }
 
 impl<'a> FileAnswers for ClaimAnswers<'a> {
+    ghost use Rattle.plain_commands.specs.FileAnswers.{unmarked};
     ghost use Rattle.plain_commands.specs.Verified.{claim_replies, first_claim_replies};
 
     type Memory = ClaimMemory;
 
     ghost replies = { λ answers. claim_replies answers.several answers.bound };
+
+    ghost told = { λ answers. unmarked (claim_replies answers.several answers.bound) };
+
+    ghost tells = { λ _ _ _ _ _ _ _ told. told };
 
     ghost first = { λ answers. first_claim_replies answers.several answers.bound };
 

@@ -27,6 +27,11 @@ pub fn complain_unreadable<E: Write>(err: &mut E, name: &str) {
     let _ = writeln!(err, "matedesk: cannot read {name}");
 }
 
+/// Says how many records were not decided. That it can't be written changes nothing.
+pub fn complain_undecided<E: Write>(err: &mut E, count: usize) {
+    let _ = writeln!(err, "matedesk: not decided: {count}");
+}
+
 /// Says which line of a script is at fault. That it can't be written changes nothing.
 pub fn complain_faulty<E: Write>(err: &mut E, number: usize) {
     let _ = writeln!(err, "matedesk: script line {number}");

@@ -1,4 +1,4 @@
-use Rattle.std.proofs.Common.{ℕ, List, map, take}
+use Rattle.std.proofs.Common.{◌≤◌, ◌-◌, ℕ, List, map, take}
 use Rattle.std.specs.Io.KnownBytes.{Appends}
 use Rattle.plain_commands.proofs.AnsweredFiles.{AnsweredTo}
 use Rattle.plain_commands.proofs.file_answers.answer_files.Given as goal
@@ -7,6 +7,8 @@ use Rattle.plain_commands.proofs.file_answers.answer_files.Given as goal
 abbrev pub invariant-loop-name : goal.invariant-loop-name
 invariant-loop-name g l =
     (gained : List ℕ)
-    × AnsweredTo (g.S.Source.holds l.source) (g.A.FileAnswers.replies l.answers) l.files.from
-    (map (λ s. s.now) (take l.name-index l.files.names.now)) l.from l.refused gained
+    × AnsweredTo (g.S.Source.holds l.source) (g.A.FileAnswers.told l.answers) l.files.from
+    (map (λ s. s.now) (take l.name-index l.files.names.now)) l.from l.refused
+    (g.A.FileAnswers.tally l.memory - g.A.FileAnswers.tally l.initial.memory) gained
+    × (g.A.FileAnswers.tally l.initial.memory ≤ g.A.FileAnswers.tally l.memory)
     × Appends (g.O.Write.contents l.initial.out) (g.O.Write.contents l.out) gained

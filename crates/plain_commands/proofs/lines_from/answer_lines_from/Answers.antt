@@ -16,6 +16,22 @@ returns-clause-ok g c =
     ))
     c.answer_input.ensures.ok
 
+pub returns-clause-marked : goal.returns-clause-marked
+returns-clause-marked g c =
+    let some : 1 ≤ c.args.start.now.from = omega (arith, c.get-number.ensures.some, c.get-number.ensures.number) in
+    IfOk-weaker c.answer_input.result _ _
+    (λ refused (bytes, text, may, (reply, marks), gained). (
+      bytes,
+      text,
+      may,
+      (
+        reply_on (g.H.LineHandler.replies c.args.handler.now) c.args.start.now.from bytes text refused some reply,
+        reply_on (g.H.LineHandler.marks c.args.handler.now) c.args.start.now.from bytes text _ some marks,
+      ),
+      gained,
+    ))
+    c.answer_input.ensures.marked
+
 pub returns-clause-err : goal.returns-clause-err
 returns-clause-err g c =
     let some : 1 ≤ c.args.start.now.from = omega (arith, c.get-number.ensures.some, c.get-number.ensures.number) in

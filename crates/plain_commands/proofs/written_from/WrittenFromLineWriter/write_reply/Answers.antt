@@ -6,17 +6,23 @@ use Rattle.plain_commands.proofs.written_from.WrittenFromLineWriter.write_reply.
 pub returns-then-passes-clause-reply : goal.returns-then-passes-clause-reply
 returns-then-passes-clause-reply g c = (
   [],
-  passed_over (g.W.LineWriter.replies c.args.self.now.writer.now) c.args.self.now.start.now.from c.args.number c.args.line.now
-      (is_before c.args.number c.args.self.now.start.now.from (sym c.passes.ensures ∙ c.if-passes.true)),
+  (
+    passed_over (g.W.LineWriter.replies c.args.self.now.writer.now) c.args.self.now.start.now.from c.args.number c.args.line.now
+        (is_before c.args.number c.args.self.now.start.now.from (sym c.passes.ensures ∙ c.if-passes.true)),
+    tt,
+  ),
   Appends-nil (g.O.Write.contents c.args.out.now),
 )
 
 pub returns-in-Ok-clause-reply : goal.returns-in-Ok-clause-reply
 returns-in-Ok-clause-reply g c =
-    let (text, may, on) = c.in-Ok.ensures.reply in (
+    let (text, (may, marks), on) = c.in-Ok.ensures.reply in (
       text,
-      answered_on (g.W.LineWriter.replies c.args.self.now.writer.now) c.args.self.now.start.now.from c.args.number c.args.line.now text _
-          (is_behind c.args.number c.args.self.now.start.now.from (sym c.passes.ensures ∙ c.if-passes.false)) may,
+      (
+        answered_on (g.W.LineWriter.replies c.args.self.now.writer.now) c.args.self.now.start.now.from c.args.number c.args.line.now text _
+            (is_behind c.args.number c.args.self.now.start.now.from (sym c.passes.ensures ∙ c.if-passes.false)) may,
+        tt,
+      ),
       on,
     )
 

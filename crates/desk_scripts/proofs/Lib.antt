@@ -1,0 +1,6 @@
+mod Cuts
+mod DeskLaws
+mod NumberLaws
+mod OneScript
+mod ScriptLaws
+mod StepLaws
