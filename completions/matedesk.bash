@@ -24,7 +24,7 @@ _matedesk() {
     look) options='--board --flip --svg --lines -h --help' ;;
     moves) options='--coordinates --fen --lines -h --help' ;;
     perft) options='--divide --lines -h --help' ;;
-    'look --lines') options='--board -h --help' ;;
+    'look --lines') options='--board --flip -h --help' ;;
     replay | uci | play | explain | *' --lines') options='-h --help' ;;
     *) return ;;
     esac
@@ -42,7 +42,7 @@ _matedesk() {
         ((COMP_CWORD != depth)) || mapfile -t COMPREPLY < <(compgen -W "$(echo {0..6})" -- "$word")
         ;;
     explain,*)
-        ((COMP_CWORD != 2)) || mapfile -t COMPREPLY < <(compgen -W "$("${COMP_WORDS[0]}" explain 2>/dev/null | cut -d : -f 1)" -- "$word")
+        mapfile -t COMPREPLY < <(compgen -W "$("${COMP_WORDS[0]}" explain 2>/dev/null | cut -d : -f 1)" -- "$word")
         ;;
     esac
     if [[ $files ]]; then

@@ -80,7 +80,7 @@ _matedesk() {
         play) _arguments $help '1:FEN: ' '*:move: ' ;;
         moves) _arguments $help '--coordinates[write moves by their coordinates]' '--fen[write the FEN after each move]' '--lines[read files of positions]' '*:FEN or file:_files' ;;
         perft) _arguments $help '--divide[count the lines behind each first move too]' '--lines[read files of positions]' '1:FEN or depth: ' '2:depth:(0 1 2 3 4 5 6)' '*:file:_files' ;;
-        explain) _arguments $help '1:code:{compadd -- ${(f)"$(matedesk explain 2>/dev/null | cut -d : -f 1)"}}' ;;
+        explain) _arguments $help '*:code:{compadd -- ${(f)"$(matedesk explain 2>/dev/null | cut -d : -f 1)"}}' ;;
         esac
         ;;
     esac
