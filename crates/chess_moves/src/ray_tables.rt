@@ -3,7 +3,7 @@
 ghost use Rattle.std.specs.Prelude.{◌≡◌, ℕ, ◌<◌};
 ghost use Rattle.square_sets.specs.Members.{has};
 ghost use Rattle.chess_board.specs.Squares.{gap};
-ghost use Rattle.chess_moves.specs.inside.Directions.{toward, is_hidden, reaches, reaches_as_bishop, reaches_as_rook};
+ghost use Rattle.chess_moves.specs.inside.Directions.{toward, is_hidden, reaches_as_bishop, reaches_as_rook};
 ghost use Rattle.chess_moves.specs.inside.Directions.{is_on_diagonal, is_on_straight, stands_between, RaysInOrder};
 ghost use Rattle.chess_moves.specs.inside.Leaps.{leaps};
 ghost use Rattle.chess_moves.specs.inside.RayTables.{AreRaysToward, AreTargetsOf, AreOneSetOf, AreRays};
@@ -203,14 +203,6 @@ impl Rays {
             63 - (ray & occupied | 1).leading_zeros()
         };
         self.ray(first as u8, direction)
-    }
-
-    /// What a man on the square sees in a direction, the first square that is taken included.
-    pub(crate) fn ray_attacks(&self, square: u8, direction: Direction, occupied: u64) -> u64
-        requires { square < 64 }
-        ensures { (t : ℕ) → t < 64 → has result t ≡ reaches (has occupied) direction square t }
-    {
-        self.ray(square, direction) & !self.hidden(square, direction, occupied)
     }
 
     /// What a bishop on the square sees.

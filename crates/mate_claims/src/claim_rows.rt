@@ -1,12 +1,6 @@
 //! The lines of an input held against their own claims, row by row.
 
-ghost use Rattle.std.specs.Prelude.{◌≡◌, ◌++◌, ◌≤◌, ℕ, List, IfErr, IfOk, decimal};
-ghost use Rattle.std.specs.Io.KnownBytes.{Appends};
-ghost use Rattle.byte_streams.specs.Inputs.{MayBe};
-ghost use Rattle.byte_streams.specs.Stops.{AppendsBy};
-ghost use Rattle.chess_notation.specs.Words.{is_blank};
-ghost use Rattle.chess_notation.specs.Records.{max_line};
-ghost use Rattle.text_lines.specs.Replies.{IsReply, IsReplyToFirst};
+ghost use Rattle.std.specs.Prelude.{◌≡◌, ◌++◌, ◌≤◌, IfOk, decimal};
 ghost use Rattle.mate_claims.specs.ClaimReplies.{IsClaimReply, IsTold, refusals_of};
 ghost use Rattle.mate_claims.specs.Counts.{with_one, with_unread};
 
@@ -14,14 +8,13 @@ use crate::claim_replies::{Told, told_of};
 use crate::counts::Counts;
 use crate::rows::refused_row;
 use crate::verdicts::Verdict;
-use byte_streams::{Input, NoMemory, Stop};
+use byte_streams::NoMemory;
 use chess_moves::Rays;
 use chess_notation::EpdFault;
 use chess_problems::Bound;
 use mate_search::Memo;
 use std::alloc::{AllocError, Global};
-use std::io::Write;
-use text_lines::{LineHandler, Output, answer_input};
+use text_lines::{LineHandler, Output};
 
 /// What holds lines against their own claims: the bound of a record that asks for none, and what stands before the number of each
 /// line in its row.
@@ -136,30 +129,4 @@ impl LineHandler for ClaimRows<'_> {
     ghost skips = { λ rows number line blank. skipped blank };
 
     ghost unmarked = { λ _ _ _ _. tt };
-}
-
-/// Holds each line of an input against its own claims: the row of each is written before the next is waited for. Gives how many lines
-/// are not sound.
-///
-/// Where it stops before the end, the rows of some of the first lines are written. The memory counts the verdicts.
-pub fn claim_input<I: Input + Drop, O: Write>(
-    alloc: Global,
-    rows: &ClaimRows<'_>,
-    input: I,
-    memory: &mut ClaimMemory,
-    out: &mut O,
-) -> Result<usize, Stop>
-    ensures ok { IfOk result (λ refused. (bytes : List ℕ) × (text : List ℕ) × MayBe (I.left input) bytes
-        × IsReply (IsClaimReply rows.now.prefix.now rows.now.default) bytes text refused
-        × Appends (O.contents out.old) (O.contents out.new) text) }
-    ensures err { IfErr result (λ stop. (bytes : List ℕ) × (text : List ℕ) × MayBe (I.left input) bytes
-        × IsReplyToFirst (IsClaimReply rows.now.prefix.now rows.now.default) bytes text
-        × AppendsBy stop (O.contents out.old) (O.contents out.new) text) }
-    ensures unreadable { IfErr result (λ stop. stop ≡ Stop.Unreadable → I.breaks input) }
-    ensures room { memory.new.memo.room ≡ memory.old.memo.room }
-{
-    let before = memory.counts.not_sound();
-    let count = answer_input(alloc, rows, input, memory, out)?;
-    memory.count_unread(before, count);
-    Ok(count)
 }

@@ -12,7 +12,7 @@ mod rows;
 mod verdicts;
 
 pub use claim_replies::{Told, told_of};
-pub use claim_rows::{ClaimMemory, ClaimRows, claim_input};
+pub use claim_rows::{ClaimMemory, ClaimRows};
 pub use counts::Counts;
 pub use rows::{record_row, refused_row};
 pub use verdicts::{Verdict, judge};

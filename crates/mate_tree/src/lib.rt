@@ -23,4 +23,4 @@ mod tries;
 pub use forms::Form;
 pub use laws::{defences_answered, leaves_mate, line_branches, soonest_reads};
 pub use passing::passed;
-pub use tree_replies::{TreeReplies, tree_input};
+pub use tree_replies::TreeReplies;

@@ -1,11 +1,8 @@
 //! The replies to an input of records whose trees are asked for.
 
-ghost use Rattle.std.specs.Prelude.{◌≡◌, ◌≢◌, ◌≤◌, ◌++◌, ℕ, List, [], IfErr, IfOk, OnOk};
+ghost use Rattle.std.specs.Prelude.{◌≡◌, ◌≢◌, ◌++◌, [], IfErr, IfOk, OnOk};
 ghost use Rattle.std.specs.Io.KnownBytes.{Appends};
-ghost use Rattle.byte_streams.specs.Inputs.{MayBe};
-ghost use Rattle.byte_streams.specs.Stops.{AppendsBy};
 ghost use Rattle.text_lines.specs.Refusals.{fault_line};
-ghost use Rattle.text_lines.specs.Replies.{IsReply, IsReplyToFirst};
 ghost use Rattle.text_lines.specs.Writers.{BreaksOff};
 ghost use Rattle.chess_problems.specs.Outcomes.{IsPlayable};
 ghost use Rattle.chess_notation.specs.Answers.{answer_text};
@@ -16,14 +13,14 @@ ghost use Rattle.mate_tree.specs.inside.Replies.{IsJust, IsRefusal};
 use crate::forms::Form;
 use crate::sheets::Sheet;
 use crate::trees::{Shown, write_tree};
-use byte_streams::{Input, NoMemory, Stop, put};
+use byte_streams::{NoMemory, Stop, put};
 use chess_moves::Rays;
 use chess_notation::{EpdFault, Record, answer_text, read_record};
 use chess_problems::{Bound, Outcome};
 use mate_search::{Memo, solve};
 use std::alloc::Global;
 use std::io::Write;
-use text_lines::{LineWriter, Output, refusal, write_replies};
+use text_lines::{LineWriter, Output, refusal};
 
 /// What tells the trees of records: the bound of a record that asks for none, and what is shown of each tree.
 #[derive(Clone, Copy)]
@@ -146,27 +143,4 @@ impl LineWriter for TreeReplies<'_> {
     ghost skips = { λ trees number line blank. skipped blank };
 
     ghost unmarked = { λ _ _ _ _. tt };
-}
-
-/// Tells the tree of each record of an input, line by line: the reply to each is written before the next is waited for, and a tree as it
-/// is found, which is never whole in memory. Gives how many lines are refused.
-///
-/// Where it stops before the end, the replies to some of the first lines are written.
-pub fn tree_input<I: Input + Drop, O: Write>(
-    alloc: Global,
-    trees: &TreeReplies<'_>,
-    input: I,
-    memo: &mut Memo,
-    out: &mut O,
-) -> Result<usize, Stop>
-    ensures ok { IfOk result (λ refused. (bytes : List ℕ) × (text : List ℕ) × MayBe (I.left input) bytes
-        × IsReply (IsTreeReply trees.now.form trees.now.default) bytes text refused
-        × Appends (O.contents out.old) (O.contents out.new) text) }
-    ensures err { IfErr result (λ stop. (bytes : List ℕ) × (text : List ℕ) × MayBe (I.left input) bytes
-        × IsReplyToFirst (IsTreeReply trees.now.form trees.now.default) bytes text
-        × AppendsBy stop (O.contents out.old) (O.contents out.new) text) }
-    ensures unreadable { IfErr result (λ stop. stop ≡ Stop.Unreadable → I.breaks input) }
-    ensures room { memo.new.room ≡ memo.old.room }
-{
-    write_replies(alloc, trees, input, memo, out)
 }

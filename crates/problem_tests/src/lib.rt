@@ -1,4 +1,4 @@
-//! Tests of problems, read, solved and answered, and of positions shown: of the crates from `chess_problems` to `mate_answers`, by their
+//! Tests of problems, read, solved and answered, and of positions shown: of the crates from `chess_problems` to `mate_claims`, by their
 //! public calls alone.
 #![tactic(auto)]
 
@@ -8,6 +8,8 @@ mod answer_tests;
 mod avoid_move_tests;
 #[cfg(test)]
 mod avoid_tests;
+#[cfg(test)]
+mod claim_tests;
 #[cfg(test)]
 mod input_tests;
 #[cfg(test)]

@@ -2,9 +2,10 @@
 
 use chess_moves::Rays;
 use chess_problems::Bound;
-use mate_claims::{ClaimMemory, ClaimRows, Counts, Verdict, claim_input, told_of};
+use mate_claims::{ClaimMemory, ClaimRows, Counts, Verdict, told_of};
 use mate_search::Memo;
 use std::test::Fail;
+use text_lines::answer_input;
 
 #[test]
 fn tells_the_first_verdict_that_applies(rt: HostRuntime) -> Result<(), Fail> {
@@ -115,9 +116,11 @@ fn counts_the_lines_of_an_input(rt: HostRuntime) -> Result<(), Fail> {
         counts: Counts::new(),
     };
     let mut text = Vec::new(alloc);
-    let Ok(refused) = claim_input(alloc, &rows, input.as_slice(), &mut memory, &mut text) else {
+    let before = memory.counts.not_sound();
+    let Ok(refused) = answer_input(alloc, &rows, input.as_slice(), &mut memory, &mut text) else {
         return Err(Fail::from("stopped"));
     };
+    memory.count_unread(before, refused);
     let expected =
         b"f:1\tsound\t#1\t#1\tRa8#\t-\t-\nf:3\tTooLong\t-\t-\t-\t-\t-\nf:4\tFen FieldCount\t-\t-\t-\t-\t-\n";
     assert_eq!(rt; text.as_slice(), expected.as_slice());
