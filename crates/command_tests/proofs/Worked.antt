@@ -18,10 +18,10 @@ use Rattle.chess_notation.specs.declared.epd_faults.EpdFault.{EpdFault}
 use Rattle.chess_notation.specs.declared.epd_faults.EpdFault.TheVariants as fault
 use Rattle.clap.specs.Words.{Text}
 use Rattle.byte_streams.specs.Inputs.{MayBe}
-use Rattle.plain_commands.specs.FileAnswers.{AreReplies}
-use Rattle.plain_commands.specs.LinesFrom.{IsReplyOn}
+use Rattle.file_answers.specs.FileAnswers.{AreReplies}
+use Rattle.file_answers.specs.LinesFrom.{IsReplyOn}
 use Rattle.plain_commands.specs.Solved.{Solves, record_replies}
-use Rattle.plain_commands.specs.Sources.{Holds}
+use Rattle.file_answers.specs.Sources.{Holds}
 use Rattle.text_lines.specs.Refusals.{fault_line}
 use Rattle.mate_answers.specs.InputReplies.{IsLineReply, answered, refused, skipped}
 use Rattle.chess_board.specs.Positions.{Setup}

@@ -1,7 +1,7 @@
 //! The command `solve`: lines of files, whole and in pieces, and files that can't be read.
 
 use crate::test_shelves::{ALWAYS, Shelf, run, run_with, shelf_of};
-use plain_commands::Source;
+use file_answers::Source;
 use std::test::Fail;
 
 #[test]

@@ -7,7 +7,8 @@ ghost use Rattle.plain_commands.specs.Command.{Ends};
 
 use chess_board::spells_one;
 use chess_notation::records_clear;
-use plain_commands::{Source, SourceFault, plain_command, whole};
+use file_answers::{Source, SourceFault, whole};
+use plain_commands::plain_command;
 use std::alloc::{AllocError, Global};
 use std::test::Fail;
 

@@ -18,11 +18,11 @@ use Rattle.mate_answers.specs.InputReplies.{IsLineReply, IsReply}
 use Rattle.byte_streams.specs.declared.stops.Stop.{Stop}
 use Rattle.byte_streams.specs.declared.stops.Stop.TheVariants as stop
 use Rattle.command_words.specs.Asked.{serve}
-use Rattle.plain_commands.specs.Sources.{Holds}
-use Rattle.plain_commands.specs.Status.{status_of}
-use Rattle.plain_commands.specs.Writing.{Gains}
-use Rattle.plain_commands.specs.FileAnswers.{AreReplies as AreFileReplies}
-use Rattle.plain_commands.specs.LinesFrom.{IsReplyOn}
+use Rattle.file_answers.specs.Sources.{Holds}
+use Rattle.file_answers.specs.Status.{status_of}
+use Rattle.file_answers.specs.Writing.{Gains}
+use Rattle.file_answers.specs.FileAnswers.{AreReplies as AreFileReplies}
+use Rattle.file_answers.specs.LinesFrom.{IsReplyOn}
 use Rattle.plain_commands.specs.Solved.{record_replies}
 use Rattle.plain_commands.specs.Command.{Ends, EndsByStatus, StopsServing}
 use Rattle.plain_commands.specs.Served.{HaveNoWindows, HaveWindows, Serves}

@@ -7,8 +7,8 @@ use Rattle.clap.specs.Words.{Text}
 use Rattle.command_words.specs.Asked.{Asked, look, board, svg, play, moves, perft, divide, lines, solve, solve_on, limited}
 use Rattle.command_words.specs.Asked.{verify, tree, sheet, imports, serve, replay, explain, uci, asks_threads}
 use Rattle.plain_commands.specs.Command.{Ends, EndsByStatus, EndsInPart}
-use Rattle.plain_commands.specs.Status.{status_of}
-use Rattle.plain_commands.specs.Writing.{Gains}
+use Rattle.file_answers.specs.Status.{status_of}
+use Rattle.file_answers.specs.Writing.{Gains}
 use Rattle.plain_commands.specs.Solved.{LimitedNone, SolvesLimited, SolvesNone, StopsLimited}
 
 -- Nothing is written, and the status is that of no memory.

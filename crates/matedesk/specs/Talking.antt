@@ -1,6 +1,6 @@
 -- The status of `uci`.
 use Rattle.std.specs.Prelude.{ℕ, Result, Ok, Err}
-use Rattle.plain_commands.specs.Status.{status_of}
+use Rattle.file_answers.specs.Status.{status_of}
 use Rattle.uci_engine.specs.declared.engine.TalkFault.{TalkFault}
 use Rattle.uci_engine.specs.declared.engine.TalkFault.TheVariants.{NoThread, Stop}
 

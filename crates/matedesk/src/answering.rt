@@ -5,17 +5,14 @@ ghost use Rattle.std.specs.String.{string_bytes};
 ghost use Rattle.command_words.specs.Asked.{asked, asks_display, asks_threads, may_display};
 ghost use Rattle.plain_commands.specs.Command.{Ends};
 
-use crate::console::Console;
 use crate::limiting::solve_in_time;
-use crate::progress_thread::Telling;
 use crate::serving::serve;
 use crate::sharing::solve_on;
 use crate::talking::talk;
-use crate::watched_files::WatchedFiles;
+use command_progress::{Console, Telling, WatchedFiles};
 use command_words::{Request, asks_progress, escaped, parse, request_of};
-use plain_commands::{
-    Source, complain, ends_by_status, limited_none, no_memory, plain_command, solves_none,
-};
+use file_answers::{Source, complain, no_memory};
+use plain_commands::{ends_by_status, limited_none, plain_command, solves_none};
 use std::alloc::Global;
 use std::io::Write;
 use std::sync::Wait;

@@ -1,25 +1,19 @@
 //! The program `matedesk`: it answers the words that it was called with, from the files and to the outputs of the system.
 //!
 //! Read `answering` first, where the contract of `command` is the program's, then the commands that start threads: `serving`, `talking`,
-//! `sharing`, and `limiting` over `tick_limit`; then how it is told how far a command is: `progress_thread` tells on a `console` what
-//! `watched_files` leave in `progress`, by what replies have `said`. What a word means is the business of `command_words`, and what all
-//! other commands answer that of `plain_commands`.
+//! `sharing`, and `limiting` over `tick_limit`. What a word means is the business of `command_words`, what all other commands answer that
+//! of `plain_commands`, and how it is told how far a command is that of `command_progress`.
 #![tactic(auto)]
 
 mod answering;
-mod console;
 mod limiting;
-mod progress;
-mod progress_thread;
-mod said;
 mod serving;
 mod sharing;
 mod talking;
 mod tick_limit;
-mod watched_files;
 
 use answering::command;
-use plain_commands::{FileSystem, MISUSED, complain, no_memory};
+use file_answers::{FileSystem, MISUSED, complain, no_memory};
 use std::alloc::Global;
 use std::process::ExitCode;
 use std::rt::Env;

@@ -9,11 +9,11 @@ use chess_moves::Rays;
 use chess_problems::Bound;
 use command_words::{MemoSize, Workers};
 use desk_room::{Gate, RoomFault};
-use mate_jobs::Ticket;
-use plain_commands::{
-    MISUSED, NO_THREAD, Source, complain, ends_by_status, no_memory, put_outputs, read_files,
-    status_of,
+use file_answers::{
+    MISUSED, NO_THREAD, Source, complain, no_memory, put_outputs, read_files, status_of,
 };
+use mate_jobs::Ticket;
+use plain_commands::ends_by_status;
 use std::alloc::Global;
 use std::io::Write;
 use std::sync::Wait;

@@ -8,11 +8,10 @@ use byte_streams::Stop;
 use chess_moves::Rays;
 use chess_problems::Bound;
 use command_words::{Files, MemoSize, Workers};
+use file_answers::{Source, no_memory, status_of};
 use mate_answers::Answers;
 use parallel_search::{OnThreads, ThreadMemory};
-use plain_commands::{
-    Source, ends_by_status, new_memo, no_memory, solve_by, solves_none, status_of,
-};
+use plain_commands::{ends_by_status, new_memo, solve_by, solves_none};
 use std::alloc::Global;
 use std::io::Write;
 use std::thread::Threads;

@@ -7,9 +7,8 @@ ghost use Rattle.matedesk.specs.Talking.{talk_status};
 
 use byte_streams::Stop;
 use command_words::VERSION;
-use plain_commands::{
-    NO_THREAD, Source, SourceFault, complain, complain_unreadable, ends_by_status, status_of,
-};
+use file_answers::{NO_THREAD, Source, SourceFault, complain, complain_unreadable, status_of};
+use plain_commands::ends_by_status;
 use std::alloc::Global;
 use std::io::Write;
 use std::sync::Wait;

@@ -8,7 +8,7 @@ use Rattle.byte_streams.specs.declared.stops.Stop.{Stop}
 use Rattle.byte_streams.specs.declared.stops.Stop.TheVariants as stop
 use Rattle.command_words.specs.Asked.{Asked, look, board, svg, play, moves, perft, divide, lines, solve, solve_on}
 use Rattle.command_words.specs.Asked.{limited, verify, tree, sheet, imports, serve, replay, explain, uci}
-use Rattle.plain_commands.specs.Status.{status_of}
+use Rattle.file_answers.specs.Status.{status_of}
 use Rattle.plain_commands.specs.Solved.{SolvesNone}
 use Rattle.plain_commands.specs.Verified.{VerifiesNone}
 use Rattle.plain_commands.specs.Told.{TellsNone}

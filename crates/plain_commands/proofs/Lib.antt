@@ -1,10 +1,4 @@
-mod HeldFiles
 mod Shown
-mod Parts
-mod LinesFrom
-mod WrittenFrom
-mod AnsweredFiles
 mod Unopened
 mod VerifiedFiles
-mod WrittenOutputs
 mod Endings

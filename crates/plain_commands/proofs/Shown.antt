@@ -4,7 +4,7 @@ use Rattle.std.specs.Io.KnownBytes.{Appends}
 use Rattle.byte_streams.specs.Stops.{AppendsPart, is_of_output}
 use Rattle.byte_streams.specs.declared.stops.Stop.{Stop}
 use Rattle.byte_streams.specs.declared.stops.Stop.TheVariants as stop
-use Rattle.plain_commands.specs.Writing.{Gains, StopsShowing}
+use Rattle.file_answers.specs.Writing.{Gains, StopsShowing}
 
 pub stops_showing : (Shown : List ℕ → Type 0) (text shown : List ℕ) (r : Result Bool Stop) (old new : Option (List ℕ))
     → shown ≡ text → Shown text → IfErr r (λ s. is_of_output s ≡ true)

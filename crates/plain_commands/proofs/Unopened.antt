@@ -1,17 +1,10 @@
 -- What is written before a file is opened: nothing.
-use Rattle.std.proofs.Common.{◌≡◌, ◌-◌, ℕ, zero, suc, Bool, false, List, [], ◌∷◌, Option, None, Some, refl, drop}
-use Rattle.std.specs.Bool.{⊤}
+use Rattle.std.proofs.Common.{ℕ, Bool, false, List, [], Option, refl}
 use Rattle.std.proofs.KnownBytes.{Appends-kept, Appends-nil}
 use Rattle.std.specs.Io.KnownBytes.{Keeps}
-use Rattle.byte_streams.specs.Inputs.{MayBe}
-use Rattle.text_lines.specs.Replies.{IsReplyToFirst as IsReplyToFirstBy, LineReplies}
-use Rattle.byte_streams.specs.Stops.{AppendsBy, stop_of}
-use Rattle.byte_streams.specs.declared.inputs.InputFault.{InputFault}
-use Rattle.byte_streams.specs.declared.inputs.InputFault.TheVariants as fault
-use Rattle.byte_streams.specs.declared.stops.Stop.{Stop}
+use Rattle.text_lines.specs.Replies.{IsReplyToFirst as IsReplyToFirstBy}
 use Rattle.byte_streams.specs.declared.stops.Stop.TheVariants as stop
-use Rattle.plain_commands.specs.FileAnswers.{AnswersFirst, FileReplies, FirstReplies, IsReplyIn}
-use Rattle.plain_commands.specs.LinesFrom.{IsReplyToFirstOn}
+use Rattle.file_answers.proofs.Unopened.{answers_none, no_reply_on}
 use Rattle.plain_commands.specs.PositionLines.{StopsLines, first_position_replies}
 use Rattle.plain_commands.specs.declared.fen_commands.FenCommand.{FenCommand}
 use Rattle.plain_commands.specs.Solved.{LimitedNone, SolvesNone, StopsLimited, StopsSolving, first_limited_replies, first_record_replies}
@@ -20,39 +13,6 @@ use Rattle.problem_import.specs.Imports.{IsImportOfFirst, none as nothing_import
 use Rattle.plain_commands.specs.Imported.{StopsImporting, first_import_replies}
 use Rattle.plain_commands.specs.Told.{StopsTelling, TellsNone, first_tree_replies}
 use Rattle.plain_commands.specs.Verified.{VerifiesNone, StopsVerifying, first_claim_replies, has_several}
-
-some_input : (known : Option (List ℕ)) → (input : List ℕ) × MayBe known input
-some_input None = ([], tt)
-some_input (Some x) = (x, refl)
-
-no_reply_in : (holds : List ℕ → Option (List ℕ)) (P : FirstReplies) (from : ℕ) (names : List (List ℕ))
-    → ((from : ℕ) (name input : List ℕ) → P from name input []) → IsReplyIn holds P from names []
-no_reply_in holds P from [] none = refl
-no_reply_in holds P from (name ∷ names) none = let (input, may) = some_input (holds name) in (input, may, none from name input)
-
-pub answers_none : (holds : List ℕ → Option (List ℕ)) (R : FileReplies) (P : FirstReplies) (from : ℕ) (names : List (List ℕ))
-    → ((from : ℕ) (name input : List ℕ) → P from name input [])
-    → AnswersFirst holds R P from names (λ _. ⊤) []
-answers_none holds R P from names none =
-    record {
-      inputs = [];
-      whole = [];
-      refusals = 0;
-      part = [];
-      given = tt;
-      are_replies = (refl, refl);
-      next = no_reply_in holds P from names none;
-      text_is = refl;
-      stops = tt;
-    }
-
-none_dropped : {X : Type 0} (n : ℕ) → drop {A = X} n [] ≡ []
-none_dropped zero = refl
-none_dropped (suc n) = refl
-
-no_reply_on : (R : LineReplies) (from : ℕ) (input : List ℕ) → IsReplyToFirstOn R from input []
-unfolding IsReplyToFirstOn
-no_reply_on R from input = (0, 0, rw (none_dropped (from - 1)) (refl, refl))
 
 pub no_record_reply : (bound from : ℕ) (name input : List ℕ) → first_record_replies bound from name input []
 no_record_reply bound from name input = no_reply_on _ from input
@@ -138,13 +98,3 @@ tells_at_once holds refuses bound form from names old new kept = record {
   shows = tells_none holds bound form from names;
   appends = Appends-kept old old new [] (Appends-nil old) kept;
 }
-
-not_opened_by : (f : InputFault) (P : List ℕ → List ℕ → Type 0) (known old : Option (List ℕ)) → ((input : List ℕ) → P input [])
-    → (input : List ℕ) × (text : List ℕ) × MayBe known input × P input text × AppendsBy (stop_of f) old old text
-not_opened_by fault.Unreadable P known old none = let (input, may) = some_input known in (input, [], may, none input, Appends-nil old)
-not_opened_by fault.NoMemory P known old none = let (input, may) = some_input known in (input, [], may, none input, Appends-nil old)
-
-pub not_opened : (f : InputFault) (s : Stop) (P : List ℕ → List ℕ → Type 0) (known old : Option (List ℕ))
-    → ((input : List ℕ) → P input []) → s ≡ stop_of f
-    → (input : List ℕ) × (text : List ℕ) × MayBe known input × P input text × AppendsBy s old old text
-not_opened f s P known old none is = rw (is) (not_opened_by f P known old none)

@@ -3,11 +3,11 @@ use Rattle.std.proofs.Common.{◌≡◌, ◌∙◌, Bor, ℕ, Bool, List, Option
 use Rattle.std.specs.Bool.{⊤}
 use Rattle.std.proofs.lemmas.List.{length-map}
 use Rattle.byte_streams.specs.declared.stops.Stop.TheVariants as stop
-use Rattle.plain_commands.specs.FileAnswers.{Answers, AnswersFirst}
-use Rattle.plain_commands.specs.Sources.{HoldsEach}
+use Rattle.file_answers.specs.FileAnswers.{Answers, AnswersFirst}
+use Rattle.file_answers.specs.Sources.{HoldsEach}
 use Rattle.plain_commands.specs.Verified.{StopsVerifying, claim_replies, first_claim_replies, has_several}
-use Rattle.plain_commands.specs.Writing.{Gains}
-use Rattle.plain_commands.proofs.AnsweredFiles.{all_answered}
+use Rattle.file_answers.specs.Writing.{Gains}
+use Rattle.file_answers.proofs.AnsweredFiles.{all_answered}
 
 pub stops_uncounted : HoldsEach → (holds : List ℕ → Option (List ℕ)) (refuses : List ℕ → Type 0) (bound from : ℕ)
     (names : List (Bor (List ℕ))) (several unsound : Bool) (old new : Option (List ℕ))

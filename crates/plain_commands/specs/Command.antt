@@ -4,9 +4,9 @@ use Rattle.std.specs.Io.KnownBytes.{Keeps}
 use Rattle.clap.specs.Words.{Text}
 use Rattle.byte_streams.specs.declared.stops.Stop.{Stop}
 use Rattle.byte_streams.specs.declared.stops.Stop.TheVariants.{NoMemory, Unreadable, Unwritable, NoReader}
-use Rattle.plain_commands.specs.Sources.{SomeRefused}
-use Rattle.plain_commands.specs.Status.{status_of}
-use Rattle.plain_commands.specs.Writing.{Gains, GainsPart, StopsShowing}
+use Rattle.file_answers.specs.Sources.{SomeRefused}
+use Rattle.file_answers.specs.Status.{status_of}
+use Rattle.file_answers.specs.Writing.{Gains, GainsPart, StopsShowing}
 use Rattle.chess_views.specs.Counts.{divided_text, perft_text}
 use Rattle.chess_views.specs.Listings.{moves_text}
 use Rattle.chess_views.specs.Looks.{look_board_text, look_text}

@@ -2,7 +2,7 @@
 use Rattle.std.specs.Prelude.{ℕ, Bool, List, Option}
 use Rattle.problem_import.specs.Imports.{IsImport, IsImportOfFirst}
 use Rattle.byte_streams.specs.declared.stops.Stop.{Stop}
-use Rattle.plain_commands.specs.FileAnswers.{Answers, StopsAnswering}
+use Rattle.file_answers.specs.FileAnswers.{Answers, StopsAnswering}
 
 -- What a file is imported as, whatever it is called. No lines of it are passed over.
 abbrev pub import_replies : Bool → ℕ → List ℕ → List ℕ → List ℕ → ℕ → Type 0

@@ -1,17 +1,11 @@
-pub mod Sources
-pub mod Writing
-pub mod Status
 pub mod FenCommands
 pub mod Played
-pub mod LinesFrom
-pub mod FileAnswers
 pub mod PositionLines
 pub mod Solved
 pub mod Verified
 pub mod Told
 pub mod Imported
 pub mod Replayed
-pub mod inside
 pub mod Served
 pub mod Sheeted
 pub mod Command

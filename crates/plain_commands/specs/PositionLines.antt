@@ -8,7 +8,7 @@ use Rattle.command_words.specs.declared.request.LineView.TheVariants as asks
 use Rattle.plain_commands.specs.declared.fen_commands.FenCommand.{FenCommand}
 use Rattle.plain_commands.specs.declared.fen_commands.FenCommand.TheVariants.{Look, Board, MovesLine, Perft}
 use Rattle.plain_commands.specs.FenCommands.{shown_text}
-use Rattle.plain_commands.specs.FileAnswers.{Answers, StopsAnswering}
+use Rattle.file_answers.specs.FileAnswers.{Answers, StopsAnswering}
 
 -- the command over a FEN whose text answers a line
 abbrev pub command_of : LineView → FenCommand

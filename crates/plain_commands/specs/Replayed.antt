@@ -14,7 +14,7 @@ use Rattle.byte_streams.specs.declared.stops.Stop.{Stop}
 use Rattle.byte_streams.specs.declared.stops.Stop.TheVariants.{NoMemory, Unreadable, Unwritable, NoReader}
 use Rattle.desk_scripts.specs.Scripts.{IsFirstFault, IsScript, ScriptValue, step_value}
 use Rattle.chess_views.specs.Lines.{line}
-use Rattle.plain_commands.specs.Writing.{GainsPart}
+use Rattle.file_answers.specs.Writing.{GainsPart}
 
 -- replies, each on a line of its own
 unfoldable pub reply_lines : List Reply → List ℕ

@@ -7,8 +7,8 @@ use Rattle.command_words.specs.declared.request.SheetForm.{SheetForm}
 use Rattle.problem_sheets.specs.Contents.{AddsFiles, ContentsValue, has_refused, no_contents}
 use Rattle.problem_sheets.specs.Pages.{page_text}
 use Rattle.problem_sheets.specs.declared.pages.Form.{Form}
-use Rattle.plain_commands.specs.Sources.{Holds, SomeRefused}
-use Rattle.plain_commands.specs.Writing.{GainsPart}
+use Rattle.file_answers.specs.Sources.{Holds, SomeRefused}
+use Rattle.file_answers.specs.Writing.{GainsPart}
 
 -- what a page has, as the words ask for it
 abbrev pub page_form_of : SheetForm → Form

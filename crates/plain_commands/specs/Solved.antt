@@ -3,8 +3,8 @@ use Rattle.std.specs.Prelude.{ℕ, Bool, List, [], Option, ⊤}
 use Rattle.mate_answers.specs.InputReplies.{IsLineReply}
 use Rattle.mate_answers.specs.LimitedReplies.{IsLateReply, IsLimitedReply}
 use Rattle.byte_streams.specs.declared.stops.Stop.{Stop}
-use Rattle.plain_commands.specs.FileAnswers.{Answers, AnswersFirst, AnswersTold, StopsAnswering}
-use Rattle.plain_commands.specs.LinesFrom.{IsReplyOn, IsReplyToFirstOn}
+use Rattle.file_answers.specs.FileAnswers.{Answers, AnswersFirst, AnswersTold, StopsAnswering}
+use Rattle.file_answers.specs.LinesFrom.{IsReplyOn, IsReplyToFirstOn}
 
 -- What records are answered where they ask for no bound but this, whatever their file is called.
 abbrev pub record_replies : ℕ → ℕ → List ℕ → List ℕ → List ℕ → ℕ → Type 0

@@ -4,8 +4,8 @@ use Rattle.mate_tree.specs.TreeReplies.{IsTreeReply}
 use Rattle.mate_tree.specs.declared.forms.Form.{Form}
 use Rattle.command_words.specs.declared.request.TreeForm.{TreeForm}
 use Rattle.byte_streams.specs.declared.stops.Stop.{Stop}
-use Rattle.plain_commands.specs.FileAnswers.{Answers, AnswersFirst, StopsAnswering}
-use Rattle.plain_commands.specs.LinesFrom.{IsReplyOn, IsReplyToFirstOn}
+use Rattle.file_answers.specs.FileAnswers.{Answers, AnswersFirst, StopsAnswering}
+use Rattle.file_answers.specs.LinesFrom.{IsReplyOn, IsReplyToFirstOn}
 
 -- what is shown of a tree, as the words ask for it
 abbrev pub tree_form_of : TreeForm → Form

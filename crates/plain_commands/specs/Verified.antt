@@ -2,8 +2,8 @@
 use Rattle.std.specs.Prelude.{◌++◌, ℕ, Bool, List, [], Option, ⊤, codes, length, nat_lt, if◌then◌else◌}
 use Rattle.mate_claims.specs.ClaimReplies.{IsClaimReply}
 use Rattle.byte_streams.specs.declared.stops.Stop.{Stop}
-use Rattle.plain_commands.specs.FileAnswers.{Answers, AnswersFirst, StopsAnswering}
-use Rattle.plain_commands.specs.LinesFrom.{IsReplyOn, IsReplyToFirstOn}
+use Rattle.file_answers.specs.FileAnswers.{Answers, AnswersFirst, StopsAnswering}
+use Rattle.file_answers.specs.LinesFrom.{IsReplyOn, IsReplyToFirstOn}
 
 -- A row names its file where there are several.
 abbrev pub has_several : List (List ℕ) → Bool

@@ -15,15 +15,13 @@ use crate::position_answers::show_lines;
 use crate::replaying::replay;
 use crate::sheeting::{SheetAsked, sheet};
 use crate::solving::{solve, solves_none};
-use crate::sources::Source;
-use crate::status::{ANSWERED, MISUSED, no_memory, status_of};
 use crate::telling::{tells_none, tree};
 use crate::verifying::{verifies_none, verify};
-use crate::writing::complain;
 use byte_streams::{Stop, stop_of_output};
 use clap::Error;
 use clap::error::ErrorKind;
 use command_words::{Request, escaped, parse, request_of};
+use file_answers::{ANSWERED, MISUSED, Source, complain, no_memory, status_of};
 use std::alloc::Global;
 use std::io::Write;
 

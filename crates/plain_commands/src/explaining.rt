@@ -2,11 +2,11 @@
 
 ghost use Rattle.std.specs.Prelude.{◌≡◌, [], map, IfErr, IfOk, option_map, unwrap_or, false, true};
 ghost use Rattle.fault_explanations.specs.Explained.{Explains};
-ghost use Rattle.plain_commands.specs.Writing.{Gains, StopsShowing};
+ghost use Rattle.file_answers.specs.Writing.{Gains, StopsShowing};
 
-use crate::writing::{complain, show};
 use byte_streams::Stop;
 use fault_explanations::explained_text;
+use file_answers::{complain, show};
 use std::alloc::Global;
 use std::io::Write;
 

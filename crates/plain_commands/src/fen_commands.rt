@@ -4,10 +4,9 @@ ghost use Rattle.std.specs.Prelude.{◌≡◌, IfErr, IfOk, IfSome, IfNone, fals
 ghost use Rattle.chess_board.specs.Fens.{Spells, IsFault};
 ghost use Rattle.chess_board.specs.Soundness.{IsSound};
 ghost use Rattle.chess_board.specs.declared.faults.FenFault.{FenFault as FenFaultValue};
-ghost use Rattle.plain_commands.specs.Writing.{Gains, StopsShowing};
+ghost use Rattle.file_answers.specs.Writing.{Gains, StopsShowing};
 ghost use Rattle.plain_commands.specs.FenCommands.{ShowsFen, columns_of, shown_text};
 
-use crate::writing::{complain, show};
 use byte_streams::Stop;
 use chess_board::{Colour, Fen, read_fen};
 use chess_moves::Rays;
@@ -15,6 +14,7 @@ use chess_views::{
     Columns, divided_text, look_board_text, look_text, moves_line, moves_text, perft_text,
 };
 use command_words::{Depth, MoveForm};
+use file_answers::{complain, show};
 use problem_sheets::svg_text;
 use std::alloc::{AllocError, Global};
 use std::io::Write;

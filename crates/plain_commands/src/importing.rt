@@ -1,14 +1,13 @@
 //! The command `import`.
 
 ghost use Rattle.std.specs.Prelude.{IfErr, IfOk, map};
-ghost use Rattle.plain_commands.specs.Writing.{Gains};
+ghost use Rattle.file_answers.specs.Writing.{Gains};
 ghost use Rattle.plain_commands.specs.Imported.{ImportsFiles, StopsImporting};
 
-use crate::file_answers::{FileAnswers, FileStart, answer_files};
-use crate::sources::Source;
 use byte_streams::{Input, Stop};
 use chess_moves::Rays;
 use command_words::{Files, LineNumber};
+use file_answers::{FileAnswers, FileStart, Source, answer_files};
 use problem_import::import_input;
 use std::alloc::Global;
 use std::io::Write;
@@ -22,7 +21,7 @@ struct Imports<'a> {
 }
 
 impl<'a> FileAnswers for Imports<'a> {
-    ghost use Rattle.plain_commands.specs.FileAnswers.{unmarked};
+    ghost use Rattle.file_answers.specs.FileAnswers.{unmarked};
     ghost use Rattle.plain_commands.specs.Imported.{import_replies, first_import_replies};
 
     type Memory = ();

@@ -1,35 +1,39 @@
 //! The command `solve` where each record may take so many seconds.
 
 ghost use Rattle.std.specs.Prelude.{◌≡◌, ◌-◌, IfErr, IfOk, map};
-ghost use Rattle.plain_commands.specs.Writing.{Gains};
+ghost use Rattle.file_answers.specs.Writing.{Gains};
 ghost use Rattle.plain_commands.specs.Solved.{LimitedNone, SolvesLimited, StopsLimited};
 
-use crate::file_answers::{FileAnswers, FileStart, answer_files};
-use crate::lines_from::answer_lines_from;
-use crate::sources::Source;
 use byte_streams::{Input, Stop};
 use command_words::Files;
+use file_answers::{FileAnswers, FileStart, Source, answer_files, answer_lines_from};
 use mate_answers::{Limited, LimitedMemory, TimeLimit};
 use mate_search::Solver;
 use std::alloc::Global;
 use std::io::Write;
 
-impl<T: TimeLimit, V: Solver<T>> FileAnswers for Limited<'_, T, V> {
+/// Answers files of records so.
+#[derive(Clone, Copy)]
+struct LimitedRecords<'a, 'r, T, V> {
+    limited: &'a Limited<'r, T, V>,
+}
+
+impl<T: TimeLimit, V: Solver<T>> FileAnswers for LimitedRecords<'_, '_, T, V> {
     ghost use Rattle.plain_commands.specs.Solved.{limited_replies, limited_told, first_limited_replies};
 
     type Memory = LimitedMemory<V::Memory>;
 
-    ghost ready = { λ limited. V.ready limited.solver };
+    ghost ready = { λ records. V.ready records.limited.now.solver };
 
-    ghost replies = { λ limited. limited_replies limited.seconds limited.default };
+    ghost replies = { λ records. limited_replies records.limited.now.seconds records.limited.now.default };
 
-    ghost told = { λ limited. limited_told limited.seconds limited.default };
+    ghost told = { λ records. limited_told records.limited.now.seconds records.limited.now.default };
 
     ghost tally = { λ memory. memory.undecided };
 
     ghost tells = { λ _ _ _ _ _ _ _ told. told.0 };
 
-    ghost first = { λ limited. first_limited_replies limited.seconds limited.default };
+    ghost first = { λ records. first_limited_replies records.limited.now.seconds records.limited.now.default };
 
     fn answer<S: Source, I: Input + Drop, O: Write>(
         &self,
@@ -39,7 +43,7 @@ impl<T: TimeLimit, V: Solver<T>> FileAnswers for Limited<'_, T, V> {
         memory: &mut LimitedMemory<V::Memory>,
         out: &mut O,
     ) -> Result<usize, Stop> {
-        answer_lines_from(alloc, self, start, input, memory, out)
+        answer_lines_from(alloc, self.limited, start, input, memory, out)
     }
 
     fn begins_with_nothing(&self) {}
@@ -62,7 +66,15 @@ pub fn solve_limited<T: TimeLimit, V: Solver<T>, S: Source, O: Write, E: Write>(
     ensures err { IfErr result (λ stop. StopsLimited (S.holds source.now) (S.refuses source.now) limited.now.seconds limited.now.default
         files.now.from (map (λ s. s.now) files.now.names.now) stop (O.contents out.old) (O.contents out.new)) }
 {
-    answer_files(alloc, limited, files, source, memory, out, err)
+    answer_files(
+        alloc,
+        &LimitedRecords { limited },
+        files,
+        source,
+        memory,
+        out,
+        err,
+    )
 }
 
 /// What that has written where it ends before it has opened a file. It does nothing: its contract is the law.

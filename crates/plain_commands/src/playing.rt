@@ -2,15 +2,15 @@
 
 ghost use Rattle.std.specs.Prelude.{◌≡◌, ℕ, [], Ok, Err, IfErr, IfOk, IfSome, IfNone, false, map, option_map, unwrap_or};
 ghost use Rattle.chess_views.specs.Played.{played};
-ghost use Rattle.plain_commands.specs.Writing.{Gains, StopsShowing};
+ghost use Rattle.file_answers.specs.Writing.{Gains, StopsShowing};
 ghost use Rattle.plain_commands.specs.Played.{ShowsPlay};
 
 use crate::fen_commands::read;
-use crate::writing::{complain_move, show};
 use byte_streams::Stop;
 use chess_board::Fen;
 use chess_moves::Rays;
 use chess_views::{play, reached_text};
+use file_answers::{complain_move, show};
 use position_lines::line_fen;
 use std::alloc::Global;
 use std::io::Write;

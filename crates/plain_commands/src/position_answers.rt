@@ -1,16 +1,15 @@
 //! The commands over lines of positions: `look`, `moves` and `perft` with `--lines`.
 
 ghost use Rattle.std.specs.Prelude.{◌≡◌, IfErr, IfOk, map};
-ghost use Rattle.plain_commands.specs.Writing.{Gains};
+ghost use Rattle.file_answers.specs.Writing.{Gains};
 ghost use Rattle.plain_commands.specs.PositionLines.{ShowsLines, StopsLines, command_of};
 
 use crate::fen_commands::{FenCommand, shown_text};
-use crate::file_answers::{FileAnswers, FileStart, answer_files};
-use crate::sources::Source;
 use byte_streams::{Input, Stop};
 use chess_board::Fen;
 use chess_moves::Rays;
 use command_words::{Files, LineNumber, LineView};
+use file_answers::{FileAnswers, FileStart, Source, answer_files};
 use position_lines::{FenView, answer_positions};
 use std::alloc::{AllocError, Global};
 use std::io::Write;
@@ -33,7 +32,7 @@ impl FenView for PositionAnswers<'_> {
 }
 
 impl FileAnswers for PositionAnswers<'_> {
-    ghost use Rattle.plain_commands.specs.FileAnswers.{unmarked};
+    ghost use Rattle.file_answers.specs.FileAnswers.{unmarked};
     ghost use Rattle.plain_commands.specs.PositionLines.{first_position_replies, position_replies};
 
     type Memory = ();

@@ -1,18 +1,17 @@
 //! The command `replay`.
 
 ghost use Rattle.std.specs.Prelude.{◌≡◌, ℕ, [], IfErr, IfOk, IfSome, IfNone, false, true, map};
-ghost use Rattle.plain_commands.specs.Writing.{Gains};
+ghost use Rattle.file_answers.specs.Writing.{Gains};
 ghost use Rattle.plain_commands.specs.Replayed.{HasNoDesk, Replays, ReplaysFile, Runs, StopsReplaying, reply_lines as lines_of_replies};
 ghost use Rattle.desk_scripts.specs.Scripts.{IsFirstFault, IsScript, script_value};
 
 use crate::solving::new_memo;
-use crate::sources::{Source, read_file};
-use crate::writing::{complain, complain_faulty, show};
 use byte_streams::Stop;
 use chess_moves::Rays;
 use chess_notation::NoMemory;
 use chess_views::push_line;
 use desk_scripts::{Script, ScriptFault, read_script};
+use file_answers::{Source, complain, complain_faulty, read_file, show};
 use mate_desk::{Reply, RunFault, reply_text, run};
 use std::alloc::Global;
 use std::io::Write;

@@ -1,16 +1,16 @@
 //! The command `sheet`.
 
 ghost use Rattle.std.specs.Prelude.{◌≡◌, ◌≤◌, ◌⊎◌, IfErr, IfOk, map};
-ghost use Rattle.plain_commands.specs.Sources.{SomeRefused};
-ghost use Rattle.plain_commands.specs.Writing.{Gains};
+ghost use Rattle.file_answers.specs.Sources.{SomeRefused};
+ghost use Rattle.file_answers.specs.Writing.{Gains};
 ghost use Rattle.plain_commands.specs.Sheeted.{Sheets, StopsSheet, page_form_of};
 
 use crate::solving::new_memo;
-use crate::sources::{Source, read_files};
 use byte_streams::{Stop, put};
 use chess_moves::Rays;
 use chess_problems::Bound;
 use command_words::{MemoSize, SheetForm};
+use file_answers::{Source, read_files};
 use problem_sheets::{Form, add_files, page_text};
 use std::alloc::Global;
 use std::io::Write;

@@ -1,16 +1,14 @@
 //! The command `solve`.
 
 ghost use Rattle.std.specs.Prelude.{◌≡◌, ◌≤◌, IfErr, IfOk, map};
-ghost use Rattle.plain_commands.specs.Writing.{Gains};
+ghost use Rattle.file_answers.specs.Writing.{Gains};
 ghost use Rattle.plain_commands.specs.Solved.{Solves, SolvesNone, StopsSolving};
 
-use crate::file_answers::{FileAnswers, FileStart, answer_files};
-use crate::lines_from::answer_lines_from;
-use crate::sources::Source;
 use byte_streams::{Input, Stop};
 use chess_moves::Rays;
 use chess_problems::Bound;
 use command_words::{Files, MemoSize};
+use file_answers::{FileAnswers, FileStart, Source, answer_files, answer_lines_from};
 use mate_answers::Answers;
 use mate_search::{Memo, MemoFault, Never, OneThread, Solver};
 use std::alloc::Global;
@@ -29,21 +27,27 @@ pub fn new_memo(alloc: Global, entries: usize) -> Result<Memo, Stop>
     }
 }
 
-impl<V: Solver<Never>> FileAnswers for Answers<'_, V> {
-    ghost use Rattle.plain_commands.specs.FileAnswers.{unmarked};
+/// Answers files of records so.
+#[derive(Clone, Copy)]
+struct RecordAnswers<'a, 'r, V> {
+    answers: &'a Answers<'r, V>,
+}
+
+impl<V: Solver<Never>> FileAnswers for RecordAnswers<'_, '_, V> {
+    ghost use Rattle.file_answers.specs.FileAnswers.{unmarked};
     ghost use Rattle.plain_commands.specs.Solved.{record_replies, first_record_replies};
 
     type Memory = V::Memory;
 
-    ghost ready = { λ answers. V.ready answers.solver };
+    ghost ready = { λ records. V.ready records.answers.now.solver };
 
-    ghost replies = { λ answers. record_replies answers.default };
+    ghost replies = { λ records. record_replies records.answers.now.default };
 
-    ghost told = { λ answers. unmarked (record_replies answers.default) };
+    ghost told = { λ records. unmarked (record_replies records.answers.now.default) };
 
     ghost tells = { λ _ _ _ _ _ _ _ told. told };
 
-    ghost first = { λ answers. first_record_replies answers.default };
+    ghost first = { λ records. first_record_replies records.answers.now.default };
 
     fn answer<S: Source, I: Input + Drop, O: Write>(
         &self,
@@ -53,7 +57,7 @@ impl<V: Solver<Never>> FileAnswers for Answers<'_, V> {
         memory: &mut V::Memory,
         out: &mut O,
     ) -> Result<usize, Stop> {
-        answer_lines_from(alloc, self, start, input, memory, out)
+        answer_lines_from(alloc, self.answers, start, input, memory, out)
     }
 
     #[tactic(auto, using(crate::proofs::Unopened::no_record_reply))]
@@ -102,7 +106,15 @@ pub fn solve_by<V: Solver<Never>, S: Source, O: Write, E: Write>(
     ensures err { IfErr result (λ stop. StopsSolving (S.holds source.now) (S.refuses source.now) answers.now.default files.now.from
         (map (λ s. s.now) files.now.names.now) stop (O.contents out.old) (O.contents out.new)) }
 {
-    answer_files(alloc, answers, files, source, memory, out, err)
+    answer_files(
+        alloc,
+        &RecordAnswers { answers },
+        files,
+        source,
+        memory,
+        out,
+        err,
+    )
 }
 
 /// What a `solve` that ends before it has opened a file has written. It does nothing: its contract is the law.

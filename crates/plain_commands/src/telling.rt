@@ -1,17 +1,15 @@
 //! The command `tree`.
 
 ghost use Rattle.std.specs.Prelude.{◌≡◌, IfErr, IfOk, map};
-ghost use Rattle.plain_commands.specs.Writing.{Gains};
+ghost use Rattle.file_answers.specs.Writing.{Gains};
 ghost use Rattle.plain_commands.specs.Told.{StopsTelling, Tells, TellsNone, tree_form_of};
 
-use crate::file_answers::{FileAnswers, FileStart, answer_files};
 use crate::solving::new_memo;
-use crate::sources::Source;
-use crate::written_from::write_lines_from;
 use byte_streams::{Input, Stop};
 use chess_moves::Rays;
 use chess_problems::Bound;
 use command_words::{Files, TreeForm};
+use file_answers::{FileAnswers, FileStart, Source, answer_files, write_lines_from};
 use mate_search::Memo;
 use mate_tree::{Form, TreeReplies};
 use std::alloc::Global;
@@ -41,7 +39,7 @@ fn form_of(form: &TreeForm) -> Form
 }
 
 impl<'a> FileAnswers for TreeAnswers<'a> {
-    ghost use Rattle.plain_commands.specs.FileAnswers.{unmarked};
+    ghost use Rattle.file_answers.specs.FileAnswers.{unmarked};
     ghost use Rattle.plain_commands.specs.Told.{tree_replies, first_tree_replies};
 
     type Memory = Memo;

@@ -1,18 +1,17 @@
 //! The command `verify`.
 
 ghost use Rattle.std.specs.Prelude.{◌≡◌, ◌++◌, IfErr, IfOk, map};
-ghost use Rattle.plain_commands.specs.Writing.{Gains};
+ghost use Rattle.file_answers.specs.Writing.{Gains};
 ghost use Rattle.plain_commands.specs.Verified.{StopsVerifying, Verifies, VerifiesNone, has_several, prefix_of};
 
-use crate::file_answers::{FileAnswers, FileStart, answer_files};
-use crate::lines_from::answer_lines_from;
 use crate::solving::new_memo;
-use crate::sources::{Source, holds_reads};
-use crate::writing::complain;
 use byte_streams::{Input, Stop};
 use chess_moves::Rays;
 use chess_problems::Bound;
 use command_words::{Files, MemoSize};
+use file_answers::{
+    FileAnswers, FileStart, Source, answer_files, answer_lines_from, complain, holds_reads,
+};
 use mate_claims::{ClaimMemory, ClaimRows, Counts};
 use std::alloc::{AllocError, Global};
 use std::io::Write;
@@ -39,7 +38,7 @@ fn prefix_of(alloc: Global, several: bool, name: &str) -> Result<Vec<u8>, AllocE
 }
 
 impl<'a> FileAnswers for ClaimAnswers<'a> {
-    ghost use Rattle.plain_commands.specs.FileAnswers.{unmarked};
+    ghost use Rattle.file_answers.specs.FileAnswers.{unmarked};
     ghost use Rattle.plain_commands.specs.Verified.{claim_replies, first_claim_replies};
 
     type Memory = ClaimMemory;

@@ -2,7 +2,8 @@
 
 ghost use Rattle.std.specs.Prelude.{None, ⊤};
 
-use plain_commands::{Reading, Source, SourceFault, plain_command, whole};
+use file_answers::{Reading, Source, SourceFault, whole};
+use plain_commands::plain_command;
 use std::alloc::Global;
 use std::io;
 use std::io::{Read, Write};

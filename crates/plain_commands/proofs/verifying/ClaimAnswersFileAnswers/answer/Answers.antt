@@ -1,7 +1,8 @@
 use Rattle.std.proofs.lemmas.Result.{err_from_is_err_and}
 use Rattle.byte_streams.specs.declared.inputs.InputFault.TheVariants as fault
 use Rattle.plain_commands.specs.Verified.{first_claim_replies}
-use Rattle.plain_commands.proofs.Unopened.{no_claim_reply, not_opened}
+use Rattle.file_answers.proofs.Unopened.{not_opened}
+use Rattle.plain_commands.proofs.Unopened.{no_claim_reply}
 use Rattle.plain_commands.proofs.verifying.ClaimAnswersFileAnswers.answer.Goals as goal
 
 pub returns-in_err-prefix-clause-err : goal.returns-in_err-prefix-clause-err

@@ -1,0 +1,223 @@
+//! How far a command is: what the thread that answers leaves for the one that tells of it.
+
+use crate::said::{MOVES, Said};
+use std::alloc::{AllocError, Global};
+use std::sync::atomic::{AtomicU64, Ordering};
+
+/// How many ticks a second has.
+pub(crate) const TICKS_A_SECOND: u64 = 10;
+
+/// How many bytes of a file's name are told.
+pub(crate) const MOST_OF_NAME: usize = 30;
+
+/// The file that is answered, the line of it, and what came of the lines before. Each number is written by one thread alone.
+#[derive(Drop)]
+pub struct Progress {
+    /// The words of the command line, among which the files are named.
+    words: Vec<String>,
+    /// Which of them names the file that was opened last, and 0 before the first.
+    file: AtomicU64,
+    /// How many bytes that file has, and 0 where that isn't known.
+    size: AtomicU64,
+    /// How many of them were read.
+    read: AtomicU64,
+    /// The line that was begun last, and at which tick.
+    line: AtomicU64,
+    began: AtomicU64,
+    /// How many lines workers are to take, and how many they took.
+    waiting: AtomicU64,
+    pub(crate) taken: AtomicU64,
+    /// How many replies there were.
+    replies: AtomicU64,
+    refused: AtomicU64,
+    no_mate: AtomicU64,
+    undecided: AtomicU64,
+    /// How many mates there were, by the number of moves.
+    mates: Vec<AtomicU64>,
+    /// How many ticks there were, and whether the thread that counts them is to end.
+    pub(crate) ticks: AtomicU64,
+    pub(crate) has_ended: AtomicU64,
+}
+
+/// Adds one to a number.
+fn add_one(number: &AtomicU64) {
+    number.fetch_add(1, Ordering::SeqCst);
+}
+
+/// The number that a thread left.
+fn now(number: &AtomicU64) -> u64 {
+    number.load(Ordering::SeqCst)
+}
+
+/// The end of a file's name, in so many bytes at most.
+fn end_of_name(name: &str, most: usize) -> &str {
+    let first = name.len().saturating_sub(most);
+    for at in first..name.len() {
+        if let Some(end) = name.get(at..) {
+            return end;
+        }
+    }
+    name
+}
+
+impl Progress {
+    /// That of words of which nothing is answered yet.
+    pub(crate) fn new(alloc: Global, words: &[String]) -> Result<Progress, AllocError> {
+        let mut own = Vec::new(alloc);
+        for word in words {
+            own.push(String::from_str(alloc, word.as_str())?)?;
+        }
+        let mut mates = Vec::new(alloc);
+        for _ in 0..MOVES {
+            mates.push(AtomicU64::new(0))?;
+        }
+        Ok(Progress {
+            words: own,
+            file: AtomicU64::new(0),
+            size: AtomicU64::new(0),
+            read: AtomicU64::new(0),
+            line: AtomicU64::new(0),
+            began: AtomicU64::new(0),
+            waiting: AtomicU64::new(0),
+            taken: AtomicU64::new(0),
+            replies: AtomicU64::new(0),
+            refused: AtomicU64::new(0),
+            no_mate: AtomicU64::new(0),
+            undecided: AtomicU64::new(0),
+            mates,
+            ticks: AtomicU64::new(0),
+            has_ended: AtomicU64::new(0),
+        })
+    }
+
+    /// The file of this name was opened, and has so many bytes, if that is known.
+    pub(crate) fn open(&self, name: &str, size: Option<u64>) {
+        for (index, word) in self.words.iter().enumerate() {
+            if word.as_str() == name {
+                self.file.store(index as u64, Ordering::SeqCst);
+            }
+        }
+        self.size.store(size.unwrap_or(0), Ordering::SeqCst);
+        self.read.store(0, Ordering::SeqCst);
+        self.line.store(0, Ordering::SeqCst);
+    }
+
+    /// So many bytes more were read.
+    pub(crate) fn read(&self, count: usize) {
+        self.read.fetch_add(count as u64, Ordering::SeqCst);
+    }
+
+    /// The line of this number was begun.
+    pub(crate) fn begin(&self, number: usize) {
+        self.began.store(now(&self.ticks), Ordering::SeqCst);
+        self.line.store(number as u64, Ordering::SeqCst);
+    }
+
+    /// So many lines more wait for workers.
+    pub(crate) fn wait(&self, count: u64) {
+        self.waiting.fetch_add(count, Ordering::SeqCst);
+    }
+
+    /// A line was printed that says this.
+    pub(crate) fn count(&self, said: Said) {
+        match said {
+            Said::Nothing => return,
+            Said::Mate(moves) => {
+                if let Some(mates) = self.mates.get(moves as usize) {
+                    add_one(mates);
+                }
+            }
+            Said::NoMate => add_one(&self.no_mate),
+            Said::Undecided => add_one(&self.undecided),
+            Said::Refused => add_one(&self.refused),
+            Said::Row => {}
+        }
+        add_one(&self.replies);
+    }
+    /// How long a number of ticks is, in seconds.
+    fn seconds_since(&self, tick: u64) -> u64 {
+        now(&self.ticks).saturating_sub(tick) / TICKS_A_SECOND
+    }
+
+    /// What came of the lines until now.
+    fn push_counts(&self, alloc: Global, text: &mut String) -> Result<(), AllocError> {
+        let replies = now(&self.replies);
+        text.push_str(format!(in alloc; "{replies} answered")?.as_str())?;
+        let refused = now(&self.refused);
+        if refused > 0 {
+            text.push_str(format!(in alloc; ", {refused} refused")?.as_str())?;
+        }
+        Ok(())
+    }
+
+    /// How far workers are.
+    fn told_of_workers(&self, alloc: Global, waiting: u64) -> Result<String, AllocError> {
+        let taken = now(&self.taken);
+        let seconds = self.seconds_since(0);
+        format!(in alloc; "{taken} of {waiting} lines begun, {seconds} s")
+    }
+
+    /// The file that was opened last, by the end of its name, in so many bytes at most.
+    fn name(&self, most: usize) -> &str {
+        match self.words.get(now(&self.file) as usize) {
+            Some(name) => end_of_name(name.as_str(), most),
+            None => "-",
+        }
+    }
+
+    /// How far all is, on one line, with so many bytes of the file's name; nothing before a line is begun.
+    pub(crate) fn told(&self, alloc: Global, most: usize) -> Result<String, AllocError> {
+        let waiting = now(&self.waiting);
+        if waiting > 0 {
+            return self.told_of_workers(alloc, waiting);
+        }
+        let mut text = String::new(alloc);
+        let name = self.name(most);
+        let line = now(&self.line);
+        if line == 0 {
+            return Ok(text);
+        }
+        let seconds = self.seconds_since(now(&self.began));
+        text.push_str(format!(in alloc; "{name}: line {line} for {seconds} s, ")?.as_str())?;
+        self.push_counts(alloc, &mut text)?;
+        let size = now(&self.size);
+        if size > 0 {
+            let part = now(&self.read).saturating_mul(100) / size;
+            text.push_str(format!(in alloc; ", {part} % read")?.as_str())?;
+        }
+        Ok(text)
+    }
+
+    /// What came of it all: how long it took, what was said how often, and where it stopped before its end.
+    pub(crate) fn summary(&self, alloc: Global, stopped: bool) -> Result<String, AllocError> {
+        let replies = now(&self.replies);
+        let ticks = now(&self.ticks);
+        let seconds = ticks / TICKS_A_SECOND;
+        let tenths = ticks % TICKS_A_SECOND;
+        let mut text = format!(in alloc; "{replies} answered in {seconds}.{tenths} s")?;
+        for (moves, mates) in self.mates.iter().enumerate() {
+            let count = now(mates);
+            if count > 0 {
+                text.push_str(format!(in alloc; ", {count} mate in {moves}")?.as_str())?;
+            }
+        }
+        for (number, said) in [
+            (&self.no_mate, "no mate"),
+            (&self.undecided, "not decided"),
+            (&self.refused, "refused"),
+        ] {
+            let count = now(number);
+            if count > 0 {
+                text.push_str(format!(in alloc; ", {count} {said}")?.as_str())?;
+            }
+        }
+        let line = now(&self.line);
+        if stopped && line > 0 {
+            text.push_str(format!(in alloc;
+                "; stopped at {}: line {line}",
+                self.name(MOST_OF_NAME)
+            )?.as_str())?;
+        }
+        Ok(text)
+    }
+}

@@ -1,0 +1,50 @@
+use Rattle.std.proofs.Common.{rules, ◌++◌, [], arith, refl}
+use Rattle.std.proofs.KnownBytes.{Appends-nil, Appends-trans}
+use Rattle.file_answers.proofs.AnsweredFiles.{all_told, answered_none, answers_next, stops_there}
+use Rattle.file_answers.proofs.file_answers.answer_files.Goals as goal
+
+pub loop-name-init : goal.loop-name-init
+loop-name-init g c = ([], answered_none _ _ _ _, omega arith, Appends-nil (g.O.Write.contents c.args.out.now))
+
+pub returns-then-eq-clause-err : goal.returns-then-eq-clause-err
+returns-then-eq-clause-err g c =
+    let (gained, so_far, grown, before) = c.loop-name.invariant in
+    let (input, part, may, reply, appends) = c.in-Err.ensures.err in
+    stops_there c.holds_reads.ensures.each (g.S.Source.holds c.args.source.now) (g.S.Source.refuses c.args.source.now)
+    (g.A.FileAnswers.told c.args.answers.now) (g.A.FileAnswers.replies c.args.answers.now)
+    (g.A.FileAnswers.first c.args.answers.now) (g.A.FileAnswers.tells c.args.answers.now) c.args.files.now.from c.args.files.now.names.now
+    c.loop-name.name-index _ c.loop-name.from c.loop-name.refused _ c.in-Err.stop (g.O.Write.contents c.args.out.now) _ _ gained
+    input part (search rules) so_far before may reply appends c.in-Err.ensures.unreadable
+
+pub returns-else-eq-clause-err : goal.returns-else-eq-clause-err
+returns-else-eq-clause-err g c =
+    let (gained, so_far, grown, before) = c.loop-name.invariant in
+    let (input, part, may, reply, appends) = c.in-Err.ensures.err in
+    stops_there c.holds_reads.ensures.each (g.S.Source.holds c.args.source.now) (g.S.Source.refuses c.args.source.now)
+    (g.A.FileAnswers.told c.args.answers.now) (g.A.FileAnswers.replies c.args.answers.now)
+    (g.A.FileAnswers.first c.args.answers.now) (g.A.FileAnswers.tells c.args.answers.now) c.args.files.now.from c.args.files.now.names.now
+    c.loop-name.name-index _ c.loop-name.from c.loop-name.refused _ c.in-Err.stop (g.O.Write.contents c.args.out.now) _ _ gained
+    input part (search rules) so_far before may reply appends c.in-Err.ensures.unreadable
+
+pub loop-name-preserved : goal.loop-name-preserved
+loop-name-preserved g c =
+    let (gained, so_far, grown, before) = c.loop-name.invariant in
+    let (input, text, may, reply, appends) = c.in-Ok.ensures.ok in (
+      gained ++ text,
+      rw c.first-from.ensures (answers_next c.holds_reads.ensures.more (g.S.Source.holds c.args.source.now)
+          (g.A.FileAnswers.told c.args.answers.now) c.args.files.now.from c.args.files.now.names.now c.loop-name.name-index _
+          c.loop-name.from c.loop-name.refused _ _ _ _ gained input text c.in-Ok.count
+          (search rules) grown c.in-Ok.ensures.grows so_far may reply refl),
+      omega (arith, grown, c.in-Ok.ensures.grows),
+      Appends-trans _ _ _ gained text before appends,
+    )
+
+pub returns-clause-ok : goal.returns-clause-ok
+returns-clause-ok g c =
+    let (gained, so_far, grown, appends) = c.loop-name.invariant in record {
+      gained = gained;
+      shows = all_told (g.A.FileAnswers.told c.args.answers.now) (g.A.FileAnswers.replies c.args.answers.now)
+          (g.A.FileAnswers.tells c.args.answers.now) (g.S.Source.holds c.args.source.now) c.args.files.now.from c.args.files.now.names.now
+          c.loop-name.name-index c.loop-name.from c.loop-name.refused _ gained c.loop-name-test.false so_far;
+      appends = appends;
+    }

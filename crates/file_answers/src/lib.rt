@@ -1,0 +1,31 @@
+//! Files by their names, answered line by line and one after the other, and what all commands share: what is shown, messages, and the status
+//! at the end.
+//!
+//! What a line is answered is the business of a `LineHandler` or a `LineWriter` of `text_lines`, and what a command answers its files that of
+//! `FileAnswers`. To read: `sources` (a `Source` is the files that a command may read) and `files` (those of the system); `writing` and
+//! `status`; then `file_answers`, where `answer_files` goes from file to file, with `lines_from` and `written_from` (the lines from one on);
+//! and `outputs`, which were made elsewhere.
+#![tactic(auto)]
+
+mod file_answers;
+mod files;
+mod lines_from;
+mod outputs;
+mod sources;
+mod status;
+mod writing;
+mod written_from;
+
+pub use file_answers::{FileAnswers, FileStart, answer_files};
+pub use files::{FileSystem, Reading, Stream};
+pub use lines_from::answer_lines_from;
+pub use outputs::put_outputs;
+pub use sources::{Source, SourceFault, holds_reads, read_file, read_files, whole};
+pub use status::{
+    ANSWERED, IN_PART, MISUSED, NO_MEMORY, NO_THREAD, REFUSED, UNREADABLE, UNWRITABLE, in_part,
+    no_memory, status_of, unwritable,
+};
+pub use writing::{
+    complain, complain_faulty, complain_move, complain_undecided, complain_unreadable, show,
+};
+pub use written_from::write_lines_from;

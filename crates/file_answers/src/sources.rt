@@ -1,0 +1,127 @@
+//! Where files come from.
+
+ghost use Rattle.std.specs.Prelude.{◌≡◌, ◌⊎◌, ℕ, List, Option, IfErr, IfOk, length, map};
+ghost use Rattle.byte_streams.specs.Inputs.{MayBe};
+ghost use Rattle.file_answers.specs.Sources.{Holds, HoldsEach, HoldsMore, SomeRefused};
+
+use crate::writing::complain_unreadable;
+use byte_streams::{Input, Stop};
+use std::alloc::Global;
+use std::io::Write;
+use std::sync::atomic::AtomicU64;
+use text_lines::Output;
+
+/// How many bytes are asked for at once.
+const PIECE: usize = 4096;
+
+/// Why a file can't be had: it can't be read, or memory was refused.
+pub use byte_streams::InputFault as SourceFault;
+
+/// Files by their names. It may have itself told of their lines while these are answered; no answer depends on that.
+pub trait Source {
+    /// A file that was opened.
+    type File: Input + Drop;
+
+    /// What the file of a name holds, where that is known.
+    ghost holds: { Self → List ℕ → Option (List ℕ) };
+
+    /// The file of a name may be refused, or break off before its end.
+    ghost refuses: { Self → List ℕ → Type 0 };
+
+    /// The file of this name, of which nothing is read yet.
+    fn open(&self, alloc: Global, name: &str) -> Result<Self::File, SourceFault>
+        ensures bytes { IfOk result (λ file. Self.File.Input.left file ≡ holds self.now name.now) }
+        ensures breaks { IfOk result (λ file. Self.File.Input.breaks file → refuses self.now name.now) }
+        ensures refused { IfErr result (λ fault. fault ≡ SourceFault.Unreadable → refuses self.now name.now) };
+
+    /// All bytes of the file of this name.
+    fn read(&self, alloc: Global, name: &str) -> Result<Vec<u8>, SourceFault>
+        ensures bytes { IfOk result (λ bytes. MayBe (holds self.now name.now) bytes.items) }
+        ensures refused { IfErr result (λ fault. fault ≡ SourceFault.Unreadable → refuses self.now name.now) };
+
+    /// How many bytes the file of this name has, where that is known before it is read.
+    fn size(&self, _name: &str) -> Option<u64> {
+        None
+    }
+
+    /// Is told that the line of this number is begun, of the file that was opened last.
+    fn begins(&self, _number: usize) {}
+
+    /// What counts the lines that workers take, whichever they are; none where nobody asks.
+    fn taken(&self) -> Option<&AtomicU64> {
+        None
+    }
+
+    /// Is told the reply to a line that was begun, or the replies to those that were taken.
+    fn ends(&self, _reply: &Output) {}
+
+    /// Is told that the reply to a line that was begun is written, and how many lines it refuses.
+    fn wrote(&self, _refused: usize) {}
+}
+
+/// Reads a file to its end.
+pub fn whole<I: Input + Drop>(alloc: Global, file: I) -> Result<Vec<u8>, SourceFault>
+    ensures bytes { IfOk result (λ bytes. MayBe (I.left file) bytes.items) }
+    ensures refused { IfErr result (λ fault. fault ≡ SourceFault.Unreadable → I.breaks file) }
+{
+    let mut file = file;
+    let mut bytes = Vec::new(alloc);
+    let mut room = Vec::from_elem(alloc, 0, PIECE)?;
+    for _ in 0..u64::MAX {
+        let count = file.read(room.as_mut_slice())?;
+        if count == 0 {
+            return Ok(bytes);
+        }
+        bytes.extend_from_slice(&room.as_slice()[..count])?;
+    }
+    Err(SourceFault::NoMemory)
+}
+
+/// All bytes of a file. One that can't be read is named on `err`.
+pub fn read_file<S: Source, E: Write>(
+    alloc: Global,
+    name: &str,
+    source: &S,
+    err: &mut E,
+) -> Result<Vec<u8>, Stop>
+    ensures bytes { IfOk result (λ bytes. MayBe (S.holds source.now name.now) bytes.items) }
+    ensures refused { IfErr result (λ stop. (stop ≡ Stop.NoMemory) ⊎ ((stop ≡ Stop.Unreadable) × S.refuses source.now name.now)) }
+{
+    match source.read(alloc, name) {
+        Ok(bytes) => Ok(bytes),
+        Err(SourceFault::NoMemory) => Err(Stop::NoMemory),
+        Err(SourceFault::Unreadable) => {
+            complain_unreadable(err, name);
+            Err(Stop::Unreadable)
+        }
+    }
+}
+
+/// All bytes of each file, in order. The first that can't be read is named on `err`, and none behind it is opened.
+pub fn read_files<S: Source, E: Write>(
+    alloc: Global,
+    names: &[&str],
+    source: &S,
+    err: &mut E,
+) -> Result<Vec<Vec<u8>>, Stop>
+    ensures count { IfOk result (λ files. length files.items ≡ length names.now) }
+    ensures bytes { IfOk result (λ files. Holds (S.holds source.now) (map (λ s. s.now) names.now) (map (λ bytes. bytes.items) files.items)) }
+    ensures refused { IfErr result (λ stop. (stop ≡ Stop.NoMemory)
+        ⊎ ((stop ≡ Stop.Unreadable) × SomeRefused (S.refuses source.now) (map (λ s. s.now) names.now))) }
+{
+    let mut files = Vec::new(alloc);
+    for name in names {
+        let bytes = read_file(alloc, name, source, err)?;
+        let Ok(()) = files.push(bytes) else {
+            return Err(Stop::NoMemory);
+        };
+    }
+    Ok(files)
+}
+
+/// What `Holds` says of names and inputs, however many they are. It does nothing: its contract is the law.
+#[tactic(auto, using(crate::proofs::HeldFiles::holds_each, crate::proofs::HeldFiles::holds_more))]
+pub fn holds_reads()
+    ensures each { HoldsEach }
+    ensures more { HoldsMore }
+{}
