@@ -82,7 +82,7 @@ label_text p = side_words p.side ++ each_square (name_at White p.men) ++ each_sq
 abbrev pub mark_text : Colour → Colour → List ℕ
 mark_text from White = []
 mark_text White Black = codes "<use href=\"#mark\"/>"
-mark_text Black Black = codes "<use href=\"#mark\" y=\"348\"/>"
+mark_text Black Black = codes "<use href=\"#mark\" y=\"262\"/>"
 
 -- the board, the men on it, and the mark
 unfoldable pub board_text : List ℕ

@@ -217,7 +217,7 @@ fn push_mark(text: &mut Vec<u8>, from: Colour, position: &Position) -> Result<()
         (Colour::White, _) => Ok(()),
         (Colour::Black, Colour::White) => text.extend_from_slice(b"<use href=\"#mark\"/>"),
         (Colour::Black, Colour::Black) => {
-            text.extend_from_slice(b"<use href=\"#mark\" y=\"348\"/>")
+            text.extend_from_slice(b"<use href=\"#mark\" y=\"262\"/>")
         }
     }
 }

@@ -1,5 +1,6 @@
 //! The shapes that diagrams are made of, drawn for this program: the board with its coordinates, six kinds of men in two colours, and the
-//! mark of a side that moves. They want no font but for the coordinates. Together they are definitions of Scalable Vector Graphics.
+//! mark of a side that moves. They want no font but for the coordinates and the words of the mark. Together they are definitions of Scalable
+//! Vector Graphics.
 
 /// The board up to its coordinates: 64 squares of 45 by 45, which look the same from either side.
 pub(crate) const BOARD: &str = "<defs>
@@ -29,7 +30,10 @@ pub(crate) const BLACK_COORDINATES: &str =
 /// men are filled white and Black's black; lines within them have the other colour.
 pub(crate) const MEN: &str = "</g>
 </g>
-<circle id='mark' cx='366.5' cy='6' r='5' fill='currentColor'/>
+<g id='mark' fill='currentColor'>
+<path d='M361 0h11v11h-11z'/>
+<text font-family='sans-serif' font-size='11' transform='rotate(90)' x='16' y='-362.5'>Black to move</text>
+</g>
 <g id='pawn' stroke-width='1.6' stroke-linejoin='round' stroke-linecap='round'>
 <path d='M22.5 9a5.5 5.5 0 0 1 3.6 9.6q4 1.2 4 3.4H27q.5 5.8 5.3 9.6q2.7 2.2 2.7 5.4v2H10v-2q0-3.2 2.7-5.4Q17.5 27.8
 18 22h-3.1q0-2.2 4-3.4A5.5 5.5 0 0 1 22.5 9z'/>
