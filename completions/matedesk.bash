@@ -19,7 +19,7 @@ _matedesk() {
     verify) options='--bound --memo --from --progress -h --help' ;;
     tree) options='--bound --moves --set-play --tries --lines --from --progress -h --help' ;;
     sheet) options='--solutions --figurines --title --bound --memo -h --help' ;;
-    import) options='--keep -h --help' ;;
+    import) options='--keep --bound -h --help' ;;
     serve) options='--workers --bound --memo --progress -h --help' ;;
     look) options='--board --flip --svg --lines -h --help' ;;
     moves) options='--coordinates --fen --lines -h --help' ;;

@@ -65,7 +65,12 @@ _matedesk() {
                 '--memo=[positions that are remembered]:positions: ' \
                 '*:file of records:_files'
             ;;
-        import) _arguments $help '--keep[tell in c9 what was changed]' '*:collection:_files' ;;
+        import)
+            _arguments $help \
+                '--keep[tell in c9 what was changed]' \
+                '--bound=[moves within which a problem that says no number asks for mate]:bound:(1 2 3 4 5 6 7 8 9 10 11 12 13 14 15)' \
+                '*:collection:_files'
+            ;;
         serve)
             _arguments $help \
                 '--workers=[threads that solve]:workers:(1 2 3 4 5 6 7 8 9 10 11 12 13 14 15 16)' \

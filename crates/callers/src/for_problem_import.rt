@@ -21,5 +21,5 @@ pub fn import_all<I: Input + Drop, O: Write>(
         × Appends (O.contents out.old) (O.contents out.new) text) }
 {
     let rays = Rays::new();
-    import_input(alloc, &rays, true, input, out)
+    import_input(alloc, &rays, true, None, input, out)
 }

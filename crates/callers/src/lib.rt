@@ -21,5 +21,6 @@ pub mod for_problem_import;
 pub mod for_problem_sheets;
 pub mod for_room_ends;
 pub mod for_square_sets;
+pub mod for_stipulations;
 pub mod for_text_lines;
 pub mod for_uci_commands;

@@ -3,7 +3,7 @@
 use crate::progress::Progress;
 use crate::said::{Said, said_by};
 use byte_streams::{Input, InputFault};
-use file_answers::{Source, SourceFault};
+use file_answers::{NameKind, Source, SourceFault};
 use std::alloc::Global;
 use std::sync::atomic::AtomicU64;
 use text_lines::{Output, first_line};
@@ -73,6 +73,10 @@ impl<'a, S: Source> Source for WatchedFiles<'a, S> {
 
     fn size(&self, name: &str) -> Option<u64> {
         self.source.size(name)
+    }
+
+    fn kind(&self, name: &str) -> NameKind {
+        self.source.kind(name)
     }
 
     fn begins(&self, number: usize) {

@@ -237,7 +237,7 @@ fn a_diagram_is_seen_from_either_side(rt: HostRuntime) -> Result<(), Fail> {
         "hgfedcba</text>",
         "12345678</text>",
         "<use href=\"#R\" x=\"45\" y=\"0\"/><use href=\"#K\" x=\"90\" y=\"225\"/>",
-        "<use href=\"#k\" x=\"0\" y=\"315\"/><use href=\"#mark\" y=\"348\"/></svg>",
+        "<use href=\"#k\" x=\"0\" y=\"315\"/><use href=\"#mark\" y=\"262\"/></svg>",
     ];
     for (words, parts) in [
         (["look", "--svg", fen, ""], white),

@@ -3,7 +3,8 @@ use Rattle.std.proofs.Common.{◌≡◌, ◌<◌, ◌+◌, ℕ, List, length, ge
 use Rattle.std.specs.Prelude.{⊤}
 use Rattle.clap.specs.Words.{App}
 use Rattle.command_words.specs.ClapWords.{new_rule, with_rule, with_subcommand}
-use Rattle.command_words.specs.CommandLine.{wanted, depth_rule, bound_rule, workers_rule, solve_workers_rule, memo_rule, from_rule, limit_rule}
+use Rattle.command_words.specs.CommandLine.{wanted, depth_rule, bound_rule, import_bound_rule, workers_rule, solve_workers_rule, memo_rule}
+use Rattle.command_words.specs.CommandLine.{from_rule, limit_rule}
 use Rattle.command_words.specs.CommandLine.{shown_rule, most_lines_rule, flag_rule, title_rule, words_rule, files_rule, with_solving_options}
 use Rattle.command_words.specs.CommandLine.{with_lines_of_files, with_tree_options, with_sheet_flags, with_sheet_options, solve_app, verify_app}
 use Rattle.command_words.specs.CommandLine.{tree_app, import_app, serve_app, replay_app, uci_app, look_app, play_app, moves_app, perft_app}
@@ -15,7 +16,8 @@ use Rattle.command_words.specs.declared.commands.Name.{Name}
 
 -- What a proof unfolds to compute what `clap` reads of an argument of the table, and of a command.
 unfoldable pub rows_on_literals : ⊤
-unfolding row_rule argument_rule new_rule wanted depth_rule bound_rule workers_rule solve_workers_rule memo_rule from_rule limit_rule shown_rule
+unfolding row_rule argument_rule new_rule wanted depth_rule bound_rule import_bound_rule workers_rule solve_workers_rule memo_rule from_rule limit_rule
+    shown_rule
     most_lines_rule flag_rule title_rule words_rule files_rule
 rows_on_literals = tt
 

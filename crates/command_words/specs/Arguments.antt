@@ -5,8 +5,8 @@ use Rattle.clap.specs.Words.{Rule}
 use Rattle.clap.specs.declared.builder.action.ArgAction.TheVariants.{SetTrue}
 use Rattle.clap.specs.declared.builder.value_parser.ValueParser.TheVariants as parser
 use Rattle.command_words.specs.ClapWords.{new_rule}
-use Rattle.command_words.specs.CommandLine.{bound_rule, depth_rule, files_rule, flag_rule, from_rule, limit_rule, memo_rule, most_lines_rule}
-use Rattle.command_words.specs.CommandLine.{progress_rule, shown_rule, solve_workers_rule, title_rule, wanted, words_rule, workers_rule}
+use Rattle.command_words.specs.CommandLine.{bound_rule, depth_rule, files_rule, flag_rule, from_rule, import_bound_rule, limit_rule, memo_rule}
+use Rattle.command_words.specs.CommandLine.{most_lines_rule, progress_rule, shown_rule, solve_workers_rule, title_rule, wanted, words_rule, workers_rule}
 use Rattle.command_words.specs.declared.arguments.Argument.{Argument}
 use Rattle.command_words.specs.declared.arguments.Argument.TheVariants as argument
 use Rattle.command_words.specs.declared.arguments.Form.{Form}
@@ -39,6 +39,7 @@ argument_rule argument.Word = words_rule (codes "WORD")
 argument_rule argument.File = files_rule
 argument_rule argument.Positions = files_rule
 argument_rule argument.Bound = bound_rule
+argument_rule argument.ImportBound = import_bound_rule
 argument_rule argument.Workers = workers_rule
 argument_rule argument.SolveWorkers = solve_workers_rule
 argument_rule argument.Memo = memo_rule (codes "65536")

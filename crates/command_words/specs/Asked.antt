@@ -41,7 +41,7 @@ pub data Asked : Type 0 where
   verify : ℕ → ℕ → ℕ → List Text → Asked
   tree : ℕ → TreeForm → ℕ → List Text → Asked
   sheet : ℕ → ℕ → SheetForm → Text → List Text → Asked
-  imports : Bool → List Text → Asked
+  imports : Bool → Option ℕ → List Text → Asked
   serve : ℕ → ℕ → ℕ → List Text → Asked
   replay : Text → Asked
   explain : List Text → Asked
@@ -185,9 +185,9 @@ sheet_in rows =
     (λ memo. option_and_then (λ title. option_map (λ names. sheet bound memo (sheet_form_in rows) title names)
     (all_of (codes "FILE") rows)) (first_of (codes "T") rows)) (memo_size_in rows)) (bound_in rows)
 
--- what the arguments of `import` ask for: whether what was changed is told, and files
+-- what the arguments of `import` ask for: whether what was changed is told, the bound of problems that say none, if one is given, and files
 unfoldable pub import_in : List Row → Option Asked
-import_in rows = option_map (imports (is_given (codes "keep") rows)) (all_of (codes "FILE") rows)
+import_in rows = option_map (imports (is_given (codes "keep") rows) (bound_in rows)) (all_of (codes "FILE") rows)
 
 -- what the arguments of `serve` ask for
 unfoldable pub serve_in : List Row → Option Asked

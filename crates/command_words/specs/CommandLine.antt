@@ -24,6 +24,13 @@ bound_rule = record (new_rule (codes "B")) {
   defaults = codes "3" ∷ [];
 }
 
+-- the same, which need not be given
+unfoldable pub import_bound_rule : Rule
+import_bound_rule = record (new_rule (codes "B")) {
+  long = Some (codes "bound");
+  parser = Some (parser.Signed (pos 1) (pos 15));
+}
+
 -- an option that has to be given, and reads a number from 1 to 16
 unfoldable pub workers_rule : Rule
 workers_rule = record (wanted (codes "N")) {
@@ -129,7 +136,7 @@ unfoldable pub sheet_app : App
 sheet_app = with_rule (with_solving_options (with_sheet_options (new_app (codes "sheet"))) (codes "65536")) files_rule
 
 unfoldable pub import_app : App
-import_app = with_rule (with_rule (new_app (codes "import")) (flag_rule (codes "keep"))) files_rule
+import_app = with_rule (with_rule (with_rule (new_app (codes "import")) (flag_rule (codes "keep"))) import_bound_rule) files_rule
 
 unfoldable pub serve_app : App
 serve_app =

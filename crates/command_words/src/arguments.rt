@@ -5,10 +5,10 @@ ghost use Rattle.command_words.specs.Arguments.{argument_rule, row_rule};
 
 use crate::help::{
     ABOUT_BOARD, ABOUT_BOUND, ABOUT_COORDINATES, ABOUT_DEPTH, ABOUT_DIVIDE, ABOUT_FEN, ABOUT_FENS,
-    ABOUT_FIGURINES, ABOUT_FILE, ABOUT_FLIP, ABOUT_FROM, ABOUT_KEEP, ABOUT_LIMIT, ABOUT_MEMO,
-    ABOUT_MEMOS, ABOUT_MOST_LINES, ABOUT_MOVE, ABOUT_POSITIONS, ABOUT_PROGRESS, ABOUT_SCRIPT,
-    ABOUT_SET_PLAY, ABOUT_SHOWN, ABOUT_SOLUTIONS, ABOUT_SOLVE_WORKERS, ABOUT_SVG, ABOUT_TITLE,
-    ABOUT_TRIES, ABOUT_WORD, ABOUT_WORKERS,
+    ABOUT_FIGURINES, ABOUT_FILE, ABOUT_FLIP, ABOUT_FROM, ABOUT_IMPORT_BOUND, ABOUT_KEEP,
+    ABOUT_LIMIT, ABOUT_MEMO, ABOUT_MEMOS, ABOUT_MOST_LINES, ABOUT_MOVE, ABOUT_POSITIONS,
+    ABOUT_PROGRESS, ABOUT_SCRIPT, ABOUT_SET_PLAY, ABOUT_SHOWN, ABOUT_SOLUTIONS,
+    ABOUT_SOLVE_WORKERS, ABOUT_SVG, ABOUT_TITLE, ABOUT_TRIES, ABOUT_WORD, ABOUT_WORKERS,
 };
 
 /// The arguments of the commands.
@@ -22,6 +22,7 @@ pub(crate) enum Argument {
     File,
     Positions,
     Bound,
+    ImportBound,
     Workers,
     SolveWorkers,
     Memo,
@@ -159,6 +160,15 @@ static BOUND: Row = Row {
     form: BOUNDS,
     defaults: &["3"],
     help: ABOUT_BOUND,
+    ..OPTIONAL
+};
+
+/// The bound of problems that say none, where they are imported.
+static IMPORT_BOUND: Row = Row {
+    id: "B",
+    long: "bound",
+    form: BOUNDS,
+    help: ABOUT_IMPORT_BOUND,
     ..OPTIONAL
 };
 
@@ -336,6 +346,7 @@ pub(crate) fn row_of(argument: Argument) -> &'static Row
         Argument::File => &FILE,
         Argument::Positions => &POSITIONS,
         Argument::Bound => &BOUND,
+        Argument::ImportBound => &IMPORT_BOUND,
         Argument::Workers => &WORKERS,
         Argument::SolveWorkers => &SOLVE_WORKERS,
         Argument::Memo => &MEMO,

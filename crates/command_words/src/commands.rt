@@ -110,7 +110,7 @@ static IMPORT: Subcommand = Subcommand {
     name: "import",
     about: ABOUT_IMPORT,
     after_help: AFTER_IMPORT,
-    arguments: &[Argument::Keep, Argument::File],
+    arguments: &[Argument::Keep, Argument::ImportBound, Argument::File],
 };
 
 static SERVE: Subcommand = Subcommand {

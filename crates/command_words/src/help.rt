@@ -241,16 +241,22 @@ pub const ABOUT_IMPORT: &str =
 /// `--keep` in one line.
 pub const ABOUT_KEEP: &str = "Tell in an operation c9 of each record what was changed";
 
+/// `--bound` of `import` in one line.
+pub const ABOUT_IMPORT_BOUND: &str =
+    "Within how many moves a problem that says no number asks for mate, 1 to 15; else it is refused";
+
 /// What stands below the arguments of `import`: what is read, an example, and the statuses.
 pub const AFTER_IMPORT: &str =
     "For each problem one record is printed, in order, as the other commands read it. Forms may
 stand in one file in any mixture:
   - lines of EPD or FEN. Mended are letters beyond ASCII, tabs, a byte order mark, a missing
-    last semicolon, other quotation marks, `!` and `?` behind moves; `bm #N`, `#N` and
-    `mate in N` become `dm N`. A line that is a record and wants none of this is printed as it is
+    last semicolon, other quotation marks, `!` and `?` behind moves. A number of moves, as `#2`,
+    `2#` or `White mates in two`, becomes `dm N`: in `bm`, words, comments, or in `id`. A line
+    that is a record and wants none of this is printed as it is
   - lines that begin with `#`, `%` or `;`: dropped, as empty ones are
   - games in PGN: the tag FEN makes the record, and White, Black, Event, Date and Annotator
-    its id; the moves are passed over
+    its id; these, but for Date, and Stipulation may say the number of moves; the moves are
+    passed over
   - Popeye's input, from BeginProblem to EndProblem, with stipulation `#N`
 What can't be read is printed as `# line K: CODE`, by the line where it begins; `matedesk
 explain CODE` says what that means.

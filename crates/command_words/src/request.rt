@@ -120,8 +120,9 @@ pub enum Request<'m, 'a> {
     /// Make a page of the records of files, in order, in such a form and with such a title. Solutions are found over a memo of such a size;
     /// the bound is for records that say none.
     Sheet(Bound, MemoSize, SheetForm, &'a str, &'m [&'a str]),
-    /// Make records of the problems of files, in order; whether what was changed is told in them.
-    Import(bool, &'m [&'a str]),
+    /// Make records of the problems of files, in order; whether what was changed is told in them. Where a bound is given, it is for problems
+    /// that say none, which are else refused.
+    Import(bool, Option<Bound>, &'m [&'a str]),
     /// Answer the records of files by so many workers, each over a memo of such a size, all files at once; the bound is for records
     /// that say none.
     Serve(Workers, Bound, MemoSize, &'m [&'a str]),
@@ -456,8 +457,9 @@ fn import_in<'m, 'a>(matches: &'m ArgMatches<'a>) -> Option<Request<'m, 'a>>
     ensures { option_map plan_of result ≡ import_in (rows_of (found_of matches.now)) }
 {
     let keep = is_given(matches, "keep");
+    let bound = bound_in(matches);
     let names = names_in(matches, "FILE")?;
-    Some(Request::Import(keep, names))
+    Some(Request::Import(keep, bound, names))
 }
 
 /// What the arguments of `serve` ask for.

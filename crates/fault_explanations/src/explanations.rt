@@ -431,7 +431,7 @@ lines a block, or `solve --limit`, which limits each record.",
 ];
 
 /// Of collections that are imported.
-static IMPORTS: [Explanation; 5] = [
+static IMPORTS: [Explanation; 7] = [
     Explanation {
         code: "NoFen",
         comes: "a game that is to be imported has no tag `FEN`",
@@ -439,8 +439,20 @@ static IMPORTS: [Explanation; 5] = [
         example: None,
     },
     Explanation {
+        code: "NoBound",
+        comes: "a line that is no record as it stands, or a game, says no number of moves, and no `--bound` is given",
+        means: "How many moves are asked nobody can tell. Write `dm N`, `#N` or `mate in N`, or give `--bound N` for all of them.",
+        example: None,
+    },
+    Explanation {
+        code: "TwoBounds",
+        comes: "a line without `dm`, or a game that is to be imported, says two numbers of moves",
+        means: "Which of them is asked nobody can tell. Leave the one that is.",
+        example: None,
+    },
+    Explanation {
         code: "BadStipulation",
-        comes: "a problem for Popeye has no stipulation, or one that isn't `#N`",
+        comes: "a problem for Popeye has no stipulation, or one that isn't `#N`; a game's `Stipulation` is no mate in N",
         means: "Direct mates alone are solved here; `h#2` or `s#3` are not.",
         example: None,
     },

@@ -7,8 +7,7 @@ ghost use Rattle.byte_streams.specs.Stops.{AppendsBy};
 ghost use Rattle.file_answers.specs.Writing.{Gains};
 ghost use Rattle.file_answers.specs.FileAnswers.{Answers, AnswersTold, FileReplies, FileTold, FirstReplies, StopsAnswering};
 
-use crate::sources::{Source, holds_reads};
-use crate::writing::complain_unreadable;
+use crate::sources::{Source, complain_of, holds_reads};
 use byte_streams::{Input, Stop};
 use command_words::{Files, LineNumber};
 use std::alloc::Global;
@@ -127,7 +126,7 @@ pub fn answer_files<A: FileAnswers, S: Source, O: Write, E: Write>(
             }
             Err(stop) => {
                 if stop == Stop::Unreadable {
-                    complain_unreadable(err, name);
+                    complain_of(err, source, name);
                 }
                 return Err(stop);
             }

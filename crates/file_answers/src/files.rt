@@ -2,7 +2,7 @@
 
 ghost use Rattle.std.specs.Prelude.{None, ⊤};
 
-use crate::sources::{Source, SourceFault, whole};
+use crate::sources::{NameKind, Source, SourceFault, whole};
 use byte_streams::Input;
 use std::alloc::Global;
 use std::io::{Read, Stdin};
@@ -87,6 +87,19 @@ impl<'r, R: Files + AllocGlobal> Source for FileSystem<'r, R> {
         match fs::metadata(self.rt, name) {
             Ok(found) if name != "-" && found.is_file() => Some(found.len()),
             _ => None,
+        }
+    }
+
+    fn kind(&self, name: &str) -> NameKind {
+        if name == "-" {
+            return NameKind::Unknown;
+        }
+        match fs::open(self.rt, name) {
+            Err(fault) if fault.kind() == io::ErrorKind::PermissionDenied => NameKind::Forbidden,
+            _ => match fs::metadata(self.rt, name) {
+                Ok(found) if found.is_dir() => NameKind::Folder,
+                _ => NameKind::Unknown,
+            },
         }
     }
 }

@@ -20,7 +20,9 @@ pub use file_answers::{FileAnswers, FileStart, answer_files};
 pub use files::{FileSystem, Reading, Stream};
 pub use lines_from::answer_lines_from;
 pub use outputs::put_outputs;
-pub use sources::{Source, SourceFault, holds_reads, read_file, read_files, whole};
+pub use sources::{
+    NameKind, Source, SourceFault, complain_of, holds_reads, read_file, read_files, whole,
+};
 pub use status::{
     ANSWERED, IN_PART, MISUSED, NO_MEMORY, NO_THREAD, REFUSED, UNREADABLE, UNWRITABLE, in_part,
     no_memory, status_of, unwritable,

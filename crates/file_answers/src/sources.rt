@@ -4,7 +4,7 @@ ghost use Rattle.std.specs.Prelude.{◌≡◌, ◌⊎◌, ℕ, List, Option, IfE
 ghost use Rattle.byte_streams.specs.Inputs.{MayBe};
 ghost use Rattle.file_answers.specs.Sources.{Holds, HoldsEach, HoldsMore, SomeRefused};
 
-use crate::writing::complain_unreadable;
+use crate::writing::{complain, complain_unreadable};
 use byte_streams::{Input, Stop};
 use std::alloc::Global;
 use std::io::Write;
@@ -16,6 +16,17 @@ const PIECE: usize = 4096;
 
 /// Why a file can't be had: it can't be read, or memory was refused.
 pub use byte_streams::InputFault as SourceFault;
+
+/// What is known of a name that can't be read.
+#[derive(Clone, Copy, PartialEq, Eq)]
+pub enum NameKind {
+    /// Nothing.
+    Unknown,
+    /// It is that of a folder.
+    Folder,
+    /// It is that of a file that may not be read.
+    Forbidden,
+}
 
 /// Files by their names. It may have itself told of their lines while these are answered; no answer depends on that.
 pub trait Source {
@@ -42,6 +53,11 @@ pub trait Source {
     /// How many bytes the file of this name has, where that is known before it is read.
     fn size(&self, _name: &str) -> Option<u64> {
         None
+    }
+
+    /// What is known of a name that can't be read, so that it can be said.
+    fn kind(&self, _name: &str) -> NameKind {
+        NameKind::Unknown
     }
 
     /// Is told that the line of this number is begun, of the file that was opened last.
@@ -77,6 +93,40 @@ pub fn whole<I: Input + Drop>(alloc: Global, file: I) -> Result<Vec<u8>, SourceF
     Err(SourceFault::NoMemory)
 }
 
+/// Whether a name begins as a record does: its first word has eight ranks of men and numbers.
+fn begins_as_record(name: &str) -> bool {
+    let mut strokes = 0_usize;
+    for byte in name.as_bytes() {
+        match *byte {
+            b' ' => break,
+            b'/' => strokes = strokes.saturating_add(1),
+            b'1'..=b'8' => {}
+            b'p' | b'n' | b'b' | b'r' | b'q' | b'k' => {}
+            b'P' | b'N' | b'B' | b'R' | b'Q' | b'K' => {}
+            _ => return false,
+        }
+    }
+    strokes == 7
+}
+
+/// Says which file can't be read, and behind that what its name is and what to type, where that is known. That it can't be written changes
+/// nothing.
+pub fn complain_of<S: Source, E: Write>(err: &mut E, source: &S, name: &str) {
+    complain_unreadable(err, name);
+    if begins_as_record(name) {
+        complain(
+            err,
+            "that is a record: write it to a file, or to standard input, whose name is -",
+        );
+        return;
+    }
+    match source.kind(name) {
+        NameKind::Folder => complain(err, "that is a folder: name the files in it, as FOLDER/*"),
+        NameKind::Forbidden => complain(err, "that file may not be read: chmod u+r FILE"),
+        NameKind::Unknown => {}
+    }
+}
+
 /// All bytes of a file. One that can't be read is named on `err`.
 pub fn read_file<S: Source, E: Write>(
     alloc: Global,
@@ -91,7 +141,7 @@ pub fn read_file<S: Source, E: Write>(
         Ok(bytes) => Ok(bytes),
         Err(SourceFault::NoMemory) => Err(Stop::NoMemory),
         Err(SourceFault::Unreadable) => {
-            complain_unreadable(err, name);
+            complain_of(err, source, name);
             Err(Stop::Unreadable)
         }
     }

@@ -48,7 +48,7 @@ ends_unstarted holds refuses ends none unsolved (Some (solve bound memo from nam
 ends_unstarted holds refuses ends none unsolved (Some (verify bound memo from names)) threads out = cc
 ends_unstarted holds refuses ends none unsolved (Some (tree bound form from names)) threads out = cc
 ends_unstarted holds refuses ends none unsolved (Some (sheet bound memo form title names)) threads out = cc
-ends_unstarted holds refuses ends none unsolved (Some (imports keep names)) threads out = cc
+ends_unstarted holds refuses ends none unsolved (Some (imports keep bound names)) threads out = cc
 ends_unstarted holds refuses ends none unsolved (Some (replay name)) threads out = cc
 ends_unstarted holds refuses ends none unsolved (Some (explain words)) threads out = cc
 

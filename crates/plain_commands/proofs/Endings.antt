@@ -40,7 +40,7 @@ stops_unread none unverified untold holds refuses (Some (verify bound memo from 
 stops_unread none unverified untold holds refuses (Some (tree bound form from names)) old new kept =
     record { gained = []; shows = untold holds bound form from names; appends = Appends-kept old old new [] (Appends-nil old) kept }
 stops_unread none unverified untold holds refuses (Some (sheet bound memo form title names)) old new kept = kept
-stops_unread none unverified untold holds refuses (Some (imports keep names)) old new kept =
+stops_unread none unverified untold holds refuses (Some (imports keep bound names)) old new kept =
     imports_at_once holds refuses keep names old new kept
 stops_unread none unverified untold holds refuses (Some (serve workers bound memo names)) old new kept = kept
 stops_unread none unverified untold holds refuses (Some (replay name)) old new kept = kept
@@ -63,7 +63,7 @@ no_reader holds refuses (limited seconds bound memo from names) old new stops = 
 no_reader holds refuses (verify bound memo from names) old new stops = stops
 no_reader holds refuses (tree bound form from names) old new stops = stops
 no_reader holds refuses (sheet bound memo form title names) old new stops = stops
-no_reader holds refuses (imports keep names) old new stops = stops
+no_reader holds refuses (imports keep bound names) old new stops = stops
 no_reader holds refuses (serve workers bound memo names) old new stops = stops
 no_reader holds refuses (replay name) old new stops = stops
 no_reader holds refuses (explain words) old new stops = stops

@@ -73,7 +73,9 @@ fn answer<S: Source, O: Write, E: Write>(
             };
             sheet(alloc, &asked, names, source, out, err)
         }
-        Request::Import(keep, names) => import(alloc, *keep, names, source, out, err),
+        Request::Import(keep, bound, names) => {
+            import(alloc, *keep, *bound, names, source, out, err)
+        }
         Request::Serve(..) | Request::SolveOn(..) | Request::Limited(..) | Request::Uci => {
             unreachable!()
         }

@@ -6,6 +6,7 @@ ghost use Rattle.plain_commands.specs.Imported.{ImportsFiles, StopsImporting};
 
 use byte_streams::{Input, Stop};
 use chess_moves::Rays;
+use chess_problems::Bound;
 use command_words::{Files, LineNumber};
 use file_answers::{FileAnswers, FileStart, Source, answer_files};
 use problem_import::import_input;
@@ -18,6 +19,8 @@ struct Imports<'a> {
     rays: &'a Rays,
     /// Whether what was changed is told in a record.
     keep: bool,
+    /// The bound of problems that say none.
+    bound: Option<Bound>,
 }
 
 impl<'a> FileAnswers for Imports<'a> {
@@ -42,17 +45,18 @@ impl<'a> FileAnswers for Imports<'a> {
         _memory: &mut (),
         out: &mut O,
     ) -> Result<usize, Stop> {
-        import_input(alloc, self.rays, self.keep, input, out)
+        import_input(alloc, self.rays, self.keep, self.bound, input, out)
     }
 
     fn begins_with_nothing(&self) {}
 }
 
-/// Makes records of the problems of each file in order, and opens a file only after those before were written; gives whether a problem
-/// was refused. A file that can't be read is named on `err`.
+/// Makes records of the problems of each file in order, those that say no number of moves with such a bound, if one is given, and opens a
+/// file only after those before were written; gives whether a problem was refused. A file that can't be read is named on `err`.
 pub fn import<S: Source, O: Write, E: Write>(
     alloc: Global,
     keep: bool,
+    bound: Option<Bound>,
     names: &[&str],
     source: &S,
     out: &mut O,
@@ -64,7 +68,11 @@ pub fn import<S: Source, O: Write, E: Write>(
         (map (λ s. s.now) names.now) stop (O.contents out.old) (O.contents out.new)) }
 {
     let rays = Rays::new();
-    let imports = Imports { rays: &rays, keep };
+    let imports = Imports {
+        rays: &rays,
+        keep,
+        bound,
+    };
     let files = Files {
         names,
         from: LineNumber::first(),

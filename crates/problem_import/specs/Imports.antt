@@ -11,13 +11,15 @@ use Rattle.problem_import.specs.Changes.{IsAny, IsChanged, telling}
 use Rattle.problem_import.specs.Mendable.{has_nothing_to_mend}
 use Rattle.problem_import.specs.declared.changes.Change.{Change}
 use Rattle.problem_import.specs.declared.import_faults.ImportFault.{ImportFault}
-use Rattle.problem_import.specs.declared.import_faults.ImportFault.TheVariants.{Record, NoFen, BadStipulation, FairyCondition}
-use Rattle.problem_import.specs.declared.import_faults.ImportFault.TheVariants.{FairyPiece, UnknownCommand}
+use Rattle.problem_import.specs.declared.import_faults.ImportFault.TheVariants.{Record, NoFen, NoBound, TwoBounds, BadStipulation}
+use Rattle.problem_import.specs.declared.import_faults.ImportFault.TheVariants.{FairyCondition, FairyPiece, UnknownCommand}
 
 -- A fault prints as its name; that of a record as the record's.
 abbrev pub import_fault_name : ImportFault → List ℕ
 import_fault_name (Record fault) = epd_fault_name fault
 import_fault_name NoFen = codes "NoFen"
+import_fault_name NoBound = codes "NoBound"
+import_fault_name TwoBounds = codes "TwoBounds"
 import_fault_name BadStipulation = codes "BadStipulation"
 import_fault_name FairyCondition = codes "FairyCondition"
 import_fault_name FairyPiece = codes "FairyPiece"

@@ -99,6 +99,14 @@ impl Changes {
         }
     }
 
+    /// The same, and a bound.
+    pub(crate) fn of_bound(self) -> Changes {
+        Changes {
+            bound: true,
+            ..self
+        }
+    }
+
     /// The same, made of another form.
     pub(crate) fn of(self, form: Form) -> Changes {
         Changes { form, ..self }

@@ -2,8 +2,10 @@
 //! passed over.
 
 use crate::changes::Changes;
-use crate::texts::{is_same, is_word, word_at};
+use crate::import_faults::ImportFault;
+use crate::texts::{is_same, is_word, push_moves, word_at};
 use std::alloc::{AllocError, Global};
+use stipulations::{Asked, moves_asked};
 
 /// The longest string of a record.
 const LONGEST: usize = 255;
@@ -13,7 +15,10 @@ const LONGEST: usize = 255;
 pub(crate) struct Game {
     pub(crate) number: usize,
     pub(crate) changes: Changes,
-    pub(crate) has_fen: bool,
+    has_fen: bool,
+    /// What its tag `Stipulation` asks, if it has one, and what the others do.
+    stipulated: Option<Asked>,
+    asked: Asked,
     fen: Vec<u8>,
     white: Vec<u8>,
     black: Vec<u8>,
@@ -37,6 +42,14 @@ fn is_said(value: &[u8]) -> bool {
         }
     }
     false
+}
+
+/// Whether the value of a tag may say a number of moves.
+fn may_ask(name: &[u8]) -> bool {
+    is_word(name, "Event")
+        || is_word(name, "White")
+        || is_word(name, "Black")
+        || is_word(name, "Annotator")
 }
 
 /// Adds to the text of an `id` behind a comma, without double quotation marks, as far as there is room.
@@ -108,6 +121,8 @@ impl Game {
             number,
             changes,
             has_fen: false,
+            stipulated: None,
+            asked: Asked::Nothing,
             fen: Vec::new(alloc),
             white: Vec::new(alloc),
             black: Vec::new(alloc),
@@ -119,6 +134,12 @@ impl Game {
 
     /// Takes a tag's value, where it is one that counts.
     fn take_tag(&mut self, name: &[u8], value: Vec<u8>) {
+        if may_ask(name) {
+            self.asked = self.asked.and(moves_asked(value.as_slice()));
+        }
+        if is_word(name, "Stipulation") && is_said(value.as_slice()) {
+            self.stipulated = Some(moves_asked(value.as_slice()));
+        }
         if is_word(name, "FEN") {
             self.has_fen = true;
             self.fen = value;
@@ -156,6 +177,33 @@ impl Game {
         Ok(rest)
     }
 
+    /// What the tags ask: what `Stipulation` does, if it is there, else what the others do.
+    fn asks(&self) -> Asked {
+        match self.stipulated {
+            Some(asked) => asked,
+            None => self.asked,
+        }
+    }
+
+    /// Why nothing can be made of them, if nothing can.
+    pub(crate) fn first_fault(&self) -> Option<ImportFault> {
+        if !self.has_fen {
+            return Some(ImportFault::NoFen);
+        }
+        if let Some(Asked::Nothing) = self.stipulated {
+            return Some(ImportFault::BadStipulation);
+        }
+        match self.asks() {
+            Asked::Two => Some(ImportFault::TwoBounds),
+            Asked::Nothing | Asked::Moves(_) => None,
+        }
+    }
+
+    /// Whether they say a number of moves.
+    pub(crate) fn is_bound(&self) -> bool {
+        self.asks() != Asked::Nothing
+    }
+
     /// What is made of the tag pairs, read as a record.
     pub(crate) fn text(&mut self, alloc: Global) -> Result<Vec<u8>, AllocError> {
         let mut id = Vec::new(alloc);
@@ -165,6 +213,12 @@ impl Game {
         push_id(&mut id, self.date.as_slice(), &mut self.changes)?;
         push_id(&mut id, self.annotator.as_slice(), &mut self.changes)?;
         let mut text = Vec::from_slice(alloc, self.fen.as_slice().trim_ascii())?;
+        if let Asked::Moves(moves) = self.asks() {
+            self.changes.bound = true;
+            text.extend_from_slice(b" dm ")?;
+            push_moves(&mut text, moves)?;
+            text.push(b';')?;
+        }
         push_id_operation(&mut text, id.as_slice())?;
         Ok(text)
     }

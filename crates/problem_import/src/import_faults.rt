@@ -15,7 +15,13 @@ pub enum ImportFault {
     /// A game has no `FEN` among its tags.
     #[error("NoFen")]
     NoFen,
-    /// A problem of Popeye's has no stipulation, or another than `#N`.
+    /// No number of moves is said.
+    #[error("NoBound")]
+    NoBound,
+    /// Two numbers of moves are said.
+    #[error("TwoBounds")]
+    TwoBounds,
+    /// A problem of Popeye's has no stipulation, or another than `#N`; or a game's is no mate in so many moves.
     #[error("BadStipulation")]
     BadStipulation,
     /// It has a condition.
@@ -37,6 +43,8 @@ impl ImportFault {
         match self {
             ImportFault::Record(fault) => fault.code(),
             ImportFault::NoFen => "NoFen",
+            ImportFault::NoBound => "NoBound",
+            ImportFault::TwoBounds => "TwoBounds",
             ImportFault::BadStipulation => "BadStipulation",
             ImportFault::FairyCondition => "FairyCondition",
             ImportFault::FairyPiece => "FairyPiece",

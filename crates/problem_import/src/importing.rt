@@ -16,7 +16,7 @@ use crate::printing::{Printed, Printing};
 use crate::reading::{Finding, Found, Reading, push_finding};
 use byte_streams::{Input, NoMemory, Stop, put};
 use chess_moves::Rays;
-use chess_notation::EpdFault;
+use chess_notation::{Bound, EpdFault};
 use std::alloc::Global;
 use std::cell::Cell;
 use std::io::Write;
@@ -59,7 +59,8 @@ fn take(
             Ok(())
         }
         LineKind::Mendable => {
-            reading.take_record(alloc, number, line, Changes::none(Form::Line), findings)?;
+            let changes = Changes::none(Form::Line);
+            reading.take_record(alloc, number, line, true, changes, findings)?;
             Ok(())
         }
         LineKind::Other => {
@@ -220,13 +221,15 @@ fn import_lines<I: Input + Drop, O: Write>(
 }
 
 /// Imports an input: what each line ends is printed before the next is waited for. With `keep` it is told in `c9` of each record what was
-/// changed to make it. Gives at how many lines, the end of the input for one, a problem is refused.
+/// changed to make it. A problem that says no number of moves, and is no record as it stands, is made one of such a bound, if one is given,
+/// and else refused. Gives at how many lines, the end of the input for one, a problem is refused.
 ///
 /// Where it stops before the end, what some of the first lines say is written. No more than a problem is kept in memory.
 pub fn import_input<I: Input + Drop, O: Write>(
     alloc: Global,
     rays: &Rays,
     keep: bool,
+    bound: Option<Bound>,
     input: I,
     out: &mut O,
 ) -> Result<usize, Stop>
@@ -237,7 +240,7 @@ pub fn import_input<I: Input + Drop, O: Write>(
     ensures unreadable { IfErr result (λ stop. stop ≡ Stop.Unreadable → I.breaks input) }
 {
     let imports = Imports {
-        printing: Printing { rays, keep },
+        printing: Printing { rays, keep, bound },
         passes: Cell::new(false),
         last_long: Cell::new(0),
     };

@@ -4,6 +4,7 @@ ghost use Rattle.std.specs.Prelude.{◌≡◌, IfOk, true};
 ghost use Rattle.std.specs.List.{list_all};
 ghost use Rattle.chess_notation.specs.Operations.{is_printable};
 
+use crate::alphabets::latin_of;
 use crate::changes::Changes;
 use crate::texts::push_byte;
 use std::alloc::{AllocError, Global};
@@ -49,8 +50,10 @@ fn ascii_of(c: char) -> Option<&'static str> {
         '\u{2010}' | '\u{2011}' | '\u{2012}' | '\u{2013}' | '\u{2014}' | '\u{2212}' => Some("-"),
         '\u{2026}' => Some("..."),
         '\u{00a0}' | '\u{2009}' | '\u{202f}' | '\u{2002}' | '\u{2003}' => Some(" "),
+        '\u{0456}' => Some("i"),
+        '\u{0406}' => Some("I"),
         '\u{feff}' | '\u{200b}' => Some(""),
-        _ => None,
+        _ => latin_of(c),
     }
 }
 

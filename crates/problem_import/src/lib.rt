@@ -2,9 +2,11 @@
 //!
 //! What a record is, is `chess_notation`'s business, and lines are `text_lines`'s. To read: `specs/Imports.antt` and `importing`, where
 //! the law of what is printed stands, over `printing` and `import_faults`; `reading`, which tells the forms apart; then each form:
-//! `mending` (over `tokens`, `lengths`, `letters` and `changes`), `games` (and `tag_pairs`), and `popeye` (over `popeye_words` and `diagrams`).
+//! `mending` (over `tokens`, `lengths`, `letters`, `alphabets` and `changes`), `games` (and `tag_pairs`), and `popeye` (over `popeye_words`
+//! and `diagrams`).
 #![tactic(auto)]
 
+mod alphabets;
 mod changes;
 mod diagrams;
 mod games;

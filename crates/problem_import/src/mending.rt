@@ -2,9 +2,10 @@
 
 use crate::changes::Changes;
 use crate::lengths::{length_digits, mate_digits};
-use crate::texts::{are_digits, is_same, push_byte, trimmed, word_at};
+use crate::texts::{are_digits, is_same, push_byte, push_moves, trimmed, word_at};
 use crate::tokens::{Kind, Token, segment_at, token_at};
 use std::alloc::{AllocError, Global};
+use stipulations::{Asked, moves_asked};
 
 /// A record that is made of a line.
 #[derive(Drop)]
@@ -14,6 +15,8 @@ struct Mending<'a> {
     changes: &'a mut Changes,
     /// Whether it has a bound, or the line has.
     is_bound: bool,
+    /// How many comments there are among `c0` to `c8`, of the line or added: the next is added behind them.
+    comments: u8,
 }
 
 /// Whether an operation's opcode is `dm`.
@@ -45,6 +48,96 @@ fn has_moves(opcode: &[u8]) -> bool {
         || is_same(opcode, "pv")
         || is_same(opcode, "pm")
         || is_same(opcode, "sm")
+}
+
+/// Whether an opcode is one of `c0` to `c9`.
+fn is_comment(opcode: &[u8]) -> bool {
+    match opcode {
+        [b'c', digit] => digit.is_ascii_digit(),
+        _ => false,
+    }
+}
+
+/// Whether what stands between two semicolons is words: it has no string, and begins with no opcode that says something of its operands.
+fn is_free(segment: &[u8]) -> bool {
+    let opcode = word_at(segment).0;
+    !segment.contains(&b'"')
+        && !has_moves(opcode)
+        && !is_comment(opcode)
+        && !is_same(opcode, "dm")
+        && !is_same(opcode, "id")
+        && !is_same(opcode, "ce")
+}
+
+/// What the words among operands ask by a sign that stands alone, as `#2` among claimed keys.
+fn asked_by_signs(operands: &[u8]) -> Asked {
+    let mut rest = operands;
+    let mut asked = Asked::Nothing;
+    for _ in 0..operands.len() {
+        let Some(token) = token_at(rest) else {
+            break;
+        };
+        if token.kind == Kind::Word && length_digits(token.text).is_some() {
+            asked = asked.and(moves_asked(token.text));
+        }
+        rest = token.rest;
+    }
+    asked
+}
+
+/// What stands between two semicolons asks: by `bm`, `ce`, a comment, a sign at its head, or words.
+fn asked_by_segment(segment: &[u8]) -> Asked {
+    let (opcode, operands) = word_at(segment);
+    if is_same(opcode, "bm") || is_same(opcode, "ce") {
+        asked_by_signs(operands)
+    } else if is_comment(opcode) {
+        moves_asked(operands)
+    } else if length_digits(opcode).is_some() {
+        moves_asked(opcode)
+    } else if is_free(segment) {
+        moves_asked(segment)
+    } else {
+        Asked::Nothing
+    }
+}
+
+/// What operations ask elsewhere than in `dm`; where the others say nothing, by `id`.
+fn asked_in(operations: &[u8]) -> Asked {
+    let mut rest = operations;
+    let mut asked = Asked::Nothing;
+    let mut by_id = Asked::Nothing;
+    for _ in 0..operations.len() {
+        let Some(segment) = segment_at(rest) else {
+            break;
+        };
+        let (opcode, operands) = word_at(segment.text);
+        if is_same(opcode, "id") {
+            by_id = by_id.and(moves_asked(operands));
+        } else {
+            asked = asked.and(asked_by_segment(segment.text));
+        }
+        rest = segment.rest;
+    }
+    match asked {
+        Asked::Nothing => by_id,
+        Asked::Moves(_) | Asked::Two => asked,
+    }
+}
+
+/// The number of the comment that stands behind all others, from 0 to 9, of these operations.
+fn next_comment(operations: &[u8]) -> u8 {
+    let mut rest = operations;
+    let mut next: u8 = 0;
+    for _ in 0..operations.len() {
+        let Some(segment) = segment_at(rest) else {
+            break;
+        };
+        if let [b'c', digit @ b'0'..=b'8'] = word_at(segment.text).0 {
+            next = next.max(*digit - b'0' + 1);
+        }
+        rest = segment.rest;
+    }
+    next
 }
 
 /// A move without the marks of praise and blame behind it.
@@ -177,17 +270,57 @@ impl Mending<'_> {
         push_byte(&mut self.text, b';')
     }
 
+    /// Adds words that say a number of moves as a comment, so that nothing of them is lost; as an operation where no comment is left, or a
+    /// string stands among them.
+    fn push_words(&mut self, words: &[u8]) -> Result<(), AllocError> {
+        if self.comments > 8 || words.contains(&b'"') {
+            return self.push_operation(words);
+        }
+        self.changes.bound = true;
+        self.text.extend_from_slice(b" c")?;
+        self.text.push(b'0' + self.comments)?;
+        self.comments += 1;
+        self.text.extend_from_slice(b" \"")?;
+        self.text.extend_from_slice(trimmed(words))?;
+        self.text.extend_from_slice(b"\";")
+    }
+
     /// Adds what stands between two semicolons: a number of moves is a bound.
     fn push_segment(&mut self, segment: &[u8]) -> Result<(), AllocError> {
         let (first, behind) = word_at(segment);
-        if let Some(digits) = length_digits(first) {
-            self.push_bound(digits)?;
-            return self.push_operation(behind);
+        let is_more = self.is_bound;
+        match length_digits(first) {
+            Some(digits) if !is_more => {
+                self.push_bound(digits)?;
+                return self.push_operation(behind);
+            }
+            Some(_) => return self.push_words(segment),
+            None => {}
         }
-        if let Some(digits) = mate_digits(segment) {
-            return self.push_bound(digits);
+        match mate_digits(segment) {
+            Some(digits) if !is_more => return self.push_bound(digits),
+            Some(_) => return self.push_words(segment),
+            None => {}
+        }
+        if is_free(segment) && moves_asked(segment) != Asked::Nothing {
+            return self.push_words(segment);
         }
         self.push_operation(segment)
+    }
+
+    /// Adds the bound that the line asks elsewhere than in `dm`, unless it has one.
+    fn push_asked(&mut self, asked: Asked) -> Result<(), AllocError> {
+        let Asked::Moves(moves) = asked else {
+            return Ok(());
+        };
+        if self.is_bound {
+            return Ok(());
+        }
+        self.changes.bound = true;
+        self.is_bound = true;
+        self.text.extend_from_slice(b" dm ")?;
+        push_moves(&mut self.text, moves)?;
+        push_byte(&mut self.text, b';')
     }
 
     /// Adds all operations.
@@ -227,26 +360,43 @@ impl Mending<'_> {
     }
 }
 
+/// What a line is once it is mended.
+#[derive(Drop)]
+pub(crate) enum Mended {
+    /// It says a number of moves.
+    Bound(Vec<u8>),
+    /// It says none.
+    Unbound(Vec<u8>),
+    /// It has no `dm`, and says two numbers of moves.
+    Two,
+}
+
 /// A line in printable ASCII, mended.
 pub(crate) fn mended_line(
     alloc: Global,
     line: &[u8],
     changes: &mut Changes,
-) -> Result<Vec<u8>, AllocError> {
+) -> Result<Mended, AllocError> {
     let mut mending = Mending {
         alloc,
         text: Vec::new(alloc),
         changes,
         is_bound: false,
+        comments: 0,
     };
     let operations = mending.push_fields(line)?;
     mending.is_bound = has_bound(operations);
+    mending.comments = next_comment(operations);
+    let asked = asked_in(operations);
+    if !mending.is_bound && asked == Asked::Two {
+        return Ok(Mended::Two);
+    }
     mending.push_operations(operations)?;
-    let Mending {
-        alloc: _,
-        text,
-        changes: _,
-        is_bound: _,
-    } = mending;
-    Ok(text)
+    mending.push_asked(asked)?;
+    let Mending { text, is_bound, .. } = mending;
+    Ok(if is_bound {
+        Mended::Bound(text)
+    } else {
+        Mended::Unbound(text)
+    })
 }

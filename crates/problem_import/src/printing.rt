@@ -10,8 +10,10 @@ use crate::changes::Changes;
 use crate::import_faults::ImportFault;
 use crate::line_kinds::{LineKind, record_fault};
 use crate::reading::{Finding, Found};
+use crate::texts::push_moves;
 use byte_streams::NoMemory;
 use chess_moves::Rays;
+use chess_notation::Bound;
 use std::alloc::{AllocError, Global};
 
 /// What is printed, and whether a problem is refused there.
@@ -21,11 +23,12 @@ pub(crate) struct Printed {
     pub(crate) any: bool,
 }
 
-/// How what is printed goes on records, and whether what was changed to make them is told.
+/// How what is printed goes on records: whether what was changed to make them is told, and the bound of those that say none.
 #[derive(Clone, Copy)]
 pub(crate) struct Printing<'a> {
     pub(crate) rays: &'a Rays,
     pub(crate) keep: bool,
+    pub(crate) bound: Option<Bound>,
 }
 
 /// A record, and behind it the operation that tells what was changed.
@@ -37,6 +40,15 @@ fn telling_text(alloc: Global, text: &[u8], changes: &Changes) -> Result<Vec<u8>
     changes.push_names(&mut told)?;
     told.extend_from_slice(b"\";")?;
     Ok(told)
+}
+
+/// A record that says no number of moves, with this bound.
+fn with_bound(alloc: Global, text: &[u8], bound: Bound) -> Result<Vec<u8>, AllocError> {
+    let mut bounded = Vec::from_slice(alloc, text)?;
+    bounded.extend_from_slice(b" dm ")?;
+    push_moves(&mut bounded, bound.get())?;
+    bounded.push(b';')?;
+    Ok(bounded)
 }
 
 /// Adds a line and its newline.
@@ -187,6 +199,33 @@ impl Printing<'_> {
         Ok(())
     }
 
+    /// Adds the record that a text is with the bound of those that say none, or why there is none.
+    fn push_unbound(
+        &self,
+        alloc: Global,
+        printed: &mut Printed,
+        line: &[u8],
+        number: usize,
+        text: &[u8],
+        changes: &Changes,
+    ) -> Result<(), NoMemory>
+        ensures imported { IfOk result (λ _. AreImported (IsMade self.now.keep line.now) printed.old.text.items printed.old.any
+            → AreImported (IsMade self.now.keep line.now) printed.new.text.items printed.new.any) }
+        ensures filled { IfOk result (λ _. 0 < length printed.new.text.items) }
+    {
+        let fault = match (record_fault(alloc, self.rays, text)?, self.bound) {
+            (None, Some(bound)) => {
+                let bounded = with_bound(alloc, text, bound)?;
+                let changes = changes.of_bound();
+                return self.push_text(alloc, printed, line, number, bounded.as_slice(), &changes);
+            }
+            (None, None) => ImportFault::NoBound,
+            (Some(fault), _) => ImportFault::Record(fault),
+        };
+        printed.push_refusal(alloc, number, fault)?;
+        Ok(())
+    }
+
     /// Adds what was found.
     fn push(
         &self,
@@ -203,6 +242,10 @@ impl Printing<'_> {
             Found::Text(text, changes) => {
                 let text = text.as_slice();
                 self.push_text(alloc, printed, line, finding.number, text, changes)
+            }
+            Found::Unbound(text, changes) => {
+                let text = text.as_slice();
+                self.push_unbound(alloc, printed, line, finding.number, text, changes)
             }
             Found::Fault(fault) => {
                 printed.push_refusal(alloc, finding.number, *fault)?;

@@ -8,7 +8,7 @@ use crate::changes::{Changes, Form};
 use crate::games::{Game, Movetext};
 use crate::import_faults::ImportFault;
 use crate::letters::ascii_text;
-use crate::mending::mended_line;
+use crate::mending::{Mended, mended_line};
 use crate::popeye::PopeyeProblem;
 use crate::popeye_words::{Command, command_of};
 use crate::tag_pairs::{begins_with, is_tag_pair};
@@ -19,6 +19,8 @@ use std::alloc::{AllocError, Global};
 #[derive(Drop)]
 pub(crate) enum Found {
     Text(Vec<u8>, Changes),
+    /// A text that says no number of moves, and is no record as it stands.
+    Unbound(Vec<u8>, Changes),
     Fault(ImportFault),
 }
 
@@ -268,12 +270,13 @@ impl Reading {
         Ok(())
     }
 
-    /// Takes a line in printable ASCII as a record that may want mending.
+    /// Takes a line in printable ASCII as a record that may want mending, and may be one as it stands.
     pub(crate) fn take_record(
         &mut self,
         alloc: Global,
         number: usize,
         line: &[u8],
+        is_record: bool,
         changes: Changes,
         findings: &mut Vec<Finding>,
     ) -> Result<(), AllocError>
@@ -282,14 +285,13 @@ impl Reading {
     {
         self.finish(alloc, findings)?;
         let mut changes = changes;
-        let text = mended_line(alloc, line, &mut changes)?;
-        push_finding(
-            findings,
-            Finding {
-                number,
-                found: Found::Text(text, changes),
-            },
-        )
+        let found = match mended_line(alloc, line, &mut changes)? {
+            Mended::Bound(text) => Found::Text(text, changes),
+            Mended::Unbound(text) if is_record => Found::Text(text, changes),
+            Mended::Unbound(text) => Found::Unbound(text, changes),
+            Mended::Two => Found::Fault(ImportFault::TwoBounds),
+        };
+        push_finding(findings, Finding { number, found })
     }
 
     /// Begins a problem for Popeye behind its first word.
@@ -364,7 +366,7 @@ impl Reading {
             self.take_movetext(alloc, line, findings)?;
             return Ok(());
         }
-        self.take_record(alloc, number, line, changes, findings)?;
+        self.take_record(alloc, number, line, false, changes, findings)?;
         Ok(())
     }
 
@@ -420,11 +422,16 @@ fn finish_game(alloc: Global, game: Game, findings: &mut Vec<Finding>) -> Result
     ensures { IfOk result (λ _. length findings.new.items ≡ length findings.old.items + 1) }
 {
     let mut game = game;
-    let found = if game.has_fen {
-        let text = game.text(alloc)?;
-        Found::Text(text, game.changes)
-    } else {
-        Found::Fault(ImportFault::NoFen)
+    let found = match game.first_fault() {
+        Some(fault) => Found::Fault(fault),
+        None => {
+            let text = game.text(alloc)?;
+            if game.is_bound() {
+                Found::Text(text, game.changes)
+            } else {
+                Found::Unbound(text, game.changes)
+            }
+        }
     };
     push_finding(
         findings,

@@ -71,3 +71,11 @@ pub(crate) fn push_byte(text: &mut Vec<u8>, byte: u8) -> Result<(), AllocError> 
     text.push(byte)?;
     Ok(())
 }
+
+/// Adds a number of moves, in one digit or two.
+pub(crate) fn push_moves(text: &mut Vec<u8>, moves: u8) -> Result<(), AllocError> {
+    if moves > 9 {
+        text.push(b'0' + moves / 10 % 10)?;
+    }
+    push_byte(text, b'0' + moves % 10)
+}
