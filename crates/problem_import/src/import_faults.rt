@@ -4,34 +4,27 @@ ghost use Rattle.std.specs.Prelude.{◌≡◌};
 ghost use Rattle.problem_import.specs.Imports.{import_fault_name};
 
 use chess_notation::EpdFault;
+use std::fmt;
 use thiserror::Error;
 
 /// Why a problem can't be read. It prints as its name.
 #[derive(Clone, Copy, Debug, PartialEq, Eq, Error)]
 pub enum ImportFault {
     /// What was made of it is no record.
-    #[error("{0}")]
     Record(EpdFault),
     /// A game has no `FEN` among its tags.
-    #[error("NoFen")]
     NoFen,
     /// No number of moves is said.
-    #[error("NoBound")]
     NoBound,
     /// Two numbers of moves are said.
-    #[error("TwoBounds")]
     TwoBounds,
     /// A problem of Popeye's has no stipulation, or another than `#N`; or a game's is no mate in so many moves.
-    #[error("BadStipulation")]
     BadStipulation,
     /// It has a condition.
-    #[error("FairyCondition")]
     FairyCondition,
     /// It has a man that is none of chess.
-    #[error("FairyPiece")]
     FairyPiece,
     /// It has another command, or an option that changes the problem.
-    #[error("UnknownCommand")]
     UnknownCommand,
 }
 
@@ -50,5 +43,11 @@ impl ImportFault {
             ImportFault::FairyPiece => "FairyPiece",
             ImportFault::UnknownCommand => "UnknownCommand",
         }
+    }
+}
+
+impl fmt::Display for ImportFault {
+    fn fmt<W: fmt::Write>(&self, f: &mut fmt::Formatter<W>) -> fmt::Result {
+        f.write_str(self.code())
     }
 }
