@@ -78,6 +78,9 @@ ended_filled line text (before, is) =
     let some : 0 < length (before ++ line ++ 10 ∷ []) = omega (arith, length-append (before ++ line) (10 ∷ [])) in
     subst (λ t. 0 < length t) (sym is) some
 
+pub filled_behind : (old line new : List ℕ) → new ≡ old ++ line ++ 10 ∷ [] → 0 < length new
+filled_behind old line new is = ended_filled line new (old, is)
+
 -- Something is printed of a record, by what the line is.
 pub record_kept : (kind : LineKind) (line before text : List ℕ) → (kind ≡ kinds.Other → ¬ (IsRecord line))
     → (kind ≡ kinds.Mendable → 0 < length before) → (0 < length before → 0 < length text)
