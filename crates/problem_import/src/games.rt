@@ -3,7 +3,7 @@
 
 use crate::changes::Changes;
 use crate::import_faults::ImportFault;
-use crate::texts::{is_same, is_word, push_moves, word_at};
+use crate::texts::{is_same, is_word, push_bound_operation, word_at};
 use std::alloc::{AllocError, Global};
 use stipulations::{Asked, moves_asked};
 
@@ -215,9 +215,7 @@ impl Game {
         let mut text = Vec::from_slice(alloc, self.fen.as_slice().trim_ascii())?;
         if let Asked::Moves(moves) = self.asks() {
             self.changes.bound = true;
-            text.extend_from_slice(b" dm ")?;
-            push_moves(&mut text, moves)?;
-            text.push(b';')?;
+            push_bound_operation(&mut text, moves)?;
         }
         push_id_operation(&mut text, id.as_slice())?;
         Ok(text)

@@ -2,7 +2,7 @@
 
 use crate::changes::Changes;
 use crate::lengths::{length_digits, mate_digits};
-use crate::texts::{are_digits, is_same, push_byte, push_moves, trimmed, word_at};
+use crate::texts::{are_digits, is_same, push_bound_operation, push_byte, trimmed, word_at};
 use crate::tokens::{Kind, Token, segment_at, token_at};
 use std::alloc::{AllocError, Global};
 use stipulations::{Asked, moves_asked};
@@ -318,9 +318,7 @@ impl Mending<'_> {
         }
         self.changes.bound = true;
         self.is_bound = true;
-        self.text.extend_from_slice(b" dm ")?;
-        push_moves(&mut self.text, moves)?;
-        push_byte(&mut self.text, b';')
+        push_bound_operation(&mut self.text, moves)
     }
 
     /// Adds all operations.

@@ -1,6 +1,6 @@
 //! What is printed: records by the grammar, and refusals.
 
-ghost use Rattle.std.specs.Prelude.{◌≡◌, ◌<◌, ◌++◌, ◌∷◌, [], ℕ, Bool, List, IfNone, IfOk, IfSome, length};
+ghost use Rattle.std.specs.Prelude.{◌≡◌, ◌<◌, ◌++◌, ◌∷◌, [], ℕ, Bool, List, IfNone, IfOk, IfSome, decimal, length};
 ghost use Rattle.chess_board.specs.Characters.{char};
 ghost use Rattle.problem_import.specs.Changes.{telling};
 ghost use Rattle.problem_import.specs.Imports.{AreImported, EndsWithLine, IsMade, IsRecord, refused_line};
@@ -10,7 +10,7 @@ use crate::changes::Changes;
 use crate::import_faults::ImportFault;
 use crate::line_kinds::{LineKind, record_fault};
 use crate::reading::{Finding, Found};
-use crate::texts::push_moves;
+use crate::texts::push_bound_operation;
 use byte_streams::NoMemory;
 use chess_moves::Rays;
 use chess_notation::Bound;
@@ -45,9 +45,7 @@ fn telling_text(alloc: Global, text: &[u8], changes: &Changes) -> Result<Vec<u8>
 /// A record that says no number of moves, with this bound.
 fn with_bound(alloc: Global, text: &[u8], bound: Bound) -> Result<Vec<u8>, AllocError> {
     let mut bounded = Vec::from_slice(alloc, text)?;
-    bounded.extend_from_slice(b" dm ")?;
-    push_moves(&mut bounded, bound.get())?;
-    bounded.push(b';')?;
+    push_bound_operation(&mut bounded, bound.get())?;
     Ok(bounded)
 }
 
@@ -60,16 +58,21 @@ fn push_line(text: &mut Vec<u8>, line: &[u8]) -> Result<(), AllocError>
     Ok(())
 }
 
-/// What is printed of a problem that can't be read.
-fn refusal_text(alloc: Global, number: usize, fault: ImportFault) -> Result<Vec<u8>, AllocError>
-    ensures { IfOk result (λ text. text.items ≡ refused_line number fault) }
+/// Adds what is printed of a problem that can't be read, by its number and the digits of that.
+fn push_refused_line(
+    text: &mut Vec<u8>,
+    number: usize,
+    digits: &[u8],
+    fault: ImportFault,
+) -> Result<(), AllocError>
+    requires { digits.now ≡ decimal number }
+    ensures { IfOk result (λ _. text.new.items ≡ text.old.items ++ refused_line number fault) }
 {
-    let mut text = Vec::new(alloc);
     text.extend_from_slice(b"# line ")?;
-    text.extend_from_slice(number.to_string(alloc)?.as_bytes())?;
+    text.extend_from_slice(digits)?;
     text.extend_from_slice(b": ")?;
-    push_line(&mut text, fault.code().as_bytes())?;
-    Ok(text)
+    push_line(text, fault.code().as_bytes())?;
+    Ok(())
 }
 
 impl Printed {
@@ -122,8 +125,8 @@ impl Printed {
             → AreImported (IsMade keep line) self.new.text.items self.new.any) }
         ensures filled { IfOk result (λ _. 0 < length self.new.text.items) }
     {
-        let line = refusal_text(alloc, number, fault)?;
-        self.text.extend_from_slice(line.as_slice())?;
+        let text = &mut self.text;
+        push_refused_line(text, number, number.to_string(alloc)?.as_bytes(), fault)?;
         self.any = true;
         Ok(())
     }

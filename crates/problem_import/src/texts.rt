@@ -73,9 +73,16 @@ pub(crate) fn push_byte(text: &mut Vec<u8>, byte: u8) -> Result<(), AllocError> 
 }
 
 /// Adds a number of moves, in one digit or two.
-pub(crate) fn push_moves(text: &mut Vec<u8>, moves: u8) -> Result<(), AllocError> {
+fn push_moves(text: &mut Vec<u8>, moves: u8) -> Result<(), AllocError> {
     if moves > 9 {
         text.push(b'0' + moves / 10 % 10)?;
     }
     push_byte(text, b'0' + moves % 10)
+}
+
+/// Adds an operation `dm` of so many moves.
+pub(crate) fn push_bound_operation(text: &mut Vec<u8>, moves: u8) -> Result<(), AllocError> {
+    text.extend_from_slice(b" dm ")?;
+    push_moves(text, moves)?;
+    push_byte(text, b';')
 }

@@ -1,9 +1,8 @@
-use Rattle.std.proofs.Common.{ap, ◌∙◌, ◌++◌}
 use Rattle.problem_import.specs.Imports.{IsMade}
 use Rattle.problem_import.proofs.Imports.{refusal_next}
 use Rattle.problem_import.proofs.printing.Printed.push_refusal.Goals as goal
 
 pub returns-clause-imported : goal.returns-clause-imported
 returns-clause-imported c = λ keep line.
-    refusal_next (IsMade keep line) c.args.self.now.text.items c.extend_from_slice.new.self.items c.args.number c.args.fault c.args.self.now.any
-    (c.in_ok-extend_from_slice.ensures.items ∙ ap (λ t. c.args.self.now.text.items ++ t) (c.as_slice.ensures.value ∙ c.in_ok-line.ensures))
+    refusal_next (IsMade keep line) c.args.self.now.text.items c.push_refused_line.new.text.items c.args.number c.args.fault c.args.self.now.any
+    c.in_ok-push_refused_line.ensures
