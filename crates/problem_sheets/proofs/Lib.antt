@@ -1,3 +1,4 @@
 pub mod AddedLines
 pub mod EscapedTexts
 pub mod Numbered
+pub mod TextsInTurn

@@ -14,6 +14,7 @@ use chess_notation::{Record, listed_text, san};
 use chess_problems::Outcome;
 use mate_search::{Memo, solve};
 use std::alloc::{AllocError, Global};
+use std::slice::from_ref;
 
 /// How moves are written.
 #[derive(Clone, Copy)]
@@ -23,23 +24,22 @@ pub(crate) struct Notation<'a> {
     pub figurines: bool,
 }
 
-/// Adds a character, a piece's letter as its figurine.
-fn push_figurine(text: &mut Vec<u8>, byte: u8) -> Result<(), AllocError>
-    ensures { IfOk result (λ _. text.new.items ≡ text.old.items ++ figurine byte) }
+/// What stands for a character, a figurine for a piece's letter.
+fn figurine(byte: &u8) -> &[u8]
+    ensures { result.now ≡ figurine byte.now }
 {
-    if byte == b'K' {
-        text.extend_from_slice(b"&#9812;")
-    } else if byte == b'Q' {
-        text.extend_from_slice(b"&#9813;")
-    } else if byte == b'R' {
-        text.extend_from_slice(b"&#9814;")
-    } else if byte == b'B' {
-        text.extend_from_slice(b"&#9815;")
-    } else if byte == b'N' {
-        text.extend_from_slice(b"&#9816;")
+    if *byte == b'K' {
+        b"&#9812;"
+    } else if *byte == b'Q' {
+        b"&#9813;"
+    } else if *byte == b'R' {
+        b"&#9814;"
+    } else if *byte == b'B' {
+        b"&#9815;"
+    } else if *byte == b'N' {
+        b"&#9816;"
     } else {
-        text.push(byte)?;
-        Ok(())
+        from_ref(byte)
     }
 }
 
@@ -51,7 +51,7 @@ fn push_moves(text: &mut Vec<u8>, figurines: bool, moves: &[u8]) -> Result<(), A
         return text.extend_from_slice(moves);
     }
     for byte in moves {
-        push_figurine(text, *byte)?;
+        text.extend_from_slice(figurine(byte))?;
     }
     Ok(())
 }
