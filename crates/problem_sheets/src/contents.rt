@@ -4,7 +4,7 @@ ghost use Rattle.std.specs.Prelude.{◌≡◌, ◌≢◌, ◌++◌, IfOk, length
 ghost use Rattle.problem_sheets.specs.Contents.{Adds, AddsFile, AddsFiles, has_refused, no_contents, refused_text};
 
 use crate::diagrams::push_number;
-use crate::escaping::push_escaped;
+use crate::escaping::{push_escaped, push_three};
 use byte_streams::NoMemory;
 use chess_moves::Rays;
 use chess_notation::{EpdFault, Record, is_blank, read_record};
@@ -66,9 +66,7 @@ fn push_refused(text: &mut Vec<u8>, place: &Place<'_>, fault: EpdFault) -> Resul
     push_escaped(text, place.name.as_bytes())?;
     text.extend_from_slice(b":")?;
     push_number(text, place.number)?;
-    text.extend_from_slice(b" ")?;
-    text.extend_from_slice(fault.code().as_bytes())?;
-    text.extend_from_slice(b"</p>\n")?;
+    push_three(text, b" ", fault.code().as_bytes(), b"</p>\n")?;
     Ok(())
 }
 

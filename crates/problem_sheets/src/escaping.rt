@@ -34,3 +34,18 @@ pub(crate) fn push_escaped(text: &mut Vec<u8>, bytes: &[u8]) -> Result<(), Alloc
     }
     Ok(())
 }
+
+/// Adds three texts as they are.
+pub(crate) fn push_three(
+    text: &mut Vec<u8>,
+    first: &[u8],
+    second: &[u8],
+    third: &[u8],
+) -> Result<(), AllocError>
+    ensures { IfOk result (λ _. text.new.items ≡ text.old.items ++ first.now ++ second.now ++ third.now) }
+{
+    text.extend_from_slice(first)?;
+    text.extend_from_slice(second)?;
+    text.extend_from_slice(third)?;
+    Ok(())
+}

@@ -6,7 +6,7 @@ ghost use Rattle.problem_sheets.specs.Pages.{refusals_text, section_text, soluti
 
 use crate::contents::Contents;
 use crate::diagrams::push_all_shapes;
-use crate::escaping::push_escaped;
+use crate::escaping::{push_escaped, push_three};
 use crate::page_parts::{PAGE_END, PAGE_START, STYLE};
 use crate::problems::push_problems;
 use crate::solutions::{Notation, push_solutions};
@@ -71,9 +71,7 @@ fn push_head(text: &mut Vec<u8>, title: &[u8]) -> Result<(), AllocError>
 fn push_section(text: &mut Vec<u8>, name: &[u8], paragraphs: &[u8]) -> Result<(), AllocError>
     ensures { IfOk result (λ _. text.new.items ≡ text.old.items ++ section_text name.now paragraphs.now) }
 {
-    text.extend_from_slice(b"<section>\n<h2>")?;
-    text.extend_from_slice(name)?;
-    text.extend_from_slice(b"</h2>\n")?;
+    push_three(text, b"<section>\n<h2>", name, b"</h2>\n")?;
     text.extend_from_slice(paragraphs)?;
     text.extend_from_slice(b"</section>\n")?;
     Ok(())

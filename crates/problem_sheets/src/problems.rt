@@ -8,7 +8,7 @@ ghost use Rattle.problem_sheets.specs.Problems.{heading_text, id_text, men_below
 ghost use Rattle.problem_sheets.specs.Problems.{right_words, small_text, state_text, target_words, unquoted};
 
 use crate::diagrams::{push_diagram, push_number, push_square};
-use crate::escaping::push_escaped;
+use crate::escaping::{push_escaped, push_three};
 use chess_board::{Colour, Position, Square, Wing};
 use chess_notation::{Operation, Record, kept_operands};
 use std::alloc::{AllocError, Global};
@@ -123,9 +123,8 @@ fn push_operations(text: &mut Vec<u8>, operations: &[Operation]) -> Result<(), A
     ensures { IfOk result (λ _. text.new.items ≡ text.old.items ++ entries_text operations.now) }
 {
     for operation in operations {
-        text.push(b' ')?;
-        text.extend_from_slice(operation.opcode.as_str().as_bytes())?;
-        text.extend_from_slice(operation.operands.as_bytes())?;
+        let operands = operation.operands.as_bytes();
+        push_three(text, b" ", operation.opcode.as_str().as_bytes(), operands)?;
         text.push(b';')?;
     }
     Ok(())
