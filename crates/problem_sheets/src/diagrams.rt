@@ -28,8 +28,7 @@ pub(crate) fn push_number(text: &mut Vec<u8>, number: usize) -> Result<(), Alloc
     ensures { IfOk result (λ _. text.new.items ≡ text.old.items ++ decimal number) }
 {
     let mut digits = Buffer::new();
-    text.extend_from_slice(digits.format(number).as_bytes())?;
-    Ok(())
+    text.extend_from_slice(digits.format(number).as_bytes())
 }
 
 /// How many squares stand to the left of a square, as a side sees the board.
@@ -278,8 +277,7 @@ fn coordinates(from: Colour) -> &'static str
 fn push_board_shape(text: &mut Vec<u8>) -> Result<(), AllocError>
     ensures { IfOk result (λ _. text.new.items ≡ text.old.items ++ board_shape) }
 {
-    text.extend_from_slice(BOARD.as_bytes())?;
-    Ok(())
+    text.extend_from_slice(BOARD.as_bytes())
 }
 
 /// Adds what follows them: the shapes of the mark and of the men.
@@ -287,8 +285,7 @@ fn push_board_shape(text: &mut Vec<u8>) -> Result<(), AllocError>
 fn push_men_shapes(text: &mut Vec<u8>) -> Result<(), AllocError>
     ensures { IfOk result (λ _. text.new.items ≡ text.old.items ++ men_shapes) }
 {
-    text.extend_from_slice(MEN.as_bytes())?;
-    Ok(())
+    text.extend_from_slice(MEN.as_bytes())
 }
 
 /// Adds all shapes: of the board as a side sees it, of the mark and of the men.

@@ -30,8 +30,7 @@ pub struct Form {
 fn push_start(text: &mut Vec<u8>) -> Result<(), AllocError>
     ensures { IfOk result (λ _. text.new.items ≡ text.old.items ++ page_start) }
 {
-    text.extend_from_slice(PAGE_START.as_bytes())?;
-    Ok(())
+    text.extend_from_slice(PAGE_START.as_bytes())
 }
 
 /// Adds how each page looks.
@@ -39,8 +38,7 @@ fn push_start(text: &mut Vec<u8>) -> Result<(), AllocError>
 fn push_style(text: &mut Vec<u8>) -> Result<(), AllocError>
     ensures { IfOk result (λ _. text.new.items ≡ text.old.items ++ style) }
 {
-    text.extend_from_slice(STYLE.as_bytes())?;
-    Ok(())
+    text.extend_from_slice(STYLE.as_bytes())
 }
 
 /// Adds what each page ends with.
@@ -48,8 +46,7 @@ fn push_style(text: &mut Vec<u8>) -> Result<(), AllocError>
 fn push_end(text: &mut Vec<u8>) -> Result<(), AllocError>
     ensures { IfOk result (λ _. text.new.items ≡ text.old.items ++ page_end) }
 {
-    text.extend_from_slice(PAGE_END.as_bytes())?;
-    Ok(())
+    text.extend_from_slice(PAGE_END.as_bytes())
 }
 
 /// Adds the head of a page with this title.
