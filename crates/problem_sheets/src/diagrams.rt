@@ -60,8 +60,7 @@ fn push_place(text: &mut Vec<u8>, from: Colour, square: Square) -> Result<(), Al
     push_number(text, 45 * (column_from(from, square) as usize))?;
     text.extend_from_slice(b"\" y=\"")?;
     push_number(text, 45 * (row_from(from, square) as usize))?;
-    text.extend_from_slice(b"\"/>")?;
-    Ok(())
+    text.extend_from_slice(b"\"/>")
 }
 
 /// Adds how a shape is used.
@@ -88,8 +87,7 @@ fn push_shape(text: &mut Vec<u8>, from: Colour, man: Man, square: Square) -> Res
 {
     push_use(text)?;
     push_letter(text, man)?;
-    push_place(text, from, square)?;
-    Ok(())
+    push_place(text, from, square)
 }
 
 /// Adds the shape of the man on a square, if one stands there.
@@ -236,8 +234,7 @@ fn push_drawing(text: &mut Vec<u8>, from: Colour, position: &Position) -> Result
 {
     push_board(text)?;
     push_shapes(text, from, position)?;
-    push_mark(text, from, position)?;
-    Ok(())
+    push_mark(text, from, position)
 }
 
 /// Adds what a diagram of a page begins with.
@@ -257,8 +254,7 @@ pub(crate) fn push_diagram(text: &mut Vec<u8>, position: &Position) -> Result<()
     push_label(text, position)?;
     text.extend_from_slice(b"\">")?;
     push_drawing(text, Colour::White, position)?;
-    text.extend_from_slice(b"</svg>")?;
-    Ok(())
+    text.extend_from_slice(b"</svg>")
 }
 
 /// The coordinates of a board as a side sees it.
@@ -295,8 +291,7 @@ pub(crate) fn push_all_shapes(text: &mut Vec<u8>, from: Colour) -> Result<(), Al
 {
     push_board_shape(text)?;
     text.extend_from_slice(coordinates(from).as_bytes())?;
-    push_men_shapes(text)?;
-    Ok(())
+    push_men_shapes(text)
 }
 
 /// Adds what an image begins with.

@@ -46,6 +46,5 @@ pub(crate) fn push_three(
 {
     text.extend_from_slice(first)?;
     text.extend_from_slice(second)?;
-    text.extend_from_slice(third)?;
-    Ok(())
+    text.extend_from_slice(third)
 }

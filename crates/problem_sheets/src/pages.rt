@@ -70,8 +70,7 @@ fn push_section(text: &mut Vec<u8>, name: &[u8], paragraphs: &[u8]) -> Result<()
 {
     push_three(text, b"<section>\n<h2>", name, b"</h2>\n")?;
     text.extend_from_slice(paragraphs)?;
-    text.extend_from_slice(b"</section>\n")?;
-    Ok(())
+    text.extend_from_slice(b"</section>\n")
 }
 
 /// Adds the lines that are refused, where there are any.

@@ -35,8 +35,7 @@ fn push_counts(text: &mut Vec<u8>, position: &Position) -> Result<(), AllocError
 {
     push_number(text, count_of(Colour::White, position))?;
     text.push(b'+')?;
-    push_number(text, count_of(Colour::Black, position))?;
-    Ok(())
+    push_number(text, count_of(Colour::Black, position))
 }
 
 /// What an operation says, without quotation marks.
@@ -57,8 +56,7 @@ fn push_id(alloc: Global, text: &mut Vec<u8>, record: &Record) -> Result<(), All
     ensures { IfOk result (λ _. text.new.items ≡ text.old.items ++ id_text «record».now) }
 {
     let id = unquoted_text(alloc, kept_operands(record.rest.as_slice(), b"id"))?;
-    push_escaped(text, id.as_slice())?;
-    Ok(())
+    push_escaped(text, id.as_slice())
 }
 
 /// How a right to castle is told.
@@ -114,8 +112,7 @@ fn push_state(text: &mut Vec<u8>, position: &Position) -> Result<(), AllocError>
     push_right(text, position, Colour::White, Wing::QueenSide)?;
     push_right(text, position, Colour::Black, Wing::KingSide)?;
     push_right(text, position, Colour::Black, Wing::QueenSide)?;
-    push_target(text, position)?;
-    Ok(())
+    push_target(text, position)
 }
 
 /// Adds operations.
@@ -152,8 +149,7 @@ fn push_heading(text: &mut Vec<u8>, number: usize, record: &Record) -> Result<()
     text.extend_from_slice(b"</b> #")?;
     push_number(text, record.bound.get() as usize)?;
     text.extend_from_slice(b" ")?;
-    push_counts(text, &record.position)?;
-    Ok(())
+    push_counts(text, &record.position)
 }
 
 /// Adds `id`.
@@ -163,8 +159,7 @@ fn push_cite(alloc: Global, text: &mut Vec<u8>, record: &Record) -> Result<(), A
 {
     text.extend_from_slice(b"<cite>")?;
     push_id(alloc, text, record)?;
-    text.extend_from_slice(b"</cite>")?;
-    Ok(())
+    text.extend_from_slice(b"</cite>")
 }
 
 /// Adds what a diagram doesn't show.
@@ -174,8 +169,7 @@ fn push_small(text: &mut Vec<u8>, record: &Record) -> Result<(), AllocError>
 {
     text.extend_from_slice(b"<small>")?;
     push_state(text, &record.position)?;
-    text.extend_from_slice(b"</small>")?;
-    Ok(())
+    text.extend_from_slice(b"</small>")
 }
 
 /// Adds the record to be copied.
@@ -186,8 +180,7 @@ fn push_code(alloc: Global, text: &mut Vec<u8>, record: &Record) -> Result<(), A
     let epd = epd_text(alloc, record)?;
     text.extend_from_slice(b"<code>")?;
     push_escaped(text, epd.as_slice())?;
-    text.extend_from_slice(b"</code>")?;
-    Ok(())
+    text.extend_from_slice(b"</code>")
 }
 
 /// Adds what is said of a problem.
@@ -203,8 +196,7 @@ fn push_details(
     push_heading(text, number, record)?;
     push_cite(alloc, text, record)?;
     push_small(text, record)?;
-    push_code(alloc, text, record)?;
-    Ok(())
+    push_code(alloc, text, record)
 }
 
 /// Adds what stands beneath a diagram.
@@ -236,8 +228,7 @@ fn push_problem(
     text.extend_from_slice(b"<figure>")?;
     push_diagram(text, &record.position)?;
     push_caption(alloc, text, number, record)?;
-    text.extend_from_slice(b"</figure>\n")?;
-    Ok(())
+    text.extend_from_slice(b"</figure>\n")
 }
 
 /// Adds problems, numbered from 1.

@@ -124,8 +124,7 @@ fn push_play(
     ensures { IfOk result (λ _. text.new.items ≡ text.old.items ++ moves_text notation.now.figurines (play_text_of 1 false position.now moves.now)) }
 {
     let play = play_text(alloc, notation.rays, position, moves)?;
-    push_moves(text, notation.figurines, play.as_slice())?;
-    Ok(())
+    push_moves(text, notation.figurines, play.as_slice())
 }
 
 /// Adds what there is to say of a problem.
