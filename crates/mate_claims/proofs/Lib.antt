@@ -1,4 +1,5 @@
 pub mod ClaimReplies
 pub mod ListedKeys
+pub mod MovesTested
 pub mod RowTexts
 pub mod TextBytes

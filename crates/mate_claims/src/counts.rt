@@ -107,6 +107,5 @@ fn push_count(alloc: Global, text: &mut String, name: &str, count: usize) -> Res
     ensures { OnOk result (string_bytes text.new ≡ string_bytes text.old ++ count_text name.now count) }
 {
     text.push_str(name)?;
-    text.push_str(count.to_string(alloc)?.as_str())?;
-    Ok(())
+    text.push_str(count.to_string(alloc)?.as_str())
 }

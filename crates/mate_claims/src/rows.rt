@@ -40,8 +40,7 @@ fn push_field(row: &mut Vec<u8>, text: &[u8]) -> Result<(), AllocError>
     ensures { OnOk result (row.new.items ≡ row.old.items ++ field text.now) }
 {
     row.push(b'\t')?;
-    row.extend_from_slice(or_hyphen(text))?;
-    Ok(())
+    row.extend_from_slice(or_hyphen(text))
 }
 
 /// Adds a length.
@@ -49,8 +48,7 @@ fn push_length(alloc: Global, row: &mut Vec<u8>, length: Bound) -> Result<(), Al
     ensures { OnOk result (row.new.items ≡ row.old.items ++ length_field length) }
 {
     row.extend_from_slice(b"\t#")?;
-    row.extend_from_slice(length.get().to_string(alloc)?.as_bytes())?;
-    Ok(())
+    row.extend_from_slice(length.get().to_string(alloc)?.as_bytes())
 }
 
 /// Adds the length that was found.
