@@ -71,8 +71,7 @@ fn push_refused_line(
     text.extend_from_slice(b"# line ")?;
     text.extend_from_slice(digits)?;
     text.extend_from_slice(b": ")?;
-    push_line(text, fault.code().as_bytes())?;
-    Ok(())
+    push_line(text, fault.code().as_bytes())
 }
 
 impl Printed {

@@ -347,8 +347,7 @@ impl Reading {
             → due self.old.open + length findings.old.items < due self.new.open + length findings.new.items) }
     {
         if begins_with(b'[', line) {
-            self.take_game(alloc, number, line, changes, findings)?;
-            return Ok(());
+            return self.take_game(alloc, number, line, changes, findings);
         }
         if is_remark(line) {
             return Ok(());
@@ -389,8 +388,7 @@ impl Reading {
             return Ok(());
         }
         self.end_movetext(number);
-        self.take_problem_line(alloc, number, text, changes, findings)?;
-        Ok(())
+        self.take_problem_line(alloc, number, text, changes, findings)
     }
 
     /// Takes a line that isn't of spaces alone, by its number; what it ends or says is found.
