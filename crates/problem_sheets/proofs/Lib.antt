@@ -1,4 +1,5 @@
 pub mod AddedLines
 pub mod EscapedTexts
 pub mod Numbered
+pub mod RecordsInTurn
 pub mod TextsInTurn
