@@ -1,7 +1,7 @@
 -- Forced mate, step by step.
-use Rattle.std.proofs.Common.{◌≡◌, ℕ, zero, suc, ◌-◌, ◌<◌, Bool, true, false, cond, not, ◌&&◌, ◌||◌, List, [], ◌∷◌, filter, refl, ◌∙◌, arith, sub-one}
+use Rattle.std.proofs.Common.{◌≡◌, ℕ, zero, suc, ◌-◌, ◌<◌, Bool, true, false, cond, not, ◌&&◌, ◌||◌, List, [], ◌∷◌, filter, refl, sym, ap, ◌∙◌, arith, sub-one}
 use Rattle.std.specs.Prelude.{nat_lt, length, Contains}
-use Rattle.std.proofs.lemmas.Bool.{lt-ltb, false_from_ne_true}
+use Rattle.std.proofs.lemmas.Bool.{lt-ltb, false_from_ne_true, and_parts}
 use Rattle.std.specs.List.{All, list_any, list_all}
 use Rattle.std.proofs.lemmas.List.Elements.{filter_passes}
 use Rattle.chess_board.specs.Positions.{Setup}
@@ -90,6 +90,11 @@ win_one p =
     any_same f g [] h = refl
     any_same f g (x ∷ xs) h = rw (h x, any_same f g xs h)
 
+-- Whoever has a move is not mated.
+no_mate : (b : Bool) → ((b && not true) || (true && false)) ≡ false
+no_mate true = refl
+no_mate false = refl
+
 -- One legal reply after which the attacker does not win refutes.
 pub refuted_by : LegalListed → (k : ℕ) (q : Setup) (r : Move) → r.origin < 64 → r.target < 64 → is_legal q r ≡ true
     → win k (after_setup q r) ≡ false → lost k q ≡ false
@@ -103,6 +108,32 @@ refuted_by listed k q r from to legal fails =
     found : (ms : List Move) → Contains ms r → nat_lt 0 (length ms) ≡ true
     found ms (j, on, e) = lt-ltb 0 (length ms) (omega arith)
 
-    no_mate : (b : Bool) → ((b && not true) || (true && false)) ≡ false
-    no_mate true = refl
-    no_mate false = refl
+-- Moves that are gone through one by one: the next of them, and those behind it.
+pub some_next : (ms rest : List Move) (r : Move) → ms ≡ r ∷ rest → nat_lt 0 (length ms) ≡ true
+some_next ms rest r is = lt-ltb 0 (length ms) (omega (arith, ap length is))
+
+pub all_behind : (f : Move → Bool) (ms rest : List Move) (r : Move) → ms ≡ r ∷ rest → list_all f ms ≡ true → list_all f rest ≡ true
+all_behind f ms rest r is all = (and_parts (f r) (list_all f rest) (rw is at all)).1
+
+-- The next of them wins.
+pub win_by_next : (n : ℕ) (p : Setup) (ms rest : List Move) (m : Move) → 0 < n
+    → list_any (leaves_lost (n - 1) p) ms ≡ list_any (leaves_lost (n - 1) p) (legal_moves p)
+    → ms ≡ m ∷ rest → lost (n - 1) (after_setup p m) ≡ true → win n p ≡ true
+win_by_next n p ms rest m h any is wins = win_step n p h ∙ sym any ∙ ap (list_any (leaves_lost (n - 1) p)) is
+    ∙ ap (λ (b : Bool). b || list_any (leaves_lost (n - 1) p) rest) wins
+
+-- None is left, and none has won.
+pub no_win_left : (n : ℕ) (p : Setup) (ms : List Move) → 0 < n
+    → list_any (leaves_lost (n - 1) p) ms ≡ list_any (leaves_lost (n - 1) p) (legal_moves p)
+    → ms ≡ [] → win n p ≡ false
+no_win_left n p ms h any is = win_step n p h ∙ sym any ∙ ap (list_any (leaves_lost (n - 1) p)) is
+
+-- The next of them refutes.
+pub refuted_by_next : (k : ℕ) (q : Setup) (ms rest : List Move) (r : Move) → ms ≡ r ∷ rest
+    → (list_all (λ s. win k (after_setup q s)) (legal_moves q) ≡ true → list_all (λ s. win k (after_setup q s)) ms ≡ true)
+    → (nat_lt 0 (length ms) ≡ true → has_legal_move q ≡ true) → win k (after_setup q r) ≡ false → lost k q ≡ false
+refuted_by_next k q ms rest r is left legal fails =
+    let some : has_legal_move q ≡ true = legal (some_next ms rest r is) in
+    let all : list_all (λ s. win k (after_setup q s)) (legal_moves q) ≡ false = false_from_ne_true _ (λ e.
+    let won = (and_parts (win k (after_setup q r)) (list_all (λ s. win k (after_setup q s)) rest) (rw is at (left e))).0 in cc) in
+    rw (some, all) (no_mate (is_in_check q.men q.side))

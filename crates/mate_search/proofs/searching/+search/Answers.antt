@@ -1,7 +1,9 @@
-use Rattle.std.proofs.Common.{◌≡◌, refl, sym, ap, ◌∙◌, arith}
+use Rattle.std.proofs.Common.{◌≡◌, ◌-◌, refl, sym, ap, ◌∙◌, arith, rules}
 use Rattle.chess_moves.specs.inside.Listing.{legal_moves}
-use Rattle.mate_search.specs.Wins.{win}
-use Rattle.mate_search.proofs.Wins.{all_legal, refuted_by}
+use Rattle.mate_search.specs.Wins.{win, lost}
+use Rattle.mate_search.proofs.Wins.{all_legal, refuted_by, refuted_by_next, some_next, all_behind, win_by_next, no_win_left, win_none, lost_none}
+use Rattle.chess_board.specs.Legality.{is_legal}
+use Rattle.chess_board.specs.MakeMove.{after_setup}
 use Rattle.mate_search.proofs.Known.{win_within_more, no_win_within_fewer, least_found}
 use Rattle.mate_search.proofs.searching.+search.Goals as goal
 
@@ -45,3 +47,48 @@ is_refuted_by_check-loop-r-init t g c =
     let moves : c.into_iter-r-iterator.result ≡ legal_moves c.args.position.now =
     c.into_iter-r-iterator.ensures.into_iter_gives ∙ c.legal_moves-r-items.ensures.moves in
     record { all = rw moves (λ e. e); some = rw moves (λ e. e); legal = rw moves (all_legal c.args.position.now); room = refl }
+
+pub loses-returns-then-k-eq0-clause-lost : goal.loses-returns-then-k-eq0-clause-lost
+loses-returns-then-k-eq0-clause-lost t g c = c.is_mated.ensures ∙ sym (lost_none c.args.k c.args.position.now c.if-k-eq0.true)
+
+pub wins-returns-in-0-clause-found : goal.wins-returns-in-0-clause-found
+wins-returns-in-0-clause-found t g c = sym (win_none c.args.n c.args.position.now c.in-0.is)
+
+pub wins_by_some-returns-then-branch-clause-found : goal.wins_by_some-returns-then-branch-clause-found
+wins_by_some-returns-then-branch-clause-found t g c = sym (win_by_next c.args.n c.args.position.now c.loop-m.m-iterator c.next.new.self c.in-Some.m
+    c.requires.some c.loop-m.invariant.any c.in-Some.ensures.steps
+    (ap (lost (c.args.n - 1)) (sym c.after.ensures) ∙ sym c.in_ok-loses_again.ensures.lost ∙ c.if-branch.true))
+
+pub wins_by_some-returns-clause-found : goal.wins_by_some-returns-clause-found
+wins_by_some-returns-clause-found t g c =
+    sym (no_win_left c.args.n c.args.position.now c.loop-m.m-iterator c.requires.some c.loop-m.invariant.any c.in-None.ensures.steps.0)
+
+pub is_refuted_by_capture-returns-then-not-branch-clause-refuted : goal.is_refuted_by_capture-returns-then-not-branch-clause-refuted
+is_refuted_by_capture-returns-then-not-branch-clause-refuted t g c = λ _.
+    refuted_by_next c.args.k c.args.position.now c.loop-r.r-iterator c.next.new.self c.in-Some.r
+    c.in-Some.ensures.steps c.loop-r.invariant.all c.loop-r.invariant.some
+    (ap (win c.args.k) (sym c.after.ensures) ∙ sym c.in_ok-wins.ensures.found ∙ c.if-not-branch.true)
+
+pub is_refuted_by_check-returns-then-not-branch-clause-refuted : goal.is_refuted_by_check-returns-then-not-branch-clause-refuted
+is_refuted_by_check-returns-then-not-branch-clause-refuted t g c = λ _.
+    refuted_by_next c.args.k c.args.position.now c.loop-r.r-iterator c.next.new.self c.in-Some.r
+    c.in-Some.ensures.steps c.loop-r.invariant.all c.loop-r.invariant.some
+    (ap (win c.args.k) (sym c.after-next.ensures) ∙ sym c.in_ok-wins.ensures.found ∙ c.if-not-branch.true)
+
+pub is_refuted_by_capture-loop-r-preserved : goal.is_refuted_by_capture-loop-r-preserved
+is_refuted_by_capture-loop-r-preserved t g c = record {
+  all = λ e. all_behind (λ s. win c.args.k (after_setup c.args.position.now s)) c.loop-r.r-iterator c.next.new.self c.in-Some.r
+      c.in-Some.ensures.steps (c.loop-r.invariant.all e);
+  some = λ _. c.loop-r.invariant.some (some_next c.loop-r.r-iterator c.next.new.self c.in-Some.r c.in-Some.ensures.steps);
+  legal = all_behind (is_legal c.args.position.now) c.loop-r.r-iterator c.next.new.self c.in-Some.r c.in-Some.ensures.steps c.loop-r.invariant.legal;
+  room = search rules;
+}
+
+pub is_refuted_by_check-loop-r-preserved : goal.is_refuted_by_check-loop-r-preserved
+is_refuted_by_check-loop-r-preserved t g c = record {
+  all = λ e. all_behind (λ s. win c.args.k (after_setup c.args.position.now s)) c.loop-r.r-iterator c.next.new.self c.in-Some.r
+      c.in-Some.ensures.steps (c.loop-r.invariant.all e);
+  some = λ _. c.loop-r.invariant.some (some_next c.loop-r.r-iterator c.next.new.self c.in-Some.r c.in-Some.ensures.steps);
+  legal = all_behind (is_legal c.args.position.now) c.loop-r.r-iterator c.next.new.self c.in-Some.r c.in-Some.ensures.steps c.loop-r.invariant.legal;
+  room = search rules;
+}
