@@ -1,6 +1,6 @@
 -- The keys in place of all first moves: there is a mate where there is a key, and the variation begins with the first of them.
 use Rattle.std.proofs.Common.{◌≡◌, ℕ, zero, suc, ◌+◌, ◌-◌, ◌<◌, Bool, true, false, List, [], ◌∷◌}
-use Rattle.std.proofs.Common.{length, filter, find, None, Some, refl, sym, arith, nat_lt, ◌∙◌}
+use Rattle.std.proofs.Common.{length, filter, find, Option, None, Some, refl, sym, arith, nat_lt, ◌∙◌}
 use Rattle.std.proofs.lemmas.Bool.{lt-ltb}
 use Rattle.std.specs.List.{All, list_any}
 use Rattle.std.proofs.lemmas.List.Elements.{All-filter}
@@ -8,7 +8,10 @@ use Rattle.chess_board.specs.Positions.{Setup}
 use Rattle.chess_board.specs.Moves.{Move}
 use Rattle.chess_board.specs.Legality.{is_legal}
 use Rattle.mate_search.specs.Wins.{leaves_lost, win_among}
-use Rattle.mate_search.specs.inside.Truth.{dist}
+use Rattle.chess_problems.specs.declared.outcomes.Outcome.TheVariants.{NoMate}
+use Rattle.mate_search.specs.declared.findings.Finding.{Finding}
+use Rattle.mate_search.specs.inside.Findings.{outcome_of}
+use Rattle.mate_search.specs.inside.Truth.{dist, truth_among}
 use Rattle.mate_search.specs.inside.Variation.{keys, variation}
 use Rattle.mate_search.proofs.Least.{dist_found, dist_none_more}
 use Rattle.mate_search.proofs.Wins.{win_among_step}
@@ -45,3 +48,13 @@ pub variation_of_keys : (first : List Move) (p : Setup) (n : ℕ) → variation 
 unfolding variation
 variation_of_keys first p zero = refl
 variation_of_keys first p (suc n) = rw (find_kept (leaves_lost (suc n - 1) p) first) refl
+
+-- What is said of the least number of moves, by its keys and its line.
+pub truth_by_keys : (first : List Move) (p : Setup) (n b : ℕ) (dm : Option ℕ) (f : Finding) → dm ≡ Some n → dist first p b ≡ Some n
+    → f.keys.items ≡ keys first p n → f.pv.items ≡ variation first p n → outcome_of dm f ≡ truth_among first p b
+unfolding truth_among
+truth_by_keys first p n b dm f is least found line = rw (is, least, ← found, ← line) refl
+
+pub truth_none : (first : List Move) (p : Setup) (b : ℕ) → dist first p b ≡ None → truth_among first p b ≡ NoMate
+unfolding truth_among
+truth_none first p b none = rw none refl

@@ -7,7 +7,7 @@ use Rattle.std.proofs.lemmas.List.Folds.{list_any_at}
 use Rattle.std.proofs.lemmas.Bool.{and_parts}
 
 -- the first element that passes, where none before it does
-pub find_here : {X : Type 0} (p : X → Bool) (xs : List X) (i : ℕ) (d : X) → i < length xs → find p (take i xs) ≡ None
+find_here : {X : Type 0} (p : X → Bool) (xs : List X) (i : ℕ) (d : X) → i < length xs → find p (take i xs) ≡ None
     → p (get_or xs i d) ≡ true → find p xs ≡ Some (get_or xs i d)
 find_here p [] i d h none passes = absurd (omega arith)
 find_here p (x ∷ xs) zero d h none passes = rw passes
@@ -25,10 +25,14 @@ find_none_suc p (x ∷ xs) (suc i) d h none fails = (elim (p x) as (λ b. p x �
   | false ↦ λ t. let n = rw t at none in rw t (find_none_suc p xs i d (omega arith) n fails)
 ]) refl
 
+pub found_next : {X : Type 0} (p : X → Bool) (xs : List X) (i : ℕ) (x : X) → i < length xs → x ≡ get_or xs i x → find p (take i xs) ≡ None
+    → p x ≡ true → find p xs ≡ Some x
+found_next p xs i x on is none passes = find_here p xs i x on none (ap p (sym is) ∙ passes) ∙ ap Some (sym is)
+
 -- one more element that does not
-pub find_none_more : {X : Type 0} (p : X → Bool) (xs : List X) (i : ℕ) (d : X) → i < length xs → find p (take i xs) ≡ None
-    → p (get_or xs i d) ≡ false → find p (take (i + 1) xs) ≡ None
-find_none_more p xs i d h none fails = rw (add-one i) (find_none_suc p xs i d h none fails)
+pub none_next : {X : Type 0} (p : X → Bool) (xs : List X) (i : ℕ) (x : X) → i < length xs → x ≡ get_or xs i x → find p (take i xs) ≡ None
+    → p x ≡ false → find p (take (i + 1) xs) ≡ None
+none_next p xs i x on is none fails = rw (add-one i) (find_none_suc p xs i x on none (ap p (sym is) ∙ fails))
 
 pub any_weaker : {X : Type 0} (p q : X → Bool) (xs : List X) → ((x : X) → p x ≡ true → q x ≡ true) → list_any p xs ≡ true → list_any q xs ≡ true
 any_weaker p q [] h e = e

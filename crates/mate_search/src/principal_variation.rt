@@ -17,7 +17,6 @@ use chess_moves::{MoveList, legal_moves as all_legal};
 use chess_problems::Variation;
 
 /// Appends to a list, of the first moves, the keys of a mate within `n` moves, in their order.
-#[tactic(auto, using(crate::proofs::Searches::kept_more, crate::proofs::Searches::left_out))]
 pub(crate) fn push_keys<H: Halt>(
     guide: &Guide<H>,
     root: &Root,
@@ -43,7 +42,6 @@ pub(crate) fn push_keys<H: Halt>(
 }
 
 /// The first of these keys.
-#[tactic(auto, using(crate::proofs::Searches::find_here, crate::proofs::Searches::find_none_more))]
 fn least_key<H: Halt>(
     guide: &Guide<H>,
     position: &Position,

@@ -268,7 +268,6 @@ fn is_among(m: Move, moves: &[Move]) -> bool
 }
 
 /// The legal moves that are not to be avoided.
-#[tactic(auto, unfolding(crate::specs::inside::Truth::first_moves), using(crate::proofs::Searches::kept_more, crate::proofs::Searches::left_out))]
 fn not_avoided(rays: &Rays, problem: &Problem) -> MoveList
     ensures { result.items ≡ moves_to_begin problem.now }
 {
@@ -301,7 +300,6 @@ fn learned(known: Entry, dm: &Option<Bound>, bound: Bound) -> Entry
 
 /// The least number of moves where the attacker's first move is one of these, with none of which it mates within `none` moves: looks
 /// for keys of a mate in one move more, two, and so on up to the bound.
-#[tactic(auto, unfolding(crate::specs::inside::Truth::truth_among), using(crate::proofs::Keys::dist_by_key, crate::proofs::Keys::dist_no_key, crate::proofs::Least::dist_fewer, crate::proofs::Keys::keys_legal, crate::proofs::Keys::variation_of_keys))]
 fn find_among<H: Halt>(
     guide: &Guide<H>,
     root: &Root,
