@@ -16,6 +16,7 @@ mod FewWords
 pub mod FieldWords
 pub mod FirstFaults
 pub mod FullTexts
+pub mod KeptNext
 pub mod KeptOperations
 pub mod LegalKeys
 pub mod LegalMen

@@ -22,49 +22,47 @@ use crate::record_fields::{are_printable, operations_in, parts_of};
 use crate::segments::{first_segment, last_rest};
 use crate::words::{is_blank, word_at};
 use chess_board::{FenFault, Position, read_fields, spells_one};
-use thiserror::Error;
+use std::error::Error;
+use std::fmt;
 
 /// The most bytes of a record's line.
 const MAX_LINE: usize = 1023;
 
 /// The first fault of a line, in the order in which the variants stand. It prints as its name; that of the fields as the word
 /// `Fen`, a space and the name of the FEN's fault.
-#[derive(Clone, Copy, Debug, PartialEq, Eq, Error)]
+#[derive(Clone, Copy, Debug, PartialEq, Eq)]
 pub enum EpdFault {
     /// The line has more than 1,023 bytes.
-    #[error("TooLong")]
     TooLong,
     /// A byte is no printable ASCII.
-    #[error("NotPrintable")]
     NotPrintable,
     /// There are fewer than four fields (`FieldCount`), or they have this fault.
-    #[error("Fen {0}")]
     Fen(FenFault),
     /// A segment between semicolons does not begin with an opcode.
-    #[error("BadOpcode")]
     BadOpcode,
     /// A string is not closed, has more than 255 bytes, or does not stand apart.
-    #[error("BadString")]
     BadString,
     /// The last operation lacks its semicolon.
-    #[error("MissingSemicolon")]
     MissingSemicolon,
     /// An opcode stands twice.
-    #[error("DoubleOpcode")]
     DoubleOpcode,
     /// `dm` does not have one plain operand of digits with a value above 0.
-    #[error("BadBound")]
     BadBound,
     /// The value of `dm` is above 15.
-    #[error("BoundTooLarge")]
     BoundTooLarge,
     /// `am` does not have plain operands, at least one, each of which names a legal move.
-    #[error("BadAvoid")]
     BadAvoid,
     /// A growth was refused; the line says a record.
-    #[error("NoMemory")]
     NoMemory,
 }
+
+impl fmt::Display for EpdFault {
+    fn fmt<W: fmt::Write>(&self, f: &mut fmt::Formatter<W>) -> fmt::Result {
+        f.write_str(self.code())
+    }
+}
+
+impl Error for EpdFault {}
 
 /// What is printed for a fault of the fields.
 fn fen_code(fault: &FenFault) -> &'static str

@@ -1,8 +1,8 @@
-use Rattle.std.proofs.Common.{◌≡◌, ◌==◌, ◌&&◌, true, refl, ap, ◌∙◌}
+use Rattle.std.proofs.Common.{◌≡◌, ◌==◌, ◌&&◌, ◌||◌, Bool, true, false, List, [], refl, ap, ◌∙◌}
 use Rattle.std.specs.List.{list_any}
 use Rattle.chess_board.specs.Moves.{Move}
 use Rattle.chess_board.specs.Squares.{file_of, rank_of}
-use Rattle.chess_notation.specs.Disambiguation.{is_rival}
+use Rattle.chess_notation.specs.Disambiguation.{is_rival, some_rival}
 use Rattle.chess_notation.proofs.SuchMen.{AreOthers, rivals_kept, no_rivals}
 use Rattle.chess_notation.proofs.disambiguation.rivals_of.Goals as goal
 
@@ -50,3 +50,23 @@ loop-n-init c =
       ap (list_any (λ n. is_rival p man m n && (rank_of n.origin == rank_of m.origin))) items
           ∙ rivals_kept law p man m others (λ n. rank_of n.origin == rank_of m.origin) are,
     )
+
+-- Where no move is left, what was found is what there is among all.
+none_to_come : (found : Bool) (f : Move → Bool) (ms : List Move) (all : Bool) → ms ≡ [] → (found || list_any f ms) ≡ all → found ≡ all
+none_to_come true f ms all is e = e
+none_to_come false f ms all is e = rw is at e
+
+pub returns-clause-some : goal.returns-clause-some
+unfolding some_rival
+returns-clause-some c = none_to_come _ (λ n. is_rival c.args.position.now c.args.man c.args.m n && true) c.loop-n.n-iterator _
+    c.in-None.ensures.steps.0 (rw c.loop-n.invariant.0 at c.loop-n.invariant.1)
+
+pub returns-clause-on_file : goal.returns-clause-on_file
+unfolding some_rival
+returns-clause-on_file c = none_to_come _ (λ n. is_rival c.args.position.now c.args.man c.args.m n && (file_of n.origin == file_of c.args.m.origin)) c.loop-n.n-iterator _
+    c.in-None.ensures.steps.0 (rw c.loop-n.invariant.0 at c.loop-n.invariant.2)
+
+pub returns-clause-on_rank : goal.returns-clause-on_rank
+unfolding some_rival
+returns-clause-on_rank c = none_to_come _ (λ n. is_rival c.args.position.now c.args.man c.args.m n && (rank_of n.origin == rank_of c.args.m.origin)) c.loop-n.n-iterator _
+    c.in-None.ensures.steps.0 (rw c.loop-n.invariant.0 at c.loop-n.invariant.3)
