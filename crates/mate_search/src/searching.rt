@@ -14,7 +14,6 @@ use chess_board::{Move, Position, after};
 use chess_moves::{Rays, attacked, has_mating_move, is_legal, is_mated, legal_listed, legal_moves};
 
 /// Whether the attacker, to move, mates within `n` moves. A position one move from the end is not worth keeping.
-#[tactic(auto, using(crate::proofs::Wins::win_none))]
 #[cycle(search)]
 pub(crate) fn wins<H: Halt>(
     guide: &Guide<H>,
@@ -108,7 +107,6 @@ fn least_win<H: Halt>(
 }
 
 /// Whether the attacker mates within `n` moves. No list of its moves is made.
-#[tactic(auto, using(crate::proofs::Wins::win_step))]
 #[cycle(search)]
 fn wins_by_some<H: Halt>(
     guide: &Guide<H>,
@@ -157,7 +155,6 @@ fn loses_again<H: Halt>(
 }
 
 /// Whether the defender, to move, is mated, or the attacker mates within `k` moves whatever the reply.
-#[tactic(auto, using(crate::proofs::Wins::lost_none))]
 #[cycle(search)]
 pub(crate) fn loses<H: Halt>(
     guide: &Guide<H>,

@@ -1,4 +1,4 @@
-use Rattle.std.proofs.Common.{◌≡◌, ◌-◌, true, false, find, sym, ap, ◌∙◌}
+use Rattle.std.proofs.Common.{◌-◌, find, sym, ap, ◌∙◌}
 use Rattle.std.proofs.lemmas.List.{take_all}
 use Rattle.mate_search.specs.Wins.{lost, leaves_lost}
 use Rattle.mate_search.proofs.Searches.{found_next, none_next}

@@ -1,4 +1,4 @@
-use Rattle.std.proofs.Common.{◌≡◌, ◌-◌, ◌+◌, ◌≤◌, true, List, filter, length, sym, ap, ◌∙◌, arith}
+use Rattle.std.proofs.Common.{◌-◌, filter, sym, ap, ◌∙◌, arith}
 use Rattle.std.proofs.lemmas.List.{take_all}
 use Rattle.arrayvec.specs.ArrayVec.{array_vec_len}
 use Rattle.mate_search.specs.Wins.{leaves_lost}

@@ -4,7 +4,7 @@ use Rattle.std.proofs.lemmas.List.{nil_from_length}
 use Rattle.mate_search.proofs.Keys.{dist_no_key, dist_by_key, keys_legal, variation_of_keys, truth_by_keys, truth_none}
 use Rattle.mate_search.proofs.Least.{dist_fewer}
 use Rattle.chess_board.specs.Moves.{Move}
-use Rattle.mate_search.specs.inside.Variation.{keys, variation}
+use Rattle.mate_search.specs.inside.Variation.{variation}
 use Rattle.mate_search.proofs.solving.find_among.Goals as goal
 
 pub loop-k-preserved : goal.loop-k-preserved

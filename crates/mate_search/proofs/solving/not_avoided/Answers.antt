@@ -1,8 +1,7 @@
-use Rattle.std.proofs.Common.{◌≡◌, Bool, not, filter, length, sym, ap, ◌∙◌, arith}
+use Rattle.std.proofs.Common.{not, filter, sym, ap, ◌∙◌, arith}
 use Rattle.std.proofs.lemmas.List.{take_all}
 use Rattle.std.specs.List.{list_any}
 use Rattle.arrayvec.specs.ArrayVec.{array_vec_len}
-use Rattle.chess_board.specs.Moves.{Move}
 use Rattle.chess_problems.specs.Problems.{ProblemValue}
 use Rattle.chess_problems.specs.SameProblems.{is_same_move}
 use Rattle.chess_moves.specs.inside.Listing.{legal_moves}
