@@ -1,5 +1,5 @@
 -- The moves that words name rise in the order of moves.
-use Rattle.std.proofs.Common.{◌≡◌, ℕ, Bool, List, [], ◌∷◌, true, false, Some, None, filter, cond}
+use Rattle.std.proofs.Common.{ℕ, Bool, List, [], ◌∷◌, true, false, Some, None, filter, cond}
 use Rattle.std.specs.List.{list_any}
 use Rattle.std.specs.Option.{option_map_or}
 use Rattle.chess_board.specs.Positions.{Setup}

@@ -1,7 +1,7 @@
 use Rattle.std.proofs.Common.{◌≡◌, ◌<◌, ◌≤◌, ◌+◌, ◌++◌, ◌∷◌, [], ℕ, Bool, false, List, length, get_or, drop, drop-cons, add-one, append_assoc, append-nil, refl, sym, ap, ◌∙◌}
 use Rattle.std.proofs.lemmas.List.{drop_all}
 use Rattle.chess_notation.specs.Segments.{segments_of, inside_after}
-use Rattle.chess_notation.specs.RecordFields.{cut_of, operations_in}
+use Rattle.chess_notation.specs.RecordFields.{cut_of}
 use Rattle.chess_notation.specs.Claims.{claims_text, keys_text_in, shut_byte, shut_from}
 use Rattle.chess_notation.proofs.claims.claims_text.Goals as goal
 

@@ -1,4 +1,4 @@
-use Rattle.std.proofs.Common.{◌≡◌, ◌++◌, filter, length, sym, ap, ◌∙◌, arith, rules}
+use Rattle.std.proofs.Common.{◌++◌, filter, length, sym, ap, ◌∙◌, arith}
 use Rattle.std.specs.List.{list_any}
 use Rattle.chess_notation.specs.Words.{words_in}
 use Rattle.chess_notation.specs.AvoidMoves.{names, named}
