@@ -1,10 +1,11 @@
 -- What `clap` reads of the arguments of the commands.
-use Rattle.std.specs.Prelude.{Some, map, codes}
+use Rattle.std.specs.Prelude.{◌≡◌, Some, false, map, codes}
 use Rattle.clap.specs.Lexer.{usize_max}
 use Rattle.clap.specs.Words.{Rule}
 use Rattle.clap.specs.declared.builder.action.ArgAction.TheVariants.{SetTrue}
 use Rattle.clap.specs.declared.builder.value_parser.ValueParser.TheVariants as parser
-use Rattle.command_words.specs.ClapWords.{new_rule}
+use Rattle.clap.specs.declared.builder.arg.Arg.{Arg}
+use Rattle.command_words.specs.ClapWords.{new_rule, rule_of}
 use Rattle.command_words.specs.CommandLine.{bound_rule, depth_rule, files_rule, flag_rule, from_rule, import_bound_rule, limit_rule, memo_rule}
 use Rattle.command_words.specs.CommandLine.{most_lines_rule, progress_rule, shown_rule, solve_workers_rule, title_rule, wanted, words_rule, workers_rule}
 use Rattle.command_words.specs.declared.arguments.Argument.{Argument}
@@ -61,3 +62,7 @@ argument_rule argument.Svg = flag_rule (codes "svg")
 argument_rule argument.Coordinates = flag_rule (codes "coordinates")
 argument_rule argument.Fens = flag_rule (codes "fen")
 argument_rule argument.Divide = flag_rule (codes "divide")
+
+-- an argument as it is named, for the command that it is given to alone
+abbrev pub IsArgOf : Argument → Arg → Type 0
+IsArgOf argument arg = (rule_of arg ≡ argument_rule argument) × (arg.global ≡ false)

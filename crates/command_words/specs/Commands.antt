@@ -1,9 +1,10 @@
 -- What `clap` reads of the commands, each with its arguments.
-use Rattle.std.specs.Prelude.{List, [], ◌∷◌}
+use Rattle.std.specs.Prelude.{◌≡◌, List, [], ◌∷◌}
 use Rattle.clap.specs.Words.{App}
+use Rattle.clap.specs.declared.builder.command.Command.{Command}
 use Rattle.command_words.specs.Arguments.{argument_rule}
-use Rattle.command_words.specs.ClapWords.{new_app, with_rule, with_subcommand}
-use Rattle.command_words.specs.CommandLine.{explain_app, import_app, look_app, look_lines_app, moves_app, moves_lines_app, perft_app, perft_lines_app}
+use Rattle.command_words.specs.ClapWords.{app_of, new_app, with_rule, with_subcommand}
+use Rattle.command_words.specs.CommandLine.{IsLocal, explain_app, import_app, look_app, look_lines_app, moves_app, moves_lines_app, perft_app, perft_lines_app}
 use Rattle.command_words.specs.CommandLine.{play_app, replay_app, serve_app, sheet_app, solve_app, tree_app, uci_app, verify_app}
 use Rattle.command_words.specs.declared.arguments.Argument.{Argument}
 use Rattle.command_words.specs.declared.commands.Name.{Name}
@@ -37,6 +38,10 @@ app_named name.LookLines = look_lines_app
 app_named name.MovesLines = moves_lines_app
 app_named name.PerftLines = perft_lines_app
 app_named name.Sheet = sheet_app
+
+-- a command as it is named, none of whose arguments is global
+abbrev pub IsCommandOf : Name → Command → Type 0
+IsCommandOf name command = (app_of command ≡ app_named name) × IsLocal command
 
 -- with the commands of these names, in turn
 unfoldable pub with_commands : App → List Name → App
