@@ -17,31 +17,28 @@ pub(crate) enum Command {
     Unknown,
 }
 
+/// The words that name commands.
+static NAMES: [(&str, Command); 10] = [
+    ("uci", Command::Uci),
+    ("isready", Command::IsReady),
+    ("setoption", Command::SetOption),
+    ("ucinewgame", Command::NewGame),
+    ("position", Command::Position),
+    ("go", Command::Go),
+    ("stop", Command::Stop),
+    ("ponderhit", Command::PonderHit),
+    ("quit", Command::Quit),
+    ("d", Command::Board),
+];
+
 /// The command that a word names.
 fn command_of(word: &str) -> Command {
-    if word == "uci" {
-        Command::Uci
-    } else if word == "isready" {
-        Command::IsReady
-    } else if word == "setoption" {
-        Command::SetOption
-    } else if word == "ucinewgame" {
-        Command::NewGame
-    } else if word == "position" {
-        Command::Position
-    } else if word == "go" {
-        Command::Go
-    } else if word == "stop" {
-        Command::Stop
-    } else if word == "ponderhit" {
-        Command::PonderHit
-    } else if word == "quit" {
-        Command::Quit
-    } else if word == "d" {
-        Command::Board
-    } else {
-        Command::Unknown
+    for (name, command) in &NAMES {
+        if word == *name {
+            return *command;
+        }
     }
+    Command::Unknown
 }
 
 /// The first word that names a command, before which any may stand, and the words behind it.
