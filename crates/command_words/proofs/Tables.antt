@@ -32,6 +32,7 @@ unfolding subcommand_app app_named with_arguments argument_rule with_solving_opt
     explain_app look_lines_app moves_lines_app perft_lines_app sheet_app
 commands_on_literals = tt
 
+-- One more is named, and what it names is pushed.
 pub one_more_argument : (its : List Argument) (args args' : List Arg) (i : ℕ) (any : Argument) (arg : Arg) → i < length its
     → AllZip IsArgOf (take i its) args → args' ≡ args ++ arg ∷ [] → rule_of arg ≡ argument_rule (get_or its i any) → arg.global ≡ false
     → AllZip IsArgOf (take (i + 1) its) args'

@@ -68,7 +68,6 @@ fn new_command<'a>(alloc: Global, told: &Subcommand) -> Command<'a>
 }
 
 /// A command with its arguments.
-#[tactic(auto, unfolding(crate::specs::Commands::subcommand_app), using(crate::proofs::Tables::arguments_added))]
 fn command_of<'a>(alloc: Global, name: Name) -> Result<Command<'a>, AllocError>
     ensures { IfOk result (λ command. IsCommandOf name command) }
 {
