@@ -1,2 +1,3 @@
 pub mod DividedCounts
+pub mod Pieces
 pub mod PlayedSteps
