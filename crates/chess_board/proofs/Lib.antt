@@ -11,6 +11,7 @@ pub mod SameBoards
 pub mod FieldTexts
 pub mod FaultOrder
 pub mod TextParts
+pub mod TextRoom
 pub mod RankLetters
 pub mod RankReading
 pub mod RankSteps
