@@ -3,47 +3,42 @@
 ghost use Rattle.std.specs.Prelude.{◌≡◌, codes};
 ghost use Rattle.chess_board.specs.Faults.{fault_name};
 
+use std::fmt;
 use thiserror::Error;
 
 /// The first fault of a text, in the order in which the variants stand. It prints as its name.
 #[derive(Clone, Copy, Debug, PartialEq, Eq, Error)]
 pub enum FenFault {
     /// Cutting at every space does not give six fields.
-    #[error("FieldCount")]
     FieldCount,
     /// The first field is no placement.
-    #[error("BadPlacement")]
     BadPlacement,
     /// The side to move is neither `w` nor `b`.
-    #[error("BadSide")]
     BadSide,
     /// The castling field is neither `-` nor letters of `KQkq` without repeats.
-    #[error("BadCastling")]
     BadCastling,
     /// The target is neither `-` nor a square on the target rank of the side to move.
-    #[error("BadTarget")]
     BadTarget,
     /// A counter is not one to four digits.
-    #[error("BadCounter")]
     BadCounter,
     /// A side has not exactly one king.
-    #[error("BadKings")]
     BadKings,
     /// A pawn stands on rank 1 or 8.
-    #[error("PawnOnEndRank")]
     PawnOnEndRank,
     /// A side has more than 16 men.
-    #[error("TooManyMen")]
     TooManyMen,
     /// A castling right lacks its king or its rook at home.
-    #[error("RightWithoutMen")]
     RightWithoutMen,
     /// The target lacks its pawn just beyond it, or it or the pawn's origin is not empty.
-    #[error("TargetWithoutPawn")]
     TargetWithoutPawn,
     /// The king of the side that is not to move is attacked.
-    #[error("OpponentInCheck")]
     OpponentInCheck,
+}
+
+impl fmt::Display for FenFault {
+    fn fmt<W: fmt::Write>(&self, f: &mut fmt::Formatter<W>) -> fmt::Result {
+        f.write_str(self.code())
+    }
 }
 
 impl FenFault {
