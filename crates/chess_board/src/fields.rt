@@ -4,7 +4,7 @@ ghost use Rattle.std.specs.Prelude.{◌≡◌, ◌≢◌, ◌↔◌, ℕ, ◌+�
 ghost use Rattle.arrayvec.specs.ArrayString.{array_string_len};
 ghost use Rattle.chess_board.specs.declared.men.Colour.{Colour as ColourValue};
 ghost use Rattle.chess_board.specs.Fields.{side_text, times, has_letter, rights_in, has_any, IsRightLetters, IsCastling, SpellsCastling};
-ghost use Rattle.chess_board.specs.Fields.{castling_text, target_rank, target_text, SpellsTarget, IsCounter, SpellsCounter};
+ghost use Rattle.chess_board.specs.Fields.{castling_text, letter_if, target_rank, target_text, SpellsTarget, IsCounter, SpellsCounter};
 
 use crate::men::{Colour, Rights};
 use crate::squares::{Square, push_square};
@@ -96,6 +96,19 @@ fn has_any(rights: Rights) -> bool
         || rights.black_queen_side
 }
 
+/// Writes a right's letter where the right is left.
+#[inline(always)]
+fn push_if(text: &mut ArrayString<96>, has: bool, letter: char)
+    requires room { array_string_len text.old < 96 }
+    requires ascii { letter < 128 }
+    ensures text { text.new.bytes ≡ text.old.bytes ++ letter_if has letter }
+    ensures short { array_string_len text.new ≤ array_string_len text.old + 1 }
+{
+    if has {
+        text.push(letter);
+    }
+}
+
 /// Writes the castling rights in the order `KQkq`, or `-` where none is left.
 pub(crate) fn push_castling(text: &mut ArrayString<96>, rights: Rights)
     requires { array_string_len text.old + 4 ≤ 96 }
@@ -106,18 +119,10 @@ pub(crate) fn push_castling(text: &mut ArrayString<96>, rights: Rights)
         text.push('-');
         return;
     }
-    if rights.white_king_side {
-        text.push('K');
-    }
-    if rights.white_queen_side {
-        text.push('Q');
-    }
-    if rights.black_king_side {
-        text.push('k');
-    }
-    if rights.black_queen_side {
-        text.push('q');
-    }
+    push_if(text, rights.white_king_side, 'K');
+    push_if(text, rights.white_queen_side, 'Q');
+    push_if(text, rights.black_king_side, 'k');
+    push_if(text, rights.black_queen_side, 'q');
 }
 
 fn target_rank(side: Colour) -> u8
