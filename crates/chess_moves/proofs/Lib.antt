@@ -62,3 +62,4 @@ pub mod EmptyLines
 pub mod FlightSquares
 pub mod SliderSights
 pub mod MatingMoves
+pub mod KeptMoves
