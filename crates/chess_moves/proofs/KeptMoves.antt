@@ -4,12 +4,16 @@ use Rattle.std.specs.List.{list_all}
 use Rattle.std.proofs.lemmas.Bool.{and_parts}
 use Rattle.chess_board.specs.Moves.{Move}
 
+pub filter_first : (f : Move → Bool) (m : Move) (left rest : List Move) → left ≡ m ∷ rest → f m ≡ true → filter f left ≡ m ∷ filter f rest
+filter_first f m left rest step passes =
+    let here : filter f (m ∷ rest) ≡ m ∷ filter f rest = rw passes refl in
+    ap (filter f) step ∙ here
+
 pub filter_kept : (f : Move → Bool) (m : Move) (left rest list more all : List Move) → left ≡ m ∷ rest → f m ≡ true → more ≡ list ++ m ∷ []
     → list ++ filter f left ≡ all → more ++ filter f rest ≡ all
 filter_kept f m left rest list more all step passes pushed so_far =
-    let here : filter f (m ∷ rest) ≡ m ∷ filter f rest = rw passes refl in
     ap (λ ms. ms ++ filter f rest) pushed ∙ append_assoc list (m ∷ []) (filter f rest)
-    ∙ sym (ap (λ ms. list ++ ms) (ap (filter f) step ∙ here)) ∙ so_far
+    ∙ sym (ap (λ ms. list ++ ms) (filter_first f m left rest step passes)) ∙ so_far
 
 pub filter_lost : (f : Move → Bool) (m : Move) (left rest list all : List Move) → left ≡ m ∷ rest → f m ≡ false
     → list ++ filter f left ≡ all → list ++ filter f rest ≡ all

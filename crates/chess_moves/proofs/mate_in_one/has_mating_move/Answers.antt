@@ -1,4 +1,4 @@
-use Rattle.std.proofs.Common.{◌||◌, sym, ap, ◌∙◌, filter}
+use Rattle.std.proofs.Common.{◌||◌, sym, ap, ◌∙◌, arith, filter, length}
 use Rattle.std.specs.List.{list_any}
 use Rattle.std.proofs.lemmas.List.Folds.{list_any-append}
 use Rattle.square_sets.specs.Members.{members}
@@ -52,3 +52,23 @@ pub returns : goal.returns
 unfolding has_mating_move
 returns c = sym (ap (list_any (λ m. is_mate (after_setup c.args.position.now m))) (ap (moves_of_men c.args.position.now)
     (no_members c.loop-origin.origin-iterator c.in-None.ensures.steps.0))) ∙ c.loop-origin.invariant.any
+
+pub own_man-requires-clause-on_board : goal.own_man-requires-clause-on_board
+own_man-requires-clause-on_board c = c.in-Some.ensures.steps.lowest.on_board
+
+pub own_man-requires-clause-own : goal.own_man-requires-clause-own
+own_man-requires-clause-own c =
+    let lowest = c.in-Some.ensures.steps.lowest in
+    c.loop-origin.invariant.own c.in-Some.origin lowest.on_board lowest.there
+
+pub man_mates-requires-clause-on_board : goal.man_mates-requires-clause-on_board
+man_mates-requires-clause-on_board c = c.in-Some.ensures.steps.lowest.on_board
+
+pub man_mates-requires-clause-there : goal.man_mates-requires-clause-there
+man_mates-requires-clause-there c = c.own_man.ensures.there
+
+pub man_mates-requires-clause-own : goal.man_mates-requires-clause-own
+man_mates-requires-clause-own c = c.own_man.ensures.own
+
+pub loop-origin-smaller : goal.loop-origin-smaller
+loop-origin-smaller c = omega (arith, ap length c.in-Some.ensures.steps.rising)

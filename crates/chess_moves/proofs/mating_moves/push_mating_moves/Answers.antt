@@ -59,3 +59,23 @@ returns c =
     ∙ ap (λ (ms : List Move). c.loop-origin.out.items ++ filter mates ms)
     (sym (ap (moves_of_men p) (no_members c.loop-origin.origin-iterator c.in-None.ensures.steps.0)))
     ∙ c.loop-origin.invariant.kept
+
+pub own_man-requires-clause-on_board : goal.own_man-requires-clause-on_board
+own_man-requires-clause-on_board c = c.in-Some.ensures.steps.lowest.on_board
+
+pub own_man-requires-clause-own : goal.own_man-requires-clause-own
+own_man-requires-clause-own c =
+    let lowest = c.in-Some.ensures.steps.lowest in
+    c.loop-origin.invariant.own c.in-Some.origin lowest.on_board lowest.there
+
+pub push_mates_of-requires-clause-on_board : goal.push_mates_of-requires-clause-on_board
+push_mates_of-requires-clause-on_board c = c.in-Some.ensures.steps.lowest.on_board
+
+pub push_mates_of-requires-clause-there : goal.push_mates_of-requires-clause-there
+push_mates_of-requires-clause-there c = c.own_man.ensures.there
+
+pub push_mates_of-requires-clause-own : goal.push_mates_of-requires-clause-own
+push_mates_of-requires-clause-own c = c.own_man.ensures.own
+
+pub loop-origin-smaller : goal.loop-origin-smaller
+loop-origin-smaller c = omega (arith, ap length c.in-Some.ensures.steps.rising)

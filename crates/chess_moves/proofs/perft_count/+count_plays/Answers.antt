@@ -1,5 +1,12 @@
 use Rattle.std.proofs.Common.{◌≡◌, ◌-◌, ◌^◌, sym, ap, ◌∙◌, arith, length}
 use Rattle.chess_moves.specs.inside.Listing.{legal_moves}
+use Rattle.std.specs.List.{sum_by}
+use Rattle.std.proofs.lemmas.List.Sums.{sum_by-cons}
+use Rattle.chess_board.specs.Legality.{is_legal}
+use Rattle.chess_board.specs.MakeMove.{after_setup}
+use Rattle.chess_board.specs.Moves.{Move}
+use Rattle.chess_moves.specs.Plays.{plays}
+use Rattle.chess_moves.proofs.KeptMoves.{all_first, all_others}
 use Rattle.chess_moves.proofs.Listed.{all_legal}
 use Rattle.chess_moves.proofs.Counts.{plays_of_one, plays_step, pow_step, pow_fits, one_of, times_grow}
 use Rattle.chess_moves.proofs.perft_count.+count_plays.Goals as goal
@@ -35,3 +42,22 @@ overflow_add-total t c =
       c.count_plays-total.ensures.few,
       c.loop-m.invariant.few,
     )
+
+pub after-requires : goal.after-requires
+after-requires t c =
+    all_first (is_legal c.args.position.now) c.in-Some.m c.loop-m.m-iterator c.next.new.self c.in-Some.ensures.steps c.loop-m.invariant.legal
+
+pub loop-m-preserved : goal.loop-m-preserved
+loop-m-preserved t c =
+    let p = c.args.position.now in
+    let m = c.in-Some.m in
+    let left = c.next.new.self in
+    let behind = λ (m : Move). length (plays (after_setup p m) (c.args.depth - 1)) in
+    let counted = c.count_plays-total.ensures.count ∙ ap (λ after. length (plays after (c.args.depth - 1))) c.after.ensures in
+    let sum = ap (sum_by behind) c.in-Some.ensures.steps ∙ sum_by-cons behind m left in
+    let step = one_of (length c.loop-m.m-iterator) (length left) (1024 ^ (c.args.depth - 1)) (ap length c.in-Some.ensures.steps) in
+    record {
+      counted = omega (arith, c.loop-m.invariant.counted, counted, sum);
+      few = omega (arith, step, c.count_plays-total.ensures.few, c.loop-m.invariant.few);
+      legal = all_others (is_legal p) m c.loop-m.m-iterator left c.in-Some.ensures.steps c.loop-m.invariant.legal;
+    }
