@@ -1,5 +1,5 @@
 -- How long a text is after a byte more, and a field behind a space.
-use Rattle.std.proofs.Common.{◌≡◌, ◌∙◌, ℕ, ◌+◌, ◌<◌, List, [], ◌∷◌, ◌++◌, length, ap, append_assoc, arith}
+use Rattle.std.proofs.Common.{◌≡◌, ◌∙◌, ℕ, ◌+◌, ◌<◌, List, [], ◌∷◌, ◌++◌, length, ap, append_assoc}
 use Rattle.std.proofs.lemmas.List.{length_push}
 use Rattle.std.proofs.lemmas.Str.{encode_ascii}
 use Rattle.std.proofs.Math.Utf8.{encode}
@@ -21,6 +21,8 @@ field_more text text' spaced more field field' same same_field space written =
     written ∙ ap (λ t. t ++ field) (space ∙ ap (λ t. t ++ char " " ∷ []) same) ∙ append_assoc text' (char " " ∷ []) field
     ∙ ap (λ f. text' ++ char " " ∷ f) same_field
 
-pub bytes_more : (text more most : List ℕ) (a b a' b' : ℕ) → a ≡ a' → b ≡ b' → more ≡ text ++ a ∷ [] → most ≡ more ++ b ∷ [] → most ≡ text ++ a' ∷ b' ∷ []
+pub bytes_more : (text more most : List ℕ) (a b a' b' : ℕ) → a ≡ a' → b ≡ b' → more ≡ text ++ a ∷ []
+    → most ≡ more ++ b ∷ [] → most ≡ text ++ a' ∷ b' ∷ []
 bytes_more text more most a b a' b' first second one two =
-    two ∙ ap (λ t. t ++ b ∷ []) one ∙ append_assoc text (a ∷ []) (b ∷ []) ∙ ap (λ x. text ++ x ∷ b ∷ []) first ∙ ap (λ x. text ++ a' ∷ x ∷ []) second
+    two ∙ ap (λ t. t ++ b ∷ []) one ∙ append_assoc text (a ∷ []) (b ∷ [])
+    ∙ ap (λ x. text ++ x ∷ b ∷ []) first ∙ ap (λ x. text ++ a' ∷ x ∷ []) second

@@ -13,9 +13,16 @@ loop-m-preserved-then-gives_check c =
     let p = c.args.position.now in
     let gives = sym c.gives_check.ensures ∙ c.if-gives_check.true in
     record {
-      kept = filter_kept (gives_check p) c.in-Some.m c.loop-m.m-iterator c.next.new.self c.loop-m.list.items c.push.new.self.items (checking_moves p) c.in-Some.ensures.steps gives
+      kept = filter_kept (gives_check p) c.in-Some.m c.loop-m.m-iterator c.next.new.self c.loop-m.list.items c.push.new.self.items
+          (checking_moves p) c.in-Some.ensures.steps gives
           c.push.ensures.items c.loop-m.invariant.kept;
-      few = omega (arith, c.loop-m.invariant.few, ap length c.in-Some.ensures.steps, ap length c.push.ensures.items, length-append c.loop-m.list.items (c.in-Some.m ∷ []));
+      few = omega (
+        arith,
+        c.loop-m.invariant.few,
+        ap length c.in-Some.ensures.steps,
+        ap length c.push.ensures.items,
+        length-append c.loop-m.list.items (c.in-Some.m ∷ []),
+      );
       legal = all_others (is_legal p) c.in-Some.m c.loop-m.m-iterator c.next.new.self c.in-Some.ensures.steps c.loop-m.invariant.legal;
     }
 
@@ -24,7 +31,8 @@ loop-m-preserved c =
     let p = c.args.position.now in
     let quiet = sym c.gives_check.ensures ∙ c.if-gives_check.false in
     record {
-      kept = filter_lost (gives_check p) c.in-Some.m c.loop-m.m-iterator c.next.new.self c.loop-m.list.items (checking_moves p) c.in-Some.ensures.steps quiet
+      kept = filter_lost (gives_check p) c.in-Some.m c.loop-m.m-iterator c.next.new.self c.loop-m.list.items (checking_moves p)
+          c.in-Some.ensures.steps quiet
           c.loop-m.invariant.kept;
       few = omega (arith, c.loop-m.invariant.few, ap length c.in-Some.ensures.steps);
       legal = all_others (is_legal p) c.in-Some.m c.loop-m.m-iterator c.next.new.self c.in-Some.ensures.steps c.loop-m.invariant.legal;

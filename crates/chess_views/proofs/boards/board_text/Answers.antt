@@ -10,5 +10,6 @@ loop-rank-preserved c =
 pub returns : goal.returns
 unfolding board_text
 returns c =
-    let ranks = pieces_all (rank_line c.args.from c.args.position.now.men) [] c.loop-rank.text.items c.ranks_from-rank-items.result _ c.loop-rank.rank-index (omega arith) c.ranks_from-rank-items.ensures.ranks c.loop-rank.invariant in
+    let ranks = pieces_all (rank_line c.args.from c.args.position.now.men) [] c.loop-rank.text.items c.ranks_from-rank-items.result _
+    c.loop-rank.rank-index (omega arith) c.ranks_from-rank-items.ensures.ranks c.loop-rank.invariant in
     c.in_ok-push_files.ensures ∙ ap (λ t. t ++ files_line c.args.from) ranks

@@ -19,5 +19,7 @@ unfolding files_line
 returns c =
     let text = c.args.text.now.items in
     let letters = λ (file : ℕ). char " " ∷ (char "a" + file) ∷ [] in
-    let drawn = pieces_all letters (text ++ codes "  ") c.loop-file.text.items c.files_from-file-items.result _ c.loop-file.file-index (omega arith) c.files_from-file-items.ensures.files c.loop-file.invariant in
-    parts_two (text ++ codes "  ") _ _ _ _ (flat_map letters (files_from c.args.from)) (codes "\n") refl refl drawn c.in_ok-push-3.ensures.items ∙ append_assoc text (codes "  ") _
+    let drawn = pieces_all letters (text ++ codes "  ") c.loop-file.text.items c.files_from-file-items.result _
+    c.loop-file.file-index (omega arith) c.files_from-file-items.ensures.files c.loop-file.invariant in
+    parts_two (text ++ codes "  ") _ _ _ _ (flat_map letters (files_from c.args.from)) (codes "\n") refl refl drawn
+    c.in_ok-push-3.ensures.items ∙ append_assoc text (codes "  ") _

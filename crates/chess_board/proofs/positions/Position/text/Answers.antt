@@ -33,7 +33,16 @@ push-requires-3 c =
     let none = len_none c.new-text.result c.new-text.ensures in
     let space = len_more c.push_placement.new.text c.push.new.self 32 (c.push.ensures.ascii (omega arith)) in
     let space_2 = len_more c.push_side.new.text c.push-2.new.self 32 (c.push-2.ensures.ascii (omega arith)) in
-    omega (arith, none, c.push_placement.ensures.short, space, c.push_side.ensures.short, space_2, c.push_castling.ensures.short, length-encode_ascii 32 (omega arith))
+    omega (
+      arith,
+      none,
+      c.push_placement.ensures.short,
+      space,
+      c.push_side.ensures.short,
+      space_2,
+      c.push_castling.ensures.short,
+      length-encode_ascii 32 (omega arith),
+    )
 
 pub push_target-requires : goal.push_target-requires
 push_target-requires c =
