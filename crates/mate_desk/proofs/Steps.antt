@@ -7,14 +7,15 @@ use Rattle.std.proofs.lemmas.Bool.Decides.{nat_tests}
 use Rattle.mate_jobs.specs.Jobs.{Task}
 use Rattle.mate_desk.specs.Content.{Content, EntryValue, QueueValue, Phase, Waiting, Out, Finished, is_waiting}
 use Rattle.mate_desk.specs.Content.{is_out, waits, has_ticket, waits_as, is_out_with, entries, lowest}
-use Rattle.mate_desk.specs.Calls.{with_queue, in_queue, everywhere, into_phase, has_out, after_take, after_return, submit_refusal}
+use Rattle.mate_desk.specs.Calls.{with_queue, in_queue, everywhere, into_phase, has_out, after_take, after_return, submit_refusal, submit_refusal_by}
 use Rattle.mate_desk.specs.Calls.{withdraw_refusal, withdraw_refusal_of, withdrawn_at, after_withdraw, change_at, ready}
 use Rattle.mate_desk.specs.Calls.{ready_of, ready_first, collected, collected_by, after_collect}
 use Rattle.mate_desk.specs.Laws.{AreKept}
 use Rattle.mate_desk.specs.inside.Keeping.{IsOutAt, IsOutIn}
+use Rattle.mate_desk.specs.declared.refusals.SubmitRefusal.TheVariants as refused
 use Rattle.mate_desk.specs.declared.refusals.WithdrawRefusal.{WithdrawRefusal}
 use Rattle.mate_desk.proofs.Tests.{and_tells}
-use Rattle.mate_desk.proofs.Changes.{got, got_one, got_inside, change_set, set_same, got_set, phase_other, ticket_own, waits_own, out_own, OfTicket}
+use Rattle.mate_desk.proofs.Changes.{got, got_one, got_inside, got_past, change_set, set_same, got_set, phase_other, ticket_own, waits_own, out_own, OfTicket}
 use Rattle.mate_desk.proofs.Joined.{joined, any_in}
 use Rattle.mate_desk.proofs.Kept.{any_got}
 use Rattle.mate_desk.proofs.Distinct.{count_at, count_any, count_le, count_apart, queues_at, Implies}
@@ -182,6 +183,26 @@ pub none_refuses : (next : ℕ) (qs : List QueueValue) (s : ℕ) (q : QueueValue
 none_refuses next qs s q g room few =
     let given : (next == 18446744073709551615) ≡ false = grind (arith, nat_tests, few) in
     rw (g, room, given) refl
+
+-- why one is
+pub refused_past : (next : ℕ) (closed : Bool) (qs : List QueueValue) (s : ℕ) → length qs ≤ s
+    → submit_refusal (holding qs next closed) s ≡ Some refused.NoSuchSubmitter
+refused_past next closed qs s past = ap (submit_refusal_by closed next) (got_past qs s past)
+
+pub refused_closed : (next : ℕ) (qs : List QueueValue) (s : ℕ) → s < length qs
+    → submit_refusal (holding qs next true) s ≡ Some refused.Closed
+refused_closed next [] s inside = absurd (omega arith)
+refused_closed next (q ∷ qs) zero inside = refl
+refused_closed next (q ∷ qs) (suc s) inside = refused_closed next qs s (omega arith)
+
+pub refused_full : (next : ℕ) (qs : List QueueValue) (s : ℕ) (q : QueueValue) → slice_get qs s ≡ Some q
+    → nat_le q.room (length q.pending) ≡ true → submit_refusal (holding qs next false) s ≡ Some refused.Full
+refused_full next qs s q g room = rw (g, room) refl
+
+pub refused_last : (next : ℕ) (qs : List QueueValue) (s : ℕ) (q : QueueValue) → slice_get qs s ≡ Some q
+    → nat_le q.room (length q.pending) ≡ false → next ≡ 18446744073709551615
+    → submit_refusal (holding qs next false) s ≡ Some refused.Exhausted
+refused_last next qs s q g room last = rw (last, g, room) refl
 
 -- Where nothing is ready, nothing is collected.
 pub stays_queue : (q : QueueValue) → ready_first q.pending ≡ None → collected q ≡ q

@@ -1,5 +1,5 @@
 -- Tests joined and taken apart.
-use Rattle.std.proofs.Common.{◌≡◌, ℕ, ◌==◌, Bool, true, false, ◌&&◌, ◌||◌, refl, arith}
+use Rattle.std.proofs.Common.{◌≡◌, ℕ, ◌<◌, ◌==◌, nat_le, Bool, true, false, ◌&&◌, ◌||◌, refl, arith}
 use Rattle.std.proofs.lemmas.Bool.Decides.{nat_tests}
 
 pub and_tells : (a b : Bool) → (a && b) ≡ true → (a ≡ true) × (b ≡ true)
@@ -24,3 +24,6 @@ same_number n = grind (arith, nat_tests)
 
 pub equal_tells : (m n : ℕ) → (m == n) ≡ true → m ≡ n
 equal_tells m n e = grind (arith, nat_tests, e)
+
+pub less_tells : (m n : ℕ) → nat_le m n ≡ false → n < m
+less_tells m n e = grind (arith, nat_tests, e)

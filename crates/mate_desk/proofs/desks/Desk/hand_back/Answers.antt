@@ -1,9 +1,20 @@
-use Rattle.std.proofs.Common.{subst, set}
+use Rattle.std.proofs.Common.{subst, set, arith}
 use Rattle.mate_desk.specs.Content.{Content, QueueValue, Waiting, is_out_with}
 use Rattle.mate_desk.specs.Calls.{into_phase}
+use Rattle.mate_desk.proofs.Changes.{got_inside}
 use Rattle.mate_desk.proofs.Following.{kept_follows, follows_map, phase_keeps, Follows}
 use Rattle.mate_desk.proofs.Steps.{holding, came_back, CameBack, found_out, FoundOut}
 use Rattle.mate_desk.proofs.desks.Desk.hand_back.Goals as goal
+
+pub index_mut-requires : goal.index_mut-requires
+index_mut-requires c =
+    let at = rw (c.ticket.ensures, c.problem.ensures, c.deref.ensures.value) at c.in-Some.ensures.some in
+    omega (arith, got_inside c.self.inside.queues.items c.in-Some.s at.queue at.there, c.self.inside.queues.ok.0)
+
+pub hand_back-requires : goal.hand_back-requires
+hand_back-requires c =
+    let at = rw (c.ticket.ensures, c.problem.ensures, c.deref.ensures.value) at c.in-Some.ensures.some in
+    (found_out c.args.job c.in-Some.place c.self.inside.queues.items c.in-Some.s c.index_mut.result.now at c.index_mut.ensures.value).here
 
 the_queue : (c : goal.After-self-1) → FoundOut c.args.job c.in-Some.place c.self.inside.queues.items c.in-Some.s c.index_mut.result.now
 the_queue c =

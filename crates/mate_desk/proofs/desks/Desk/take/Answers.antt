@@ -1,8 +1,8 @@
-use Rattle.std.proofs.Common.{◌≡◌, subst, IfSome, set, slice_get, Some}
-use Rattle.mate_desk.specs.Content.{Content}
+use Rattle.std.proofs.Common.{◌≡◌, ◌∙◌, ap, subst, IfNone, IfSome, set, slice_get, Some}
+use Rattle.mate_desk.specs.Content.{Content, entries, lowest}
 use Rattle.mate_desk.proofs.Changes.{got}
 use Rattle.mate_desk.proofs.Following.{kept_follows}
-use Rattle.mate_desk.proofs.Steps.{holding, take_follows, given_out, GivenOut, for_job}
+use Rattle.mate_desk.proofs.Steps.{holding, take_follows, take_none, take_lowest, take_unchanged, given_out, GivenOut, for_job}
 use Rattle.mate_desk.proofs.desks.Desk.take.Goals as goal
 
 the_queue : (c : goal.After-self-1) → slice_get c.self.inside.queues.items c.in_ok-s.s ≡ Some c.index_mut.result.now
@@ -37,3 +37,21 @@ returns-clause-none_was_out c = for_job c.take.result (the_given c) (λ job give
 
 pub returns-clause-given : goal.returns-clause-given
 returns-clause-given c = for_job c.take.result (the_given c) (λ job given. given.given)
+
+the_lowest : (c : goal.After-self-1) → lowest c.index_mut.result.now.pending ≡ lowest (entries c.args.self.now)
+the_lowest c =
+    let low = rw c.deref.ensures.value at c.in_ok-s.ensures.lowest in
+    low c.index_mut.result.now (the_queue c) ∙ ap (λ (d : Content). lowest (entries d)) c.self.view_is
+
+pub returns-clause-none : goal.returns-clause-none
+returns-clause-none c = take_none _ c.index_mut.result.now c.take.new.self c.take.result (the_lowest c) c.take.ensures.none
+
+pub returns-clause-lowest : goal.returns-clause-lowest
+returns-clause-lowest c = take_lowest _ c.index_mut.result.now c.take.result (the_lowest c) c.take.ensures.lowest
+
+pub returns-clause-unchanged : goal.returns-clause-unchanged
+returns-clause-unchanged c =
+    let after : Content = holding (set c.self.inside.queues.items c.in_ok-s.s c.take.new.self) c.self.inside.next c.self.inside.closed in
+    subst (λ (d : Content). IfNone c.take.result (after ≡ d)) c.self.view_is
+    (take_unchanged c.self.inside.next c.self.inside.closed c.self.inside.queues.items c.in_ok-s.s c.index_mut.result.now
+    c.take.new.self c.take.result (the_queue c) c.take.ensures.none)
