@@ -1,8 +1,11 @@
 use Rattle.std.proofs.Common.{◌≡◌, ◌∙◌, ◌+◌, ◌<◌, ◌^◌, ◌∷◌, ℕ, arith, subst, sym, refl, rules, List, length, ap, get_or, sum_by, false}
+use Rattle.std.proofs.Common.{◌≤◌, [], is_some, true}
 use Rattle.mate_jobs.specs.Jobs.{Task}
 use Rattle.mate_desk.specs.Content.{EntryValue, QueueValue, is_finished}
-use Rattle.mate_desk.specs.inside.Keeping.{Marks, finished_by}
+use Rattle.mate_desk.specs.Calls.{ready_first}
+use Rattle.mate_desk.specs.inside.Keeping.{Marks, AreSolved, finished_by}
 use Rattle.mate_desk.specs.inside.PlaceBits.{has_place}
+use Rattle.mate_desk.proofs.OwnJobs.{solved_first}
 use Rattle.mate_desk.proofs.Waiting.{marks_lower}
 use Rattle.mate_desk.proofs.Kept.{IsKept, kept_rest}
 use Rattle.mate_desk.proofs.queues.Queue.deliver.Goals as goal
@@ -21,6 +24,17 @@ left_kept capacity places word new solved rest q e es k is fits lower gone =
     let few : length es < 64 = omega (arith, k.1, k.2, ap length is) in
     kept_rest capacity places word new solved rest q e es k is
     (marks_lower word new e es fits few (subst (Marks word) is k.5) lower) gone
+
+-- What was solved of the first entry, where that is finished, is there.
+own_there : (solved : List Task) (es : List EntryValue) (e : EntryValue) → AreSolved solved es → is_some (ready_first es) ≡ true
+    → e ≡ get_or es 0 e → (f : Task → ℕ) → finished_by f e ≤ sum_by f solved
+own_there solved [] e s some read f = cc
+own_there solved (x ∷ es) e s some read f = omega (arith, ap (finished_by f) read, solved_first f solved x es s)
+
+pub take_solved-done-requires-clause-there : goal.take_solved-done-requires-clause-there
+take_solved-done-requires-clause-there c =
+    own_there c.self.inside.solved.items c.self.inside.entries.items c.index-first.result.now c.self.invariant.7
+    (ap (λ (q : QueueValue). is_some (ready_first q.pending)) c.self.view_is ∙ c.requires) c.index-first.ensures
 
 pub invariant_of-self : goal.invariant_of-self
 invariant_of-self c =
