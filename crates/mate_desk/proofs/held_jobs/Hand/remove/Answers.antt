@@ -1,7 +1,16 @@
-use Rattle.std.proofs.Common.{arith, rules, ◌≡◌, ◌≢◌, ◌∙◌, ◌-◌, ◌<◌, sym, ap, subst, length, get_or, set, remove, vec_len}
+use Rattle.std.proofs.Common.{arith, ◌≡◌, ◌≢◌, ◌∙◌, ◌+◌, ◌-◌, ◌<◌, sym, ap, subst, List, length, get_or, set, remove, vec_len}
+use Rattle.std.proofs.lemmas.List.Edits.{length-remove}
+use Rattle.mate_jobs.specs.Jobs.{Task}
 use Rattle.mate_desk.specs.inside.HeldJobs.{HandValue, AreNamedOnce}
 use Rattle.mate_desk.proofs.JobOrder.{index_there, place_below, job_taken, last_stands, hand_left, hand_moved}
 use Rattle.mate_desk.proofs.held_jobs.Hand.remove.Goals as goal
+
+pub remove-place-requires : goal.remove-place-requires
+remove-place-requires c = omega (
+  arith,
+  index_there c.args.self.now c.self.inside.jobs.items c.self.inside.order.items _ c.args.i c.self.view_is c.requires,
+  c.self.inside.order.ok.0,
+)
 
 pub invariant_of-self : goal.invariant_of-self
 invariant_of-self c =
@@ -24,6 +33,18 @@ returns-then-place-last-clause-jobs c =
     c.args.i c.remove-place.result _ c.self.invariant.2 inside c.remove-place.ensures.items c.remove-place.ensures.value
     c.swap_remove.ensures.by_index same in
     left.1 ∙ ap (λ (h : HandValue). remove h.jobs c.args.i) c.self.view_is
+
+pub returns-then-place-last-clause-value : goal.returns-then-place-last-clause-value
+returns-then-place-last-clause-value c =
+    let inside = index_there c.args.self.now c.self.inside.jobs.items c.self.inside.order.items _ c.args.i c.self.view_is c.requires in
+    let low = place_below c.self.inside.order.items c.args.i c.remove-place.result _ c.self.invariant.2 inside c.remove-place.ensures.value in
+    job_taken c.self.inside.jobs.items c.self.inside.order.items c.args.i c.remove-place.result c.swap_remove.result inside
+    c.remove-place.ensures.value (omega (arith, low, c.self.inside.jobs.ok.0)) c.swap_remove.ensures.value
+    ∙ ap (λ (h : HandValue). get_or h.jobs c.args.i c.swap_remove.result) c.self.view_is
+
+pub returns-then-place-last-clause-fewer : goal.returns-then-place-last-clause-fewer
+returns-then-place-last-clause-fewer c = ap (λ (jobs : List Task). length jobs + 1) (returns-then-place-last-clause-jobs c)
+    ∙ length-remove c.args.self.now.jobs c.args.i c.requires
 
 pub index_of-moved-requires : goal.index_of-moved-requires
 index_of-moved-requires c =
@@ -62,9 +83,8 @@ pub returns-clause-value : goal.returns-clause-value
 returns-clause-value c =
     let inside = index_there c.args.self.now c.self.inside.jobs.items c.self.inside.order.items _ c.args.i c.self.view_is c.requires in
     let low = place_below c.self.inside.order.items c.args.i c.remove-place.result _ c.self.invariant.2 inside c.remove-place.ensures.value in
-    let all : length c.self.inside.jobs.items ≡ vec_len c.self.inside.jobs = search rules in
     job_taken c.self.inside.jobs.items c.self.inside.order.items c.args.i c.remove-place.result c.swap_remove-2.result inside
-    c.remove-place.ensures.value (omega (arith, low, all)) c.swap_remove-2.ensures.value
+    c.remove-place.ensures.value (omega (arith, low, c.self.inside.jobs.ok.0)) c.swap_remove-2.ensures.value
     ∙ ap (λ (h : HandValue). get_or h.jobs c.args.i c.swap_remove-2.result) c.self.view_is
 
 pub returns-clause-jobs : goal.returns-clause-jobs
@@ -80,3 +100,7 @@ returns-clause-jobs c =
     c.args.i c.remove-place.result _ c.index_of-moved.result c.self.invariant.2 inside c.remove-place.ensures.items
     c.remove-place.ensures.value c.swap_remove-2.ensures.by_index apart within there in
     left.1 ∙ ap (λ (h : HandValue). remove h.jobs c.args.i) c.self.view_is
+
+pub returns-clause-fewer : goal.returns-clause-fewer
+returns-clause-fewer c = ap (λ (jobs : List Task). length jobs + 1) (returns-clause-jobs c)
+    ∙ length-remove c.args.self.now.jobs c.args.i c.requires
