@@ -20,25 +20,25 @@ fn joined(alloc: Global, first: &str, second: &str) -> Result<String, AllocError
 }
 
 /// A word, with the space behind it, and a ticket.
-fn numbered(alloc: Global, word: &str, ticket: Ticket) -> Result<String, AllocError>
+fn numbered(alloc: Global, word: &str, ticket: Ticket) -> Result<String, NoMemory>
     ensures { IfOk result (λ text. string_bytes text ≡ word.now ++ decimal ticket) }
 {
     let number = ticket.0.to_string(alloc)?;
-    joined(alloc, word, number.as_str())
+    Ok(joined(alloc, word, number.as_str())?)
 }
 
 /// The reason of a refusal.
-fn refused(alloc: Global, code: &str) -> Result<String, AllocError>
+fn refused(alloc: Global, code: &str) -> Result<String, NoMemory>
     ensures { IfOk result (λ text. string_bytes text ≡ codes "refused " ++ code.now) }
 {
-    joined(alloc, "refused ", code)
+    Ok(joined(alloc, "refused ", code)?)
 }
 
 /// A text by itself.
-fn plain(alloc: Global, word: &str) -> Result<String, AllocError>
+fn plain(alloc: Global, word: &str) -> Result<String, NoMemory>
     ensures { IfOk result (λ text. string_bytes text ≡ word.now) }
 {
-    joined(alloc, word, "")
+    Ok(joined(alloc, word, "")?)
 }
 
 /// What a reply prints as. Only a growth that is refused is an error.
@@ -46,24 +46,23 @@ fn plain(alloc: Global, word: &str) -> Result<String, AllocError>
 pub fn reply_text(alloc: Global, rays: &Rays, reply: &Reply) -> Result<String, NoMemory>
     ensures { IfOk result (λ text. string_bytes text ≡ text_of reply.now) }
 {
-    let text = match reply {
-        Reply::Ticket(ticket) => numbered(alloc, "ticket ", *ticket)?,
-        Reply::Refused(refusal) => refused(alloc, refusal.code())?,
-        Reply::BadRecord(fault) => refused(alloc, fault.code())?,
-        Reply::Job(ticket) => numbered(alloc, "job ", *ticket)?,
-        Reply::Nothing => plain(alloc, "nothing")?,
-        Reply::Done(ticket) => numbered(alloc, "done ", *ticket)?,
-        Reply::NoJob => plain(alloc, "no job")?,
-        Reply::Back(ticket) => numbered(alloc, "back ", *ticket)?,
-        Reply::Answer(held) => held.answer().text(alloc, rays)?,
-        Reply::Notice(ticket) => numbered(alloc, "notice ", *ticket)?,
-        Reply::Empty => plain(alloc, "none")?,
-        Reply::NoSuchSubmitter => refused(alloc, "NoSuchSubmitter")?,
-        Reply::Withdrawn => plain(alloc, "withdrawn")?,
-        Reply::NotWithdrawn(refusal) => refused(alloc, refusal.code())?,
-        Reply::Drained(true) => plain(alloc, "drained yes")?,
-        Reply::Drained(false) => plain(alloc, "drained no")?,
-        Reply::Closed => plain(alloc, "closed")?,
-    };
-    Ok(text)
+    match reply {
+        Reply::Ticket(ticket) => numbered(alloc, "ticket ", *ticket),
+        Reply::Refused(refusal) => refused(alloc, refusal.code()),
+        Reply::BadRecord(fault) => refused(alloc, fault.code()),
+        Reply::Job(ticket) => numbered(alloc, "job ", *ticket),
+        Reply::Nothing => plain(alloc, "nothing"),
+        Reply::Done(ticket) => numbered(alloc, "done ", *ticket),
+        Reply::NoJob => plain(alloc, "no job"),
+        Reply::Back(ticket) => numbered(alloc, "back ", *ticket),
+        Reply::Answer(held) => held.answer().text(alloc, rays),
+        Reply::Notice(ticket) => numbered(alloc, "notice ", *ticket),
+        Reply::Empty => plain(alloc, "none"),
+        Reply::NoSuchSubmitter => refused(alloc, "NoSuchSubmitter"),
+        Reply::Withdrawn => plain(alloc, "withdrawn"),
+        Reply::NotWithdrawn(refusal) => refused(alloc, refusal.code()),
+        Reply::Drained(true) => plain(alloc, "drained yes"),
+        Reply::Drained(false) => plain(alloc, "drained no"),
+        Reply::Closed => plain(alloc, "closed"),
+    }
 }
