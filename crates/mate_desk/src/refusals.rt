@@ -3,19 +3,17 @@
 ghost use Rattle.std.specs.Prelude.{◌≡◌, codes};
 ghost use Rattle.mate_desk.specs.Refusals.{desk_fault_name, submit_refusal_name, withdraw_refusal_name};
 
+use std::fmt;
 use thiserror::Error;
 
 /// Why there is no desk.
 #[derive(Clone, Copy, Debug, PartialEq, Eq, Error)]
 pub enum DeskFault {
     /// The number of submitters is not one of 1 to 16.
-    #[error("BadSubmitters")]
     BadSubmitters,
     /// The room of a submitter is not one of 1 to 64 records.
-    #[error("BadRoom")]
     BadRoom,
     /// Memory was refused.
-    #[error("NoMemory")]
     NoMemory,
 }
 
@@ -32,20 +30,22 @@ impl DeskFault {
     }
 }
 
+impl fmt::Display for DeskFault {
+    fn fmt<W: fmt::Write>(&self, f: &mut fmt::Formatter<W>) -> fmt::Result {
+        f.write_str(self.code())
+    }
+}
+
 /// Why a record is not accepted.
 #[derive(Clone, Copy, Debug, PartialEq, Eq, Error)]
 pub enum SubmitRefusal {
     /// There is no submitter of that number.
-    #[error("NoSuchSubmitter")]
     NoSuchSubmitter,
     /// The desk is closed.
-    #[error("Closed")]
     Closed,
     /// The submitter has as many records pending as it may.
-    #[error("Full")]
     Full,
     /// All tickets were given.
-    #[error("Exhausted")]
     Exhausted,
 }
 
@@ -63,20 +63,22 @@ impl SubmitRefusal {
     }
 }
 
+impl fmt::Display for SubmitRefusal {
+    fn fmt<W: fmt::Write>(&self, f: &mut fmt::Formatter<W>) -> fmt::Result {
+        f.write_str(self.code())
+    }
+}
+
 /// Why a record is not withdrawn.
 #[derive(Clone, Copy, Debug, PartialEq, Eq, Error)]
 pub enum WithdrawRefusal {
     /// There is no submitter of that number.
-    #[error("NoSuchSubmitter")]
     NoSuchSubmitter,
     /// So many records were not accepted from the submitter.
-    #[error("NotAccepted")]
     NotAccepted,
     /// What was owed for the record was delivered.
-    #[error("Delivered")]
     Delivered,
     /// The record was withdrawn before.
-    #[error("Withdrawn")]
     Withdrawn,
 }
 
@@ -91,6 +93,12 @@ impl WithdrawRefusal {
             WithdrawRefusal::Delivered => "Delivered",
             WithdrawRefusal::Withdrawn => "Withdrawn",
         }
+    }
+}
+
+impl fmt::Display for WithdrawRefusal {
+    fn fmt<W: fmt::Write>(&self, f: &mut fmt::Formatter<W>) -> fmt::Result {
+        f.write_str(self.code())
     }
 }
 
