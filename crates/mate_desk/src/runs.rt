@@ -1,6 +1,8 @@
 //! Runs: a list of steps at a new desk, and the reply to each.
 
-ghost use Rattle.std.specs.Prelude.{◌≡◌, ◌⊎◌, ◌↔◌, ◌<◌, ◌≤◌, length, min, count_by, IfOk, IfErr, Err};
+ghost use Rattle.std.specs.Prelude.{◌≡◌, ◌⊎◌, ◌↔◌, ◌*◌, ◌<◌, ◌≤◌, [], length, min, count_by, vec_len, vec_capacity};
+ghost use Rattle.std.specs.Prelude.{IfOk, IfErr, Err};
+ghost use Rattle.mate_desk.specs.Calls.{empty};
 ghost use Rattle.mate_desk.specs.Refusals.{AreServed, IsRoom};
 ghost use Rattle.mate_desk.specs.History.{past};
 ghost use Rattle.mate_desk.specs.Replies.{AreReplies};
@@ -11,7 +13,7 @@ ghost use Rattle.mate_desk.specs.inside.Stepping.{collects, finishes};
 ghost use Rattle.mate_desk.specs.declared.runs.RunFault.TheVariants as fault;
 
 use crate::desks::Desk;
-use crate::held_answers::new_places;
+use crate::held_answers::{Place, new_places};
 use crate::held_jobs::Hand;
 use crate::refusals::DeskFault;
 use crate::stepping::{Reader, make};
@@ -20,19 +22,17 @@ use chess_moves::Rays;
 use chess_problems::Bound;
 use mate_search::{Memo, truth_reads};
 use std::alloc::Global;
+use std::fmt;
 use thiserror::Error;
 
 /// Why no step was made.
 #[derive(Clone, Copy, Debug, PartialEq, Eq, Error)]
 pub enum RunFault {
     /// The number of submitters is not one of 1 to 16.
-    #[error("BadSubmitters")]
     BadSubmitters,
     /// The room of a submitter is not one of 1 to 64 records.
-    #[error("BadRoom")]
     BadRoom,
     /// Memory was refused.
-    #[error("NoMemory")]
     NoMemory,
 }
 
@@ -46,6 +46,12 @@ impl RunFault {
             RunFault::BadRoom => "BadRoom",
             RunFault::NoMemory => "NoMemory",
         }
+    }
+}
+
+impl fmt::Display for RunFault {
+    fn fmt<W: fmt::Write>(&self, f: &mut fmt::Formatter<W>) -> fmt::Result {
+        f.write_str(self.code())
     }
 }
 
@@ -74,6 +80,62 @@ fn most_answers(steps: &[Step]) -> usize
     ensures { result ≡ min (count_by collects steps.now) (count_by finishes steps.now) }
 {
     collecting(steps).min(finishing(steps))
+}
+
+/// What a run holds.
+#[derive(Drop)]
+struct Held {
+    desk: Desk,
+    replies: Vec<Reply>,
+    hand: Hand,
+    places: Vec<Place>,
+}
+
+/// A new desk, or why a run has none.
+fn new_desk(alloc: Global, submitters: usize, room: usize) -> Result<Desk, RunFault>
+    ensures ok { IfOk result (λ _. AreServed submitters × IsRoom room) }
+    ensures empty { IfOk result (λ desk. desk ≡ empty submitters room 0) }
+    ensures bad_submitters { (result ≡ Err fault.BadSubmitters) ↔ ((submitters ≡ 0) ⊎ (16 < submitters)) }
+    ensures bad_room { (result ≡ Err fault.BadRoom) ↔ (AreServed submitters × ((room ≡ 0) ⊎ (64 < room))) }
+    ensures no_memory { result ≡ Err fault.NoMemory → AreServed submitters × IsRoom room }
+{
+    match Desk::new(alloc, submitters, room, 0) {
+        Ok(desk) => Ok(desk),
+        Err(DeskFault::BadSubmitters) => Err(RunFault::BadSubmitters),
+        Err(DeskFault::BadRoom) => Err(RunFault::BadRoom),
+        Err(DeskFault::NoMemory) => Err(RunFault::NoMemory),
+    }
+}
+
+/// Takes all that a run holds.
+fn hold_all(alloc: Global, submitters: usize, room: usize, steps: &[Step]) -> Result<Held, RunFault>
+    ensures empty { IfOk result (λ held. held.desk ≡ empty submitters room 0) }
+    ensures no_replies { IfOk result (λ held. held.replies.items ≡ []) }
+    ensures for_replies { IfOk result (λ held. length steps.now ≤ vec_capacity held.replies) }
+    ensures no_jobs { IfOk result (λ held. held.hand.jobs ≡ []) }
+    ensures for_jobs { IfOk result (λ held. held.hand.room ≡ min (length steps.now) (submitters * room)) }
+    ensures for_answers { IfOk result (λ held. vec_len held.places ≡ min (count_by collects steps.now) (count_by finishes steps.now)) }
+    ensures ok { IfOk result (λ _. AreServed submitters × IsRoom room) }
+    ensures bad_submitters { (result ≡ Err fault.BadSubmitters) ↔ ((submitters ≡ 0) ⊎ (16 < submitters)) }
+    ensures bad_room { (result ≡ Err fault.BadRoom) ↔ (AreServed submitters × ((room ≡ 0) ⊎ (64 < room))) }
+    ensures no_memory { result ≡ Err fault.NoMemory → AreServed submitters × IsRoom room }
+{
+    let desk = new_desk(alloc, submitters, room)?;
+    let Ok(replies) = Vec::with_capacity(alloc, steps.len()) else {
+        return Err(RunFault::NoMemory);
+    };
+    let Ok(hand) = Hand::new(alloc, steps.len().min(submitters * room)) else {
+        return Err(RunFault::NoMemory);
+    };
+    let Ok(places) = new_places(alloc, most_answers(steps)) else {
+        return Err(RunFault::NoMemory);
+    };
+    Ok(Held {
+        desk,
+        replies,
+        hand,
+        places,
+    })
 }
 
 /// Makes every step in turn at a new desk of so many submitters, 1 to 16, each with room for so many pending records, 1 to 64, and
@@ -106,21 +168,13 @@ pub fn run(
     // That a memo keeps no more than it has room for is this call's clause, and what is true of a problem this law's.
     memo.len();
     truth_reads();
-    let mut desk = match Desk::new(alloc, submitters, room, 0) {
-        Ok(desk) => desk,
-        Err(DeskFault::BadSubmitters) => return Err(RunFault::BadSubmitters),
-        Err(DeskFault::BadRoom) => return Err(RunFault::BadRoom),
-        Err(DeskFault::NoMemory) => return Err(RunFault::NoMemory),
-    };
-    let Ok(mut replies) = Vec::with_capacity(alloc, steps.len()) else {
-        return Err(RunFault::NoMemory);
-    };
-    let Ok(mut hand) = Hand::new(alloc, steps.len().min(submitters * room)) else {
-        return Err(RunFault::NoMemory);
-    };
-    let Ok(mut places) = new_places(alloc, most_answers(steps)) else {
-        return Err(RunFault::NoMemory);
-    };
+    let held = hold_all(alloc, submitters, room, steps)?;
+    let Held {
+        mut desk,
+        mut replies,
+        mut hand,
+        mut places,
+    } = held;
     let reader = Reader {
         alloc,
         rays,

@@ -36,24 +36,24 @@ pub loop-step-init : goal.loop-step-init
 loop-step-init c =
     let n : ℕ = c.args.submitters in
     let default : ℕ = c.args.default in
-    let first : MirrorsBy (λ t. nothing) n c.args.room default [] c.in-Ok.desk c.in-Ok-new.hand.jobs =
-    rw (c.in-Ok.ensures.empty, c.in-Ok-new.ensures.jobs) (start (λ t. nothing) n c.args.room default) in
+    let held = c.in_ok-held.ensures in
+    let first : MirrorsBy (λ t. nothing) n c.args.room default [] c.in_ok-held.held.desk c.in_ok-held.held.hand.jobs =
+    rw (held.empty, held.no_jobs) (start (λ t. nothing) n c.args.room default) in
     let h : History = [] in
-    let jobs : List Task = c.in-Ok-new.hand.jobs in
+    let jobs : List Task = c.in_ok-held.held.hand.jobs in
+    let d : Content = c.in_ok-held.held.desk in
     record {
       mirrors = (λ t. nothing, first);
-      in_order = first_moment (DeliversInOrder default) (in_order (λ t. nothing) n c.args.room default h c.in-Ok.desk jobs first);
-      notices = first_moment GivesNoticeOfWithdrawn (notices (λ t. nothing) n c.args.room default h c.in-Ok.desk jobs first);
-      all = first_moment (DeliversAllOnceDrained n) (all_delivered (λ t. nothing) n c.args.room default h c.in-Ok.desk jobs first);
-      told = ap length c.in-Ok-with_capacity.ensures.items;
-      room = search rules;
-      hand = omega (arith, ap length c.in-Ok-new.ensures.jobs);
-      held = held_either (length c.args.steps.now) (n * c.args.room) (c.in-Ok-new.hand.room)
-          (omega (arith, c.in-Ok-new.ensures.room, c.min.ensures));
+      in_order = first_moment (DeliversInOrder default) (in_order (λ t. nothing) n c.args.room default h d jobs first);
+      notices = first_moment GivesNoticeOfWithdrawn (notices (λ t. nothing) n c.args.room default h d jobs first);
+      all = first_moment (DeliversAllOnceDrained n) (all_delivered (λ t. nothing) n c.args.room default h d jobs first);
+      told = ap length held.no_replies;
+      room = held.for_replies;
+      hand = omega (arith, ap length held.no_jobs);
+      held = held_either (length c.args.steps.now) (n * c.args.room) c.in_ok-held.held.hand.room (omega (arith, held.for_jobs));
       places = first_places (count_by collects c.args.steps.now) (count_by finishes c.args.steps.now)
-          (vec_len c.in-Ok-new_places.places) (count_done c.in-Ok.desk) (c.in-Ok-new_places.ensures ∙ c.most_answers.ensures)
-          (ap count_done c.in-Ok.ensures.empty ∙ none_done n c.args.room 0);
-      next = omega (arith, ap (λ (d : Content). d.next) c.in-Ok.ensures.empty);
+          (vec_len c.in_ok-held.held.places) (count_done d) held.for_answers (ap count_done held.empty ∙ none_done n c.args.room 0);
+      next = omega (arith, ap (λ (d : Content). d.next) held.empty);
       memo_room = refl;
       memo_within = omega (arith, c.len.ensures.kept, c.len.ensures.within);
     }
