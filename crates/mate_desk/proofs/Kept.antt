@@ -8,6 +8,7 @@ use Rattle.chess_notation.specs.Records.{problem_of}
 use Rattle.mate_desk.specs.Content.{EntryValue, QueueValue, Phase, Waiting, Out, Finished, is_out, is_waiting}
 use Rattle.mate_desk.specs.Content.{is_finished, waits, waits_as, has_ticket, has_task, is_out_with, lowest}
 use Rattle.mate_desk.specs.Calls.{in_queue, into_phase, withdrawn, withdrawn_at, withdraw_refusal_of, change_at}
+use Rattle.mate_desk.specs.declared.refusals.WithdrawRefusal.TheVariants as refused
 use Rattle.mate_desk.specs.Laws.{Rises}
 use Rattle.mate_desk.specs.inside.Keeping.{Marks, IsOutAt, task_of, finished_by, AreSolved}
 use Rattle.mate_desk.proofs.Tests.{and_tells, and_holds}
@@ -177,6 +178,15 @@ marked q n e y less from g free is =
       withdrawn = rw pending (ap (λ (es : List EntryValue). record { room = q.room; delivered = q.delivered; pending = es })
           (ap (set q.pending (n - q.delivered)) is ∙ sym changed));
     }
+
+-- why it is not
+pub refused_twice : (q : QueueValue) (n : ℕ) (e : EntryValue) → n < q.delivered + length q.pending → q.delivered ≤ n
+    → slice_get q.pending (n - q.delivered) ≡ Some e → e.withdrawn ≡ true
+    → withdraw_refusal_of (Some q) n ≡ Some refused.Withdrawn
+refused_twice q n e less from g gone =
+    let accepted : nat_le (q.delivered + length q.pending) n ≡ false = grind (arith, nat_tests, less) in
+    let pending : nat_lt n q.delivered ≡ false = grind (arith, nat_tests, from) in
+    rw (accepted, pending, g, gone) refl
 
 -- the first entry gone
 pub kept_rest : (capacity places word new : ℕ) (solved rest : List Task) (q : QueueValue) (e : EntryValue) (es : List EntryValue)

@@ -114,15 +114,16 @@ loop-step-preserved c =
       memo_within = c.make-reply.ensures.memo_within;
     }
 
-pub returns-clause-nothing_after_close : goal.returns-clause-nothing_after_close
-returns-clause-nothing_after_close c =
-    let i = c.loop-step.invariant in
+pub returns-clause-fixed_by_the_past : goal.returns-clause-fixed_by_the_past
+returns-clause-fixed_by_the_past c =
     let all : take c.loop-step.step-index c.args.steps.now ≡ c.args.steps.now =
     take_all c.loop-step.step-index c.args.steps.now (omega (arith, c.loop-step-test.false)) in
-    let fixed : AreReplies c.args.submitters c.args.room c.args.default (past c.args.steps.now c.loop-step.replies.items) =
-    subst (λ ss. AreReplies c.args.submitters c.args.room c.args.default (past ss c.loop-step.replies.items))
-    all i.mirrors.1.fixed in
-    none_after_close c.args.submitters c.args.room c.args.default (past c.args.steps.now c.loop-step.replies.items) fixed
+    subst (λ ss. AreReplies c.args.submitters c.args.room c.args.default (past ss c.loop-step.replies.items)) all
+    c.loop-step.invariant.mirrors.1.fixed
+
+pub returns-clause-nothing_after_close : goal.returns-clause-nothing_after_close
+returns-clause-nothing_after_close c = none_after_close c.args.submitters c.args.room c.args.default
+    (past c.args.steps.now c.loop-step.replies.items) (returns-clause-fixed_by_the_past c)
 
 pub returns-clause-in_order_and_each_once : goal.returns-clause-in_order_and_each_once
 unfolding AfterEachPrefix

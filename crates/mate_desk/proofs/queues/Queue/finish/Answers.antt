@@ -7,6 +7,12 @@ use Rattle.mate_desk.proofs.Waiting.{marks_same}
 use Rattle.mate_desk.proofs.Kept.{kept_set, solved_done, place_for, returned, out_at_waits, out_inside}
 use Rattle.mate_desk.proofs.queues.Queue.finish.Goals as goal
 
+pub index_mut-requires : goal.index_mut-requires
+index_mut-requires c =
+    let at : IsOutAt c.args.done c.args.place c.self.inside.entries.items =
+    subst (λ (m : QueueValue). IsOutAt c.args.done c.args.place m.pending) (sym c.self.view_is) c.requires in
+    omega (arith, out_inside c.args.done c.args.place c.self.inside.entries.items at, c.self.inside.entries.ok.0)
+
 pub push_reserved-requires : goal.push_reserved-requires
 push_reserved-requires c =
     let q : QueueValue = record { room = c.self.inside.room; delivered = c.self.inside.delivered; pending = c.self.inside.entries.items } in

@@ -1,9 +1,9 @@
-use Rattle.std.proofs.Common.{◌≡◌, ◌∙◌, ◌-◌, ℕ, ap, arith, sym, false, Some}
+use Rattle.std.proofs.Common.{◌≡◌, ◌∙◌, ◌+◌, ◌-◌, ◌<◌, ◌≤◌, ℕ, ap, arith, sym, false, length, Some}
 use Rattle.mate_desk.specs.Content.{EntryValue, QueueValue}
 use Rattle.mate_desk.specs.Calls.{withdrawn_at, withdraw_refusal_of}
 use Rattle.mate_desk.proofs.Changes.{got, got_one}
 use Rattle.mate_desk.proofs.Waiting.{marks_without}
-use Rattle.mate_desk.proofs.Kept.{kept_set, solved_withdrawn, marked, Marked, withdrawn_waits}
+use Rattle.mate_desk.proofs.Kept.{kept_set, solved_withdrawn, marked, Marked, refused_twice, withdrawn_waits}
 use Rattle.mate_desk.proofs.queues.Queue.withdraw.Goals as goal
 
 pub invariant_of-self : goal.invariant_of-self
@@ -52,3 +52,13 @@ returns-clause-accepted c = ap (λ (q : QueueValue). withdraw_refusal_of (Some q
 
 pub returns-clause-withdrawn : goal.returns-clause-withdrawn
 returns-clause-withdrawn c = (the_marked c).withdrawn ∙ ap (withdrawn_at c.args.n) c.self.view_is
+
+pub returns-then-is_withdrawn-clause-refusal : goal.returns-then-is_withdrawn-clause-refusal
+returns-then-is_withdrawn-clause-refusal c =
+    let q : QueueValue = record { room = c.self.inside.room; delivered = c.self.inside.delivered; pending = c.self.inside.entries.items } in
+    let accepted : c.args.n < q.delivered + length q.pending =
+    omega (arith, c.if-self-len.false, c.len.ensures, c.self.inside.entries.ok.0) in
+    let from : q.delivered ≤ c.args.n = omega (arith, c.if-n-self.false) in
+    let there = got q.pending (c.args.n - q.delivered) c.index.result.now (omega (arith, accepted, from)) c.index.ensures in
+    ap (λ (q : QueueValue). withdraw_refusal_of (Some q) c.args.n) (sym c.self.view_is)
+    ∙ refused_twice q c.args.n c.index.result.now accepted from there (sym c.is_withdrawn.ensures ∙ c.if-is_withdrawn.true)
