@@ -1,5 +1,5 @@
 use Rattle.std.proofs.Common.{◌≡◌, ◌⊎◌, ◌∙◌, ◌+◌, ◌*◌, ◌<◌, ◌≤◌, ap, sym, subst, inl, inr, refl, List, ◌∷◌, [], arith, length, take}
-use Rattle.std.proofs.Common.{get_or, rules, ℕ, length-append, vec_len, true, false, min, nat_le, count_by}
+use Rattle.std.proofs.Common.{get_or, ℕ, length-append, vec_len, true, false, min, nat_le, count_by}
 use Rattle.std.proofs.Math.Nat.{min-eq_left, min-eq_right}
 use Rattle.std.proofs.lemmas.Bool.Decides.{nat_tests}
 use Rattle.std.proofs.lemmas.List.{take_all}
