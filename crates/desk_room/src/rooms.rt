@@ -12,6 +12,7 @@ use chess_problems::Bound;
 use mate_desk::Desk;
 use room_ends::{Bench, OrderProducer, Window, open_benches, open_windows};
 use std::alloc::{AllocError, Global};
+use std::fmt;
 use thiserror::Error;
 
 /// The ends of a room. Each may go to a thread of its own.
@@ -26,19 +27,14 @@ pub struct Room {
 #[derive(Clone, Copy, Debug, PartialEq, Eq, Error)]
 pub enum RoomFault {
     /// The number of windows is not one of 1 to 16.
-    #[error("BadWindows")]
     BadWindows,
     /// The number of benches is not one of 1 to 16.
-    #[error("BadBenches")]
     BadBenches,
     /// The rings would not have 1 to 64 places.
-    #[error("BadRing")]
     BadRing,
     /// Memory was refused.
-    #[error("NoMemory")]
     NoMemory,
     /// The system would start no more threads. Only `serve` starts any.
-    #[error("NoThread")]
     NoThread,
 }
 
@@ -54,6 +50,12 @@ impl RoomFault {
             RoomFault::NoMemory => "NoMemory",
             RoomFault::NoThread => "NoThread",
         }
+    }
+}
+
+impl fmt::Display for RoomFault {
+    fn fmt<W: fmt::Write>(&self, f: &mut fmt::Formatter<W>) -> fmt::Result {
+        f.write_str(self.code())
     }
 }
 
