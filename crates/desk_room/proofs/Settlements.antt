@@ -1,12 +1,20 @@
 -- What a window and the keeper find when they meet.
 use Rattle.std.proofs.Common.{◌≡◌, ◌<◌, ℕ, zero, suc, ◌==◌, true, List, [], ◌∷◌, ◌++◌, length, map, set, get_or, refl, ap, ◌∙◌, arith}
+use Rattle.std.proofs.Common.{Option, Some, None, IfSome, subst, length-append, append-nil}
+use Rattle.std.proofs.lemmas.List.{length-map}
 use Rattle.std.proofs.lemmas.Bool.Decides.{nat_tests}
 use Rattle.std.specs.List.{list_all}
+use Rattle.chess_notation.specs.Records.{RecordValue}
+use Rattle.text_lines.specs.declared.replies.Output.{Output}
 use Rattle.mate_desk.specs.Content.{Content, QueueValue, EntryValue}
 use Rattle.mate_desk.specs.Calls.{is_drained}
 use Rattle.mate_jobs.specs.declared.deliveries.Delivery.{Delivery}
 use Rattle.room_ends.specs.Letters.{records}
+use Rattle.room_ends.specs.Windows.{letters_sent, collected}
 use Rattle.desk_room.specs.Deliveries.{asked}
+use Rattle.desk_room.specs.inside.Submitters.{IsReplyIf}
+use Rattle.desk_room.specs.inside.Threads.{IsSettled}
+use Rattle.desk_room.specs.declared.serving.window_thread.Report.{Report}
 use Rattle.desk_room.specs.Kept.{asked_of, owed, EachIsMarked}
 use Rattle.desk_room.specs.Withdrawals.{marks, are_notices_marked}
 use Rattle.desk_room.specs.Turns.{pending_at}
@@ -61,3 +69,31 @@ marked_notices n (t ∷ ts) [] qs a = absurd a
 marked_notices n (t ∷ ts) (p ∷ ps) [] a = absurd a
 marked_notices zero (t ∷ ts) (p ∷ ps) (q ∷ qs) a = a.0.notices
 marked_notices (suc n) (t ∷ ts) (p ∷ ps) (q ∷ qs) a = marked_notices n ts ps qs a.1
+
+none_left : {A : Type 0} (xs : List A) → length xs ≡ 0 → xs ≡ []
+none_left [] h = refl
+none_left (x ∷ xs) h = absurd (omega (arith, h))
+
+-- Where as much was collected as was sent, nothing lies anywhere.
+all_collected : (sent : List RecordValue) (got found : List Delivery) (pending more : List RecordValue)
+    → sent ≡ (map asked (got ++ found) ++ pending) ++ more → length got ≡ length sent → sent ≡ map asked got
+all_collected sent got found pending more e h =
+    let long = simp (length-append, length-map) at (ap length e) in
+    let none : found ≡ [] = none_left found (omega (arith, long, h)) in
+    let idle : pending ≡ [] = none_left pending (omega (arith, long, h)) in
+    let empty : more ≡ [] = none_left more (omega (arith, long, h)) in
+    e ∙ rw (none, idle, empty) (simp append-nil)
+
+settled_if : (r : Report) (reply : Option Output) (found : List Delivery) (pending more : List RecordValue) → r.reply ≡ reply
+    → records (letters_sent r.window) ≡ (map asked (collected r.window ++ found) ++ pending) ++ more → IfSome reply (λ o. IsSettled r o)
+settled_if r None found pending more is e = tt
+settled_if r (Some o) found pending more is e = record {
+  reply = λ input h.
+      let whole : IsReplyIf r.window input o = subst (λ p. IfSome p (λ p. IsReplyIf r.window input p)) is h in
+      whole.reply (all_collected (records (letters_sent r.window)) (collected r.window) found pending more e whole.as_many);
+}
+
+-- the reply of a window that met the keeper
+pub settled_one : (r : Report) (found : List Delivery) (pending more : List RecordValue)
+    → records (letters_sent r.window) ≡ (map asked (collected r.window ++ found) ++ pending) ++ more → IfSome r.reply (λ o. IsSettled r o)
+settled_one r found pending more e = settled_if r r.reply found pending more refl e
