@@ -1,9 +1,9 @@
-use Rattle.std.proofs.Common.{arith, ◌∙◌}
+use Rattle.std.proofs.Common.{arith, refl, ◌∙◌}
 use Rattle.desk_room.specs.Keepers.{lists}
-use Rattle.desk_room.proofs.Fewness.{gain_more}
-use Rattle.desk_room.proofs.Runs.{giving_then}
+use Rattle.desk_room.proofs.Fewness.{gain_none, gain_more}
+use Rattle.desk_room.proofs.Runs.{giving_none, giving_then}
 use Rattle.desk_room.proofs.Served.{served_more}
-use Rattle.desk_room.proofs.Staying.{room_then}
+use Rattle.desk_room.proofs.Staying.{room_same, room_then}
 use Rattle.desk_room.proofs.keepers.Keeper.give_all.Goals as goal
 
 pub loop-n-preserved : goal.loop-n-preserved
@@ -22,4 +22,20 @@ loop-n-preserved c =
       receivers = e.receivers ∙ i.receivers;
       ring = e.ring ∙ i.ring;
       home = e.home ∙ i.home;
+    }
+
+pub loop-n-init : goal.loop-n-init
+loop-n-init c =
+    let k = c.args.self.now in
+    record {
+      gave = giving_none (lists k);
+      few = omega arith;
+      gained = gain_none k.ring (lists k).put;
+      served = λ i below. absurd (omega (arith, below));
+      known = refl;
+      size = refl;
+      room = room_same k;
+      receivers = refl;
+      ring = refl;
+      home = refl;
     }

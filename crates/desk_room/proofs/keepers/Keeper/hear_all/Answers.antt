@@ -1,8 +1,8 @@
-use Rattle.std.proofs.Common.{arith, ◌∙◌}
+use Rattle.std.proofs.Common.{arith, refl, ◌∙◌}
 use Rattle.desk_room.specs.Keepers.{lists}
-use Rattle.desk_room.proofs.Fewness.{gain_more}
-use Rattle.desk_room.proofs.Runs.{hearing_then}
-use Rattle.desk_room.proofs.Listening.{backs_then, listened_more}
+use Rattle.desk_room.proofs.Fewness.{gain_none, gain_more}
+use Rattle.desk_room.proofs.Runs.{hearing_none, hearing_then}
+use Rattle.desk_room.proofs.Listening.{backs_same, backs_then, none_listened, listened_more}
 use Rattle.desk_room.proofs.keepers.Keeper.hear_all.Goals as goal
 
 pub loop-b-preserved : goal.loop-b-preserved
@@ -21,4 +21,20 @@ loop-b-preserved c =
       size = e.size ∙ i.size;
       ring = e.ring ∙ i.ring;
       home = e.home ∙ i.home;
+    }
+
+pub loop-b-init : goal.loop-b-init
+loop-b-init c =
+    let k = c.args.self.now in
+    record {
+      heard = hearing_none (lists k);
+      few = omega arith;
+      gained = gain_none k.ring (lists k).heard;
+      listened = none_listened k;
+      ahead = backs_same k;
+      producer = refl;
+      lines = refl;
+      size = refl;
+      ring = refl;
+      home = refl;
     }

@@ -1,9 +1,9 @@
-use Rattle.std.proofs.Common.{arith, ◌∙◌}
+use Rattle.std.proofs.Common.{arith, refl, ◌∙◌}
 use Rattle.desk_room.specs.Keepers.{lists}
-use Rattle.desk_room.proofs.Fewness.{gain_more}
-use Rattle.desk_room.proofs.Runs.{taking_then}
-use Rattle.desk_room.proofs.Ahead.{read_more, ahead_then}
-use Rattle.desk_room.proofs.Staying.{room_then}
+use Rattle.desk_room.proofs.Fewness.{gain_none, gain_more}
+use Rattle.desk_room.proofs.Runs.{taking_none, taking_then}
+use Rattle.desk_room.proofs.Ahead.{read_more, ahead_same, ahead_then}
+use Rattle.desk_room.proofs.Staying.{room_same, room_then}
 use Rattle.desk_room.proofs.keepers.Keeper.take_all.Goals as goal
 
 pub loop-n-preserved : goal.loop-n-preserved
@@ -25,4 +25,23 @@ loop-n-preserved c =
       producer = e.producer ∙ i.producer;
       ring = e.ring ∙ i.ring;
       home = e.home ∙ i.home;
+    }
+
+pub loop-n-init : goal.loop-n-init
+loop-n-init c =
+    let k = c.args.self.now in
+    record {
+      took = taking_none (lists k);
+      accepted = omega arith;
+      byes = omega arith;
+      withdrawn = omega arith;
+      gained = gain_none k.ring (lists k).taken;
+      read = λ i below. absurd (omega (arith, below));
+      ahead = ahead_same k;
+      size = refl;
+      room = room_same k;
+      receivers = refl;
+      producer = refl;
+      ring = refl;
+      home = refl;
     }
