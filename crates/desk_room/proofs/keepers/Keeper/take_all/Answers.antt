@@ -1,6 +1,6 @@
 use Rattle.std.proofs.Common.{arith, refl, ◌∙◌}
 use Rattle.desk_room.specs.Keepers.{lists}
-use Rattle.desk_room.proofs.Fewness.{gain_none, gain_more}
+use Rattle.desk_room.proofs.Fewness.{gain_none, gain_more, gain_all}
 use Rattle.desk_room.proofs.Runs.{taking_none, taking_then}
 use Rattle.desk_room.proofs.Ahead.{read_more, ahead_same, ahead_then}
 use Rattle.desk_room.proofs.Staying.{room_same, room_then}
@@ -45,3 +45,9 @@ loop-n-init c =
       ring = refl;
       home = refl;
     }
+
+pub returns-clause-few : goal.returns-clause-few
+returns-clause-few c = gain_all _ _ _ _ c.loop-n.invariant.gained
+
+pub returns-clause-read : goal.returns-clause-read
+returns-clause-read c = λ n below. c.loop-n.invariant.read n (omega (arith, below, c.loop-n-test.false, c.loop-n.invariant.size, c.len-n-end.ensures))
