@@ -194,6 +194,29 @@ fn settle_all(
     }
 }
 
+/// The replies to all inputs, or why one of them is not whole.
+fn settle_reports(
+    alloc: Global,
+    keeper: &mut Keeper,
+    reports: Vec<Report>,
+    signals: &Signals,
+) -> Result<Vec<Output>, RoomFault>
+    requires { AllOf keeper.old reports.items }
+    ensures settled { IfOk result (λ outputs. AllSettled reports.items outputs.items) }
+    ensures good_windows { result ≢ Err fault.BadWindows }
+    ensures good_benches { result ≢ Err fault.BadBenches }
+    ensures good_ring { result ≢ Err fault.BadRing }
+{
+    match settle_all(alloc, keeper, reports) {
+        Ok(Some(outputs)) => Ok(outputs),
+        Ok(None) => match signals.reason() {
+            Some(StopReason::NoThread) => Err(RoomFault::NoThread),
+            _ => Err(RoomFault::NoMemory),
+        },
+        Err(_) => Err(RoomFault::NoMemory),
+    }
+}
+
 /// The reply to each input, as `serve` gives it, by benches whose memos have so many entries each, 1 to 65,536.
 pub fn serve_with_memo<R: Threads + Wait + Sync, G: Gate>(
     rt: &R,
@@ -219,14 +242,7 @@ pub fn serve_with_memo<R: Threads + Wait + Sync, G: Gate>(
     let Ok(reports) = reports else {
         return Err(RoomFault::NoMemory);
     };
-    match settle_all(alloc, &mut keeper, reports) {
-        Ok(Some(outputs)) => Ok(outputs),
-        Ok(None) => match signals.reason() {
-            Some(StopReason::NoThread) => Err(RoomFault::NoThread),
-            _ => Err(RoomFault::NoMemory),
-        },
-        Err(_) => Err(RoomFault::NoMemory),
-    }
+    settle_reports(alloc, &mut keeper, reports, &signals)
 }
 
 /// The reply to each input, as `solve_input` gives it: by a thread for each of 1 to 16 inputs, a thread for each of 1 to 16 benches,
