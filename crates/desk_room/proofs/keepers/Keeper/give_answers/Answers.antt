@@ -1,4 +1,4 @@
-use Rattle.std.proofs.Common.{arith, ◌∙◌, refl, length}
+use Rattle.std.proofs.Common.{arith, ◌∙◌, refl}
 use Rattle.desk_room.specs.Keepers.{lists}
 use Rattle.desk_room.proofs.Fewness.{untouched_same, untouched_then}
 use Rattle.desk_room.proofs.Runs.{giving_none, giving_then}

@@ -1,5 +1,5 @@
-use Rattle.std.proofs.Common.{arith, ◌∙◌, ◌≡◌, ◌≤◌, sym, subst, ap, length, get_or, []}
-use Rattle.desk_room.specs.Keepers.{lists, known}
+use Rattle.std.proofs.Common.{arith, ◌∙◌, sym, subst, ap, length, get_or, []}
+use Rattle.desk_room.specs.Keepers.{lists}
 use Rattle.desk_room.specs.Events.{RoomLists}
 use Rattle.desk_room.specs.Passes.{Taking}
 use Rattle.desk_room.proofs.Fewness.{untouched_same, untouched_then}
