@@ -22,15 +22,15 @@ use crate::record_fields::{are_printable, operations_in, parts_of};
 use crate::segments::{first_segment, last_rest};
 use crate::words::{is_blank, word_at};
 use chess_board::{FenFault, Position, read_fields, spells_one};
-use std::error::Error;
 use std::fmt;
+use thiserror::Error;
 
 /// The most bytes of a record's line.
 const MAX_LINE: usize = 1023;
 
 /// The first fault of a line, in the order in which the variants stand. It prints as its name; that of the fields as the word
 /// `Fen`, a space and the name of the FEN's fault.
-#[derive(Clone, Copy, Debug, PartialEq, Eq)]
+#[derive(Clone, Copy, Debug, PartialEq, Eq, Error)]
 pub enum EpdFault {
     /// The line has more than 1,023 bytes.
     TooLong,
@@ -61,8 +61,6 @@ impl fmt::Display for EpdFault {
         f.write_str(self.code())
     }
 }
-
-impl Error for EpdFault {}
 
 /// What is printed for a fault of the fields.
 fn fen_code(fault: &FenFault) -> &'static str
