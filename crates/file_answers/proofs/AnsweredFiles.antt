@@ -123,16 +123,22 @@ answers_next joined holds T from names i d at refused here_refused a b c gained 
     (refused || here_refused) n (gained ++ here)) (omega (arith, first, second)) more in
     rw (take_more names i d within, map-append (λ (s : Bor (List ℕ)). s.now) (take i names) (slice_index_or names i d ∷ [])) all
 
--- All names are answered: what the files are answered.
+-- All names are answered: what is told of the files.
+pub all_so_far : (T : FileTold) (holds : List ℕ → Option (List ℕ)) (from : ℕ) (names : List (Bor (List ℕ))) (i at : ℕ) (refused : Bool) (marks : ℕ)
+    (gained : List ℕ) → length names ≤ i → AnsweredTo holds T from (map (λ s. s.now) (take i names)) at refused marks gained
+    → AnswersTold holds T from (map (λ s. s.now) names) refused marks gained
+all_so_far T holds from names i at refused marks gained past answered =
+    let whole = ap (map (λ (s : Bor (List ℕ)). s.now)) (take_all i names past) in
+    subst (λ ns. AnswersTold holds T from ns refused marks gained) whole answered.so_far
+
+-- What the files are answered.
 pub all_told : (T : FileTold) (R : FileReplies) → Tells T R → (holds : List ℕ → Option (List ℕ)) (from : ℕ) (names : List (Bor (List ℕ))) (i : ℕ)
     (at : ℕ) (refused : Bool) (marks : ℕ) (gained : List ℕ) → length names ≤ i
     → AnsweredTo holds T from (map (λ s. s.now) (take i names)) at refused marks gained
     → Answers holds R from (map (λ s. s.now) names) refused gained
-unfolding answers_told
 all_told T R tells holds from names i at refused marks gained past answered =
-    let whole = ap (map (λ (s : Bor (List ℕ)). s.now)) (take_all i names past) in
-    subst (λ ns. Answers holds R from ns refused gained) whole
-    (answers_told T R tells holds from (map (λ s. s.now) (take i names)) refused marks gained answered.so_far)
+    answers_told T R tells holds from (map (λ s. s.now) names) refused marks gained
+    (all_so_far T holds from names i at refused marks gained past answered)
 
 -- ---- where it stops
 

@@ -1,6 +1,6 @@
-use Rattle.std.proofs.Common.{rules, ◌++◌, [], arith, refl}
+use Rattle.std.proofs.Common.{◌++◌, [], arith, refl}
 use Rattle.std.proofs.KnownBytes.{Appends-nil, Appends-trans}
-use Rattle.file_answers.proofs.AnsweredFiles.{all_told, answered_none, answers_next, stops_there}
+use Rattle.file_answers.proofs.AnsweredFiles.{all_so_far, all_told, answered_none, answers_next, stops_there}
 use Rattle.file_answers.proofs.file_answers.answer_files.Goals as goal
 
 pub loop-name-init : goal.loop-name-init
@@ -14,7 +14,7 @@ returns-then-eq-clause-err g c =
     (g.A.FileAnswers.told c.args.answers.now) (g.A.FileAnswers.replies c.args.answers.now)
     (g.A.FileAnswers.first c.args.answers.now) (g.A.FileAnswers.tells c.args.answers.now) c.args.files.now.from c.args.files.now.names.now
     c.loop-name.name-index _ c.loop-name.from c.loop-name.refused _ c.in-Err.stop (g.O.Write.contents c.args.out.now) _ _ gained
-    input part (search rules) so_far before may reply appends c.in-Err.ensures.unreadable
+    input part c.loop-name-test.true so_far before may reply appends c.in-Err.ensures.unreadable
 
 pub returns-else-eq-clause-err : goal.returns-else-eq-clause-err
 returns-else-eq-clause-err g c =
@@ -24,7 +24,7 @@ returns-else-eq-clause-err g c =
     (g.A.FileAnswers.told c.args.answers.now) (g.A.FileAnswers.replies c.args.answers.now)
     (g.A.FileAnswers.first c.args.answers.now) (g.A.FileAnswers.tells c.args.answers.now) c.args.files.now.from c.args.files.now.names.now
     c.loop-name.name-index _ c.loop-name.from c.loop-name.refused _ c.in-Err.stop (g.O.Write.contents c.args.out.now) _ _ gained
-    input part (search rules) so_far before may reply appends c.in-Err.ensures.unreadable
+    input part c.loop-name-test.true so_far before may reply appends c.in-Err.ensures.unreadable
 
 pub loop-name-preserved : goal.loop-name-preserved
 loop-name-preserved g c =
@@ -34,7 +34,7 @@ loop-name-preserved g c =
       rw c.first-from.ensures (answers_next c.holds_reads.ensures.more (g.S.Source.holds c.args.source.now)
           (g.A.FileAnswers.told c.args.answers.now) c.args.files.now.from c.args.files.now.names.now c.loop-name.name-index _
           c.loop-name.from c.loop-name.refused _ _ _ _ gained input text c.in-Ok.count
-          (search rules) grown c.in-Ok.ensures.grows so_far may reply refl),
+          c.loop-name-test.true grown c.in-Ok.ensures.grows so_far may reply refl),
       omega (arith, grown, c.in-Ok.ensures.grows),
       Appends-trans _ _ _ gained text before appends,
     )
@@ -46,5 +46,14 @@ returns-clause-ok g c =
       shows = all_told (g.A.FileAnswers.told c.args.answers.now) (g.A.FileAnswers.replies c.args.answers.now)
           (g.A.FileAnswers.tells c.args.answers.now) (g.S.Source.holds c.args.source.now) c.args.files.now.from c.args.files.now.names.now
           c.loop-name.name-index c.loop-name.from c.loop-name.refused _ gained c.loop-name-test.false so_far;
+      appends = appends;
+    }
+
+pub returns-clause-told : goal.returns-clause-told
+returns-clause-told g c =
+    let (gained, so_far, grown, appends) = c.loop-name.invariant in record {
+      gained = gained;
+      shows = all_so_far (g.A.FileAnswers.told c.args.answers.now) (g.S.Source.holds c.args.source.now) c.args.files.now.from
+          c.args.files.now.names.now c.loop-name.name-index c.loop-name.from c.loop-name.refused _ gained c.loop-name-test.false so_far;
       appends = appends;
     }
