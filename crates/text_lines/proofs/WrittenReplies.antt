@@ -1,9 +1,11 @@
 -- What an output gains by the reply to a line, by what may be that reply.
-use Rattle.std.proofs.Common.{◌≡◌, ◌≤◌, ◌+◌, ◌-◌, ℕ, List, Option, Result, Ok, Err, IfErr, IfOk, true, false, subst, sym, arith}
+use Rattle.std.proofs.Common.{◌≡◌, ◌≤◌, ◌+◌, ◌-◌, ℕ, List, Option, Result, Ok, Err, IfErr, IfOk, true, false, refl, subst, sym, arith}
 use Rattle.std.specs.Io.KnownBytes.{Appends, Keeps}
 use Rattle.byte_streams.specs.declared.stops.Stop.{Stop}
 use Rattle.byte_streams.specs.declared.stops.Stop.TheVariants as stop
-use Rattle.byte_streams.specs.Stops.{AppendsPart, is_of_output}
+use Rattle.byte_streams.specs.declared.inputs.InputFault.{InputFault}
+use Rattle.byte_streams.specs.declared.inputs.InputFault.TheVariants as fault
+use Rattle.byte_streams.specs.Stops.{AppendsPart, is_of_output, stop_of}
 use Rattle.text_lines.specs.Writers.{BreaksOff, PartReplied, Replied}
 
 module _ (P : List ℕ → ℕ → Type 0) (old new : Option (List ℕ)) where
@@ -57,6 +59,16 @@ module _ (P : List ℕ → ℕ → Type 0) (old new : Option (List ℕ)) where
 pub whole_few : (A : ℕ → Type 0) (count : ℕ) (r : Result ℕ Stop) → count ≤ 1 → IfOk r (λ n. (n ≡ count) × A n) → IfOk r (λ n. n ≤ 1)
 whole_few A count (Ok n) few (is, on) = subst (λ m. m ≤ 1) (sym is) few
 whole_few A count (Err e) few put = tt
+
+-- ---- where the input can't be read
+
+pub read_never_broken : (f : InputFault) → is_of_output (stop_of f) ≡ true → ⊥
+read_never_broken fault.Unreadable broken = cc
+read_never_broken fault.NoMemory broken = cc
+
+pub read_is_unreadable : (f : InputFault) → stop_of f ≡ stop.Unreadable → f ≡ fault.Unreadable
+read_is_unreadable fault.Unreadable unreadable = refl
+read_is_unreadable fault.NoMemory unreadable = cc
 
 -- ---- how many marks there are more
 

@@ -105,3 +105,37 @@ returns-clause-err g c =
     gave_up (g.W.LineWriter.replies c.args.writer.now) c.loop-number.refused (g.I.Input.left c.args.input) _
     (g.O.Write.contents c.args.out.now) (g.O.Write.contents c.loop-number.out) seen text lines
     so_far.taken so_far.opens so_far.replies so_far.appends
+
+pub returns-in_err-answered-clause-unreadable : goal.returns-in_err-answered-clause-unreadable
+returns-in_err-answered-clause-unreadable g c =
+    let (seen, lines, text, so_far) = c.loop-number.invariant in
+    let (other, is, same) = err_from_is_err_and c.from_residual.result c.from_residual.ensures.1 in
+    rw (is, same) (λ unreadable. so_far.steady (c.in_err-answered.ensures.unreadable unreadable))
+
+pub returns-in_err-answered-clause-room : goal.returns-in_err-answered-clause-room
+returns-in_err-answered-clause-room g c =
+    let (seen, lines, text, so_far) = c.loop-number.invariant in
+    c.answer_next.ensures.room ∙ so_far.room
+
+pub returns-then-answered-clause-grows : goal.returns-then-answered-clause-grows
+returns-then-answered-clause-grows g c =
+    let (seen, lines, text, so_far) = c.loop-number.invariant in
+    omega (arith, so_far.grows, c.in_ok-answered.ensures.grows)
+
+pub returns-then-answered-clause-room : goal.returns-then-answered-clause-room
+returns-then-answered-clause-room g c =
+    let (seen, lines, text, so_far) = c.loop-number.invariant in
+    c.answer_next.ensures.room ∙ so_far.room
+
+pub returns-clause-unreadable : goal.returns-clause-unreadable
+returns-clause-unreadable g c = λ never. cc
+
+pub returns-clause-room : goal.returns-clause-room
+returns-clause-room g c =
+    let (seen, lines, text, so_far) = c.loop-number.invariant in
+    so_far.room
+
+pub overflow_add-refused : goal.overflow_add-refused
+overflow_add-refused g c =
+    let (seen, lines, text, so_far) = c.loop-number.invariant in
+    omega (arith, so_far.few, c.loop-number-test.true, c.in_ok-answered.ensures.few)

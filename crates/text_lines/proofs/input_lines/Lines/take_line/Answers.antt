@@ -1,5 +1,8 @@
-use Rattle.std.proofs.Common.{◌++◌, drop, ap, subst}
-use Rattle.text_lines.proofs.InputLines.{end_taken, ended_line, one_line_append, open_line}
+use Rattle.std.proofs.Common.{◌++◌, [], drop, ap, subst}
+use Rattle.std.proofs.lemmas.Result.{err_from_is_err_and}
+use Rattle.std.proofs.KnownBytes.{Consumes-nil}
+use Rattle.text_lines.specs.inside.InputLines.{left_of}
+use Rattle.text_lines.proofs.InputLines.{end_taken, ended_line, one_line_append, one_line_nil, open_line}
 use Rattle.text_lines.proofs.input_lines.Lines.take_line.Goals as goal
 
 pub returns-then-branch-clause-ok : goal.returns-then-branch-clause-ok
@@ -44,3 +47,45 @@ loop-preserved g c =
         steady = λ may. before.1.steady (subst g.I.Input.breaks c.take_piece.ensures.input (c.read_on.ensures.steady may));
       },
     )
+
+pub loop-init : goal.loop-init
+loop-init g c = (
+  [],
+  record {
+    kept = c.new-kept.ensures;
+    one = one_line_nil;
+    taken = Consumes-nil (left_of g.I.Input.left c.args.self.now);
+    steady = λ may. may;
+  },
+)
+
+pub returns-in_err-take_piece-clause-unreadable : goal.returns-in_err-take_piece-clause-unreadable
+returns-in_err-take_piece-clause-unreadable g c =
+    let (other, is, same) = err_from_is_err_and c.from_residual.result c.from_residual.ensures.1 in
+    rw (is, same) (λ never. cc)
+
+pub returns-in_err-take_piece-clause-steady : goal.returns-in_err-take_piece-clause-steady
+returns-in_err-take_piece-clause-steady g c = λ may. c.loop.invariant.1.steady (subst g.I.Input.breaks c.take_piece.ensures.input may)
+
+pub returns-then-branch-clause-steady : goal.returns-then-branch-clause-steady
+returns-then-branch-clause-steady g c = λ may. c.loop.invariant.1.steady (subst g.I.Input.breaks c.take_piece.ensures.input may)
+
+pub returns-in_err-read_on-clause-unreadable : goal.returns-in_err-read_on-clause-unreadable
+returns-in_err-read_on-clause-unreadable g c =
+    let (other, is, same) = err_from_is_err_and c.from_residual-in_err-read_on.result c.from_residual-in_err-read_on.ensures.1 in
+    rw (is, same) (λ unreadable. c.loop.invariant.1.steady
+    (subst g.I.Input.breaks c.take_piece.ensures.input (c.in_err-read_on.ensures.unreadable unreadable)))
+
+pub returns-in_err-read_on-clause-steady : goal.returns-in_err-read_on-clause-steady
+returns-in_err-read_on-clause-steady g c = λ may.
+    c.loop.invariant.1.steady (subst g.I.Input.breaks c.take_piece.ensures.input (c.read_on.ensures.steady may))
+
+pub returns-then-branch-2-clause-steady : goal.returns-then-branch-2-clause-steady
+returns-then-branch-2-clause-steady g c = λ may.
+    c.loop.invariant.1.steady (subst g.I.Input.breaks c.take_piece.ensures.input (c.read_on.ensures.steady may))
+
+pub returns-clause-unreadable : goal.returns-clause-unreadable
+returns-clause-unreadable g c = λ never. cc
+
+pub returns-clause-steady : goal.returns-clause-steady
+returns-clause-steady g c = c.loop.invariant.1.steady
