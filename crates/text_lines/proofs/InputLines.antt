@@ -1,11 +1,11 @@
 -- The lines of an input, and how one is taken.
 use Rattle.std.proofs.Common.{◌≡◌, ◌≢◌, ℕ, ◌+◌, ◌-◌, ◌<◌, ◌≤◌, ◌==◌, List, [], ◌∷◌, ◌++◌, Option, None, Some, IfNone, IfSome, false}
-use Rattle.std.proofs.Common.{length, take, drop, get_or, refl, sym, ap, ◌∙◌, subst, arith, append_assoc, append-nil, min, ne_eqb}
+use Rattle.std.proofs.Common.{length, take, drop, get_or, refl, sym, ap, ◌∙◌, subst, arith, append_assoc, append-nil, min, ne_eqb, add-one, suc}
 use Rattle.std.proofs.lemmas.List.{drop_min, take_all, take_more, take-append-drop, length-append}
 use Rattle.std.proofs.lemmas.List.Elements.{All-append, All-cons, All-nil}
 use Rattle.std.proofs.lemmas.List.Splits.{slice_split_none, slice_split_at}
 use Rattle.std.proofs.KnownBytes.{Consumes-trans}
-use Rattle.std.proofs.Math.Seq.{drop-append_seam}
+use Rattle.std.proofs.Math.Seq.{drop-append_seam, drop-cons}
 use Rattle.std.specs.Io.KnownBytes.{Consumes, IsAtEnd, prepend_known}
 use Rattle.text_lines.specs.Lines.{lines_of}
 use Rattle.text_lines.specs.inside.InputLines.{IsOneLine}
@@ -24,6 +24,10 @@ one_line_more text i inside before other =
 
 pub one_line_whole : (text : List ℕ) (i : ℕ) → length text ≤ i → IsOneLine (take i text) → IsOneLine text
 one_line_whole text i past one = subst IsOneLine (take_all i text past) one
+
+pub split_there : (text : List ℕ) (i : ℕ) → i < length text → get_or text i 0 ≡ 10 → text ≡ take i text ++ 10 ∷ drop (i + 1) text
+split_there text i inside is =
+    rw add-one (sym (take-append-drop i text) ∙ ap (λ l. take i text ++ l) (drop-cons text i 0 inside ∙ ap (λ b. b ∷ drop (suc i) text) is))
 
 pub lines_one : (line : List ℕ) → IsOneLine line → lines_of line ≡ line ∷ []
 lines_one line one = slice_split_none (λ b. b == 10) line one

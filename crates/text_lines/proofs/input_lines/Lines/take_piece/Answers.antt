@@ -29,3 +29,9 @@ returns-clause-ended g c = λ yes.
       left ∙ c.in-Some.ensures.cut ∙ ap (λ l. c.in-Some.line.now ++ 10 ∷ l) (sym more),
       c.in_ok-keep-2.ensures,
     )
+
+pub returns-in_default-clause-ended : goal.returns-in_default-clause-ended
+returns-in_default-clause-ended g c = λ never. cc
+
+pub returns-clause-open : goal.returns-clause-open
+returns-clause-open g c = λ never. cc
