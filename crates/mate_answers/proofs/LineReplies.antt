@@ -1,5 +1,5 @@
 -- The reply to a line that is refused.
-use Rattle.std.proofs.Common.{◌≡◌, ◌≢◌, ◌<◌, ◌⊎◌, false, length, Result, Ok, Err, IfOk, inl, inr, ℕ, List, [], arith}
+use Rattle.std.proofs.Common.{◌≡◌, ◌≢◌, ◌<◌, ◌≤◌, ◌⊎◌, false, length, Result, Ok, Err, IfOk, inl, inr, ℕ, List, [], arith}
 use Rattle.chess_notation.specs.declared.epd_faults.EpdFault.{EpdFault}
 use Rattle.chess_notation.specs.declared.epd_faults.EpdFault.TheVariants as fault
 use Rattle.chess_notation.specs.EpdFaults.{IsAmissBy, IsFaultOf, fault_number}
@@ -16,6 +16,11 @@ pub reply_refused : {X E : Type 0} (default number : ℕ) (line : List ℕ) (f :
 reply_refused default number line f text count (Ok x) some (inl first) other is one = rw (is, one) (refused f some first)
 reply_refused default number line f text count (Ok x) some (inr memory) other is one = absurd (other memory.0)
 reply_refused default number line f text count (Err e) some why other is one = tt
+
+-- Each refusal is one.
+pub few_refused : {X E : Type 0} (count : X → ℕ) (r : Result X E) → IfOk r (λ x. count x ≡ 1) → IfOk r (λ x. count x ≤ 1)
+few_refused count (Ok x) one = rw one (omega arith)
+few_refused count (Err e) one = tt
 
 none_before : (line : List ℕ) (earlier : EpdFault) → fault_number earlier < 1 → ¬ (IsAmissBy line earlier)
 none_before line fault.TooLong less = absurd (omega (arith, less))

@@ -26,3 +26,15 @@ returns-then-not-is_no_mate-clause-truth g c =
     sym (truth_kept r (c.loop-none.none + 1) c.in-Ok.outcome
     (omega (arith, c.loop-none-test.true, c.get-none-end.ensures.moves, within))
     (sym told) (c.is_no_mate.ensures.no c.if-not-is_no_mate.true))
+
+pub loop-none-preserved : goal.loop-none-preserved
+loop-none-preserved g c =
+    let r = c.args.record.now in
+    let asks = ap (λ (q : ProblemValue). record { position = q.position; bound = c.one_more-problem-inside.result; avoid = q.avoid })
+    (c.problem.view_is ∙ c.loop-none.invariant.asks) in
+    let told = c.in-Ok.ensures.truth ∙ ap truth asks ∙ ap (λ n. truth (problem_within n r)) c.one_more-problem-inside.ensures in
+    record {
+      none = sym told ∙ c.is_no_mate.ensures.yes c.if-not-is_no_mate.false;
+      asks = asks;
+      room = c.solve.ensures.room ∙ c.loop-none.invariant.room;
+    }

@@ -1,8 +1,9 @@
+use Rattle.std.proofs.Common.{arith}
 use Rattle.std.proofs.lemmas.Result.{IfOk-weaker}
 use Rattle.mate_answers.specs.InputReplies.{IsLineReply, answer_line, answered}
 use Rattle.mate_answers.specs.LimitedReplies.{IsLateReply, IsLimitedReply, decided, in_time, late, undecided}
 use Rattle.mate_answers.proofs.Limits.{none_more, one_more}
-use Rattle.mate_answers.proofs.LineReplies.{reply_refused}
+use Rattle.mate_answers.proofs.LineReplies.{few_refused, reply_refused}
 use Rattle.mate_answers.proofs.limited_replies.LimitedLineHandler.answer.Goals as goal
 
 pub returns-in-Err-clause-reply : goal.returns-in-Err-clause-reply
@@ -46,3 +47,12 @@ returns-in-Some-clause-marked g c =
     one_more (IsLateReply c.args.self.now.seconds c.args.self.now.default c.args.number c.args.line.now c.in_ok-said-in-Ok.said.text.items)
     c.args.memory.now.undecided c.in-Some.more c.in-Some.ensures.1
     (rw is (late c.in-Ok.record none c.requires.filled c.in-Ok.ensures.reads so_far))
+
+pub returns-in-Err-clause-grows : goal.returns-in-Err-clause-grows
+returns-in-Err-clause-grows g c = IfOk-weaker c.refusal.result _ _ (λ output one. omega arith) c.refusal.ensures.one
+
+pub returns-in-Err-clause-few : goal.returns-in-Err-clause-few
+returns-in-Err-clause-few g c = few_refused (λ output. output.refused) c.refusal.result c.refusal.ensures.one
+
+pub returns-in-Some-clause-grows : goal.returns-in-Some-clause-grows
+returns-in-Some-clause-grows g c = omega (arith, c.in-Some.ensures.1)
