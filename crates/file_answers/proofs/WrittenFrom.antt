@@ -17,8 +17,13 @@ breaks_behind P Q old new (Err stop.Unwritable) read (text, n, may, part) = (tex
 breaks_behind P Q old new (Err stop.NoReader) read (text, n, may, part) = (text, n, read text n may, part)
 
 -- a line that is passed over, and one that is not
+pub passed_with : (replies : LineReplies) (from number : ℕ) (line text : List ℕ) (n : ℕ) → number < from → text ≡ [] → n ≡ 0
+    → RepliesFrom replies from number line text n
+passed_with replies from number line text n before nothing none =
+    record { passed = λ _. (nothing, none); answered = λ on. absurd (omega (arith, before, on)) }
+
 pub passed_over : (replies : LineReplies) (from number : ℕ) (line : List ℕ) → number < from → RepliesFrom replies from number line [] 0
-passed_over replies from number line before = record { passed = λ _. (refl, refl); answered = λ on. absurd (omega (arith, before, on)) }
+passed_over replies from number line before = passed_with replies from number line [] 0 before refl refl
 
 pub answered_on : (replies : LineReplies) (from number : ℕ) (line text : List ℕ) (n : ℕ) → from ≤ number → replies number line text n
     → RepliesFrom replies from number line text n

@@ -8,3 +8,9 @@ returns-in_err-file-clause-err g c =
     rw (is) (not_opened c.in_err-file.field-0.0 other (g.A.FileAnswers.first c.args.answers.now c.args.start.now.from c.args.start.now.name.now)
     (g.S.Source.holds c.args.start.now.source.now c.args.start.now.name.now) (g.O.Write.contents c.args.out.now)
     (c.begins_with_nothing.ensures c.args.start.now.from c.args.start.now.name.now) same)
+
+pub returns-clause-ok : goal.returns-clause-ok
+returns-clause-ok g c = rw (← c.in_ok-file.ensures.bytes) c.answer.ensures.ok
+
+pub returns-clause-err : goal.returns-clause-err
+returns-clause-err g c = rw (← c.in_ok-file.ensures.bytes) c.answer.ensures.err
