@@ -49,6 +49,14 @@ fn now(number: &AtomicU64) -> u64 {
     number.load(Ordering::SeqCst)
 }
 
+/// Adds how often it was said, unless it never was.
+fn push_count(alloc: Global, text: &mut String, count: u64, said: &str) -> Result<(), AllocError> {
+    if count > 0 {
+        text.push_str(format!(in alloc; ", {count} {said}")?.as_str())?;
+    }
+    Ok(())
+}
+
 /// The end of a file's name, in so many bytes at most.
 fn end_of_name(name: &str, most: usize) -> &str {
     let first = name.len().saturating_sub(most);
@@ -143,11 +151,7 @@ impl Progress {
     fn push_counts(&self, alloc: Global, text: &mut String) -> Result<(), AllocError> {
         let replies = now(&self.replies);
         text.push_str(format!(in alloc; "{replies} answered")?.as_str())?;
-        let refused = now(&self.refused);
-        if refused > 0 {
-            text.push_str(format!(in alloc; ", {refused} refused")?.as_str())?;
-        }
-        Ok(())
+        push_count(alloc, text, now(&self.refused), "refused")
     }
 
     /// How far workers are.
@@ -165,27 +169,77 @@ impl Progress {
         }
     }
 
+    /// How much of the file was read, where it is known how long that is.
+    fn push_part(&self, alloc: Global, text: &mut String) -> Result<(), AllocError> {
+        let size = now(&self.size);
+        if size > 0 {
+            let part = now(&self.read).saturating_mul(100) / size;
+            text.push_str(format!(in alloc; ", {part} % read")?.as_str())?;
+        }
+        Ok(())
+    }
+
+    /// How far a file is at this line.
+    fn told_of_line(&self, alloc: Global, name: &str, line: u64) -> Result<String, AllocError> {
+        let seconds = self.seconds_since(now(&self.began));
+        let mut text = format!(in alloc; "{name}: line {line} for {seconds} s, ")?;
+        self.push_counts(alloc, &mut text)?;
+        self.push_part(alloc, &mut text)?;
+        Ok(text)
+    }
+
     /// How far all is, on one line, with so many bytes of the file's name; nothing before a line is begun.
     pub(crate) fn told(&self, alloc: Global, most: usize) -> Result<String, AllocError> {
         let waiting = now(&self.waiting);
         if waiting > 0 {
             return self.told_of_workers(alloc, waiting);
         }
-        let mut text = String::new(alloc);
         let name = self.name(most);
         let line = now(&self.line);
         if line == 0 {
-            return Ok(text);
+            Ok(String::new(alloc))
+        } else {
+            self.told_of_line(alloc, name, line)
         }
-        let seconds = self.seconds_since(now(&self.began));
-        text.push_str(format!(in alloc; "{name}: line {line} for {seconds} s, ")?.as_str())?;
-        self.push_counts(alloc, &mut text)?;
-        let size = now(&self.size);
-        if size > 0 {
-            let part = now(&self.read).saturating_mul(100) / size;
-            text.push_str(format!(in alloc; ", {part} % read")?.as_str())?;
+    }
+
+    /// How many mates there were, by the number of moves.
+    fn push_mates(&self, alloc: Global, text: &mut String) -> Result<(), AllocError> {
+        for (moves, mates) in self.mates.iter().enumerate() {
+            let count = now(mates);
+            if count > 0 {
+                text.push_str(format!(in alloc; ", {count} mate in {moves}")?.as_str())?;
+            }
         }
-        Ok(text)
+        Ok(())
+    }
+
+    /// At which line it stopped.
+    fn push_stop(&self, alloc: Global, text: &mut String) -> Result<(), AllocError> {
+        let line = now(&self.line);
+        if line > 0 {
+            let name = self.name(MOST_OF_NAME);
+            text.push_str(format!(in alloc; "; stopped at {name}: line {line}")?.as_str())?;
+        }
+        Ok(())
+    }
+
+    /// What was said how often, and where it stopped before its end.
+    fn push_results(
+        &self,
+        alloc: Global,
+        text: &mut String,
+        stopped: bool,
+    ) -> Result<(), AllocError> {
+        self.push_mates(alloc, text)?;
+        push_count(alloc, text, now(&self.no_mate), "no mate")?;
+        push_count(alloc, text, now(&self.undecided), "not decided")?;
+        push_count(alloc, text, now(&self.refused), "refused")?;
+        if stopped {
+            self.push_stop(alloc, text)
+        } else {
+            Ok(())
+        }
     }
 
     /// What came of it all: how long it took, what was said how often, and where it stopped before its end.
@@ -195,29 +249,7 @@ impl Progress {
         let seconds = ticks / TICKS_A_SECOND;
         let tenths = ticks % TICKS_A_SECOND;
         let mut text = format!(in alloc; "{replies} answered in {seconds}.{tenths} s")?;
-        for (moves, mates) in self.mates.iter().enumerate() {
-            let count = now(mates);
-            if count > 0 {
-                text.push_str(format!(in alloc; ", {count} mate in {moves}")?.as_str())?;
-            }
-        }
-        for (number, said) in [
-            (&self.no_mate, "no mate"),
-            (&self.undecided, "not decided"),
-            (&self.refused, "refused"),
-        ] {
-            let count = now(number);
-            if count > 0 {
-                text.push_str(format!(in alloc; ", {count} {said}")?.as_str())?;
-            }
-        }
-        let line = now(&self.line);
-        if stopped && line > 0 {
-            text.push_str(format!(in alloc;
-                "; stopped at {}: line {line}",
-                self.name(MOST_OF_NAME)
-            )?.as_str())?;
-        }
+        self.push_results(alloc, &mut text, stopped)?;
         Ok(text)
     }
 }

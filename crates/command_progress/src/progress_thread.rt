@@ -79,6 +79,26 @@ fn tell_on<R: Wait, N: Write>(
     }
 }
 
+/// What the command and the thread share.
+fn shared(alloc: Global, words: &[String]) -> Option<Arc<Progress, Global>> {
+    Arc::new(alloc, Progress::new(alloc, words).ok()?).ok()
+}
+
+/// Starts the thread that tells of this.
+fn start_thread<R: Threads + Wait + Console + Clone + Drop + Send + 'static>(
+    rt: &R,
+    alloc: Global,
+    progress: Arc<Progress, Global>,
+    is_terminal: bool,
+) -> Option<JoinHandle<()>> {
+    let own: R = rt.clone().ok()?;
+    let mut notes = rt.notes();
+    thread::spawn(rt, move || {
+        tell_on(&own, alloc, &progress, &mut notes, is_terminal)
+    })
+    .ok()
+}
+
 impl Telling {
     /// Starts the thread, for a command of such words; none where memory or a thread is refused.
     pub fn start<R: Threads + Wait + Console + Clone + Drop + Send + 'static>(
@@ -86,17 +106,13 @@ impl Telling {
         alloc: Global,
         words: &[String],
     ) -> Option<Telling> {
-        let progress = Arc::new(alloc, Progress::new(alloc, words).ok()?).ok()?;
+        let progress = shared(alloc, words)?;
         let theirs = Arc::try_clone(&progress).ok()?;
-        let own: R = rt.clone().ok()?;
         let is_terminal = rt.is_terminal();
-        let mut notes = rt.notes();
-        let thread = thread::spawn(rt, move || {
-            tell_on(&own, alloc, &theirs, &mut notes, is_terminal)
-        });
+        let thread = start_thread(rt, alloc, theirs, is_terminal)?;
         Some(Telling {
             progress,
-            thread: thread.ok()?,
+            thread,
             is_terminal,
         })
     }
