@@ -77,16 +77,15 @@ fn each_explained(alloc: Global, found: &[&Explanation]) -> Result<Option<Vec<u8
     Ok(Some(text))
 }
 
-/// A sentence of each.
+/// Adds a sentence of each.
 #[tactic(auto, unfolding(crate::specs::Explained::sentences))]
-fn sentences(alloc: Global, explanations: &[Explanation]) -> Result<Vec<u8>, AllocError>
-    ensures { IfOk result (λ text. text.items ≡ sentences explanations.now) }
+fn push_sentences(text: &mut Vec<u8>, explanations: &[Explanation]) -> Result<(), AllocError>
+    ensures { IfOk result (λ _. text.new.items ≡ text.old.items ++ sentences explanations.now) }
 {
-    let mut text = Vec::new(alloc);
     for explanation in explanations {
-        push_sentence(&mut text, explanation)?;
+        push_sentence(text, explanation)?;
     }
-    Ok(text)
+    Ok(())
 }
 
 /// The explanation of all groups whose code this word is, in any case.
@@ -153,8 +152,7 @@ fn all_sentences(alloc: Global, groups: &[&[Explanation]]) -> Result<Vec<u8>, Al
 {
     let mut text = Vec::new(alloc);
     for explanations in groups {
-        let lines = sentences(alloc, explanations)?;
-        text.extend_from_slice(lines.as_slice())?;
+        push_sentences(&mut text, explanations)?;
     }
     Ok(text)
 }
