@@ -157,6 +157,20 @@ fn all_sentences(alloc: Global, groups: &[&[Explanation]]) -> Result<Vec<u8>, Al
     Ok(text)
 }
 
+/// All there is to say of the faults that words of replies name; none where no word is a code.
+fn named_explained(
+    alloc: Global,
+    groups: &[&'static [Explanation]],
+    replies: &[&str],
+) -> Result<Option<Vec<u8>>, AllocError>
+    ensures some { IfOk result (λ told. IfSome told
+        (λ text. ExplainsEach (named_in groups.now (map (λ s. s.now) replies.now)) false text.items)) }
+    ensures none { IfOk result (λ told. IfNone told (ExplainsEach (named_in groups.now (map (λ s. s.now) replies.now)) true [])) }
+{
+    let found = named_in(alloc, groups, replies)?;
+    each_explained(alloc, found.as_slice())
+}
+
 /// What is shown of replies, or of all faults where none are given; none where no word of the replies is a code.
 pub fn explained_text(alloc: Global, replies: &[&str]) -> Result<Option<Vec<u8>>, AllocError>
     ensures shown { IfOk result (λ told. IfSome told (λ text. Explains (map (λ s. s.now) replies.now) false text.items)) }
@@ -165,6 +179,6 @@ pub fn explained_text(alloc: Global, replies: &[&str]) -> Result<Option<Vec<u8>>
     let groups = all();
     match replies {
         [] => Ok(Some(all_sentences(alloc, &groups)?)),
-        [_, ..] => each_explained(alloc, named_in(alloc, &groups, replies)?.as_slice()),
+        [_, ..] => named_explained(alloc, &groups, replies),
     }
 }
