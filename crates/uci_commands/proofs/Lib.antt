@@ -1,5 +1,6 @@
 pub mod MovesKept
 pub mod NamesAlike
 pub mod NumberValues
+pub mod PositionsSaid
 pub mod SpaceCuts
 pub mod WordTexts
