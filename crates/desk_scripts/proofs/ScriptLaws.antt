@@ -6,7 +6,7 @@ use Rattle.std.proofs.lemmas.List.{append-nil}
 use Rattle.std.proofs.lemmas.Option.{none-some}
 use Rattle.desk_scripts.specs.Scripts.{StepValue, Line, SpellsStep, SpellEach, IsDesk, IsStep, IsFirstNoStep}
 use Rattle.desk_scripts.specs.Scripts.{ReachStep, AreRefused, IsRefused, said, no_step}
-use Rattle.desk_scripts.specs.inside.ScriptReading.{DeskValue, desk_of, step_of}
+use Rattle.desk_scripts.specs.inside.ScriptReading.{DeskValue, IsStepFault, desk_of, step_of}
 use Rattle.desk_scripts.specs.declared.scripts.ScriptFault.{ScriptFault}
 use Rattle.desk_scripts.specs.declared.scripts.ScriptFault.TheVariants as fault
 use Rattle.desk_scripts.proofs.DeskLaws.{desk_spelled, desk_read}
@@ -88,3 +88,9 @@ pub refused_behind : (script : List ℕ) (opening : Line) (others : List Line) (
 refused_behind script opening others (fault.Line number) cut desk refused = no_step opening others number cut desk refused
 refused_behind script opening others fault.NoMemory cut desk refused =
     record { opening = opening; others = others; lines = cut; opens = desk; reach = refused }
+
+pub read_to_refused : (lines left others : List Line) (steps : List StepValue) (line : Line) (f : ScriptFault) → AreReadTo lines left steps
+    → left ≡ line ∷ others → IsStepFault line f → AreRefused lines f
+read_to_refused lines left others steps line (fault.Line number) so_far cut (here, none) =
+    subst (IsFirstNoStep lines) (sym here) (read_to_fault lines left others steps line so_far cut none)
+read_to_refused lines left others steps line fault.NoMemory so_far cut some = read_to_step lines left others steps line so_far cut some

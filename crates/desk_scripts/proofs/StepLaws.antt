@@ -5,7 +5,7 @@ use Rattle.std.proofs.lemmas.Slice.Eq.{bytes_eq-Decides}
 use Rattle.std.specs.Option.{option_and_then}
 use Rattle.std.specs.Str.{bytes_eq}
 use Rattle.desk_scripts.specs.Scripts.{StepValue, Submit, Take, Finish, HandBack, Collect, Withdraw, Drained, Close, SpellsStep}
-use Rattle.desk_scripts.specs.inside.ScriptReading.{cut_at, number_of, number_cut, submit_of, withdraw_of, plain_step, step_by, step_in, step_of}
+use Rattle.desk_scripts.specs.inside.ScriptReading.{cut_at, number_of, number_cut, numbered, submit_of, withdraw_of, plain_step, step_by, step_in, step_of}
 use Rattle.desk_scripts.proofs.NumberLaws.{map_some, number_spelled, number_read, cut_spelled, number_cut_spelled, number_cut_read}
 
 is_word : (word name : List ℕ) → bytes_eq word name ≡ true → word ≡ name
@@ -98,3 +98,13 @@ step_read line (Withdraw s n) (submitter, number, is, spelled, counted) =
     ∙ ap (option_map (λ n. Withdraw s n)) (number_read number n counted)
 step_read line Drained is = ap step_of is
 step_read line Close is = ap step_of is
+
+none_by : (a b d : Bool) (o : Option StepValue) → o ≡ cond a o (cond b o (cond d o o))
+none_by true b d o = refl
+none_by false true d o = refl
+none_by false false true o = refl
+none_by false false false o = refl
+
+pub numbered_none : (word text : List ℕ) → None ≡ number_of text → None ≡ numbered word text
+numbered_none word text none =
+    rw (← none) (none_by (bytes_eq word (codes "finish")) (bytes_eq word (codes "handback")) (bytes_eq word (codes "collect")) None)

@@ -2,7 +2,7 @@
 
 ghost use Rattle.std.specs.Prelude.{◌≡◌};
 ghost use Rattle.chess_problems.specs.Problems.{bound_of as bound_of_number};
-ghost use Rattle.desk_scripts.specs.inside.ScriptReading.{desk_numbers, desk_of};
+ghost use Rattle.desk_scripts.specs.inside.ScriptReading.{desk_numbers, desk_of, numbers_behind};
 
 use crate::script_words::{cut_at, is_word, number_cut, number_of};
 use chess_problems::Bound;
@@ -32,18 +32,25 @@ fn bound_of(moves: u32) -> Option<Bound>
     Bound::new(u8::try_from(moves).ok()?)
 }
 
-/// The numbers of submitters, of records that each may have pending, and of moves.
-fn read_numbers(text: &[u8]) -> Option<Opening>
-    ensures { result ≡ desk_numbers text.now }
+/// The numbers of records that each may have pending and of moves, beside that of submitters.
+fn numbers_behind(submitters: u32, text: &[u8]) -> Option<Opening>
+    ensures { result ≡ numbers_behind submitters text.now }
 {
-    let (submitters, rest) = number_cut(text)?;
-    let (room, rest) = number_cut(rest)?;
+    let (room, rest) = number_cut(text)?;
     let bound = bound_of(number_of(rest)?)?;
     Some(Opening {
         submitters: submitters as usize,
         room: room as usize,
         bound,
     })
+}
+
+/// The numbers of submitters, of records that each may have pending, and of moves.
+fn read_numbers(text: &[u8]) -> Option<Opening>
+    ensures { result ≡ desk_numbers text.now }
+{
+    let (submitters, rest) = number_cut(text)?;
+    numbers_behind(submitters, rest)
 }
 
 /// The desk that a line opens.

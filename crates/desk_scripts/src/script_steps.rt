@@ -2,7 +2,7 @@
 
 ghost use Rattle.std.specs.Prelude.{◌≡◌, ◌≢◌, Err, None, IfOk, IfErr, OnErr, IsSome, option_map};
 ghost use Rattle.desk_scripts.specs.Scripts.{step_value};
-ghost use Rattle.desk_scripts.specs.inside.ScriptReading.{plain_step as plain_step_of, step_by, step_of, submit_of, withdraw_of};
+ghost use Rattle.desk_scripts.specs.inside.ScriptReading.{numbered, plain_step as plain_step_of, step_by, step_of, submit_of, withdraw_of};
 
 use crate::script_words::{cut_at, is_word, number_cut, number_of};
 use mate_desk::Step;
@@ -44,6 +44,22 @@ fn withdraw_step(text: &[u8]) -> Option<Step>
     Some(Step::Withdraw(submitter as usize, u64::from(number)))
 }
 
+/// A step that says a number.
+fn numbered_step(word: &[u8], text: &[u8]) -> Option<Step>
+    ensures { option_map step_value result ≡ numbered word.now text.now }
+{
+    let number = number_of(text)? as usize;
+    if is_word(word, "finish") {
+        Some(Step::Finish(number))
+    } else if is_word(word, "handback") {
+        Some(Step::HandBack(number))
+    } else if is_word(word, "collect") {
+        Some(Step::Collect(number))
+    } else {
+        None
+    }
+}
+
 /// A step by its first word, and by what stands behind the space that follows it.
 #[tactic(auto, unfolding(crate::specs::inside::ScriptReading::step_by))]
 fn step_with(alloc: Global, word: &[u8], text: &[u8]) -> Result<Option<Step>, AllocError>
@@ -54,14 +70,8 @@ fn step_with(alloc: Global, word: &[u8], text: &[u8]) -> Result<Option<Step>, Al
         submit_step(alloc, text)
     } else if is_word(word, "withdraw") {
         Ok(withdraw_step(text))
-    } else if is_word(word, "finish") {
-        Ok(number_of(text).map(|n| Step::Finish(n as usize)))
-    } else if is_word(word, "handback") {
-        Ok(number_of(text).map(|n| Step::HandBack(n as usize)))
-    } else if is_word(word, "collect") {
-        Ok(number_of(text).map(|n| Step::Collect(n as usize)))
     } else {
-        Ok(None)
+        Ok(numbered_step(word, text))
     }
 }
 

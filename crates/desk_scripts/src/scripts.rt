@@ -1,10 +1,11 @@
 //! Scripts: a desk and what is done with it, line by line.
 
-ghost use Rattle.std.specs.Prelude.{◌≡◌, ◌≢◌, IfErr, IfOk, map};
+ghost use Rattle.std.specs.Prelude.{◌≡◌, ◌≢◌, IfErr, IfOk, Some, map};
 ghost use Rattle.desk_scripts.specs.Scripts.{AreRefused, IsRefused, IsScript, ScriptValue, SpellEach, script_fault_name, script_value, step_value};
+ghost use Rattle.desk_scripts.specs.inside.ScriptReading.{IsStepFault, line_value, step_of};
 
 use crate::script_desk::read_desk;
-use crate::script_lines::Lines;
+use crate::script_lines::{Line, Lines};
 use crate::script_steps::read_step;
 use chess_problems::Bound;
 use mate_desk::Step;
@@ -65,6 +66,17 @@ impl From<AllocFailed<Step>> for ScriptFault {
     }
 }
 
+/// The step that a line says, or why it is refused.
+fn read_line(alloc: Global, line: Line) -> Result<Step, ScriptFault>
+    ensures step { IfOk result (λ step. Some (step_value step) ≡ step_of line.entry.text.now) }
+    ensures refused { IfErr result (λ fault. IsStepFault (line_value line.entry) fault) }
+{
+    match read_step(alloc, line.text)? {
+        Some(step) => Ok(step),
+        None => Err(ScriptFault::Line(line.number)),
+    }
+}
+
 /// Reads lines of steps to their end, or to the first that is none.
 fn read_steps(alloc: Global, lines: &mut Lines) -> Result<Vec<Step>, ScriptFault>
     ensures steps { IfOk result (λ steps. SpellEach lines.old (map step_value steps.items)) }
@@ -72,9 +84,7 @@ fn read_steps(alloc: Global, lines: &mut Lines) -> Result<Vec<Step>, ScriptFault
 {
     let mut steps = Vec::new(alloc);
     while let Some(line) = lines.next() {
-        let Some(step) = read_step(alloc, line.text)? else {
-            return Err(ScriptFault::Line(line.number));
-        };
+        let step = read_line(alloc, line)?;
         steps.push(step)?;
     }
     Ok(steps)

@@ -1,5 +1,5 @@
 -- Not for believing: how the lines of a script are taken apart; `SpellsDesk` and `SpellsStep` say how they are put together.
-use Rattle.std.specs.Prelude.{◌==◌, ◌&&◌, ℕ, Bool, List, [], ◌∷◌, Option, None, Some, codes, length}
+use Rattle.std.specs.Prelude.{◌≡◌, ◌==◌, ◌&&◌, ℕ, Bool, List, [], ◌∷◌, Option, None, Some, codes, length, IsSome}
 use Rattle.std.specs.Prelude.{nat_le, nat_lt, option_map, option_and_then, if◌then◌else◌}
 use Rattle.std.specs.List.{list_all}
 use Rattle.std.specs.Str.{bytes_eq}
@@ -7,6 +7,8 @@ use Rattle.chess_board.specs.Fields.{digits_value}
 use Rattle.chess_problems.specs.Problems.{bound_of}
 use Rattle.chess_notation.specs.Operations.{is_digit}
 use Rattle.desk_scripts.specs.declared.script_lines.Line.{Line as LineRead}
+use Rattle.desk_scripts.specs.declared.scripts.ScriptFault.{ScriptFault}
+use Rattle.desk_scripts.specs.declared.scripts.ScriptFault.TheVariants as fault
 use Rattle.desk_scripts.specs.Scripts.{Line, StepValue, Submit, Take, Finish, HandBack, Collect, Withdraw, Drained, Close}
 
 -- what a line holds
@@ -48,15 +50,20 @@ plain_step word =
     else if bytes_eq word (codes "close") then Some Close
     else None
 
+-- a step that says a number
+abbrev pub numbered : List ℕ → List ℕ → Option StepValue
+numbered word text =
+    if bytes_eq word (codes "finish") then option_map Finish (number_of text)
+    else if bytes_eq word (codes "handback") then option_map HandBack (number_of text)
+    else if bytes_eq word (codes "collect") then option_map Collect (number_of text)
+    else None
+
 -- a step by its first word and by what stands behind the space that follows it
 unfoldable pub step_by : List ℕ → List ℕ → Option StepValue
 step_by word text =
     if bytes_eq word (codes "submit") then submit_of text
     else if bytes_eq word (codes "withdraw") then withdraw_of text
-    else if bytes_eq word (codes "finish") then option_map Finish (number_of text)
-    else if bytes_eq word (codes "handback") then option_map HandBack (number_of text)
-    else if bytes_eq word (codes "collect") then option_map Collect (number_of text)
-    else None
+    else numbered word text
 
 abbrev pub step_in : List ℕ → Option (List ℕ × List ℕ) → Option StepValue
 step_in line None = plain_step line
@@ -66,16 +73,24 @@ step_in line (Some cut) = step_by cut.0 cut.1
 unfoldable pub step_of : List ℕ → Option StepValue
 step_of line = step_in line (cut_at 32 line)
 
+-- why a line is refused where a step should be: it says none, or memory for what it says is refused
+abbrev pub IsStepFault : Line → ScriptFault → Type 0
+IsStepFault line (fault.Line number) = (number ≡ line.number) × (None ≡ step_of line.text)
+IsStepFault line fault.NoMemory = IsSome (step_of line.text)
+
 -- what the line that opens a desk says
 pub record DeskValue : Type 0 where
   pub submitters : ℕ
   pub room : ℕ
   pub bound : ℕ
 
+abbrev pub numbers_behind : ℕ → List ℕ → Option DeskValue
+numbers_behind submitters text =
+    option_and_then (λ r. option_and_then (λ n. option_map (λ b. record { submitters = submitters; room = r.0; bound = b }) (bound_of n))
+    (number_of r.1)) (number_cut text)
+
 abbrev pub desk_numbers : List ℕ → Option DeskValue
-desk_numbers text =
-    option_and_then (λ s. option_and_then (λ r. option_and_then (λ n.
-    option_map (λ b. record { submitters = s.0; room = r.0; bound = b }) (bound_of n)) (number_of r.1)) (number_cut s.1)) (number_cut text)
+desk_numbers text = option_and_then (λ s. numbers_behind s.0 s.1) (number_cut text)
 
 -- the desk that a line opens
 unfoldable pub desk_of : List ℕ → Option DeskValue
