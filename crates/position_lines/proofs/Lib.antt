@@ -1,2 +1,3 @@
 pub mod FenLines
 pub mod PositionLines
+pub mod WordFronts
