@@ -4,3 +4,4 @@ pub mod NumberValues
 pub mod PositionsSaid
 pub mod SpaceCuts
 pub mod WordTexts
+pub mod WordsBehind
