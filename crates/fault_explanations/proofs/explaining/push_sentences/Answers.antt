@@ -1,5 +1,4 @@
-use Rattle.std.proofs.Common.{◌∙◌, ◌++◌, ap, arith}
-use Rattle.std.proofs.lemmas.List.{take_all, take_more}
+use Rattle.std.proofs.lemmas.List.{take_more}
 use Rattle.fault_explanations.specs.Explained.{sentence, sentences}
 use Rattle.fault_explanations.proofs.Appended.{appended_more}
 use Rattle.fault_explanations.proofs.explaining.push_sentences.Goals as goal
