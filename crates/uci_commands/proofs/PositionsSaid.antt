@@ -4,7 +4,7 @@ use Rattle.std.proofs.Common.{length, map, take, drop, get_or, option_map, ap, a
 use Rattle.std.proofs.lemmas.List.{take_rest}
 use Rattle.std.specs.Str.{bytes_eq}
 use Rattle.std.specs.Prelude.{codes}
-use Rattle.chess_board.specs.Fens.{FenValue, IsFault, Spells}
+use Rattle.chess_board.specs.Fens.{FenValue, Spells}
 use Rattle.chess_board.specs.Soundness.{IsSound}
 use Rattle.chess_board.specs.declared.faults.FenFault.{FenFault}
 use Rattle.chess_views.specs.Played.{played}

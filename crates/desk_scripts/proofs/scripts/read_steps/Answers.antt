@@ -1,4 +1,4 @@
-use Rattle.std.proofs.Common.{◌≡◌, ◌∙◌, [], ◌∷◌, IsSome, refl, sym, ap, subst, map}
+use Rattle.std.proofs.Common.{◌∙◌, [], ◌∷◌, IsSome, refl, sym, ap, subst, map}
 use Rattle.std.proofs.lemmas.List.{map-append}
 use Rattle.desk_scripts.specs.Scripts.{AreRefused, step_value}
 use Rattle.desk_scripts.specs.inside.ScriptReading.{line_value, step_of}

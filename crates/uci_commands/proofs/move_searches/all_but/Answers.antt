@@ -1,4 +1,4 @@
-use Rattle.std.proofs.Common.{◌≡◌, ◌∙◌, ◌<◌, Bool, not, ap, eqb-true, filter, length, subst, sym}
+use Rattle.std.proofs.Common.{◌≡◌, ◌∙◌, ◌<◌, not, ap, eqb-true, filter, length, subst, sym}
 use Rattle.std.specs.List.{list_any}
 use Rattle.chess_board.specs.Moves.{Move}
 use Rattle.chess_problems.specs.SameProblems.{is_same_move}

@@ -1,4 +1,4 @@
-use Rattle.std.proofs.Common.{◌≡◌, ℕ, List, Some, Vec, Global, map, subst}
+use Rattle.std.proofs.Common.{ℕ, List, Vec, Global, map, subst}
 use Rattle.std.specs.Borrow.{Bor}
 use Rattle.chess_board.specs.Fens.{IsFault}
 use Rattle.uci_commands.proofs.PositionsSaid.{leads, leads_nowhere, said_none, said_some}
