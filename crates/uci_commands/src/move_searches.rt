@@ -49,7 +49,7 @@ fn is_among(m: Move, moves: &[Move]) -> bool
 }
 
 /// The legal moves that are none of these; none where there are more than a problem can avoid.
-#[tactic(auto, unfolding(crate::specs::MoveSearches::all_but))]
+#[tactic(auto, unfolding(crate::specs::MoveSearches::all_but), using(crate::proofs::MovesKept::no_room))]
 fn all_but(rays: &Rays, position: &Position, moves: &[Move]) -> Option<AvoidList>
     ensures some { IfSome result (λ avoid. avoid.items ≡ all_but position.now moves.now) }
     ensures none { IfNone result (max_avoided < length (all_but position.now moves.now)) }

@@ -1,9 +1,8 @@
-use Rattle.std.proofs.Common.{◌≡◌, ◌∙◌, ◌<◌, not, ap, eqb-true, filter, length, subst, sym}
+use Rattle.std.proofs.Common.{◌≡◌, ◌∙◌, not, ap, sym}
 use Rattle.std.specs.List.{list_any}
 use Rattle.chess_board.specs.Moves.{Move}
 use Rattle.chess_problems.specs.SameProblems.{is_same_move}
-use Rattle.uci_commands.specs.MoveSearches.{all_but, max_avoided}
-use Rattle.uci_commands.proofs.MovesKept.{kept_more, left_out, no_room}
+use Rattle.uci_commands.proofs.MovesKept.{kept_more, left_out}
 use Rattle.uci_commands.proofs.move_searches.all_but.Goals as goal
 use Rattle.uci_commands.proofs.move_searches.all_but.Goals.{then-not-is_among+else-is_full, else-not-is_among}
 
@@ -20,13 +19,3 @@ loop-m-preserved c =
           ∙ left_out p c.as_slice-m-items.result.now c.loop-m.m-index c.m-item.result c.loop-m.avoid.items
           c.loop-m-test.true c.m-item.is (said ∙ ap not w.if-not-is_among.false) c.loop-m.invariant
     ]
-
-pub returns-then-is_full-clause-none : goal.returns-then-is_full-clause-none
-unfolding all_but
-returns-then-is_full-clause-none c =
-    let p = λ (m : Move). not (list_any (is_same_move m) c.args.moves.now) in
-    let said : p c.m-item.result ≡ not c.is_among.result = ap not (sym c.is_among.ensures) in
-    subst (λ ms. max_avoided < length (filter p ms)) (c.as_slice-m-items.ensures.value ∙ c.legal.ensures)
-    (no_room p c.as_slice-m-items.result.now c.loop-m.m-index max_avoided c.m-item.result c.loop-m.avoid.items
-    c.loop-m-test.true c.m-item.is (said ∙ ap not c.if-not-is_among.true) c.loop-m.invariant
-    (eqb-true _ _ (sym c.is_full.ensures.value ∙ c.if-is_full.true)))
