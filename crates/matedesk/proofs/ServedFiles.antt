@@ -18,7 +18,7 @@ use Rattle.mate_answers.specs.InputReplies.{IsLineReply, IsReply}
 use Rattle.byte_streams.specs.declared.stops.Stop.{Stop}
 use Rattle.byte_streams.specs.declared.stops.Stop.TheVariants as stop
 use Rattle.command_words.specs.Asked.{serve}
-use Rattle.file_answers.specs.Sources.{Holds}
+use Rattle.file_answers.specs.Sources.{Holds, SomeRefused}
 use Rattle.file_answers.specs.Status.{status_of}
 use Rattle.file_answers.specs.Writing.{Gains}
 use Rattle.file_answers.specs.FileAnswers.{AreReplies as AreFileReplies}
@@ -134,6 +134,16 @@ ends_served holds refuses ends_by workers bound memo names files outputs written
     let replies = subst (AreReplies bound inputs) (sym same) are in
     ends_by (serve workers bound memo names) r status old new is (gains_served holds bound names inputs written r old new held all here replies ok)
     (stops_served holds refuses bound names inputs written r old new held all here replies output part)
+
+-- The files were not read.
+pub ends_unread : (holds : Text → Option (List ℕ)) (refuses : Text → Type 0) → EndsByStatus holds refuses
+    → (workers bound memo : ℕ) (names : List Text) (s : Stop) (status : ℕ) (old : Option (List ℕ)) → status ≡ status_of (Err s)
+    → (s ≡ stop.NoMemory) ⊎ ((s ≡ stop.Unreadable) × SomeRefused refuses names)
+    → Ends holds refuses (Some (serve workers bound memo names)) status old old
+ends_unread holds refuses ends_by workers bound memo names s status old is (inl none) =
+    ends_by (serve workers bound memo names) (Err s) status old old is tt (rw none (Keeps-refl old))
+ends_unread holds refuses ends_by workers bound memo names s status old is (inr unreadable) =
+    ends_by (serve workers bound memo names) (Err s) status old old is tt (rw (unreadable.0) (unreadable.1, Keeps-refl old))
 
 -- ---- what `serve` of the room answers
 

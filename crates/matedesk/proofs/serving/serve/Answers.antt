@@ -2,7 +2,7 @@ use Rattle.std.proofs.Common.{◌≡◌, ◌<◌, ◌⊎◌, ◌∙◌, Err, Glo
 use Rattle.std.proofs.lemmas.List.{length-map}
 use Rattle.desk_room.specs.Serving.{AreReplies}
 use Rattle.desk_room.specs.declared.rooms.RoomFault.TheVariants as fault
-use Rattle.matedesk.proofs.ServedFiles.{ends_served, ends_unserved, no_benches, no_fault}
+use Rattle.matedesk.proofs.ServedFiles.{ends_served, ends_unread, ends_unserved, no_benches, no_fault}
 use Rattle.matedesk.proofs.serving.serve.Goals as goal
 
 pub returns-in-Ok-serve_with_memo : goal.returns-in-Ok-serve_with_memo
@@ -29,3 +29,9 @@ returns g c =
     (λ bad. no_benches c.get-benches.result c.get-benches.ensures.some c.get-benches.ensures.few
     (c.serve_with_memo.ensures.bad_benches.0 (c.in-Err-serve_with_memo.is ∙ ap Err bad)).1)
     (λ bad. c.serve_with_memo.ensures.good_ring (c.in-Err-serve_with_memo.is ∙ ap Err bad))
+
+pub returns-in-Err : goal.returns-in-Err
+returns-in-Err g c =
+    ends_unread (g.S.Source.holds c.args.source.now) (g.S.Source.refuses c.args.source.now) c.ends_by_status.ensures c.args.workers
+    c.args.bound c.args.memo (map (λ s. s.now) c.args.names.now) c.in-Err.stop c.status_of.result _ c.status_of.ensures
+    c.in-Err.ensures.refused
