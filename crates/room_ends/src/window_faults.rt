@@ -4,22 +4,19 @@ ghost use Rattle.std.specs.Prelude.{◌≡◌};
 ghost use Rattle.room_ends.specs.WindowFaults.{window_fault_name, withdraw_fault_name, bye_fault_name};
 
 use chess_notation::EpdFault;
+use std::fmt;
 use thiserror::Error;
 
 /// Why a line is not sent.
 #[derive(Clone, Copy, Debug, PartialEq, Eq, Error)]
 pub enum WindowFault {
     /// The window said farewell.
-    #[error("Gone")]
     Gone,
     /// The line says no record, by this fault, or memory was refused. It prints as that fault.
-    #[error("{0}")]
     BadRecord(EpdFault),
     /// No place of the record ring is known to be free.
-    #[error("Busy")]
     Busy,
     /// The window has sent 2^64 - 1 records.
-    #[error("Exhausted")]
     Exhausted,
 }
 
@@ -37,17 +34,20 @@ impl WindowFault {
     }
 }
 
+impl fmt::Display for WindowFault {
+    fn fmt<W: fmt::Write>(&self, f: &mut fmt::Formatter<W>) -> fmt::Result {
+        f.write_str(self.code())
+    }
+}
+
 /// Why a withdrawal is not sent.
 #[derive(Clone, Copy, Debug, PartialEq, Eq, Error)]
 pub enum WithdrawFault {
     /// The window said farewell.
-    #[error("Gone")]
     Gone,
     /// The window sent no more than so many records.
-    #[error("NotSent")]
     NotSent,
     /// No place of the record ring is known to be free.
-    #[error("Busy")]
     Busy,
 }
 
@@ -64,14 +64,18 @@ impl WithdrawFault {
     }
 }
 
+impl fmt::Display for WithdrawFault {
+    fn fmt<W: fmt::Write>(&self, f: &mut fmt::Formatter<W>) -> fmt::Result {
+        f.write_str(self.code())
+    }
+}
+
 /// Why a farewell is not sent.
 #[derive(Clone, Copy, Debug, PartialEq, Eq, Error)]
 pub enum ByeFault {
     /// The window said farewell before.
-    #[error("Gone")]
     Gone,
     /// No place of the record ring is known to be free.
-    #[error("Busy")]
     Busy,
 }
 
@@ -84,5 +88,11 @@ impl ByeFault {
             ByeFault::Gone => "Gone",
             ByeFault::Busy => "Busy",
         }
+    }
+}
+
+impl fmt::Display for ByeFault {
+    fn fmt<W: fmt::Write>(&self, f: &mut fmt::Formatter<W>) -> fmt::Result {
+        f.write_str(self.code())
     }
 }
