@@ -123,6 +123,7 @@ The verdict is the first of these that applies:
               asked is not told
   wrong       a claimed move is no key
   cooked      there is a key that isn't claimed; or, where no move is claimed, a second key
+  unclaimed   no move is claimed, so that nothing is held against the one key
   sound       else
 
 Moves to avoid (`am`) are left out at the first move, as `solve` does. At the end standard
@@ -133,7 +134,7 @@ Example:
   7k/8/5K2/8/8/8/8/R7 w - - bm Kf7; dm 2; id \"one key of two\";
   $ matedesk verify problems.epd
   1\tcooked\t#2\t#2\tKf7 Kg6\tKf7\tone key of two
-  matedesk: sound 0, cooked 1, wrong 0, short 0, unsolvable 0, refused 0
+  matedesk: sound 0, unclaimed 0, cooked 1, wrong 0, short 0, unsolvable 0, refused 0
 
 The FILE `-` is standard input; a file by that name is `./-`.
 

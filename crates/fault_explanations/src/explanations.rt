@@ -269,7 +269,7 @@ of `#0` in `bm`, too.",
 ];
 
 /// What `verify` says of a record's claims.
-static VERDICTS: [Explanation; 5] = [
+static VERDICTS: [Explanation; 6] = [
     Explanation {
         code: "unsolvable",
         comes: "there is no mate within the number of moves",
@@ -306,6 +306,16 @@ all keys, and the sixth the moves claimed.",
         example: Some(Example {
             faulty: "7k/8/5K2/8/8/8/8/R7 w - - bm Kf7; dm 2;",
             mended: "7k/8/5K2/8/8/8/8/R7 w - - bm Kf7 Kg6; dm 2;",
+        }),
+    },
+    Explanation {
+        code: "unclaimed",
+        comes: "no move is claimed",
+        means: "The mate is as long as was asked for, and has one key, the fifth field of the row: but there was
+no claim to hold it against. Write behind `bm` what the author has for the key.",
+        example: Some(Example {
+            faulty: "7k/8/5K2/8/8/8/8/R7 w - - am Kf7; dm 2;",
+            mended: "7k/8/5K2/8/8/8/8/R7 w - - am Kf7; bm Kg6; dm 2;",
         }),
     },
     Explanation {

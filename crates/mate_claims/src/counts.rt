@@ -11,6 +11,7 @@ use std::alloc::{AllocError, Global};
 #[derive(Clone, Copy, Debug, PartialEq, Eq)]
 pub struct Counts {
     pub sound: usize,
+    pub unclaimed: usize,
     pub cooked: usize,
     pub wrong: usize,
     pub short: usize,
@@ -25,6 +26,7 @@ impl Counts {
     {
         Counts {
             sound: 0,
+            unclaimed: 0,
             cooked: 0,
             wrong: 0,
             short: 0,
@@ -40,6 +42,10 @@ impl Counts {
         match verdict {
             Some(Verdict::Sound) => Some(Counts {
                 sound: self.sound.checked_add(1)?,
+                ..self
+            }),
+            Some(Verdict::Unclaimed) => Some(Counts {
+                unclaimed: self.unclaimed.checked_add(1)?,
                 ..self
             }),
             Some(Verdict::Cooked) => Some(Counts {
@@ -69,7 +75,8 @@ impl Counts {
     pub fn not_sound(&self) -> usize
         ensures { result ≡ min (not_sound_in self.now) 18446744073709551615 }
     {
-        self.cooked
+        self.unclaimed
+            .saturating_add(self.cooked)
             .saturating_add(self.wrong)
             .saturating_add(self.short)
             .saturating_add(self.unsolvable)
@@ -93,6 +100,7 @@ impl Counts {
     {
         let mut text = String::new(alloc);
         push_count(alloc, &mut text, "sound ", self.sound)?;
+        push_count(alloc, &mut text, ", unclaimed ", self.unclaimed)?;
         push_count(alloc, &mut text, ", cooked ", self.cooked)?;
         push_count(alloc, &mut text, ", wrong ", self.wrong)?;
         push_count(alloc, &mut text, ", short ", self.short)?;

@@ -4,7 +4,7 @@ ghost use Rattle.std.specs.Prelude.{◌≡◌};
 ghost use Rattle.std.specs.List.{list_any};
 ghost use Rattle.chess_problems.specs.SameProblems.{is_same_move as are_same_move};
 ghost use Rattle.mate_claims.specs.Verdicts.{verdict_name, verdict_of, keys_verdict as verdict_by_keys};
-ghost use Rattle.mate_claims.specs.Verdicts.{are_among as are_all_among, is_cooked as is_cooked_by};
+ghost use Rattle.mate_claims.specs.Verdicts.{are_among as are_all_among, is_cooked as is_cooked_by, verdict_of_claimed};
 
 use chess_board::Move;
 use chess_problems::{Bound, Outcome, is_same_move};
@@ -12,8 +12,10 @@ use chess_problems::{Bound, Outcome, is_same_move};
 /// What comes of a record's claims: the first of these that applies, from the last to the first.
 #[derive(Clone, Copy, Debug, PartialEq, Eq)]
 pub enum Verdict {
-    /// The mate is as long as was asked for, and its keys are those claimed; without a claimed move there is one key.
+    /// The mate is as long as was asked for, and its keys are those claimed.
     Sound,
+    /// The mate is as long as was asked for and there is one key, but no move is claimed.
+    Unclaimed,
     /// There is a key that is not claimed; without a claimed move there are more keys than one.
     Cooked,
     /// A claimed move is no key.
@@ -31,6 +33,7 @@ impl Verdict {
     {
         match self {
             Verdict::Sound => "sound",
+            Verdict::Unclaimed => "unclaimed",
             Verdict::Cooked => "cooked",
             Verdict::Wrong => "wrong",
             Verdict::Short => "short",
@@ -73,6 +76,16 @@ fn is_cooked(claimed: &[Move], keys: &[Move]) -> bool
     }
 }
 
+/// The verdict where the keys are those claimed, or there is one and none is claimed.
+fn verdict_of_claimed(claimed: &[Move]) -> Verdict
+    ensures { result ≡ verdict_of_claimed claimed.now }
+{
+    match claimed {
+        [] => Verdict::Unclaimed,
+        [_, ..] => Verdict::Sound,
+    }
+}
+
 /// The verdict where the shortest mate is as long as was asked for.
 fn keys_verdict(claimed: &[Move], keys: &[Move]) -> Verdict
     ensures { result ≡ verdict_by_keys claimed.now keys.now }
@@ -82,7 +95,7 @@ fn keys_verdict(claimed: &[Move], keys: &[Move]) -> Verdict
     } else if is_cooked(claimed, keys) {
         Verdict::Cooked
     } else {
-        Verdict::Sound
+        verdict_of_claimed(claimed)
     }
 }
 

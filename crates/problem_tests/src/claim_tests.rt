@@ -19,7 +19,7 @@ fn tells_the_first_verdict_that_applies(rt: HostRuntime) -> Result<(), Fail> {
         ),
         (" bm Kf7# Kg6+; dm 2;", "sound\t#2\t#2\tKf7 Kg6\tKf7 Kg6\t-"),
         (" bm #2 Kf7 #1 Kg6;", "sound\t#2\t#2\tKf7 Kg6\tKf7 Kg6\t-"),
-        (" am Kf7; bm #2;", "sound\t#2\t#2\tKg6\t-\t-"),
+        (" am Kf7; bm #2;", "unclaimed\t#2\t#2\tKg6\t-\t-"),
         (" bm Kg6; dm 2;", "cooked\t#2\t#2\tKf7 Kg6\tKg6\t-"),
         (" bm #02;", "cooked\t#2\t#2\tKf7 Kg6\t-\t-"),
         (" bm #5; dm 2;", "cooked\t#2\t#2\tKf7 Kg6\t-\t-"),
@@ -75,6 +75,10 @@ fn counts_each_verdict(rt: HostRuntime) -> Result<(), Fail> {
     let verdicts = [
         Some(Verdict::Sound),
         Some(Verdict::Sound),
+        Some(Verdict::Unclaimed),
+        Some(Verdict::Unclaimed),
+        Some(Verdict::Unclaimed),
+        Some(Verdict::Unclaimed),
         Some(Verdict::Cooked),
         Some(Verdict::Wrong),
         Some(Verdict::Short),
@@ -89,7 +93,7 @@ fn counts_each_verdict(rt: HostRuntime) -> Result<(), Fail> {
     let text = counts.text(rt.alloc())?;
     assert_eq!(rt;
         text.as_str(),
-        "sound 2, cooked 1, wrong 1, short 1, unsolvable 1, refused 3"
+        "sound 2, unclaimed 4, cooked 1, wrong 1, short 1, unsolvable 1, refused 3"
     );
     Ok(())
 }
@@ -97,7 +101,7 @@ fn counts_each_verdict(rt: HostRuntime) -> Result<(), Fail> {
 #[test]
 fn counts_the_lines_of_an_input(rt: HostRuntime) -> Result<(), Fail> {
     let alloc = rt.alloc();
-    let record = "6k1/5ppp/8/8/8/8/8/R3K3 w Q - bm #1;";
+    let record = "6k1/5ppp/8/8/8/8/8/R3K3 w Q - bm Ra8; dm 1;";
     let mut input = Vec::from_slice(alloc, record.as_bytes())?;
     input.extend_from_slice(b"\r\n  \n")?;
     input.extend_from_slice(record.as_bytes())?;
@@ -122,13 +126,13 @@ fn counts_the_lines_of_an_input(rt: HostRuntime) -> Result<(), Fail> {
     };
     memory.count_unread(before, refused);
     let expected =
-        b"f:1\tsound\t#1\t#1\tRa8#\t-\t-\nf:3\tTooLong\t-\t-\t-\t-\t-\nf:4\tFen FieldCount\t-\t-\t-\t-\t-\n";
+        b"f:1\tsound\t#1\t#1\tRa8#\tRa8#\t-\nf:3\tTooLong\t-\t-\t-\t-\t-\nf:4\tFen FieldCount\t-\t-\t-\t-\t-\n";
     assert_eq!(rt; text.as_slice(), expected.as_slice());
     assert_eq!(rt; refused, 2);
     let counts = memory.counts.text(alloc)?;
     assert_eq!(rt;
         counts.as_str(),
-        "sound 1, cooked 0, wrong 0, short 0, unsolvable 0, refused 2"
+        "sound 1, unclaimed 0, cooked 0, wrong 0, short 0, unsolvable 0, refused 2"
     );
     Ok(())
 }
