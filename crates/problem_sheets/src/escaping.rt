@@ -4,24 +4,24 @@ ghost use Rattle.std.specs.Prelude.{◌≡◌, ◌++◌, IfOk};
 ghost use Rattle.problem_sheets.specs.Escaping.{escaped, escaped_byte};
 
 use std::alloc::AllocError;
-use std::slice::from_ref;
 
-/// What stands for a byte.
-fn escaped_byte(byte: &u8) -> &[u8]
-    ensures { result.now ≡ escaped_byte byte.now }
+/// Adds what stands for a byte.
+fn push_escaped_byte(text: &mut Vec<u8>, byte: u8) -> Result<(), AllocError>
+    ensures { IfOk result (λ _. text.new.items ≡ text.old.items ++ escaped_byte byte) }
 {
-    if *byte == b'&' {
-        b"&amp;"
-    } else if *byte == b'<' {
-        b"&lt;"
-    } else if *byte == b'>' {
-        b"&gt;"
-    } else if *byte == b'"' {
-        b"&quot;"
-    } else if *byte == b'\'' {
-        b"&#39;"
+    if byte == b'&' {
+        text.extend_from_slice(b"&amp;")
+    } else if byte == b'<' {
+        text.extend_from_slice(b"&lt;")
+    } else if byte == b'>' {
+        text.extend_from_slice(b"&gt;")
+    } else if byte == b'"' {
+        text.extend_from_slice(b"&quot;")
+    } else if byte == b'\'' {
+        text.extend_from_slice(b"&#39;")
     } else {
-        from_ref(byte)
+        text.push(byte)?;
+        Ok(())
     }
 }
 
@@ -30,7 +30,7 @@ pub(crate) fn push_escaped(text: &mut Vec<u8>, bytes: &[u8]) -> Result<(), Alloc
     ensures { IfOk result (λ _. text.new.items ≡ text.old.items ++ escaped bytes.now) }
 {
     for byte in bytes {
-        text.extend_from_slice(escaped_byte(byte))?;
+        push_escaped_byte(text, *byte)?;
     }
     Ok(())
 }
