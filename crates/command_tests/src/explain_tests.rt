@@ -102,7 +102,7 @@ fn all_faults_are_listed(rt: HostRuntime) -> Result<(), Fail> {
             .iter()
             .filter(|byte| **byte == b'\n')
             .count(),
-        48
+        49
     );
     Ok(())
 }
