@@ -16,6 +16,7 @@ pub mod for_mate_jobs;
 pub mod for_mate_search;
 pub mod for_mate_tree;
 pub mod for_parallel_search;
+pub mod for_plain_commands;
 pub mod for_position_lines;
 pub mod for_problem_import;
 pub mod for_problem_sheets;

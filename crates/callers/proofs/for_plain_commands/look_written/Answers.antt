@@ -1,7 +1,7 @@
 use Rattle.std.proofs.Common.{◌∙◌, ap, map}
 use Rattle.std.specs.String.{string_bytes}
-use Rattle.command_tests.proofs.Worked.{look_written}
-use Rattle.command_tests.proofs.worked_tests.look_written.Goals as goal
+use Rattle.callers.proofs.Worked.{look_written}
+use Rattle.callers.proofs.for_plain_commands.look_written.Goals as goal
 
 pub returns-in-Some-eq0 : goal.returns-in-Some-eq0
 returns-in-Some-eq0 c =

@@ -1,6 +1,6 @@
 use Rattle.std.proofs.Common.{[], refl}
-use Rattle.command_tests.proofs.Worked.{serve_written}
-use Rattle.command_tests.proofs.worked_tests.serve_written.Goals as goal
+use Rattle.callers.proofs.Worked.{serve_written}
+use Rattle.callers.proofs.for_plain_commands.serve_written.Goals as goal
 
 pub returns : goal.returns
 returns g c = λ out one two ends.

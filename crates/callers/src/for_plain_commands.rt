@@ -1,4 +1,4 @@
-//! How commands end, at work: where the output and the files are known, that names every byte that is written.
+//! Callers of `plain_commands`: how commands end, at work. Where the output and the files are known, that names every byte that is written.
 
 ghost use Rattle.std.specs.Prelude.{◌≡◌, IfOk, IfSome, List, Some, ℕ, ◌∷◌, [], codes, map};
 ghost use Rattle.std.specs.String.{string_bytes};
@@ -10,7 +10,6 @@ use chess_notation::records_clear;
 use file_answers::{Source, SourceFault, whole};
 use plain_commands::plain_command;
 use std::alloc::{AllocError, Global};
-use std::test::Fail;
 
 /// Two files, `one` and `two`, and under every other name what `two` holds. None is refused, and none breaks off.
 struct TwoFiles;
@@ -61,8 +60,8 @@ fn solve_words(alloc: Global) -> Result<[String; 4], AllocError>
     ])
 }
 
-/// What `look` writes, where it answers.
-fn look_written(alloc: Global) -> Option<Vec<u8>>
+/// What `look` writes of two kings, where it answers.
+pub fn look_written(alloc: Global) -> Option<Vec<u8>>
     ensures { IfSome result (λ out. out.items ≡ codes "k7/8/8/8/8/8/8/7K w - - 0 1\nno check\n") }
 {
     spells_one();
@@ -77,8 +76,8 @@ fn look_written(alloc: Global) -> Option<Vec<u8>>
     }
 }
 
-/// What `solve` writes, where it answers.
-fn solve_written(alloc: Global) -> Option<Vec<u8>>
+/// What `solve` writes of two files with a line of two fields each, where it answers.
+pub fn solve_written(alloc: Global) -> Option<Vec<u8>>
     ensures { IfSome result (λ out. out.items ≡ codes "# line 1: Fen FieldCount\n# line 2: Fen FieldCount\n") }
 {
     records_clear();
@@ -94,27 +93,11 @@ fn solve_written(alloc: Global) -> Option<Vec<u8>>
 }
 
 /// What `serve` has written of such files by two workers, where it ends with 1. It does nothing: its contract is the law.
-fn serve_written<S: Source>(source: &S)
+pub fn serve_written<S: Source>(source: &S)
     ensures { (out : List ℕ) → S.holds source.now (codes "one") ≡ Some (codes "8/8\n") → S.holds source.now (codes "two") ≡ Some (codes " \n8/8")
         → Ends (S.holds source.now) (S.refuses source.now)
         (asked (codes "matedesk" ∷ codes "serve" ∷ codes "--workers" ∷ codes "2" ∷ codes "one" ∷ codes "two" ∷ [])) 1 (Some []) (Some out)
         → out ≡ codes "# line 1: Fen FieldCount\n# line 2: Fen FieldCount\n" }
 {
     records_clear();
-}
-
-#[test]
-fn what_is_written_is_what_the_contract_names(rt: HostRuntime) -> Result<(), Fail> {
-    let out = look_written(rt.alloc()).ok_or("look")?;
-    assert_eq!(rt;
-        out.as_slice(),
-        b"k7/8/8/8/8/8/8/7K w - - 0 1\nno check\n".as_slice()
-    );
-    let out = solve_written(rt.alloc()).ok_or("solve")?;
-    assert_eq!(rt;
-        out.as_slice(),
-        b"# line 1: Fen FieldCount\n# line 2: Fen FieldCount\n".as_slice()
-    );
-    serve_written(&TwoFiles);
-    Ok(())
 }

@@ -1,7 +1,7 @@
 use Rattle.std.proofs.Common.{◌∙◌, ap, map, refl}
 use Rattle.std.specs.String.{string_bytes}
-use Rattle.command_tests.proofs.Worked.{solve_written}
-use Rattle.command_tests.proofs.worked_tests.solve_written.Goals as goal
+use Rattle.callers.proofs.Worked.{solve_written}
+use Rattle.callers.proofs.for_plain_commands.solve_written.Goals as goal
 
 pub returns-in-Some-eq1 : goal.returns-in-Some-eq1
 returns-in-Some-eq1 c =
