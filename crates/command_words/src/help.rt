@@ -108,7 +108,8 @@ line is waited for; a blank line is passed over:
 
   LINE     its number in its file; with several files, NAME:LINE
   VERDICT  what it is: see below
-  ASKED    `#N`, the number of moves that was asked
+  ASKED    `#N`, the number of moves that was asked; `#N?` where the line says none, so
+           that it is B
   FOUND    `#N`, the number that the shortest mate takes, or `-`
   KEYS     each first move that mates soonest, as `solve` lists them, or `-`
   CLAIMED  the moves that `bm` names, or `-`
@@ -116,8 +117,8 @@ line is waited for; a blank line is passed over:
 
 The verdict is the first of these that applies:
   CODE        the line is no record, or `bm` is at fault: it has a number that is not 1 to
-              15 (BadBound, BoundTooLarge), or names no legal move (NoSuchMove). The other
-              fields are `-`
+              15 (BadBound, BoundTooLarge), names no legal move (NoSuchMove), or says
+              another number than `dm` (TwoLengths). The other fields are `-`
   unsolvable  there is no mate within the number asked
   short       there is one in fewer moves; that a claimed move would mate in the number
               asked is not told

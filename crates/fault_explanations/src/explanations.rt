@@ -269,12 +269,23 @@ of `#0` in `bm`, too.",
 ];
 
 /// What `verify` says of a record's claims.
-static VERDICTS: [Explanation; 6] = [
+static VERDICTS: [Explanation; 7] = [
+    Explanation {
+        code: "TwoLengths",
+        comes: "the first `#N` in `bm` isn't the number of `dm`",
+        means: "The record says two numbers of moves, so nothing is held against either: take out the wrong
+one.",
+        example: Some(Example {
+            faulty: "7k/8/5K2/8/8/8/8/R7 w - - bm #3 Kf7 Kg6; dm 2;",
+            mended: "7k/8/5K2/8/8/8/8/R7 w - - bm #2 Kf7 Kg6; dm 2;",
+        }),
+    },
     Explanation {
         code: "unsolvable",
         comes: "there is no mate within the number of moves",
-        means: "The number is that of `dm`, else of the first `#N` in `bm`, else of `--bound`. It may be too
-small, or a man stands on a wrong square.",
+        means: "The number is that of `dm`, else of the first `#N` in `bm`, else of `--bound`: then it stands
+in the third field of the row as `#N?`, and no author said it. It may be too small, or a man
+stands on a wrong square.",
         example: Some(Example {
             faulty: "7k/8/5K2/8/8/8/8/R7 w - - bm Kf7 Kg6; dm 1;",
             mended: "7k/8/5K2/8/8/8/8/R7 w - - bm Kf7 Kg6; dm 2;",
@@ -283,7 +294,8 @@ small, or a man stands on a wrong square.",
     Explanation {
         code: "short",
         comes: "there is a mate in fewer moves",
-        means: "The fourth field of the row has the length of the shortest mate, and the fifth its keys.",
+        means: "The fourth field of the row has the length of the shortest mate, and the fifth its keys.
+Where the third has a question mark, as `#3?`, the line says no number of moves.",
         example: Some(Example {
             faulty: "7k/8/5K2/8/8/8/8/R7 w - - bm #3 Kf7 Kg6;",
             mended: "7k/8/5K2/8/8/8/8/R7 w - - bm #2 Kf7 Kg6;",

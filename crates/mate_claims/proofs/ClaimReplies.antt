@@ -1,22 +1,26 @@
 -- What is told of a line: by a fault of its record, by one of its claims, or by the verdict.
-use Rattle.std.proofs.Common.{◌≡◌, ◌≢◌, ◌⊎◌, ◌<◌, ◌++◌, ℕ, List, [], Option, Some, None, Result, Ok, Err}
+use Rattle.std.proofs.lemmas.Bool.Decides.{nat_tests}
+use Rattle.std.proofs.Common.{◌≡◌, ◌≢◌, ◌⊎◌, ◌<◌, ◌==◌, ◌++◌, ℕ, true, List, [], Option, Some, None, Result, Ok, Err}
 use Rattle.std.proofs.Common.{IfOk, inl, inr, refl, ap, sym, ◌∙◌, subst, arith, length, decimal, false}
 use Rattle.chess_board.specs.Positions.{Setup}
 use Rattle.chess_board.specs.Moves.{Move}
 use Rattle.chess_problems.specs.declared.outcomes.Outcome.{Outcome}
 use Rattle.chess_notation.specs.declared.epd_faults.EpdFault.{EpdFault}
 use Rattle.chess_notation.specs.declared.epd_faults.EpdFault.TheVariants as fault
-use Rattle.chess_notation.specs.Words.{is_blank}
+use Rattle.chess_notation.specs.Words.{is_blank, words_in}
 use Rattle.chess_notation.specs.declared.claims.ClaimFault.{ClaimFault}
 use Rattle.chess_notation.specs.AvoidMoves.{named}
-use Rattle.chess_notation.specs.Claims.{claim_words, claims_fault, claim_fault_name}
+use Rattle.chess_notation.specs.Claims.{claim_words, claims_fault, claim_fault_name, length_claimed}
 use Rattle.chess_notation.specs.Records.{RecordValue, problem_of, Reads, max_line}
 use Rattle.chess_notation.specs.EpdFaults.{IsAmissBy, IsFaultOf, epd_fault_name, fault_number}
 use Rattle.mate_search.specs.inside.Truth.{truth}
+use Rattle.mate_claims.specs.declared.bound_sources.BoundSource.{BoundSource}
 use Rattle.mate_claims.specs.declared.verdicts.Verdict.{Verdict}
 use Rattle.mate_claims.specs.Verdicts.{verdict_of}
 use Rattle.mate_claims.specs.Rows.{record_row, refused_row}
-use Rattle.mate_claims.specs.ClaimReplies.{IsClaimReply, IsTold, ReadsClaimed, claimed_in, refusals_of, no_record, no_claims, judged, told}
+use Rattle.mate_claims.specs.BoundSources.{IsSource, ReadsClaimed}
+use Rattle.mate_claims.specs.inside.ToldRecords.{IsToldOf}
+use Rattle.mate_claims.specs.ClaimReplies.{IsClaimReply, IsTold, claims_refusal, refusal_of, claimed_in, refusals_of, no_record, no_claims, judged, told}
 
 -- A line with this fault, which is not want of memory, says no record.
 pub fault_told : {X E : Type 0} (place : List ℕ) (default bound : ℕ) (line : List ℕ) (kind : EpdFault) (row : X → List ℕ)
@@ -28,31 +32,54 @@ fault_told place default bound line kind row verdict (Ok x) (inl first) other is
 fault_told place default bound line kind row verdict (Ok x) (inr memory) other is none = absurd (other memory.0)
 fault_told place default bound line kind row verdict (Err e) why other is none = tt
 
-pub claims_told : (place : List ℕ) (default : ℕ) (line : List ℕ) (r : RecordValue) (p : Setup) (words : List (List ℕ))
-    (kind : ClaimFault) (row : List ℕ) → p ≡ r.position
-    → ReadsClaimed line default r → words ≡ claim_words line → claims_fault p words ≡ Some kind
-    → row ≡ refused_row place (claim_fault_name kind) → IsTold place default line row None
-claims_told place default line r p words kind row at reads same refused is =
-    let here : claims_fault p words ≡ claims_fault r.position (claim_words line) =
-    ap (λ q. claims_fault q words) at ∙ ap (claims_fault r.position) same in
-    rw is (no_claims r kind reads (sym here ∙ refused))
+pub refusal_told : (place : List ℕ) (default : ℕ) (line : List ℕ) (r : RecordValue) (p : Setup) (bound : ℕ) (words : List (List ℕ))
+    (name row : List ℕ) → p ≡ r.position → bound ≡ r.bound → ReadsClaimed line default r → words ≡ claim_words line
+    → claims_refusal p bound words ≡ Some name → row ≡ refused_row place name → IsTold place default line row None
+refusal_told place default line r p bound words name row at asked reads same refused is =
+    let here : claims_refusal p bound words ≡ claims_refusal r.position r.bound (claim_words line) =
+    ap (λ q. claims_refusal q bound words) at ∙ ap (λ b. claims_refusal r.position b words) asked ∙ ap (claims_refusal r.position r.bound) same in
+    rw is (no_claims r name reads (sym here ∙ refused))
 
-pub verdict_told : (place : List ℕ) (default : ℕ) (line : List ℕ) (r : RecordValue) (p : Setup) (bound : ℕ)
+pub fault_refused : (p : Setup) (bound : ℕ) (words : List (List ℕ)) (kind : ClaimFault) → claims_fault p words ≡ Some kind
+    → claims_refusal p bound words ≡ Some (claim_fault_name kind)
+fault_refused p bound words kind is = ap (λ f. refusal_of f bound (length_claimed words bound)) is
+
+same_number : (n : ℕ) → (n == n) ≡ true
+same_number n = grind (arith, nat_tests)
+
+-- The lengths agree, and there is no fault.
+pub none_refused : (p : Setup) (bound : ℕ) (words : List (List ℕ)) → claims_fault p words ≡ None → length_claimed words bound ≡ bound
+    → claims_refusal p bound words ≡ None
+none_refused p bound words clear agreed =
+    ap (λ f. refusal_of f bound (length_claimed words bound)) clear ∙ ap (λ n. refusal_of None bound n) agreed ∙ same_refused bound where
+      same_refused : (n : ℕ) → refusal_of None n n ≡ None
+      same_refused n = rw (same_number n) refl
+
+pub verdict_told : (place : List ℕ) (default : ℕ) (line : List ℕ) (r : RecordValue) (source : BoundSource) (p : Setup) (bound : ℕ)
     (words : List (List ℕ)) (claimed : List Move) (outcome : Outcome) (row : List ℕ)
-    (verdict : Verdict) → p ≡ r.position → bound ≡ r.bound → ReadsClaimed line default r → words ≡ claim_words line
-    → claims_fault p words ≡ None → claimed ≡ named p words
-    → outcome ≡ truth (problem_of r) → row ≡ record_row place r claimed outcome → verdict ≡ verdict_of bound claimed outcome
+    (verdict : Verdict) → p ≡ r.position → bound ≡ r.bound → ReadsClaimed line default r → IsSource line r source → words ≡ claim_words line
+    → claims_refusal p bound words ≡ None → claimed ≡ named p words
+    → outcome ≡ truth (problem_of r) → row ≡ record_row place r source claimed outcome → verdict ≡ verdict_of bound claimed outcome
     → IsTold place default line row (Some verdict)
-verdict_told place default line r p bound words claimed outcome row verdict at asked reads same clear moves true_of is judged_is =
-    let same_fault : claims_fault p words ≡ claims_fault r.position (claim_words line) =
-    ap (λ q. claims_fault q words) at ∙ ap (claims_fault r.position) same in
+verdict_told place default line r source p bound words claimed outcome row verdict at asked reads from same clear moves true_of is judged_is =
+    let same_refusal : claims_refusal p bound words ≡ claims_refusal r.position r.bound (claim_words line) =
+    ap (λ q. claims_refusal q bound words) at ∙ ap (λ b. claims_refusal r.position b words) asked ∙ ap (claims_refusal r.position r.bound) same in
     let here : claimed ≡ claimed_in line r = moves ∙ ap (λ q. named q words) at ∙ ap (named r.position) same in
-    let row_is : row ≡ record_row place r (claimed_in line r) (truth (problem_of r)) =
-    is ∙ ap (λ ms. record_row place r ms outcome) here ∙ ap (record_row place r (claimed_in line r)) true_of in
+    let row_is : row ≡ record_row place r source (claimed_in line r) (truth (problem_of r)) =
+    is ∙ ap (λ ms. record_row place r source ms outcome) here ∙ ap (record_row place r source (claimed_in line r)) true_of in
     let verdict_is : verdict ≡ verdict_of r.bound (claimed_in line r) (truth (problem_of r)) =
     judged_is ∙ ap (λ b. verdict_of b claimed outcome) asked ∙ ap (λ ms. verdict_of r.bound ms outcome) here
     ∙ ap (verdict_of r.bound (claimed_in line r)) true_of in
-    rw (row_is, verdict_is) (judged r reads (sym same_fault ∙ clear))
+    rw (row_is, verdict_is) (judged r source reads from (sym same_refusal ∙ clear))
+
+-- What is told of a record of whose claims nothing can be said.
+pub refused_told_of : {X E : Type 0} (place : List ℕ) (value : RecordValue) (source : BoundSource) (words : List ℕ) (p : Setup) (bound : ℕ)
+    (name : List ℕ) (row : X → List ℕ) (verdict : X → Option Verdict) (r : Result X E) → p ≡ value.position → bound ≡ value.bound
+    → claims_refusal p bound (words_in words) ≡ Some name → IfOk r (λ x. row x ≡ refused_row place name) → IfOk r (λ x. verdict x ≡ None)
+    → IfOk r (λ x. IsToldOf place value source words (row x) (verdict x))
+refused_told_of place value source words p bound name row verdict (Ok x) at asked refused is none = λ line default reads from same.
+    rw none (refusal_told place default line value p bound (words_in words) name (row x) at asked reads same refused is)
+refused_told_of place value source words p bound name row verdict (Err e) at asked refused is none = tt
 
 -- What is told of a line is its reply.
 pub told_reply : (prefix place : List ℕ) (default number : ℕ) (line row : List ℕ) (verdict : Option Verdict) (refusals : ℕ)

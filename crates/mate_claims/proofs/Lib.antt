@@ -1,3 +1,4 @@
+pub mod BoundSources
 pub mod ClaimReplies
 pub mod ListedKeys
 pub mod MovesTested

@@ -1,4 +1,5 @@
 pub mod Verdicts
+pub mod BoundSources
 pub mod Rows
 pub mod Counts
 pub mod ClaimReplies

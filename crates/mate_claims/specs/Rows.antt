@@ -9,6 +9,8 @@ use Rattle.chess_notation.specs.SanText.{san_text}
 use Rattle.chess_notation.specs.Opcodes.{operands_under}
 use Rattle.chess_notation.specs.Answers.{in_order, operand_words}
 use Rattle.chess_notation.specs.Records.{RecordValue}
+use Rattle.mate_claims.specs.declared.bound_sources.BoundSource.{BoundSource}
+use Rattle.mate_claims.specs.declared.bound_sources.BoundSource.TheVariants.{Line, Default}
 use Rattle.mate_claims.specs.Verdicts.{verdict_of, verdict_name}
 
 -- a hyphen in place of nothing
@@ -27,6 +29,11 @@ moves_field p moves = field (drop 1 (operand_words (in_order (map (san_text p) m
 abbrev pub length_field : ℕ → List ℕ
 length_field n = field (char "#" ∷ decimal n)
 
+-- the number of moves asked for, with a question mark where the line says none
+abbrev pub asked_field : BoundSource → ℕ → List ℕ
+asked_field Line n = length_field n
+asked_field Default n = length_field n ++ char "?" ∷ []
+
 abbrev pub found_field : Outcome → List ℕ
 found_field (Mate n keys pv) = length_field n
 found_field NoMate = field []
@@ -40,9 +47,9 @@ abbrev pub unquoted : List ℕ → List ℕ
 unquoted operands = filter (λ b. not (b == char "\"")) (drop 1 operands)
 
 -- the row of a record: its line's place, the verdict, the lengths asked for and found, the keys, the moves claimed, the operands of `id`
-unfoldable pub record_row : List ℕ → RecordValue → List Move → Outcome → List ℕ
-record_row place r claimed outcome =
-    place ++ field (verdict_name (verdict_of r.bound claimed outcome)) ++ length_field r.bound ++ found_field outcome ++ keys_field r.position outcome
+unfoldable pub record_row : List ℕ → RecordValue → BoundSource → List Move → Outcome → List ℕ
+record_row place r source claimed outcome =
+    place ++ field (verdict_name (verdict_of r.bound claimed outcome)) ++ asked_field source r.bound ++ found_field outcome ++ keys_field r.position outcome
     ++ moves_field r.position claimed ++ field (unquoted (operands_under (codes "id") r.rest)) ++ char "\n" ∷ []
 
 -- the row of a line that is refused: its place and the fault's name

@@ -1,24 +1,25 @@
 //! What is told of a line that is held against its own claims.
 
-ghost use Rattle.std.specs.Prelude.{◌≡◌, ◌≢◌, ◌≤◌, IfOk, None};
+ghost use Rattle.std.specs.Prelude.{◌≡◌, ◌≢◌, ◌≤◌, ◌==◌, not, IfNone, IfOk, IfSome, MatchOption, None, Some};
 ghost use Rattle.chess_notation.specs.Words.{words_in};
-ghost use Rattle.chess_notation.specs.Claims.{claims_fault};
+ghost use Rattle.chess_notation.specs.Claims.{length_claimed};
 ghost use Rattle.chess_notation.specs.EpdFaults.{epd_fault_name};
 ghost use Rattle.chess_notation.specs.Records.{problem_of};
 ghost use Rattle.chess_problems.specs.Outcomes.{IsPlayable};
 ghost use Rattle.mate_search.specs.inside.Truth.{truth};
-ghost use Rattle.mate_claims.specs.ClaimReplies.{IsTold};
+ghost use Rattle.mate_claims.specs.ClaimReplies.{IsTold, claims_refusal};
 ghost use Rattle.mate_claims.specs.Rows.{refused_row as refused_row_of};
 ghost use Rattle.mate_claims.specs.inside.RowTexts.{keys_found as keys_found_in, listed};
 ghost use Rattle.mate_claims.specs.inside.ToldRecords.{IsToldOf};
 
+use crate::bound_sources::{BoundSource, bound_source};
 use crate::rows::{Found, keys_found, keys_text, refused_row, row_of_texts, row_with_keys};
 use crate::verdicts::{Verdict, judge};
 use byte_streams::NoMemory;
 use chess_board::Position;
 use chess_moves::{Rays, legal_listed};
 use chess_notation::{
-    ClaimFault, EpdFault, Record, bound_claimed, claimed_moves, claims_text, names_one, read_record,
+    EpdFault, Record, bound_claimed, claimed_moves, claims_text, names_one, read_record,
 };
 use chess_problems::{Bound, Outcome};
 use mate_search::{Memo, solve};
@@ -46,24 +47,37 @@ fn told_of_fault(alloc: Global, place: &[u8], fault: EpdFault) -> Result<Told, N
     })
 }
 
+/// What is told of a record of whose claims nothing can be said, for a reason of this name.
+fn told_of_refusal(alloc: Global, place: &[u8], name: &str) -> Result<Told, NoMemory>
+    ensures row { IfOk result (λ told. told.row.items ≡ refused_row_of place.now name.now) }
+    ensures verdict { IfOk result (λ told. told.verdict ≡ None) }
+{
+    Ok(Told {
+        row: refused_row(alloc, place, name)?,
+        verdict: None,
+    })
+}
+
 /// What is told of a record by which exactly the keys that were found are claimed, as they are listed.
 fn told_of_keys(
     alloc: Global,
     place: &[u8],
     record: &Record,
+    source: BoundSource,
     found: &Found<'_>,
 ) -> Result<Told, NoMemory>
     requires truth { found.now.outcome.now ≡ truth (problem_of «record».now) }
     requires playable { IsPlayable «record».now.position found.now.outcome.now }
     requires keys { found.now.keys.now ≡ listed «record».now.position (keys_found_in found.now.outcome.now) }
-    ensures told { IfOk result (λ told. IsToldOf place.now «record».now found.now.keys.now told.row.items told.verdict) }
+    requires agreed { length_claimed (words_in found.now.keys.now) «record».now.bound ≡ «record».now.bound }
+    ensures told { IfOk result (λ told. IsToldOf place.now «record».now source found.now.keys.now told.row.items told.verdict) }
 {
     // That these words name the keys rests on these laws.
     legal_listed();
     names_one();
     let verdict = judge(record.bound, keys_found(found.outcome), found.outcome);
     Ok(Told {
-        row: row_of_texts(alloc, place, record, verdict, found, found.keys)?,
+        row: row_of_texts(alloc, place, record, source, verdict, found, found.keys)?,
         verdict: Some(verdict),
     })
 }
@@ -74,34 +88,96 @@ fn told_of_words(
     rays: &Rays,
     place: &[u8],
     record: &Record,
+    source: BoundSource,
     words: &[u8],
     found: &Found<'_>,
 ) -> Result<Told, NoMemory>
     requires truth { found.now.outcome.now ≡ truth (problem_of «record».now) }
     requires keys { found.now.keys.now ≡ listed «record».now.position (keys_found_in found.now.outcome.now) }
-    ensures told { IfOk result (λ told. IsToldOf place.now «record».now words.now told.row.items told.verdict) }
+    requires agreed { length_claimed (words_in words.now) «record».now.bound ≡ «record».now.bound }
+    ensures told { IfOk result (λ told. IsToldOf place.now «record».now source words.now told.row.items told.verdict) }
 {
     match claimed_moves(rays, &record.position, words) {
         Ok(claimed) => Ok(Told {
-            row: row_with_keys(alloc, rays, place, record, claimed.as_slice(), found)?,
+            row: row_with_keys(
+                alloc,
+                rays,
+                place,
+                record,
+                source,
+                claimed.as_slice(),
+                found,
+            )?,
             verdict: Some(judge(record.bound, claimed.as_slice(), found.outcome)),
         }),
-        Err(fault) => Ok(Told {
-            row: refused_row(alloc, place, fault.code())?,
-            verdict: None,
-        }),
+        Err(fault) => told_of_refusal(alloc, place, fault.code()),
     }
 }
 
-/// The first fault of what these words claim. It stands by itself, so that the moves that are claimed take no room where a problem is
+/// Whether the first length that these words claim isn't the one asked for.
+fn claim_another_length(words: &[u8], asked: Bound) -> bool
+    ensures { result ≡ not (length_claimed (words_in words.now) asked == asked) }
+{
+    bound_claimed(words, asked).get() != asked.get()
+}
+
+/// Why nothing can be said of what these words claim. It stands by itself, so that the moves that are claimed take no room where a problem is
 /// solved.
 #[inline(never)]
-fn fault_of_claims(rays: &Rays, position: &Position, words: &[u8]) -> Option<ClaimFault>
-    ensures { result ≡ claims_fault position.now (words_in words.now) }
+fn refusal(rays: &Rays, position: &Position, asked: Bound, words: &[u8]) -> Option<&'static str>
+    ensures { MatchOption result (claims_refusal position.now asked (words_in words.now) ≡ None)
+        (λ name. claims_refusal position.now asked (words_in words.now) ≡ Some name.now) }
 {
     match claimed_moves(rays, position, words) {
+        Err(fault) => Some(fault.code()),
+        Ok(_) if claim_another_length(words, asked) => Some("TwoLengths"),
         Ok(_) => None,
-        Err(fault) => Some(fault),
+    }
+}
+
+/// The same where it is to be told before a search: where that may be long, or the lengths differ.
+fn early_refusal(
+    rays: &Rays,
+    position: &Position,
+    asked: Bound,
+    words: &[u8],
+) -> Option<&'static str>
+    ensures refused { IfSome result (λ name. claims_refusal position.now asked (words_in words.now) ≡ Some name.now) }
+    ensures agreed { IfNone result (length_claimed (words_in words.now) asked ≡ asked) }
+{
+    if 2 < asked.get() || claim_another_length(words, asked) {
+        refusal(rays, position, asked, words)
+    } else {
+        None
+    }
+}
+
+/// What is told of a record by which these words claim what they do, once it is solved.
+fn told_once_solved(
+    alloc: Global,
+    rays: &Rays,
+    place: &[u8],
+    record: &Record,
+    source: BoundSource,
+    words: &[u8],
+    memo: &mut Memo,
+) -> Result<Told, NoMemory>
+    requires agreed { length_claimed (words_in words.now) «record».now.bound ≡ «record».now.bound }
+    ensures told { IfOk result (λ told. IsToldOf place.now «record».now source words.now told.row.items told.verdict) }
+    ensures room { memo.new.room ≡ memo.old.room }
+    ensures within { memo.new.kept ≤ memo.new.room }
+{
+    let outcome = solve(rays, &record.problem(), memo);
+    let keys = keys_text(alloc, rays, &record.position, &outcome)?;
+    let found = Found {
+        outcome: &outcome,
+        keys: keys.as_bytes(),
+    };
+    // Most records claim their keys as they are listed. The others are read word by word.
+    if words == found.keys {
+        told_of_keys(alloc, place, record, source, &found)
+    } else {
+        told_of_words(alloc, rays, place, record, source, words, &found)
     }
 }
 
@@ -111,35 +187,19 @@ fn told_of_record(
     rays: &Rays,
     place: &[u8],
     record: &Record,
+    source: BoundSource,
     words: &[u8],
     memo: &mut Memo,
 ) -> Result<Told, NoMemory>
-    ensures told { IfOk result (λ told. IsToldOf place.now «record».now words.now told.row.items told.verdict) }
+    ensures told { IfOk result (λ told. IsToldOf place.now «record».now source words.now told.row.items told.verdict) }
     ensures room { memo.new.room ≡ memo.old.room }
     ensures within { memo.new.kept ≤ memo.new.room }
 {
     // That a memo keeps no more than it has room for is this call's clause.
     memo.len();
-    // A fault is told before a search that may be long.
-    if 2 < record.bound.get() {
-        if let Some(fault) = fault_of_claims(rays, &record.position, words) {
-            return Ok(Told {
-                row: refused_row(alloc, place, fault.code())?,
-                verdict: None,
-            });
-        }
-    }
-    let outcome = solve(rays, &record.problem(), memo);
-    let keys = keys_text(alloc, rays, &record.position, &outcome)?;
-    let found = Found {
-        outcome: &outcome,
-        keys: keys.as_bytes(),
-    };
-    // Most records claim their keys as they are listed. The others are read word by word.
-    if words == found.keys {
-        told_of_keys(alloc, place, record, &found)
-    } else {
-        told_of_words(alloc, rays, place, record, words, &found)
+    match early_refusal(rays, &record.position, record.bound, words) {
+        Some(name) => told_of_refusal(alloc, place, name),
+        None => told_once_solved(alloc, rays, place, record, source, words, memo),
     }
 }
 
@@ -163,7 +223,11 @@ pub fn told_of(
     let words = claims_text(alloc, line)?;
     let bound = bound_claimed(words.as_slice(), default);
     match read_record(alloc, rays, line, bound) {
-        Ok(record) => told_of_record(alloc, rays, place, &record, words.as_slice(), memo),
+        Ok(record) => {
+            let words = words.as_slice();
+            let source = bound_source(alloc, rays, line, words, &record, default)?;
+            told_of_record(alloc, rays, place, &record, source, words, memo)
+        }
         Err(fault) => told_of_fault(alloc, place, fault),
     }
 }

@@ -1,16 +1,18 @@
 //! Records held against their own claims: whether a mate is as long as a record says, by the keys that it says.
 //!
 //! What a record says and claims is `chess_notation`'s business, solving is `mate_search`'s, and lines are `text_lines`'s. To read:
-//! `specs/Verdicts.antt` and `verdicts`, `specs/Rows.antt` and `rows`, `counts`, then `specs/ClaimReplies.antt`,
-//! `claim_replies` and `claim_rows`.
+//! `specs/Verdicts.antt` and `verdicts`, `specs/BoundSources.antt` and `bound_sources`, `specs/Rows.antt` and `rows`, `counts`, then
+//! `specs/ClaimReplies.antt`, `claim_replies` and `claim_rows`.
 #![tactic(auto)]
 
+mod bound_sources;
 mod claim_replies;
 mod claim_rows;
 mod counts;
 mod rows;
 mod verdicts;
 
+pub use bound_sources::BoundSource;
 pub use claim_replies::{Told, told_of};
 pub use claim_rows::{ClaimMemory, ClaimRows};
 pub use counts::Counts;

@@ -3,10 +3,11 @@
 ghost use Rattle.std.specs.Prelude.{◌≡◌, ◌++◌, IfOk, OnOk, codes, drop, string_bytes};
 ghost use Rattle.chess_notation.specs.Opcodes.{operands_under};
 ghost use Rattle.chess_problems.specs.Outcomes.{AreLegal, IsPlayable};
-ghost use Rattle.mate_claims.specs.Rows.{or_hyphen as text_or_hyphen, field, length_field, found_field};
+ghost use Rattle.mate_claims.specs.Rows.{or_hyphen as text_or_hyphen, field, length_field, asked_field, found_field};
 ghost use Rattle.mate_claims.specs.Rows.{unquoted, record_row as record_row_of, refused_row as refused_row_of};
 ghost use Rattle.mate_claims.specs.inside.RowTexts.{keys_found as keys_found_in, listed, row_of_texts as row_with_texts};
 
+use crate::bound_sources::BoundSource;
 use crate::verdicts::{Verdict, judge};
 use byte_streams::NoMemory;
 use chess_board::{Move, Position};
@@ -49,6 +50,23 @@ fn push_length(alloc: Global, row: &mut Vec<u8>, length: Bound) -> Result<(), Al
 {
     row.extend_from_slice(b"\t#")?;
     row.extend_from_slice(length.get().to_string(alloc)?.as_bytes())
+}
+
+/// Adds the number of moves asked for.
+fn push_asked(
+    alloc: Global,
+    row: &mut Vec<u8>,
+    asked: Bound,
+    source: BoundSource,
+) -> Result<(), AllocError>
+    ensures { OnOk result (row.new.items ≡ row.old.items ++ asked_field source asked) }
+{
+    push_length(alloc, row, asked)?;
+    match source {
+        BoundSource::Line => {}
+        BoundSource::Default => row.push(b'?')?,
+    }
+    Ok(())
 }
 
 /// Adds the length that was found.
@@ -119,16 +137,17 @@ pub(crate) fn row_of_texts(
     alloc: Global,
     place: &[u8],
     record: &Record,
+    source: BoundSource,
     verdict: Verdict,
     found: &Found<'_>,
     claimed: &[u8],
 ) -> Result<Vec<u8>, AllocError>
     ensures { IfOk result (λ row. row.items
-        ≡ row_with_texts place.now «record».now verdict found.now.outcome.now found.now.keys.now claimed.now) }
+        ≡ row_with_texts place.now «record».now source verdict found.now.outcome.now found.now.keys.now claimed.now) }
 {
     let mut row = Vec::from_slice(alloc, place)?;
     push_field(&mut row, verdict.code().as_bytes())?;
-    push_length(alloc, &mut row, record.bound)?;
+    push_asked(alloc, &mut row, record.bound, source)?;
     push_found(alloc, &mut row, found.outcome)?;
     push_field(&mut row, without_first(found.keys))?;
     push_field(&mut row, without_first(claimed))?;
@@ -143,12 +162,13 @@ pub(crate) fn row_with_keys(
     rays: &Rays,
     place: &[u8],
     record: &Record,
+    source: BoundSource,
     claimed: &[Move],
     found: &Found<'_>,
 ) -> Result<Vec<u8>, NoMemory>
     requires claimed { AreLegal «record».now.position claimed.now }
     requires keys { found.now.keys.now ≡ listed «record».now.position (keys_found_in found.now.outcome.now) }
-    ensures { IfOk result (λ row. row.items ≡ record_row_of place.now «record».now claimed.now found.now.outcome.now) }
+    ensures { IfOk result (λ row. row.items ≡ record_row_of place.now «record».now source claimed.now found.now.outcome.now) }
 {
     let verdict = judge(record.bound, claimed, found.outcome);
     let claimed_text = listed_text(alloc, rays, &record.position, claimed)?;
@@ -156,6 +176,7 @@ pub(crate) fn row_with_keys(
         alloc,
         place,
         record,
+        source,
         verdict,
         found,
         claimed_text.as_bytes(),
@@ -163,26 +184,27 @@ pub(crate) fn row_with_keys(
 }
 
 /// The row of a record by which these moves are claimed, with a newline: the place of its line, the verdict, the numbers of moves
-/// asked for and found, the keys and the moves claimed as `bm` of an answer lists them, and the operands of `id`. Only a growth that
+/// asked for, with a question mark where the line says none, and found, the keys and the moves claimed as `bm` of an answer lists them, and the operands of `id`. Only a growth that
 /// is refused is an error.
 pub fn record_row(
     alloc: Global,
     rays: &Rays,
     place: &[u8],
     record: &Record,
+    source: BoundSource,
     claimed: &[Move],
     outcome: &Outcome,
 ) -> Result<Vec<u8>, NoMemory>
     requires claimed { AreLegal «record».now.position claimed.now }
     requires found { IsPlayable «record».now.position outcome.now }
-    ensures { IfOk result (λ row. row.items ≡ record_row_of place.now «record».now claimed.now outcome.now) }
+    ensures { IfOk result (λ row. row.items ≡ record_row_of place.now «record».now source claimed.now outcome.now) }
 {
     let keys = keys_text(alloc, rays, &record.position, outcome)?;
     let found = Found {
         outcome,
         keys: keys.as_bytes(),
     };
-    row_with_keys(alloc, rays, place, record, claimed, &found)
+    row_with_keys(alloc, rays, place, record, source, claimed, &found)
 }
 
 /// The row of a line that is refused, with a newline: its place and the fault's name.

@@ -11,7 +11,7 @@ use text_lines::answer_input;
 fn tells_the_first_verdict_that_applies(rt: HostRuntime) -> Result<(), Fail> {
     let alloc = rt.alloc();
     // A rook's ending, in which Kf7 and Kg6 mate in two, and what is told behind the line's place.
-    let table: [(&str, &str); 22] = [
+    let table: [(&str, &str); 26] = [
         (" bm Kf7 Kg6; dm 2;", "sound\t#2\t#2\tKf7 Kg6\tKf7 Kg6\t-"),
         (
             " bm Kg6 Kf7 Kg6; dm 2;",
@@ -22,7 +22,6 @@ fn tells_the_first_verdict_that_applies(rt: HostRuntime) -> Result<(), Fail> {
         (" am Kf7; bm #2;", "unclaimed\t#2\t#2\tKg6\t-\t-"),
         (" bm Kg6; dm 2;", "cooked\t#2\t#2\tKf7 Kg6\tKg6\t-"),
         (" bm #02;", "cooked\t#2\t#2\tKf7 Kg6\t-\t-"),
-        (" bm #5; dm 2;", "cooked\t#2\t#2\tKf7 Kg6\t-\t-"),
         (
             " dm 2; id \"a  b\" c \"\";",
             "cooked\t#2\t#2\tKf7 Kg6\t-\ta  b c ",
@@ -34,7 +33,10 @@ fn tells_the_first_verdict_that_applies(rt: HostRuntime) -> Result<(), Fail> {
             "wrong\t#2\t#2\tKg6\tKf7 Kg6\t-",
         ),
         // too long, and also a claimed move that is no key
-        (" bm Ra8;", "short\t#3\t#2\tKf7 Kg6\tRa8+\t-"),
+        (" bm Ra8; dm 3;", "short\t#3\t#2\tKf7 Kg6\tRa8+\t-"),
+        (" bm #3;", "short\t#3\t#2\tKf7 Kg6\t-\t-"),
+        // the line says no number of moves
+        (" bm Ra8;", "short\t#3?\t#2\tKf7 Kg6\tRa8+\t-"),
         (" bm #5;", "short\t#5\t#2\tKf7 Kg6\t-\t-"),
         // too short, and also a claimed move that is no key
         (" bm Ra8; dm 1; id \"\";", "unsolvable\t#1\t-\t-\tRa8+\t-"),
@@ -44,6 +46,10 @@ fn tells_the_first_verdict_that_applies(rt: HostRuntime) -> Result<(), Fail> {
         (" bm \"Kf7\" Kf7;", "NoSuchMove\t-\t-\t-\t-\t-"),
         (" bm \"x #16 y\";", "NoSuchMove\t-\t-\t-\t-\t-"),
         (" bm # Kf7;", "NoSuchMove\t-\t-\t-\t-\t-"),
+        (" bm #5 Kf8; dm 2;", "NoSuchMove\t-\t-\t-\t-\t-"),
+        // the first length that is claimed is another
+        (" bm Ra8 #5; dm 2;", "TwoLengths\t-\t-\t-\t-\t-"),
+        (" bm #3 #2; dm 2;", "TwoLengths\t-\t-\t-\t-\t-"),
         // a fault of the record, and also one of its claims
         (" bm #0; am Kf8;", "BadAvoid\t-\t-\t-\t-\t-"),
         (" 1; bm #0;", "BadOpcode\t-\t-\t-\t-\t-"),

@@ -11,7 +11,8 @@ use Rattle.chess_notation.specs.Answers.{in_order, operand_words}
 use Rattle.chess_notation.specs.Records.{RecordValue}
 use Rattle.mate_claims.specs.declared.verdicts.Verdict.{Verdict}
 use Rattle.mate_claims.specs.Verdicts.{verdict_name}
-use Rattle.mate_claims.specs.Rows.{field, length_field, found_field, unquoted}
+use Rattle.mate_claims.specs.declared.bound_sources.BoundSource.{BoundSource}
+use Rattle.mate_claims.specs.Rows.{field, asked_field, found_field, unquoted}
 
 -- the keys that were found; there is none where there is no mate
 abbrev pub keys_found : Outcome → List Move
@@ -23,7 +24,7 @@ abbrev pub listed : Setup → List Move → List ℕ
 listed p moves = operand_words (in_order (map (san_text p) moves))
 
 -- a row in which this verdict stands, and for the keys and the moves claimed these texts, in each a move behind a space
-unfoldable pub row_of_texts : List ℕ → RecordValue → Verdict → Outcome → List ℕ → List ℕ → List ℕ
-row_of_texts place r verdict outcome keys claimed =
-    place ++ field (verdict_name verdict) ++ length_field r.bound ++ found_field outcome ++ field (drop 1 keys)
+unfoldable pub row_of_texts : List ℕ → RecordValue → BoundSource → Verdict → Outcome → List ℕ → List ℕ → List ℕ
+row_of_texts place r source verdict outcome keys claimed =
+    place ++ field (verdict_name verdict) ++ asked_field source r.bound ++ found_field outcome ++ field (drop 1 keys)
     ++ field (drop 1 claimed) ++ field (unquoted (operands_under (codes "id") r.rest)) ++ char "\n" ∷ []
