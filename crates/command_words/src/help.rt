@@ -118,7 +118,8 @@ line is waited for; a blank line is passed over:
 The verdict is the first of these that applies:
   CODE        the line is no record, or `bm` is at fault: it has a number that is not 1 to
               15 (BadBound, BoundTooLarge), names no legal move (NoSuchMove), or says
-              another number than `dm` (TwoLengths). The other fields are `-`
+              another number than `dm` (TwoLengths). Of no record the other fields are
+              `-`; else CLAIMED is what stands behind `bm`
   unsolvable  there is no mate within the number asked
   short       there is one in fewer moves; that a claimed move would mate in the number
               asked is not told

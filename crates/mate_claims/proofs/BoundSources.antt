@@ -1,5 +1,5 @@
 -- Where the bound of a record comes from, by one line read with one bound for those that say none, or with two.
-use Rattle.std.proofs.Common.{◌≡◌, ◌≢◌, ◌⊎◌, ℕ, Bool, true, false, List, [], ◌∷◌, Option, Some, None, if◌then◌else◌, inl, inr, refl, ap, sym, ◌∙◌, subst}
+use Rattle.std.proofs.Common.{◌≡◌, ◌≢◌, ◌⊎◌, ℕ, Bool, true, false, List, [], ◌∷◌, Option, Some, None, if◌then◌else◌, inl, inr, refl, sym, ◌∙◌, subst}
 use Rattle.std.specs.Option.{option_map_or}
 use Rattle.chess_problems.specs.Problems.{bound_of}
 use Rattle.chess_notation.specs.Claims.{claim_words, is_length, length_claimed, length_value}

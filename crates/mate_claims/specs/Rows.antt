@@ -23,8 +23,8 @@ abbrev pub field : List ℕ → List ℕ
 field text = char "\t" ∷ or_hyphen text
 
 -- moves as the `bm` of an answer lists them, parted by spaces
-abbrev pub moves_field : Setup → List Move → List ℕ
-moves_field p moves = field (drop 1 (operand_words (in_order (map (san_text p) moves))))
+abbrev pub moves_text : Setup → List Move → List ℕ
+moves_text p moves = drop 1 (operand_words (in_order (map (san_text p) moves)))
 
 abbrev pub length_field : ℕ → List ℕ
 length_field n = field (char "#" ∷ decimal n)
@@ -39,18 +39,28 @@ found_field (Mate n keys pv) = length_field n
 found_field NoMate = field []
 
 abbrev pub keys_field : Setup → Outcome → List ℕ
-keys_field p (Mate n keys pv) = moves_field p keys.items
+keys_field p (Mate n keys pv) = field (moves_text p keys.items)
 keys_field p NoMate = field []
 
 -- operands of which each stands behind a space, without the first space and the quotation marks
 abbrev pub unquoted : List ℕ → List ℕ
 unquoted operands = filter (λ b. not (b == char "\"")) (drop 1 operands)
 
--- the row of a record: its line's place, the verdict, the lengths asked for and found, the keys, the moves claimed, the operands of `id`
-unfoldable pub record_row : List ℕ → RecordValue → BoundSource → List Move → Outcome → List ℕ
+-- the row of a record: its line's place, a word for what comes of its claims, the lengths asked for and found, the keys, the claims, the operands
+-- of `id`
+unfoldable pub row_of : List ℕ → RecordValue → BoundSource → List ℕ → Outcome → List ℕ → List ℕ
+row_of place r source word outcome claims =
+    place ++ field word ++ asked_field source r.bound ++ found_field outcome ++ keys_field r.position outcome
+    ++ field claims ++ field (unquoted (operands_under (codes "id") r.rest)) ++ char "\n" ∷ []
+
+-- of one whose claims are judged: the verdict, and the moves claimed
+abbrev pub record_row : List ℕ → RecordValue → BoundSource → List Move → Outcome → List ℕ
 record_row place r source claimed outcome =
-    place ++ field (verdict_name (verdict_of r.bound claimed outcome)) ++ asked_field source r.bound ++ found_field outcome ++ keys_field r.position outcome
-    ++ moves_field r.position claimed ++ field (unquoted (operands_under (codes "id") r.rest)) ++ char "\n" ∷ []
+    row_of place r source (verdict_name (verdict_of r.bound claimed outcome)) outcome (moves_text r.position claimed)
+
+-- of one of whose claims nothing can be said: the name of the reason, and what stands behind `bm`, without its first space
+abbrev pub unread_row : List ℕ → RecordValue → BoundSource → List ℕ → List ℕ → Outcome → List ℕ
+unread_row place r source name claims outcome = row_of place r source name outcome (drop 1 claims)
 
 -- the row of a line that is refused: its place and the fault's name
 unfoldable pub refused_row : List ℕ → List ℕ → List ℕ

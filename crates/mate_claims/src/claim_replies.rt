@@ -1,14 +1,15 @@
 //! What is told of a line that is held against its own claims.
 
-ghost use Rattle.std.specs.Prelude.{◌≡◌, ◌≢◌, ◌≤◌, ◌==◌, not, IfNone, IfOk, IfSome, MatchOption, None, Some};
+ghost use Rattle.std.specs.Prelude.{◌≡◌, ◌≢◌, ◌≤◌, ◌==◌, IfOk, None, Some, true};
 ghost use Rattle.chess_notation.specs.Words.{words_in};
 ghost use Rattle.chess_notation.specs.Claims.{length_claimed};
 ghost use Rattle.chess_notation.specs.EpdFaults.{epd_fault_name};
 ghost use Rattle.chess_notation.specs.Records.{problem_of};
-ghost use Rattle.chess_problems.specs.Outcomes.{IsPlayable};
+ghost use Rattle.chess_problems.specs.Outcomes.{AreLegal, IsPlayable};
 ghost use Rattle.mate_search.specs.inside.Truth.{truth};
-ghost use Rattle.mate_claims.specs.ClaimReplies.{IsTold, claims_refusal};
-ghost use Rattle.mate_claims.specs.Rows.{refused_row as refused_row_of};
+ghost use Rattle.mate_claims.specs.ClaimReplies.{IsTold};
+ghost use Rattle.mate_claims.specs.Rows.{record_row as record_row_of, refused_row as refused_row_of, unread_row};
+ghost use Rattle.mate_claims.specs.Verdicts.{verdict_of};
 ghost use Rattle.mate_claims.specs.inside.RowTexts.{keys_found as keys_found_in, listed};
 ghost use Rattle.mate_claims.specs.inside.ToldRecords.{IsToldOf};
 
@@ -16,7 +17,7 @@ use crate::bound_sources::{BoundSource, bound_source};
 use crate::rows::{Found, keys_found, keys_text, refused_row, row_of_texts, row_with_keys};
 use crate::verdicts::{Verdict, judge};
 use byte_streams::NoMemory;
-use chess_board::Position;
+use chess_board::Move;
 use chess_moves::{Rays, legal_listed};
 use chess_notation::{
     EpdFault, Record, bound_claimed, claimed_moves, claims_text, names_one, read_record,
@@ -48,12 +49,22 @@ fn told_of_fault(alloc: Global, place: &[u8], fault: EpdFault) -> Result<Told, N
 }
 
 /// What is told of a record of whose claims nothing can be said, for a reason of this name.
-fn told_of_refusal(alloc: Global, place: &[u8], name: &str) -> Result<Told, NoMemory>
-    ensures row { IfOk result (λ told. told.row.items ≡ refused_row_of place.now name.now) }
+fn told_of_refusal(
+    alloc: Global,
+    place: &[u8],
+    record: &Record,
+    source: BoundSource,
+    name: &str,
+    words: &[u8],
+    found: &Found<'_>,
+) -> Result<Told, NoMemory>
+    requires keys { found.now.keys.now ≡ listed «record».now.position (keys_found_in found.now.outcome.now) }
+    ensures row { IfOk result (λ told. told.row.items
+        ≡ unread_row place.now «record».now source name.now words.now found.now.outcome.now) }
     ensures verdict { IfOk result (λ told. told.verdict ≡ None) }
 {
     Ok(Told {
-        row: refused_row(alloc, place, name)?,
+        row: row_of_texts(alloc, place, record, source, name, found, words)?,
         verdict: None,
     })
 }
@@ -69,7 +80,7 @@ fn told_of_keys(
     requires truth { found.now.outcome.now ≡ truth (problem_of «record».now) }
     requires playable { IsPlayable «record».now.position found.now.outcome.now }
     requires keys { found.now.keys.now ≡ listed «record».now.position (keys_found_in found.now.outcome.now) }
-    requires agreed { length_claimed (words_in found.now.keys.now) «record».now.bound ≡ «record».now.bound }
+    requires agreed { (length_claimed (words_in found.now.keys.now) «record».now.bound == «record».now.bound) ≡ true }
     ensures told { IfOk result (λ told. IsToldOf place.now «record».now source found.now.keys.now told.row.items told.verdict) }
 {
     // That these words name the keys rests on these laws.
@@ -77,12 +88,50 @@ fn told_of_keys(
     names_one();
     let verdict = judge(record.bound, keys_found(found.outcome), found.outcome);
     Ok(Told {
-        row: row_of_texts(alloc, place, record, source, verdict, found, found.keys)?,
+        row: row_of_texts(
+            alloc,
+            place,
+            record,
+            source,
+            verdict.code(),
+            found,
+            found.keys,
+        )?,
         verdict: Some(verdict),
     })
 }
 
-/// What is told of a record by which these words claim what they do, where the text of the keys that were found is known.
+/// What is told of a record by which these moves are claimed, and no other length than its bound.
+fn told_of_moves(
+    alloc: Global,
+    rays: &Rays,
+    place: &[u8],
+    record: &Record,
+    source: BoundSource,
+    claimed: &[Move],
+    found: &Found<'_>,
+) -> Result<Told, NoMemory>
+    requires claimed { AreLegal «record».now.position claimed.now }
+    requires keys { found.now.keys.now ≡ listed «record».now.position (keys_found_in found.now.outcome.now) }
+    ensures row { IfOk result (λ told. told.row.items ≡ record_row_of place.now «record».now source claimed.now found.now.outcome.now) }
+    ensures verdict { IfOk result (λ told. told.verdict ≡ Some (verdict_of «record».now.bound claimed.now found.now.outcome.now)) }
+{
+    Ok(Told {
+        row: row_with_keys(alloc, rays, place, record, source, claimed, found)?,
+        verdict: Some(judge(record.bound, claimed, found.outcome)),
+    })
+}
+
+/// Whether the first length that these words claim, if they claim one, is the one asked for.
+fn agrees(words: &[u8], asked: Bound) -> bool
+    ensures { result ≡ (length_claimed (words_in words.now) asked == asked) }
+{
+    bound_claimed(words, asked).get() == asked.get()
+}
+
+/// What is told of a record by which these words claim what they do, where the text of the keys that were found is known. It stands by itself,
+/// so that the moves that are claimed take no room where a problem is solved.
+#[inline(never)]
 fn told_of_words(
     alloc: Global,
     rays: &Rays,
@@ -94,90 +143,25 @@ fn told_of_words(
 ) -> Result<Told, NoMemory>
     requires truth { found.now.outcome.now ≡ truth (problem_of «record».now) }
     requires keys { found.now.keys.now ≡ listed «record».now.position (keys_found_in found.now.outcome.now) }
-    requires agreed { length_claimed (words_in words.now) «record».now.bound ≡ «record».now.bound }
     ensures told { IfOk result (λ told. IsToldOf place.now «record».now source words.now told.row.items told.verdict) }
 {
     match claimed_moves(rays, &record.position, words) {
-        Ok(claimed) => Ok(Told {
-            row: row_with_keys(
-                alloc,
-                rays,
-                place,
-                record,
-                source,
-                claimed.as_slice(),
-                found,
-            )?,
-            verdict: Some(judge(record.bound, claimed.as_slice(), found.outcome)),
-        }),
-        Err(fault) => told_of_refusal(alloc, place, fault.code()),
-    }
-}
-
-/// Whether the first length that these words claim isn't the one asked for.
-fn claim_another_length(words: &[u8], asked: Bound) -> bool
-    ensures { result ≡ not (length_claimed (words_in words.now) asked == asked) }
-{
-    bound_claimed(words, asked).get() != asked.get()
-}
-
-/// Why nothing can be said of what these words claim. It stands by itself, so that the moves that are claimed take no room where a problem is
-/// solved.
-#[inline(never)]
-fn refusal(rays: &Rays, position: &Position, asked: Bound, words: &[u8]) -> Option<&'static str>
-    ensures { MatchOption result (claims_refusal position.now asked (words_in words.now) ≡ None)
-        (λ name. claims_refusal position.now asked (words_in words.now) ≡ Some name.now) }
-{
-    match claimed_moves(rays, position, words) {
-        Err(fault) => Some(fault.code()),
-        Ok(_) if claim_another_length(words, asked) => Some("TwoLengths"),
-        Ok(_) => None,
-    }
-}
-
-/// The same where it is to be told before a search: where that may be long, or the lengths differ.
-fn early_refusal(
-    rays: &Rays,
-    position: &Position,
-    asked: Bound,
-    words: &[u8],
-) -> Option<&'static str>
-    ensures refused { IfSome result (λ name. claims_refusal position.now asked (words_in words.now) ≡ Some name.now) }
-    ensures agreed { IfNone result (length_claimed (words_in words.now) asked ≡ asked) }
-{
-    if 2 < asked.get() || claim_another_length(words, asked) {
-        refusal(rays, position, asked, words)
-    } else {
-        None
-    }
-}
-
-/// What is told of a record by which these words claim what they do, once it is solved.
-fn told_once_solved(
-    alloc: Global,
-    rays: &Rays,
-    place: &[u8],
-    record: &Record,
-    source: BoundSource,
-    words: &[u8],
-    memo: &mut Memo,
-) -> Result<Told, NoMemory>
-    requires agreed { length_claimed (words_in words.now) «record».now.bound ≡ «record».now.bound }
-    ensures told { IfOk result (λ told. IsToldOf place.now «record».now source words.now told.row.items told.verdict) }
-    ensures room { memo.new.room ≡ memo.old.room }
-    ensures within { memo.new.kept ≤ memo.new.room }
-{
-    let outcome = solve(rays, &record.problem(), memo);
-    let keys = keys_text(alloc, rays, &record.position, &outcome)?;
-    let found = Found {
-        outcome: &outcome,
-        keys: keys.as_bytes(),
-    };
-    // Most records claim their keys as they are listed. The others are read word by word.
-    if words == found.keys {
-        told_of_keys(alloc, place, record, source, &found)
-    } else {
-        told_of_words(alloc, rays, place, record, source, words, &found)
+        Ok(claimed) => {
+            if agrees(words, record.bound) {
+                told_of_moves(
+                    alloc,
+                    rays,
+                    place,
+                    record,
+                    source,
+                    claimed.as_slice(),
+                    found,
+                )
+            } else {
+                told_of_refusal(alloc, place, record, source, "TwoLengths", words, found)
+            }
+        }
+        Err(fault) => told_of_refusal(alloc, place, record, source, fault.code(), words, found),
     }
 }
 
@@ -197,9 +181,17 @@ fn told_of_record(
 {
     // That a memo keeps no more than it has room for is this call's clause.
     memo.len();
-    match early_refusal(rays, &record.position, record.bound, words) {
-        Some(name) => told_of_refusal(alloc, place, name),
-        None => told_once_solved(alloc, rays, place, record, source, words, memo),
+    let outcome = solve(rays, &record.problem(), memo);
+    let keys = keys_text(alloc, rays, &record.position, &outcome)?;
+    let found = Found {
+        outcome: &outcome,
+        keys: keys.as_bytes(),
+    };
+    // Most records claim their keys as they are listed. The others are read word by word.
+    if words == found.keys && agrees(found.keys, record.bound) {
+        told_of_keys(alloc, place, record, source, &found)
+    } else {
+        told_of_words(alloc, rays, place, record, source, words, &found)
     }
 }
 

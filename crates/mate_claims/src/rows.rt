@@ -8,7 +8,7 @@ ghost use Rattle.mate_claims.specs.Rows.{unquoted, record_row as record_row_of, 
 ghost use Rattle.mate_claims.specs.inside.RowTexts.{keys_found as keys_found_in, listed, row_of_texts as row_with_texts};
 
 use crate::bound_sources::BoundSource;
-use crate::verdicts::{Verdict, judge};
+use crate::verdicts::judge;
 use byte_streams::NoMemory;
 use chess_board::{Move, Position};
 use chess_moves::Rays;
@@ -131,22 +131,22 @@ pub(crate) struct Found<'a> {
     pub(crate) keys: &'a [u8],
 }
 
-/// The row of a record with this text of the moves claimed, of which each stands behind a space.
+/// The row of a record with this word for what comes of its claims, and this text of them, behind a space.
 #[tactic(auto, unfolding(crate::specs::inside::RowTexts::row_of_texts))]
 pub(crate) fn row_of_texts(
     alloc: Global,
     place: &[u8],
     record: &Record,
     source: BoundSource,
-    verdict: Verdict,
+    word: &str,
     found: &Found<'_>,
     claimed: &[u8],
 ) -> Result<Vec<u8>, AllocError>
     ensures { IfOk result (λ row. row.items
-        ≡ row_with_texts place.now «record».now source verdict found.now.outcome.now found.now.keys.now claimed.now) }
+        ≡ row_with_texts place.now «record».now source word.now found.now.outcome.now found.now.keys.now claimed.now) }
 {
     let mut row = Vec::from_slice(alloc, place)?;
-    push_field(&mut row, verdict.code().as_bytes())?;
+    push_field(&mut row, word.as_bytes())?;
     push_asked(alloc, &mut row, record.bound, source)?;
     push_found(alloc, &mut row, found.outcome)?;
     push_field(&mut row, without_first(found.keys))?;
@@ -177,7 +177,7 @@ pub(crate) fn row_with_keys(
         place,
         record,
         source,
-        verdict,
+        verdict.code(),
         found,
         claimed_text.as_bytes(),
     )?)

@@ -40,16 +40,34 @@ fn tells_the_first_verdict_that_applies(rt: HostRuntime) -> Result<(), Fail> {
         (" bm #5;", "short\t#5\t#2\tKf7 Kg6\t-\t-"),
         // too short, and also a claimed move that is no key
         (" bm Ra8; dm 1; id \"\";", "unsolvable\t#1\t-\t-\tRa8+\t-"),
-        (" bm #0 #16 Kf8; dm 2;", "BadBound\t-\t-\t-\t-\t-"),
-        (" bm Kf8 #16; dm 2;", "BoundTooLarge\t-\t-\t-\t-\t-"),
-        (" bm Kf7 Kf8;", "NoSuchMove\t-\t-\t-\t-\t-"),
-        (" bm \"Kf7\" Kf7;", "NoSuchMove\t-\t-\t-\t-\t-"),
-        (" bm \"x #16 y\";", "NoSuchMove\t-\t-\t-\t-\t-"),
-        (" bm # Kf7;", "NoSuchMove\t-\t-\t-\t-\t-"),
-        (" bm #5 Kf8; dm 2;", "NoSuchMove\t-\t-\t-\t-\t-"),
+        (
+            " bm #0 #16 Kf8; dm 2;",
+            "BadBound\t#2\t#2\tKf7 Kg6\t#0 #16 Kf8\t-",
+        ),
+        (
+            " bm Kf8 #16; dm 2; id \"a\";",
+            "BoundTooLarge\t#2\t#2\tKf7 Kg6\tKf8 #16\ta",
+        ),
+        (" bm Kf7 Kf8;", "NoSuchMove\t#3?\t#2\tKf7 Kg6\tKf7 Kf8\t-"),
+        (
+            " bm \"Kf7\" Kf7;",
+            "NoSuchMove\t#3?\t#2\tKf7 Kg6\t\"\"\"\"\" Kf7\t-",
+        ),
+        (
+            " bm \"x #16 y\";",
+            "NoSuchMove\t#3?\t#2\tKf7 Kg6\t\"\"\"\"\"\"\"\"\"\t-",
+        ),
+        (" bm # Kf7;", "NoSuchMove\t#3?\t#2\tKf7 Kg6\t# Kf7\t-"),
+        (
+            " bm #5 Kf8; dm 2;",
+            "NoSuchMove\t#2\t#2\tKf7 Kg6\t#5 Kf8\t-",
+        ),
         // the first length that is claimed is another
-        (" bm Ra8 #5; dm 2;", "TwoLengths\t-\t-\t-\t-\t-"),
-        (" bm #3 #2; dm 2;", "TwoLengths\t-\t-\t-\t-\t-"),
+        (
+            " bm Ra8 #5; dm 2;",
+            "TwoLengths\t#2\t#2\tKf7 Kg6\tRa8 #5\t-",
+        ),
+        (" bm #3 #2; dm 1;", "TwoLengths\t#1\t-\t-\t#3 #2\t-"),
         // a fault of the record, and also one of its claims
         (" bm #0; am Kf8;", "BadAvoid\t-\t-\t-\t-\t-"),
         (" 1; bm #0;", "BadOpcode\t-\t-\t-\t-\t-"),

@@ -9,8 +9,6 @@ use Rattle.chess_notation.specs.SanText.{san_text}
 use Rattle.chess_notation.specs.Opcodes.{operands_under}
 use Rattle.chess_notation.specs.Answers.{in_order, operand_words}
 use Rattle.chess_notation.specs.Records.{RecordValue}
-use Rattle.mate_claims.specs.declared.verdicts.Verdict.{Verdict}
-use Rattle.mate_claims.specs.Verdicts.{verdict_name}
 use Rattle.mate_claims.specs.declared.bound_sources.BoundSource.{BoundSource}
 use Rattle.mate_claims.specs.Rows.{field, asked_field, found_field, unquoted}
 
@@ -23,8 +21,8 @@ keys_found NoMate = []
 abbrev pub listed : Setup → List Move → List ℕ
 listed p moves = operand_words (in_order (map (san_text p) moves))
 
--- a row in which this verdict stands, and for the keys and the moves claimed these texts, in each a move behind a space
-unfoldable pub row_of_texts : List ℕ → RecordValue → BoundSource → Verdict → Outcome → List ℕ → List ℕ → List ℕ
-row_of_texts place r source verdict outcome keys claimed =
-    place ++ field (verdict_name verdict) ++ asked_field source r.bound ++ found_field outcome ++ field (drop 1 keys)
+-- a row in which this word stands, and for the keys and the claims these texts, in each a word behind a space
+unfoldable pub row_of_texts : List ℕ → RecordValue → BoundSource → List ℕ → Outcome → List ℕ → List ℕ → List ℕ
+row_of_texts place r source word outcome keys claimed =
+    place ++ field word ++ asked_field source r.bound ++ found_field outcome ++ field (drop 1 keys)
     ++ field (drop 1 claimed) ++ field (unquoted (operands_under (codes "id") r.rest)) ++ char "\n" ∷ []
