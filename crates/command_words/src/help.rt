@@ -258,9 +258,9 @@ stand in one file in any mixture:
     that is a record and wants none of this is printed as it is
   - lines that begin with `#`, `%` or `;`: dropped, as empty ones are
   - games in PGN: the tag FEN makes the record, and White, Black, Event, Date and Annotator
-    its id; these, but for Date, and Stipulation may say the number of moves; the moves are
-    passed over
-  - Popeye's input, from BeginProblem to EndProblem, with stipulation `#N`
+    its id; the number of moves is said by Stipulation, else by these, but for Date, or by a
+    comment before the first move; the moves are passed over
+  - Popeye's input, from BeginProblem to EndProblem, with stipulation `#N` or `N#`
 What can't be read is printed as `# line K: CODE`, by the line where it begins; `matedesk
 explain CODE` says what that means.
 

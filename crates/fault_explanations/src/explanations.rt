@@ -474,7 +474,7 @@ static IMPORTS: [Explanation; 7] = [
     },
     Explanation {
         code: "BadStipulation",
-        comes: "a problem for Popeye has no stipulation, or one that isn't `#N`; a game's `Stipulation` is no mate in N",
+        comes: "a problem for Popeye has no stipulation, or one that isn't `#N` or `N#`; a game's `Stipulation` is no mate in N",
         means: "Direct mates alone are solved here; `h#2` or `s#3` are not.",
         example: None,
     },

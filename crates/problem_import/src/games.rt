@@ -1,5 +1,5 @@
 //! A game in PGN (Portable Game Notation Specification, section 8): its tag pairs, of which a record is made, and its movetext, which is
-//! passed over.
+//! passed over but for comments before the first move, which may say a number of moves.
 
 use crate::changes::Changes;
 use crate::import_faults::ImportFault;
@@ -10,13 +10,13 @@ use stipulations::{Asked, moves_asked};
 /// The longest string of a record.
 const LONGEST: usize = 255;
 
-/// What tag pairs said so far, and the number of their first line.
+/// What tag pairs, and comments before the first move, said so far, and the number of their first line.
 #[derive(Drop)]
 pub(crate) struct Game {
     pub(crate) number: usize,
     pub(crate) changes: Changes,
     has_fen: bool,
-    /// What its tag `Stipulation` asks, if it has one, and what the others do.
+    /// What its tag `Stipulation` asks, if it has one, and what the others and the comments do.
     stipulated: Option<Asked>,
     asked: Asked,
     fen: Vec<u8>,
@@ -114,6 +114,21 @@ fn take_value<'t>(value: &mut Vec<u8>, text: &'t [u8]) -> Result<&'t [u8], Alloc
     Ok(&[])
 }
 
+/// What comments in braces ask, those with which a line begins; one that isn't ended there goes up to the line's end.
+fn comments_asked(line: &[u8]) -> Asked {
+    let mut asked = Asked::Nothing;
+    let mut rest = line.trim_ascii_start();
+    for _ in 0..line.len() {
+        let [b'{', more @ ..] = rest else {
+            break;
+        };
+        let (comment, behind) = cut_at(more, b'}');
+        asked = asked.and(moves_asked(comment));
+        rest = behind.trim_ascii_start();
+    }
+    asked
+}
+
 impl Game {
     /// Without a tag pair.
     pub(crate) fn new(alloc: Global, number: usize, changes: Changes) -> Game {
@@ -177,7 +192,12 @@ impl Game {
         Ok(rest)
     }
 
-    /// What the tags ask: what `Stipulation` does, if it is there, else what the others do.
+    /// Takes the comments before the first move, of the first line of movetext.
+    pub(crate) fn take_comments(&mut self, line: &[u8]) {
+        self.asked = self.asked.and(comments_asked(line));
+    }
+
+    /// What is asked: what `Stipulation` does, if it is there, else what the other tags and the comments do.
     fn asks(&self) -> Asked {
         match self.stipulated {
             Some(asked) => asked,

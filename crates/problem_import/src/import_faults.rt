@@ -18,7 +18,7 @@ pub enum ImportFault {
     NoBound,
     /// Two numbers of moves are said.
     TwoBounds,
-    /// A problem of Popeye's has no stipulation, or another than `#N`; or a game's is no mate in so many moves.
+    /// A problem of Popeye's has no stipulation, or another than `#N` and `N#`; or a game's is no mate in so many moves.
     BadStipulation,
     /// It has a condition.
     FairyCondition,

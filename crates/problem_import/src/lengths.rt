@@ -10,6 +10,14 @@ pub(crate) fn length_digits(word: &[u8]) -> Option<&[u8]> {
     }
 }
 
+/// The digits of a word `#N` or `N#`.
+pub(crate) fn stipulation_digits(word: &[u8]) -> Option<&[u8]> {
+    match word {
+        [digits @ .., b'#'] if are_digits(digits) => Some(digits),
+        _ => length_digits(word),
+    }
+}
+
 /// The digits of a number that stands alone, with or without a `#`.
 fn number_digits(word: &[u8]) -> Option<&[u8]> {
     if are_digits(word) {

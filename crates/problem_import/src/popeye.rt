@@ -4,7 +4,7 @@ use crate::changes::Changes;
 use crate::diagrams::{Diagram, is_man_word};
 use crate::games::{push_id, push_id_operation};
 use crate::import_faults::ImportFault;
-use crate::lengths::length_digits;
+use crate::lengths::stipulation_digits;
 use crate::popeye_words::{Command, begins_next, command_of, is_harmless_option, is_white_word};
 use crate::texts::{are_digits, trimmed, word_at};
 use std::alloc::{AllocError, Global};
@@ -71,7 +71,7 @@ impl PopeyeProblem {
     /// Takes the word behind `Stipulation`.
     fn take_stipulation(&mut self, word: &[u8]) -> Result<(), AllocError> {
         self.expected = Expected::Command;
-        match length_digits(word) {
+        match stipulation_digits(word) {
             Some(digits) if self.bound.is_empty() => self.bound.extend_from_slice(digits),
             _ => {
                 self.note(ImportFault::BadStipulation);

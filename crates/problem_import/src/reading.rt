@@ -244,6 +244,15 @@ impl Reading {
         Ok(())
     }
 
+    /// Takes the comments with which a line of movetext begins, if it is a game's first.
+    fn take_comments(&mut self, line: &[u8])
+        ensures { due self.new.open ≡ due self.old.open }
+    {
+        if let Open::Game(game) = &mut self.open {
+            game.take_comments(line);
+        }
+    }
+
     /// Ends the tag pairs of a game that is open.
     fn end_tags(&mut self, alloc: Global, findings: &mut Vec<Finding>) -> Result<(), AllocError>
         ensures { IfOk result (λ _. due self.old.open + length findings.old.items ≤ due self.new.open + length findings.new.items) }
@@ -265,6 +274,7 @@ impl Reading {
     ) -> Result<(), AllocError>
         ensures { IfOk result (λ _. due self.old.open + length findings.old.items ≤ due self.new.open + length findings.new.items) }
     {
+        self.take_comments(line);
         self.end_tags(alloc, findings)?;
         self.pass(line);
         Ok(())
