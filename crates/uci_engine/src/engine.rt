@@ -15,7 +15,7 @@ use std::alloc::{AllocError, Global};
 use std::io::Write;
 use std::sync::Wait;
 use std::thread;
-use std::thread::Threads;
+use std::thread::{Scope, Threads};
 use uci_commands::start_fen;
 
 /// How many events may wait to be answered.
@@ -45,26 +45,45 @@ impl From<Stop> for TalkFault {
     }
 }
 
+/// The ends of channels that the thread which talks takes for its own. Who waits for one of them waits no longer once they are gone.
+#[derive(Drop)]
+struct Ends {
+    events: Receiver<Event, Global>,
+    planned: Sender<Job, Global>,
+}
+
+/// Answers what comes next; gives whether it was the last.
+fn answer_next<R: Wait, O: Write>(
+    rt: &R,
+    talk: &mut Talk,
+    ends: &Ends,
+    out: &mut O,
+) -> Result<bool, TalkFault> {
+    let Ok(event) = ends.events.recv(rt) else {
+        return Err(TalkFault::NoThread);
+    };
+    let Reply { text, job, is_last } = talk.take(event)?;
+    put(out, text.as_slice())?;
+    let is_refused = match job {
+        Some(job) => ends.planned.send(rt, job).is_err(),
+        None => false,
+    };
+    if is_refused {
+        Err(TalkFault::Stop(Stop::NoMemory))
+    } else {
+        Ok(is_last)
+    }
+}
+
 /// Answers what comes, until the last of it is answered.
 fn answer_events<R: Wait, O: Write>(
     rt: &R,
-    mut talk: Talk,
-    events: Receiver<Event, Global>,
-    jobs: Sender<Job, Global>,
+    talk: &mut Talk,
+    ends: &Ends,
     out: &mut O,
 ) -> Result<(), TalkFault> {
     for _ in rt.forever() {
-        let Ok(event) = events.recv(rt) else {
-            return Err(TalkFault::NoThread);
-        };
-        let Reply { text, job, is_last } = talk.take(event)?;
-        put(out, text.as_slice())?;
-        if let Some(job) = job {
-            if jobs.send(rt, job).is_err() {
-                return Err(TalkFault::Stop(Stop::NoMemory));
-            }
-        }
-        if is_last {
+        if answer_next(rt, talk, ends, out)? {
             break;
         }
     }
@@ -75,20 +94,41 @@ fn answer_events<R: Wait, O: Write>(
     }
 }
 
-/// The ends of channels that threads take for their own.
-#[derive(Drop)]
-struct Ends {
-    events: Receiver<Event, Global>,
-    planned: Sender<Job, Global>,
+/// Starts the threads one after the other; gives whether all were to be had.
+fn start_threads<'s, R: Threads + Wait + Sync, I: Input + Drop + Send + 's, E>(
+    scope: &Scope<'s, E>,
+    rt: &'s R,
+    searcher: Searcher<'s>,
     jobs: Receiver<Job, Global>,
+    input: I,
+) -> bool
+    requires { IsSync R.row × IsSend I.row }
+{
+    let counting = move ||
+        requires { IsSync R.row }
+    { searcher.signals.run_clock(rt, searcher.events) };
+    if scope.spawn(counting).is_err() {
+        return false;
+    }
+    let searching = move ||
+        requires { IsSync R.row }
+    { searcher.run(rt, jobs) };
+    if scope.spawn(searching).is_err() {
+        return false;
+    }
+    let reading = move ||
+        requires { IsSync R.row × IsSend I.row }
+    { run_reader(rt, searcher.alloc, input, searcher.events) };
+    scope.spawn(reading).is_ok()
 }
 
 /// Starts the threads, and answers what comes in this one.
 fn run_threads<R: Threads + Wait + Sync, I: Input + Drop + Send, O: Write>(
     rt: &R,
     searcher: Searcher,
-    talk: Talk,
+    talk: &mut Talk,
     ends: Ends,
+    jobs: Receiver<Job, Global>,
     input: I,
     out: &mut O,
 ) -> Result<(), TalkFault> {
@@ -98,35 +138,13 @@ fn run_threads<R: Threads + Wait + Sync, I: Input + Drop + Send, O: Write>(
         move |scope| -> Result<(), TalkFault>
             requires { IsSync R.row × IsSend I.row }
         {
-            let signals = searcher.signals;
-            let Ends {
-                events,
-                planned,
-                jobs,
-            } = ends;
-            let counting = move ||
-                requires { IsSync R.row }
-            { signals.run_clock(rt, searcher.events) };
-            let Ok(_clock) = scope.spawn(counting) else {
-                return Err(TalkFault::NoThread);
+            let ended = if start_threads(scope, rt, searcher, jobs, input) {
+                answer_events(rt, talk, &ends, out)
+            } else {
+                Err(TalkFault::NoThread)
             };
-            let searching = move ||
-                requires { IsSync R.row }
-            { searcher.run(rt, jobs) };
-            let Ok(_search) = scope.spawn(searching) else {
-                signals.end();
-                return Err(TalkFault::NoThread);
-            };
-            let reading = move ||
-                requires { IsSync R.row × IsSend I.row }
-            { run_reader(rt, searcher.alloc, input, searcher.events) };
-            let Ok(_read) = scope.spawn(reading) else {
-                signals.end();
-                return Err(TalkFault::NoThread);
-            };
-            let ended = answer_events(rt, talk, events, planned, out);
-            signals.stop(u64::MAX);
-            signals.end();
+            searcher.signals.stop(u64::MAX);
+            searcher.signals.end();
             ended
         },
     )
@@ -154,11 +172,14 @@ pub fn run_engine<R: Threads + Wait + Sync, I: Input + Drop + Send, O: Write>(
         signals: &signals,
         events: &said,
     };
-    let talk = Talk::new(alloc, &rays, &signals, version, fen, bound);
-    let ends = Ends {
-        events,
-        planned,
+    let mut talk = Talk::new(alloc, searcher.rays, searcher.signals, version, fen, bound);
+    run_threads(
+        rt,
+        searcher,
+        &mut talk,
+        Ends { events, planned },
         jobs,
-    };
-    run_threads(rt, searcher, talk, ends, input, out)
+        input,
+        out,
+    )
 }

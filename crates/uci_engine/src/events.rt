@@ -1,6 +1,9 @@
 //! What the threads of an engine send to the one that talks.
 
 use byte_streams::InputFault;
+use crossbeam_channel::Sender;
+use std::alloc::Global;
+use std::sync::Wait;
 
 /// What has come, from the thread that reads, from the one that searches or from the one that counts time.
 #[derive(Drop)]
@@ -17,4 +20,9 @@ pub(crate) enum Event {
     Found(Vec<u8>),
     /// A search for which memory was refused.
     Refused,
+}
+
+/// Sends what has come, once there is room; gives whether anyone takes it.
+pub(crate) fn send<R: Wait>(rt: &R, events: &Sender<Event, Global>, event: Event) -> bool {
+    events.send(rt, event).is_ok()
 }

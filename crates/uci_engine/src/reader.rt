@@ -1,7 +1,7 @@
 //! What the thread that reads does: it takes the lines of an input as they come.
 
 use crate::commands::{Command, command_in};
-use crate::events::Event;
+use crate::events::{Event, send};
 use byte_streams::{Input, InputFault};
 use crossbeam_channel::Sender;
 use std::alloc::{AllocError, Global};
@@ -117,8 +117,8 @@ pub(crate) fn run_reader<R: Wait, I: Input + Drop>(
             Err(fault) => Event::End(Some(fault)),
         };
         let is_end = matches!(&event, Event::End(_));
-        if events.send(rt, event).is_err() || is_end {
-            return;
+        if !send(rt, events, event) || is_end {
+            break;
         }
     }
 }

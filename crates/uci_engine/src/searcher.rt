@@ -1,8 +1,8 @@
 //! What the thread that searches does.
 
-use crate::events::Event;
+use crate::events::{Event, send};
 use crate::signals::Signals;
-use crate::texts::{Progress, push_best, push_length, push_mate, push_none, refusal_line};
+use crate::texts::{Progress, push_best, push_length, push_mate, push_none, push_refusal};
 use crate::watches::Watch;
 use chess_board::Move;
 use chess_moves::{MoveList, Rays, legal};
@@ -70,15 +70,18 @@ impl Searcher<'_> {
         }
     }
 
-    /// The last lines where no mate was found in so many moves.
-    fn none_text(&self, problem: &Problem, moves: u64) -> Result<Vec<u8>, AllocError> {
-        let mut text = Vec::new(self.alloc);
+    /// Adds the last lines where no mate was found in so many moves.
+    fn push_last(
+        &self,
+        text: &mut Vec<u8>,
+        problem: &Problem,
+        moves: u64,
+    ) -> Result<(), AllocError> {
         let best = first_move(self.rays, problem);
         if best.is_some() {
-            push_none(&mut text, moves)?;
+            push_none(text, moves)?;
         }
-        push_best(&mut text, best)?;
-        Ok(text)
+        push_best(text, best)
     }
 
     /// Adds the line of one more key, unless it is to stop.
@@ -132,25 +135,24 @@ impl Searcher<'_> {
         Ok(text)
     }
 
-    /// What to play, from a search that has no more to say.
-    fn best_text(&self, best: Option<Move>) -> Result<Vec<u8>, AllocError> {
-        let mut text = Vec::new(self.alloc);
-        push_best(&mut text, best)?;
-        Ok(text)
+    /// Sends lines that are to be written at once, while anyone takes them.
+    fn say<R: Wait>(&self, rt: &R, text: Vec<u8>) {
+        let _ = send(rt, self.events, Event::Said(text));
     }
 
-    /// Searches for a mate in one move, two and so on, and sends a line for each; gives the last lines.
+    /// Searches for a mate in one move, two and so on, sends a line for each, and adds the last lines to a text.
     fn search<R: Wait>(
         &self,
         rt: &R,
         asked: &Problem,
         job: &Job,
         memo: &mut Memo,
-    ) -> Result<Vec<u8>, AllocError> {
+        last: &mut Vec<u8>,
+    ) -> Result<(), AllocError> {
         let watch = Watch::new(self.signals, job.number, job.most_nodes);
         let most = asked.bound.get();
         if first_move(self.rays, asked).is_none() {
-            return self.none_text(asked, 0);
+            return self.push_last(last, asked, 0);
         }
         for before in 0..most {
             let Some(bound) = Bound::new(before + 1) else {
@@ -160,30 +162,37 @@ impl Searcher<'_> {
             match solve_until(self.rays, &problem, memo, &watch) {
                 Ok(Outcome::Mate { keys, pv, .. }) => {
                     let first = self.first_line(&problem, pv.as_slice())?;
-                    let _ = self.events.send(rt, Event::Said(first));
+                    self.say(rt, first);
                     let more = self.more_lines(&problem, &keys, job, memo, &watch)?;
-                    let _ = self.events.send(rt, Event::Said(more));
-                    return self.best_text(keys.as_slice().first().copied());
+                    self.say(rt, more);
+                    return push_best(last, keys.as_slice().first().copied());
                 }
                 Ok(Outcome::NoMate) => {
                     let mut text = Vec::new(self.alloc);
                     push_length(&mut text, &self.progress(u64::from(before + 1)))?;
-                    let _ = self.events.send(rt, Event::Said(text));
+                    self.say(rt, text);
                 }
-                Err(Stopped) => return self.none_text(asked, u64::from(before)),
+                Err(Stopped) => return self.push_last(last, asked, u64::from(before)),
             }
         }
-        self.none_text(asked, u64::from(most))
+        self.push_last(last, asked, u64::from(most))
     }
 
-    /// Searches, or tells why there is no position; gives the last lines.
-    fn answer<R: Wait>(&self, rt: &R, job: &Job, memo: &mut Memo) -> Result<Vec<u8>, AllocError> {
+    /// Searches, or tells why there is no position; adds the last lines to a text.
+    fn answer<R: Wait>(
+        &self,
+        rt: &R,
+        job: &Job,
+        memo: &mut Memo,
+        last: &mut Vec<u8>,
+    ) -> Result<(), AllocError> {
         match &job.problem {
-            Ok(problem) => self.search(rt, problem, job, memo),
+            Ok(problem) => self.search(rt, problem, job, memo, last),
             Err(fault) => {
-                let why = refusal_line(self.alloc, *fault)?;
-                let _ = self.events.send(rt, Event::Said(why));
-                self.best_text(None)
+                let mut why = Vec::new(self.alloc);
+                push_refusal(&mut why, *fault)?;
+                self.say(rt, why);
+                push_best(last, None)
             }
         }
     }
@@ -204,24 +213,29 @@ impl Searcher<'_> {
         }
     }
 
+    /// Makes one search with what is kept, if it is; gives what came of it.
+    fn make<R: Wait>(&self, rt: &R, job: &Job, kept: &mut Option<Memory>) -> Event {
+        let Some(memory) = kept else {
+            return Event::Refused;
+        };
+        let mut last = Vec::new(self.alloc);
+        match self.answer(rt, job, &mut memory.memo, &mut last) {
+            Ok(()) => Event::Found(last),
+            Err(_) => Event::Refused,
+        }
+    }
+
     /// Makes each search that is sent, until no more can be.
     pub(crate) fn run<R: Wait>(&self, rt: &R, jobs: Receiver<Job, Global>) {
         let mut kept = None;
         for _ in rt.forever() {
             let Ok(job) = jobs.recv(rt) else {
-                return;
+                break;
             };
-            let Some(mut memory) = self.memory_for(kept, &job) else {
-                let _ = self.events.send(rt, Event::Refused);
-                return;
-            };
-            let event = match self.answer(rt, &job, &mut memory.memo) {
-                Ok(text) => Event::Found(text),
-                Err(_) => Event::Refused,
-            };
-            kept = Some(memory);
-            if self.events.send(rt, event).is_err() {
-                return;
+            kept = self.memory_for(kept, &job);
+            let event = self.make(rt, &job, &mut kept);
+            if !send(rt, self.events, event) || kept.is_none() {
+                break;
             }
         }
     }

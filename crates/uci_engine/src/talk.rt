@@ -6,7 +6,7 @@ use crate::plans::{bound_near, bound_of, time_of};
 use crate::reader::MAX_LINE;
 use crate::searcher::Job;
 use crate::signals::{FOR_EVER, Signals};
-use crate::texts::{costs_line, line, push, push_option, range_line, refusal_line};
+use crate::texts::{push, push_going, push_option, push_range, push_refusal};
 use byte_streams::{InputFault, Stop};
 use chess_board::{Colour, Fen};
 use chess_moves::Rays;
@@ -108,20 +108,15 @@ impl<'a> Talk<'a> {
         }
     }
 
-    /// What the engine is, and its options.
-    fn introduce(&self) -> Result<Vec<u8>, AllocError> {
-        let mut text = Vec::new(self.alloc);
-        push(&mut text, "id name matedesk ")?;
-        push(&mut text, self.version)?;
-        push(&mut text, "\nid author the matedesk authors\n")?;
-        push_option(&mut text, Spin::Hash, Spin::Hash.most())?;
-        push_option(&mut text, Spin::Bound, Spin::Bound.most())?;
-        push_option(&mut text, Spin::MultiPv, 1)?;
-        push(
-            &mut text,
-            "option name Ponder type check default false\nuciok\n",
-        )?;
-        Ok(text)
+    /// Adds what the engine is, and its options.
+    fn introduce(&self, text: &mut Vec<u8>) -> Result<(), AllocError> {
+        push(text, "id name matedesk ")?;
+        push(text, self.version)?;
+        push(text, "\nid author the matedesk authors\n")?;
+        push_option(text, Spin::Hash, Spin::Hash.most())?;
+        push_option(text, Spin::Bound, Spin::Bound.most())?;
+        push_option(text, Spin::MultiPv, 1)?;
+        push(text, "option name Ponder type check default false\nuciok\n")
     }
 
     /// Sets an option to a value of its range.
@@ -141,29 +136,35 @@ impl<'a> Talk<'a> {
     }
 
     /// Sets the option that the words name; a value out of its range is told, and leaves it as it was.
-    fn set_option(&mut self, words: &[&str]) -> Result<Vec<u8>, AllocError> {
+    fn set_option(&mut self, words: &[&str], text: &mut Vec<u8>) -> Result<(), AllocError> {
         match read_setting(words) {
             Some(Setting::Value(spin, value)) => {
                 self.set(spin, value);
-                Ok(Vec::new(self.alloc))
+                Ok(())
             }
-            Some(Setting::OutOfRange(spin)) => range_line(self.alloc, spin),
-            None => Ok(Vec::new(self.alloc)),
+            Some(Setting::OutOfRange(spin)) => push_range(text, spin),
+            None => Ok(()),
         }
     }
 
-    /// Takes up a position, unless it isn't said right.
-    fn take_position(&mut self, words: &[&str]) -> Result<Vec<u8>, AllocError> {
+    /// Takes up a position, unless it isn't said right, which is told.
+    fn take_position(&mut self, words: &[&str], text: &mut Vec<u8>) -> Result<(), AllocError> {
         match self.board.take(self.alloc, self.rays, words) {
-            Ok(()) => Ok(Vec::new(self.alloc)),
-            Err(fault) => refusal_line(self.alloc, fault),
+            Ok(()) => Ok(()),
+            Err(fault) => push_refusal(text, fault),
         }
     }
 
     /// Takes up no position, since its line is cut: behind that may be moves.
-    fn refuse_position(&mut self) -> Result<Vec<u8>, AllocError> {
+    fn refuse_position(&mut self, text: &mut Vec<u8>) -> Result<(), AllocError> {
         self.board.refuse(PositionFault::TooLong);
-        refusal_line(self.alloc, PositionFault::TooLong)
+        push_refusal(text, PositionFault::TooLong)
+    }
+
+    /// Shows the board, in place of a text in which there is nothing.
+    fn show_board(&self, text: &mut Vec<u8>) -> Result<(), AllocError> {
+        *text = look_board_text(self.alloc, &self.board.taken, Colour::White)?;
+        Ok(())
     }
 
     /// The problem that a search asks.
@@ -226,29 +227,36 @@ impl<'a> Talk<'a> {
         }
     }
 
-    /// What a line is answered at once.
-    fn obey(&mut self, line_read: &[u8]) -> Result<Vec<u8>, AllocError> {
-        let nothing = Vec::new(self.alloc);
+    /// Does what a line says, and adds what it is answered at once.
+    fn obey(&mut self, line_read: &[u8], text: &mut Vec<u8>) -> Result<(), AllocError> {
         let is_cut = line_read.len() > MAX_LINE;
         let (kept, _) = line_read.split_at(line_read.len().min(MAX_LINE));
         let Some(words) = words_of(self.alloc, kept)? else {
-            return Ok(nothing);
+            return Ok(());
         };
         let (command, rest) = command_in(words.as_slice());
         match command {
-            Command::Uci => return self.introduce(),
-            Command::IsReady => return line(self.alloc, "readyok"),
-            Command::Position if is_cut => return self.refuse_position(),
-            Command::Position => return self.take_position(rest),
-            Command::Board => return look_board_text(self.alloc, &self.board.taken, Colour::White),
-            Command::SetOption => return self.set_option(rest),
-            Command::NewGame => self.is_fresh = true,
-            Command::Go => self.plan(rest)?,
-            Command::Stop => self.stop(),
-            Command::PonderHit => self.ponder_hit(),
-            Command::Quit | Command::Unknown => {}
+            Command::Uci => self.introduce(text),
+            Command::IsReady => push(text, "readyok\n"),
+            Command::Position if is_cut => self.refuse_position(text),
+            Command::Position => self.take_position(rest, text),
+            Command::Board => self.show_board(text),
+            Command::SetOption => self.set_option(rest, text),
+            Command::NewGame => {
+                self.is_fresh = true;
+                Ok(())
+            }
+            Command::Go => self.plan(rest),
+            Command::Stop => {
+                self.stop();
+                Ok(())
+            }
+            Command::PonderHit => {
+                self.ponder_hit();
+                Ok(())
+            }
+            Command::Quit | Command::Unknown => Ok(()),
         }
-        Ok(nothing)
     }
 
     /// Adds the last lines of a search that is over and may be answered.
@@ -285,12 +293,12 @@ impl<'a> Talk<'a> {
     }
 
     /// Tells what the search of this number has cost so far, unless it is over.
-    fn tell(&self, number: u64) -> Result<Vec<u8>, AllocError> {
+    fn tell(&self, number: u64, text: &mut Vec<u8>) -> Result<(), AllocError> {
         match &self.going {
             Some(going) if going.number == number && going.found.is_none() => {
-                costs_line(self.alloc, &self.signals.costs())
+                push_going(text, &self.signals.costs())
             }
-            _ => Ok(Vec::new(self.alloc)),
+            _ => Ok(()),
         }
     }
 
@@ -304,22 +312,27 @@ impl<'a> Talk<'a> {
 
     /// Takes what came, and gives what follows.
     pub(crate) fn take(&mut self, event: Event) -> Result<Reply, Stop> {
-        let mut text = match event {
-            Event::Line(line_read) => self.obey(line_read.as_slice())?,
-            Event::Said(said) => said,
-            Event::Tick(number) => self.tell(number)?,
-            Event::Refused => return Err(Stop::NoMemory),
+        let mut text = Vec::new(self.alloc);
+        let heard = match event {
+            Event::Line(line_read) => self.obey(line_read.as_slice(), &mut text),
+            Event::Said(said) => {
+                text = said;
+                Ok(())
+            }
+            Event::Tick(number) => self.tell(number, &mut text),
+            Event::Refused => Err(AllocError),
             Event::Found(found) => {
                 self.keep(found);
-                Vec::new(self.alloc)
+                Ok(())
             }
             Event::End(fault) => {
                 self.stop();
                 self.is_ending = true;
                 self.fault = fault;
-                Vec::new(self.alloc)
+                Ok(())
             }
         };
+        heard?;
         self.release(&mut text)?;
         let job = self.begin();
         let is_last = self.is_ending && self.going.is_none();

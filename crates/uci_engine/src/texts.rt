@@ -3,7 +3,7 @@
 use crate::reader::MAX_LINE;
 use chess_board::{FenFault, Move};
 use itoa::Buffer;
-use std::alloc::{AllocError, Global};
+use std::alloc::AllocError;
 use uci_commands::{PositionFault, Spin};
 
 /// Adds words to a text.
@@ -24,14 +24,6 @@ fn push_move(text: &mut Vec<u8>, words: &str, m: Move) -> Result<(), AllocError>
     push(text, m.text().as_str())
 }
 
-/// A text of one line.
-pub(crate) fn line(alloc: Global, words: &str) -> Result<Vec<u8>, AllocError> {
-    let mut text = Vec::new(alloc);
-    push(&mut text, words)?;
-    push(&mut text, "\n")?;
-    Ok(text)
-}
-
 /// Adds the line of an option: its range, and its value where none is set.
 pub(crate) fn push_option(text: &mut Vec<u8>, spin: Spin, default: u64) -> Result<(), AllocError> {
     push(text, "option name ")?;
@@ -41,14 +33,12 @@ pub(crate) fn push_option(text: &mut Vec<u8>, spin: Spin, default: u64) -> Resul
     push(text, "\n")
 }
 
-/// The line that tells what values an option may have.
-pub(crate) fn range_line(alloc: Global, spin: Spin) -> Result<Vec<u8>, AllocError> {
-    let mut text = Vec::new(alloc);
-    push(&mut text, "info string ")?;
-    push(&mut text, spin.name())?;
-    push_count(&mut text, " is a number from 1 to ", spin.most())?;
-    push(&mut text, "\n")?;
-    Ok(text)
+/// Adds the line that tells what values an option may have.
+pub(crate) fn push_range(text: &mut Vec<u8>, spin: Spin) -> Result<(), AllocError> {
+    push(text, "info string ")?;
+    push(text, spin.name())?;
+    push_count(text, " is a number from 1 to ", spin.most())?;
+    push(text, "\n")
 }
 
 /// Adds the code of a position's fault, or what its code doesn't say.
@@ -70,13 +60,11 @@ fn push_fault(text: &mut Vec<u8>, fault: PositionFault) -> Result<(), AllocError
     }
 }
 
-/// The line that says why a position is not taken.
-pub(crate) fn refusal_line(alloc: Global, fault: PositionFault) -> Result<Vec<u8>, AllocError> {
-    let mut text = Vec::new(alloc);
-    push(&mut text, "info string ")?;
-    push_fault(&mut text, fault)?;
-    push(&mut text, "\n")?;
-    Ok(text)
+/// Adds the line that says why a position is not taken.
+pub(crate) fn push_refusal(text: &mut Vec<u8>, fault: PositionFault) -> Result<(), AllocError> {
+    push(text, "info string ")?;
+    push_fault(text, fault)?;
+    push(text, "\n")
 }
 
 /// What a search has cost so far: positions, and milliseconds.
@@ -108,13 +96,11 @@ fn push_costs(text: &mut Vec<u8>, costs: &Costs) -> Result<(), AllocError> {
     push_count(text, " nps ", rate)
 }
 
-/// The line of a search that goes on.
-pub(crate) fn costs_line(alloc: Global, costs: &Costs) -> Result<Vec<u8>, AllocError> {
-    let mut text = Vec::new(alloc);
-    push(&mut text, "info")?;
-    push_costs(&mut text, costs)?;
-    push(&mut text, "\n")?;
-    Ok(text)
+/// Adds the line of a search that goes on.
+pub(crate) fn push_going(text: &mut Vec<u8>, costs: &Costs) -> Result<(), AllocError> {
+    push(text, "info")?;
+    push_costs(text, costs)?;
+    push(text, "\n")
 }
 
 /// Adds the line of a length in which there is no mate.
