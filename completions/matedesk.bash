@@ -15,9 +15,9 @@ _matedesk() {
     # With --lines it is another command.
     [[ $command != @(look|moves|perft) || " ${COMP_WORDS[*]:2:COMP_CWORD - 2} " != *' --lines '* ]] || command+=' --lines'
     case $command in
-    solve) options='--bound --memo --limit --workers --from --progress -h --help' ;;
-    verify) options='--bound --memo --from --progress -h --help' ;;
-    tree) options='--bound --moves --set-play --tries --lines --from --progress -h --help' ;;
+    solve) options='--bound --memo --limit --workers --from --progress --record --fen -h --help' ;;
+    verify) options='--bound --memo --from --progress --record --fen -h --help' ;;
+    tree) options='--bound --moves --set-play --tries --lines --from --progress --record --fen -h --help' ;;
     sheet) options='--solutions --figurines --title --bound --memo -h --help' ;;
     import) options='--keep --bound -h --help' ;;
     serve) options='--workers --bound --memo --progress -h --help' ;;

@@ -26,6 +26,8 @@ complete -c matedesk -n '__fish_seen_subcommand_from solve verify sheet serve' -
 complete -c matedesk -n '__fish_seen_subcommand_from solve' -l limit -x -d 'Seconds that a record may take'
 complete -c matedesk -n '__fish_seen_subcommand_from solve verify tree' -l from -x -d 'Line of the first file to begin with'
 complete -c matedesk -n '__fish_seen_subcommand_from solve verify tree serve' -l progress -d 'Tell how far it is'
+complete -c matedesk -n '__fish_seen_subcommand_from solve verify tree' -l record -d 'Records themselves in place of files'
+complete -c matedesk -n '__fish_seen_subcommand_from solve verify tree' -l fen -d 'FENs in place of files'
 complete -c matedesk -n '__fish_seen_subcommand_from tree' -l moves -x -a '(seq 1 15)' -d 'Moves of the attacker that are shown'
 complete -c matedesk -n '__fish_seen_subcommand_from tree' -l set-play -d 'Show what would follow were the defender to move first'
 complete -c matedesk -n '__fish_seen_subcommand_from tree' -l tries -d 'Show the first moves that one reply alone refutes'

@@ -35,6 +35,8 @@ _matedesk() {
                 '--workers=[threads that solve each record]:threads:(1 2 3 4 5 6 7 8 9 10 11 12 13 14 15 16)' \
                 '--from=[line of the first file to begin with]:line: ' \
                 '--progress[tell how far it is]' \
+                '--record[records themselves in place of files]' \
+                '--fen[FENs in place of files]' \
                 '*:file of records:_files'
             ;;
         verify)
@@ -43,6 +45,8 @@ _matedesk() {
                 '--memo=[positions that are remembered]:positions: ' \
                 '--from=[line of the first file to begin with]:line: ' \
                 '--progress[tell how far it is]' \
+                '--record[records themselves in place of files]' \
+                '--fen[FENs in place of files]' \
                 '*:file of records:_files'
             ;;
         tree)
@@ -54,6 +58,8 @@ _matedesk() {
                 '--lines=[lines that a tree has at most]:lines: ' \
                 '--from=[line of the first file to begin with]:line: ' \
                 '--progress[tell how far it is]' \
+                '--record[records themselves in place of files]' \
+                '--fen[FENs in place of files]' \
                 '*:file of records:_files'
             ;;
         sheet)

@@ -21,12 +21,12 @@ use Rattle.byte_streams.specs.Inputs.{MayBe}
 use Rattle.file_answers.specs.FileAnswers.{AreReplies}
 use Rattle.file_answers.specs.LinesFrom.{IsReplyOn}
 use Rattle.plain_commands.specs.Solved.{Solves, record_replies}
-use Rattle.file_answers.specs.Sources.{Holds}
+use Rattle.file_answers.specs.Sources.{Holds, held, held_back}
 use Rattle.text_lines.specs.Refusals.{fault_line}
 use Rattle.mate_answers.specs.InputReplies.{IsLineReply, answered, refused, skipped}
 use Rattle.chess_board.specs.Positions.{Setup}
-use Rattle.command_words.specs.Asked.{asked, asked_by, asked_exactly, look, serve, solve}
-use Rattle.plain_commands.specs.Command.{Ends}
+use Rattle.command_words.specs.Asked.{asked, asked_by, asked_exactly, look, serve, solve, records_given, records_given_by, records_given_exactly}
+use Rattle.plain_commands.specs.Command.{Ends, EndsBy}
 use Rattle.command_words.specs.Hyphens.{escaped}
 use Rattle.command_words.specs.LineCommands.{joined}
 use Rattle.chess_views.specs.Looks.{look_text}
@@ -45,6 +45,21 @@ pub asked_serve : asked (codes "matedesk" ∷ codes "serve" ∷ codes "--workers
     ≡ Some (serve 2 3 16384 (codes "one" ∷ codes "two" ∷ []))
 unfolding desk_on_literals asked_by asked_exactly escaped joined
 asked_serve = refl
+
+names_solve : records_given (codes "matedesk" ∷ codes "solve" ∷ codes "one" ∷ codes "two" ∷ []) ≡ false
+unfolding desk_on_literals records_given_by records_given_exactly escaped joined
+names_solve = refl
+
+names_serve : records_given (codes "matedesk" ∷ codes "serve" ∷ codes "--workers" ∷ codes "2" ∷ codes "one" ∷ codes "two" ∷ []) ≡ false
+unfolding desk_on_literals records_given_by records_given_exactly escaped joined
+names_serve = refl
+
+-- Words that give no records themselves name files.
+of_files : (holds : Text → Option (List ℕ)) (refuses : Text → Type 0) (words : List Text) (status : ℕ) (old new : Option (List ℕ))
+    → records_given words ≡ false → EndsBy holds refuses words status old new
+    → Ends (held false holds) (held_back false refuses) (asked words) status old new
+of_files holds refuses words status old new names ends =
+    subst (λ given. Ends (held given holds) (held_back given refuses) (asked words) status old new) names ends
 
 kings : Setup
 kings = record {
@@ -187,19 +202,21 @@ look_written once holds refuses words status old out is ends empty done =
 pub solve_written : RecordsClear → (holds : Text → Option (List ℕ)) (refuses : Text → Type 0) (words : List Text) (status : ℕ) (old out : List ℕ)
     → holds (codes "one") ≡ Some (codes "8/8\n") → holds (codes "two") ≡ Some (codes " \n8/8")
     → words ≡ codes "matedesk" ∷ codes "solve" ∷ codes "one" ∷ codes "two" ∷ []
-    → Ends holds refuses (asked words) status (Some old) (Some out) → old ≡ [] → status ≡ 1
+    → EndsBy holds refuses words status (Some old) (Some out) → old ≡ [] → status ≡ 1
     → out ≡ codes "# line 1: Fen FieldCount\n# line 2: Fen FieldCount\n"
 solve_written clear holds refuses words status old out one two is ends empty done =
     let asks = ap asked is ∙ asked_solve in
-    let gains = (subst (λ a. Ends holds refuses a status (Some old) (Some out)) asks ends).refused done in
-    gains.appends ∙ ap (λ t. t ++ gains.gained) empty ∙ solve_shown clear holds one two true gains.gained gains.shows
+    let named = of_files holds refuses words status (Some old) (Some out) (ap records_given is ∙ names_solve) ends in
+    let gains = (subst (λ a. Ends (held false holds) (held_back false refuses) a status (Some old) (Some out)) asks named).refused done in
+    gains.appends ∙ ap (λ t. t ++ gains.gained) empty ∙ solve_shown clear (held false holds) one two true gains.gained gains.shows
 
 pub serve_written : RecordsClear → (holds : Text → Option (List ℕ)) (refuses : Text → Type 0) (words : List Text) (status : ℕ) (old out : List ℕ)
     → holds (codes "one") ≡ Some (codes "8/8\n") → holds (codes "two") ≡ Some (codes " \n8/8")
     → words ≡ codes "matedesk" ∷ codes "serve" ∷ codes "--workers" ∷ codes "2" ∷ codes "one" ∷ codes "two" ∷ []
-    → Ends holds refuses (asked words) status (Some old) (Some out) → old ≡ [] → status ≡ 1
+    → EndsBy holds refuses words status (Some old) (Some out) → old ≡ [] → status ≡ 1
     → out ≡ codes "# line 1: Fen FieldCount\n# line 2: Fen FieldCount\n"
 serve_written clear holds refuses words status old out one two is ends empty done =
     let asks = ap asked is ∙ asked_serve in
-    let gains = (subst (λ a. Ends holds refuses a status (Some old) (Some out)) asks ends).refused done in
-    gains.appends ∙ ap (λ t. t ++ gains.gained) empty ∙ solve_shown clear holds one two true gains.gained gains.shows.solves
+    let named = of_files holds refuses words status (Some old) (Some out) (ap records_given is ∙ names_serve) ends in
+    let gains = (subst (λ a. Ends (held false holds) (held_back false refuses) a status (Some old) (Some out)) asks named).refused done in
+    gains.appends ∙ ap (λ t. t ++ gains.gained) empty ∙ solve_shown clear (held false holds) one two true gains.gained gains.shows.solves

@@ -2,8 +2,7 @@
 
 ghost use Rattle.std.specs.Prelude.{◌≡◌, IfOk, IfSome, List, Some, ℕ, ◌∷◌, [], codes, map};
 ghost use Rattle.std.specs.String.{string_bytes};
-ghost use Rattle.command_words.specs.Asked.{asked};
-ghost use Rattle.plain_commands.specs.Command.{Ends};
+ghost use Rattle.plain_commands.specs.Command.{EndsBy};
 
 use chess_board::spells_one;
 use chess_notation::records_clear;
@@ -95,8 +94,8 @@ pub fn solve_written(alloc: Global) -> Option<Vec<u8>>
 /// What `serve` has written of such files by two workers, where it ends with 1. It does nothing: its contract is the law.
 pub fn serve_written<S: Source>(source: &S)
     ensures { (out : List ℕ) → S.holds source.now (codes "one") ≡ Some (codes "8/8\n") → S.holds source.now (codes "two") ≡ Some (codes " \n8/8")
-        → Ends (S.holds source.now) (S.refuses source.now)
-        (asked (codes "matedesk" ∷ codes "serve" ∷ codes "--workers" ∷ codes "2" ∷ codes "one" ∷ codes "two" ∷ [])) 1 (Some []) (Some out)
+        → EndsBy (S.holds source.now) (S.refuses source.now)
+        (codes "matedesk" ∷ codes "serve" ∷ codes "--workers" ∷ codes "2" ∷ codes "one" ∷ codes "two" ∷ []) 1 (Some []) (Some out)
         → out ≡ codes "# line 1: Fen FieldCount\n# line 2: Fen FieldCount\n" }
 {
     records_clear();

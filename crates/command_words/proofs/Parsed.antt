@@ -4,12 +4,14 @@ use Rattle.std.proofs.Common.{refl, ap, sym, subst, true, false, inl, inr, IfOk,
 use Rattle.std.specs.List.{list_all, list_any}
 use Rattle.std.proofs.Math.Bool.{and-false}
 use Rattle.std.specs.Prelude.{option_and_then}
+use Rattle.std.specs.Option.{option_map_or}
 use Rattle.clap.specs.Words.{App, FailsBy, HasKind, HasMatchesOf, IsAmong, Kinds, Text, fault_of, is_simple, kind_of}
 use Rattle.clap.specs.declared.error.Error.{Error}
 use Rattle.clap.specs.declared.error.kind.ErrorKind.{ErrorKind}
 use Rattle.clap.specs.declared.error.kind.ErrorKind.TheVariants as kind
 use Rattle.clap.specs.declared.parser.matches.ArgMatches.{ArgMatches}
 use Rattle.command_words.specs.Asked.{asked_by, asked_in, all_display, asked_of, asks_display_in, is_display, may_display_in}
+use Rattle.command_words.specs.Asked.{records_given_by, records_given_in, records_given_of}
 
 asked_here : (a : App) (words : List Text) (r : Result ArgMatches Error) → is_simple a ≡ true → IfOk r (HasMatchesOf a words)
     → FailsBy (fault_of a words) r → IfOk r (λ m. asked_of m ≡ asked_in a words)
@@ -20,6 +22,17 @@ pub asked_at_ok : (app a : App) → app ≡ a → (words : List Text) (r : Resul
     → IfOk r (HasMatchesOf app words) → FailsBy (fault_of app words) r → IfOk r (λ m. asked_of m ≡ asked_in a words)
 asked_at_ok app a same words r simple has fails =
     subst (λ (x : App). IfOk r (λ m. asked_of m ≡ asked_in x words)) same (asked_here app words r (ap is_simple same ∙ simple) has fails)
+
+records_here : (a : App) (words : List Text) (r : Result ArgMatches Error) → is_simple a ≡ true → IfOk r (HasMatchesOf a words)
+    → IfOk r (λ m. records_given_of m ≡ records_given_in a words)
+records_here a words (Ok m) simple has = ap (λ x. option_map_or (λ p. records_given_by p.0 p.1) x false) (has simple).1
+records_here a words (Err e) simple has = tt
+
+pub records_at_ok : (app a : App) → app ≡ a → (words : List Text) (r : Result ArgMatches Error) → is_simple a ≡ true
+    → IfOk r (HasMatchesOf app words) → IfOk r (λ m. records_given_of m ≡ records_given_in a words)
+records_at_ok app a same words r simple has =
+    subst (λ (x : App). IfOk r (λ m. records_given_of m ≡ records_given_in x words)) same
+    (records_here app words r (ap is_simple same ∙ simple) has)
 
 none_where : (kinds : Kinds) (a : App) (words : List Text) (e : Error) → fault_of a words ≡ kinds → HasKind kinds e
     → kind_of e ≢ kind.OutOfMemory → asked_in a words ≡ None

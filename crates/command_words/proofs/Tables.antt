@@ -11,7 +11,7 @@ use Rattle.command_words.specs.ClapWords.{app_of, new_rule, rule_of, with_rule, 
 use Rattle.command_words.specs.CommandLine.{IsLocal, wanted, depth_rule, bound_rule, import_bound_rule, workers_rule, solve_workers_rule, memo_rule}
 use Rattle.command_words.specs.CommandLine.{from_rule, limit_rule}
 use Rattle.command_words.specs.CommandLine.{shown_rule, most_lines_rule, flag_rule, title_rule, words_rule, files_rule, with_solving_options}
-use Rattle.command_words.specs.CommandLine.{with_lines_of_files, with_tree_options, with_sheet_flags, with_sheet_options, solve_app, verify_app}
+use Rattle.command_words.specs.CommandLine.{with_given_records, with_lines_of_files, with_tree_options, with_sheet_flags, with_sheet_options, solve_app, verify_app}
 use Rattle.command_words.specs.CommandLine.{tree_app, import_app, serve_app, replay_app, uci_app, look_app, play_app, moves_app, perft_app}
 use Rattle.command_words.specs.CommandLine.{explain_app, look_lines_app, moves_lines_app, perft_lines_app, sheet_app}
 use Rattle.command_words.specs.Arguments.{IsArgOf, argument_rule, row_rule}
@@ -27,7 +27,7 @@ unfolding row_rule argument_rule new_rule wanted depth_rule bound_rule import_bo
 rows_on_literals = tt
 
 unfoldable pub commands_on_literals : ⊤
-unfolding subcommand_app app_named with_arguments argument_rule with_solving_options with_lines_of_files with_tree_options with_sheet_flags
+unfolding subcommand_app app_named with_arguments argument_rule with_solving_options with_given_records with_lines_of_files with_tree_options with_sheet_flags
     with_sheet_options solve_app verify_app tree_app import_app serve_app replay_app uci_app look_app play_app moves_app perft_app
     explain_app look_lines_app moves_lines_app perft_lines_app sheet_app
 commands_on_literals = tt

@@ -1,5 +1,5 @@
 -- What the words of a command line ask for.
-use Rattle.std.specs.Prelude.{ℕ, ◌^◌, ◌==◌, ◌&&◌, Bool, List, [], ◌∷◌, Option, None, Some, true, false, codes}
+use Rattle.std.specs.Prelude.{ℕ, ◌^◌, ◌==◌, ◌&&◌, ◌||◌, Bool, List, [], ◌∷◌, Option, None, Some, true, false, codes}
 use Rattle.std.specs.Prelude.{length, nat_lt, option_map, option_and_then, unwrap_or, if◌then◌else◌}
 use Rattle.std.specs.List.{list_all, list_any}
 use Rattle.std.specs.Option.{option_map_or}
@@ -252,6 +252,18 @@ asked_of m = option_and_then (λ p. asked_by p.0 p.1) (subcommand_rows_of m)
 abbrev pub progress_of : ArgMatches → Bool
 progress_of m = option_map_or (λ p. is_given (codes "progress") p.1) (subcommand_rows_of m) false
 
+-- a command that answers records one after the other
+abbrev pub answers_records : Text → Bool
+answers_records name = bytes_eq name (codes "solve") || (bytes_eq name (codes "verify") || bytes_eq name (codes "tree"))
+
+-- Such a command's files are none, but the records themselves, or FENs.
+unfoldable pub records_given_by : Text → List Row → Bool
+records_given_by name rows = answers_records name && (is_given (codes "record") rows || is_given (codes "fen") rows)
+
+-- the same of the matches of a whole command line
+abbrev pub records_given_of : ArgMatches → Bool
+records_given_of m = option_map_or (λ p. records_given_by p.0 p.1) (subcommand_rows_of m) false
+
 abbrev pub unless_faulty : Kinds → Option Asked → Option Asked
 unless_faulty [] asks = asks
 unless_faulty (fault ∷ faults) asks = None
@@ -259,6 +271,10 @@ unless_faulty (fault ∷ faults) asks = None
 -- what the words ask for of a command line; a request for help is a fault to `clap`
 abbrev pub asked_in : App → List Text → Option Asked
 asked_in a words = unless_faulty (fault_of a words) (option_and_then (λ p. asked_by p.0 p.1) (subcommand_of a words))
+
+-- the same of the words of a command line
+abbrev pub records_given_in : App → List Text → Bool
+records_given_in a words = option_map_or (λ p. records_given_by p.0 p.1) (subcommand_of a words) false
 
 -- a kind that is no mistake but a request for help or for the version
 abbrev pub is_display : ErrorKind → Bool
@@ -281,6 +297,9 @@ asks_display_in a words = all_display (fault_of a words)
 unfoldable pub asked_exactly : List Text → Option Asked
 asked_exactly words = asked_in desk_app words
 
+unfoldable pub records_given_exactly : List Text → Bool
+records_given_exactly words = records_given_in desk_app words
+
 unfoldable pub may_display_exactly : List Text → Bool
 may_display_exactly words = may_display_in desk_app words
 
@@ -290,6 +309,10 @@ asks_display_exactly words = asks_display_in desk_app words
 -- what the words ask for; none where they are at fault, or ask for help or the version
 abbrev pub asked : List Text → Option Asked
 asked words = asked_exactly (given words)
+
+-- whether the words give records themselves, in place of files
+abbrev pub records_given : List Text → Bool
+records_given words = records_given_exactly (given words)
 
 -- whether the words may be taken to ask for help or the version
 abbrev pub may_display : List Text → Bool

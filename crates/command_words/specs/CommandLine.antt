@@ -104,9 +104,13 @@ with_solving_options a default = with_rule (with_rule a bound_rule) (memo_rule d
 abbrev pub progress_rule : Rule
 progress_rule = flag_rule (codes "progress")
 
+-- with what says that the files are none, but records themselves
+unfoldable pub with_given_records : App → App
+with_given_records a = with_rule (with_rule a (flag_rule (codes "record"))) (flag_rule (codes "fen"))
+
 -- with what is read line by line: files, the number of the line that is the first to be answered, and whether it is told how far that is
 unfoldable pub with_lines_of_files : App → App
-with_lines_of_files a = with_rule (with_rule (with_rule a from_rule) progress_rule) files_rule
+with_lines_of_files a = with_rule (with_given_records (with_rule (with_rule a from_rule) progress_rule)) files_rule
 
 unfoldable pub solve_app : App
 solve_app = with_lines_of_files

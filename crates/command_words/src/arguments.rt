@@ -7,8 +7,9 @@ use crate::help::{
     ABOUT_BOARD, ABOUT_BOUND, ABOUT_COORDINATES, ABOUT_DEPTH, ABOUT_DIVIDE, ABOUT_FEN, ABOUT_FENS,
     ABOUT_FIGURINES, ABOUT_FILE, ABOUT_FLIP, ABOUT_FROM, ABOUT_IMPORT_BOUND, ABOUT_KEEP,
     ABOUT_LIMIT, ABOUT_MEMO, ABOUT_MEMOS, ABOUT_MOST_LINES, ABOUT_MOVE, ABOUT_POSITIONS,
-    ABOUT_PROGRESS, ABOUT_SCRIPT, ABOUT_SET_PLAY, ABOUT_SHOWN, ABOUT_SOLUTIONS,
-    ABOUT_SOLVE_WORKERS, ABOUT_SVG, ABOUT_TITLE, ABOUT_TRIES, ABOUT_WORD, ABOUT_WORKERS,
+    ABOUT_PROGRESS, ABOUT_RECORD, ABOUT_RECORD_FEN, ABOUT_SCRIPT, ABOUT_SET_PLAY, ABOUT_SHOWN,
+    ABOUT_SOLUTIONS, ABOUT_SOLVE_WORKERS, ABOUT_SVG, ABOUT_TITLE, ABOUT_TRIES, ABOUT_WORD,
+    ABOUT_WORKERS,
 };
 
 /// The arguments of the commands.
@@ -33,6 +34,8 @@ pub(crate) enum Argument {
     MostLines,
     Title,
     Progress,
+    Record,
+    RecordFen,
     SetPlay,
     Tries,
     Solutions,
@@ -266,6 +269,19 @@ static PROGRESS: Row = Row {
     ..FLAG
 };
 
+static RECORD: Row = Row {
+    id: "record",
+    help: ABOUT_RECORD,
+    ..FLAG
+};
+
+/// The same of a record that is no more than a FEN.
+static RECORD_FEN: Row = Row {
+    id: "fen",
+    help: ABOUT_RECORD_FEN,
+    ..FLAG
+};
+
 static SET_PLAY: Row = Row {
     id: "set-play",
     help: ABOUT_SET_PLAY,
@@ -357,6 +373,8 @@ pub(crate) fn row_of(argument: Argument) -> &'static Row
         Argument::MostLines => &MOST_LINES,
         Argument::Title => &TITLE,
         Argument::Progress => &PROGRESS,
+        Argument::Record => &RECORD,
+        Argument::RecordFen => &RECORD_FEN,
         Argument::SetPlay => &SET_PLAY,
         Argument::Tries => &TRIES,
         Argument::Solutions => &SOLUTIONS,

@@ -74,6 +74,8 @@ static SOLVE: Subcommand = Subcommand {
         Argument::SolveWorkers,
         Argument::From,
         Argument::Progress,
+        Argument::Record,
+        Argument::RecordFen,
         Argument::File,
     ],
 };
@@ -87,6 +89,8 @@ static VERIFY: Subcommand = Subcommand {
         Argument::Memo,
         Argument::From,
         Argument::Progress,
+        Argument::Record,
+        Argument::RecordFen,
         Argument::File,
     ],
 };
@@ -103,6 +107,8 @@ static TREE: Subcommand = Subcommand {
         Argument::MostLines,
         Argument::From,
         Argument::Progress,
+        Argument::Record,
+        Argument::RecordFen,
         Argument::File,
     ],
 };

@@ -84,7 +84,8 @@ others behind it if need be. It is left out at the first move alone:
 A sound problem then has no mate within its bound:
   8/8/3p1p2/1N2p3/4kNQ1/5n2/2K3B1/8 w - - am Bh1; c0 \"no mate in 2\";
 
-The FILE `-` is standard input; a file by that name is `./-`.
+The FILE `-` is standard input; a file by that name is `./-`. With --record or --fen there
+are no files: `matedesk solve --fen '7k/8/5K2/8/8/8/8/R7 w - -' --bound 2`.
 
 Status:
   0  every line was answered
@@ -447,6 +448,12 @@ pub const ABOUT_FROM: &str =
 /// The option `--progress` in one line.
 pub const ABOUT_PROGRESS: &str =
     "Tell on standard error how far it is, and at the end what it came to";
+
+/// The option `--record` in one line.
+pub const ABOUT_RECORD: &str = "FILEs are no names, but the records themselves, each in quotes";
+
+/// The option `--fen` of a command over records in one line.
+pub const ABOUT_RECORD_FEN: &str = "The same of a FEN, which goes with --bound";
 
 /// The argument FILE in one line.
 pub const ABOUT_FILE: &str = "Files of records, each answered in its place; `-` is standard input";

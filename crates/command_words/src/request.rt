@@ -9,7 +9,7 @@ ghost use Rattle.command_words.specs.Asked.{asked_by, asked_exactly, bound_in, d
 ghost use Rattle.command_words.specs.Asked.{look_lines_in, memo_size_in, moves_in, number_or_zero, perft_in, perft_lines_in, play_in};
 ghost use Rattle.command_words.specs.Asked.{side_in, svg_at, workers_in, serve_in, solve_in, some_number, tree_form_in, tree_in, verify_in};
 ghost use Rattle.command_words.specs.Asked.{sheet_form_in, sheet_in, import_in, asked_of, asks_display_exactly, is_display, may_display_exactly};
-ghost use Rattle.command_words.specs.Asked.{progress_of};
+ghost use Rattle.command_words.specs.Asked.{answers_records, progress_of, records_given_by, records_given_exactly, records_given_of};
 ghost use Rattle.command_words.specs.Request.{plan_of};
 
 use crate::command_line::desk_command;
@@ -564,9 +564,35 @@ pub fn asks_progress(matches: &ArgMatches) -> bool
     }
 }
 
+/// Whether a command answers records one after the other.
+fn answers_records(name: &str) -> bool
+    ensures { result ≡ answers_records name.now }
+{
+    is_same(name, "solve") || is_same(name, "verify") || is_same(name, "tree")
+}
+
+/// Whether the arguments of such a command give records themselves, in place of names of files.
+#[tactic(auto, unfolding(crate::specs::Asked::records_given_by))]
+fn gives_records_by(name: &str, matches: &ArgMatches) -> bool
+    ensures { result ≡ records_given_by name.now (rows_of (found_of matches.now)) }
+{
+    answers_records(name) && (is_given(matches, "record") || is_given(matches, "fen"))
+}
+
+/// Whether the matches of the whole command line do.
+pub fn gives_records(matches: &ArgMatches) -> bool
+    ensures { result ≡ records_given_of matches.now }
+{
+    match matches.subcommand() {
+        Some((name, inner)) => gives_records_by(name, inner),
+        None => false,
+    }
+}
+
 /// Parses the words of a command line. A request for help or for the version is an `Err`.
 pub fn parse<'a>(alloc: Global, words: &'a [&'a str]) -> Result<ArgMatches<'a>, Error>
     ensures ok { IfOk result (λ m. asked_of m ≡ asked_exactly (map (λ s. s.now) words.entry.now)) }
+    ensures records { IfOk result (λ m. records_given_of m ≡ records_given_exactly (map (λ s. s.now) words.entry.now)) }
     ensures clear { IfOk result (λ _. asks_display_exactly (map (λ s. s.now) words.entry.now) ≡ false) }
     ensures err { IfErr result (λ e. kind_of e ≢ ErrorKind.OutOfMemory → asked_exactly (map (λ s. s.now) words.entry.now) ≡ None) }
     ensures display { IfErr result (λ e. is_display (kind_of e) ≡ true → may_display_exactly (map (λ s. s.now) words.entry.now) ≡ true) }

@@ -1,5 +1,5 @@
 -- What files hold.
-use Rattle.std.specs.Prelude.{◌≡◌, ◌++◌, ◌⊎◌, ℕ, List, [], ◌∷◌, Option, length, ⊤}
+use Rattle.std.specs.Prelude.{◌≡◌, ◌++◌, ◌⊎◌, ℕ, List, [], ◌∷◌, Option, Some, Bool, true, false, if◌then◌else◌, length, ⊤}
 use Rattle.byte_streams.specs.Inputs.{MayBe}
 
 -- Each input is what its name holds, where that is known.
@@ -7,6 +7,15 @@ abbrev pub Holds : (List ℕ → Option (List ℕ)) → List (List ℕ) → List
 Holds holds [] [] = ⊤
 Holds holds (name ∷ names) (input ∷ inputs) = MayBe (holds name) input × Holds holds names inputs
 Holds holds _ _ = ⊥
+
+-- What names hold that are, where that is so, no names but the texts themselves: each itself.
+abbrev pub held : Bool → (List ℕ → Option (List ℕ)) → List ℕ → Option (List ℕ)
+held are_texts holds name = if are_texts then Some name else holds name
+
+-- Which of these may be refused: of the texts none.
+abbrev pub held_back : Bool → (List ℕ → Type 0) → List ℕ → Type 0
+held_back true refuses name = ⊥
+held_back false refuses name = refuses name
 
 -- One of the names is one that may be refused.
 abbrev pub SomeRefused : (List ℕ → Type 0) → List (List ℕ) → Type 0

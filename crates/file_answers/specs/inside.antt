@@ -1,1 +1,2 @@
 pub mod LinesFrom
+pub mod GivenTexts

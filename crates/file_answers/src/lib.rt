@@ -2,13 +2,14 @@
 //! at the end.
 //!
 //! What a line is answered is the business of a `LineHandler` or a `LineWriter` of `text_lines`, and what a command answers its files that of
-//! `FileAnswers`. To read: `sources` (a `Source` is the files that a command may read) and `files` (those of the system); `writing` and
-//! `status`; then `file_answers`, where `answer_files` goes from file to file, with `lines_from` and `written_from` (the lines from one on);
+//! `FileAnswers`. To read: `sources` (a `Source` is the files that a command may read) and `files` (those of the system), `given_texts` (texts in
+//! place of files); `writing` and `status`; then `file_answers`, where `answer_files` goes from file to file, with `lines_from` and `written_from` (the lines from one on);
 //! and `outputs`, which were made elsewhere.
 #![tactic(auto)]
 
 mod file_answers;
 mod files;
+mod given_texts;
 mod lines_from;
 mod outputs;
 mod sources;
@@ -18,6 +19,7 @@ mod written_from;
 
 pub use file_answers::{FileAnswers, FileStart, answer_files};
 pub use files::{FileSystem, Reading, Stream};
+pub use given_texts::{Given, GivenText, GivenTexts};
 pub use lines_from::answer_lines_from;
 pub use outputs::put_outputs;
 pub use sources::{

@@ -116,7 +116,7 @@ pub fn complain_of<S: Source, E: Write>(err: &mut E, source: &S, name: &str) {
     if begins_as_record(name) {
         complain(
             err,
-            "that is a record: write it to a file, or to standard input, whose name is -",
+            "that is a record: behind --record solve, verify and tree take it as it stands",
         );
         return;
     }

@@ -1,5 +1,6 @@
 -- What there is of a command that starts threads, where memory gives out before it does.
-use Rattle.std.proofs.Common.{◌≡◌, ◌<◌, ◌-◌, Bool, true, ℕ, zero, suc, List, [], Option, Some, None, Result, Ok, Err, IfOk, IfErr, refl, subst, arith}
+use Rattle.std.proofs.Common.{◌≡◌, ◌<◌, ◌-◌, Bool, true, false, ℕ, zero, suc, List, [], Option, Some, None, Result, Ok, Err, IfOk, IfErr}
+use Rattle.std.proofs.Common.{refl, subst, arith}
 use Rattle.std.proofs.KnownBytes.{Appends-nil, Keeps-refl}
 use Rattle.byte_streams.specs.declared.stops.Stop.{Stop}
 use Rattle.byte_streams.specs.declared.stops.Stop.TheVariants as stop
@@ -7,6 +8,7 @@ use Rattle.clap.specs.Words.{Text}
 use Rattle.command_words.specs.Asked.{Asked, look, board, svg, play, moves, perft, divide, lines, solve, solve_on, limited}
 use Rattle.command_words.specs.Asked.{verify, tree, sheet, imports, serve, replay, explain, uci, asks_threads}
 use Rattle.plain_commands.specs.Command.{Ends, EndsByStatus, EndsInPart}
+use Rattle.file_answers.specs.Sources.{held, held_back}
 use Rattle.file_answers.specs.Status.{status_of}
 use Rattle.file_answers.specs.Writing.{Gains}
 use Rattle.plain_commands.specs.Solved.{LimitedNone, SolvesLimited, SolvesNone, StopsLimited}
@@ -51,6 +53,13 @@ ends_unstarted holds refuses ends none unsolved (Some (sheet bound memo form tit
 ends_unstarted holds refuses ends none unsolved (Some (imports keep bound names)) threads out = cc
 ends_unstarted holds refuses ends none unsolved (Some (replay name)) threads out = cc
 ends_unstarted holds refuses ends none unsolved (Some (explain words)) threads out = cc
+
+-- Be what names hold what files do, or records that are given: in either case.
+pub ends_given : (are_texts : Bool) (holds : Text → Option (List ℕ)) (refuses : Text → Type 0)
+    → EndsByStatus (held true holds) (held_back true refuses) → EndsByStatus (held false holds) (held_back false refuses)
+    → EndsByStatus (held are_texts holds) (held_back are_texts refuses)
+ends_given true holds refuses texts files = texts
+ends_given false holds refuses texts files = files
 
 -- All is shown, whether or not some records were not decided, or it stopped.
 ends_in_time_by : (holds : Text → Option (List ℕ)) (refuses : Text → Type 0) → EndsByStatus holds refuses → EndsInPart holds refuses

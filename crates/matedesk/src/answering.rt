@@ -3,15 +3,15 @@
 ghost use Rattle.std.specs.Prelude.{◌≡◌, ◌⊎◌, None, map, true, false};
 ghost use Rattle.std.specs.String.{string_bytes};
 ghost use Rattle.command_words.specs.Asked.{asked, asks_display, asks_threads, may_display};
-ghost use Rattle.plain_commands.specs.Command.{Ends};
+ghost use Rattle.plain_commands.specs.Command.{EndsBy};
 
 use crate::limiting::solve_in_time;
 use crate::serving::serve;
 use crate::sharing::solve_on;
 use crate::talking::talk;
 use command_progress::{Console, Telling, WatchedFiles};
-use command_words::{Request, asks_progress, escaped, parse, request_of};
-use file_answers::{Source, complain, no_memory};
+use command_words::{Request, asks_progress, escaped, gives_records, parse, request_of};
+use file_answers::{GivenTexts, Source, complain, no_memory};
 use plain_commands::{ends_by_status, limited_none, plain_command, solves_none};
 use std::alloc::Global;
 use std::io::Write;
@@ -29,12 +29,18 @@ fn threaded_command<
 where
     S::File: Send,
     requires threads { asks_threads (asked (map string_bytes words.now)) ≡ true }
-    ensures ends { Ends (S.holds source.now) (S.refuses source.now) (asked (map string_bytes words.now)) result
+    ensures ends { EndsBy (S.holds source.now) (S.refuses source.now) (map string_bytes words.now) result
         (O.contents out.old) (O.contents out.new) }
     ensures no_misuse { result ≡ 2 → asks_display (map string_bytes words.now) ≡ false }
 {
-    // How it ends with the status of what was written, and with nothing written.
-    ends_by_status(source);
+    // How it ends with the status of what was written, be it of files or of records given, and with nothing written.
+    let mut given = GivenTexts {
+        source,
+        are_texts: true,
+    };
+    ends_by_status(&given);
+    given.are_texts = false;
+    ends_by_status(&given);
     limited_none();
     solves_none();
     let Ok(texts) = escaped(alloc, words) else {
@@ -43,16 +49,17 @@ where
     let Ok(matches) = parse(alloc, texts.as_slice()) else {
         return no_memory(err);
     };
+    given.are_texts = gives_records(&matches);
     let request = request_of(&matches);
     match &request {
         Some(Request::Serve(workers, bound, memo, names)) => serve(
-            rt, alloc, *workers, *bound, *memo, names, source, out, err,
+            rt, alloc, *workers, *bound, *memo, names, &given, out, err,
         ),
         Some(Request::SolveOn(workers, bound, memo, files)) => solve_on(
-            rt, alloc, *workers, *bound, *memo, files, source, out, err,
+            rt, alloc, *workers, *bound, *memo, files, &given, out, err,
         ),
-        Some(Request::Limited(asked)) => solve_in_time(rt, alloc, asked, source, out, err),
-        Some(Request::Uci) => talk(rt, alloc, source, out, err),
+        Some(Request::Limited(asked)) => solve_in_time(rt, alloc, asked, &given, out, err),
+        Some(Request::Uci) => talk(rt, alloc, &given, out, err),
         _ => unreachable!(),
     }
 }
@@ -68,7 +75,7 @@ fn answer<R: Threads + Wait + Sync + Clone + Drop + Send + 'static, S: Source, O
 ) -> u8
 where
     S::File: Send,
-    ensures ends { Ends (S.holds source.now) (S.refuses source.now) (asked (map string_bytes words.now)) result
+    ensures ends { EndsBy (S.holds source.now) (S.refuses source.now) (map string_bytes words.now) result
         (O.contents out.old) (O.contents out.new) }
     ensures display { (result ≡ 0) ⊎ (result ≡ 4) → asked (map string_bytes words.now) ≡ None → may_display (map string_bytes words.now) ≡ true }
     ensures no_misuse { result ≡ 2 → asks_display (map string_bytes words.now) ≡ false }
@@ -105,7 +112,7 @@ pub fn command<
 >(rt: &R, alloc: Global, words: &[String], source: &S, out: &mut O, err: &mut E) -> u8
 where
     S::File: Send,
-    ensures ends { Ends (S.holds source.now) (S.refuses source.now) (asked (map string_bytes words.now)) result
+    ensures ends { EndsBy (S.holds source.now) (S.refuses source.now) (map string_bytes words.now) result
         (O.contents out.old) (O.contents out.new) }
     ensures display { (result ≡ 0) ⊎ (result ≡ 4) → asked (map string_bytes words.now) ≡ None → may_display (map string_bytes words.now) ≡ true }
     ensures no_misuse { result ≡ 2 → asks_display (map string_bytes words.now) ≡ false }

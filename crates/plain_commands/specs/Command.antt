@@ -4,13 +4,13 @@ use Rattle.std.specs.Io.KnownBytes.{Keeps}
 use Rattle.clap.specs.Words.{Text}
 use Rattle.byte_streams.specs.declared.stops.Stop.{Stop}
 use Rattle.byte_streams.specs.declared.stops.Stop.TheVariants.{NoMemory, Unreadable, Unwritable, NoReader}
-use Rattle.file_answers.specs.Sources.{SomeRefused}
+use Rattle.file_answers.specs.Sources.{SomeRefused, held, held_back}
 use Rattle.file_answers.specs.Status.{status_of}
 use Rattle.file_answers.specs.Writing.{Gains, GainsPart, StopsShowing}
 use Rattle.chess_views.specs.Counts.{divided_text, perft_text}
 use Rattle.chess_views.specs.Listings.{moves_text}
 use Rattle.chess_views.specs.Looks.{look_board_text, look_text}
-use Rattle.command_words.specs.Asked.{Asked, look, board, svg, play, moves, perft, divide, lines, solve, solve_on}
+use Rattle.command_words.specs.Asked.{Asked, asked, records_given, look, board, svg, play, moves, perft, divide, lines, solve, solve_on}
 use Rattle.command_words.specs.Asked.{limited, verify, tree, sheet, imports, serve, replay, explain, uci}
 use Rattle.problem_sheets.specs.Diagrams.{svg_of}
 use Rattle.fault_explanations.specs.Explained.{Explains}
@@ -109,6 +109,11 @@ pub record Ends (holds : Text → Option (List ℕ)) (refuses : Text → Type 0)
   -- 5: all lines are answered, and some records were not decided in time
   pub in_part : status ≡ 5 → IsSomeAnd asks (λ a. ShownInPart holds a old new)
   pub bounded : status ≤ 5
+
+-- How the program ends by its words: their files are none where the words give records themselves.
+abbrev pub EndsBy : (Text → Option (List ℕ)) → (Text → Type 0) → List Text → ℕ → (old new : Option (List ℕ)) → Type 0
+EndsBy holds refuses words status old new =
+    Ends (held (records_given words) holds) (held_back (records_given words) refuses) (asked words) status old new
 
 -- Whatever a command has shown, or where it stopped, with the status of that it ends so.
 abbrev pub EndsByStatus : (Text → Option (List ℕ)) → (Text → Type 0) → Type 0

@@ -5,7 +5,7 @@ ghost use Rattle.std.specs.String.{string_bytes};
 ghost use Rattle.clap.specs.Words.{kind_of};
 ghost use Rattle.command_words.specs.Asked.{asked, asks_display, asks_threads, is_display, is_threaded, may_display};
 ghost use Rattle.command_words.specs.Request.{plan_of};
-ghost use Rattle.plain_commands.specs.Command.{Ends, EndsByStatus, EndsInPart, Shown, Stops};
+ghost use Rattle.plain_commands.specs.Command.{Ends, EndsBy, EndsByStatus, EndsInPart, Shown, Stops};
 
 use crate::explaining::explain_given;
 use crate::fen_commands::{FenCommand, show_fen};
@@ -20,8 +20,8 @@ use crate::verifying::{verifies_none, verify};
 use byte_streams::{Stop, stop_of_output};
 use clap::Error;
 use clap::error::ErrorKind;
-use command_words::{Request, escaped, parse, request_of};
-use file_answers::{ANSWERED, MISUSED, Source, complain, no_memory, status_of};
+use command_words::{Request, escaped, gives_records, parse, request_of};
+use file_answers::{ANSWERED, GivenTexts, MISUSED, Source, complain, no_memory, status_of};
 use std::alloc::Global;
 use std::io::Write;
 
@@ -159,8 +159,8 @@ pub fn plain_command<S: Source, O: Write, E: Write>(
     out: &mut O,
     err: &mut E,
 ) -> Option<u8>
-    ensures ends { IfSome result (λ status. Ends (S.holds source.now) (S.refuses source.now)
-        (asked (map string_bytes words.now)) status (O.contents out.old) (O.contents out.new)) }
+    ensures ends { IfSome result (λ status. EndsBy (S.holds source.now) (S.refuses source.now)
+        (map string_bytes words.now) status (O.contents out.old) (O.contents out.new)) }
     ensures display { IfSome result (λ status. (status ≡ 0) ⊎ (status ≡ 4) → asked (map string_bytes words.now) ≡ None
         → may_display (map string_bytes words.now) ≡ true) }
     ensures no_misuse { IfSome result (λ status. status ≡ 2 → asks_display (map string_bytes words.now) ≡ false) }
@@ -176,7 +176,13 @@ pub fn plain_command<S: Source, O: Write, E: Write>(
         return Some(no_memory(err));
     };
     match parse(alloc, texts.as_slice()) {
-        Ok(matches) => run(alloc, &request_of(&matches), source, out, err),
+        Ok(matches) => {
+            let given = GivenTexts {
+                source,
+                are_texts: gives_records(&matches),
+            };
+            run(alloc, &request_of(&matches), &given, out, err)
+        }
         Err(error) => Some(usage(&error, out, err)),
     }
 }

@@ -1,10 +1,10 @@
 use Rattle.std.proofs.Common.{◌≡◌, ◌∙◌, ap, refl, true}
 use Rattle.clap.specs.Words.{app_of, is_simple, is_simple_and_free}
-use Rattle.command_words.specs.Asked.{asked_exactly, asks_display_exactly, may_display_exactly}
+use Rattle.command_words.specs.Asked.{asked_exactly, asks_display_exactly, may_display_exactly, records_given_exactly}
 use Rattle.command_words.specs.ClapWords.{app_of as shut_app_of}
 use Rattle.command_words.specs.CommandLine.{desk_app}
 use Rattle.command_words.proofs.OnLiterals.{desk_on_literals}
-use Rattle.command_words.proofs.Parsed.{asked_at_ok, clear_at_ok, display_at_err, misuse_at_err, none_at_err}
+use Rattle.command_words.proofs.Parsed.{asked_at_ok, clear_at_ok, display_at_err, misuse_at_err, none_at_err, records_at_ok}
 use Rattle.command_words.proofs.request.parse.Goals as goal
 
 desk_is_simple : is_simple desk_app ≡ true
@@ -21,6 +21,12 @@ returns-clause-ok c =
     let same : app_of c.in_ok-desk_command.field-0 ≡ desk_app = c.in_ok-desk_command.ensures in
     asked_at_ok _ desk_app same _ _ desk_is_simple c.try_get_matches_from.ensures.matches
     (c.try_get_matches_from.ensures.kinds (ap is_simple_and_free same ∙ desk_is_free))
+
+pub returns-clause-records : goal.returns-clause-records
+unfolding records_given_exactly shut_app_of
+returns-clause-records c =
+    let same : app_of c.in_ok-desk_command.field-0 ≡ desk_app = c.in_ok-desk_command.ensures in
+    records_at_ok _ desk_app same _ _ desk_is_simple c.try_get_matches_from.ensures.matches
 
 pub returns-clause-err : goal.returns-clause-err
 unfolding asked_exactly shut_app_of
