@@ -1,0 +1,6 @@
+pub mod Letters
+pub mod Places
+pub mod Parts
+pub mod Patterns
+pub mod Naming
+pub mod inside
