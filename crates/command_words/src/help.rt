@@ -254,9 +254,10 @@ pub const AFTER_IMPORT: &str =
     "For each problem one record is printed, in order, as the other commands read it. Forms may
 stand in one file in any mixture:
   - lines of EPD or FEN. Mended are letters beyond ASCII, tabs, a byte order mark, a missing
-    last semicolon, other quotation marks, `!` and `?` behind moves. A number of moves, as `#2`,
-    `2#` or `White mates in two`, becomes `dm N`: in `bm`, words, comments, or in `id`. A line
-    that is a record and wants none of this is printed as it is
+    last semicolon, other quotation marks, `!` and `?` behind moves; in `bm` and `am` moves as
+    `1.Bg2-h1`, `0-0` or `f8(R)`, which become SAN. A number of moves, as `#2`, `2#` or `White
+    mates in two`, becomes `dm N`: in `bm`, words, comments, or in `id`. A line that is a record
+    and wants none of this is printed as it is
   - lines that begin with `#`, `%` or `;`: dropped, as empty ones are
   - games in PGN: the tag FEN makes the record, and White, Black, Event, Date and Annotator
     its id; the number of moves is said by Stipulation, else by these, but for Date, or by a

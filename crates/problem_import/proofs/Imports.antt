@@ -67,11 +67,14 @@ unfolding HasNoFault
 refused_line_fault clear line fault X other (inl first) (r, reads) = clear line 3 r reads fault first.applies
 refused_line_fault clear line fault X other (inr (is, x)) (r, reads) = absurd (other is)
 
+clean_record : (line : List ℕ) → IsClean line → IsRecord line
+clean_record line (nothing, some) = (some.0, some.1)
+
 pub clean_ends : (kind : LineKind) (line text : List ℕ) → (kind ≡ kinds.Other → ¬ (IsRecord line)) → (kind ≡ kinds.Mendable → ¬ (IsClean line))
     → (kind ≡ kinds.Clean → EndsWithLine line text) → IsClean line → EndsWithLine line text
 clean_ends kinds.Clean line text other mendable ends clean = ends refl
 clean_ends kinds.Mendable line text other mendable ends clean = absurd (mendable refl clean)
-clean_ends kinds.Other line text other mendable ends clean = absurd (other refl clean.1)
+clean_ends kinds.Other line text other mendable ends clean = absurd (other refl (clean_record line clean))
 
 ended_filled : (line text : List ℕ) → EndsWithLine line text → 0 < length text
 ended_filled line text (before, is) =
@@ -197,7 +200,7 @@ pub long_reply : (keep : Bool) (number : ℕ) (out text : List ℕ) (any : Bool)
 long_reply keep number out text any count on same is line filled long =
     let no_record : IsRecord line → ⊥ = λ one. omega (arith, one.1.short, long) in
     let of_line = imported_for (IsMade keep []) (IsMade keep line) (long_made keep line long) text any on in
-    read_reply keep number line out text any count filled of_line (λ clean. absurd (no_record clean.1)) (λ one. absurd (no_record one)) same is
+    read_reply keep number line out text any count filled of_line (λ clean. absurd (no_record (clean_record line clean))) (λ one. absurd (no_record one)) same is
 
 -- ---- where it ends or stops
 

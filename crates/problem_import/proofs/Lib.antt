@@ -1,3 +1,4 @@
 pub mod Imports
 pub mod LinesTaken
 pub mod ToldChanges
+mod ClearClaims

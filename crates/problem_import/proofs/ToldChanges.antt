@@ -4,26 +4,27 @@ use Rattle.std.specs.Prelude.{codes}
 use Rattle.problem_import.specs.Changes.{IsAny, IsChanged, all_changes, listed, telling}
 use Rattle.problem_import.specs.Imports.{IsMade, IsRecord, plain, told, unchanged, untold}
 use Rattle.problem_import.specs.declared.changes.Change.{Change}
-use Rattle.problem_import.specs.declared.changes.Change.TheVariants.{Pgn, Popeye, Letters, Tabs, Quotes, Marks}
+use Rattle.problem_import.specs.declared.changes.Change.TheVariants.{Pgn, Popeye, Letters, Tabs, Quotes, Marks, Moves}
 use Rattle.problem_import.specs.declared.changes.Change.TheVariants.{Bound, Semicolon, Operation, Cut, Spaces}
 use Rattle.problem_import.specs.declared.changes.Changes.{Changes}
 use Rattle.problem_import.specs.declared.changes.Form.{Form}
 use Rattle.problem_import.specs.declared.changes.Form.TheVariants as forms
 use Rattle.problem_import.specs.inside.KeptChanges.{has_change, is_game, is_popeye, is_told}
 
-some_told : (form : Form) (letters tabs quotes marks bound semicolon operation cut : Bool)
-    → IsAny (is_told form letters tabs quotes marks bound semicolon operation cut)
-some_told forms.Game letters tabs quotes marks bound semicolon operation cut = (Pgn, refl)
-some_told forms.Popeye letters tabs quotes marks bound semicolon operation cut = (Popeye, refl)
-some_told forms.Line true tabs quotes marks bound semicolon operation cut = (Letters, refl)
-some_told forms.Line false true quotes marks bound semicolon operation cut = (Tabs, refl)
-some_told forms.Line false false true marks bound semicolon operation cut = (Quotes, refl)
-some_told forms.Line false false false true bound semicolon operation cut = (Marks, refl)
-some_told forms.Line false false false false true semicolon operation cut = (Bound, refl)
-some_told forms.Line false false false false false true operation cut = (Semicolon, refl)
-some_told forms.Line false false false false false false true cut = (Operation, refl)
-some_told forms.Line false false false false false false false true = (Cut, refl)
-some_told forms.Line false false false false false false false false = (Spaces, refl)
+some_told : (form : Form) (letters tabs quotes marks moves bound semicolon operation cut : Bool)
+    → IsAny (is_told form letters tabs quotes marks moves bound semicolon operation cut)
+some_told forms.Game letters tabs quotes marks moves bound semicolon operation cut = (Pgn, refl)
+some_told forms.Popeye letters tabs quotes marks moves bound semicolon operation cut = (Popeye, refl)
+some_told forms.Line true tabs quotes marks moves bound semicolon operation cut = (Letters, refl)
+some_told forms.Line false true quotes marks moves bound semicolon operation cut = (Tabs, refl)
+some_told forms.Line false false true marks moves bound semicolon operation cut = (Quotes, refl)
+some_told forms.Line false false false true moves bound semicolon operation cut = (Marks, refl)
+some_told forms.Line false false false false true bound semicolon operation cut = (Moves, refl)
+some_told forms.Line false false false false false true semicolon operation cut = (Bound, refl)
+some_told forms.Line false false false false false false true operation cut = (Semicolon, refl)
+some_told forms.Line false false false false false false false true cut = (Operation, refl)
+some_told forms.Line false false false false false false false false true = (Cut, refl)
+some_told forms.Line false false false false false false false false false = (Spaces, refl)
 
 of_form : (form : Form) → form ≢ forms.Line → (is_game form || is_popeye form) ≡ true
 of_form forms.Line other = absurd (other refl)
@@ -31,7 +32,7 @@ of_form forms.Game other = refl
 of_form forms.Popeye other = refl
 
 any_told : (c : Changes) → IsAny (has_change c)
-any_told c = some_told c.form c.letters c.tabs c.quotes c.marks c.bound c.semicolon c.operation c.cut
+any_told c = some_told c.form c.letters c.tabs c.quotes c.marks c.moves c.bound c.semicolon c.operation c.cut
 
 pub changed_form : (c : Changes) (line made : List ℕ) → c.form ≢ forms.Line → IsChanged line made (has_change c)
 changed_form c line made other = (any_told c, λ is. of_form c.form other)

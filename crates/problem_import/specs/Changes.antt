@@ -1,7 +1,7 @@
 -- What `import --keep` tells of what was changed (own to this project).
 use Rattle.std.specs.Prelude.{◌≡◌, ℕ, List, [], ◌∷◌, ◌++◌, codes, Bool, true, false, ◌||◌, if◌then◌else◌}
 use Rattle.problem_import.specs.declared.changes.Change.{Change}
-use Rattle.problem_import.specs.declared.changes.Change.TheVariants.{Pgn, Popeye, Letters, Tabs, Quotes, Marks}
+use Rattle.problem_import.specs.declared.changes.Change.TheVariants.{Pgn, Popeye, Letters, Tabs, Quotes, Marks, Moves}
 use Rattle.problem_import.specs.declared.changes.Change.TheVariants.{Bound, Semicolon, Operation, Cut, Spaces}
 
 abbrev pub change_name : Change → List ℕ
@@ -11,6 +11,7 @@ change_name Letters = codes "letters"
 change_name Tabs = codes "tabs"
 change_name Quotes = codes "quotation marks"
 change_name Marks = codes "marks behind moves"
+change_name Moves = codes "moves"
 change_name Bound = codes "bound"
 change_name Semicolon = codes "semicolon"
 change_name Operation = codes "empty operation"
@@ -19,7 +20,7 @@ change_name Spaces = codes "spaces"
 
 -- in the order in which they are told
 abbrev pub all_changes : List Change
-all_changes = Pgn ∷ Popeye ∷ Letters ∷ Tabs ∷ Quotes ∷ Marks ∷ Bound ∷ Semicolon ∷ Operation ∷ Cut ∷ Spaces ∷ []
+all_changes = Pgn ∷ Popeye ∷ Letters ∷ Tabs ∷ Quotes ∷ Marks ∷ Moves ∷ Bound ∷ Semicolon ∷ Operation ∷ Cut ∷ Spaces ∷ []
 
 abbrev pub separator : Bool → List ℕ
 separator is_first = if is_first then codes ": " else codes ", "

@@ -8,7 +8,7 @@ use Rattle.chess_notation.specs.EpdFaults.{epd_fault_name}
 use Rattle.text_lines.specs.Lines.{lines_of, without_cr}
 use Rattle.text_lines.specs.Replies.{IsReply, IsReplyToFirst}
 use Rattle.problem_import.specs.Changes.{IsAny, IsChanged, telling}
-use Rattle.problem_import.specs.Mendable.{has_nothing_to_mend}
+use Rattle.problem_import.specs.Mendable.{has_clear_claims, has_nothing_to_mend}
 use Rattle.problem_import.specs.declared.changes.Change.{Change}
 use Rattle.problem_import.specs.declared.import_faults.ImportFault.{ImportFault}
 use Rattle.problem_import.specs.declared.import_faults.ImportFault.TheVariants.{Record, NoFen, NoBound, TwoBounds, BadStipulation}
@@ -51,9 +51,9 @@ pub data IsMade (keep : Bool) (line : List ℕ) : List ℕ → Type 0 where
   untold : (made : List ℕ) (has : Change → Bool) → keep ≡ true → IsChanged line made has → ¬ (IsRecord (made ++ telling has))
       → IsMade keep line made
 
--- The line is a record, and there is nothing to mend.
+-- The line is a record, and there is nothing to mend, no move that it claims either.
 abbrev pub IsClean : List ℕ → Type 0
-IsClean line = (has_nothing_to_mend line ≡ true) × IsRecord line
+IsClean line = (has_nothing_to_mend line ≡ true) × ((r : RecordValue) × Reads line 3 r × (has_clear_claims r.position line ≡ true))
 
 abbrev pub EndsWithLine : List ℕ → List ℕ → Type 0
 EndsWithLine line text = (before : List ℕ) × (text ≡ before ++ line ++ char "\n" ∷ [])

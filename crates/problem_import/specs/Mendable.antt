@@ -1,7 +1,9 @@
 -- What there may be to mend in a line that is a record (own to this project).
-use Rattle.std.specs.Prelude.{ℕ, ◌==◌, List, Bool, not, ◌&&◌, ◌||◌}
+use Rattle.std.specs.Prelude.{ℕ, ◌==◌, List, is_some, Bool, not, ◌&&◌, ◌||◌}
 use Rattle.std.specs.List.{list_all}
 use Rattle.chess_board.specs.Characters.{char}
+use Rattle.chess_board.specs.Positions.{Setup}
+use Rattle.chess_notation.specs.Claims.{claim_words, claims_fault}
 use Rattle.stipulations.specs.Stipulations.{speaks_of_mate}
 
 -- the bytes of what may be mended outside strings: a quotation mark of another kind, a mark behind a move, a number of moves
@@ -14,3 +16,7 @@ is_settled b = not (is_mendable b)
 -- Nothing stands in the line that may be mended, neither one of these bytes nor `mate in`, or the like.
 abbrev pub has_nothing_to_mend : List ℕ → Bool
 has_nothing_to_mend line = list_all is_settled line && not (speaks_of_mate line)
+
+-- What the line claims in `bm` are lengths, and legal moves as SAN names them.
+unfoldable pub has_clear_claims : Setup → List ℕ → Bool
+has_clear_claims p line = not (is_some (claims_fault p (claim_words line)))

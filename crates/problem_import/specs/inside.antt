@@ -1,3 +1,4 @@
 pub mod KeptChanges
 pub mod OpenProblems
 pub mod TagPairs
+pub mod MendedMoves

@@ -29,6 +29,8 @@ pub enum Change {
     Quotes,
     /// Marks behind moves.
     Marks,
+    /// Moves that a record claims or avoids, named otherwise than in SAN.
+    Moves,
     /// A bound in another form.
     Bound,
     /// The last semicolon, which wasn't there.
@@ -49,6 +51,7 @@ pub(crate) struct Changes {
     pub(crate) tabs: bool,
     pub(crate) quotes: bool,
     pub(crate) marks: bool,
+    pub(crate) moves: bool,
     pub(crate) bound: bool,
     pub(crate) semicolon: bool,
     pub(crate) operation: bool,
@@ -67,6 +70,7 @@ impl Change {
             Change::Tabs => "tabs",
             Change::Quotes => "quotation marks",
             Change::Marks => "marks behind moves",
+            Change::Moves => "moves",
             Change::Bound => "bound",
             Change::Semicolon => "semicolon",
             Change::Operation => "empty operation",
@@ -92,6 +96,7 @@ impl Changes {
             tabs: false,
             quotes: false,
             marks: false,
+            moves: false,
             bound: false,
             semicolon: false,
             operation: false,
@@ -120,6 +125,7 @@ impl Changes {
             tabs: self.tabs || other.tabs,
             quotes: self.quotes || other.quotes,
             marks: self.marks || other.marks,
+            moves: self.moves || other.moves,
             bound: self.bound || other.bound,
             semicolon: self.semicolon || other.semicolon,
             operation: self.operation || other.operation,
@@ -140,6 +146,9 @@ impl Changes {
         if self.quotes || self.marks {
             return false;
         }
+        if self.moves {
+            return false;
+        }
         if self.bound || self.semicolon {
             return false;
         }
@@ -157,6 +166,7 @@ impl Changes {
             Change::Tabs => self.tabs,
             Change::Quotes => self.quotes,
             Change::Marks => self.marks,
+            Change::Moves => self.moves,
             Change::Bound => self.bound,
             Change::Semicolon => self.semicolon,
             Change::Operation => self.operation,
@@ -205,6 +215,7 @@ impl Changes {
             Change::Tabs,
             Change::Quotes,
             Change::Marks,
+            Change::Moves,
             Change::Bound,
             Change::Semicolon,
             Change::Operation,

@@ -53,6 +53,12 @@ fn ascii_of(c: char) -> Option<&'static str> {
         '\u{0456}' => Some("i"),
         '\u{0406}' => Some("I"),
         '\u{feff}' | '\u{200b}' => Some(""),
+        '♔' | '♚' => Some("K"),
+        '♕' | '♛' => Some("Q"),
+        '♖' | '♜' => Some("R"),
+        '♗' | '♝' => Some("B"),
+        '♘' | '♞' => Some("N"),
+        '♙' | '♟' => Some("P"),
         _ => latin_of(c),
     }
 }

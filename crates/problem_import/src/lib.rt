@@ -2,7 +2,7 @@
 //!
 //! What a record is, is `chess_notation`'s business, and lines are `text_lines`'s. To read: `specs/Imports.antt` and `importing`, where
 //! the law of what is printed stands, over `printing` and `import_faults`; `reading`, which tells the forms apart; then each form:
-//! `mending` (over `tokens`, `lengths`, `letters`, `alphabets` and `changes`), `games` (and `tag_pairs`), and `popeye` (over `popeye_words`
+//! `mending` (over `tokens`, `lengths`, `letters`, `alphabets` and `changes`) and `moves`, `games` (and `tag_pairs`), and `popeye` (over `popeye_words`
 //! and `diagrams`).
 #![tactic(auto)]
 
@@ -16,6 +16,7 @@ mod lengths;
 mod letters;
 mod line_kinds;
 mod mending;
+mod moves;
 mod popeye;
 mod popeye_words;
 mod printing;

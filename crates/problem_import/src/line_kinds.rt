@@ -1,13 +1,15 @@
 //! What a line is: a record in which there is nothing to mend, another record, or none.
 
-ghost use Rattle.std.specs.Prelude.{◌≡◌, IfOk, None, true};
+ghost use Rattle.std.specs.Prelude.{◌≡◌, IfNone, IfOk, IfSome, None, true};
 ghost use Rattle.std.specs.List.{list_all};
+ghost use Rattle.chess_notation.specs.Records.{RecordValue, Reads};
 ghost use Rattle.problem_import.specs.Imports.{IsClean, IsRecord};
-ghost use Rattle.problem_import.specs.Mendable.{is_mendable as is_mendable_byte, is_settled};
+ghost use Rattle.problem_import.specs.Mendable.{has_clear_claims, is_mendable as is_mendable_byte, is_settled};
 
 use byte_streams::NoMemory;
+use chess_board::Position;
 use chess_moves::Rays;
-use chess_notation::{Bound, EpdFault, read_record, records_clear};
+use chess_notation::{Bound, EpdFault, claimed_moves, claims_text, read_record, records_clear};
 use std::alloc::Global;
 use stipulations::speaks_of_mate;
 
@@ -70,17 +72,61 @@ fn have_no_mendable(line: &[u8]) -> bool
     true
 }
 
+/// The position of the record that a line is, or none.
+fn position_in(alloc: Global, rays: &Rays, line: &[u8]) -> Result<Option<Position>, NoMemory>
+    ensures record { IfOk result (λ found. IfSome found (λ p. IsRecord line.now)) }
+    ensures position { IfOk result (λ found. IfSome found (λ p. (r : RecordValue) → Reads line.now 3 r → r.position ≡ p)) }
+    ensures none { IfOk result (λ found. IfNone found (¬ (IsRecord line.now))) }
+{
+    // That a line with a fault is no record is this law.
+    records_clear();
+    match read_record(alloc, rays, line, some_bound()) {
+        Ok(record) => Ok(Some(record.position)),
+        Err(fault) => {
+            if fault == EpdFault::NoMemory {
+                return Err(NoMemory);
+            }
+            Ok(None)
+        }
+    }
+}
+
+/// Whether each operand of `bm` says a number of moves, or names a legal move. Where there is none, no move is looked for.
+#[tactic(auto, unfolding(crate::specs::Mendable::has_clear_claims))]
+fn have_clear_claims(
+    alloc: Global,
+    rays: &Rays,
+    line: &[u8],
+    position: &Position,
+) -> Result<bool, NoMemory>
+    ensures { IfOk result (λ are. are ≡ has_clear_claims position.now line.now) }
+{
+    let text = claims_text(alloc, line)?;
+    let words = text.as_slice();
+    if words.is_empty() {
+        return Ok(true);
+    }
+    match claimed_moves(rays, position, words) {
+        Ok(_) => Ok(true),
+        Err(_) => Ok(false),
+    }
+}
+
 /// What a line is.
 pub(crate) fn kind_of(alloc: Global, rays: &Rays, line: &[u8]) -> Result<LineKind, NoMemory>
     ensures record { IfOk result (λ kind. kind ≡ LineKind.Clean → IsRecord line.now) }
     ensures other { IfOk result (λ kind. kind ≡ LineKind.Other → ¬ (IsRecord line.now)) }
     ensures mendable { IfOk result (λ kind. kind ≡ LineKind.Mendable → ¬ (IsClean line.now)) }
 {
-    if record_fault(alloc, rays, line)?.is_some() {
+    let Some(position) = position_in(alloc, rays, line)? else {
         return Ok(LineKind::Other);
+    };
+    if !have_no_mendable(line) || speaks_of_mate(line) {
+        return Ok(LineKind::Mendable);
     }
-    if have_no_mendable(line) && !speaks_of_mate(line) {
-        return Ok(LineKind::Clean);
+    if have_clear_claims(alloc, rays, line, &position)? {
+        Ok(LineKind::Clean)
+    } else {
+        Ok(LineKind::Mendable)
     }
-    Ok(LineKind::Mendable)
 }

@@ -9,6 +9,7 @@ ghost use Rattle.problem_import.specs.inside.KeptChanges.{has_change};
 use crate::changes::Changes;
 use crate::import_faults::ImportFault;
 use crate::line_kinds::{LineKind, record_fault};
+use crate::moves::with_moves;
 use crate::reading::{Finding, Found};
 use crate::texts::push_bound_operation;
 use byte_streams::NoMemory;
@@ -242,12 +243,16 @@ impl Printing<'_> {
     {
         match &finding.found {
             Found::Text(text, changes) => {
+                let mut changes = *changes;
+                let text = with_moves(alloc, self.rays, text.as_slice(), &mut changes)?;
                 let text = text.as_slice();
-                self.push_text(alloc, printed, line, finding.number, text, changes)
+                self.push_text(alloc, printed, line, finding.number, text, &changes)
             }
             Found::Unbound(text, changes) => {
+                let mut changes = *changes;
+                let text = with_moves(alloc, self.rays, text.as_slice(), &mut changes)?;
                 let text = text.as_slice();
-                self.push_unbound(alloc, printed, line, finding.number, text, changes)
+                self.push_unbound(alloc, printed, line, finding.number, text, &changes)
             }
             Found::Fault(fault) => {
                 printed.push_refusal(alloc, finding.number, *fault)?;
