@@ -51,6 +51,14 @@ named groups words = flat_map (λ word. one_or_none (explanation_of groups word)
 unfoldable pub named_in : List (Bor (List Explanation)) → List (List ℕ) → List Explanation
 named_in groups replies = flat_map (λ reply. named groups (words_of reply)) replies
 
+-- the sentence of the explanation whose code this word is
+abbrev pub sentence_of : Option Explanation → List ℕ
+sentence_of None = []
+sentence_of (Some e) = sentence e
+
+abbrev pub code_sentence : List (Bor (List Explanation)) → List ℕ → List ℕ
+code_sentence groups word = sentence_of (explanation_of groups word)
+
 -- Each is explained, one after the other, with an empty line between each two; where there is none, nothing is, and that is a refusal.
 abbrev pub ExplainsEach : List Explanation → Bool → List ℕ → Type 0
 ExplainsEach [] false text = ⊥

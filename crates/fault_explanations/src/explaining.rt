@@ -1,9 +1,11 @@
 //! What replies are told of the faults that they name.
 
-ghost use Rattle.std.specs.Prelude.{◌≡◌, ◌++◌, [], flat_map, map, IfNone, IfOk, IfSome, option_map, false, true};
+ghost use Rattle.std.specs.Prelude.{◌≡◌, ◌++◌, [], flat_map, map, IfNone, IfOk, IfSome, option_map, false, true, List};
+ghost use Rattle.std.specs.Borrow.{Bor};
 ghost use Rattle.chess_views.specs.Lines.{line};
 ghost use Rattle.fault_explanations.specs.Explained.{Explains, ExplainsEach, example_text, explanation_in, explanation_of, explanation_text};
-ghost use Rattle.fault_explanations.specs.Explained.{named, named_in, sentence, sentences, words_of};
+ghost use Rattle.fault_explanations.specs.declared.explanations.Explanation.{Explanation as ExplanationValue};
+ghost use Rattle.fault_explanations.specs.Explained.{code_sentence, sentence_of, named, named_in, sentence, sentences, words_of};
 
 use crate::explanations::{Example, Explanation, all};
 use chess_views::push_line;
@@ -100,6 +102,35 @@ fn explanation_of(groups: &[&'static [Explanation]], word: &[u8]) -> Option<&'st
         rest = more;
     }
     None
+}
+
+/// Adds the sentence of an explanation, if there is one.
+fn push_sentence_of(text: &mut Vec<u8>, found: Option<&Explanation>) -> Result<(), AllocError>
+    ensures { IfOk result (λ _. text.new.items ≡ text.old.items ++ sentence_of (option_map (λ e. e.now) found.entry)) }
+{
+    match found {
+        Some(explanation) => push_sentence(text, explanation),
+        None => Ok(()),
+    }
+}
+
+/// The same of the explanation whose code a word is, in these groups.
+fn push_code_of(
+    text: &mut Vec<u8>,
+    groups: &[&'static [Explanation]],
+    word: &[u8],
+) -> Result<(), AllocError>
+    ensures { IfOk result (λ _. text.new.items ≡ text.old.items ++ code_sentence groups.now word.now) }
+{
+    push_sentence_of(text, explanation_of(groups, word))
+}
+
+/// Adds the code of a fault, in any case, and where it comes; nothing where the word is no code.
+pub fn push_code(text: &mut Vec<u8>, word: &[u8]) -> Result<(), AllocError>
+    ensures { IfOk result (λ _. (groups : List (Bor (List ExplanationValue)))
+        × (text.new.items ≡ text.old.items ++ code_sentence groups word.now)) }
+{
+    push_code_of(text, &all(), word)
 }
 
 /// The words of a reply, which stand between its spaces, tabs and ends of lines.

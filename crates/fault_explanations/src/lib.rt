@@ -7,5 +7,5 @@
 mod explaining;
 mod explanations;
 
-pub use explaining::explained_text;
+pub use explaining::{explained_text, push_code};
 pub use explanations::{Example, Explanation};

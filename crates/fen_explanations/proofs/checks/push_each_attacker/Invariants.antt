@@ -1,0 +1,7 @@
+use Rattle.std.proofs.Common.{◌≡◌, ◌++◌}
+use Rattle.fen_explanations.specs.Checks.{attacker_told}
+use Rattle.fen_explanations.specs.Sentences.{each_below}
+use Rattle.fen_explanations.proofs.checks.push_each_attacker.Given as goal
+
+abbrev pub invariant-loop-number : goal.invariant-loop-number
+invariant-loop-number l = l.text.items ≡ l.fn.text.items ++ each_below l.number (λ square. attacker_told l.men l.by l.king square)

@@ -1,0 +1,9 @@
+pub mod Placements
+pub mod Sentences
+pub mod Ranks
+pub mod Men
+pub mod Fields
+pub mod Checks
+pub mod Warnings
+pub mod Told
+pub mod Asked
