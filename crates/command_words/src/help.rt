@@ -651,7 +651,7 @@ pub const ABOUT_POSITIONS: &str =
 
 /// `explain` in one line.
 pub const ABOUT_EXPLAIN: &str =
-    "Says what the codes of faults and verdicts mean, or lists them all";
+    "Says what codes of faults and verdicts mean, or what is wrong with a FEN or a record";
 
 /// What stands below the arguments of `explain`.
 pub const AFTER_EXPLAIN: &str =
@@ -674,10 +674,20 @@ Example:
   4k3/8/8/8/8/8/8/4RK2 b - - 0 1
 
 Without a WORD all are listed, with a sentence for each. Where no word is a code the error
-output says NoSuchFault, and the status is 1.";
+output says NoSuchFault, and the status is 1.
+
+Where a WORD begins with a placement, with three strokes `/` or more, the words are a FEN or
+a record, in quotes or without. Each thing that is wrong with it has a line, and the status
+is 1 then; else one says that nothing is, behind what can't come about by play, as nine
+pawns, which isn't refused.
+
+Example:
+  $ matedesk explain \"8/8/3k4/1R1S4/8/8/8/4K3 w - - 0 1\"
+  \"S\" at d5 is no man: knights are N";
 
 /// The argument WORD in one line.
-pub const ABOUT_WORD: &str = "Words of a reply, as `Fen BadKings` or `cooked`";
+pub const ABOUT_WORD: &str =
+    "Words of a reply, as `Fen BadKings` or `cooked`; or a FEN, or a record";
 
 /// The argument DEPTH in one line.
 pub const ABOUT_DEPTH: &str = "How many moves a line has, 0 to 6";

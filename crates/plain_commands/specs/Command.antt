@@ -13,7 +13,7 @@ use Rattle.chess_views.specs.Looks.{look_board_text, look_text}
 use Rattle.command_words.specs.Asked.{Asked, asked, records_given, look, board, svg, play, moves, perft, divide, lines, solve, solve_on}
 use Rattle.command_words.specs.Asked.{limited, verify, tree, sheet, imports, serve, replay, explain, uci}
 use Rattle.problem_sheets.specs.Diagrams.{svg_of}
-use Rattle.fault_explanations.specs.Explained.{Explains}
+use Rattle.plain_commands.specs.Explained.{ExplainsSome, ExplainsWords}
 use Rattle.plain_commands.specs.FenCommands.{ShowsFen, columns_of}
 use Rattle.plain_commands.specs.Played.{ShowsPlay}
 use Rattle.plain_commands.specs.PositionLines.{ShowsLines, StopsLines, command_of}
@@ -45,7 +45,7 @@ Shows holds (sheet bound memo form title names) refused text = Sheets holds boun
 Shows holds (imports keep bound names) refused text = ImportsFiles holds keep names refused text
 Shows holds (serve workers bound memo names) refused text = Serves holds bound names refused text
 Shows holds (replay name) refused text = ReplaysFile (holds name) refused text
-Shows holds (explain words) refused text = Explains words refused text
+Shows holds (explain words) refused text = ExplainsWords words refused text
 Shows holds uci refused text = ⊤
 
 -- The output gained what a command shows. What `uci` writes isn't told, and it refuses nothing.
@@ -78,6 +78,7 @@ Stops holds refuses (sheet bound memo form title names) stop old new = StopsShee
 Stops holds refuses (imports keep bound names) stop old new = StopsImporting holds refuses keep names stop old new
 Stops holds refuses (serve workers bound memo names) stop old new = StopsServing holds refuses bound names stop old new
 Stops holds refuses (replay name) stop old new = StopsReplaying (holds name) (refuses name) stop old new
+Stops holds refuses (explain words) stop old new = StopsShowing (ExplainsSome words) stop old new
 Stops holds refuses uci stop old new = ⊤
 Stops holds refuses asks stop old new = StopsShowing (Shows holds asks false) stop old new
 

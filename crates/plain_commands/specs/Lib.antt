@@ -8,4 +8,5 @@ pub mod Imported
 pub mod Replayed
 pub mod Served
 pub mod Sheeted
+pub mod Explained
 pub mod Command

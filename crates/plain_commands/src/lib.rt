@@ -1,12 +1,12 @@
 //! The commands of the program `matedesk` that start no thread: `look`, `play`, `moves` and `perft` over a position, or over files of
 //! positions, `solve` (without `--workers` and `--limit`), `verify` and `tree` over files of problems, `replay` over a script, `explain` over
-//! a table of faults.
+//! a table of faults, or over a position.
 //!
 //! What the words of a command line ask for is the business of `command_words`, how files are answered, what is shown and the statuses that
 //! of `file_answers`, and what is answered that of the crates of chess and of the desk. To read: `answering`, where the contract of
 //! `plain_command` says how each command ends; then `fen_commands` and `playing`; `solving`, `limited_solving`, `verifying`, `telling`,
 //! `importing` and `position_answers`, which answer each line of each file; `sheeting`; `replaying`, over the scripts of `desk_scripts`; and
-//! `explaining`, over `fault_explanations`.
+//! `explaining`, over `fault_explanations` and `fen_explanations`.
 #![tactic(auto)]
 
 mod answering;
