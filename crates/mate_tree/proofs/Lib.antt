@@ -1,10 +1,13 @@
 pub mod DefencesBelow
 pub mod LegalMoves
+pub mod LegalReplies
 pub mod NoMovesLeft
+pub mod ParryLaws
 pub mod PassedSetups
 pub mod RefusedLines
 pub mod SoleMoves
 pub mod Steps
 pub mod TreeLaws
+pub mod VariationsBelow
 pub mod WrittenLines
 pub mod WrittenTrees

@@ -16,8 +16,8 @@ use Rattle.mate_search.specs.Wins.{win, lost}
 use Rattle.mate_search.specs.PrincipalVariation.{IsKey, IsLongestDefence, IsPrincipalVariation, mates, goes_on}
 use Rattle.mate_search.specs.inside.Truth.{truth}
 use Rattle.mate_search.specs.Laws.{AreFirstMoves, HaveNoKeyBelow, IsTold, LostReads, TruthReads, WinGrows, WinReads}
-use Rattle.mate_tree.specs.Continuations.{soonest}
-use Rattle.mate_tree.specs.Laws.{DefencesAnswered, LeavesMate, LineBranches, SoonestReads, keys_of, length_of, line_of}
+use Rattle.mate_tree.specs.Continuations.{keys_of, soonest}
+use Rattle.mate_tree.specs.Laws.{DefencesAnswered, LeavesMate, LineBranches, SoonestReads, length_of, line_of}
 use Rattle.mate_tree.specs.Tries.{is_no_mate}
 
 abbrev asked : ℕ → Setup → ProblemValue

@@ -28,11 +28,11 @@ use Rattle.mate_tree.proofs.WrittenLines.{printed_is, writes_more}
 
 pub mate_written : {a b c d : Option (List ℕ)} {s t u v : SheetValue} (form : Form) (q : ProblemValue) (p : Setup) (n shown : ℕ) (keys : List Move)
     → p ≡ q.position → shown ≡ moves_shown form.moves n - 1
-    → Writes a s b t (if form.set_play then set_play (n - 1) p else []) → Writes b t c u (key_lines shown n p keys)
+    → Writes a s b t (if form.set_play then set_play (n - 1) p else []) → Writes b t c u (key_lines form.defences shown n p keys)
     → Writes c u d v (if form.tries then tries (n - 1) q.position q.avoid else []) → Writes a s d v (mate_lines form q n keys)
 mate_written {a} {b} {c} {d} {s} {t} {u} {v} form q p n shown keys at is first second third =
-    let keyed : key_lines shown n p keys ≡ key_lines (moves_shown form.moves n - 1) n q.position keys =
-    ap (λ r. key_lines shown n r keys) at ∙ ap (λ d. key_lines d n q.position keys) is in
+    let keyed : key_lines form.defences shown n p keys ≡ key_lines form.defences (moves_shown form.moves n - 1) n q.position keys =
+    ap (λ r. key_lines form.defences shown n r keys) at ∙ ap (λ d. key_lines form.defences d n q.position keys) is in
     writes_more (writes_more (subst (λ r. Writes a s b t (if form.set_play then set_play (n - 1) r else [])) at first)
     (subst (Writes b t c u) keyed second)) third
 

@@ -1,6 +1,7 @@
 -- How the attacker goes on.
-use Rattle.std.specs.Prelude.{ℕ, [], Bool, false, length, nat_lt}
+use Rattle.std.specs.Prelude.{ℕ, List, [], Bool, false, length, nat_lt}
 use Rattle.chess_board.specs.Positions.{Setup}
+use Rattle.chess_board.specs.Moves.{Move}
 use Rattle.chess_problems.specs.declared.outcomes.Outcome.{Outcome}
 use Rattle.chess_problems.specs.declared.outcomes.Outcome.TheVariants.{Mate, NoMate}
 use Rattle.mate_search.specs.inside.Truth.{truth}
@@ -13,3 +14,8 @@ soonest k p = truth (record { position = p; bound = k; avoid = [] })
 abbrev pub has_dual : Outcome → Bool
 has_dual (Mate n keys pv) = nat_lt 1 (length keys.items)
 has_dual NoMate = false
+
+-- all moves that begin the shortest mate
+abbrev pub keys_of : Outcome → List Move
+keys_of (Mate n keys pv) = keys.items
+keys_of NoMate = []

@@ -10,21 +10,17 @@ use Rattle.chess_problems.specs.declared.outcomes.Outcome.TheVariants.{Mate, NoM
 use Rattle.chess_problems.specs.Problems.{ProblemValue}
 use Rattle.mate_search.specs.Wins.{win}
 use Rattle.mate_search.specs.inside.Truth.{truth}
-use Rattle.mate_tree.specs.Continuations.{soonest}
+use Rattle.mate_tree.specs.Continuations.{keys_of, soonest}
 use Rattle.mate_tree.specs.Tries.{is_no_mate, refutes}
 
 -- There is none that mates soonest exactly where the attacker does not mate within the moves that are left.
 abbrev pub SoonestReads : Type 0
 SoonestReads = (k : ℕ) (p : Setup) → (is_no_mate (soonest k p) ≡ false) ↔ (win k p ≡ true)
 
--- how many moves the shortest mate takes, and all moves that begin it
+-- how many moves the shortest mate takes
 abbrev pub length_of : Outcome → ℕ
 length_of (Mate n keys pv) = n
 length_of NoMate = 0
-
-abbrev pub keys_of : Outcome → List Move
-keys_of (Mate n keys pv) = keys.items
-keys_of NoMate = []
 
 -- A move that mates in one is a leaf: after it the defender is mated.
 abbrev pub LeavesMate : Type 0

@@ -3,6 +3,9 @@ pub mod Lines
 pub mod Passing
 pub mod Continuations
 pub mod Defences
+pub mod Threats
+pub mod Parries
+pub mod Variations
 pub mod Keys
 pub mod SetPlay
 pub mod Tries

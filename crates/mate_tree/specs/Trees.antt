@@ -16,7 +16,7 @@ use Rattle.mate_tree.specs.Tries.{tries}
 abbrev pub mate_lines : Form → ProblemValue → ℕ → List Move → List (List ℕ)
 mate_lines form q n keys =
     (if form.set_play then set_play (n - 1) q.position else [])
-    ++ key_lines (moves_shown form.moves n - 1) n q.position keys
+    ++ key_lines form.defences (moves_shown form.moves n - 1) n q.position keys
     ++ (if form.tries then tries (n - 1) q.position q.avoid else [])
 
 -- the lines of a tree, by what there is to say of the problem: none where there is no mate

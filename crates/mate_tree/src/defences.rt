@@ -21,7 +21,7 @@ use std::io::Write;
 pub(crate) struct Place<'a> {
     pub rays: &'a Rays,
     /// The number of the attacker's move, from 1.
-    pub number: u8,
+    pub number: u16,
     /// How many moves the attacker has left.
     pub left: u8,
     /// How many of its next moves are shown.
@@ -49,7 +49,7 @@ fn write_attack_line<O: Write>(
 }
 
 /// Writes the line of a defender's move.
-fn write_defence_line<O: Write>(
+pub(crate) fn write_defence_line<O: Write>(
     position: &Position,
     m: Move,
     at: Place<'_>,

@@ -8,6 +8,8 @@ ghost use Rattle.mate_tree.specs.Forms.{moves_shown};
 pub struct Form {
     /// How many of the attacker's moves; without a number all of a mate in up to 3, and 2 of a longer one.
     pub moves: Option<u8>,
+    /// Whether of the defences those alone are shown that parry the threat, together where the same mates answer them.
+    pub defences: bool,
     /// Whether set play is shown, before the keys.
     pub set_play: bool,
     /// Whether tries are shown, behind the keys.

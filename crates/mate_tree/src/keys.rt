@@ -1,64 +1,20 @@
 //! The keys, what each threatens, and the tree below each.
 
-ghost use Rattle.std.specs.Prelude.{◌≡◌, ◌+◌, ◌-◌, ◌<◌, ◌≤◌, [], ◌∷◌, true};
+ghost use Rattle.std.specs.Prelude.{◌≡◌, ◌-◌, ◌<◌, ◌≤◌, [], ◌∷◌, true};
 ghost use Rattle.chess_board.specs.Legality.{is_legal};
-ghost use Rattle.chess_problems.specs.Outcomes.{AreLegal, IsPlayable};
-ghost use Rattle.mate_tree.specs.Keys.{idea_text, key_line as key_line_of, key_lines, lines_of_key, threat_text};
-ghost use Rattle.mate_tree.specs.inside.Sheets.{Says, Writes};
+ghost use Rattle.chess_problems.specs.Outcomes.{AreLegal};
+ghost use Rattle.mate_tree.specs.Keys.{below_key, key_line as key_line_of, key_lines, lines_of_key};
+ghost use Rattle.mate_tree.specs.inside.Sheets.{Writes};
 
-use crate::continuations::soonest;
 use crate::defences::{Place, write_defences};
-use crate::lines::{push_attack, push_attacks, push_length};
-use crate::passing::passed;
+use crate::lines::{push_attack, push_length};
 use crate::sheets::Sheet;
+use crate::threats::push_idea;
+use crate::variations::write_variations;
 use chess_board::{Move, Position, after};
-use chess_moves::{Rays, legal_listed};
-use chess_problems::Outcome;
+use chess_moves::legal_listed;
 use mate_search::Memo;
 use std::io::Write;
-
-/// Adds the moves that would mate soonest, or that there is no mate.
-#[tactic(auto, unfolding(chess_problems::specs::Outcomes::IsPlayable))]
-fn push_threat<O: Write>(
-    sheet: &mut Sheet,
-    out: &mut O,
-    rays: &Rays,
-    position: &Position,
-    outcome: &Outcome,
-)
-    requires { IsPlayable position.now outcome.now }
-    ensures { Says (O.contents out.old) sheet.old (O.contents out.new) sheet.new (threat_text position.now outcome.now) }
-{
-    match outcome {
-        Outcome::Mate { keys, .. } => {
-            sheet.push(out, b" threat");
-            push_attacks(sheet, out, rays, position, keys.as_slice());
-        }
-        Outcome::NoMate => sheet.push(out, b" zugzwang"),
-    }
-}
-
-/// Adds what would come, with so many moves left, were the defender to pass: nothing where it is in check.
-fn push_idea<O: Write>(
-    sheet: &mut Sheet,
-    out: &mut O,
-    rays: &Rays,
-    position: &Position,
-    left: u8,
-    memo: &mut Memo,
-)
-    requires { left ≤ 15 }
-    ensures text { Says (O.contents out.old) sheet.old (O.contents out.new) sheet.new (idea_text left position.now) }
-    ensures room { memo.new.room ≡ memo.old.room }
-{
-    match passed(position) {
-        Some(other) => {
-            let outcome = soonest(rays, &other, left, memo);
-            push_threat(sheet, out, rays, &other, &outcome);
-        }
-        None => {}
-    }
-}
 
 /// Writes the line of a key.
 fn write_key_line<O: Write>(
@@ -75,18 +31,47 @@ fn write_key_line<O: Write>(
         (key_line_of at.entry.shown at.entry.left position.now m ∷ []) }
     ensures room { memo.new.room ≡ memo.old.room }
 {
+    let threat = Place {
+        number: 2,
+        left: at.left - 1,
+        ..at
+    };
     sheet.begin(out);
     push_attack(sheet, out, at.rays, position, m, 1);
     sheet.push(out, b"!");
-    push_idea(sheet, out, at.rays, &after(position, m), at.left - 1, memo);
+    push_idea(sheet, out, &after(position, m), threat, memo);
     push_length(sheet, out, at.shown, at.left);
     sheet.end(out);
+}
+
+/// Writes what stands below a key: all defences, or those that parry alone.
+fn write_below<O: Write>(
+    position: &Position,
+    alone: bool,
+    at: Place<'_>,
+    memo: &mut Memo,
+    sheet: &mut Sheet,
+    out: &mut O,
+)
+    requires first { at.number ≡ 1 }
+    requires left { at.left ≤ 15 }
+    requires few { at.shown < 255 }
+    ensures lines { Writes (O.contents out.old) sheet.old (O.contents out.new) sheet.new
+        (below_key alone at.entry.shown at.entry.left position.now) }
+    ensures room { memo.new.room ≡ memo.old.room }
+{
+    if alone {
+        write_variations(position, at, memo, sheet, out);
+    } else {
+        write_defences(position, at, memo, sheet, out);
+    }
 }
 
 /// Writes a key with the tree below it.
 fn write_key<O: Write>(
     position: &Position,
     m: Move,
+    alone: bool,
     at: Place<'_>,
     memo: &mut Memo,
     sheet: &mut Sheet,
@@ -96,7 +81,8 @@ fn write_key<O: Write>(
     requires first { at.number ≡ 1 }
     requires left { (1 ≤ at.left) × (at.left ≤ 15) }
     requires few { at.shown < 255 }
-    ensures lines { Writes (O.contents out.old) sheet.old (O.contents out.new) sheet.new (lines_of_key at.entry.shown at.entry.left position.now m) }
+    ensures lines { Writes (O.contents out.old) sheet.old (O.contents out.new) sheet.new
+        (lines_of_key alone at.entry.shown at.entry.left position.now m) }
     ensures room { memo.new.room ≡ memo.old.room }
 {
     write_key_line(position, m, at, memo, sheet, out);
@@ -104,13 +90,14 @@ fn write_key<O: Write>(
         left: at.left - 1,
         ..at
     };
-    write_defences(&after(position, m), below, memo, sheet, out);
+    write_below(&after(position, m), alone, below, memo, sheet, out);
 }
 
 /// Writes all keys, each with the tree below it.
 pub(crate) fn write_keys<O: Write>(
     position: &Position,
     keys: &[Move],
+    alone: bool,
     at: Place<'_>,
     memo: &mut Memo,
     sheet: &mut Sheet,
@@ -121,7 +108,7 @@ pub(crate) fn write_keys<O: Write>(
     requires left { (1 ≤ at.left) × (at.left ≤ 15) }
     requires few { at.shown < 255 }
     ensures lines { Writes (O.contents out.old) sheet.old (O.contents out.new) sheet.new
-        (key_lines at.entry.shown at.entry.left position.now keys.now) }
+        (key_lines alone at.entry.shown at.entry.left position.now keys.now) }
     ensures room { memo.new.room ≡ memo.old.room }
 {
     // That a move of the list is legal is the clause of `legal_listed`.
@@ -130,6 +117,6 @@ pub(crate) fn write_keys<O: Write>(
         if sheet.is_closed() {
             return;
         }
-        write_key(position, keys[index], at, memo, sheet, out);
+        write_key(position, keys[index], alone, at, memo, sheet, out);
     }
 }

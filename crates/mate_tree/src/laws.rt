@@ -1,8 +1,11 @@
 //! Laws about the definitions. A function here does nothing, beyond citing laws of the search: its contract is the law.
 
 ghost use Rattle.mate_tree.specs.Laws.{DefencesAnswered, LeavesMate, LineBranches, SoonestReads};
+ghost use Rattle.mate_tree.specs.Parries.{ParriesRead};
+ghost use Rattle.mate_tree.specs.Variations.{EachHasLine};
 
-use mate_search::{lost_reads, truth_reads, win_grows, win_reads};
+use chess_moves::legal_listed;
+use mate_search::{lost_reads, truth_playable, truth_reads, win_grows, win_reads};
 
 /// Something mates soonest exactly where the attacker mates within the moves that are left.
 pub fn soonest_reads()
@@ -39,3 +42,16 @@ pub fn line_branches()
     win_reads();
     lost_reads();
 }
+
+/// No defence is missed: a reply parries exactly where no threat begins a mate in time after it, and each other reply leaves such a threat.
+pub fn parries_read()
+    ensures { ParriesRead }
+{
+    truth_playable();
+    legal_listed();
+}
+
+/// Each reply that parries stands on a line, its own or that of an earlier one which is answered alike.
+pub fn each_has_line()
+    ensures { EachHasLine }
+{}

@@ -1,10 +1,10 @@
-//! The tree of a problem's solution: its keys and what they threaten, every defence, every way for the attacker to go on, set play and
-//! tries.
+//! The tree of a problem's solution: its keys and what they threaten, every defence, or those that parry alone, every way for the attacker
+//! to go on, set play and tries.
 //!
 //! What is true of a position is `mate_search`'s business, and how a move is written `chess_notation`'s. Each definition stands in the
 //! file of `specs/` with the same name. To read: `forms`, `lines`, `continuations` and `defences`, the tree below a move;
-//! `passing` and `keys`, `set_play`, `tries`; then `trees`, over `sheets`, and `tree_replies`. `laws` says of the definitions what they
-//! are meant to say.
+//! `passing` and `threats`; `parries` and `variations`, of which a magazine prints a solution; `keys`, `set_play`, `tries`; then `trees`,
+//! over `sheets`, and `tree_replies`. `laws` says of the definitions what they are meant to say.
 #![tactic(auto)]
 
 mod continuations;
@@ -13,14 +13,19 @@ mod forms;
 mod keys;
 mod laws;
 mod lines;
+mod parries;
 mod passing;
 mod set_play;
 mod sheets;
+mod threats;
 mod tree_replies;
 mod trees;
 mod tries;
+mod variations;
 
 pub use forms::Form;
-pub use laws::{defences_answered, leaves_mate, line_branches, soonest_reads};
+pub use laws::{
+    defences_answered, each_has_line, leaves_mate, line_branches, parries_read, soonest_reads,
+};
 pub use passing::passed;
 pub use tree_replies::TreeReplies;

@@ -29,7 +29,7 @@ pub(crate) fn push_attack<O: Write>(
     rays: &Rays,
     position: &Position,
     m: Move,
-    number: u8,
+    number: u16,
 )
     requires { is_legal position.now m ≡ true }
     ensures { Says (O.contents out.old) sheet.old (O.contents out.new) sheet.new (attack_text number position.now m) }
@@ -47,7 +47,7 @@ pub(crate) fn push_defence<O: Write>(
     rays: &Rays,
     position: &Position,
     m: Move,
-    number: u8,
+    number: u16,
 )
     requires { is_legal position.now m ≡ true }
     ensures { Says (O.contents out.old) sheet.old (O.contents out.new) sheet.new (defence_text number position.now m) }
@@ -58,22 +58,23 @@ pub(crate) fn push_defence<O: Write>(
     sheet.push(out, san(rays, position, m).as_str().as_bytes());
 }
 
-/// Adds an attacker's second moves, each behind a space.
+/// Adds an attacker's moves of one number, each behind a space.
 pub(crate) fn push_attacks<O: Write>(
     sheet: &mut Sheet,
     out: &mut O,
     rays: &Rays,
     position: &Position,
     moves: &[Move],
+    number: u16,
 )
     requires { AreLegal position.now moves.now }
-    ensures { Says (O.contents out.old) sheet.old (O.contents out.new) sheet.new (attack_words 2 position.now moves.now) }
+    ensures { Says (O.contents out.old) sheet.old (O.contents out.new) sheet.new (attack_words number position.now moves.now) }
 {
     // That a move of the list is legal is the clause of `legal_listed`.
     legal_listed();
     for index in 0..moves.len() {
         sheet.push(out, b" ");
-        push_attack(sheet, out, rays, position, moves[index], 2);
+        push_attack(sheet, out, rays, position, moves[index], number);
     }
 }
 

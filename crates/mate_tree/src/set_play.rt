@@ -49,7 +49,7 @@ fn write_set_line<O: Write>(
             sheet.begin(out);
             sheet.push(out, b"  ");
             push_defence(sheet, out, rays, position, r, 1);
-            push_attacks(sheet, out, rays, &after(position, r), keys.as_slice());
+            push_attacks(sheet, out, rays, &after(position, r), keys.as_slice(), 2);
             sheet.end(out);
         }
         Outcome::NoMate => {}

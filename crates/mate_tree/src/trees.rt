@@ -106,7 +106,15 @@ pub(crate) fn write_tree<O: Write>(
                 sheet,
                 out,
             );
-            write_keys(&record.position, keys.as_slice(), at, memo, sheet, out);
+            write_keys(
+                &record.position,
+                keys.as_slice(),
+                shown.form.defences,
+                at,
+                memo,
+                sheet,
+                out,
+            );
             write_tries_if_asked(record, shown.form.tries, behind, memo, sheet, out);
         }
         Outcome::NoMate => {}

@@ -7,6 +7,6 @@ use Rattle.mate_tree.proofs.keys.write_keys.Given as goal
 abbrev pub invariant-loop-index : goal.invariant-loop-index
 invariant-loop-index g l = record {
   lines : Writes (g.O.Write.contents l.initial.out) l.initial.sheet (g.O.Write.contents l.out) l.sheet
-      (key_lines l.at.shown l.at.left l.position (take l.index l.keys));
+      (key_lines l.alone l.at.shown l.at.left l.position (take l.index l.keys));
   room : l.memo.room ≡ l.fn.memo.room;
 }

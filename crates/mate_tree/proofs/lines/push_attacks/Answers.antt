@@ -20,14 +20,14 @@ loop-index-preserved g c =
     let ms = c.args.moves.now in
     let i = c.loop-index.index in
     let m = c.index-moves-index.result in
-    let word : Move → List ℕ = λ n. codes " " ++ attack_text 2 c.args.position.now n in
-    let more : attack_words 2 c.args.position.now (take i ms) ++ word m ≡ attack_words 2 c.args.position.now (take (i + 1) ms) =
-    ap (λ n. attack_words 2 c.args.position.now (take i ms) ++ word n) c.index-moves-index.is
-    ∙ flat_map_more word [] (take i ms) (get_or ms i m) ∙ ap (attack_words 2 c.args.position.now) (sym (take_more ms i m c.loop-index-test.true)) in
+    let word : Move → List ℕ = λ n. codes " " ++ attack_text c.args.number c.args.position.now n in
+    let more : attack_words c.args.number c.args.position.now (take i ms) ++ word m ≡ attack_words c.args.number c.args.position.now (take (i + 1) ms) =
+    ap (λ n. attack_words c.args.number c.args.position.now (take i ms) ++ word n) c.index-moves-index.is
+    ∙ flat_map_more word [] (take i ms) (get_or ms i m) ∙ ap (attack_words c.args.number c.args.position.now) (sym (take_more ms i m c.loop-index-test.true)) in
     subst (Says (g.O.Write.contents c.args.out.now) c.args.sheet.now (g.O.Write.contents c.push_attack.new.out) c.push_attack.new.sheet) more
-    (says_more c.loop-index.invariant (says_more c.push.ensures c.push_attack.ensures))
+    (says_more {x = attack_words c.args.number c.args.position.now (take i ms)} c.loop-index.invariant (says_more c.push.ensures c.push_attack.ensures))
 
 pub returns : goal.returns
 returns g c =
     subst (λ ms. Says (g.O.Write.contents c.args.out.now) c.args.sheet.now (g.O.Write.contents c.loop-index.out) c.loop-index.sheet
-    (attack_words 2 c.args.position.now ms)) (take_all c.loop-index.index c.args.moves.now c.loop-index-test.false) c.loop-index.invariant
+    (attack_words c.args.number c.args.position.now ms)) (take_all c.loop-index.index c.args.moves.now c.loop-index-test.false) c.loop-index.invariant

@@ -5,4 +5,4 @@ use Rattle.mate_tree.proofs.lines.push_attacks.Given as goal
 
 abbrev pub invariant-loop-index : goal.invariant-loop-index
 invariant-loop-index g l =
-    Says (g.O.Write.contents l.initial.out) l.initial.sheet (g.O.Write.contents l.out) l.sheet (attack_words 2 l.position (take l.index l.moves))
+    Says (g.O.Write.contents l.initial.out) l.initial.sheet (g.O.Write.contents l.out) l.sheet (attack_words l.number l.position (take l.index l.moves))

@@ -1,5 +1,5 @@
 use Rattle.mate_tree.proofs.WrittenLines.{says_none}
-use Rattle.mate_tree.proofs.keys.push_idea.Goals as goal
+use Rattle.mate_tree.proofs.threats.push_idea.Goals as goal
 
 pub returns-in-Some-clause-text : goal.returns-in-Some-clause-text
 returns-in-Some-clause-text g c = rw (← c.passed.ensures, c.in-Some.is, ← c.soonest-outcome.ensures.truth) c.push_threat.ensures
