@@ -17,7 +17,7 @@ _matedesk() {
     case $command in
     solve) options='--bound --memo --limit --workers --from --progress --record --fen -h --help' ;;
     verify) options='--bound --memo --from --progress --record --fen -h --help' ;;
-    tree) options='--bound --moves --set-play --tries --lines --from --progress --record --fen -h --help' ;;
+    tree) options='--bound --moves --defences --set-play --tries --lines --from --progress --record --fen -h --help' ;;
     sheet) options='--solutions --figurines --title --bound --memo -h --help' ;;
     import) options='--keep --bound -h --help' ;;
     serve) options='--workers --bound --memo --progress -h --help' ;;

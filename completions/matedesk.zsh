@@ -53,6 +53,7 @@ _matedesk() {
             _arguments $help \
                 '--bound=[moves within which a record without dm asks for mate]:bound:(1 2 3 4 5 6 7 8 9 10 11 12 13 14 15)' \
                 '--moves=[moves of the attacker that are shown]:moves:(1 2 3 4 5 6 7 8 9 10 11 12 13 14 15)' \
+                '--defences[show only the defences that parry the threat]' \
                 '--set-play[show what would follow were the defender to move first]' \
                 '--tries[show the first moves that one reply alone refutes]' \
                 '--lines=[lines that a tree has at most]:lines: ' \

@@ -1,4 +1,5 @@
-"""Trees of mates as docs/FORMATS.md describes them: keys and threats, defences, continuations, set play and tries, plainly and slowly."""
+"""Trees of mates as docs/FORMATS.md describes them: keys and threats, defences, all or those that parry, continuations, set play and tries,
+plainly and slowly."""
 
 from fen import HOMES, Position, in_check
 from moves import after, bare_text, legal_moves
@@ -65,13 +66,47 @@ def below(position, number, k, further):
             yield from below(moved(reached, move), number + 1, n - 1, further - 1)
 
 
-def idea(position, k):
-    """What is said behind a key, by the position after it."""
+def idea(position, k, number=2):
+    """What is said behind a key, or another move of the attacker's, by the position after it."""
     other = passed(position)
     if other is None:
         return ""
     moves = soonest(other, k)[1]
-    return " threat" + "".join(f" 2.{san(other, move)}" for move in moves) if moves else " zugzwang"
+    return " threat" + "".join(f" {number}.{san(other, move)}" for move in moves) if moves else " zugzwang"
+
+
+def parries(position, reply, k, threatened):
+    """Whether each threat is illegal after the reply, or mates too late."""
+    reached = moved(position, reply)
+    still = [threat for threat in threatened if threat in legal_moves(reached)]
+    return not any(loses(moved(reached, threat), k - 1) for threat in still)
+
+
+def variations(position, number, k, further):
+    """The lines below the attacker's move of this number: the replies that parry, in one line those after which the same moves mate."""
+    if further == 0:
+        return
+    other = passed(position)
+    threatened = soonest(other, k)[1] if other else []
+    together = {}
+    for reply in legal_moves(position):
+        if parries(position, reply, k, threatened):
+            reached = moved(position, reply)
+            mates = tuple(san(reached, move) for move in legal_moves(reached) if loses(moved(reached, move), 0))
+            together.setdefault(mates or reply, []).append(reply)
+    for answer, replies in together.items():
+        start = " " * (4 * number - 2) + f"{number}..." + ", ".join(san(position, reply) for reply in replies)
+        if isinstance(answer[0], str):
+            yield start + "".join(f" {number + 1}.{mate}" for mate in answer) + (" dual" if len(answer) > 1 else "")
+            continue
+        reached = moved(position, answer)
+        n, moves = soonest(reached, k)
+        yield start + (" dual" if len(moves) > 1 else "")
+        for move in moves:
+            after_move = moved(reached, move)
+            told = idea(after_move, n - 1, number + 2) + length(n, further - 1)
+            yield " " * (4 * number) + f"{number + 1}.{san(reached, move)}" + told
+            yield from variations(after_move, number + 1, n - 1, further - 1)
 
 
 def set_play(position, k):
@@ -102,10 +137,10 @@ def headed(name, lines):
     return [name, *lines] if lines else []
 
 
-def key_lines(position, n, keys, shown=None):
-    """Each key of a mate in n, and what stands below it."""
+def key_lines(position, n, keys, shown=None, tree=below):
+    """Each key of a mate in n, and what stands below it: all defences, or the variations."""
     further = (shown or (n if n <= 3 else 2)) - 1
     for key in keys:
         reached = moved(position, key)
         yield f"1.{san(position, key)}!" + idea(reached, n - 1) + length(n, further)
-        yield from below(reached, 1, n - 1, further)
+        yield from tree(reached, 1, n - 1, further)

@@ -53,6 +53,7 @@ argument_rule argument.Title = title_rule
 argument_rule argument.Progress = progress_rule
 argument_rule argument.Record = flag_rule (codes "record")
 argument_rule argument.RecordFen = flag_rule (codes "fen")
+argument_rule argument.Defences = flag_rule (codes "defences")
 argument_rule argument.SetPlay = flag_rule (codes "set-play")
 argument_rule argument.Tries = flag_rule (codes "tries")
 argument_rule argument.Solutions = flag_rule (codes "solutions")

@@ -159,10 +159,11 @@ verify_in rows =
     (λ memo. option_and_then (λ from. option_map (λ names. verify bound memo from names) (all_of (codes "FILE") rows))
     (from_in rows)) (memo_size_in rows)) (bound_in rows)
 
--- what is shown of a tree: how many moves, set play, tries, and how many lines
+-- what is shown of a tree: how many moves, whether only the defences that parry, set play, tries, and how many lines
 unfoldable pub tree_form_in : List Row → TreeForm
 tree_form_in rows = record {
   moves = some_number (option_map_or byte_or_zero (one_of (codes "D") rows) 0);
+  defences = is_given (codes "defences") rows;
   set_play = is_given (codes "set-play") rows;
   tries = is_given (codes "tries") rows;
   lines = some_number (option_map_or number_or_zero (one_of (codes "N") rows) 0);

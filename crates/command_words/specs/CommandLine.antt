@@ -122,8 +122,8 @@ verify_app = with_lines_of_files (with_solving_options (new_app (codes "verify")
 -- with the options of `tree`: the bound, and what is shown
 unfoldable pub with_tree_options : App → App
 with_tree_options a =
-    with_rule (with_rule (with_rule (with_rule (with_rule a bound_rule) shown_rule) (flag_rule (codes "set-play")))
-    (flag_rule (codes "tries"))) most_lines_rule
+    with_rule (with_rule (with_rule (with_rule (with_rule (with_rule a bound_rule) shown_rule) (flag_rule (codes "defences")))
+    (flag_rule (codes "set-play"))) (flag_rule (codes "tries"))) most_lines_rule
 
 unfoldable pub tree_app : App
 tree_app = with_lines_of_files (with_tree_options (new_app (codes "tree")))

@@ -4,12 +4,12 @@ ghost use Rattle.std.specs.Prelude.{◌≡◌};
 ghost use Rattle.command_words.specs.Arguments.{argument_rule, row_rule};
 
 use crate::help::{
-    ABOUT_BOARD, ABOUT_BOUND, ABOUT_COORDINATES, ABOUT_DEPTH, ABOUT_DIVIDE, ABOUT_FEN, ABOUT_FENS,
-    ABOUT_FIGURINES, ABOUT_FILE, ABOUT_FLIP, ABOUT_FROM, ABOUT_IMPORT_BOUND, ABOUT_KEEP,
-    ABOUT_LIMIT, ABOUT_MEMO, ABOUT_MEMOS, ABOUT_MOST_LINES, ABOUT_MOVE, ABOUT_POSITIONS,
-    ABOUT_PROGRESS, ABOUT_RECORD, ABOUT_RECORD_FEN, ABOUT_SCRIPT, ABOUT_SET_PLAY, ABOUT_SHOWN,
-    ABOUT_SOLUTIONS, ABOUT_SOLVE_WORKERS, ABOUT_SVG, ABOUT_TITLE, ABOUT_TRIES, ABOUT_WORD,
-    ABOUT_WORKERS,
+    ABOUT_BOARD, ABOUT_BOUND, ABOUT_COORDINATES, ABOUT_DEFENCES, ABOUT_DEPTH, ABOUT_DIVIDE,
+    ABOUT_FEN, ABOUT_FENS, ABOUT_FIGURINES, ABOUT_FILE, ABOUT_FLIP, ABOUT_FROM, ABOUT_IMPORT_BOUND,
+    ABOUT_KEEP, ABOUT_LIMIT, ABOUT_MEMO, ABOUT_MEMOS, ABOUT_MOST_LINES, ABOUT_MOVE,
+    ABOUT_POSITIONS, ABOUT_PROGRESS, ABOUT_RECORD, ABOUT_RECORD_FEN, ABOUT_SCRIPT, ABOUT_SET_PLAY,
+    ABOUT_SHOWN, ABOUT_SOLUTIONS, ABOUT_SOLVE_WORKERS, ABOUT_SVG, ABOUT_TITLE, ABOUT_TRIES,
+    ABOUT_WORD, ABOUT_WORKERS,
 };
 
 /// The arguments of the commands.
@@ -36,6 +36,7 @@ pub(crate) enum Argument {
     Progress,
     Record,
     RecordFen,
+    Defences,
     SetPlay,
     Tries,
     Solutions,
@@ -282,6 +283,12 @@ static RECORD_FEN: Row = Row {
     ..FLAG
 };
 
+static DEFENCES: Row = Row {
+    id: "defences",
+    help: ABOUT_DEFENCES,
+    ..FLAG
+};
+
 static SET_PLAY: Row = Row {
     id: "set-play",
     help: ABOUT_SET_PLAY,
@@ -375,6 +382,7 @@ pub(crate) fn row_of(argument: Argument) -> &'static Row
         Argument::Progress => &PROGRESS,
         Argument::Record => &RECORD,
         Argument::RecordFen => &RECORD_FEN,
+        Argument::Defences => &DEFENCES,
         Argument::SetPlay => &SET_PLAY,
         Argument::Tries => &TRIES,
         Argument::Solutions => &SOLUTIONS,

@@ -102,6 +102,7 @@ static TREE: Subcommand = Subcommand {
     arguments: &[
         Argument::Bound,
         Argument::Shown,
+        Argument::Defences,
         Argument::SetPlay,
         Argument::Tries,
         Argument::MostLines,

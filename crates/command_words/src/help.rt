@@ -169,9 +169,13 @@ line is answered `# line K: CODE` and an empty line, and a blank one is passed o
   2.Qxf3#            below a defence: each move with which the attacker mates soonest
   2.Qd5 #4           below this move the tree is cut: it mates within 4 moves, itself counted
 
-The tree goes down to mate, or to the attacker's D-th move. With --set-play `set play` has
-before the keys what the attacker would answer were the defender to move first. With --tries
-`tries` has behind them each first move that exactly one reply refutes: 1.Qh3? Kd5!
+The tree goes down to mate, or to the attacker's D-th move. With --defences it is a solution
+as magazines print it. A reply is left out where a threat still mates in time after it;
+mates stand behind the replies that they answer, and threats behind moves that don't mate:
+  1...d5, d6 2.Ng2#
+With --set-play `set play` has before the keys what the attacker would answer were the
+defender to move first. With --tries `tries` has behind them each first move that exactly
+one reply refutes: 1.Qh3? Kd5!
 
 Example:
   $ cat problems.epd
@@ -417,6 +421,10 @@ pub const ABOUT_BOUND: &str = "Within how many moves a record without `dm` asks 
 /// The option `--moves` of `tree` in one line.
 pub const ABOUT_SHOWN: &str =
     "How many of the attacker's moves are shown, 1 to 15; else all of a mate in up to 3, and else 2";
+
+/// The option `--defences` in one line.
+pub const ABOUT_DEFENCES: &str =
+    "Shows only the defences that parry the threat, those together that the same mates answer";
 
 /// The option `--set-play` in one line.
 pub const ABOUT_SET_PLAY: &str = "Shows what would follow were the defender to move first";

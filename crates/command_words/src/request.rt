@@ -52,6 +52,8 @@ pub enum LineView {
 pub struct TreeForm {
     /// How many of the attacker's moves, where a number is given.
     pub moves: Option<u8>,
+    /// Whether of the defences those alone are shown that parry the threat.
+    pub defences: bool,
     /// Whether set play is shown.
     pub set_play: bool,
     /// Whether tries are shown.
@@ -409,6 +411,7 @@ fn tree_form_in(matches: &ArgMatches) -> TreeForm
 {
     TreeForm {
         moves: shown_in(matches),
+        defences: is_given(matches, "defences"),
         set_play: is_given(matches, "set-play"),
         tries: is_given(matches, "tries"),
         lines: most_lines_in(matches),

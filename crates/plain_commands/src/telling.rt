@@ -32,7 +32,7 @@ fn form_of(form: &TreeForm) -> Form
 {
     Form {
         moves: form.moves,
-        defences: false,
+        defences: form.defences,
         set_play: form.set_play,
         tries: form.tries,
         lines: form.lines,
