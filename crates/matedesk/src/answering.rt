@@ -20,6 +20,8 @@ use std::thread::Threads;
 
 /// Answers words that ask for `serve`, `uci`, `solve --workers` or `solve --limit`. That they were parsed before shows that they are no fault:
 /// what is refused now is memory.
+// Its own frame: these commands have large values, which would lie on the stack of all others, too.
+#[inline(never)]
 fn threaded_command<
     R: Threads + Wait + Sync + Clone + Drop + Send + 'static,
     S: Source,
