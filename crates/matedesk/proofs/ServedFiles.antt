@@ -23,7 +23,7 @@ use Rattle.file_answers.specs.Status.{status_of}
 use Rattle.file_answers.specs.Writing.{Gains}
 use Rattle.file_answers.specs.FileAnswers.{AreReplies as AreFileReplies}
 use Rattle.file_answers.specs.LinesFrom.{IsReplyOn}
-use Rattle.plain_commands.specs.Solved.{record_replies}
+use Rattle.file_solving.specs.Solved.{record_replies}
 use Rattle.plain_commands.specs.Command.{Ends, EndsByStatus, StopsServing}
 use Rattle.plain_commands.specs.Served.{HaveNoWindows, HaveWindows, Serves}
 use Rattle.matedesk.specs.Serving.{unserved_status}

@@ -11,7 +11,7 @@ use Rattle.plain_commands.specs.Command.{Ends, EndsByStatus, EndsInPart}
 use Rattle.file_answers.specs.Sources.{held, held_back}
 use Rattle.file_answers.specs.Status.{status_of}
 use Rattle.file_answers.specs.Writing.{Gains}
-use Rattle.plain_commands.specs.Solved.{LimitedNone, SolvesLimited, SolvesNone, StopsLimited}
+use Rattle.file_solving.specs.Solved.{LimitedNone, SolvesLimited, SolvesNone, StopsLimited}
 
 -- Nothing is written, and the status is that of no memory.
 pub ends_uncounted : (holds : Text → Option (List ℕ)) (refuses : Text → Type 0) → EndsByStatus holds refuses → LimitedNone

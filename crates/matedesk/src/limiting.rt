@@ -4,7 +4,7 @@ ghost use Rattle.std.specs.Prelude.{◌≡◌, ◌<◌, ◌-◌, IfErr, IfOk, So
 ghost use Rattle.command_words.specs.Asked.{limited as limited_asked};
 ghost use Rattle.plain_commands.specs.Command.{Ends};
 ghost use Rattle.file_answers.specs.Status.{status_of};
-ghost use Rattle.plain_commands.specs.Solved.{SolvesLimited, StopsLimited};
+ghost use Rattle.file_solving.specs.Solved.{SolvesLimited, StopsLimited};
 ghost use Rattle.file_answers.specs.Writing.{Gains};
 
 use crate::sharing::thread_memory;
@@ -14,10 +14,11 @@ use chess_moves::Rays;
 use chess_problems::{Outcome, Problem};
 use command_words::LimitedSolve;
 use file_answers::{NO_THREAD, Source, complain, in_part, no_memory, status_of};
+use file_solving::{limited_none, solve_limited};
 use mate_answers::{Limited, LimitedMemory};
 use mate_search::{Guide, Solver, Stopped};
 use parallel_search::{ThreadMemory, solve_on_threads};
-use plain_commands::{ends_by_status, ends_in_part, limited_none, solve_limited};
+use plain_commands::{ends_by_status, ends_in_part};
 use std::alloc::{AllocError, Global};
 use std::io::Write;
 use std::sync::{Arc, Wait};

@@ -7,43 +7,11 @@ use Rattle.byte_streams.specs.declared.stops.Stop.TheVariants as stop
 use Rattle.file_answers.proofs.Unopened.{answers_none, no_reply_on}
 use Rattle.plain_commands.specs.PositionLines.{StopsLines, first_position_replies}
 use Rattle.plain_commands.specs.declared.fen_commands.FenCommand.{FenCommand}
-use Rattle.plain_commands.specs.Solved.{LimitedNone, SolvesNone, StopsLimited, StopsSolving, first_limited_replies, first_record_replies}
 use Rattle.command_words.specs.declared.request.TreeForm.{TreeForm}
 use Rattle.problem_import.specs.Imports.{IsImportOfFirst, none as nothing_imported}
 use Rattle.plain_commands.specs.Imported.{StopsImporting, first_import_replies}
 use Rattle.plain_commands.specs.Told.{StopsTelling, TellsNone, first_tree_replies}
 use Rattle.plain_commands.specs.Verified.{VerifiesNone, StopsVerifying, first_claim_replies, has_several}
-
-pub no_record_reply : (bound from : ℕ) (name input : List ℕ) → first_record_replies bound from name input []
-no_record_reply bound from name input = no_reply_on _ from input
-
-pub solves_none : SolvesNone
-solves_none holds bound from names = answers_none holds _ _ from names (no_record_reply bound)
-
-pub stops_at_once : (holds : List ℕ → Option (List ℕ)) (refuses : List ℕ → Type 0) (bound from : ℕ) (names : List (List ℕ))
-    (old new : Option (List ℕ)) → Keeps old new
-    → StopsSolving holds refuses bound from names stop.NoMemory old new
-stops_at_once holds refuses bound from names old new kept = record {
-  gained = [];
-  shows = solves_none holds bound from names;
-  appends = Appends-kept old old new [] (Appends-nil old) kept;
-}
-
-pub no_limited_reply : (seconds bound from : ℕ) (name input : List ℕ) → first_limited_replies seconds bound from name input []
-no_limited_reply seconds bound from name input = no_reply_on _ from input
-
-pub limited_none : LimitedNone
-limited_none holds seconds bound from names = answers_none holds _ _ from names (no_limited_reply seconds bound)
-
-pub limited_at_once : (holds : List ℕ → Option (List ℕ)) (refuses : List ℕ → Type 0) (seconds bound from : ℕ) (names : List (List ℕ))
-    (old new : Option (List ℕ)) → Keeps old new
-    → StopsLimited holds refuses seconds bound from names stop.NoMemory old new
-limited_at_once holds refuses seconds bound from names old new kept =
-    record {
-      gained = [];
-      shows = limited_none holds seconds bound from names;
-      appends = Appends-kept old old new [] (Appends-nil old) kept;
-    }
 
 pub no_claim_reply : (several : Bool) (bound from : ℕ) (name input : List ℕ) → first_claim_replies several bound from name input []
 no_claim_reply several bound from name input = no_reply_on _ from input

@@ -18,7 +18,7 @@ use Rattle.plain_commands.specs.FenCommands.{ShowsFen, columns_of}
 use Rattle.plain_commands.specs.Played.{ShowsPlay}
 use Rattle.plain_commands.specs.PositionLines.{ShowsLines, StopsLines, command_of}
 use Rattle.plain_commands.specs.Replayed.{ReplaysFile, StopsReplaying}
-use Rattle.plain_commands.specs.Solved.{Solves, SolvesLimited, StopsLimited, StopsSolving}
+use Rattle.file_solving.specs.Solved.{Solves, SolvesLimited, StopsLimited, StopsSolving}
 use Rattle.plain_commands.specs.Verified.{StopsVerifying, Verifies}
 use Rattle.plain_commands.specs.Told.{StopsTelling, Tells}
 use Rattle.plain_commands.specs.Sheeted.{Sheets, StopsSheet}

@@ -1,7 +1,7 @@
 -- What `serve` shows.
 use Rattle.std.specs.Prelude.{◌≡◌, ◌⊎◌, ◌<◌, ◌≤◌, ℕ, Bool, List, Option, length}
 use Rattle.clap.specs.Words.{Text}
-use Rattle.plain_commands.specs.Solved.{Solves}
+use Rattle.file_solving.specs.Solved.{Solves}
 
 -- for how many files there are windows
 abbrev pub max_files : ℕ

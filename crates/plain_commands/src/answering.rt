@@ -14,7 +14,6 @@ use crate::playing::play_given;
 use crate::position_answers::show_lines;
 use crate::replaying::replay;
 use crate::sheeting::{SheetAsked, sheet};
-use crate::solving::{solve, solves_none};
 use crate::telling::{tells_none, tree};
 use crate::verifying::{verifies_none, verify};
 use byte_streams::{Stop, stop_of_output};
@@ -22,6 +21,7 @@ use clap::Error;
 use clap::error::ErrorKind;
 use command_words::{Request, escaped, gives_records, parse, request_of};
 use file_answers::{ANSWERED, GivenTexts, MISUSED, Source, complain, no_memory, status_of};
+use file_solving::{limited_none, solve, solves_none};
 use std::alloc::Global;
 use std::io::Write;
 
@@ -170,6 +170,7 @@ pub fn plain_command<S: Source, O: Write, E: Write>(
 {
     // What a `solve`, a `verify` or a `tree` has written for which memory is refused here.
     solves_none();
+    limited_none();
     verifies_none();
     tells_none();
     let Ok(texts) = escaped(alloc, words) else {

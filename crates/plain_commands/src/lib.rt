@@ -3,8 +3,8 @@
 //! a table of faults, or over a position.
 //!
 //! What the words of a command line ask for is the business of `command_words`, how files are answered, what is shown and the statuses that
-//! of `file_answers`, and what is answered that of the crates of chess and of the desk. To read: `answering`, where the contract of
-//! `plain_command` says how each command ends; then `fen_commands` and `playing`; `solving`, `limited_solving`, `verifying`, `telling`,
+//! of `file_answers`, how files are solved that of `file_solving`, and what is answered that of the crates of chess and of the desk. To read:
+//! `answering`, where the contract of `plain_command` says how each command ends; then `fen_commands` and `playing`; `verifying`, `telling`,
 //! `importing` and `position_answers`, which answer each line of each file; `sheeting`; `replaying`, over the scripts of `desk_scripts`; and
 //! `explaining`, over `fault_explanations` and `fen_explanations`.
 #![tactic(auto)]
@@ -13,12 +13,10 @@ mod answering;
 mod explaining;
 mod fen_commands;
 mod importing;
-mod limited_solving;
 mod playing;
 mod position_answers;
 mod replaying;
 mod sheeting;
-mod solving;
 mod telling;
 mod verifying;
 
@@ -27,9 +25,7 @@ pub use desk_scripts::{Script, ScriptFault, read_script};
 pub use explaining::explain;
 pub use fault_explanations::{Example, Explanation};
 pub use fen_commands::{FenCommand, show_fen};
-pub use limited_solving::{limited_none, solve_limited};
 pub use playing::play_moves;
 pub use position_answers::show_lines;
 pub use replaying::replay;
 pub use sheeting::{SheetAsked, sheet};
-pub use solving::{new_memo, solve, solve_by, solves_none};

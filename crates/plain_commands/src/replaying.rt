@@ -5,13 +5,13 @@ ghost use Rattle.file_answers.specs.Writing.{Gains};
 ghost use Rattle.plain_commands.specs.Replayed.{HasNoDesk, Replays, ReplaysFile, Runs, StopsReplaying, reply_lines as lines_of_replies};
 ghost use Rattle.desk_scripts.specs.Scripts.{IsFirstFault, IsScript, script_value};
 
-use crate::solving::new_memo;
 use byte_streams::Stop;
 use chess_moves::Rays;
 use chess_notation::NoMemory;
 use chess_views::push_line;
 use desk_scripts::{Script, ScriptFault, read_script};
 use file_answers::{Source, complain, complain_faulty, read_file, show};
+use file_solving::new_memo;
 use mate_desk::{Reply, RunFault, reply_text, run};
 use std::alloc::Global;
 use std::io::Write;

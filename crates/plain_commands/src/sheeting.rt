@@ -5,12 +5,12 @@ ghost use Rattle.file_answers.specs.Sources.{SomeRefused};
 ghost use Rattle.file_answers.specs.Writing.{Gains};
 ghost use Rattle.plain_commands.specs.Sheeted.{Sheets, StopsSheet, page_form_of};
 
-use crate::solving::new_memo;
 use byte_streams::{Stop, put};
 use chess_moves::Rays;
 use chess_problems::Bound;
 use command_words::{MemoSize, SheetForm};
 use file_answers::{Source, read_files};
+use file_solving::new_memo;
 use problem_sheets::{Form, add_files, page_text};
 use std::alloc::Global;
 use std::io::Write;

@@ -4,12 +4,12 @@ ghost use Rattle.std.specs.Prelude.{◌≡◌, IfErr, IfOk, map};
 ghost use Rattle.file_answers.specs.Writing.{Gains};
 ghost use Rattle.plain_commands.specs.Told.{StopsTelling, Tells, TellsNone, tree_form_of};
 
-use crate::solving::new_memo;
 use byte_streams::{Input, Stop};
 use chess_moves::Rays;
 use chess_problems::Bound;
 use command_words::{Files, TreeForm};
 use file_answers::{FileAnswers, FileStart, Source, answer_files, write_lines_from};
+use file_solving::new_memo;
 use mate_search::Memo;
 use mate_tree::{Form, TreeReplies};
 use std::alloc::Global;

@@ -4,7 +4,6 @@ ghost use Rattle.std.specs.Prelude.{◌≡◌, ◌++◌, IfErr, IfOk, map};
 ghost use Rattle.file_answers.specs.Writing.{Gains};
 ghost use Rattle.plain_commands.specs.Verified.{StopsVerifying, Verifies, VerifiesNone, has_several, prefix_of};
 
-use crate::solving::new_memo;
 use byte_streams::{Input, Stop};
 use chess_moves::Rays;
 use chess_problems::Bound;
@@ -12,6 +11,7 @@ use command_words::{Files, MemoSize};
 use file_answers::{
     FileAnswers, FileStart, Source, answer_files, answer_lines_from, complain, holds_reads,
 };
+use file_solving::new_memo;
 use mate_claims::{ClaimMemory, ClaimRows, Counts};
 use std::alloc::{AllocError, Global};
 use std::io::Write;

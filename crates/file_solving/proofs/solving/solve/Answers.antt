@@ -1,7 +1,7 @@
 use Rattle.std.proofs.KnownBytes.{Keeps-refl}
 use Rattle.std.proofs.lemmas.Result.{err_from_is_err_and}
-use Rattle.plain_commands.proofs.Unopened.{stops_at_once}
-use Rattle.plain_commands.proofs.solving.solve.Goals as goal
+use Rattle.file_solving.proofs.Unopened.{stops_at_once}
+use Rattle.file_solving.proofs.solving.solve.Goals as goal
 
 pub returns-in_err-memo-clause-err : goal.returns-in_err-memo-clause-err
 returns-in_err-memo-clause-err g c =

@@ -2,7 +2,7 @@
 
 ghost use Rattle.std.specs.Prelude.{◌≡◌, ◌≤◌, IfErr, IfOk, map};
 ghost use Rattle.file_answers.specs.Writing.{Gains};
-ghost use Rattle.plain_commands.specs.Solved.{Solves, SolvesNone, StopsSolving};
+ghost use Rattle.file_solving.specs.Solved.{Solves, SolvesNone, StopsSolving};
 
 use byte_streams::{Input, Stop};
 use chess_moves::Rays;
@@ -35,7 +35,7 @@ struct RecordAnswers<'a, 'r, V> {
 
 impl<V: Solver<Never>> FileAnswers for RecordAnswers<'_, '_, V> {
     ghost use Rattle.file_answers.specs.FileAnswers.{unmarked};
-    ghost use Rattle.plain_commands.specs.Solved.{record_replies, first_record_replies};
+    ghost use Rattle.file_solving.specs.Solved.{record_replies, first_record_replies};
 
     type Memory = V::Memory;
 

@@ -2,7 +2,7 @@
 
 ghost use Rattle.std.specs.Prelude.{◌≡◌, ◌-◌, IfErr, IfOk, map};
 ghost use Rattle.file_answers.specs.Writing.{Gains};
-ghost use Rattle.plain_commands.specs.Solved.{LimitedNone, SolvesLimited, StopsLimited};
+ghost use Rattle.file_solving.specs.Solved.{LimitedNone, SolvesLimited, StopsLimited};
 
 use byte_streams::{Input, Stop};
 use command_words::Files;
@@ -19,7 +19,7 @@ struct LimitedRecords<'a, 'r, T, V> {
 }
 
 impl<T: TimeLimit, V: Solver<T>> FileAnswers for LimitedRecords<'_, '_, T, V> {
-    ghost use Rattle.plain_commands.specs.Solved.{limited_replies, limited_told, first_limited_replies};
+    ghost use Rattle.file_solving.specs.Solved.{limited_replies, limited_told, first_limited_replies};
 
     type Memory = LimitedMemory<V::Memory>;
 

@@ -1,5 +1,0 @@
-use Rattle.plain_commands.proofs.Unopened.{no_limited_reply}
-use Rattle.plain_commands.proofs.limited_solving.LimitedRecordsFileAnswers.begins_with_nothing.Goals as goal
-
-pub returns : goal.returns
-returns g c = no_limited_reply c.args.self.now.limited.now.seconds c.args.self.now.limited.now.default
