@@ -1,2 +1,3 @@
 mod Below
+mod EachBelow
 mod WordFronts

@@ -55,7 +55,7 @@ fn push_pawn(text: &mut Vec<u8>, ranks: &[&[u8]], square: Square) -> Result<(), 
 }
 
 /// Tells of each pawn of a rank.
-#[tactic(auto, unfolding(crate::specs::Sentences::each_below))]
+#[tactic(auto, using(crate::proofs::EachBelow::none_told, crate::proofs::EachBelow::more_told))]
 fn push_pawns(text: &mut Vec<u8>, ranks: &[&[u8]], rank: u8) -> Result<(), AllocError>
     requires { rank < 8 }
     ensures { IfOk result (λ _. text.new.items ≡ text.old.items ++ pawns_told (map (λ r. r.now) ranks.now) rank) }

@@ -182,7 +182,7 @@ fn push_said_rank(text: &mut Vec<u8>, ranks: &[&[u8]], number: u8) -> Result<(),
 }
 
 /// Tells of each rank that is there, from the eighth down.
-#[tactic(auto, unfolding(crate::specs::Sentences::each_below))]
+#[tactic(auto, using(crate::proofs::EachBelow::none_told, crate::proofs::EachBelow::more_told))]
 fn push_said_ranks(text: &mut Vec<u8>, ranks: &[&[u8]]) -> Result<(), AllocError>
     ensures { IfOk result (λ _. text.new.items ≡ text.old.items ++ each_below 8 (λ n. said_rank_told (map (λ r. r.now) ranks.now) n)) }
 {
