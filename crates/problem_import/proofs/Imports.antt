@@ -1,7 +1,7 @@
 -- What is printed are records and refusals, one behind the other.
-use Rattle.std.proofs.Common.{◌≡◌, ◌≢◌, ◌⊎◌, inl, inr, ℕ, ◌+◌, ◌<◌, ◌≤◌, length, take, Bool, true, false, ◌||◌, Option, Result}
+use Rattle.std.proofs.Common.{◌≡◌, ◌≢◌, ◌⊎◌, inl, inr, ℕ, ◌+◌, ◌<◌, ◌≤◌, length, take, Bool, true, false, ◌||◌, Option, None, Some, Result}
 use Rattle.std.proofs.Common.{Ok, Err, IfOk, IfErr, List, [], ◌∷◌, ◌++◌, refl, sym, ap, ◌∙◌, subst, append_assoc, arith, length-append}
-use Rattle.std.specs.Prelude.{Contains, map, replicate}
+use Rattle.std.specs.Prelude.{Contains, IfNone, map, replicate}
 use Rattle.std.proofs.KnownBytes.{Appends-nil, Appends-trans}
 use Rattle.std.proofs.Math.Seq.{take-length}
 use Rattle.std.specs.Io.KnownBytes.{Appends}
@@ -201,6 +201,10 @@ long_reply keep number out text any count on same is line filled long =
     let no_record : IsRecord line → ⊥ = λ one. omega (arith, one.1.short, long) in
     let of_line = imported_for (IsMade keep []) (IsMade keep line) (long_made keep line long) text any on in
     read_reply keep number line out text any count filled of_line (λ clean. absurd (no_record (clean_record line clean))) (λ one. absurd (no_record one)) same is
+
+pub where_none : {A : Type 0} (X : Type 0) (found : Option A) → ((a : A) → found ≢ Some a) → IfNone found X → X
+where_none X None other then = then
+where_none X (Some a) other then = absurd (other a refl)
 
 -- ---- where it ends or stops
 

@@ -1,24 +1,34 @@
-//! A game in PGN (Portable Game Notation Specification, section 8): its tag pairs, of which a record is made, and its movetext, which is
-//! passed over but for comments before the first move, which may say a number of moves.
+//! A game in PGN (Portable Game Notation Specification, section 8): its tag pairs, of which a record is made; the comments before its first
+//! move, which may say a number of moves; and that move, which is claimed. What stands behind it is passed over.
 
 use crate::changes::Changes;
 use crate::import_faults::ImportFault;
-use crate::texts::{is_same, is_word, push_bound_operation, word_at};
+use crate::moves::is_position;
+use crate::texts::{is_same, is_word, push_bound_operation, push_byte, word_at};
 use std::alloc::{AllocError, Global};
 use stipulations::{Asked, moves_asked};
 
 /// The longest string of a record.
 const LONGEST: usize = 255;
 
-/// What tag pairs, and comments before the first move, said so far, and the number of their first line.
+/// What tag pairs, and movetext up to the first move, said so far, and the number of their first line.
 #[derive(Drop)]
 pub(crate) struct Game {
     pub(crate) number: usize,
     pub(crate) changes: Changes,
+    /// Whether the tag pairs are ended by movetext.
+    pub(crate) is_begun: bool,
+    /// Whether nothing more is looked for: the first move was seen, or that there is none.
+    pub(crate) is_over: bool,
+    /// Whether a comment in braces is open behind the last line that was taken.
+    pub(crate) in_comment: bool,
+    /// Whether the number before the first move says that it is Black's.
+    is_blacks: bool,
     has_fen: bool,
     /// What its tag `Stipulation` asks, if it has one, and what the others and the comments do.
     stipulated: Option<Asked>,
     asked: Asked,
+    /// The position, and behind it the claim.
     fen: Vec<u8>,
     white: Vec<u8>,
     black: Vec<u8>,
@@ -114,19 +124,39 @@ fn take_value<'t>(value: &mut Vec<u8>, text: &'t [u8]) -> Result<&'t [u8], Alloc
     Ok(&[])
 }
 
-/// What comments in braces ask, those with which a line begins; one that isn't ended there goes up to the line's end.
-fn comments_asked(line: &[u8]) -> Asked {
-    let mut asked = Asked::Nothing;
-    let mut rest = line.trim_ascii_start();
-    for _ in 0..line.len() {
-        let [b'{', more @ ..] = rest else {
-            break;
-        };
-        let (comment, behind) = cut_at(more, b'}');
-        asked = asked.and(moves_asked(comment));
-        rest = behind.trim_ascii_start();
+/// A word of movetext, up to a space, a comment or a mark as `$1`, and what stands behind.
+fn move_word(text: &[u8]) -> (&[u8], &[u8]) {
+    for (index, byte) in text.iter().enumerate() {
+        if matches!(*byte, b' ' | b'{' | b';') || (index > 0 && *byte == b'$') {
+            return text.split_at(index);
+        }
     }
-    asked
+    (text, &[])
+}
+
+/// Whether what stands behind a move blames it: a mark `$2`, `$4`, `$5` or `$6`.
+fn is_blamed(behind: &[u8]) -> bool {
+    matches!(
+        behind.trim_ascii_start(),
+        [b'$', b'2' | b'4'..=b'6'] | [b'$', b'2' | b'4'..=b'6', b' ' | b'{' | b'(', ..]
+    )
+}
+
+/// Whether a word of movetext claims a key: it has the form of castling, or a letter and behind it a rank; and it isn't blamed.
+fn is_key(word: &[u8]) -> bool {
+    let mut is_move = matches!(word, [_, b'-', b'O' | b'0', ..]);
+    for byte in word {
+        if matches!(*byte, b'?' | b'"') {
+            return false;
+        }
+        is_move = is_move || matches!(*byte, b'1'..=b'8');
+    }
+    match word {
+        [first, ..] => is_move
+            && word.len() < 16
+            && (*first == b'0' || first.is_ascii_alphabetic()),
+        [] => false,
+    }
 }
 
 impl Game {
@@ -135,6 +165,10 @@ impl Game {
         Game {
             number,
             changes,
+            is_begun: false,
+            is_over: false,
+            in_comment: false,
+            is_blacks: false,
             has_fen: false,
             stipulated: None,
             asked: Asked::Nothing,
@@ -192,9 +226,68 @@ impl Game {
         Ok(rest)
     }
 
-    /// Takes the comments before the first move, of the first line of movetext.
-    pub(crate) fn take_comments(&mut self, line: &[u8]) {
-        self.asked = self.asked.and(comments_asked(line));
+    /// Claims a key behind the position, if that is one and no operation stands there.
+    fn claim(&mut self, key: &[u8]) -> Result<(), AllocError> {
+        if !is_position(self.fen.as_slice()) {
+            return Ok(());
+        }
+        self.changes.moves = true;
+        let opcode = if self.is_blacks { " bm 1..." } else { " bm " };
+        self.fen.extend_from_slice(opcode.as_bytes())?;
+        self.fen.extend_from_slice(key)?;
+        push_byte(&mut self.fen, b';')
+    }
+
+    /// Takes a comment up to its end, or the line's: one with which movetext begins may ask for a number of moves.
+    fn take_comment<'t>(&mut self, text: &'t [u8]) -> &'t [u8] {
+        let (comment, behind) = cut_at(text, b'}');
+        self.in_comment = comment.len() == text.len();
+        if !self.is_begun {
+            self.asked = self.asked.and(moves_asked(comment));
+        }
+        behind
+    }
+
+    /// Takes a word of movetext: the first move, or what says that there is none.
+    fn take_word(&mut self, text: &[u8]) -> Result<(), AllocError> {
+        let (word, behind) = move_word(text);
+        self.is_over = true;
+        if is_key(word) && !is_blamed(behind) {
+            self.claim(word)?;
+        }
+        Ok(())
+    }
+
+    /// Takes a line of movetext, up to the first move, with which nothing more is looked for: behind comments, numbers, and marks as `$1`.
+    pub(crate) fn take_moves(&mut self, line: &[u8]) -> Result<(), AllocError> {
+        let was_in_comment = self.in_comment;
+        let mut rest = line;
+        for _ in 0..line.len() {
+            if self.in_comment {
+                rest = self.take_comment(rest);
+            }
+            let text = rest.trim_ascii_start();
+            self.is_begun = self.is_begun || !matches!(text, [] | [b'{', ..]);
+            rest = match text {
+                [] | [b';', ..] => break,
+                [b'{', more @ ..] => {
+                    self.in_comment = true;
+                    more
+                }
+                [b'$', _, more @ ..] => move_word(more).1,
+                [b'.', b'.', more @ ..] => {
+                    self.is_blacks = true;
+                    more
+                }
+                [b'0'..=b'9' | b'.', more @ ..] if !matches!(text, [b'0', b'-', b'0', ..]) => more,
+                _ => {
+                    self.in_comment = was_in_comment;
+                    return self.take_word(text);
+                }
+            };
+        }
+        self.is_begun = true;
+        Ok(())
     }
 
     /// What is asked: what `Stipulation` does, if it is there, else what the other tags and the comments do.
@@ -227,11 +320,15 @@ impl Game {
     /// What is made of the tag pairs, read as a record.
     pub(crate) fn text(&mut self, alloc: Global) -> Result<Vec<u8>, AllocError> {
         let mut id = Vec::new(alloc);
-        push_id(&mut id, self.white.as_slice(), &mut self.changes)?;
-        push_id(&mut id, self.black.as_slice(), &mut self.changes)?;
-        push_id(&mut id, self.event.as_slice(), &mut self.changes)?;
-        push_id(&mut id, self.date.as_slice(), &mut self.changes)?;
-        push_id(&mut id, self.annotator.as_slice(), &mut self.changes)?;
+        for value in [
+            &self.white,
+            &self.black,
+            &self.event,
+            &self.date,
+            &self.annotator,
+        ] {
+            push_id(&mut id, value.as_slice(), &mut self.changes)?;
+        }
         let mut text = Vec::from_slice(alloc, self.fen.as_slice().trim_ascii())?;
         if let Asked::Moves(moves) = self.asks() {
             self.changes.bound = true;

@@ -13,7 +13,7 @@ use crate::changes::{Changes, Form};
 use crate::import_faults::ImportFault;
 use crate::line_kinds::{LineKind, kind_of};
 use crate::printing::{Printed, Printing};
-use crate::reading::{Finding, Found, Reading, push_finding};
+use crate::reading::{Finding, Found, Open, Reading, push_finding};
 use byte_streams::{Input, NoMemory, Stop, put};
 use chess_moves::Rays;
 use chess_notation::{Bound, EpdFault};
@@ -55,7 +55,7 @@ fn take(
 {
     match kind {
         LineKind::Clean => {
-            reading.finish(alloc, findings)?;
+            reading.finish(alloc, Open::Nothing, findings)?;
             Ok(())
         }
         LineKind::Mendable => {
@@ -119,7 +119,7 @@ impl Imports<'_> {
         ensures ended { IfOk result (λ printed. due reading.old.open ≤ length printed.text.items) }
     {
         let mut findings = Vec::new(alloc);
-        reading.finish(alloc, &mut findings)?;
+        reading.finish(alloc, Open::Nothing, &mut findings)?;
         self.printing.printed(alloc, b"", findings.as_slice())
     }
 }

@@ -217,37 +217,33 @@ impl Mending<'_> {
 
     /// Adds the keys that are claimed; the first number of moves among them is a bound, where there is none.
     fn push_keys(&mut self, operands: &[u8]) -> Result<(), AllocError> {
-        let alloc = self.alloc;
-        let mut keys = Vec::new(alloc);
-        let mut bound = Vec::new(alloc);
+        let before = self.text.len();
+        self.text.extend_from_slice(b" bm")?;
+        let begun = self.text.len();
+        let mut bound: &[u8] = &[];
         let mut rest = operands;
         for _ in 0..operands.len() {
             let Some(token) = token_at(rest) else {
                 break;
             };
-            let behind = token.rest;
-            let taken = rest.len().saturating_sub(behind.len()).min(rest.len());
             match length_digits(token.text) {
                 Some(digits) if token.kind == Kind::Word && !self.is_bound => {
-                    bound.extend_from_slice(digits)?;
+                    bound = digits;
                     self.is_bound = true;
                 }
-                _ => {
-                    keys.push(b' ')?;
-                    keys.extend_from_slice(rest.split_at(taken).0)?;
-                }
+                _ => self.push_move(&token)?,
             }
-            rest = behind;
-        }
-        if !keys.is_empty() || bound.is_empty() {
-            self.text.extend_from_slice(b" bm")?;
-            self.push_operands(keys.as_slice(), true)?;
-            self.text.push(b';')?;
+            rest = token.rest;
         }
         if bound.is_empty() {
-            return Ok(());
+            return push_byte(&mut self.text, b';');
         }
-        self.push_bound(bound.as_slice())
+        if self.text.len() == begun {
+            self.text.truncate(before);
+        } else {
+            self.text.push(b';')?;
+        }
+        self.push_bound(bound)
     }
 
     /// Adds an operation.

@@ -134,6 +134,11 @@ fn operations_of(text: &[u8]) -> &[u8] {
     rest
 }
 
+/// Whether a text is a position, and counters if they are there, and no operation stands behind.
+pub(crate) fn is_position(text: &[u8]) -> bool {
+    position_of(text).is_some() && trimmed(operations_of(text)).is_empty()
+}
+
 /// A text whose moves are mended, or none where none wants it.
 fn mended(alloc: Global, rays: &Rays, text: &[u8]) -> Result<Option<Vec<u8>>, AllocError> {
     let operations = operations_of(text);

@@ -86,16 +86,17 @@ impl Reading {
         matches!(&self.open, Open::Game(_) | Open::Movetext(_))
     }
 
-    /// Ends what is open.
+    /// Ends what is open; this is open then.
     pub(crate) fn finish(
         &mut self,
         alloc: Global,
+        next: Open,
         findings: &mut Vec<Finding>,
     ) -> Result<(), AllocError>
         ensures found { IfOk result (λ _. length findings.new.items ≡ due self.old.open + length findings.old.items) }
-        ensures ended { self.new.open ≡ Open.Nothing }
+        ensures next { self.new.open ≡ next }
     {
-        let open = std::mem::replace(&mut self.open, Open::Nothing);
+        let open = std::mem::replace(&mut self.open, next);
         match open {
             Open::Game(game) => finish_game(alloc, game, findings),
             Open::Popeye(problem) => finish_popeye(alloc, &problem, findings),
@@ -115,26 +116,31 @@ impl Reading {
         }
     }
 
-    /// Whether a comment is open, in movetext that is passed over.
+    /// Whether a comment is open in movetext.
     fn in_comment(&self) -> bool {
         match &self.open {
+            Open::Game(game) => game.in_comment,
             Open::Movetext(movetext) => movetext.in_comment,
-            _ => false,
+            Open::Nothing | Open::Popeye(_) => false,
         }
     }
 
-    /// Ends movetext at an empty line before a line of such a number.
-    fn end_movetext(&mut self, number: usize)
-        ensures due { due self.new.open ≡ due self.old.open }
-        ensures tags { has_tags self.new.open ≡ has_tags self.old.open }
-        ensures last { self.new.last ≡ self.old.last }
+    /// Ends a game whose movetext has begun at an empty line before a line of such a number.
+    fn end_movetext(
+        &mut self,
+        alloc: Global,
+        number: usize,
+        findings: &mut Vec<Finding>,
+    ) -> Result<(), AllocError>
+        ensures kept { IfOk result (λ _. due self.old.open + length findings.old.items ≤ due self.new.open + length findings.new.items) }
+        ensures tags { IfOk result (λ _. does_go_on self.old.open self.old.last number ≡ false
+            → does_go_on self.new.open self.new.last number ≡ false) }
     {
-        if number <= self.last.saturating_add(1) {
-            return;
+        if number <= self.last.saturating_add(1) || !self.passes() || self.has_tags() {
+            return Ok(());
         }
-        if let Open::Movetext(_) = &self.open {
-            self.open = Open::Nothing;
-        }
+        self.finish(alloc, Open::Nothing, findings)?;
+        Ok(())
     }
 
     /// Notes that a long line was passed over, the last of them by this number.
@@ -150,18 +156,18 @@ impl Reading {
         if number <= self.last || !self.passes() {
             return Ok(());
         }
-        self.finish(alloc, findings)?;
-        self.open = Open::Movetext(Movetext { in_comment: false });
+        let movetext = Movetext { in_comment: false };
+        self.finish(alloc, Open::Movetext(movetext), findings)?;
         self.last = number;
         Ok(())
     }
 
-    /// Whether a game's tag pairs are open.
+    /// Whether a game is open whose movetext hasn't begun.
     fn has_tags(&self) -> bool
         ensures { result ≡ has_tags self.now.open }
     {
         match &self.open {
-            Open::Game(_) => true,
+            Open::Game(game) => !game.is_begun,
             _ => false,
         }
     }
@@ -188,8 +194,8 @@ impl Reading {
         if self.goes_on(number) {
             return Ok(());
         }
-        self.finish(alloc, findings)?;
-        self.open = Open::Game(Game::new(alloc, number, changes.of(Form::Game)));
+        let game = Game::new(alloc, number, changes.of(Form::Game));
+        self.finish(alloc, Open::Game(game), findings)?;
         Ok(())
     }
 
@@ -235,33 +241,36 @@ impl Reading {
         if !problem.is_ended {
             return Ok(());
         }
-        let has_next = problem.has_next;
-        self.finish(alloc, findings)?;
-        if has_next {
+        let next = if problem.has_next {
             let changes = Changes::none(Form::Popeye);
-            self.open = Open::Popeye(PopeyeProblem::new(alloc, number, changes));
-        }
+            Open::Popeye(PopeyeProblem::new(alloc, number, changes))
+        } else {
+            Open::Nothing
+        };
+        self.finish(alloc, next, findings)?;
         Ok(())
     }
 
-    /// Takes the comments with which a line of movetext begins, if it is a game's first.
-    fn take_comments(&mut self, line: &[u8])
-        ensures { due self.new.open ≡ due self.old.open }
-    {
-        if let Open::Game(game) = &mut self.open {
-            game.take_comments(line);
-        }
-    }
-
-    /// Ends the tag pairs of a game that is open.
-    fn end_tags(&mut self, alloc: Global, findings: &mut Vec<Finding>) -> Result<(), AllocError>
+    /// Takes a line of movetext up to the first move of the game that is open, which ends it.
+    fn take_moves(
+        &mut self,
+        alloc: Global,
+        line: &[u8],
+        findings: &mut Vec<Finding>,
+    ) -> Result<(), AllocError>
         ensures { IfOk result (λ _. due self.old.open + length findings.old.items ≤ due self.new.open + length findings.new.items) }
     {
-        let Open::Game(_) = &self.open else {
+        let Open::Game(game) = &mut self.open else {
             return Ok(());
         };
-        self.finish(alloc, findings)?;
-        self.open = Open::Movetext(Movetext { in_comment: false });
+        game.take_moves(line)?;
+        if !game.is_over {
+            return Ok(());
+        }
+        let passed = Open::Movetext(Movetext {
+            in_comment: game.in_comment,
+        });
+        self.finish(alloc, passed, findings)?;
         Ok(())
     }
 
@@ -274,8 +283,7 @@ impl Reading {
     ) -> Result<(), AllocError>
         ensures { IfOk result (λ _. due self.old.open + length findings.old.items ≤ due self.new.open + length findings.new.items) }
     {
-        self.take_comments(line);
-        self.end_tags(alloc, findings)?;
+        self.take_moves(alloc, line, findings)?;
         self.pass(line);
         Ok(())
     }
@@ -293,7 +301,7 @@ impl Reading {
         ensures found { IfOk result (λ _. length findings.new.items ≡ due self.old.open + length findings.old.items + 1) }
         ensures ended { IfOk result (λ _. self.new.open ≡ Open.Nothing) }
     {
-        self.finish(alloc, findings)?;
+        self.finish(alloc, Open::Nothing, findings)?;
         let mut changes = changes;
         let found = match mended_line(alloc, line, &mut changes)? {
             Mended::Bound(text) => Found::Text(text, changes),
@@ -315,9 +323,8 @@ impl Reading {
     ) -> Result<(), AllocError>
         ensures { IfOk result (λ _. due self.old.open + length findings.old.items < due self.new.open + length findings.new.items) }
     {
-        self.finish(alloc, findings)?;
         let problem = PopeyeProblem::new(alloc, number, Changes::none(Form::Popeye));
-        self.open = Open::Popeye(problem);
+        self.finish(alloc, Open::Popeye(problem), findings)?;
         self.take_popeye(alloc, number, behind, changes, findings)?;
         Ok(())
     }
@@ -394,10 +401,9 @@ impl Reading {
             → due self.old.open + length findings.old.items < due self.new.open + length findings.new.items) }
     {
         if self.in_comment() && !is_tag_pair(text) {
-            self.pass(text);
-            return Ok(());
+            return self.take_movetext(alloc, text, findings);
         }
-        self.end_movetext(number);
+        self.end_movetext(alloc, number, findings)?;
         self.take_problem_line(alloc, number, text, changes, findings)
     }
 
