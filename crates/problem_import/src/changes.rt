@@ -7,7 +7,7 @@ ghost use Rattle.problem_import.specs.inside.KeptChanges.{has_change};
 use std::alloc::AllocError;
 
 /// What a record was made of.
-#[derive(Clone, Copy, PartialEq, Eq)]
+#[derive(Clone, Copy)]
 pub(crate) enum Form {
     Line,
     Game,

@@ -33,6 +33,7 @@ pub(crate) struct Game {
     white: Vec<u8>,
     black: Vec<u8>,
     event: Vec<u8>,
+    round: Vec<u8>,
     date: Vec<u8>,
     annotator: Vec<u8>,
 }
@@ -136,10 +137,8 @@ fn move_word(text: &[u8]) -> (&[u8], &[u8]) {
 
 /// Whether what stands behind a move blames it: a mark `$2`, `$4`, `$5` or `$6`.
 fn is_blamed(behind: &[u8]) -> bool {
-    matches!(
-        behind.trim_ascii_start(),
-        [b'$', b'2' | b'4'..=b'6'] | [b'$', b'2' | b'4'..=b'6', b' ' | b'{' | b'(', ..]
-    )
+    let (mark, _) = move_word(behind.trim_ascii_start());
+    matches!(mark, [b'$', b'2' | b'4'..=b'6'])
 }
 
 /// Whether a word of movetext claims a key: it has the form of castling, or a letter and behind it a rank; and it isn't blamed.
@@ -176,6 +175,7 @@ impl Game {
             white: Vec::new(alloc),
             black: Vec::new(alloc),
             event: Vec::new(alloc),
+            round: Vec::new(alloc),
             date: Vec::new(alloc),
             annotator: Vec::new(alloc),
         }
@@ -198,6 +198,8 @@ impl Game {
             self.black = value;
         } else if is_word(name, "Event") {
             self.event = value;
+        } else if is_word(name, "Round") {
+            self.round = value;
         } else if is_word(name, "Date") {
             self.date = value;
         } else if is_word(name, "Annotator") {
@@ -248,12 +250,12 @@ impl Game {
         behind
     }
 
-    /// Takes a word of movetext: the first move, or what says that there is none.
+    /// Takes movetext from a word on: that is the first move, or says that there is none.
     fn take_word(&mut self, text: &[u8]) -> Result<(), AllocError> {
         let (word, behind) = move_word(text);
         self.is_over = true;
         if is_key(word) && !is_blamed(behind) {
-            self.claim(word)?;
+            return self.claim(word);
         }
         Ok(())
     }
@@ -261,33 +263,39 @@ impl Game {
     /// Takes a line of movetext, up to the first move, with which nothing more is looked for: behind comments, numbers, and marks as `$1`.
     pub(crate) fn take_moves(&mut self, line: &[u8]) -> Result<(), AllocError> {
         let was_in_comment = self.in_comment;
+        let mut found: &[u8] = &[];
         let mut rest = line;
         for _ in 0..line.len() {
             if self.in_comment {
                 rest = self.take_comment(rest);
             }
             let text = rest.trim_ascii_start();
-            self.is_begun = self.is_begun || !matches!(text, [] | [b'{', ..]);
-            rest = match text {
+            match text {
                 [] | [b';', ..] => break,
                 [b'{', more @ ..] => {
                     self.in_comment = true;
-                    more
+                    rest = more;
+                    continue;
                 }
-                [b'$', _, more @ ..] => move_word(more).1,
+                [b'$', _, more @ ..] => rest = move_word(more).1,
                 [b'.', b'.', more @ ..] => {
                     self.is_blacks = true;
-                    more
+                    rest = more;
                 }
-                [b'0'..=b'9' | b'.', more @ ..] if !matches!(text, [b'0', b'-', b'0', ..]) => more,
+                [b'0'..=b'9' | b'.', more @ ..] if !text.starts_with(b"0-0") => rest = more,
                 _ => {
-                    self.in_comment = was_in_comment;
-                    return self.take_word(text);
+                    found = text;
+                    break;
                 }
-            };
+            }
+            self.is_begun = true;
         }
         self.is_begun = true;
-        Ok(())
+        if found.is_empty() {
+            return Ok(());
+        }
+        self.in_comment = was_in_comment;
+        self.take_word(found)
     }
 
     /// What is asked: what `Stipulation` does, if it is there, else what the other tags and the comments do.
@@ -314,7 +322,7 @@ impl Game {
 
     /// Whether they say a number of moves.
     pub(crate) fn is_bound(&self) -> bool {
-        self.asks() != Asked::Nothing
+        !matches!(self.asks(), Asked::Nothing)
     }
 
     /// What is made of the tag pairs, read as a record.
@@ -324,6 +332,7 @@ impl Game {
             &self.white,
             &self.black,
             &self.event,
+            &self.round,
             &self.date,
             &self.annotator,
         ] {

@@ -27,38 +27,11 @@ struct Ascii<'a> {
     open: Open,
 }
 
-/// What stands for letters that have no marks to lose, and for signs.
+/// What stands for a space of another width, a sign that nobody sees, a letter that has no mark to lose, or a sign.
 fn ascii_of(c: char) -> Option<&'static str> {
     match c {
-        'ß' => Some("ss"),
-        'ẞ' => Some("SS"),
-        'æ' => Some("ae"),
-        'Æ' => Some("AE"),
-        'œ' => Some("oe"),
-        'Œ' => Some("OE"),
-        'ø' => Some("o"),
-        'Ø' => Some("O"),
-        'ł' => Some("l"),
-        'Ł' => Some("L"),
-        'đ' | 'ð' => Some("d"),
-        'Đ' | 'Ð' => Some("D"),
-        'þ' => Some("th"),
-        'Þ' => Some("Th"),
-        'ı' => Some("i"),
-        'ħ' => Some("h"),
-        'Ħ' => Some("H"),
-        '\u{2010}' | '\u{2011}' | '\u{2012}' | '\u{2013}' | '\u{2014}' | '\u{2212}' => Some("-"),
-        '\u{2026}' => Some("..."),
         '\u{00a0}' | '\u{2009}' | '\u{202f}' | '\u{2002}' | '\u{2003}' => Some(" "),
-        '\u{0456}' => Some("i"),
-        '\u{0406}' => Some("I"),
         '\u{feff}' | '\u{200b}' => Some(""),
-        '♔' | '♚' => Some("K"),
-        '♕' | '♛' => Some("Q"),
-        '♖' | '♜' => Some("R"),
-        '♗' | '♝' => Some("B"),
-        '♘' | '♞' => Some("N"),
-        '♙' | '♟' => Some("P"),
         _ => latin_of(c),
     }
 }

@@ -77,7 +77,7 @@ fn asked_by_signs(operands: &[u8]) -> Asked {
         let Some(token) = token_at(rest) else {
             break;
         };
-        if token.kind == Kind::Word && length_digits(token.text).is_some() {
+        if matches!(token.kind, Kind::Word) && length_digits(token.text).is_some() {
             asked = asked.and(moves_asked(token.text));
         }
         rest = token.rest;
@@ -173,11 +173,11 @@ impl Mending<'_> {
     /// Adds an operand behind a space.
     fn push_token(&mut self, token: &Token<'_>) -> Result<(), AllocError> {
         self.text.push(b' ')?;
-        if token.kind == Kind::Word {
+        if let Kind::Word = token.kind {
             return self.text.extend_from_slice(token.text);
         }
         self.text.push(b'"')?;
-        if token.kind == Kind::String {
+        if let Kind::String = token.kind {
             self.text.extend_from_slice(token.text)?;
         } else {
             self.push_requoted(token.text)?;
@@ -187,7 +187,7 @@ impl Mending<'_> {
 
     /// Adds a move behind a space.
     fn push_move(&mut self, token: &Token<'_>) -> Result<(), AllocError> {
-        if token.kind != Kind::Word {
+        if !matches!(token.kind, Kind::Word) {
             return self.push_token(token);
         }
         let bare = without_marks(token.text);
@@ -219,7 +219,7 @@ impl Mending<'_> {
     fn push_keys(&mut self, operands: &[u8]) -> Result<(), AllocError> {
         let before = self.text.len();
         self.text.extend_from_slice(b" bm")?;
-        let begun = self.text.len();
+        let mut has_keys = false;
         let mut bound: &[u8] = &[];
         let mut rest = operands;
         for _ in 0..operands.len() {
@@ -227,21 +227,24 @@ impl Mending<'_> {
                 break;
             };
             match length_digits(token.text) {
-                Some(digits) if token.kind == Kind::Word && !self.is_bound => {
+                Some(digits) if matches!(token.kind, Kind::Word) && !self.is_bound => {
                     bound = digits;
                     self.is_bound = true;
                 }
-                _ => self.push_move(&token)?,
+                _ => {
+                    has_keys = true;
+                    self.push_move(&token)?;
+                }
             }
             rest = token.rest;
         }
-        if bound.is_empty() {
-            return push_byte(&mut self.text, b';');
-        }
-        if self.text.len() == begun {
-            self.text.truncate(before);
-        } else {
+        if has_keys || bound.is_empty() {
             self.text.push(b';')?;
+        } else {
+            self.text.truncate(before);
+        }
+        if bound.is_empty() {
+            return Ok(());
         }
         self.push_bound(bound)
     }
@@ -298,7 +301,7 @@ impl Mending<'_> {
             Some(_) => return self.push_words(segment),
             None => {}
         }
-        if is_free(segment) && moves_asked(segment) != Asked::Nothing {
+        if is_free(segment) && !matches!(moves_asked(segment), Asked::Nothing) {
             return self.push_words(segment);
         }
         self.push_operation(segment)
@@ -357,10 +360,8 @@ impl Mending<'_> {
 /// What a line is once it is mended.
 #[derive(Drop)]
 pub(crate) enum Mended {
-    /// It says a number of moves.
-    Bound(Vec<u8>),
-    /// It says none.
-    Unbound(Vec<u8>),
+    /// A text, and whether it says a number of moves.
+    Text(Vec<u8>, bool),
     /// It has no `dm`, and says two numbers of moves.
     Two,
 }
@@ -382,15 +383,11 @@ pub(crate) fn mended_line(
     mending.is_bound = has_bound(operations);
     mending.comments = next_comment(operations);
     let asked = asked_in(operations);
-    if !mending.is_bound && asked == Asked::Two {
+    if !mending.is_bound && matches!(asked, Asked::Two) {
         return Ok(Mended::Two);
     }
     mending.push_operations(operations)?;
     mending.push_asked(asked)?;
     let Mending { text, is_bound, .. } = mending;
-    Ok(if is_bound {
-        Mended::Bound(text)
-    } else {
-        Mended::Unbound(text)
-    })
+    Ok(Mended::Text(text, is_bound))
 }

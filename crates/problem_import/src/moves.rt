@@ -81,7 +81,9 @@ impl Moves<'_> {
             };
             let taken = rest.len().saturating_sub(token.rest.len()).min(rest.len());
             let word = trimmed(rest.split_at(taken).0);
-            if token.kind != Kind::Word || claimed_moves(self.rays, self.position, word).is_ok() {
+            if !matches!(token.kind, Kind::Word)
+                || claimed_moves(self.rays, self.position, word).is_ok()
+            {
                 self.push(word)?;
             } else {
                 self.push_mended(word)?;

@@ -10,7 +10,7 @@ use crate::texts::{are_digits, trimmed, word_at};
 use std::alloc::{AllocError, Global};
 
 /// What the next word is for.
-#[derive(Clone, Copy, PartialEq, Eq)]
+#[derive(Clone, Copy)]
 enum Expected {
     Command,
     Stipulation,
@@ -127,22 +127,22 @@ impl PopeyeProblem {
             Command::Begin => self.note(ImportFault::UnknownCommand),
             _ => {}
         }
-        Ok(command == Command::Text || command == Command::Remark)
+        Ok(matches!(command, Command::Text | Command::Remark))
     }
 
     /// Takes a word; gives whether the rest of the line belongs to it.
     fn take_word(&mut self, word: &[u8], behind: &[u8]) -> Result<bool, AllocError> {
-        if self.expected == Expected::Stipulation {
+        if let Expected::Stipulation = self.expected {
             self.take_stipulation(word)?;
             return Ok(false);
         }
-        if self.expected == Expected::Forsyth {
+        if let Expected::Forsyth = self.expected {
             self.expected = Expected::Command;
             let put = self.diagram.put_forsyth(word);
             self.note_refused(put);
             return Ok(false);
         }
-        if self.expected == Expected::Man && is_man_word(word) {
+        if matches!(self.expected, Expected::Man) && is_man_word(word) {
             self.take_men(word);
             return Ok(false);
         }

@@ -1,7 +1,7 @@
 //! The words of Popeye's input. A first part of a word, of four letters or more, stands for it.
 
 /// What Popeye is told to do.
-#[derive(Clone, Copy, PartialEq, Eq)]
+#[derive(Clone, Copy)]
 pub(crate) enum Command {
     Begin,
     Text,

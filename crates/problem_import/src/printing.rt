@@ -242,17 +242,15 @@ impl Printing<'_> {
         ensures filled { IfOk result (λ _. 0 < length printed.new.text.items) }
     {
         match &finding.found {
-            Found::Text(text, changes) => {
+            Found::Text(text, changes, is_bound) => {
                 let mut changes = *changes;
                 let text = with_moves(alloc, self.rays, text.as_slice(), &mut changes)?;
                 let text = text.as_slice();
-                self.push_text(alloc, printed, line, finding.number, text, &changes)
-            }
-            Found::Unbound(text, changes) => {
-                let mut changes = *changes;
-                let text = with_moves(alloc, self.rays, text.as_slice(), &mut changes)?;
-                let text = text.as_slice();
-                self.push_unbound(alloc, printed, line, finding.number, text, &changes)
+                if *is_bound {
+                    self.push_text(alloc, printed, line, finding.number, text, &changes)
+                } else {
+                    self.push_unbound(alloc, printed, line, finding.number, text, &changes)
+                }
             }
             Found::Fault(fault) => {
                 printed.push_refusal(alloc, finding.number, *fault)?;

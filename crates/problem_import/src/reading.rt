@@ -18,9 +18,8 @@ use std::alloc::{AllocError, Global};
 /// What was found of a problem: what its record is to be, or why there is none.
 #[derive(Drop)]
 pub(crate) enum Found {
-    Text(Vec<u8>, Changes),
-    /// A text that says no number of moves, and is no record as it stands.
-    Unbound(Vec<u8>, Changes),
+    /// A text, what was changed, and whether it says a number of moves, or is a record as it stands.
+    Text(Vec<u8>, Changes, bool),
     Fault(ImportFault),
 }
 
@@ -136,7 +135,12 @@ impl Reading {
         ensures tags { IfOk result (λ _. does_go_on self.old.open self.old.last number ≡ false
             → does_go_on self.new.open self.new.last number ≡ false) }
     {
-        if number <= self.last.saturating_add(1) || !self.passes() || self.has_tags() {
+        let has_begun = match &self.open {
+            Open::Game(game) => game.is_begun,
+            Open::Movetext(_) => true,
+            Open::Nothing | Open::Popeye(_) => false,
+        };
+        if !has_begun || number <= self.last.saturating_add(1) {
             return Ok(());
         }
         self.finish(alloc, Open::Nothing, findings)?;
@@ -304,9 +308,7 @@ impl Reading {
         self.finish(alloc, Open::Nothing, findings)?;
         let mut changes = changes;
         let found = match mended_line(alloc, line, &mut changes)? {
-            Mended::Bound(text) => Found::Text(text, changes),
-            Mended::Unbound(text) if is_record => Found::Text(text, changes),
-            Mended::Unbound(text) => Found::Unbound(text, changes),
+            Mended::Text(text, is_bound) => Found::Text(text, changes, is_bound || is_record),
             Mended::Two => Found::Fault(ImportFault::TwoBounds),
         };
         push_finding(findings, Finding { number, found })
@@ -370,7 +372,7 @@ impl Reading {
             return Ok(());
         }
         let (first, behind) = word_at(line);
-        if command_of(first) == Some(Command::Begin) {
+        if let Some(Command::Begin) = command_of(first) {
             self.begin_popeye(alloc, number, behind, changes, findings)?;
             return Ok(());
         }
@@ -440,11 +442,7 @@ fn finish_game(alloc: Global, game: Game, findings: &mut Vec<Finding>) -> Result
         Some(fault) => Found::Fault(fault),
         None => {
             let text = game.text(alloc)?;
-            if game.is_bound() {
-                Found::Text(text, game.changes)
-            } else {
-                Found::Unbound(text, game.changes)
-            }
+            Found::Text(text, game.changes, game.is_bound())
         }
     };
     push_finding(
@@ -466,7 +464,7 @@ fn finish_popeye(
 {
     let found = match problem.first_fault() {
         Some(fault) => Found::Fault(fault),
-        None => Found::Text(problem.text(alloc)?, problem.changes),
+        None => Found::Text(problem.text(alloc)?, problem.changes, true),
     };
     push_finding(
         findings,

@@ -3,7 +3,7 @@
 use crate::texts::{without_first, word_at};
 
 /// Words, and strings by their quotation marks.
-#[derive(Clone, Copy, PartialEq, Eq)]
+#[derive(Clone, Copy)]
 pub(crate) enum Kind {
     Word,
     String,
