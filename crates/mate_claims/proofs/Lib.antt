@@ -2,5 +2,5 @@ pub mod BoundSources
 pub mod ClaimReplies
 pub mod ListedKeys
 pub mod MovesTested
-pub mod RowTexts
+pub mod PlaySegments
 pub mod TextBytes

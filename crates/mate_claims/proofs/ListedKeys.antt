@@ -1,9 +1,9 @@
 -- Where a record claims what is listed of its keys, each claim names a key, and each key is named.
 use Rattle.std.proofs.Common.{◌≡◌, ℕ, zero, suc, ◌-◌, ◌==◌, Bool, true, false, not, ◌&&◌, ◌||◌, cond, if◌then◌else◌, List, [], ◌∷◌, ◌++◌}
-use Rattle.std.proofs.Common.{Option, Some, None, map, filter, refl, ap, sym, ◌∙◌, subst, append-nil, arith}
+use Rattle.std.proofs.Common.{codes, Option, Some, None, map, filter, refl, ap, sym, ◌∙◌, subst, append-nil, arith}
 use Rattle.std.specs.List.{All, Contains, list_all, list_any, slice_split}
 use Rattle.std.specs.Option.{option_map_or}
-use Rattle.std.proofs.lemmas.Bool.{and_parts}
+use Rattle.std.proofs.lemmas.Bool.{and_parts, eq-eqb}
 use Rattle.std.proofs.lemmas.List.Elements.{All-nil, All-cons}
 use Rattle.std.proofs.lemmas.List.Splits.{slice_split_none, slice_split_at}
 use Rattle.chess_board.specs.Positions.{Setup}
@@ -21,11 +21,12 @@ use Rattle.chess_notation.specs.SanText.{san_text}
 use Rattle.chess_notation.specs.SanLaws.{NamesOne}
 use Rattle.chess_notation.specs.AvoidMoves.{names, is_name, named}
 use Rattle.chess_notation.specs.Answers.{with_text, in_order, operand_words}
-use Rattle.chess_notation.specs.Claims.{is_claim, is_some_if_length, is_small_if_length, claims_fault}
+use Rattle.chess_notation.specs.Claims.{is_claim, is_some_if_length, is_small_if_length, claims_fault, length_claimed}
 use Rattle.mate_search.specs.Wins.{leaves_lost}
 use Rattle.mate_search.specs.inside.Truth.{dist, truth, truth_among, first_moves}
 use Rattle.mate_search.specs.inside.Variation.{keys, variation}
-use Rattle.mate_claims.specs.inside.RowTexts.{listed, keys_found}
+use Rattle.mate_claims.specs.Rows.{listed, keys_found}
+use Rattle.mate_claims.specs.Said.{claims_refusal, refusal_of}
 use Rattle.mate_claims.proofs.TextBytes.{no_space, is_solid, solid-san_text, no_length-san_text, names-san_text}
 
 -- The words of a list are its texts, where each is one word.
@@ -227,7 +228,7 @@ none_named : (ms : List Move) → filter (λ m. false) ms ≡ []
 none_named [] = refl
 none_named (m ∷ ms) = none_named ms
 
-names_none : (p : Setup) → NamesKeys p (words_in []) []
+pub names_none : (p : Setup) → NamesKeys p (words_in []) []
 unfolding words_in named
 names_none p = record { clear = refl; named_is = none_named (legal_moves p) }
 
@@ -254,3 +255,13 @@ keys_named legal_listed names_one q outcome is playable =
       by_length (Some n) playable =
           names_filter legal_listed names_one q.position (λ m. may_begin m && leaves_lost (n - 1) q.position m) (keys first q.position n)
           (filter_both (leaves_lost (n - 1) q.position) may_begin (legal_moves q.position)) playable.0
+
+-- Where there is no fault and the lengths agree, nothing is amiss.
+pub none_refused : (p : Setup) (bound : ℕ) (words : List (List ℕ)) → claims_fault p words ≡ None → (length_claimed words bound == bound) ≡ true
+    → claims_refusal p bound words ≡ None
+none_refused p bound words clear agreed =
+    ap (λ f. refusal_of f bound (length_claimed words bound)) clear ∙ ap (λ b. if b then None else Some (codes "TwoLengths")) agreed
+
+pub nothing_refused : (p : Setup) (bound : ℕ) → claims_refusal p bound (words_in []) ≡ None
+unfolding words_in
+nothing_refused p bound = none_refused p bound (words_in []) (names_none p).clear (eq-eqb bound bound refl)

@@ -11,7 +11,6 @@ use Rattle.chess_notation.specs.Answers.{in_order, operand_words}
 use Rattle.chess_notation.specs.Records.{RecordValue}
 use Rattle.mate_claims.specs.declared.bound_sources.BoundSource.{BoundSource}
 use Rattle.mate_claims.specs.declared.bound_sources.BoundSource.TheVariants.{Line, Default}
-use Rattle.mate_claims.specs.Verdicts.{verdict_of, verdict_name}
 
 -- a hyphen in place of nothing
 abbrev pub or_hyphen : List ℕ → List ℕ
@@ -22,9 +21,9 @@ or_hyphen (b ∷ bs) = b ∷ bs
 abbrev pub field : List ℕ → List ℕ
 field text = char "\t" ∷ or_hyphen text
 
--- moves as the `bm` of an answer lists them, parted by spaces
-abbrev pub moves_text : Setup → List Move → List ℕ
-moves_text p moves = drop 1 (operand_words (in_order (map (san_text p) moves)))
+-- moves as the `bm` of an answer lists them, each behind a space
+abbrev pub listed : Setup → List Move → List ℕ
+listed p moves = operand_words (in_order (map (san_text p) moves))
 
 abbrev pub length_field : ℕ → List ℕ
 length_field n = field (char "#" ∷ decimal n)
@@ -38,29 +37,21 @@ abbrev pub found_field : Outcome → List ℕ
 found_field (Mate n keys pv) = length_field n
 found_field NoMate = field []
 
-abbrev pub keys_field : Setup → Outcome → List ℕ
-keys_field p (Mate n keys pv) = field (moves_text p keys.items)
-keys_field p NoMate = field []
+-- the keys; there is none where there is no mate
+abbrev pub keys_found : Outcome → List Move
+keys_found (Mate n keys pv) = keys.items
+keys_found NoMate = []
 
 -- operands of which each stands behind a space, without the first space and the quotation marks
 abbrev pub unquoted : List ℕ → List ℕ
 unquoted operands = filter (λ b. not (b == char "\"")) (drop 1 operands)
 
--- the row of a record: its line's place, a word for what comes of its claims, the lengths asked for and found, the keys, the claims, the operands
--- of `id`
+-- the row of a record: its line's place, a word for what comes of its claims, the lengths asked for and found, the keys, the claims, each
+-- behind a space, the operands of `id`
 unfoldable pub row_of : List ℕ → RecordValue → BoundSource → List ℕ → Outcome → List ℕ → List ℕ
 row_of place r source word outcome claims =
-    place ++ field word ++ asked_field source r.bound ++ found_field outcome ++ keys_field r.position outcome
-    ++ field claims ++ field (unquoted (operands_under (codes "id") r.rest)) ++ char "\n" ∷ []
-
--- of one whose claims are judged: the verdict, and the moves claimed
-abbrev pub record_row : List ℕ → RecordValue → BoundSource → List Move → Outcome → List ℕ
-record_row place r source claimed outcome =
-    row_of place r source (verdict_name (verdict_of r.bound claimed outcome)) outcome (moves_text r.position claimed)
-
--- of one of whose claims nothing can be said: the name of the reason, and what stands behind `bm`, without its first space
-abbrev pub unread_row : List ℕ → RecordValue → BoundSource → List ℕ → List ℕ → Outcome → List ℕ
-unread_row place r source name claims outcome = row_of place r source name outcome (drop 1 claims)
+    place ++ field word ++ asked_field source r.bound ++ found_field outcome ++ field (drop 1 (listed r.position (keys_found outcome)))
+    ++ field (drop 1 claims) ++ field (unquoted (operands_under (codes "id") r.rest)) ++ char "\n" ∷ []
 
 -- the row of a line that is refused: its place and the fault's name
 unfoldable pub refused_row : List ℕ → List ℕ → List ℕ

@@ -1,20 +1,23 @@
 //! Records held against their own claims: whether a mate is as long as a record says, by the keys that it says.
 //!
-//! What a record says and claims is `chess_notation`'s business, solving is `mate_search`'s, and lines are `text_lines`'s. To read:
+//! What a record says, and claims in `bm`, is `chess_notation`'s business, solving is `mate_search`'s, and lines are `text_lines`'s. To read:
 //! `specs/Verdicts.antt` and `verdicts`, `specs/BoundSources.antt` and `bound_sources`, `specs/Rows.antt` and `rows`, `counts`, then
-//! `specs/ClaimReplies.antt`, `claim_replies` and `claim_rows`.
+//! `play_words`, what the line of play claims; `specs/Said.antt` and `said`, what comes of claims; and `specs/ClaimReplies.antt`, `claim_replies`
+//! and `claim_rows`.
 #![tactic(auto)]
 
 mod bound_sources;
 mod claim_replies;
 mod claim_rows;
 mod counts;
+mod play_words;
 mod rows;
+mod said;
 mod verdicts;
 
 pub use bound_sources::BoundSource;
 pub use claim_replies::{Told, told_of};
 pub use claim_rows::{ClaimMemory, ClaimRows};
 pub use counts::Counts;
-pub use rows::{record_row, refused_row};
+pub use rows::refused_row;
 pub use verdicts::{Verdict, judge};

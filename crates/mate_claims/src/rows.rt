@@ -2,13 +2,11 @@
 
 ghost use Rattle.std.specs.Prelude.{◌≡◌, ◌++◌, IfOk, OnOk, codes, drop, string_bytes};
 ghost use Rattle.chess_notation.specs.Opcodes.{operands_under};
-ghost use Rattle.chess_problems.specs.Outcomes.{AreLegal, IsPlayable};
+ghost use Rattle.chess_problems.specs.Outcomes.{IsPlayable};
 ghost use Rattle.mate_claims.specs.Rows.{or_hyphen as text_or_hyphen, field, length_field, asked_field, found_field};
-ghost use Rattle.mate_claims.specs.Rows.{unquoted, record_row as record_row_of, refused_row as refused_row_of};
-ghost use Rattle.mate_claims.specs.inside.RowTexts.{keys_found as keys_found_in, listed, row_of_texts as row_with_texts};
+ghost use Rattle.mate_claims.specs.Rows.{unquoted, keys_found as keys_found_in, listed, row_of, refused_row as refused_row_of};
 
 use crate::bound_sources::BoundSource;
-use crate::verdicts::judge;
 use byte_streams::NoMemory;
 use chess_board::{Move, Position};
 use chess_moves::Rays;
@@ -131,80 +129,30 @@ pub(crate) struct Found<'a> {
     pub(crate) keys: &'a [u8],
 }
 
-/// The row of a record with this word for what comes of its claims, and this text of them, behind a space.
-#[tactic(auto, unfolding(crate::specs::inside::RowTexts::row_of_texts))]
-pub(crate) fn row_of_texts(
+/// Adds the row of a record, with a newline: with this word for what comes of its claims, and this text of them, behind a space.
+#[tactic(auto, unfolding(crate::specs::Rows::row_of))]
+pub(crate) fn push_row(
     alloc: Global,
+    row: &mut Vec<u8>,
     place: &[u8],
     record: &Record,
     source: BoundSource,
     word: &str,
     found: &Found<'_>,
-    claimed: &[u8],
-) -> Result<Vec<u8>, AllocError>
-    ensures { IfOk result (λ row. row.items
-        ≡ row_with_texts place.now «record».now source word.now found.now.outcome.now found.now.keys.now claimed.now) }
-{
-    let mut row = Vec::from_slice(alloc, place)?;
-    push_field(&mut row, word.as_bytes())?;
-    push_asked(alloc, &mut row, record.bound, source)?;
-    push_found(alloc, &mut row, found.outcome)?;
-    push_field(&mut row, without_first(found.keys))?;
-    push_field(&mut row, without_first(claimed))?;
-    push_id(alloc, &mut row, record.rest.as_slice())?;
-    row.extend_from_slice(b"\n")?;
-    Ok(row)
-}
-
-/// The row of a record by which these moves are claimed, where the text of the keys is known.
-pub(crate) fn row_with_keys(
-    alloc: Global,
-    rays: &Rays,
-    place: &[u8],
-    record: &Record,
-    source: BoundSource,
-    claimed: &[Move],
-    found: &Found<'_>,
-) -> Result<Vec<u8>, NoMemory>
-    requires claimed { AreLegal «record».now.position claimed.now }
+    claims: &[u8],
+) -> Result<(), AllocError>
     requires keys { found.now.keys.now ≡ listed «record».now.position (keys_found_in found.now.outcome.now) }
-    ensures { IfOk result (λ row. row.items ≡ record_row_of place.now «record».now source claimed.now found.now.outcome.now) }
+    ensures { OnOk result (row.new.items
+        ≡ row.old.items ++ row_of place.now «record».now source word.now found.now.outcome.now claims.now) }
 {
-    let verdict = judge(record.bound, claimed, found.outcome);
-    let claimed_text = listed_text(alloc, rays, &record.position, claimed)?;
-    Ok(row_of_texts(
-        alloc,
-        place,
-        record,
-        source,
-        verdict.code(),
-        found,
-        claimed_text.as_bytes(),
-    )?)
-}
-
-/// The row of a record by which these moves are claimed, with a newline: the place of its line, the verdict, the numbers of moves
-/// asked for, with a question mark where the line says none, and found, the keys and the moves claimed as `bm` of an answer lists them, and the operands of `id`. Only a growth that
-/// is refused is an error.
-pub fn record_row(
-    alloc: Global,
-    rays: &Rays,
-    place: &[u8],
-    record: &Record,
-    source: BoundSource,
-    claimed: &[Move],
-    outcome: &Outcome,
-) -> Result<Vec<u8>, NoMemory>
-    requires claimed { AreLegal «record».now.position claimed.now }
-    requires found { IsPlayable «record».now.position outcome.now }
-    ensures { IfOk result (λ row. row.items ≡ record_row_of place.now «record».now source claimed.now outcome.now) }
-{
-    let keys = keys_text(alloc, rays, &record.position, outcome)?;
-    let found = Found {
-        outcome,
-        keys: keys.as_bytes(),
-    };
-    row_with_keys(alloc, rays, place, record, source, claimed, &found)
+    row.extend_from_slice(place)?;
+    push_field(row, word.as_bytes())?;
+    push_asked(alloc, row, record.bound, source)?;
+    push_found(alloc, row, found.outcome)?;
+    push_field(row, without_first(found.keys))?;
+    push_field(row, without_first(claims))?;
+    push_id(alloc, row, record.rest.as_slice())?;
+    row.extend_from_slice(b"\n")
 }
 
 /// The row of a line that is refused, with a newline: its place and the fault's name.

@@ -11,7 +11,7 @@ use text_lines::answer_input;
 fn tells_the_first_verdict_that_applies(rt: HostRuntime) -> Result<(), Fail> {
     let alloc = rt.alloc();
     // A rook's ending, in which Kf7 and Kg6 mate in two, and what is told behind the line's place.
-    let table: [(&str, &str); 26] = [
+    let table: [(&str, &str); 38] = [
         (" bm Kf7 Kg6; dm 2;", "sound\t#2\t#2\tKf7 Kg6\tKf7 Kg6\t-"),
         (
             " bm Kg6 Kf7 Kg6; dm 2;",
@@ -68,6 +68,36 @@ fn tells_the_first_verdict_that_applies(rt: HostRuntime) -> Result<(), Fail> {
             "TwoLengths\t#2\t#2\tKf7 Kg6\tRa8 #5\t-",
         ),
         (" bm #3 #2; dm 1;", "TwoLengths\t#1\t-\t-\t#3 #2\t-"),
+        // no move in `bm`, so that the first of the line of play is claimed
+        (
+            " pv Kg6 Kg8 Ra8#; dm 2;",
+            "cooked\t#2\t#2\tKf7 Kg6\tpv Kg6\t-",
+        ),
+        (" am Kf7; dm 2; pv Kg6;", "sound\t#2\t#2\tKg6\tpv Kg6\t-"),
+        (
+            " am Kf7; bm #2; id \"a; pv Kf8;\"; pv  f6g6 Kf7;",
+            "sound\t#2\t#2\tKg6\tpv Kg6\ta; pv Kf8;",
+        ),
+        (" 0 1 pv Ra8#;dm 2;", "wrong\t#2\t#2\tKf7 Kg6\tpv Ra8+\t-"),
+        (" am Kf7; pv Kf7; dm 2;", "wrong\t#2\t#2\tKg6\tpv Kf7\t-"),
+        (" pv Ra8;", "short\t#3?\t#2\tKf7 Kg6\tpv Ra8+\t-"),
+        (" pv Ra8; dm 1;", "unsolvable\t#1\t-\t-\tpv Ra8+\t-"),
+        // its first word names no move
+        (
+            " dm 2; pv Tg1 Kg8;",
+            "NoSuchMove\t#2\t#2\tKf7 Kg6\tpv Tg1\t-",
+        ),
+        (" bm #2; pv #2;", "NoSuchMove\t#2\t#2\tKf7 Kg6\tpv #2\t-"),
+        // something is amiss with `bm`, or it claims a move; and there is no line
+        (
+            " bm #3; dm 2; pv Kg6;",
+            "TwoLengths\t#2\t#2\tKf7 Kg6\t#3\t-",
+        ),
+        (
+            " bm Kf7 Kg6; dm 2; pv Ra8;",
+            "sound\t#2\t#2\tKf7 Kg6\tKf7 Kg6\t-",
+        ),
+        (" am Kf7; pv; dm 2;", "unclaimed\t#2\t#2\tKg6\t-\t-"),
         // a fault of the record, and also one of its claims
         (" bm #0; am Kf8;", "BadAvoid\t-\t-\t-\t-\t-"),
         (" 1; bm #0;", "BadOpcode\t-\t-\t-\t-\t-"),
