@@ -2,6 +2,7 @@
 
 ghost use Rattle.std.specs.Prelude.{◌≡◌, ◌↔◌, ℕ, List, [], Option, IfOk, Some, true};
 ghost use Rattle.mate_claims.specs.ClaimReplies.{IsTold};
+ghost use Rattle.mate_claims.specs.declared.bound_sources.BoundSource.{BoundSource};
 ghost use Rattle.mate_claims.specs.declared.verdicts.Verdict.{Verdict as VerdictValue};
 
 use chess_moves::Rays;
@@ -19,7 +20,8 @@ pub fn is_sound(
     line: &[u8],
     default: Bound,
 ) -> Result<bool, NoMemory>
-    ensures { IfOk result (λ sound. (row : List ℕ) × (verdict : Option VerdictValue) × IsTold [] default line.now row verdict
+    ensures { IfOk result (λ sound. (row : List ℕ) × (verdict : Option VerdictValue) × (source : Option BoundSource)
+        × IsTold [] default line.now row verdict source
         × ((sound ≡ true) ↔ (verdict ≡ Some VerdictValue.Sound))) }
 {
     let told = told_of(alloc, rays, b"", line, default, memo)?;

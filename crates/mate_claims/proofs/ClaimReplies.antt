@@ -1,5 +1,5 @@
 -- What is told of a line: by a fault of its record, or by what comes of its claims.
-use Rattle.std.proofs.Common.{◌≡◌, ◌≢◌, ◌⊎◌, ◌<◌, ◌++◌, ℕ, true, List, [], Option, None, Result, Ok, Err}
+use Rattle.std.proofs.Common.{◌≡◌, ◌≢◌, ◌⊎◌, ◌<◌, ◌++◌, ℕ, List, [], Option, None, Some, Result, Ok, Err}
 use Rattle.std.proofs.Common.{IfOk, inl, inr, refl, subst, arith, length, decimal, false}
 use Rattle.chess_notation.specs.declared.epd_faults.EpdFault.{EpdFault}
 use Rattle.chess_notation.specs.declared.epd_faults.EpdFault.TheVariants as fault
@@ -17,38 +17,39 @@ use Rattle.mate_claims.specs.ClaimReplies.{IsClaimReply, IsTold, IsToldBy, refus
 
 -- A line with this fault, which is not want of memory, says no record.
 pub fault_told : {X E : Type 0} (place : List ℕ) (default bound : ℕ) (line : List ℕ) (kind : EpdFault) (row : X → List ℕ)
-    (verdict : X → Option Verdict) (r : Result X E)
+    (verdict : X → Option Verdict) (source : X → Option BoundSource) (r : Result X E)
     → IsFaultOf line kind ⊎ ((kind ≡ fault.NoMemory) × ((r : RecordValue) × Reads line bound r × (r.rest ≢ [])))
     → IfOk r (λ x. kind ≢ fault.NoMemory) → IfOk r (λ x. row x ≡ refused_row place (epd_fault_name kind)) → IfOk r (λ x. verdict x ≡ None)
-    → IfOk r (λ x. IsTold place default line (row x) (verdict x))
-fault_told place default bound line kind row verdict (Ok x) (inl first) other is none = rw (is, none) (no_record kind first)
-fault_told place default bound line kind row verdict (Ok x) (inr memory) other is none = absurd (other memory.0)
-fault_told place default bound line kind row verdict (Err e) why other is none = tt
+    → IfOk r (λ x. source x ≡ None) → IfOk r (λ x. IsTold place default line (row x) (verdict x) (source x))
+fault_told place default bound line kind row verdict source (Ok x) (inl first) other is none nowhere = rw (is, none, nowhere) (no_record kind first)
+fault_told place default bound line kind row verdict source (Ok x) (inr memory) other is none nowhere = absurd (other memory.0)
+fault_told place default bound line kind row verdict source (Err e) why other is none nowhere = tt
 
 -- What is told of a record that a line says.
 told_record : (place : List ℕ) (default : ℕ) (line : List ℕ) (r : RecordValue) (source : BoundSource) (words row : List ℕ) (verdict : Option Verdict)
     → ReadsClaimed line default r → IsSource line r source → words ≡ claims_text line
-    → IsToldBy place r source (said_by line words (words_in words) r (truth (problem_of r))) row verdict → IsTold place default line row verdict
+    → IsToldBy place r source (said_by line words (words_in words) r (truth (problem_of r))) row verdict
+    → IsTold place default line row verdict (Some source)
 unfolding said_of claim_words
 told_record place default line r source words row verdict reads from same is =
     of_record r source row verdict reads from
     (subst (λ t. IsToldBy place r source (said_by line t (words_in t) r (truth (problem_of r))) row verdict) same is)
 
 pub told_of_one : {X E : Type 0} (place : List ℕ) (default : ℕ) (line : List ℕ) (r : RecordValue) (source : BoundSource) (words : List ℕ)
-    (row : X → List ℕ) (verdict : X → Option Verdict) (result : Result X E) → ReadsClaimed line default r → IsSource line r source
-    → words ≡ claims_text line
+    (row : X → List ℕ) (verdict : X → Option Verdict) (from : X → Option BoundSource) (result : Result X E) → ReadsClaimed line default r
+    → IsSource line r source → words ≡ claims_text line
     → IfOk result (λ x. IsToldBy place r source (said_by line words (words_in words) r (truth (problem_of r))) (row x) (verdict x))
-    → IfOk result (λ x. IsTold place default line (row x) (verdict x))
-told_of_one place default line r source words row verdict (Ok x) reads from same is =
-    told_record place default line r source words (row x) (verdict x) reads from same is
-told_of_one place default line r source words row verdict (Err e) reads from same is = tt
+    → IfOk result (λ x. from x ≡ Some source) → IfOk result (λ x. IsTold place default line (row x) (verdict x) (from x))
+told_of_one place default line r source words row verdict from (Ok x) reads comes same is known =
+    rw known (told_record place default line r source words (row x) (verdict x) reads comes same is)
+told_of_one place default line r source words row verdict from (Err e) reads comes same is known = tt
 
 -- What is told of a line is its reply.
-pub told_reply : (prefix place : List ℕ) (default number : ℕ) (line row : List ℕ) (verdict : Option Verdict) (refusals : ℕ)
-    → is_blank line ≡ false → place ≡ prefix ++ decimal number
-    → IsTold place default line row verdict → refusals ≡ refusals_of verdict → IsClaimReply prefix default number line row refusals
-told_reply prefix place default number line row verdict refusals filled at is count =
-    rw count (told row verdict filled (subst (λ p. IsTold p default line row verdict) at is))
+pub told_reply : (prefix place : List ℕ) (default number : ℕ) (line row : List ℕ) (verdict : Option Verdict) (source : Option BoundSource)
+    (refusals : ℕ) → is_blank line ≡ false → place ≡ prefix ++ decimal number
+    → IsTold place default line row verdict source → refusals ≡ refusals_of verdict → IsClaimReply prefix default number line row refusals
+told_reply prefix place default number line row verdict source refusals filled at is count =
+    rw count (told row verdict source filled (subst (λ p. IsTold p default line row verdict source) at is))
 
 none_before : (line : List ℕ) (earlier : EpdFault) → fault_number earlier < 1 → ¬ (IsAmissBy line earlier)
 none_before line fault.TooLong less = absurd (omega (arith, less))
@@ -68,5 +69,5 @@ pub long_reply : (prefix place : List ℕ) (default number : ℕ) (line row : Li
     → max_line < length line → place ≡ prefix ++ decimal number
     → row ≡ refused_row place (epd_fault_name fault.TooLong) → IsClaimReply prefix default number line row 1
 long_reply prefix place default number line row filled long at is =
-    told_reply prefix place default number line row None 1 filled at
+    told_reply prefix place default number line row None None 1 filled at
     (rw is (no_record fault.TooLong (record { applies = long; first = none_before line }))) refl

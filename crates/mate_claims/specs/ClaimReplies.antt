@@ -17,12 +17,12 @@ abbrev pub IsToldBy : List ℕ → RecordValue → BoundSource → Said → List
 IsToldBy place r source said row verdict =
     (row ≡ row_of place r source said.word (truth (problem_of r)) said.claims) × (verdict ≡ said.verdict)
 
--- What is told of a line that isn't blank, and its verdict, if it isn't refused.
-pub data IsTold (place : List ℕ) (default : ℕ) (line : List ℕ) : List ℕ → Option Verdict → Type 0 where
-  no_record : (fault : EpdFault) → IsFaultOf line fault → IsTold place default line (refused_row place (epd_fault_name fault)) None
+-- What is told of a line that isn't blank; its verdict, if it isn't refused; and of a record where its bound comes from.
+pub data IsTold (place : List ℕ) (default : ℕ) (line : List ℕ) : List ℕ → Option Verdict → Option BoundSource → Type 0 where
+  no_record : (fault : EpdFault) → IsFaultOf line fault → IsTold place default line (refused_row place (epd_fault_name fault)) None None
   of_record : (r : RecordValue) (source : BoundSource) (row : List ℕ) (verdict : Option Verdict) → ReadsClaimed line default r
       → IsSource line r source → IsToldBy place r source (said_of line r (truth (problem_of r))) row verdict
-      → IsTold place default line row verdict
+      → IsTold place default line row verdict (Some source)
 
 -- a line that isn't sound is refused by its claims
 abbrev pub refusals_of : Option Verdict → ℕ
@@ -32,5 +32,5 @@ refusals_of _ = 1
 -- What one line is answered, its place the name's part and its number, and how many refusals that is: nothing where it is blank.
 pub data IsClaimReply (prefix : List ℕ) (default number : ℕ) (line : List ℕ) : List ℕ → ℕ → Type 0 where
   skipped : is_blank line ≡ true → IsClaimReply prefix default number line [] 0
-  told : (row : List ℕ) (verdict : Option Verdict) → is_blank line ≡ false → IsTold (prefix ++ decimal number) default line row verdict
-      → IsClaimReply prefix default number line row (refusals_of verdict)
+  told : (row : List ℕ) (verdict : Option Verdict) (source : Option BoundSource) → is_blank line ≡ false
+      → IsTold (prefix ++ decimal number) default line row verdict source → IsClaimReply prefix default number line row (refusals_of verdict)

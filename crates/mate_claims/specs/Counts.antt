@@ -1,21 +1,41 @@
--- How many lines came to which verdict.
-use Rattle.std.specs.Prelude.{ℕ, ◌+◌, ◌-◌, List, ◌++◌, codes, decimal, min, Option, Some, None}
+-- How many lines came to which verdict, and of how many the number of moves is the default one.
+use Rattle.std.specs.Prelude.{ℕ, ◌+◌, ◌-◌, ◌==◌, List, [], ◌++◌, codes, decimal, min, Option, Some, None, if◌then◌else◌}
+use Rattle.mate_claims.specs.declared.bound_sources.BoundSource.{BoundSource}
+use Rattle.mate_claims.specs.declared.bound_sources.BoundSource.TheVariants.{Default}
 use Rattle.mate_claims.specs.declared.verdicts.Verdict.{Verdict}
 use Rattle.mate_claims.specs.declared.verdicts.Verdict.TheVariants.{Sound, Unclaimed, Cooked, Wrong, Short, Unsolvable}
 use Rattle.mate_claims.specs.declared.counts.Counts.{Counts}
 
 abbrev pub no_counts : Counts
-no_counts = record { sound = 0; unclaimed = 0; cooked = 0; wrong = 0; short = 0; unsolvable = 0; refused = 0 }
+no_counts = record { sound = 0; unclaimed = 0; cooked = 0; wrong = 0; short = 0; unsolvable = 0; refused = 0; unnumbered = 0 }
 
--- one line more: of this verdict, or refused
-abbrev pub with_one : Option Verdict → Counts → Counts
-with_one (Some Sound) c = record c { sound = c.sound + 1 }
-with_one (Some Unclaimed) c = record c { unclaimed = c.unclaimed + 1 }
-with_one (Some Cooked) c = record c { cooked = c.cooked + 1 }
-with_one (Some Wrong) c = record c { wrong = c.wrong + 1 }
-with_one (Some Short) c = record c { short = c.short + 1 }
-with_one (Some Unsolvable) c = record c { unsolvable = c.unsolvable + 1 }
-with_one None c = record c { refused = c.refused + 1 }
+-- how many lines came to this verdict, or were refused
+abbrev pub count_of : Option Verdict → Counts → ℕ
+count_of (Some Sound) c = c.sound
+count_of (Some Unclaimed) c = c.unclaimed
+count_of (Some Cooked) c = c.cooked
+count_of (Some Wrong) c = c.wrong
+count_of (Some Short) c = c.short
+count_of (Some Unsolvable) c = c.unsolvable
+count_of None c = c.refused
+
+abbrev pub with_count : Option Verdict → ℕ → Counts → Counts
+with_count (Some Sound) count c = record c { sound = count }
+with_count (Some Unclaimed) count c = record c { unclaimed = count }
+with_count (Some Cooked) count c = record c { cooked = count }
+with_count (Some Wrong) count c = record c { wrong = count }
+with_count (Some Short) count c = record c { short = count }
+with_count (Some Unsolvable) count c = record c { unsolvable = count }
+with_count None count c = record c { refused = count }
+
+-- one record more whose number of moves comes from there
+abbrev pub with_source : Option BoundSource → Counts → Counts
+with_source (Some Default) c = record c { unnumbered = c.unnumbered + 1 }
+with_source _ c = c
+
+-- one line more: of this verdict, or refused; and of a record where its number of moves comes from
+abbrev pub with_one : Option Verdict → Option BoundSource → Counts → Counts
+with_one verdict source c = with_source source (with_count verdict (count_of verdict c + 1) c)
 
 -- so many refused lines more, as far as a count goes
 abbrev pub with_refusals : ℕ → Counts → Counts
@@ -32,6 +52,10 @@ with_unread before unsound c = with_refusals (unsound - (min (not_sound_in c) 18
 abbrev pub count_text : List ℕ → ℕ → List ℕ
 count_text name count = name ++ decimal count
 
+-- how many say no number of moves, where there are any
+abbrev pub unnumbered_text : ℕ → List ℕ
+unnumbered_text count = if count == 0 then [] else count_text (codes "; ") count ++ codes " without a number of moves"
+
 unfoldable pub counts_text : Counts → List ℕ
 counts_text c = count_text (codes "sound ") c.sound ++ count_text (codes ", unclaimed ") c.unclaimed ++ count_text (codes ", cooked ") c.cooked
-    ++ count_text (codes ", wrong ") c.wrong ++ count_text (codes ", short ") c.short ++ count_text (codes ", unsolvable ") c.unsolvable ++ count_text (codes ", refused ") c.refused
+    ++ count_text (codes ", wrong ") c.wrong ++ count_text (codes ", short ") c.short ++ count_text (codes ", unsolvable ") c.unsolvable ++ count_text (codes ", refused ") c.refused ++ unnumbered_text c.unnumbered

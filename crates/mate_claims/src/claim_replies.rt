@@ -1,6 +1,6 @@
 //! What is told of a line that is held against its own claims.
 
-ghost use Rattle.std.specs.Prelude.{◌≡◌, ◌≢◌, ◌≤◌, IfOk, None};
+ghost use Rattle.std.specs.Prelude.{◌≡◌, ◌≢◌, ◌≤◌, IfOk, None, Some};
 ghost use Rattle.chess_notation.specs.Words.{words_in};
 ghost use Rattle.chess_notation.specs.EpdFaults.{epd_fault_name};
 ghost use Rattle.chess_notation.specs.Records.{problem_of};
@@ -21,11 +21,12 @@ use chess_problems::Bound;
 use mate_search::{Memo, solve};
 use std::alloc::Global;
 
-/// What is told of a line: its row, with a newline, and its verdict, if it isn't refused.
+/// What is told of a line: its row, with a newline; its verdict, if it isn't refused; and of a record where its bound comes from.
 #[derive(Drop)]
 pub struct Told {
     pub row: Vec<u8>,
     pub verdict: Option<Verdict>,
+    pub source: Option<BoundSource>,
 }
 
 /// What is told of a line that says no record. Want of memory is no fault of the line.
@@ -33,6 +34,7 @@ fn told_of_fault(alloc: Global, place: &[u8], fault: EpdFault) -> Result<Told, N
     ensures fault { IfOk result (λ told. fault ≢ EpdFault.NoMemory) }
     ensures row { IfOk result (λ told. told.row.items ≡ refused_row_of place.now (epd_fault_name fault)) }
     ensures verdict { IfOk result (λ told. told.verdict ≡ None) }
+    ensures source { IfOk result (λ told. told.source ≡ None) }
 {
     if fault == EpdFault::NoMemory {
         return Err(NoMemory);
@@ -40,6 +42,7 @@ fn told_of_fault(alloc: Global, place: &[u8], fault: EpdFault) -> Result<Told, N
     Ok(Told {
         row: refused_row(alloc, place, fault.code())?,
         verdict: None,
+        source: None,
     })
 }
 
@@ -59,6 +62,7 @@ fn told_of_found(
     requires keys { found.now.keys.now ≡ listed «record».now.position (keys_found_in found.now.outcome.now) }
     ensures told { IfOk result (λ told. IsToldBy place.now «record».now source
         (said_by line.now words.now (words_in words.now) «record».now (truth (problem_of «record».now))) told.row.items told.verdict) }
+    ensures source { IfOk result (λ told. told.source ≡ Some source) }
 {
     let said = said_of_record(alloc, rays, line, record, words, found)?;
     let mut row = Vec::new(alloc);
@@ -75,6 +79,7 @@ fn told_of_found(
     Ok(Told {
         row,
         verdict: said.verdict,
+        source: Some(source),
     })
 }
 
@@ -91,6 +96,7 @@ fn told_of_record(
 ) -> Result<Told, NoMemory>
     ensures told { IfOk result (λ told. IsToldBy place.now «record».now source
         (said_by line.now words.now (words_in words.now) «record».now (truth (problem_of «record».now))) told.row.items told.verdict) }
+    ensures source { IfOk result (λ told. told.source ≡ Some source) }
     ensures room { memo.new.room ≡ memo.old.room }
     ensures within { memo.new.kept ≤ memo.new.room }
 {
@@ -116,7 +122,7 @@ pub fn told_of(
     default: Bound,
     memo: &mut Memo,
 ) -> Result<Told, NoMemory>
-    ensures told { IfOk result (λ told. IsTold place.now default line.now told.row.items told.verdict) }
+    ensures told { IfOk result (λ told. IsTold place.now default line.now told.row.items told.verdict told.source) }
     ensures room { memo.new.room ≡ memo.old.room }
     ensures within { memo.new.kept ≤ memo.new.room }
 {

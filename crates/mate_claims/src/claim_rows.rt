@@ -73,8 +73,9 @@ impl ClaimRows<'_> {
         line: &[u8],
         memory: &mut ClaimMemory,
     ) -> Result<Told, NoMemory>
-        ensures told { IfOk result (λ told. IsTold (self.now.prefix.now ++ decimal number) self.now.default line.now told.row.items told.verdict) }
-        ensures counts { IfOk result (λ told. memory.new.counts ≡ with_one told.verdict memory.old.counts) }
+        ensures told { IfOk result (λ told. IsTold (self.now.prefix.now ++ decimal number) self.now.default line.now
+            told.row.items told.verdict told.source) }
+        ensures counts { IfOk result (λ told. memory.new.counts ≡ with_one told.verdict told.source memory.old.counts) }
         ensures room { memory.new.memo.room ≡ memory.old.memo.room }
     {
         let place = place_of(alloc, self.prefix, number)?;
@@ -86,7 +87,7 @@ impl ClaimRows<'_> {
             self.default,
             &mut memory.memo,
         )?;
-        let Some(counts) = memory.counts.with(told.verdict) else {
+        let Some(counts) = memory.counts.with(told.verdict, told.source) else {
             return Err(NoMemory);
         };
         memory.counts = counts;

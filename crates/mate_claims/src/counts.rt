@@ -1,8 +1,10 @@
-//! How many lines came to which verdict.
+//! How many lines came to which verdict, and of how many the number of moves is the default one.
 
 ghost use Rattle.std.specs.Prelude.{◌≡◌, ◌++◌, IfOk, IfSome, OnOk, min, string_bytes};
-ghost use Rattle.mate_claims.specs.Counts.{no_counts, with_one, with_refusals, not_sound_in, count_text, counts_text};
+ghost use Rattle.mate_claims.specs.Counts.{no_counts, count_of as count_in, with_count as with_count_of, with_source as with_source_of};
+ghost use Rattle.mate_claims.specs.Counts.{with_one, with_refusals, not_sound_in, count_text, counts_text, unnumbered_text};
 
+use crate::bound_sources::BoundSource;
 use crate::verdicts::Verdict;
 use byte_streams::NoMemory;
 use std::alloc::{AllocError, Global};
@@ -17,6 +19,8 @@ pub struct Counts {
     pub short: usize,
     pub unsolvable: usize,
     pub refused: usize,
+    /// How many records say no number of moves, whatever comes of their claims.
+    pub unnumbered: usize,
 }
 
 impl Counts {
@@ -32,43 +36,81 @@ impl Counts {
             short: 0,
             unsolvable: 0,
             refused: 0,
+            unnumbered: 0,
         }
     }
 
-    /// With one line more: of this verdict, or refused where there is none. None where a count has no room for it.
-    pub fn with(self, verdict: Option<Verdict>) -> Option<Counts>
-        ensures { IfSome result (λ counts. counts ≡ with_one verdict self) }
+    /// How many lines came to this verdict, or were refused where there is none.
+    fn count_of(&self, verdict: Option<Verdict>) -> usize
+        ensures { result ≡ count_in verdict self.now }
     {
         match verdict {
-            Some(Verdict::Sound) => Some(Counts {
-                sound: self.sound.checked_add(1)?,
-                ..self
-            }),
-            Some(Verdict::Unclaimed) => Some(Counts {
-                unclaimed: self.unclaimed.checked_add(1)?,
-                ..self
-            }),
-            Some(Verdict::Cooked) => Some(Counts {
-                cooked: self.cooked.checked_add(1)?,
-                ..self
-            }),
-            Some(Verdict::Wrong) => Some(Counts {
-                wrong: self.wrong.checked_add(1)?,
-                ..self
-            }),
-            Some(Verdict::Short) => Some(Counts {
-                short: self.short.checked_add(1)?,
-                ..self
-            }),
-            Some(Verdict::Unsolvable) => Some(Counts {
-                unsolvable: self.unsolvable.checked_add(1)?,
-                ..self
-            }),
-            None => Some(Counts {
-                refused: self.refused.checked_add(1)?,
-                ..self
-            }),
+            Some(Verdict::Sound) => self.sound,
+            Some(Verdict::Unclaimed) => self.unclaimed,
+            Some(Verdict::Cooked) => self.cooked,
+            Some(Verdict::Wrong) => self.wrong,
+            Some(Verdict::Short) => self.short,
+            Some(Verdict::Unsolvable) => self.unsolvable,
+            None => self.refused,
         }
+    }
+
+    /// With this count of them.
+    fn with_count(self, verdict: Option<Verdict>, count: usize) -> Counts
+        ensures { result ≡ with_count_of verdict count self }
+    {
+        match verdict {
+            Some(Verdict::Sound) => Counts {
+                sound: count,
+                ..self
+            },
+            Some(Verdict::Unclaimed) => Counts {
+                unclaimed: count,
+                ..self
+            },
+            Some(Verdict::Cooked) => Counts {
+                cooked: count,
+                ..self
+            },
+            Some(Verdict::Wrong) => Counts {
+                wrong: count,
+                ..self
+            },
+            Some(Verdict::Short) => Counts {
+                short: count,
+                ..self
+            },
+            Some(Verdict::Unsolvable) => Counts {
+                unsolvable: count,
+                ..self
+            },
+            None => Counts {
+                refused: count,
+                ..self
+            },
+        }
+    }
+
+    /// With one record more whose number of moves comes from there. None where the count has no room for it.
+    fn with_source(self, source: Option<BoundSource>) -> Option<Counts>
+        ensures { IfSome result (λ counts. counts ≡ with_source_of source self) }
+    {
+        match source {
+            Some(BoundSource::Default) => Some(Counts {
+                unnumbered: self.unnumbered.checked_add(1)?,
+                ..self
+            }),
+            _ => Some(self),
+        }
+    }
+
+    /// With one line more: of this verdict, or refused where there is none; and where the number of moves of a record comes from. None where a
+    /// count has no room for it.
+    pub fn with(self, verdict: Option<Verdict>, source: Option<BoundSource>) -> Option<Counts>
+        ensures { IfSome result (λ counts. counts ≡ with_one verdict source self) }
+    {
+        let count = self.count_of(verdict).checked_add(1)?;
+        self.with_count(verdict, count).with_source(source)
     }
 
     /// How many lines are not sound, as far as there is a number for it.
@@ -93,19 +135,28 @@ impl Counts {
         }
     }
 
-    /// The counts on one line, without a newline.
+    /// Adds the counts, one behind the other.
     #[tactic(auto, unfolding(crate::specs::Counts::counts_text))]
+    fn push_to(&self, alloc: Global, text: &mut String) -> Result<(), AllocError>
+        ensures { OnOk result (string_bytes text.new ≡ string_bytes text.old ++ counts_text self.now) }
+    {
+        push_count(alloc, text, "sound ", self.sound)?;
+        push_count(alloc, text, ", unclaimed ", self.unclaimed)?;
+        push_count(alloc, text, ", cooked ", self.cooked)?;
+        push_count(alloc, text, ", wrong ", self.wrong)?;
+        push_count(alloc, text, ", short ", self.short)?;
+        push_count(alloc, text, ", unsolvable ", self.unsolvable)?;
+        push_count(alloc, text, ", refused ", self.refused)?;
+        push_unnumbered(alloc, text, self.unnumbered)?;
+        Ok(())
+    }
+
+    /// The counts on one line, without a newline.
     pub fn text(&self, alloc: Global) -> Result<String, NoMemory>
         ensures { IfOk result (λ text. string_bytes text ≡ counts_text self.now) }
     {
         let mut text = String::new(alloc);
-        push_count(alloc, &mut text, "sound ", self.sound)?;
-        push_count(alloc, &mut text, ", unclaimed ", self.unclaimed)?;
-        push_count(alloc, &mut text, ", cooked ", self.cooked)?;
-        push_count(alloc, &mut text, ", wrong ", self.wrong)?;
-        push_count(alloc, &mut text, ", short ", self.short)?;
-        push_count(alloc, &mut text, ", unsolvable ", self.unsolvable)?;
-        push_count(alloc, &mut text, ", refused ", self.refused)?;
+        self.push_to(alloc, &mut text)?;
         Ok(text)
     }
 }
@@ -116,4 +167,15 @@ fn push_count(alloc: Global, text: &mut String, name: &str, count: usize) -> Res
 {
     text.push_str(name)?;
     text.push_str(count.to_string(alloc)?.as_str())
+}
+
+/// Adds how many records say no number of moves, where there are any.
+fn push_unnumbered(alloc: Global, text: &mut String, count: usize) -> Result<(), AllocError>
+    ensures { OnOk result (string_bytes text.new ≡ string_bytes text.old ++ unnumbered_text count) }
+{
+    if count == 0 {
+        return Ok(());
+    }
+    push_count(alloc, text, "; ", count)?;
+    text.push_str(" without a number of moves")
 }

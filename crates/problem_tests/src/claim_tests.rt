@@ -2,7 +2,7 @@
 
 use chess_moves::Rays;
 use chess_problems::Bound;
-use mate_claims::{ClaimMemory, ClaimRows, Counts, Verdict, told_of};
+use mate_claims::{BoundSource, ClaimMemory, ClaimRows, Counts, Verdict, told_of};
 use mate_search::Memo;
 use std::test::Fail;
 use text_lines::answer_input;
@@ -142,12 +142,27 @@ fn counts_each_verdict(rt: HostRuntime) -> Result<(), Fail> {
         None,
     ];
     for verdict in verdicts {
-        counts = counts.with(verdict).ok_or("count")?;
+        counts = counts
+            .with(verdict, Some(BoundSource::Line))
+            .ok_or("count")?;
     }
     let text = counts.text(rt.alloc())?;
     assert_eq!(rt;
         text.as_str(),
         "sound 2, unclaimed 4, cooked 1, wrong 1, short 1, unsolvable 1, refused 3"
+    );
+    // Two that say no number of moves, one of them with a fault of its claims, and a line that is no record.
+    for (verdict, source) in [
+        (Some(Verdict::Short), Some(BoundSource::Default)),
+        (None, Some(BoundSource::Default)),
+        (None, None),
+    ] {
+        counts = counts.with(verdict, source).ok_or("count")?;
+    }
+    let text = counts.text(rt.alloc())?;
+    assert_eq!(rt;
+        text.as_str(),
+        "sound 2, unclaimed 4, cooked 1, wrong 1, short 2, unsolvable 1, refused 5; 2 without a number of moves"
     );
     Ok(())
 }
