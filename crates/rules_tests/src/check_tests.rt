@@ -1,13 +1,12 @@
 //! Check, the moves that give it, and those that mate, in known positions.
 
-use crate::test_positions::{INITIAL, position_of};
+use crate::test_positions::{INITIAL, position_of, same, same_moves};
 use chess_moves::{MoveList, Rays, checks, has_mating_move, in_check, push_mating_moves};
 use std::process::Abort;
-use std::test::Fail;
 
 #[test]
-fn tells_whether_the_side_to_move_is_in_check(rt: HostRuntime) -> Result<(), Fail> {
-    let table = [
+fn tells_whether_the_side_to_move_is_in_check(rt: HostRuntime) {
+    static TABLE: [(&str, bool); 14] = [
         (INITIAL, false),
         // On a file, on a diagonal, and through a man.
         ("7k/8/6K1/8/8/8/8/7R b - - 0 1", true),
@@ -32,16 +31,19 @@ fn tells_whether_the_side_to_move_is_in_check(rt: HostRuntime) -> Result<(), Fai
         ("7k/8/8/8/8/8/8/R3K3 w - - 0 1", false),
     ];
     let rays = Rays::new();
-    for (text, expected) in table {
-        let position = position_of(text)?;
-        assert_eq!(rt; in_check(&rays, &position), expected, "{text}");
+    for (text, expected) in &TABLE {
+        same(
+            &rt,
+            text,
+            &in_check(&rays, &position_of(&rt, text)),
+            expected,
+        );
     }
-    Ok(())
 }
 
 #[test]
-fn lists_each_check(rt: HostRuntime) -> Result<(), Fail> {
-    let table: [(&str, &[&str]); 8] = [
+fn lists_each_check(rt: HostRuntime) {
+    static TABLE: [(&str, &[&str]); 8] = [
         // The queen itself, on each of its lines.
         (
             "7k/8/6K1/8/8/8/8/5Q2 w - - 0 1",
@@ -70,19 +72,15 @@ fn lists_each_check(rt: HostRuntime) -> Result<(), Fail> {
         ("4k3/8/8/8/8/8/8/4K3 w - - 0 1", &[]),
     ];
     let rays = Rays::new();
-    for (text, expected) in table {
-        let list = checks(&rays, &position_of(text)?);
-        assert_eq!(rt; list.len(), expected.len(), "{text}");
-        for (m, expected) in list.as_slice().iter().zip(expected) {
-            assert_eq!(rt; m.text().as_str(), *expected, "{text}");
-        }
+    for (text, expected) in &TABLE {
+        let list = checks(&rays, &position_of(&rt, text));
+        same_moves(&rt, text, list.as_slice(), expected);
     }
-    Ok(())
 }
 
 #[test]
-fn tells_whether_a_move_mates(rt: HostRuntime) -> Result<(), Fail> {
-    let table = [
+fn tells_whether_a_move_mates(rt: HostRuntime) {
+    static TABLE: [(&str, bool); 19] = [
         // The back rank; and where the king may step off it.
         ("6k1/5ppp/8/8/8/8/8/R5K1 w - - 0 1", true),
         ("7k/8/5K2/8/8/8/8/R7 w - - 0 1", false),
@@ -112,34 +110,34 @@ fn tells_whether_a_move_mates(rt: HostRuntime) -> Result<(), Fail> {
         ("8/8/8/8/8/5k2/5p2/5K2 w - - 0 1", false),
     ];
     let rays = Rays::new();
-    for (text, expected) in table {
-        let position = position_of(text)?;
-        assert_eq!(rt; has_mating_move(&rays, &position), expected, "{text}");
+    for (text, expected) in &TABLE {
+        let found = has_mating_move(&rays, &position_of(&rt, text));
+        same(&rt, text, &found, expected);
     }
-    Ok(())
 }
 
 /// The moves of a position that mate are these.
-fn check_mates(rt: &impl Abort, text: &str, expected: &[&str]) -> Result<(), Fail> {
+fn check_mates(rt: &impl Abort, text: &str, expected: &[&str]) {
     let mut list = MoveList::new();
-    push_mating_moves(&Rays::new(), &position_of(text)?, &mut list);
-    assert_eq!(rt; list.len(), expected.len(), "{text}");
-    for (m, expected) in list.as_slice().iter().zip(expected) {
-        assert_eq!(rt; m.text().as_str(), *expected, "{text}");
-    }
-    Ok(())
+    push_mating_moves(&Rays::new(), &position_of(rt, text), &mut list);
+    same_moves(rt, text, list.as_slice(), expected);
 }
 
 #[test]
-fn lists_each_mate(rt: HostRuntime) -> Result<(), Fail> {
-    check_mates(&rt, "6k1/5ppp/8/8/8/8/8/R5K1 w - - 0 1", &["a1a8"])?;
-    check_mates(&rt, "7k/8/6K1/8/8/8/8/R2R4 w - - 0 1", &["a1a8", "d1d8"])?;
-    check_mates(&rt, "6rk/6pp/7N/8/8/8/8/6K1 w - - 0 1", &["h6f7"])?;
-    // The rook or the queen that the pawn becomes.
-    check_mates(&rt, "k7/2P5/K7/8/8/8/8/8 w - - 0 1", &["c7c8r", "c7c8q"])?;
-    check_mates(&rt, "8/8/8/8/7p/8/7Q/2k1K2R w K - 0 1", &["e1g1"])?;
-    check_mates(&rt, "7k/5K2/8/6pP/8/7R/8/8 w - g6 0 1", &["h5g6"])?;
-    check_mates(&rt, "7k/R7/8/8/8/8/8/K7 w - - 0 1", &[])?;
-    // No check.
-    check_mates(&rt, "8/8/8/8/8/5k2/5p2/5K2 w - - 0 1", &[])
+fn lists_each_mate(rt: HostRuntime) {
+    static TABLE: [(&str, &[&str]); 8] = [
+        ("6k1/5ppp/8/8/8/8/8/R5K1 w - - 0 1", &["a1a8"]),
+        ("7k/8/6K1/8/8/8/8/R2R4 w - - 0 1", &["a1a8", "d1d8"]),
+        ("6rk/6pp/7N/8/8/8/8/6K1 w - - 0 1", &["h6f7"]),
+        // The rook or the queen that the pawn becomes.
+        ("k7/2P5/K7/8/8/8/8/8 w - - 0 1", &["c7c8r", "c7c8q"]),
+        ("8/8/8/8/7p/8/7Q/2k1K2R w K - 0 1", &["e1g1"]),
+        ("7k/5K2/8/6pP/8/7R/8/8 w - g6 0 1", &["h5g6"]),
+        ("7k/R7/8/8/8/8/8/K7 w - - 0 1", &[]),
+        // No check.
+        ("8/8/8/8/8/5k2/5p2/5K2 w - - 0 1", &[]),
+    ];
+    for (text, expected) in &TABLE {
+        check_mates(&rt, text, expected);
+    }
 }

@@ -1,13 +1,12 @@
 //! FEN in tables: what is read and printed, what is refused, and which of two faults is answered.
 
-use crate::test_positions::INITIAL;
+use crate::test_positions::{INITIAL, fen_of, position_of, same};
 use chess_board::{Colour, FenFault, Kind, Man, Position, Square, Wing, read_fen, reads_back};
 use std::hash::{DefaultHasher, Hash, Hasher};
-use std::test::Fail;
 
 #[test]
-fn reads_and_prints(rt: HostRuntime) -> Result<(), Fail> {
-    let table = [
+fn reads_and_prints(rt: HostRuntime) {
+    static TABLE: [(&str, &str); 7] = [
         (INITIAL, INITIAL),
         (
             "rnbqkbnr/pppppppp/8/8/8/8/PPPPPPPP/RNBQKBNR w qkQK - 0 1",
@@ -34,50 +33,60 @@ fn reads_and_prints(rt: HostRuntime) -> Result<(), Fail> {
             "4k3/8/8/8/8/8/8/4K3 b - - 9999 0",
         ),
     ];
-    for (text, printed) in table {
-        let fen = read_fen(text.as_bytes())?;
-        assert_eq!(rt; fen.text().as_str(), printed, "{text}");
-        assert_eq!(rt; reads_back(&fen)?, fen, "{text}");
+    for (text, printed) in &TABLE {
+        let fen = fen_of(&rt, text);
+        same(&rt, text, &fen.text().as_str(), printed);
+        same(&rt, text, &reads_back(&fen).ok(), &Some(fen));
     }
-    Ok(())
 }
 
 #[test]
-fn shows_the_parts_of_a_position(rt: HostRuntime) -> Result<(), Fail> {
-    let text = "r3k2r/8/8/3pP3/8/8/8/4K2R w Kq d6 4 31";
-    let fen = read_fen(text.as_bytes())?;
+fn shows_the_parts_of_a_position(rt: HostRuntime) {
+    let fen = fen_of(&rt, "r3k2r/8/8/3pP3/8/8/8/4K2R w Kq d6 4 31");
     let position = fen.position;
-    assert_eq!(rt; fen.halfmove, 4);
-    assert_eq!(rt; fen.fullmove, 31);
-    assert_eq!(rt;
-        position.text().as_str(),
-        "r3k2r/8/8/3pP3/8/8/8/4K2R w Kq d6"
+    let counters = (fen.halfmove, fen.fullmove);
+    same(&rt, &"counters", &counters, &(4, 31));
+    let text = "r3k2r/8/8/3pP3/8/8/8/4K2R w Kq d6";
+    same(&rt, &"text", &position.text().as_str(), &text);
+    same(&rt, &"side", &position.side(), &Colour::White);
+    let squares = (position.ep_target(), Some(position.king(Colour::Black)));
+    same(
+        &rt,
+        &"d6 and e8",
+        &squares,
+        &(Square::at(3, 5), Square::at(4, 7)),
     );
-    assert_eq!(rt; position.side(), Colour::White);
-    assert_eq!(rt; position.ep_target(), Square::at(3, 5));
-    assert_eq!(rt; Some(position.king(Colour::Black)), Square::at(4, 7));
-    assert!(rt; position.has_right(Colour::White, Wing::KingSide));
-    assert!(rt; !position.has_right(Colour::White, Wing::QueenSide));
-    assert!(rt; !position.in_check());
-    let h1 = Square::at(7, 0).ok_or("h1")?;
+    let rights = (
+        position.has_right(Colour::White, Wing::KingSide),
+        position.has_right(Colour::White, Wing::QueenSide),
+    );
+    same(&rt, &"rights", &rights, &(true, false));
+    same(&rt, &"check", &position.in_check(), &false);
     let rook = Man {
         colour: Colour::White,
         kind: Kind::Rook,
     };
-    assert_eq!(rt; position.man(h1), Some(rook));
-    let h7 = Square::at(7, 6).ok_or("h7")?;
-    assert!(rt; position.is_attacked(h7, Colour::White));
-    assert!(rt; position.is_attacked(h7, Colour::Black));
-    Ok(())
+    let h1 = Square::at(7, 0).expect(&rt, "h1");
+    same(&rt, &"h1", &position.man(h1), &Some(rook));
+    let h7 = Square::at(7, 6).expect(&rt, "h7");
+    let attacks = (
+        position.is_attacked(h7, Colour::White),
+        position.is_attacked(h7, Colour::Black),
+    );
+    same(&rt, &"attacks on h7", &attacks, &(true, true));
 }
 
 /// The bits of a rank are eight, the first rank lowest and the a-file the lowest of each.
 #[test]
-fn tells_where_men_stand(rt: HostRuntime) -> Result<(), Fail> {
-    let text = "r3k2r/8/8/3pP3/8/8/8/4K2R w Kq d6 4 31";
-    let position = read_fen(text.as_bytes())?.position;
-    assert_eq!(rt; position.occupied(), 0x9100_0018_0000_0090);
-    let table = [
+fn tells_where_men_stand(rt: HostRuntime) {
+    let position = position_of(&rt, "r3k2r/8/8/3pP3/8/8/8/4K2R w Kq d6 4 31");
+    same(
+        &rt,
+        &"occupied",
+        &position.occupied(),
+        &0x9100_0018_0000_0090,
+    );
+    static TABLE: [(Colour, Kind, u64); 8] = [
         (Colour::White, Kind::Pawn, 0x0000_0010_0000_0000),
         (Colour::White, Kind::Rook, 0x0000_0000_0000_0080),
         (Colour::White, Kind::King, 0x0000_0000_0000_0010),
@@ -87,10 +96,9 @@ fn tells_where_men_stand(rt: HostRuntime) -> Result<(), Fail> {
         (Colour::Black, Kind::King, 0x1000_0000_0000_0000),
         (Colour::Black, Kind::Knight, 0),
     ];
-    for (colour, kind, set) in table {
-        assert_eq!(rt; position.men(colour, kind), set, "{colour:?} {kind:?}");
+    for row in &TABLE {
+        same(&rt, row, &position.men(row.0, row.1), &row.2);
     }
-    Ok(())
 }
 
 fn hash_of(position: &Position) -> u64 {
@@ -100,13 +108,13 @@ fn hash_of(position: &Position) -> u64 {
 }
 
 #[test]
-fn tells_positions_apart(rt: HostRuntime) -> Result<(), Fail> {
+fn tells_positions_apart(rt: HostRuntime) {
     let text = "4k3/8/8/3p4/8/8/8/4K2R w K - 0 1";
-    let position = read_fen(text.as_bytes())?.position;
-    let same = read_fen(b"4k3/8/8/3p4/8/8/8/4K2R w K - 7 9")?.position;
-    assert!(rt; position == same);
-    assert_eq!(rt; hash_of(&position), hash_of(&same));
-    for text in [
+    let position = position_of(&rt, text);
+    let hash = hash_of(&position);
+    let later = position_of(&rt, "4k3/8/8/3p4/8/8/8/4K2R w K - 7 9");
+    same(&rt, &"later", &(later, hash_of(&later)), &(position, hash));
+    static TABLE: [&str; 10] = [
         "4k3/8/8/8/8/8/8/4K2R w K - 0 1",
         "4k3/8/8/8/3p4/8/8/4K2R w K - 0 1",
         "4k3/8/8/3P4/8/8/8/4K2R w K - 0 1",
@@ -118,17 +126,17 @@ fn tells_positions_apart(rt: HostRuntime) -> Result<(), Fail> {
         "4k3/8/8/3p4/8/8/8/4K2R b K - 0 1",
         "4k3/8/8/3p4/8/8/8/4K2R w - - 0 1",
         "4k3/8/8/3p4/8/8/8/4K2R w K d6 0 1",
-    ] {
-        let other = read_fen(text.as_bytes())?.position;
-        assert!(rt; position != other, "{text}");
-        assert!(rt; hash_of(&position) != hash_of(&other), "{text}");
+    ];
+    for text in &TABLE {
+        let other = position_of(&rt, text);
+        let found = (position != other, hash != hash_of(&other));
+        same(&rt, text, &found, &(true, true));
     }
-    Ok(())
 }
 
 #[test]
-fn tells_a_check(rt: HostRuntime) -> Result<(), Fail> {
-    let table = [
+fn tells_a_check(rt: HostRuntime) {
+    static TABLE: [(&str, bool); 10] = [
         (INITIAL, false),
         (
             "rnb1kbnr/pppp1ppp/8/4p3/6Pq/5P2/PPPPP2P/RNBQKBNR w KQkq - 1 3",
@@ -143,19 +151,14 @@ fn tells_a_check(rt: HostRuntime) -> Result<(), Fail> {
         ("4k3/8/8/8/1b6/8/3P4/4K3 w - - 0 1", false),
         ("4k3/8/8/8/1b6/8/8/4K3 w - - 0 1", true),
     ];
-    for (text, check) in table {
-        assert_eq!(rt;
-            read_fen(text.as_bytes())?.position.in_check(),
-            check,
-            "{text}"
-        );
+    for (text, check) in &TABLE {
+        same(&rt, text, &position_of(&rt, text).in_check(), check);
     }
-    Ok(())
 }
 
 #[test]
 fn refuses_a_faulty_text(rt: HostRuntime) {
-    let table = [
+    static TABLE: [(&str, FenFault); 19] = [
         ("4k3/8/8/8/8/8/8/4K3 w - - 0 1 x", FenFault::FieldCount),
         ("4k3/8/8/8/8/8/8/4K3  w - - 0 1", FenFault::FieldCount),
         ("", FenFault::FieldCount),
@@ -182,15 +185,15 @@ fn refuses_a_faulty_text(rt: HostRuntime) {
         ("4k3/8/8/8/8/8/8/4RK2 w - - 0 1", FenFault::OpponentInCheck),
         ("8/8/8/8/8/8/8/Kk6 w - - 0 1", FenFault::OpponentInCheck),
     ];
-    for (text, fault) in table {
-        assert_eq!(rt; read_fen(text.as_bytes()).err(), Some(fault), "{text}");
+    for (text, fault) in &TABLE {
+        same(&rt, text, &read_fen(text.as_bytes()).err(), &Some(*fault));
     }
 }
 
 /// Each text has two faults, for each two that can occur together; the earlier one is answered.
 #[test]
 fn answers_the_first_of_two_faults(rt: HostRuntime) {
-    let table = [
+    static TABLE: [(&str, FenFault); 58] = [
         ("4k3/8/8/8/8/8/8/4K2 w - - 0 1 x", FenFault::FieldCount),
         ("4k3/8/8/8/8/8/8/4K3 x - - 0 1 x", FenFault::FieldCount),
         ("4k3/8/8/8/8/8/8/4K3 w KK - 0 1 x", FenFault::FieldCount),
@@ -280,15 +283,15 @@ fn answers_the_first_of_two_faults(rt: HostRuntime) {
         ("8/8/8/8/8/8/8/Kk6 w K - 0 1", FenFault::RightWithoutMen),
         ("8/8/8/8/8/8/8/Kk6 w - e6 0 1", FenFault::TargetWithoutPawn),
     ];
-    for (text, fault) in table {
-        assert_eq!(rt; read_fen(text.as_bytes()).err(), Some(fault), "{text}");
+    for (text, fault) in &TABLE {
+        same(&rt, text, &read_fen(text.as_bytes()).err(), &Some(*fault));
     }
 }
 
 #[test]
-fn names_each_fault(rt: HostRuntime) -> Result<(), Fail> {
+fn names_each_fault(rt: HostRuntime) {
     let alloc = rt.alloc();
-    let table = [
+    static TABLE: [(FenFault, &str); 12] = [
         (FenFault::FieldCount, "FieldCount"),
         (FenFault::BadPlacement, "BadPlacement"),
         (FenFault::BadSide, "BadSide"),
@@ -302,9 +305,13 @@ fn names_each_fault(rt: HostRuntime) -> Result<(), Fail> {
         (FenFault::TargetWithoutPawn, "TargetWithoutPawn"),
         (FenFault::OpponentInCheck, "OpponentInCheck"),
     ];
-    for (fault, name) in table {
-        assert_eq!(rt; fault.code(), name);
-        assert_eq!(rt; fault.to_string(alloc)?.as_str(), name);
+    for (fault, name) in &TABLE {
+        let printed = fault.to_string(alloc).expect(&rt, name);
+        same(
+            &rt,
+            fault,
+            &(fault.code(), printed.as_str()),
+            &(*name, *name),
+        );
     }
-    Ok(())
 }

@@ -1,61 +1,24 @@
 //! Moves in tables: how they are written and compared, which are legal, and the position after one; and positions read from
 //! four fields.
 
-use chess_board::{FenFault, Kind, Move, Square, after, comes_before, read_fen, read_fields};
+use crate::test_positions::{move_of, position_of, same};
+use chess_board::{FenFault, after, comes_before, read_fields};
 use chess_moves::{Rays, is_legal};
-use std::test::Fail;
-
-/// The square of a letter and a digit.
-fn square_of(file: u8, rank: u8) -> Option<Square> {
-    Square::at(file.checked_sub(b'a')?, rank.checked_sub(b'1')?)
-}
-
-/// The kind of a small letter.
-fn kind_of(letter: u8) -> Option<Kind> {
-    match letter {
-        b'p' => Some(Kind::Pawn),
-        b'n' => Some(Kind::Knight),
-        b'b' => Some(Kind::Bishop),
-        b'r' => Some(Kind::Rook),
-        b'q' => Some(Kind::Queen),
-        b'k' => Some(Kind::King),
-        _ => None,
-    }
-}
-
-/// The move that a text such as `e2e4` or `a7a8q` writes.
-fn move_of(text: &str) -> Option<Move> {
-    match text.as_bytes() {
-        [a, b, c, d] => Some(Move {
-            origin: square_of(*a, *b)?,
-            target: square_of(*c, *d)?,
-            promotion: None,
-        }),
-        [a, b, c, d, letter] => Some(Move {
-            origin: square_of(*a, *b)?,
-            target: square_of(*c, *d)?,
-            promotion: Some(kind_of(*letter)?),
-        }),
-        _ => None,
-    }
-}
 
 #[test]
-fn writes_moves(rt: HostRuntime) -> Result<(), Fail> {
-    let table = [
+fn writes_moves(rt: HostRuntime) {
+    static TABLE: [&str; 10] = [
         "e2e4", "a1h8", "h8a1", "e1g1", "a7a8q", "a7b8r", "h2g1b", "h2h1n", "a7a8p", "a7a8k",
     ];
-    for text in table {
-        let m = move_of(text).ok_or("no move")?;
-        assert_eq!(rt; m.text().as_str(), text);
+    for text in &TABLE {
+        same(&rt, &"written", &move_of(&rt, text).text().as_str(), text);
     }
-    Ok(())
 }
 
 /// Each row rises: by origin, then target, then promotion.
 #[test]
-fn orders_moves(rt: HostRuntime) -> Result<(), Fail> {
-    let table = [
+fn orders_moves(rt: HostRuntime) {
+    static TABLE: [(&str, &str); 9] = [
         ("a1h8", "b1a1"),
         ("h1a1", "a2a1"),
         ("e2e3", "e2e4"),
@@ -66,19 +29,17 @@ fn orders_moves(rt: HostRuntime) -> Result<(), Fail> {
         ("a7a8r", "a7a8q"),
         ("a7a8q", "a7b8n"),
     ];
-    for (first, second) in table {
-        let a = move_of(first).ok_or("no move")?;
-        let b = move_of(second).ok_or("no move")?;
-        assert!(rt; comes_before(a, b), "{first} {second}");
-        assert!(rt; !comes_before(b, a), "{second} {first}");
-        assert!(rt; !comes_before(a, a), "{first}");
+    for row in &TABLE {
+        let a = move_of(&rt, row.0);
+        let b = move_of(&rt, row.1);
+        let found = (comes_before(a, b), comes_before(b, a), comes_before(a, a));
+        same(&rt, row, &found, &(true, false, false));
     }
-    Ok(())
 }
 
 #[test]
-fn makes_moves(rt: HostRuntime) -> Result<(), Fail> {
-    let table = [
+fn makes_moves(rt: HostRuntime) {
+    static TABLE: [(&str, &str, &str); 10] = [
         (
             "rnbqkbnr/pppppppp/8/8/8/8/PPPPPPPP/RNBQKBNR w KQkq - 0 1",
             "e2e4",
@@ -131,25 +92,20 @@ fn makes_moves(rt: HostRuntime) -> Result<(), Fail> {
         ),
     ];
     let rays = Rays::new();
-    for (text, chosen, result) in table {
-        let position = read_fen(text.as_bytes())?.position;
-        let m = move_of(chosen).ok_or("no move")?;
+    for row in &TABLE {
+        let position = position_of(&rt, row.0);
+        let m = move_of(&rt, row.1);
         if is_legal(&rays, &position, m) {
-            assert_eq!(rt;
-                after(&position, m).text().as_str(),
-                result,
-                "{text} {chosen}"
-            );
+            same(&rt, row, &after(&position, m).text().as_str(), &row.2);
         } else {
-            assert!(rt; false, "not legal: {text} {chosen}");
+            panic!(rt; "{row:?}");
         }
     }
-    Ok(())
 }
 
 #[test]
-fn tells_legal_moves(rt: HostRuntime) -> Result<(), Fail> {
-    let table = [
+fn tells_legal_moves(rt: HostRuntime) {
+    static TABLE: [(&str, &str, bool); 26] = [
         // en passant would take two pawns off the king's rank
         ("8/8/8/K2pP2r/8/8/8/7k w - d6 0 1", "e5d6", false),
         ("8/8/8/K2pP2r/8/8/8/7k w - d6 0 1", "e5e6", true),
@@ -186,22 +142,18 @@ fn tells_legal_moves(rt: HostRuntime) -> Result<(), Fail> {
         ("4k3/8/8/8/8/8/4P3/4K3 w - - 0 1", "e1e1", false),
     ];
     let rays = Rays::new();
-    for (text, tried, legal) in table {
-        let position = read_fen(text.as_bytes())?.position;
-        let m = move_of(tried).ok_or("no move")?;
-        assert_eq!(rt; is_legal(&rays, &position, m), legal, "{text} {tried}");
+    for row in &TABLE {
+        let found = is_legal(&rays, &position_of(&rt, row.0), move_of(&rt, row.1));
+        same(&rt, row, &found, &row.2);
     }
-    Ok(())
 }
 
 #[test]
-fn reads_four_fields(rt: HostRuntime) -> Result<(), Fail> {
-    let position = read_fields(b"r3k2r/8/8/3pP3/8/8/8/4K2R", b"w", b"qK", b"d6")?;
-    assert_eq!(rt;
-        position.text().as_str(),
-        "r3k2r/8/8/3pP3/8/8/8/4K2R w Kq d6"
-    );
-    let table = [
+fn reads_four_fields(rt: HostRuntime) {
+    let text = "r3k2r/8/8/3pP3/8/8/8/4K2R w Kq d6";
+    let position = read_fields(b"r3k2r/8/8/3pP3/8/8/8/4K2R", b"w", b"qK", b"d6").expect(&rt, text);
+    same(&rt, &text, &position.text().as_str(), &text);
+    static TABLE: [(&str, &str, &str, &str, FenFault); 10] = [
         ("44/8/8/8/8/8/8/K1k5", "x", "-", "-", FenFault::BadPlacement),
         ("4k3/8/8/8/8/8/8/4K3", "W", "KK", "-", FenFault::BadSide),
         ("4k3/8/8/8/8/8/8/4K3", "w", "", "e3", FenFault::BadCastling),
@@ -243,18 +195,14 @@ fn reads_four_fields(rt: HostRuntime) -> Result<(), Fail> {
             FenFault::OpponentInCheck,
         ),
     ];
-    for (placement, side, rights, target, fault) in table {
+    for row in &TABLE {
+        let (placement, side, rights, target, fault) = row;
         let answer = read_fields(
             placement.as_bytes(),
             side.as_bytes(),
             rights.as_bytes(),
             target.as_bytes(),
         );
-        assert_eq!(rt;
-            answer.err(),
-            Some(fault),
-            "{placement} {side} {rights} {target}"
-        );
+        same(&rt, row, &answer.err(), &Some(*fault));
     }
-    Ok(())
 }

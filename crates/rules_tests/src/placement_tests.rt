@@ -1,7 +1,7 @@
 //! The placement field of a FEN: how it is printed, where its men stand, and what misspells it.
 
-use chess_board::{Colour, FenFault, Kind, Man, Position, Square, read_fields};
-use std::test::Fail;
+use crate::test_positions::same;
+use chess_board::{Colour, FenFault, Kind, Position, Square, read_fields};
 
 const TWO_KINGS: &str = "4k3/8/8/8/8/8/8/4K3";
 
@@ -22,38 +22,43 @@ fn read_placement(text: &str) -> Result<Position, FenFault> {
 }
 
 #[test]
-fn text_is_printed_as_read(rt: HostRuntime) -> Result<(), Fail> {
-    for spelt in [START, AFTER_E4, AFTER_C5, AFTER_NF3, TWO_KINGS, LONGEST] {
-        let text = read_placement(spelt)?.text();
-        assert_eq!(rt; text.as_str().strip_suffix(" w - -"), Some(spelt));
+fn text_is_printed_as_read(rt: HostRuntime) {
+    static TABLE: [&str; 6] = [START, AFTER_E4, AFTER_C5, AFTER_NF3, TWO_KINGS, LONGEST];
+    for spelt in &TABLE {
+        let text = read_placement(spelt).expect(&rt, spelt).text();
+        same(
+            &rt,
+            spelt,
+            &text.as_str().strip_suffix(" w - -"),
+            &Some(*spelt),
+        );
     }
-    Ok(())
 }
 
 #[test]
-fn men_stand_on_their_squares(rt: HostRuntime) -> Result<(), Fail> {
-    let position = read_placement(AFTER_NF3)?;
-    for (square, colour, kind) in [
-        (0, Colour::White, Kind::Rook),
-        (3, Colour::White, Kind::Queen),
-        (4, Colour::White, Kind::King),
-        (21, Colour::White, Kind::Knight),
-        (28, Colour::White, Kind::Pawn),
-        (34, Colour::Black, Kind::Pawn),
-        (58, Colour::Black, Kind::Bishop),
-        (59, Colour::Black, Kind::Queen),
-    ] {
-        let found = position.man(Square::numbered(square));
-        assert_eq!(rt; found, Some(Man { colour, kind }), "square {square}");
+fn men_stand_on_their_squares(rt: HostRuntime) {
+    let position = read_placement(AFTER_NF3).expect(&rt, AFTER_NF3);
+    // The knight has left g1.
+    static TABLE: [(u8, Option<(Colour, Kind)>); 9] = [
+        (0, Some((Colour::White, Kind::Rook))),
+        (3, Some((Colour::White, Kind::Queen))),
+        (4, Some((Colour::White, Kind::King))),
+        (6, None),
+        (21, Some((Colour::White, Kind::Knight))),
+        (28, Some((Colour::White, Kind::Pawn))),
+        (34, Some((Colour::Black, Kind::Pawn))),
+        (58, Some((Colour::Black, Kind::Bishop))),
+        (59, Some((Colour::Black, Kind::Queen))),
+    ];
+    for (square, man) in &TABLE {
+        let found = position.man(Square::numbered(*square));
+        same(&rt, square, &found.map(|man| (man.colour, man.kind)), man);
     }
-    let g1 = position.man(Square::numbered(6));
-    assert_eq!(rt; g1, None, "the knight has left g1");
-    Ok(())
 }
 
 #[test]
 fn misspelt_fields_are_refused(rt: HostRuntime) {
-    for (text, mistake) in [
+    static TABLE: [(&str, &str); 13] = [
         ("", "no text"),
         ("8/8/8/8/8/8/8", "seven ranks"),
         ("8/8/8/8/8/8/8/8/8", "nine ranks"),
@@ -67,12 +72,9 @@ fn misspelt_fields_are_refused(rt: HostRuntime) {
         ("8/8/8/8/8/8/ppppppppp/8", "nine men in a rank"),
         ("8/8/8/8/8/8/8/7x", "a letter of no man"),
         ("8/8/8/8/8/8/8/8 ", "a space"),
-    ] {
-        let answer = read_placement(text);
-        assert_eq!(rt;
-            answer.err(),
-            Some(FenFault::BadPlacement),
-            "{mistake}: {text}"
-        );
+    ];
+    for row in &TABLE {
+        let found = read_placement(row.0).err();
+        same(&rt, row, &found, &Some(FenFault::BadPlacement));
     }
 }

@@ -1,43 +1,39 @@
 //! Sets of squares: one square more, one less, and the squares one after the other.
 
+use crate::test_positions::same;
 use square_sets::{contains, lowest, single, squares, with, without, without_lowest};
-use std::process::Abort;
 
 #[test]
 fn puts_and_takes_squares(rt: HostRuntime) {
     // a1, h1, a2, h8
-    for (square, set) in [(0, 0x1), (7, 0x80), (8, 0x100), (63, 0x8000_0000_0000_0000)] {
-        assert_eq!(rt; single(square), set, "square {square}");
-        assert_eq!(rt; with(0, square), set, "square {square}");
-        assert_eq!(rt; with(set, square), set, "square {square}");
-        assert_eq!(rt; without(set, square), 0, "square {square}");
-        assert_eq!(rt;
-            without(u64::MAX, square),
-            u64::MAX - set,
-            "square {square}"
-        );
-        assert!(rt; contains(set, square), "square {square}");
-        assert!(rt; !contains(u64::MAX - set, square), "square {square}");
+    static TABLE: [(u8, u64); 4] = [(0, 0x1), (7, 0x80), (8, 0x100), (63, 0x8000_0000_0000_0000)];
+    for (square, set) in &TABLE {
+        let others = u64::MAX - set;
+        let put = (single(*square), with(0, *square), with(*set, *square));
+        same(&rt, square, &put, &(*set, *set, *set));
+        let taken = (without(*set, *square), without(u64::MAX, *square));
+        same(&rt, square, &taken, &(0, others));
+        let found = (contains(*set, *square), contains(others, *square));
+        same(&rt, square, &found, &(true, false));
     }
 }
 
 #[test]
 fn goes_from_a1_to_h8(rt: HostRuntime) {
     // Nothing; a1; h8; a1, h1, a2 and h8; the long diagonal.
-    let rows: [(u64, &[u8]); 5] = [
+    static ROWS: [(u64, &[u8]); 5] = [
         (0, &[]),
         (0x1, &[0]),
         (0x8000_0000_0000_0000, &[63]),
         (0x8000_0000_0000_0181, &[0, 7, 8, 63]),
         (0x8040_2010_0804_0201, &[0, 9, 18, 27, 36, 45, 54, 63]),
     ];
-    for (set, expected) in rows {
-        let mut left = squares(set);
-        for square in expected {
-            assert_eq!(rt; left.next(), Some(*square), "set {set:x}");
+    for (set, expected) in &ROWS {
+        let mut left = squares(*set);
+        for square in *expected {
+            same(&rt, set, &left.next(), &Some(*square));
         }
-        assert_eq!(rt; left.next(), None, "set {set:x}");
-        assert_eq!(rt; left.next(), None, "set {set:x}");
+        same(&rt, set, &(left.next(), left.next()), &(None, None));
     }
 }
 
@@ -53,13 +49,14 @@ fn goes_through_all_squares(rt: HostRuntime) {
 
 #[test]
 fn takes_the_lowest_square(rt: HostRuntime) {
-    for (set, square, rest) in [
+    static TABLE: [(u64, u8, u64); 4] = [
         (0x1, 0, 0),
         (0x8000_0000_0000_0000, 63, 0),
         (0x8000_0000_0000_0180, 7, 0x8000_0000_0000_0100),
         (u64::MAX, 0, u64::MAX - 1),
-    ] {
-        assert_eq!(rt; lowest(set), square, "set {set:x}");
-        assert_eq!(rt; without_lowest(set), rest, "set {set:x}");
+    ];
+    for (set, square, rest) in &TABLE {
+        let found = (lowest(*set), without_lowest(*set));
+        same(&rt, set, &found, &(*square, *rest));
     }
 }
