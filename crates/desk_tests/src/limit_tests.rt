@@ -1,111 +1,129 @@
 //! The limits of a desk: its sizes, its tickets and its room; and refusals, which print as their names.
 
-use crate::row_tests::{A, record_of};
+use crate::row_tests::{A, desk_of, memo_of, same, submit};
 use chess_moves::Rays;
 use mate_desk::{Desk, DeskFault, NoSuchSubmitter, Stranger, SubmitRefusal, WithdrawRefusal};
 use mate_jobs::Ticket;
-use mate_search::Memo;
-use std::test::Fail;
+use std::alloc::Global;
+use std::fmt::Display;
+use std::process::Abort;
 
 #[test]
-fn the_last_ticket_is_never_given(rt: HostRuntime) -> Result<(), Fail> {
+fn the_last_ticket_is_never_given(rt: HostRuntime) {
     let alloc = rt.alloc();
-    let mut spent = Desk::new(alloc, 1, 1, u64::MAX)?;
-    assert!(rt; !spent.accepts(0));
-    let (refusal, _) = spent.submit(0, record_of(alloc, A)?).err().ok_or("submit")?;
-    assert_eq!(rt; refusal, SubmitRefusal::Exhausted);
-    let mut last = Desk::new(alloc, 1, 2, u64::MAX - 1)?;
-    let ticket = last.submit(0, record_of(alloc, A)?).ok().ok_or("submit")?;
-    assert_eq!(rt; ticket, Ticket(u64::MAX - 1));
-    let (refusal, _) = last.submit(0, record_of(alloc, A)?).err().ok_or("submit")?;
-    assert_eq!(rt; refusal, SubmitRefusal::Exhausted);
-    Ok(())
+    let mut spent = desk_of(&rt, alloc, 1, 1, u64::MAX);
+    same(&rt, &"accepts", &spent.accepts(0), &false);
+    let refused = Err(SubmitRefusal::Exhausted);
+    same(
+        &rt,
+        &"spent",
+        &submit(&rt, alloc, &mut spent, 0, A),
+        &refused,
+    );
+    let mut last = desk_of(&rt, alloc, 1, 2, u64::MAX - 1);
+    let given = Ok(Ticket(u64::MAX - 1));
+    same(&rt, &"last", &submit(&rt, alloc, &mut last, 0, A), &given);
+    same(
+        &rt,
+        &"behind",
+        &submit(&rt, alloc, &mut last, 0, A),
+        &refused,
+    );
 }
 
 #[test]
-fn no_desk_of_a_wrong_size(rt: HostRuntime) -> Result<(), Fail> {
-    for (submitters, room, fault) in [
+fn no_desk_of_a_wrong_size(rt: HostRuntime) {
+    static ROWS: [(usize, usize, DeskFault); 5] = [
         (0, 0, DeskFault::BadSubmitters),
         (17, 1, DeskFault::BadSubmitters),
         (17, 65, DeskFault::BadSubmitters),
         (1, 0, DeskFault::BadRoom),
         (16, 65, DeskFault::BadRoom),
-    ] {
-        assert_eq!(rt;
-            Desk::new(rt.alloc(), submitters, room, 0).err(),
-            Some(fault),
-            "{submitters} {room}"
-        );
+    ];
+    for row in &ROWS {
+        let found = Desk::new(rt.alloc(), row.0, row.1, 0).err();
+        same(&rt, row, &found, &Some(row.2));
     }
-    Ok(())
 }
 
-#[test]
-fn a_full_desk_serves_all(rt: HostRuntime) -> Result<(), Fail> {
-    let alloc = rt.alloc();
-    let rays = Rays::new();
-    let mut memo = Memo::new(alloc, 16)?;
-    let mut desk = Desk::new(alloc, 16, 64, 0)?;
+/// Fills a new desk of 16 submitters with room for 64 records each.
+fn fill(rt: &impl Abort, alloc: Global, desk: &mut Desk) {
     for n in 0u64..1024 {
-        let s = (n % 16) as usize;
-        let ticket = desk.submit(s, record_of(alloc, A)?).ok().ok_or("submit")?;
-        assert_eq!(rt; ticket, Ticket(n));
+        let ticket = submit(rt, alloc, desk, (n % 16) as usize, A);
+        same(rt, &n, &ticket, &Ok(Ticket(n)));
     }
     for s in 0..16 {
-        assert_eq!(rt; desk.pending(s)?, 64);
-        let (refusal, _) = desk.submit(s, record_of(alloc, A)?).err().ok_or("submit")?;
-        assert_eq!(rt; refusal, SubmitRefusal::Full);
+        same(rt, &s, &desk.pending(s), &Ok(64));
+        let ticket = submit(rt, alloc, desk, s, A);
+        same(rt, &s, &ticket, &Err(SubmitRefusal::Full));
     }
-    assert_eq!(rt; desk.waiting(), 1024);
+    same(rt, &"waiting", &desk.waiting(), &1024);
+}
+
+/// Solves all jobs of a full desk, and collects the answers.
+fn serve(rt: &impl Abort, alloc: Global, desk: &mut Desk) {
+    let rays = Rays::new();
+    let mut memo = memo_of(rt, alloc);
     for n in 0u64..1024 {
-        let job = desk.take().ok_or("take")?;
-        assert_eq!(rt; job.ticket(), Ticket(n));
-        desk.finish(job.solve(&rays, &mut memo))
-            .ok()
-            .ok_or("finish")?;
+        let job = desk.take().expect(rt, "job");
+        same(rt, &n, &job.ticket(), &Ticket(n));
+        let finished = desk.finish(job.solve(&rays, &mut memo));
+        same(rt, &n, &finished.is_ok(), &true);
     }
-    assert!(rt; desk.take().is_none());
+    same(rt, &"taken", &desk.take().is_none(), &true);
     for n in 0..1024 {
-        assert!(rt; desk.collect(n % 16)?.is_some());
+        let delivery = desk.collect(n % 16).expect(rt, "submitter");
+        same(rt, &n, &delivery.is_some(), &true);
     }
-    assert!(rt; desk.is_drained());
-    Ok(())
+    same(rt, &"drained", &desk.is_drained(), &true);
 }
 
 #[test]
-fn refusals_print_as_their_names(rt: HostRuntime) -> Result<(), Fail> {
+fn a_full_desk_serves_all(rt: HostRuntime) {
+    let mut desk = desk_of(&rt, rt.alloc(), 16, 64, 0);
+    fill(&rt, rt.alloc(), &mut desk);
+    serve(&rt, rt.alloc(), &mut desk);
+}
+
+/// Refuses where a refusal prints otherwise.
+fn check_print<D: Display>(rt: &impl Abort, alloc: Global, refusal: &D, name: &str) {
+    let printed = refusal.to_string(alloc).expect(rt, name);
+    same(rt, &"printed", &printed.as_str(), &name);
+}
+
+#[test]
+fn refusals_print_as_their_names(rt: HostRuntime) {
     let alloc = rt.alloc();
-    for (fault, name) in [
+    static FAULTS: [(DeskFault, &str); 3] = [
         (DeskFault::BadSubmitters, "BadSubmitters"),
         (DeskFault::BadRoom, "BadRoom"),
         (DeskFault::NoMemory, "NoMemory"),
-    ] {
-        assert_eq!(rt; fault.code(), name);
-        assert_eq!(rt; fault.to_string(alloc)?.as_str(), name);
+    ];
+    for (fault, name) in &FAULTS {
+        same(&rt, &"code", &fault.code(), name);
+        check_print(&rt, alloc, fault, name);
     }
-    for (refusal, name) in [
+    static SUBMIT_REFUSALS: [(SubmitRefusal, &str); 4] = [
         (SubmitRefusal::NoSuchSubmitter, "NoSuchSubmitter"),
         (SubmitRefusal::Closed, "Closed"),
         (SubmitRefusal::Full, "Full"),
         (SubmitRefusal::Exhausted, "Exhausted"),
-    ] {
-        assert_eq!(rt; refusal.code(), name);
-        assert_eq!(rt; refusal.to_string(alloc)?.as_str(), name);
+    ];
+    for (refusal, name) in &SUBMIT_REFUSALS {
+        same(&rt, &"code", &refusal.code(), name);
+        check_print(&rt, alloc, refusal, name);
     }
-    for (refusal, name) in [
+    static WITHDRAW_REFUSALS: [(WithdrawRefusal, &str); 4] = [
         (WithdrawRefusal::NoSuchSubmitter, "NoSuchSubmitter"),
         (WithdrawRefusal::NotAccepted, "NotAccepted"),
         (WithdrawRefusal::Delivered, "Delivered"),
         (WithdrawRefusal::Withdrawn, "Withdrawn"),
-    ] {
-        assert_eq!(rt; refusal.code(), name);
-        assert_eq!(rt; refusal.to_string(alloc)?.as_str(), name);
+    ];
+    for (refusal, name) in &WITHDRAW_REFUSALS {
+        same(&rt, &"code", &refusal.code(), name);
+        check_print(&rt, alloc, refusal, name);
     }
-    assert_eq!(rt; NoSuchSubmitter.code(), "NoSuchSubmitter");
-    assert_eq!(rt;
-        NoSuchSubmitter.to_string(alloc)?.as_str(),
-        "NoSuchSubmitter"
-    );
-    assert_eq!(rt; Stranger.to_string(alloc)?.as_str(), "Stranger");
-    Ok(())
+    same(&rt, &"code", &NoSuchSubmitter.code(), &"NoSuchSubmitter");
+    check_print(&rt, alloc, &NoSuchSubmitter, "NoSuchSubmitter");
+    check_print(&rt, alloc, &Stranger, "Stranger");
 }

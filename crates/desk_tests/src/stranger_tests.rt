@@ -1,86 +1,73 @@
 //! Jobs that a desk did not give out, and jobs that are given back twice.
 
-use crate::row_tests::{A, ANSWER_A, B, record_of};
+use crate::row_tests::{A, ANSWER_A, B, desk_of, memo_of, record_of, same, submit};
 use chess_moves::Rays;
 use mate_desk::{Delivery, Desk};
-use mate_jobs::{Job, Ticket};
-use mate_search::Memo;
+use mate_jobs::{Done, Job, Ticket};
 use std::alloc::Global;
-use std::test::Fail;
+use std::process::Abort;
 
-/// A desk whose only record is out, with its job.
-fn desk_out(alloc: Global, line: &str) -> Result<(Desk, Job), Fail> {
-    let mut desk = Desk::new(alloc, 1, 1, 0)?;
-    desk.submit(0, record_of(alloc, line)?)
-        .ok()
-        .ok_or("submit")?;
-    let job = desk.take().ok_or("take")?;
-    Ok((desk, job))
+/// The job of a line's record, the first of a new desk.
+fn taken(rt: &impl Abort, alloc: Global, desk: &mut Desk, line: &str) -> Job {
+    let ticket = submit(rt, alloc, desk, 0, line);
+    same(rt, &line, &ticket, &Ok(Ticket(0)));
+    desk.take().expect(rt, "take")
 }
 
-/// A job that another desk gave out, or nobody, under ticket 0.
-fn job_of(alloc: Global, line: &str) -> Result<Job, Fail> {
-    Ok(Job::new(Ticket(0), record_of(alloc, line)?.problem()))
+fn solved(rt: &impl Abort, alloc: Global, job: Job) -> Done {
+    job.solve(&Rays::new(), &mut memo_of(rt, alloc))
 }
 
-#[test]
-fn strangers_are_handed_back(rt: HostRuntime) -> Result<(), Fail> {
-    let alloc = rt.alloc();
-    let rays = Rays::new();
-    let mut memo = Memo::new(alloc, 16)?;
-    let (mut first, own) = desk_out(alloc, A)?;
-    let (mut second, other) = desk_out(alloc, B)?;
-    let (_, other) = first
-        .hand_back(other)
-        .err()
-        .ok_or("a job of the second desk")?;
-    let (_, other) = first
-        .finish(other.solve(&rays, &mut memo))
-        .err()
-        .ok_or("solved for the second desk")?;
-    let (_, own) = second
-        .hand_back(own)
-        .err()
-        .ok_or("a job of the first desk")?;
-    let (_, own) = second
-        .finish(own.solve(&rays, &mut memo))
-        .err()
-        .ok_or("solved for the first desk")?;
-    first.finish(own).ok().ok_or("its own job")?;
-    second.finish(other).ok().ok_or("its own job")?;
-    let late = job_of(alloc, A)?;
-    let (stranger, late) = first.hand_back(late).err().ok_or("a job that is not out")?;
-    assert_eq!(rt; late.ticket(), Ticket(0));
-    assert_eq!(rt; stranger.code(), "Stranger");
-    first
-        .finish(late.solve(&rays, &mut memo))
-        .err()
-        .ok_or("solved, but not out")?;
-    Ok(())
+/// Refuses where a desk takes back a job of ticket 0 that is a stranger, as it is or then solved, which it is afterwards.
+fn check_stranger(rt: &impl Abort, alloc: Global, desk: &mut Desk, job: Job) -> Done {
+    let (stranger, job) = desk.hand_back(job).expect_err(rt, "handed back");
+    let found = (stranger.code(), job.ticket());
+    same(rt, &"stranger", &found, &("Stranger", Ticket(0)));
+    let (_, done) = desk
+        .finish(solved(rt, alloc, job))
+        .expect_err(rt, "finished");
+    done
 }
 
-#[test]
-fn an_equal_job_is_taken_once(rt: HostRuntime) -> Result<(), Fail> {
-    let alloc = rt.alloc();
-    let rays = Rays::new();
-    let mut memo = Memo::new(alloc, 16)?;
-    let (mut first, own) = desk_out(alloc, A)?;
-    let (_second, other) = desk_out(alloc, A)?;
-    first
-        .finish(other.solve(&rays, &mut memo))
-        .ok()
-        .ok_or("an equal job")?;
-    first
-        .finish(own.solve(&rays, &mut memo))
-        .err()
-        .ok_or("its own job, once more")?;
-    match first.collect(0)? {
-        Some(Delivery::Answer(answer)) => {
-            assert_eq!(rt; answer.text(alloc, &rays)?.as_str(), ANSWER_A)
+/// Refuses where a desk's only answer is not the one to A.
+fn check_answer(rt: &impl Abort, alloc: Global, desk: &mut Desk) {
+    match desk.collect(0) {
+        Ok(Some(Delivery::Answer(answer))) => {
+            let text = answer.text(alloc, &Rays::new()).expect(rt, "memory");
+            same(rt, &"answer", &text.as_str(), &ANSWER_A);
         }
-        _ => return Err(Fail::from("no answer")),
+        _ => panic!(rt; "no answer"),
     }
-    assert!(rt; first.collect(0)?.is_none());
-    assert!(rt; first.is_drained());
-    Ok(())
+    let none = desk.collect(0).expect(rt, "submitter");
+    same(rt, &"none", &none.is_none(), &true);
+    same(rt, &"drained", &desk.is_drained(), &true);
+}
+
+#[test]
+fn strangers_are_handed_back(rt: HostRuntime) {
+    let alloc = rt.alloc();
+    let mut first = desk_of(&rt, alloc, 1, 1, 0);
+    let mut second = desk_of(&rt, alloc, 1, 1, 0);
+    let own = taken(&rt, alloc, &mut first, A);
+    let other = taken(&rt, alloc, &mut second, B);
+    let other = check_stranger(&rt, alloc, &mut first, other);
+    let own = check_stranger(&rt, alloc, &mut second, own);
+    same(&rt, &"own", &first.finish(own).is_ok(), &true);
+    same(&rt, &"other", &second.finish(other).is_ok(), &true);
+    // A job that nobody gave out.
+    let late = Job::new(Ticket(0), record_of(&rt, alloc, A).problem());
+    let _ = check_stranger(&rt, alloc, &mut first, late);
+}
+
+#[test]
+fn an_equal_job_is_taken_once(rt: HostRuntime) {
+    let alloc = rt.alloc();
+    let mut first = desk_of(&rt, alloc, 1, 1, 0);
+    let own = taken(&rt, alloc, &mut first, A);
+    let equal = taken(&rt, alloc, &mut desk_of(&rt, alloc, 1, 1, 0), A);
+    let finished = first.finish(solved(&rt, alloc, equal));
+    same(&rt, &"an equal job", &finished.is_ok(), &true);
+    let finished = first.finish(solved(&rt, alloc, own));
+    same(&rt, &"its own job, once more", &finished.is_ok(), &false);
+    check_answer(&rt, alloc, &mut first);
 }

@@ -1,7 +1,7 @@
 //! A plain desk: a list of all that was accepted, never shortened, which answers by filters over it.
 
 use mate_desk::{SubmitRefusal, WithdrawRefusal};
-use std::test::Fail;
+use std::process::Abort;
 
 #[derive(Clone, Copy, PartialEq, Eq)]
 pub(crate) enum Phase {
@@ -71,18 +71,19 @@ impl PlainDesk {
         }
     }
 
-    pub(crate) fn submit(&mut self, s: usize, line: usize) -> Result<u64, Fail> {
+    pub(crate) fn submit(&mut self, rt: &impl Abort, s: usize, line: usize) -> u64 {
         let ticket = self.next;
-        self.all.push(Asked {
+        let asked = Asked {
             submitter: s,
             ticket,
             line,
             phase: Phase::Waiting,
             withdrawn: false,
             delivered: false,
-        })?;
+        };
+        self.all.push(asked).expect(rt, "memory");
         self.next = ticket.wrapping_add(1);
-        Ok(ticket)
+        ticket
     }
 
     /// The lowest ticket that waits, which is out then.

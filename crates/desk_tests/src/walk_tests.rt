@@ -1,15 +1,15 @@
 //! Desks of a hundred sizes beside a plain desk, a thousand calls each.
 
+use crate::row_tests::{bound_of, desk_of, memo_of, same};
 use crate::test_plain_desk::{Phase, PlainDesk, Told};
 use chess_moves::Rays;
 use chess_notation::{Record, read_record};
-use chess_problems::{Bound, Outcome};
+use chess_problems::Outcome;
 use mate_desk::{Delivery, Desk, NoSuchSubmitter, Stranger};
 use mate_jobs::{Job, Ticket};
 use mate_search::Memo;
 use std::alloc::Global;
 use std::process::Abort;
-use std::test::Fail;
 
 /// Lines that ask three problems, two of them of one position, and within how many moves there is mate, or 0.
 const LINES: [(&str, u8); 3] = [
@@ -51,26 +51,23 @@ struct Pair {
     memo: Memo,
 }
 
+/// A line, and within how many moves there is mate, or 0.
+fn line_of(rt: &impl Abort, line: usize) -> (&'static str, u8) {
+    *LINES.get(line).expect(rt, "line")
+}
+
 /// The record of a line, named by the ticket that it is to get.
-fn record_of(alloc: Global, rays: &Rays, line: usize, ticket: u64) -> Result<Record, Fail> {
-    let (text, _) = LINES.get(line).ok_or("line")?;
-    let text = format!(in alloc; "{text} id {ticket};")?;
-    let default = Bound::new(15).ok_or("bound")?;
-    Ok(read_record(alloc, rays, text.as_bytes(), default)?)
+fn record_of(rt: &impl Abort, alloc: Global, rays: &Rays, line: usize, ticket: u64) -> Record {
+    let (text, _) = line_of(rt, line);
+    let named = format!(in alloc; "{text} id {ticket};").expect(rt, "memory");
+    read_record(alloc, rays, named.as_bytes(), bound_of(rt, 15)).expect(rt, text)
 }
 
 /// The ticket by which a record was named.
-fn name_of(record: &Record) -> Result<u64, Fail> {
-    let operation = record.rest.first().ok_or("operation")?;
-    Ok(
-        operation
-            .operands
-            .as_str()
-            .trim()
-            .parse::<u64>()
-            .ok()
-            .ok_or("name")?,
-    )
+fn name_of(rt: &impl Abort, record: &Record) -> u64 {
+    let operation = record.rest.first().expect(rt, "operation");
+    let name = operation.operands.as_str().trim();
+    name.parse::<u64>().ok().expect(rt, "name")
 }
 
 /// Within how many moves there is mate, or 0.
@@ -82,131 +79,142 @@ fn moves_of(outcome: &Outcome) -> u8 {
 }
 
 impl Pair {
-    fn submit(
-        &mut self,
-        rt: &impl Abort,
-        alloc: Global,
-        numbers: &mut Numbers,
-    ) -> Result<(), Fail> {
+    fn submit(&mut self, rt: &impl Abort, alloc: Global, numbers: &mut Numbers) {
         let s = numbers.below(self.plain.submitters.saturating_add(1));
         let line = numbers.below(3);
         let refusal = self.plain.refusal(s);
-        assert_eq!(rt; self.desk.accepts(s), refusal.is_none());
-        let record = record_of(alloc, &self.rays, line, self.plain.next)?;
-        match self.desk.submit(s, record) {
+        same(rt, &"accepts", &self.desk.accepts(s), &refusal.is_none());
+        let name = self.plain.next;
+        match self
+            .desk
+            .submit(s, record_of(rt, alloc, &self.rays, line, name))
+        {
             Ok(ticket) => {
-                assert_eq!(rt; refusal, None);
-                assert_eq!(rt; ticket.0, self.plain.submit(s, line)?);
+                same(rt, &"submitted", &None, &refusal);
+                same(rt, &"ticket", &ticket.0, &self.plain.submit(rt, s, line));
             }
             Err((found, record)) => {
-                assert_eq!(rt; Some(found), refusal);
-                assert_eq!(rt; name_of(&record)?, self.plain.next);
+                same(rt, &"refused", &Some(found), &refusal);
+                same(rt, &"handed back", &name_of(rt, &record), &name);
             }
         }
-        Ok(())
     }
 
-    fn take(&mut self, rt: &impl Abort) -> Result<(), Fail> {
+    fn take(&mut self, rt: &impl Abort) {
         let ticket = self.plain.take();
-        match self.desk.take() {
-            Some(job) => {
-                assert_eq!(rt; Some(job.ticket().0), ticket);
-                let line = self.plain.line_under(job.ticket().0).ok_or("line")?;
-                self.hand.push(InHand { job, line })?;
-            }
-            None => assert_eq!(rt; ticket, None),
+        let job = self.desk.take();
+        let found = job.as_ref().map(|job| job.ticket().0);
+        same(rt, &"taken", &found, &ticket);
+        if let Some(job) = job {
+            let line = self.plain.line_under(job.ticket().0).expect(rt, "line");
+            self.hand.push(InHand { job, line }).expect(rt, "memory");
         }
-        Ok(())
     }
 
     /// A job of those in hand, or now and then one that no desk gave out.
-    fn pick(&mut self, alloc: Global, numbers: &mut Numbers) -> Result<InHand, Fail> {
+    fn pick(&mut self, rt: &impl Abort, alloc: Global, numbers: &mut Numbers) -> InHand {
         let i = numbers.below(self.hand.len());
         if i < self.hand.len() && numbers.below(5) > 0 {
-            return Ok(self.hand.remove(i));
+            return self.hand.remove(i);
         }
         let line = numbers.below(3);
         let back = numbers.below(8) as u64;
         let ticket = Ticket(self.plain.next.wrapping_sub(back));
-        let job = Job::new(ticket, record_of(alloc, &self.rays, line, 0)?.problem());
-        Ok(InHand { job, line })
+        let record = record_of(rt, alloc, &self.rays, line, 0);
+        InHand {
+            job: Job::new(ticket, record.problem()),
+            line,
+        }
     }
 
-    fn finish(
-        &mut self,
-        rt: &impl Abort,
-        alloc: Global,
-        numbers: &mut Numbers,
-    ) -> Result<(), Fail> {
-        let InHand { job, line } = self.pick(alloc, numbers)?;
+    fn finish(&mut self, rt: &impl Abort, alloc: Global, numbers: &mut Numbers) {
+        let InHand { job, line } = self.pick(rt, alloc, numbers);
         let ticket = job.ticket();
         let done = job.solve(&self.rays, &mut self.memo);
-        let (_, moves) = LINES.get(line).ok_or("line")?;
-        assert_eq!(rt; moves_of(done.outcome()), *moves);
+        same(
+            rt,
+            &"solved",
+            &moves_of(done.outcome()),
+            &line_of(rt, line).1,
+        );
         let known = self.plain.bring_back(ticket.0, line, Phase::Finished);
-        match self.desk.finish(done) {
-            Ok(()) => assert!(rt; known),
-            Err((Stranger, done)) => {
-                assert!(rt; !known);
-                assert_eq!(rt; done.ticket(), ticket);
-            }
-        }
-        Ok(())
+        let stranger = match self.desk.finish(done) {
+            Ok(()) => None,
+            Err((Stranger, done)) => Some(done.ticket()),
+        };
+        same(
+            rt,
+            &"finished",
+            &(stranger.is_none(), stranger.unwrap_or(ticket)),
+            &(known, ticket),
+        );
     }
 
-    fn hand_back(
-        &mut self,
-        rt: &impl Abort,
-        alloc: Global,
-        numbers: &mut Numbers,
-    ) -> Result<(), Fail> {
-        let InHand { job, line } = self.pick(alloc, numbers)?;
+    fn hand_back(&mut self, rt: &impl Abort, alloc: Global, numbers: &mut Numbers) {
+        let InHand { job, line } = self.pick(rt, alloc, numbers);
         let ticket = job.ticket();
         let known = self.plain.bring_back(ticket.0, line, Phase::Waiting);
-        match self.desk.hand_back(job) {
-            Ok(()) => assert!(rt; known),
-            Err((Stranger, job)) => {
-                assert!(rt; !known);
-                assert_eq!(rt; job.ticket(), ticket);
-            }
-        }
-        Ok(())
+        let stranger = match self.desk.hand_back(job) {
+            Ok(()) => None,
+            Err((Stranger, job)) => Some(job.ticket()),
+        };
+        same(
+            rt,
+            &"back",
+            &(stranger.is_none(), stranger.unwrap_or(ticket)),
+            &(known, ticket),
+        );
     }
 
     /// What was delivered, by the names of records, whose answers are right.
-    fn told_by(&self, rt: &impl Abort, delivery: &Delivery) -> Result<Told, Fail> {
+    fn told_by(&self, rt: &impl Abort, delivery: &Delivery) -> Told {
         match delivery {
             Delivery::Answer(answer) => {
-                let ticket = name_of(answer.asked())?;
-                let line = self.plain.line_under(ticket).ok_or("line")?;
-                let (_, moves) = LINES.get(line).ok_or("line")?;
-                assert_eq!(rt; moves_of(answer.outcome()), *moves);
-                Ok(Told::Answer(ticket))
+                let ticket = name_of(rt, answer.asked());
+                let line = self.plain.line_under(ticket).expect(rt, "line");
+                same(
+                    rt,
+                    &"answer",
+                    &moves_of(answer.outcome()),
+                    &line_of(rt, line).1,
+                );
+                Told::Answer(ticket)
             }
             Delivery::Notice(ticket, record) => {
-                assert_eq!(rt; name_of(record)?, ticket.0);
-                Ok(Told::Notice(ticket.0))
+                same(rt, &"notice", &name_of(rt, record), &ticket.0);
+                Told::Notice(ticket.0)
             }
         }
     }
 
-    fn collect(&mut self, rt: &impl Abort, numbers: &mut Numbers) -> Result<(), Fail> {
+    fn collect(&mut self, rt: &impl Abort, numbers: &mut Numbers) {
         let s = numbers.below(self.plain.submitters.saturating_add(1));
         let told = self.plain.collect(s);
-        assert_eq!(rt; self.desk.is_ready(s), told.is_some(), "{s}");
+        same(
+            rt,
+            &"ready",
+            &(s, self.desk.is_ready(s)),
+            &(s, told.is_some()),
+        );
         match self.desk.collect(s) {
-            Ok(Some(delivery)) => assert_eq!(rt; told, Some(self.told_by(rt, &delivery)?)),
-            Ok(None) => assert_eq!(rt; told, None),
-            Err(NoSuchSubmitter) => assert_eq!(rt; s, self.plain.submitters),
+            Ok(Some(delivery)) => {
+                same(rt, &"collected", &Some(self.told_by(rt, &delivery)), &told);
+            }
+            Ok(None) => same(rt, &"nothing", &None, &told),
+            Err(NoSuchSubmitter) => same(rt, &"nobody", &s, &self.plain.submitters),
         }
-        Ok(())
     }
 
     fn withdraw(&mut self, rt: &impl Abort, numbers: &mut Numbers) {
         let s = numbers.below(self.plain.submitters.saturating_add(1));
         let n = numbers.below(self.plain.accepted(s).saturating_add(2));
         let refusal = self.plain.withdraw(s, n);
-        assert_eq!(rt; self.desk.withdraw(s, n as u64).err(), refusal);
+        same(
+            rt,
+            &"withdrawn",
+            &self.desk.withdraw(s, n as u64).err(),
+            &refusal,
+        );
     }
 
     /// Refuses where the readers of the two desks differ.
@@ -217,28 +225,36 @@ impl Pair {
         } else {
             None
         };
-        assert_eq!(rt; self.desk.pending(s).ok(), pending);
-        assert_eq!(rt; self.desk.accepts(s), self.plain.refusal(s).is_none());
-        assert_eq!(rt; self.desk.waiting(), self.plain.waiting());
-        assert_eq!(rt; self.desk.is_drained(), self.plain.is_drained());
-        assert_eq!(rt; self.desk.is_closed(), self.plain.closed);
+        same(rt, &"pending", &self.desk.pending(s).ok(), &pending);
+        let found = (
+            self.desk.accepts(s),
+            self.desk.waiting(),
+            self.desk.is_drained(),
+            self.desk.is_closed(),
+        );
+        let wanted = (
+            self.plain.refusal(s).is_none(),
+            self.plain.waiting(),
+            self.plain.is_drained(),
+            self.plain.closed,
+        );
+        same(rt, &"accepts, waiting, drained, closed", &found, &wanted);
     }
 
-    fn step(&mut self, rt: &impl Abort, alloc: Global, numbers: &mut Numbers) -> Result<(), Fail> {
+    fn step(&mut self, rt: &impl Abort, alloc: Global, numbers: &mut Numbers) {
         if numbers.below(700) == 0 {
             self.desk.close();
             self.plain.closed = true;
         }
         match numbers.below(20) {
-            0..=6 => self.submit(rt, alloc, numbers)?,
-            7..=10 => self.take(rt)?,
-            11..=13 => self.finish(rt, alloc, numbers)?,
-            14..=15 => self.hand_back(rt, alloc, numbers)?,
-            16..=18 => self.collect(rt, numbers)?,
+            0..=6 => self.submit(rt, alloc, numbers),
+            7..=10 => self.take(rt),
+            11..=13 => self.finish(rt, alloc, numbers),
+            14..=15 => self.hand_back(rt, alloc, numbers),
+            16..=18 => self.collect(rt, numbers),
             _ => self.withdraw(rt, numbers),
         }
         self.look(rt, numbers);
-        Ok(())
     }
 }
 
@@ -250,9 +266,9 @@ fn walk(
     room: usize,
     first: u64,
     numbers: &mut Numbers,
-) -> Result<(), Fail> {
+) {
     let mut pair = Pair {
-        desk: Desk::new(alloc, submitters, room, first)?,
+        desk: desk_of(rt, alloc, submitters, room, first),
         plain: PlainDesk {
             submitters,
             room,
@@ -262,16 +278,15 @@ fn walk(
         },
         hand: Vec::new(alloc),
         rays: Rays::new(),
-        memo: Memo::new(alloc, 16)?,
+        memo: memo_of(rt, alloc),
     };
     for _ in 0..1000 {
-        pair.step(rt, alloc, numbers)?;
+        pair.step(rt, alloc, numbers);
     }
-    Ok(())
 }
 
 #[test]
-fn does_as_a_plain_desk_does(rt: HostRuntime) -> Result<(), Fail> {
+fn does_as_a_plain_desk_does(rt: HostRuntime) {
     let mut numbers = Numbers {
         state: 0x9e37_79b9_7f4a_7c15,
     };
@@ -284,7 +299,6 @@ fn does_as_a_plain_desk_does(rt: HostRuntime) -> Result<(), Fail> {
         } else {
             size as u64
         };
-        walk(&rt, rt.alloc(), submitters, room, first, &mut numbers)?;
+        walk(&rt, rt.alloc(), submitters, room, first, &mut numbers);
     }
-    Ok(())
 }
