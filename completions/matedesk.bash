@@ -16,7 +16,7 @@ _matedesk() {
     [[ $command != @(look|moves|perft) || " ${COMP_WORDS[*]:2:COMP_CWORD - 2} " != *' --lines '* ]] || command+=' --lines'
     case $command in
     solve) options='--bound --memo --limit --workers --from --progress --record --fen -h --help' ;;
-    verify) options='--bound --memo --from --progress --record --fen -h --help' ;;
+    verify) options='--bound --memo --header --from --progress --record --fen -h --help' ;;
     tree) options='--bound --moves --defences --set-play --tries --lines --from --progress --record --fen -h --help' ;;
     sheet) options='--solutions --figurines --title --bound --memo -h --help' ;;
     import) options='--keep --bound -h --help' ;;

@@ -43,6 +43,7 @@ _matedesk() {
             _arguments $help \
                 '--bound=[moves within which a record without dm asks for mate]:bound:(1 2 3 4 5 6 7 8 9 10 11 12 13 14 15)' \
                 '--memo=[positions that are remembered]:positions: ' \
+                '--header[print a first row of names]' \
                 '--from=[line of the first file to begin with]:line: ' \
                 '--progress[tell how far it is]' \
                 '--record[records themselves in place of files]' \

@@ -38,7 +38,7 @@ pub data Asked : Type 0 where
   solve : ℕ → ℕ → ℕ → List Text → Asked
   solve_on : ℕ → ℕ → ℕ → ℕ → List Text → Asked
   limited : ℕ → ℕ → ℕ → ℕ → List Text → Asked
-  verify : ℕ → ℕ → ℕ → List Text → Asked
+  verify : ℕ → ℕ → Bool → ℕ → List Text → Asked
   tree : ℕ → TreeForm → ℕ → List Text → Asked
   sheet : ℕ → ℕ → SheetForm → Text → List Text → Asked
   imports : Bool → Option ℕ → List Text → Asked
@@ -156,7 +156,8 @@ solve_in rows =
 unfoldable pub verify_in : List Row → Option Asked
 verify_in rows =
     option_and_then (λ bound. option_and_then
-    (λ memo. option_and_then (λ from. option_map (λ names. verify bound memo from names) (all_of (codes "FILE") rows))
+    (λ memo. option_and_then (λ from. option_map (λ names. verify bound memo (is_given (codes "header") rows) from names)
+    (all_of (codes "FILE") rows))
     (from_in rows)) (memo_size_in rows)) (bound_in rows)
 
 -- what is shown of a tree: how many moves, whether only the defences that parry, set play, tries, and how many lines

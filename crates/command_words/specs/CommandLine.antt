@@ -117,7 +117,7 @@ solve_app = with_lines_of_files
     (with_rule (with_rule (with_solving_options (new_app (codes "solve")) (codes "65536")) limit_rule) solve_workers_rule)
 
 unfoldable pub verify_app : App
-verify_app = with_lines_of_files (with_solving_options (new_app (codes "verify")) (codes "65536"))
+verify_app = with_lines_of_files (with_rule (with_solving_options (new_app (codes "verify")) (codes "65536")) (flag_rule (codes "header")))
 
 -- with the options of `tree`: the bound, and what is shown
 unfoldable pub with_tree_options : App → App

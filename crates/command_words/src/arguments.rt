@@ -5,11 +5,11 @@ ghost use Rattle.command_words.specs.Arguments.{argument_rule, row_rule};
 
 use crate::help::{
     ABOUT_BOARD, ABOUT_BOUND, ABOUT_COORDINATES, ABOUT_DEFENCES, ABOUT_DEPTH, ABOUT_DIVIDE,
-    ABOUT_FEN, ABOUT_FENS, ABOUT_FIGURINES, ABOUT_FILE, ABOUT_FLIP, ABOUT_FROM, ABOUT_IMPORT_BOUND,
-    ABOUT_KEEP, ABOUT_LIMIT, ABOUT_MEMO, ABOUT_MEMOS, ABOUT_MOST_LINES, ABOUT_MOVE,
-    ABOUT_POSITIONS, ABOUT_PROGRESS, ABOUT_RECORD, ABOUT_RECORD_FEN, ABOUT_SCRIPT, ABOUT_SET_PLAY,
-    ABOUT_SHOWN, ABOUT_SOLUTIONS, ABOUT_SOLVE_WORKERS, ABOUT_SVG, ABOUT_TITLE, ABOUT_TRIES,
-    ABOUT_WORD, ABOUT_WORKERS,
+    ABOUT_FEN, ABOUT_FENS, ABOUT_FIGURINES, ABOUT_FILE, ABOUT_FLIP, ABOUT_FROM, ABOUT_HEADER,
+    ABOUT_IMPORT_BOUND, ABOUT_KEEP, ABOUT_LIMIT, ABOUT_MEMO, ABOUT_MEMOS, ABOUT_MOST_LINES,
+    ABOUT_MOVE, ABOUT_POSITIONS, ABOUT_PROGRESS, ABOUT_RECORD, ABOUT_RECORD_FEN, ABOUT_SCRIPT,
+    ABOUT_SET_PLAY, ABOUT_SHOWN, ABOUT_SOLUTIONS, ABOUT_SOLVE_WORKERS, ABOUT_SVG, ABOUT_TITLE,
+    ABOUT_TRIES, ABOUT_WORD, ABOUT_WORKERS,
 };
 
 /// The arguments of the commands.
@@ -41,6 +41,7 @@ pub(crate) enum Argument {
     Tries,
     Solutions,
     Figurines,
+    Header,
     Keep,
     Board,
     Flip,
@@ -313,6 +314,12 @@ static FIGURINES: Row = Row {
     ..FLAG
 };
 
+static HEADER: Row = Row {
+    id: "header",
+    help: ABOUT_HEADER,
+    ..FLAG
+};
+
 static KEEP: Row = Row {
     id: "keep",
     help: ABOUT_KEEP,
@@ -387,6 +394,7 @@ pub(crate) fn row_of(argument: Argument) -> &'static Row
         Argument::Tries => &TRIES,
         Argument::Solutions => &SOLUTIONS,
         Argument::Figurines => &FIGURINES,
+        Argument::Header => &HEADER,
         Argument::Keep => &KEEP,
         Argument::Board => &BOARD,
         Argument::Flip => &FLIP,

@@ -87,6 +87,7 @@ static VERIFY: Subcommand = Subcommand {
     arguments: &[
         Argument::Bound,
         Argument::Memo,
+        Argument::Header,
         Argument::From,
         Argument::Progress,
         Argument::Record,

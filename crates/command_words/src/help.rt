@@ -103,9 +103,10 @@ pub const ABOUT_VERIFY: &str =
 /// What stands below the arguments of `verify`: what a row says, the verdicts, an example, and the statuses.
 pub const AFTER_VERIFY: &str =
     "Each line is a record, as `matedesk solve --help` says. Its claims are the moves that `bm`
-names, each in SAN, and the number of moves: that of `dm`, or else the first `#N` in `bm`,
-or else B. For each record there is a row of seven fields, parted by tabs, before the next
-line is waited for; a blank line is passed over:
+names, each in SAN, or where it names none the first of the line of play, `pv`, in SAN or by
+coordinates; and the number of moves: that of `dm`, or else the first `#N` in `bm`, or else
+B. For each record there is a row of seven fields, parted by tabs, before the next line is
+waited for; a blank line is passed over:
 
   LINE     its number in its file; with several files, NAME:LINE
   VERDICT  what it is: see below
@@ -113,14 +114,15 @@ line is waited for; a blank line is passed over:
            that it is B
   FOUND    `#N`, the number that the shortest mate takes, or `-`
   KEYS     each first move that mates soonest, as `solve` lists them, or `-`
-  CLAIMED  the moves that `bm` names, or `-`
+  CLAIMED  the moves that `bm` names, or `pv` and the move that begins it, or `-`
   ID       what `id` says, or `-`
 
 The verdict is the first of these that applies:
   CODE        the line is no record, or `bm` is at fault: it has a number that is not 1 to
               15 (BadBound, BoundTooLarge), names no legal move (NoSuchMove), or says
-              another number than `dm` (TwoLengths). Of no record the other fields are
-              `-`; else CLAIMED is what stands behind `bm`
+              another number than `dm` (TwoLengths); or `pv` begins with no legal move
+              (NoSuchMove). Of no record the other fields are `-`; else CLAIMED is what
+              stands behind `bm`, or `pv` and its first word
   unsolvable  there is no mate within the number asked
   short       there is one in fewer moves; that a claimed move would mate in the number
               asked is not told
@@ -129,8 +131,9 @@ The verdict is the first of these that applies:
   unclaimed   no move is claimed, so that nothing is held against the one key
   sound       else
 
-Moves to avoid (`am`) are left out at the first move, as `solve` does. At the end standard
-error says how many lines came to each verdict.
+Moves to avoid (`am`) are left out at the first move, as `solve` does. With --header a row
+with these seven names stands before all others. At the end standard error says how many
+lines came to each verdict, and of how many records the number asked has a question mark.
 
 Example:
   $ cat problems.epd
@@ -228,6 +231,9 @@ Status:
   2  no FILE, an unknown option, or a number outside its range
   3  no memory
   4  a file can't be read, or the output can't be written";
+
+/// The option `--header` in one line.
+pub const ABOUT_HEADER: &str = "Prints a first row with the names of the fields";
 
 /// The option `--solutions` in one line.
 pub const ABOUT_SOLUTIONS: &str = "Solves the problems, and has their solutions behind them";

@@ -116,7 +116,8 @@ pub enum Request<'m, 'a> {
     /// The same, where each record may take so many seconds.
     Limited(LimitedSolve<'m, 'a>),
     /// Hold the records of files, in order, against their own claims, over a memo of such a size; the bound is for records that say none.
-    Verify(Bound, MemoSize, Files<'m, 'a>),
+    /// Whether a first row names the fields.
+    Verify(Bound, MemoSize, bool, Files<'m, 'a>),
     /// Tell the trees of the records of files, in order, in such a form; the bound is for records that say none.
     Tree(Bound, TreeForm, Files<'m, 'a>),
     /// Make a page of the records of files, in order, in such a form and with such a title. Solutions are found over a memo of such a size;
@@ -381,7 +382,8 @@ fn verify_in<'m, 'a>(matches: &'m ArgMatches<'a>) -> Option<Request<'m, 'a>>
     let memo = memo_size_in(matches)?;
     let from = from_in(matches)?;
     let names = names_in(matches, "FILE")?;
-    Some(Request::Verify(bound, memo, Files { names, from }))
+    let header = is_given(matches, "header");
+    Some(Request::Verify(bound, memo, header, Files { names, from }))
 }
 
 /// How many of the attacker's moves are shown of a tree. `clap` has kept them to their range, and has none where none are given.

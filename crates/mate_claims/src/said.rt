@@ -82,7 +82,7 @@ fn said_of_play(
     })
 }
 
-/// The first word of the line of play, where `bm` claims none of these moves.
+/// The first word of the line of play, where the moves that `bm` claims, which are these, are none.
 fn play_claimed<'a>(moves: &[Move], line: &'a [u8]) -> &'a [u8]
     ensures { result.now ≡ play_claimed_in moves.now line.now }
 {

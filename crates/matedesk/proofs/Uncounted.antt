@@ -47,7 +47,7 @@ ends_unstarted holds refuses ends none unsolved (Some (perft fen depth)) threads
 ends_unstarted holds refuses ends none unsolved (Some (divide fen depth)) threads out = cc
 ends_unstarted holds refuses ends none unsolved (Some (lines view names)) threads out = cc
 ends_unstarted holds refuses ends none unsolved (Some (solve bound memo from names)) threads out = cc
-ends_unstarted holds refuses ends none unsolved (Some (verify bound memo from names)) threads out = cc
+ends_unstarted holds refuses ends none unsolved (Some (verify bound memo header from names)) threads out = cc
 ends_unstarted holds refuses ends none unsolved (Some (tree bound form from names)) threads out = cc
 ends_unstarted holds refuses ends none unsolved (Some (sheet bound memo form title names)) threads out = cc
 ends_unstarted holds refuses ends none unsolved (Some (imports keep bound names)) threads out = cc

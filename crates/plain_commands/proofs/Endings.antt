@@ -1,6 +1,6 @@
 -- How a command ends, and the program with it.
 use Rattle.std.proofs.Common.{◌≡◌, ◌≢◌, ◌⊎◌, ◌≤◌, Bool, true, false, ℕ, List, [], Option, None}
-use Rattle.std.proofs.Common.{Some, Result, Ok, Err, IfErr, IfOk, inl, inr, sym, subst, arith}
+use Rattle.std.proofs.Common.{Some, Result, Ok, Err, IfErr, IfOk, inl, inr, refl, sym, subst, arith}
 use Rattle.std.proofs.KnownBytes.{Appends-kept, Appends-nil}
 use Rattle.std.specs.Io.KnownBytes.{Keeps}
 use Rattle.clap.specs.Words.{Text}
@@ -10,42 +10,41 @@ use Rattle.command_words.specs.Asked.{Asked, look, board, svg, play, moves, perf
 use Rattle.command_words.specs.Asked.{limited, verify, tree, sheet, imports, serve, replay, explain, uci}
 use Rattle.file_answers.specs.Status.{status_of}
 use Rattle.file_solving.specs.Solved.{LimitedNone, SolvesNone}
-use Rattle.plain_commands.specs.Verified.{VerifiesNone}
 use Rattle.plain_commands.specs.Told.{TellsNone}
 use Rattle.plain_commands.specs.PositionLines.{command_of}
 use Rattle.plain_commands.proofs.Unopened.{imports_at_once, lines_at_once}
 use Rattle.plain_commands.specs.Command.{Ends, EndsByStatus, EndsInPart, Shown, Stops, StopsBy}
 
 -- Where memory gives out at once, nothing is written.
-stops_unread : SolvesNone → LimitedNone → VerifiesNone → TellsNone → (holds : Text → Option (List ℕ)) (refuses : Text → Type 0)
+stops_unread : SolvesNone → LimitedNone → TellsNone → (holds : Text → Option (List ℕ)) (refuses : Text → Type 0)
     (asks : Option Asked) (old new : Option (List ℕ)) → Keeps old new → StopsBy holds refuses asks stop.NoMemory old new
-stops_unread none late unverified untold holds refuses None old new kept = kept
-stops_unread none late unverified untold holds refuses (Some (look fen)) old new kept = kept
-stops_unread none late unverified untold holds refuses (Some (board fen side)) old new kept = kept
-stops_unread none late unverified untold holds refuses (Some (svg fen side)) old new kept = kept
-stops_unread none late unverified untold holds refuses (Some (play fen words)) old new kept = kept
-stops_unread none late unverified untold holds refuses (Some (moves form fen)) old new kept = kept
-stops_unread none late unverified untold holds refuses (Some (perft fen depth)) old new kept = kept
-stops_unread none late unverified untold holds refuses (Some (divide fen depth)) old new kept = kept
-stops_unread none late unverified untold holds refuses (Some (lines view names)) old new kept =
+stops_unread none late untold holds refuses None old new kept = kept
+stops_unread none late untold holds refuses (Some (look fen)) old new kept = kept
+stops_unread none late untold holds refuses (Some (board fen side)) old new kept = kept
+stops_unread none late untold holds refuses (Some (svg fen side)) old new kept = kept
+stops_unread none late untold holds refuses (Some (play fen words)) old new kept = kept
+stops_unread none late untold holds refuses (Some (moves form fen)) old new kept = kept
+stops_unread none late untold holds refuses (Some (perft fen depth)) old new kept = kept
+stops_unread none late untold holds refuses (Some (divide fen depth)) old new kept = kept
+stops_unread none late untold holds refuses (Some (lines view names)) old new kept =
     lines_at_once holds refuses (command_of view) names old new kept
-stops_unread none late unverified untold holds refuses (Some (solve bound memo from names)) old new kept =
+stops_unread none late untold holds refuses (Some (solve bound memo from names)) old new kept =
     record { gained = []; shows = none holds bound from names; appends = Appends-kept old old new [] (Appends-nil old) kept }
-stops_unread none late unverified untold holds refuses (Some (solve_on workers bound memo from names)) old new kept =
+stops_unread none late untold holds refuses (Some (solve_on workers bound memo from names)) old new kept =
     record { gained = []; shows = none holds bound from names; appends = Appends-kept old old new [] (Appends-nil old) kept }
-stops_unread none late unverified untold holds refuses (Some (limited seconds bound memo from names)) old new kept =
+stops_unread none late untold holds refuses (Some (limited seconds bound memo from names)) old new kept =
     record { gained = []; shows = late holds seconds bound from names; appends = Appends-kept old old new [] (Appends-nil old) kept }
-stops_unread none late unverified untold holds refuses (Some (verify bound memo from names)) old new kept =
-    record { gained = []; shows = unverified holds bound from names; appends = Appends-kept old old new [] (Appends-nil old) kept }
-stops_unread none late unverified untold holds refuses (Some (tree bound form from names)) old new kept =
+stops_unread none late untold holds refuses (Some (verify bound memo header from names)) old new kept =
+    record { gained = []; shows = inl refl; appends = Appends-kept old old new [] (Appends-nil old) kept }
+stops_unread none late untold holds refuses (Some (tree bound form from names)) old new kept =
     record { gained = []; shows = untold holds bound form from names; appends = Appends-kept old old new [] (Appends-nil old) kept }
-stops_unread none late unverified untold holds refuses (Some (sheet bound memo form title names)) old new kept = kept
-stops_unread none late unverified untold holds refuses (Some (imports keep bound names)) old new kept =
+stops_unread none late untold holds refuses (Some (sheet bound memo form title names)) old new kept = kept
+stops_unread none late untold holds refuses (Some (imports keep bound names)) old new kept =
     imports_at_once holds refuses keep names old new kept
-stops_unread none late unverified untold holds refuses (Some (serve workers bound memo names)) old new kept = kept
-stops_unread none late unverified untold holds refuses (Some (replay name)) old new kept = kept
-stops_unread none late unverified untold holds refuses (Some (explain words)) old new kept = kept
-stops_unread none late unverified untold holds refuses (Some uci) old new kept = tt
+stops_unread none late untold holds refuses (Some (serve workers bound memo names)) old new kept = kept
+stops_unread none late untold holds refuses (Some (replay name)) old new kept = kept
+stops_unread none late untold holds refuses (Some (explain words)) old new kept = kept
+stops_unread none late untold holds refuses (Some uci) old new kept = tt
 
 no_reader : (holds : Text → Option (List ℕ)) (refuses : Text → Type 0) (a : Asked) (old new : Option (List ℕ))
     → Stops holds refuses a stop.NoReader old new → Stops holds refuses a stop.Unwritable old new
@@ -60,7 +59,7 @@ no_reader holds refuses (lines view names) old new stops = stops
 no_reader holds refuses (solve bound memo from names) old new stops = stops
 no_reader holds refuses (solve_on workers bound memo from names) old new stops = stops
 no_reader holds refuses (limited seconds bound memo from names) old new stops = stops
-no_reader holds refuses (verify bound memo from names) old new stops = stops
+no_reader holds refuses (verify bound memo header from names) old new stops = stops
 no_reader holds refuses (tree bound form from names) old new stops = stops
 no_reader holds refuses (sheet bound memo form title names) old new stops = stops
 no_reader holds refuses (imports keep bound names) old new stops = stops
@@ -150,14 +149,14 @@ ends_in_part holds refuses a old new shown = record {
 }
 
 -- The words ask for nothing, or memory gave out before that was known.
-pub ends_unasked : SolvesNone → LimitedNone → VerifiesNone → TellsNone → (holds : Text → Option (List ℕ)) (refuses : Text → Type 0)
+pub ends_unasked : SolvesNone → LimitedNone → TellsNone → (holds : Text → Option (List ℕ)) (refuses : Text → Type 0)
     (asks : Option Asked) (status : ℕ) (old new : Option (List ℕ)) → status ≢ 1 → status ≤ 4
     → (status ≢ 3 → asks ≡ None) → ((status ≡ 2) ⊎ (status ≡ 3) → Keeps old new) → Ends holds refuses asks status old new
-ends_unasked none late unverified untold holds refuses asks status old new not_refused within unasked kept = record {
+ends_unasked none late untold holds refuses asks status old new not_refused within unasked kept = record {
   answered = λ is. rw (unasked (λ other. absurd (omega (arith, is, other)))) tt;
   refused = λ is. absurd (not_refused is);
   misused = λ is. (rw (unasked (λ other. absurd (omega (arith, is, other)))) tt, kept (inl is));
-  no_memory = λ is. stops_unread none late unverified untold holds refuses asks old new (kept (inr is));
+  no_memory = λ is. stops_unread none late untold holds refuses asks old new (kept (inr is));
   no_access = λ is. rw (unasked (λ other. absurd (omega (arith, is, other)))) tt;
   in_part = λ is. absurd (omega (arith, is, within));
   bounded = omega (arith, within);

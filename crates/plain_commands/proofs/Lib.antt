@@ -1,4 +1,5 @@
 mod Shown
 mod Unopened
 mod VerifiedFiles
+mod HeadedRows
 mod Endings

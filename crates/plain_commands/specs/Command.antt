@@ -19,7 +19,7 @@ use Rattle.plain_commands.specs.Played.{ShowsPlay}
 use Rattle.plain_commands.specs.PositionLines.{ShowsLines, StopsLines, command_of}
 use Rattle.plain_commands.specs.Replayed.{ReplaysFile, StopsReplaying}
 use Rattle.file_solving.specs.Solved.{Solves, SolvesLimited, StopsLimited, StopsSolving}
-use Rattle.plain_commands.specs.Verified.{StopsVerifying, Verifies}
+use Rattle.plain_commands.specs.Verified.{StopsHeaded, VerifiesHeaded}
 use Rattle.plain_commands.specs.Told.{StopsTelling, Tells}
 use Rattle.plain_commands.specs.Sheeted.{Sheets, StopsSheet}
 use Rattle.plain_commands.specs.Imported.{ImportsFiles, StopsImporting}
@@ -39,7 +39,7 @@ Shows holds (lines view names) refused text = ShowsLines holds (command_of view)
 Shows holds (solve bound memo from names) refused text = Solves holds bound from names refused text
 Shows holds (solve_on workers bound memo from names) refused text = Solves holds bound from names refused text
 Shows holds (limited seconds bound memo from names) refused text = SolvesLimited holds seconds bound from names refused 0 text
-Shows holds (verify bound memo from names) refused text = Verifies holds bound from names refused text
+Shows holds (verify bound memo header from names) refused text = VerifiesHeaded holds bound header from names refused text
 Shows holds (tree bound form from names) refused text = Tells holds bound form from names refused text
 Shows holds (sheet bound memo form title names) refused text = Sheets holds bound form title names refused text
 Shows holds (imports keep bound names) refused text = ImportsFiles holds keep names refused text
@@ -72,7 +72,7 @@ Stops holds refuses (lines view names) stop old new = StopsLines holds refuses (
 Stops holds refuses (solve bound memo from names) stop old new = StopsSolving holds refuses bound from names stop old new
 Stops holds refuses (solve_on workers bound memo from names) stop old new = StopsSolving holds refuses bound from names stop old new
 Stops holds refuses (limited seconds bound memo from names) stop old new = StopsLimited holds refuses seconds bound from names stop old new
-Stops holds refuses (verify bound memo from names) stop old new = StopsVerifying holds refuses bound from names stop old new
+Stops holds refuses (verify bound memo header from names) stop old new = StopsHeaded holds refuses bound header from names stop old new
 Stops holds refuses (tree bound form from names) stop old new = StopsTelling holds refuses bound form from names stop old new
 Stops holds refuses (sheet bound memo form title names) stop old new = StopsSheet holds refuses bound form title names stop old new
 Stops holds refuses (imports keep bound names) stop old new = StopsImporting holds refuses keep names stop old new

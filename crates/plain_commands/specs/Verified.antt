@@ -1,9 +1,11 @@
 -- What `verify` shows.
-use Rattle.std.specs.Prelude.{◌++◌, ℕ, Bool, List, [], Option, ⊤, codes, length, nat_lt, if◌then◌else◌}
+use Rattle.std.specs.Prelude.{◌≡◌, ◌⊎◌, ◌++◌, ℕ, Bool, List, [], Option, ⊤, codes, length, nat_lt, if◌then◌else◌}
 use Rattle.mate_claims.specs.ClaimReplies.{IsClaimReply}
 use Rattle.byte_streams.specs.declared.stops.Stop.{Stop}
-use Rattle.file_answers.specs.FileAnswers.{Answers, AnswersFirst, StopsAnswering}
+use Rattle.byte_streams.specs.declared.stops.Stop.TheVariants.{NoMemory, Unreadable, Unwritable, NoReader}
+use Rattle.file_answers.specs.FileAnswers.{Answers, AnswersFirst, FirstRefused, StopsAnswering}
 use Rattle.file_answers.specs.LinesFrom.{IsReplyOn, IsReplyToFirstOn}
+use Rattle.file_answers.specs.Writing.{Gains, GainsPart}
 
 -- A row names its file where there are several.
 abbrev pub has_several : List (List ℕ) → Bool
@@ -24,7 +26,7 @@ first_claim_replies several bound from name input text = IsReplyToFirstOn (IsCla
 abbrev pub Verifies : (List ℕ → Option (List ℕ)) → ℕ → ℕ → List (List ℕ) → Bool → List ℕ → Type 0
 Verifies holds bound from names unsound gained = Answers holds (claim_replies (has_several names) bound) from names unsound gained
 
--- What the output gained where `verify` stops.
+-- What the output gained where the rows stop.
 abbrev pub StopsVerifying : (List ℕ → Option (List ℕ)) → (List ℕ → Type 0) → ℕ → ℕ → List (List ℕ) → Stop → (old new : Option (List ℕ)) → Type 0
 StopsVerifying holds refuses bound from names stop old new = StopsAnswering holds refuses
     (claim_replies (has_several names) bound) (first_claim_replies (has_several names) bound) from names stop old new
@@ -33,3 +35,31 @@ StopsVerifying holds refuses bound from names stop old new = StopsAnswering hold
 abbrev pub VerifiesNone : Type 0
 VerifiesNone = (holds : List ℕ → Option (List ℕ)) (bound from : ℕ) (names : List (List ℕ)) → AnswersFirst holds
     (claim_replies (has_several names) bound) (first_claim_replies (has_several names) bound) from names (λ _. ⊤) []
+
+-- the first row, where it is asked for: the names of the fields
+unfoldable pub header_text : Bool → List ℕ
+header_text header = if header then codes "LINE\tVERDICT\tASKED\tFOUND\tKEYS\tCLAIMED\tID\n" else []
+
+-- Behind it stand rows such as these.
+abbrev pub Headed : Bool → (List ℕ → Type 0) → List ℕ → Type 0
+Headed header Rows text = (rows : List ℕ) × (text ≡ header_text header ++ rows) × Rows rows
+
+-- What `verify` shows, and whether a line isn't sound.
+abbrev pub VerifiesHeaded : (List ℕ → Option (List ℕ)) → ℕ → Bool → ℕ → List (List ℕ) → Bool → List ℕ → Type 0
+VerifiesHeaded holds bound header from names unsound gained = Headed header (Verifies holds bound from names unsound) gained
+
+-- Rows of some of the first lines, up to names such as `Stops` says.
+abbrev pub VerifiesFirst : (List ℕ → Option (List ℕ)) → ℕ → ℕ → List (List ℕ) → (List (List ℕ) → Type 0) → List ℕ → Type 0
+VerifiesFirst holds bound from names Stops gained =
+    AnswersFirst holds (claim_replies (has_several names) bound) (first_claim_replies (has_several names) bound) from names Stops gained
+
+-- What the output gained where `verify` stops: as where the rows stop, behind the first row; where memory gives out perhaps nothing.
+abbrev pub StopsHeaded : (List ℕ → Option (List ℕ)) → (List ℕ → Type 0) → ℕ → Bool → ℕ → List (List ℕ) → Stop → (old new : Option (List ℕ)) → Type 0
+StopsHeaded holds refuses bound header from names NoMemory old new =
+    Gains (λ text. (text ≡ []) ⊎ Headed header (VerifiesFirst holds bound from names (λ _. ⊤)) text) old new
+StopsHeaded holds refuses bound header from names Unreadable old new =
+    Gains (Headed header (VerifiesFirst holds bound from names (FirstRefused refuses))) old new
+StopsHeaded holds refuses bound header from names Unwritable old new =
+    GainsPart (Headed header (VerifiesFirst holds bound from names (λ _. ⊤))) old new
+StopsHeaded holds refuses bound header from names NoReader old new =
+    GainsPart (Headed header (VerifiesFirst holds bound from names (λ _. ⊤))) old new

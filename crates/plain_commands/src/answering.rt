@@ -15,7 +15,7 @@ use crate::position_answers::show_lines;
 use crate::replaying::replay;
 use crate::sheeting::{SheetAsked, sheet};
 use crate::telling::{tells_none, tree};
-use crate::verifying::{verifies_none, verify};
+use crate::verifying::verify;
 use byte_streams::{Stop, stop_of_output};
 use clap::Error;
 use clap::error::ErrorKind;
@@ -60,8 +60,8 @@ fn answer<S: Source, O: Write, E: Write>(
         Request::Solve(bound, memo, files) => {
             solve(alloc, *bound, *memo, files, source, out, err)
         }
-        Request::Verify(bound, memo, files) => {
-            verify(alloc, *bound, *memo, files, source, out, err)
+        Request::Verify(bound, memo, header, files) => {
+            verify(alloc, *bound, *memo, *header, files, source, out, err)
         }
         Request::Tree(bound, form, files) => tree(alloc, *bound, *form, files, source, out, err),
         Request::Sheet(bound, size, form, title, names) => {
@@ -168,10 +168,9 @@ pub fn plain_command<S: Source, O: Write, E: Write>(
     ensures plain { asks_threads (asked (map string_bytes words.now)) ≡ true → IfSome result (λ status. status ≡ 3) }
     ensures kept { IfNone result ((out.new ≡ out.old) × (err.new ≡ err.old)) }
 {
-    // What a `solve`, a `verify` or a `tree` has written for which memory is refused here.
+    // What a `solve` or a `tree` has written for which memory is refused here.
     solves_none();
     limited_none();
-    verifies_none();
     tells_none();
     let Ok(texts) = escaped(alloc, words) else {
         return Some(no_memory(err));

@@ -1,10 +1,12 @@
 //! The command `verify`.
 
-ghost use Rattle.std.specs.Prelude.{◌≡◌, ◌++◌, IfErr, IfOk, map};
+ghost use Rattle.std.specs.Prelude.{◌≡◌, ◌++◌, IfErr, IfOk, OnErr, OnOk, map, true};
+ghost use Rattle.std.specs.Io.KnownBytes.{Appends};
+ghost use Rattle.byte_streams.specs.Stops.{AppendsPart, is_of_output};
 ghost use Rattle.file_answers.specs.Writing.{Gains};
-ghost use Rattle.plain_commands.specs.Verified.{StopsVerifying, Verifies, VerifiesNone, has_several, prefix_of};
+ghost use Rattle.plain_commands.specs.Verified.{StopsHeaded, StopsVerifying, Verifies, VerifiesHeaded, has_several, header_text, prefix_of};
 
-use byte_streams::{Input, Stop};
+use byte_streams::{Input, Stop, put};
 use chess_moves::Rays;
 use chess_problems::Bound;
 use command_words::{Files, MemoSize};
@@ -75,10 +77,8 @@ impl<'a> FileAnswers for ClaimAnswers<'a> {
     fn begins_with_nothing(&self) {}
 }
 
-/// Holds each record of each file, in order, but those of the first file that are passed over, against its claims, over one memo of such a
-/// size; gives whether a line isn't sound. At the end `err` is told how many lines came to which verdict; a file that can't be read is named
-/// there.
-pub fn verify<S: Source, O: Write, E: Write>(
+/// Writes the row of each record of each file, in order, but of those of the first file that are passed over.
+fn verify_rows<S: Source, O: Write, E: Write>(
     alloc: Global,
     bound: Bound,
     size: MemoSize,
@@ -115,8 +115,38 @@ pub fn verify<S: Source, O: Write, E: Write>(
     }
 }
 
-/// What a `verify` that ends before it has opened a file has written. It does nothing: its contract is the law.
-#[tactic(auto, using(crate::proofs::Unopened::verifies_none))]
-pub fn verifies_none()
-    ensures { VerifiesNone }
-{}
+/// Writes the names of a row's fields, where these are asked for.
+#[tactic(auto, unfolding(crate::specs::Verified::header_text))]
+fn put_header<O: Write>(out: &mut O, header: bool) -> Result<(), Stop>
+    ensures ok { OnOk result (Appends (O.contents out.old) (O.contents out.new) (header_text header)) }
+    ensures err { IfErr result (λ stop. is_of_output stop ≡ true) }
+    ensures part { OnErr result (AppendsPart (O.contents out.old) (O.contents out.new) (header_text header)) }
+{
+    if header {
+        put(out, b"LINE\tVERDICT\tASKED\tFOUND\tKEYS\tCLAIMED\tID\n")
+    } else {
+        Ok(())
+    }
+}
+
+/// Holds each record of each file, in order, but those of the first file that are passed over, against its claims, over one memo of such a
+/// size; gives whether a line isn't sound. A first row has the names of the fields, where these are asked for. At the end `err` is told how
+/// many lines came to which verdict; a file that can't be read is named there.
+pub fn verify<S: Source, O: Write, E: Write>(
+    alloc: Global,
+    bound: Bound,
+    size: MemoSize,
+    header: bool,
+    files: &Files,
+    source: &S,
+    out: &mut O,
+    err: &mut E,
+) -> Result<bool, Stop>
+    ensures ok { IfOk result (λ refused. Gains (VerifiesHeaded (S.holds source.now) bound header files.now.from
+        (map (λ s. s.now) files.now.names.now) refused) (O.contents out.old) (O.contents out.new)) }
+    ensures err { IfErr result (λ stop. StopsHeaded (S.holds source.now) (S.refuses source.now) bound header files.now.from
+        (map (λ s. s.now) files.now.names.now) stop (O.contents out.old) (O.contents out.new)) }
+{
+    put_header(out, header)?;
+    verify_rows(alloc, bound, size, files, source, out, err)
+}

@@ -1,30 +1,20 @@
-use Rattle.std.proofs.Common.{refl}
-use Rattle.std.proofs.KnownBytes.{Keeps-refl}
+use Rattle.std.proofs.Common.{map}
 use Rattle.std.proofs.lemmas.Result.{err_from_is_err_and}
-use Rattle.plain_commands.proofs.Unopened.{verifies_at_once}
-use Rattle.plain_commands.proofs.VerifiedFiles.{stops_between, stops_uncounted, verifies_each}
+use Rattle.plain_commands.proofs.HeadedRows.{err_headed, ok_headed, stops_before}
 use Rattle.plain_commands.proofs.verifying.verify.Goals as goal
 
-pub returns-in_err-memo-clause-err : goal.returns-in_err-memo-clause-err
-returns-in_err-memo-clause-err g c =
+pub returns-in_err-put_header-clause-err : goal.returns-in_err-put_header-clause-err
+returns-in_err-put_header-clause-err g c =
     let (other, is, same) = err_from_is_err_and c.from_residual.result c.from_residual.ensures.1 in
-    rw (is, same, c.in_err-memo.ensures.err) (verifies_at_once (g.S.Source.holds c.args.source.now)
-    (g.S.Source.refuses c.args.source.now) c.args.bound _ _ _ _ (Keeps-refl (g.O.Write.contents c.args.out.now)))
+    rw (is, same) (stops_before (g.S.Source.holds c.args.source.now) (g.S.Source.refuses c.args.source.now) c.args.bound c.args.header
+    c.args.files.now.from (map (λ s. s.now) c.args.files.now.names.now) _ _ _ c.in_err-put_header.ensures.err c.in_err-put_header.ensures.part)
 
-pub returns-in_err-counts-in-Ok-clause-err : goal.returns-in_err-counts-in-Ok-clause-err
-returns-in_err-counts-in-Ok-clause-err g c =
-    let (other, is, same) = err_from_is_err_and c.from_residual-in_err-counts-in-Ok.result c.from_residual-in_err-counts-in-Ok.ensures.1 in
-    rw (is, same)
-    (stops_uncounted c.holds_reads.ensures.each (g.S.Source.holds c.args.source.now) (g.S.Source.refuses c.args.source.now)
-    c.args.bound c.args.files.now.from c.args.files.now.names.now _ c.in-Ok.unsound (g.O.Write.contents c.args.out.now)
-    (g.O.Write.contents c.answer_files.new.out) refl c.in-Ok.ensures.ok)
-
-pub returns-in-Ok-clause-ok : goal.returns-in-Ok-clause-ok
-returns-in-Ok-clause-ok g c = verifies_each (g.S.Source.holds c.args.source.now) c.args.bound c.args.files.now.from
-    c.args.files.now.names.now _ c.in-Ok.unsound (g.O.Write.contents c.args.out.now)
-    (g.O.Write.contents c.answer_files.new.out) refl c.in-Ok.ensures.ok
+pub returns-clause-ok : goal.returns-clause-ok
+returns-clause-ok g c = ok_headed (g.S.Source.holds c.args.source.now) c.args.bound c.args.header c.args.files.now.from
+    (map (λ s. s.now) c.args.files.now.names.now) c.verify_rows.result (g.O.Write.contents c.args.out.now)
+    (g.O.Write.contents c.put_header.new.out) (g.O.Write.contents c.verify_rows.new.out) c.in_ok-put_header.ensures.ok c.verify_rows.ensures.ok
 
 pub returns-clause-err : goal.returns-clause-err
-returns-clause-err g c = stops_between (g.S.Source.holds c.args.source.now) (g.S.Source.refuses c.args.source.now) c.args.bound
-    c.args.files.now.from c.args.files.now.names.now _ c.in-Err.stop (g.O.Write.contents c.args.out.now)
-    (g.O.Write.contents c.answer_files.new.out) refl c.in-Err.ensures.err
+returns-clause-err g c = err_headed (g.S.Source.holds c.args.source.now) (g.S.Source.refuses c.args.source.now) c.args.bound c.args.header
+    c.args.files.now.from (map (λ s. s.now) c.args.files.now.names.now) c.verify_rows.result (g.O.Write.contents c.args.out.now)
+    (g.O.Write.contents c.put_header.new.out) (g.O.Write.contents c.verify_rows.new.out) c.in_ok-put_header.ensures.ok c.verify_rows.ensures.err
