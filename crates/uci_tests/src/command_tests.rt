@@ -1,34 +1,51 @@
 //! What commands say.
 
+use crate::test_rows::same;
 use chess_board::Fen;
 use chess_moves::Rays;
 use chess_problems::Bound;
 use std::alloc::Global;
-use std::test::Fail;
+use std::process::Abort;
 use uci_commands::{
     Board, PositionFault, Setting, Spin, only_these, place, read_go, read_setting, searched_moves,
     start_fen, within, words_of,
 };
 
-/// Has a position said in place of the first, and gives it, or the fault, by their texts.
-fn is_said(alloc: Global, line: &str, wanted: &str) -> Result<bool, Fail> {
-    let rays = Rays::new();
-    let mut fen = start_fen().ok_or("start")?;
-    let words = words_of(alloc, line.as_bytes())?.ok_or("words")?;
-    let said = match place(alloc, &rays, words.as_slice(), &mut fen) {
-        Ok(()) => fen.text().as_str() == wanted,
-        Err(PositionFault::Fen(fault)) => fault.code() == wanted,
-        Err(PositionFault::NoPosition) => "NoPosition" == wanted,
-        Err(PositionFault::NoSuchMove(number)) => number == 2 && "NoSuchMove" == wanted,
-        Err(PositionFault::TooLong | PositionFault::NoMemory) => false,
+fn first_fen(rt: &impl Abort) -> Fen {
+    start_fen().expect(rt, "start")
+}
+
+fn words(rt: &impl Abort, alloc: Global, line: &'static str) -> Vec<&'static str> {
+    let words = words_of(alloc, line.as_bytes()).expect(rt, line);
+    words.expect(rt, line)
+}
+
+/// The name of a fault. A move that is none is known where it is the second.
+fn name_of(fault: PositionFault) -> &'static str {
+    match fault {
+        PositionFault::Fen(fault) => fault.code(),
+        PositionFault::NoPosition => "NoPosition",
+        PositionFault::NoSuchMove(2) => "NoSuchMove",
+        _ => "another fault",
+    }
+}
+
+/// Has a position said in place of the first, and refuses where that, or the fault, has another text.
+fn check_place(rt: &impl Abort, alloc: Global, line: &'static str, wanted: &str) {
+    let mut fen = first_fen(rt);
+    let words = words(rt, alloc, line);
+    let placed = place(alloc, &Rays::new(), words.as_slice(), &mut fen);
+    let text = fen.text();
+    let found = match placed {
+        Ok(()) => text.as_str(),
+        Err(fault) => name_of(fault),
     };
-    Ok(said)
+    same(rt, &line, &found, &wanted);
 }
 
 #[test]
-fn reads_positions(rt: HostRuntime) -> Result<(), Fail> {
-    let alloc = rt.alloc();
-    let table: [(&str, &str); 9] = [
+fn reads_positions(rt: HostRuntime) {
+    static TABLE: [(&str, &str); 9] = [
         (
             "startpos moves e2e4 c7c5",
             "rnbqkbnr/pp1ppppp/8/2p5/4P3/8/PPPP1PPP/RNBQKBNR w KQkq c6 0 2",
@@ -51,61 +68,60 @@ fn reads_positions(rt: HostRuntime) -> Result<(), Fail> {
         ("fen 8/8/8/8/8/8/8/8 w - - 0 1", "BadKings"),
         ("startpos moves e2e4 e2e4", "NoSuchMove"),
     ];
-    for (line, wanted) in table {
-        if !is_said(alloc, line, wanted)? {
-            return Err(Fail::from(line));
-        }
+    for (line, wanted) in &TABLE {
+        check_place(&rt, rt.alloc(), line, wanted);
     }
-    Ok(())
 }
 
 #[test]
-fn searches_none_behind_a_refused_one(rt: HostRuntime) -> Result<(), Fail> {
+fn searches_none_behind_a_refused_one(rt: HostRuntime) {
     let alloc = rt.alloc();
     let rays = Rays::new();
-    let start = start_fen().ok_or("start")?;
+    let start = first_fen(&rt);
     let mut board = Board {
         taken: start,
         refused: None,
     };
-    let words = words_of(alloc, b"startpos moves e2e4 e2e4")?.ok_or("words")?;
-    let is_refused = board.take(alloc, &rays, words.as_slice()).is_err()
-        && board.searched().err() == Some(PositionFault::NoSuchMove(2))
-        && board.taken == start;
-    let words = words_of(alloc, b"startpos moves e2e4")?.ok_or("words")?;
-    let is_taken = board.take(alloc, &rays, words.as_slice()).is_ok()
-        && board.searched().is_ok_and(|fen| *fen == board.taken)
-        && board.taken != start;
-    if is_refused && is_taken {
-        Ok(())
-    } else {
-        Err(Fail::from("board"))
-    }
+    let said = words(&rt, alloc, "startpos moves e2e4 e2e4");
+    let is_refused = board.take(alloc, &rays, said.as_slice()).is_err();
+    same(&rt, &"refused", &(is_refused, board.taken), &(true, start));
+    let fault = board.searched().err();
+    same(&rt, &"fault", &fault, &Some(PositionFault::NoSuchMove(2)));
+    let said = words(&rt, alloc, "startpos moves e2e4");
+    let is_taken = board.take(alloc, &rays, said.as_slice()).is_ok();
+    let is_searched = board.searched().is_ok_and(|fen| *fen == board.taken);
+    let found = (is_taken, is_searched, board.taken != start);
+    same(&rt, &"taken", &found, &(true, true, true));
 }
 
 #[test]
-fn reads_how_to_search(rt: HostRuntime) -> Result<(), Fail> {
-    let line = b"wtime 300 btime 99999999999 winc x mate 3 infinite movetime";
-    let words = words_of(rt.alloc(), line)?.ok_or("words")?;
-    let go = read_go(words.as_slice());
-    let is_read = go.white_time == Some(300)
-        && go.black_time == Some(1_000_000_000)
-        && go.white_increment.is_none()
-        && go.move_time.is_none()
-        && go.mate == Some(3)
-        && go.infinite
-        && !go.ponder;
-    if is_read {
-        Ok(())
-    } else {
-        Err(Fail::from("go"))
-    }
+fn reads_how_to_search(rt: HostRuntime) {
+    let line = "wtime 300 btime 99999999999 winc x mate 3 infinite movetime";
+    let go = read_go(words(&rt, rt.alloc(), line).as_slice());
+    let times = (
+        go.white_time,
+        go.black_time,
+        go.white_increment,
+        go.move_time,
+    );
+    same(
+        &rt,
+        &"times",
+        &times,
+        &(Some(300), Some(1_000_000_000), None, None),
+    );
+    same(&rt, &"mate", &go.mate, &Some(3));
+    same(
+        &rt,
+        &"infinite, ponder",
+        &(go.infinite, go.ponder),
+        &(true, false),
+    );
 }
 
 #[test]
-fn reads_options(rt: HostRuntime) -> Result<(), Fail> {
-    let alloc = rt.alloc();
-    let table: [(&str, Option<Setting>); 16] = [
+fn reads_options(rt: HostRuntime) {
+    static TABLE: [(&str, Option<Setting>); 16] = [
         ("name Hash value 7", Some(Setting::Value(Spin::Hash, 7))),
         ("name Bound value 4", Some(Setting::Value(Spin::Bound, 4))),
         (
@@ -138,30 +154,34 @@ fn reads_options(rt: HostRuntime) -> Result<(), Fail> {
         ("name Hashes value 3", None),
         ("name Ponder value true", None),
     ];
-    for (line, wanted) in table {
-        let words = words_of(alloc, line.as_bytes())?.ok_or("words")?;
-        if read_setting(words.as_slice()) != wanted {
-            return Err(Fail::from(line));
-        }
+    for (line, wanted) in &TABLE {
+        let said = words(&rt, rt.alloc(), line);
+        same(&rt, line, &read_setting(said.as_slice()), wanted);
     }
-    Ok(())
 }
 
 #[test]
-fn keeps_a_search_to_moves(rt: HostRuntime) -> Result<(), Fail> {
+fn keeps_a_search_to_moves(rt: HostRuntime) {
     let rays = Rays::new();
-    let fen: Fen = start_fen().ok_or("start")?;
-    let bound = Bound::new(2).ok_or("bound")?;
-    let longer = Bound::new(3).ok_or("bound")?;
-    let words = words_of(rt.alloc(), b"mate 2 searchmoves e2e4 e2e5 a2a3")?.ok_or("words")?;
-    let moves = searched_moves(&rays, &fen.position, words.as_slice());
-    let problem = only_these(&rays, &fen.position, bound, moves.as_slice()).ok_or("problem")?;
+    let position = first_fen(&rt).position;
+    let bound = Bound::new(2).expect(&rt, "bound");
+    let longer = Bound::new(3).expect(&rt, "bound");
+    let said = words(&rt, rt.alloc(), "mate 2 searchmoves e2e4 e2e5 a2a3");
+    let moves = searched_moves(&rays, &position, said.as_slice());
+    same(&rt, &"moves", &moves.len(), &2);
+    let problem = only_these(&rays, &position, bound, moves.as_slice()).expect(&rt, "problem");
     // The first position has 20 legal moves.
-    let is_kept = moves.len() == 2 && problem.avoid.len() == 18 && problem.bound == bound;
+    same(
+        &rt,
+        &"problem",
+        &(problem.avoid.len(), problem.bound.get()),
+        &(18, 2),
+    );
     let again = within(&problem, longer);
-    if is_kept && again.avoid.len() == 18 && again.bound == longer {
-        Ok(())
-    } else {
-        Err(Fail::from("searchmoves"))
-    }
+    same(
+        &rt,
+        &"longer",
+        &(again.avoid.len(), again.bound.get()),
+        &(18, 3),
+    );
 }

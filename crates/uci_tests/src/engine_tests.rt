@@ -1,9 +1,12 @@
 //! An engine talked to.
 
+use crate::test_rows::same;
 use byte_streams::{Input, InputFault};
+use std::alloc::Global;
+use std::process::Abort;
 use std::sync::Wait;
 use std::sync::atomic::AtomicU64;
-use std::test::Fail;
+use std::thread::Threads;
 use std::time::Duration;
 use uci_engine::run_engine;
 
@@ -42,100 +45,90 @@ fn count(text: &[u8], start: &[u8]) -> usize {
     count
 }
 
+/// What an engine writes that is told so, and then ends well.
+fn written<R: Abort + Threads + Wait + Sync, I: Input + Drop + Send>(
+    rt: &R,
+    alloc: Global,
+    input: I,
+) -> Vec<u8> {
+    let mut out = Vec::new(alloc);
+    let ended = run_engine(rt, alloc, "1", input, &mut out);
+    same(rt, &"ended", &ended.is_ok(), &true);
+    out
+}
+
+/// Refuses where not so many lines begin so.
+fn check_lines(rt: &impl Abort, text: &[u8], counts: &[(&str, usize)]) {
+    for (start, wanted) in counts {
+        same(rt, start, &count(text, start.as_bytes()), wanted);
+    }
+}
+
 #[test]
-fn searches_no_position_before_a_refused_one(rt: HostRuntime) -> Result<(), Fail> {
+fn searches_no_position_before_a_refused_one(rt: HostRuntime) {
     let input: &[u8] = b"position fen 7k/8/5K2/8/8/8/8/R7 w - - 0 1\n\
         position fen 7k/8/5K2/8/8/8/8/R8 w - - 0 1\ngo mate 2\ngo infinite\n\
         position startpos moves e2e4 e2e5\ngo\nposition fen \xff\ngo\nposition startpos\ngo mate 1\n";
-    let mut out = Vec::new(rt.alloc());
-    let ended = run_engine(&rt, rt.alloc(), "1", input, &mut out);
-    let text = out.as_slice();
-    // Each is told once where it is said, and with each search behind it.
-    let is_told = count(text, b"info string BadPlacement") == 3
-        && count(text, b"info string move 2: NoSuchMove") == 2
-        && count(text, b"info string FieldCount") == 2;
-    if ended.is_ok()
-        && is_told
-        && count(text, b"bestmove 0000") == 4
-        && count(text, b"bestmove ") == 5
-    {
-        Ok(())
-    } else {
-        Err(Fail::from("refused"))
-    }
+    // Each fault is told once where it is said, and with each search behind it.
+    static COUNTS: [(&str, usize); 5] = [
+        ("info string BadPlacement", 3),
+        ("info string move 2: NoSuchMove", 2),
+        ("info string FieldCount", 2),
+        ("bestmove 0000", 4),
+        ("bestmove ", 5),
+    ];
+    check_lines(&rt, written(&rt, rt.alloc(), input).as_slice(), &COUNTS);
 }
 
 #[test]
-fn refuses_a_position_on_too_long_a_line(rt: HostRuntime) -> Result<(), Fail> {
-    let mut input = Vec::new(rt.alloc());
-    input.extend_from_slice(b"position startpos moves")?;
+fn refuses_a_position_on_too_long_a_line(rt: HostRuntime) {
+    let mut input = String::new(rt.alloc());
+    input
+        .push_str("position startpos moves")
+        .expect(&rt, "input");
     // Twenty bytes each, so that the line is cut between two of them.
     for _ in 0..4000 {
-        input.extend_from_slice(b" g1f3 g8f6 f3g1 f6g8")?;
+        input.push_str(" g1f3 g8f6 f3g1 f6g8").expect(&rt, "input");
     }
-    input.extend_from_slice(b"\ngo mate 1\nposition startpos\ngo mate 1\n")?;
-    let mut out = Vec::new(rt.alloc());
-    let ended = run_engine(&rt, rt.alloc(), "1", input.as_slice(), &mut out);
-    let text = out.as_slice();
-    if ended.is_ok()
-        && count(text, b"info string the line has more bytes than 65536") == 2
-        && count(text, b"bestmove 0000") == 1
-        && count(text, b"bestmove ") == 2
-    {
-        Ok(())
-    } else {
-        Err(Fail::from("too long"))
-    }
+    let rest = "\ngo mate 1\nposition startpos\ngo mate 1\n";
+    input.push_str(rest).expect(&rt, "input");
+    static COUNTS: [(&str, usize); 3] = [
+        ("info string the line has more bytes than 65536", 2),
+        ("bestmove 0000", 1),
+        ("bestmove ", 2),
+    ];
+    check_lines(
+        &rt,
+        written(&rt, rt.alloc(), input.as_bytes()).as_slice(),
+        &COUNTS,
+    );
 }
 
 #[test]
-fn counts_a_position_where_it_mates_at_once(rt: HostRuntime) -> Result<(), Fail> {
+fn counts_a_position_where_it_mates_at_once(rt: HostRuntime) {
     let input: &[u8] = b"position fen 6k1/5ppp/8/8/8/8/8/R6K w - - 0 1\ngo mate 1\n";
-    let mut out = Vec::new(rt.alloc());
-    let ended = run_engine(&rt, rt.alloc(), "1", input, &mut out);
     // Where the end of the input stops it first, there is no such line.
-    if ended.is_ok()
-        && count(
-            out.as_slice(),
-            b"info depth 1 multipv 1 score mate 1 nodes 0",
-        ) == 0
-    {
-        Ok(())
-    } else {
-        Err(Fail::from("nodes"))
-    }
+    static COUNTS: [(&str, usize); 1] = [("info depth 1 multipv 1 score mate 1 nodes 0", 0)];
+    check_lines(&rt, written(&rt, rt.alloc(), input).as_slice(), &COUNTS);
 }
 
 #[test]
-fn tells_what_a_long_search_costs(rt: HostRuntime) -> Result<(), Fail> {
+fn tells_what_a_long_search_costs(rt: HostRuntime) {
     let input = Late {
         rt: &rt,
         word: AtomicU64::new(0),
         text: b"position startpos\ngo infinite\n",
     };
-    let mut out = Vec::new(rt.alloc());
-    let ended = run_engine(&rt, rt.alloc(), "1", input, &mut out);
-    let text = out.as_slice();
-    if ended.is_ok() && count(text, b"info nodes ") > 0 && count(text, b"bestmove ") == 1 {
-        Ok(())
-    } else {
-        Err(Fail::from("costs"))
-    }
+    let text = written(&rt, rt.alloc(), input);
+    let is_told = count(text.as_slice(), b"info nodes ") > 0;
+    same(&rt, &"info nodes", &is_told, &true);
+    check_lines(&rt, text.as_slice(), &[("bestmove ", 1)]);
 }
 
 #[test]
-fn answers_each_search_once(rt: HostRuntime) -> Result<(), Fail> {
+fn answers_each_search_once(rt: HostRuntime) {
     let input: &[u8] =
         b"uci\nposition fen 7k/8/5K2/8/8/8/8/R7 w - - 0 1\ngo mate 2\ngo infinite\nisready\nquit\nisready\n";
-    let mut out = Vec::new(rt.alloc());
-    let ended = run_engine(&rt, rt.alloc(), "1", input, &mut out);
-    let text = out.as_slice();
-    let is_right = count(text, b"bestmove ") == 2
-        && count(text, b"readyok") == 1
-        && count(text, b"uciok") == 1;
-    if ended.is_ok() && is_right {
-        Ok(())
-    } else {
-        Err(Fail::from("lines"))
-    }
+    static COUNTS: [(&str, usize); 3] = [("bestmove ", 2), ("readyok", 1), ("uciok", 1)];
+    check_lines(&rt, written(&rt, rt.alloc(), input).as_slice(), &COUNTS);
 }

@@ -5,3 +5,5 @@
 mod command_tests;
 #[cfg(test)]
 mod engine_tests;
+#[cfg(test)]
+mod test_rows;
