@@ -16,3 +16,6 @@ returns-clause-imported c =
 
 pub returns-clause-filled : goal.returns-clause-filled
 returns-clause-filled c = filled_behind c.args.printed.now.text.items c.as_slice.result.now _ c.in_ok-push_record-2.ensures.text
+
+pub push_record-requires-2 : goal.push_record-requires-2
+push_record-requires-2 c = rw c.as_slice.ensures.value (rw c.in-Some.is at c.in_ok-told.ensures.record)
