@@ -269,9 +269,9 @@ stand in one file in any mixture:
     mates in two`, becomes `dm N`: in `bm`, words, comments, or in `id`. A line that is a record
     and wants none of this is printed as it is
   - lines that begin with `#`, `%` or `;`: dropped, as empty ones are
-  - games in PGN: the tag FEN makes the record, and White, Black, Event, Date and Annotator
-    its id; the number of moves is said by Stipulation, else by these, but for Date, or by a
-    comment before the first move; the moves are passed over
+  - games in PGN: the tag FEN makes the record, White, Black, Event, Round, Date and Annotator
+    its id, and the first move the claim `bm`; the number of moves is said by Stipulation, else
+    by White, Black, Event, Annotator, or a comment before the first move
   - Popeye's input, from BeginProblem to EndProblem, with stipulation `#N` or `N#`
 What can't be read is printed as `# line K: CODE`, by the line where it begins; `matedesk
 explain CODE` says what that means.
