@@ -23,6 +23,8 @@ mod test_plain_turns;
 #[cfg(test)]
 mod test_real_room;
 #[cfg(test)]
+mod test_rows;
+#[cfg(test)]
 mod test_scenes;
 #[cfg(test)]
 mod test_solvers;

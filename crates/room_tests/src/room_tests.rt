@@ -1,14 +1,14 @@
 //! Rooms turned by hand, on one thread, told with the replies.
 
+use crate::test_rows::same;
 use crate::test_scenes::{A, ANSWER_A, ANSWER_B, B, Call, check_room, check_two_windows};
 use chess_problems::Bound;
 use desk_room::{RoomFault, open_room};
-use std::alloc::Global;
 use std::test::Fail;
 
 #[test]
 fn answers_come_in_the_order_of_the_records(rt: HostRuntime) -> Result<(), Fail> {
-    let calls = [
+    static CALLS: [(Call, &str); 27] = [
         (Call::Submit(A), "ok"),
         (Call::Submit(B), "ok"),
         (Call::Submit(A), "refused Busy"),
@@ -37,23 +37,23 @@ fn answers_come_in_the_order_of_the_records(rt: HostRuntime) -> Result<(), Fail>
         (Call::Take(0), "stop"),
         (Call::Take(0), "stop"),
     ];
-    check_room(&rt, rt.alloc(), 1, 2, &calls)
+    check_room(&rt, rt.alloc(), 1, 2, &CALLS)
 }
 
 #[test]
 fn a_closed_room_takes_no_letter(rt: HostRuntime) -> Result<(), Fail> {
-    let calls = [
+    static CALLS: [(Call, &str); 4] = [
         (Call::Submit(A), "ok"),
         (Call::Close, "closed"),
         (Call::Turn, "turned"),
         (Call::Settle, "left 1 uncollected 0"),
     ];
-    check_room(&rt, rt.alloc(), 1, 2, &calls)
+    check_room(&rt, rt.alloc(), 1, 2, &CALLS)
 }
 
 #[test]
 fn a_withdrawn_record_is_noticed_in_its_place(rt: HostRuntime) -> Result<(), Fail> {
-    let calls = [
+    static CALLS: [(Call, &str); 17] = [
         (Call::Submit(A), "ok"),
         (Call::Submit(B), "ok"),
         (Call::Withdraw(1), "ok"),
@@ -72,14 +72,14 @@ fn a_withdrawn_record_is_noticed_in_its_place(rt: HostRuntime) -> Result<(), Fai
         (Call::Bye, "ok"),
         (Call::Withdraw(0), "refused Gone"),
     ];
-    check_room(&rt, rt.alloc(), 1, 3, &calls)
+    check_room(&rt, rt.alloc(), 1, 3, &CALLS)
 }
 
 #[test]
 fn a_returned_job_goes_to_another_bench_and_a_full_ring_delays(
     rt: HostRuntime,
 ) -> Result<(), Fail> {
-    let calls = [
+    static CALLS: [(Call, &str); 23] = [
         (Call::Submit(A), "ok"),
         (Call::Submit(B), "refused Busy"),
         (Call::Turn, "turned accepted 1 ordered 1"),
@@ -104,23 +104,23 @@ fn a_returned_job_goes_to_another_bench_and_a_full_ring_delays(
         (Call::Collect, ANSWER_B),
         (Call::Collect, "none"),
     ];
-    check_room(&rt, rt.alloc(), 2, 1, &calls)
+    check_room(&rt, rt.alloc(), 2, 1, &CALLS)
 }
 
 #[test]
 fn a_job_that_is_not_out_is_a_stranger(rt: HostRuntime) -> Result<(), Fail> {
-    let calls = [
+    static CALLS: [(Call, &str); 4] = [
         (Call::MakeUp(0, 9), "ok"),
         (Call::MakeUp(0, 9), "refused returned 9"),
         (Call::Turn, "turned strangers 1"),
         (Call::MakeUp(0, 9), "ok"),
     ];
-    check_room(&rt, rt.alloc(), 1, 1, &calls)
+    check_room(&rt, rt.alloc(), 1, 1, &CALLS)
 }
 
 #[test]
 fn a_farewell_that_is_left_counts_for_nothing(rt: HostRuntime) -> Result<(), Fail> {
-    let calls = [
+    static CALLS: [(usize, Call, &str); 21] = [
         (0, Call::Submit(A), "ok"),
         (1, Call::Submit(B), "ok"),
         (0, Call::Turn, "turned accepted 2 ordered 2"),
@@ -143,12 +143,12 @@ fn a_farewell_that_is_left_counts_for_nothing(rt: HostRuntime) -> Result<(), Fai
         (0, Call::Collect, ANSWER_A),
         (0, Call::Settle, "left 1 uncollected 0"),
     ];
-    check_two_windows(&rt, rt.alloc(), 1, 2, &calls)
+    check_two_windows(&rt, rt.alloc(), 1, 2, &CALLS)
 }
 
 #[test]
 fn each_bench_takes_one_stop(rt: HostRuntime) -> Result<(), Fail> {
-    let calls = [
+    static CALLS: [(Call, &str); 14] = [
         (Call::Take(0), "nothing"),
         (Call::Submit(A), "ok"),
         (Call::Submit(A), "ok"),
@@ -164,38 +164,25 @@ fn each_bench_takes_one_stop(rt: HostRuntime) -> Result<(), Fail> {
         (Call::Take(1), "stop"),
         (Call::Take(1), "stop"),
     ];
-    check_room(&rt, rt.alloc(), 2, 3, &calls)
-}
-
-fn fault_of(
-    alloc: Global,
-    windows: usize,
-    benches: usize,
-    ring: usize,
-) -> Result<Option<RoomFault>, Fail> {
-    let default = Bound::new(3).ok_or("bound")?;
-    match open_room(alloc, windows, benches, ring, default) {
-        Ok(_) => Ok(None),
-        Err(fault) => Ok(Some(fault)),
-    }
+    check_room(&rt, rt.alloc(), 2, 3, &CALLS)
 }
 
 #[test]
-fn a_room_outside_the_limits_is_not_opened(rt: HostRuntime) -> Result<(), Fail> {
-    let rows = [
-        ((0, 0, 0), Some(RoomFault::BadWindows)),
-        ((0, 1, 1), Some(RoomFault::BadWindows)),
-        ((17, 0, 0), Some(RoomFault::BadWindows)),
-        ((1, 0, 0), Some(RoomFault::BadBenches)),
-        ((1, 17, 1), Some(RoomFault::BadBenches)),
-        ((1, 1, 0), Some(RoomFault::BadRing)),
-        ((1, 1, 65), Some(RoomFault::BadRing)),
-        ((1, 1, 1), None),
-        ((16, 16, 64), None),
+fn a_room_outside_the_limits_is_not_opened(rt: HostRuntime) {
+    static ROWS: [(usize, usize, usize, Option<RoomFault>); 9] = [
+        (0, 0, 0, Some(RoomFault::BadWindows)),
+        (0, 1, 1, Some(RoomFault::BadWindows)),
+        (17, 0, 0, Some(RoomFault::BadWindows)),
+        (1, 0, 0, Some(RoomFault::BadBenches)),
+        (1, 17, 1, Some(RoomFault::BadBenches)),
+        (1, 1, 0, Some(RoomFault::BadRing)),
+        (1, 1, 65, Some(RoomFault::BadRing)),
+        (1, 1, 1, None),
+        (16, 16, 64, None),
     ];
-    for (number, ((windows, benches, ring), wanted)) in rows.into_iter().enumerate() {
-        let found = fault_of(rt.alloc(), windows, benches, ring)?;
-        assert_eq!(rt; found, wanted, "row {number}");
+    let default = Bound::new(3).expect(&rt, "bound");
+    for row in &ROWS {
+        let room = open_room(rt.alloc(), row.0, row.1, row.2, default);
+        same(&rt, row, &room.err(), &row.3);
     }
-    Ok(())
 }

@@ -3,6 +3,7 @@
 use crate::test_calls::Call;
 use crate::test_plain_room::PlainRoom;
 use crate::test_real_room::{Tools, make_tools, reply};
+use crate::test_rows::same;
 use crate::test_scenes::ends_of_one;
 use std::alloc::Global;
 use std::collections::VecDeque;
@@ -26,7 +27,7 @@ enum Kind {
     Settle,
 }
 
-const KINDS: [Kind; 12] = [
+static KINDS: [Kind; 12] = [
     Kind::Submit,
     Kind::Withdraw,
     Kind::Bye,
@@ -42,7 +43,7 @@ const KINDS: [Kind; 12] = [
 ];
 
 /// What follows each sequence, and brings to light what lies in the room.
-const THEN: [Kind; 10] = [
+static THEN: [Kind; 10] = [
     Kind::Collect,
     Kind::Turn,
     Kind::Take,
@@ -83,24 +84,25 @@ fn check_sequence(
     number: usize,
 ) -> Result<(), Fail> {
     let (mut keeper, mut window, mut benches) = ends_of_one(alloc, 1, ring)?;
-    let mut bench = benches.pop().ok_or("no bench")?;
+    let mut bench = benches.pop().expect(rt, "bench");
     let mut hand = VecDeque::new(alloc);
     let mut plain = PlainRoom::new(alloc, ring);
     for (place, kind) in sequence(number).iter().chain(THEN.iter()).enumerate() {
         let call = call_of(*kind, &plain, ring as u64);
-        let found = reply(tools, &mut keeper, &mut window, &mut bench, &mut hand, call)?;
-        let wanted = plain.reply(call)?;
-        assert_eq!(rt; found, wanted, "call {place} of sequence {number}");
-        assert_eq!(rt;
-            keeper.is_drained(),
-            plain.is_drained(),
-            "call {place} of sequence {number}"
+        let found = reply(
+            rt,
+            tools,
+            &mut keeper,
+            &mut window,
+            &mut bench,
+            &mut hand,
+            call,
         );
-        assert_eq!(rt;
-            keeper.byes(),
-            plain.byes(),
-            "call {place} of sequence {number}"
-        );
+        let wanted = plain.reply(rt, call);
+        let row = ("sequence", number, "call", place);
+        same(rt, &row, &found, &wanted);
+        let found = (keeper.is_drained(), keeper.byes());
+        same(rt, &row, &found, &(plain.is_drained(), plain.byes()));
     }
     Ok(())
 }
@@ -118,7 +120,7 @@ fn sequence(number: usize) -> [Kind; 5] {
 
 /// Refuses where a sequence is answered otherwise by rings of so many places.
 fn check_sequences(rt: &impl Abort, alloc: Global, ring: usize) -> Result<(), Fail> {
-    let mut tools = make_tools(rt, alloc)?;
+    let mut tools = make_tools(rt, alloc);
     for number in 0..248_832 {
         check_sequence(rt, alloc, &mut tools, ring, number)?;
     }

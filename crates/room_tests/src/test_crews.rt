@@ -7,7 +7,13 @@ use desk_room::{Back, Bench, Taken};
 use mate_jobs::{Job, Ticket};
 use mate_search::Memo;
 use std::alloc::Global;
-use std::test::Fail;
+use std::fmt::Display;
+use std::process::Abort;
+
+/// What a call is answered, as a text.
+pub(crate) fn told<D: Display + Drop>(rt: &impl Abort, alloc: Global, reply: D) -> String {
+    String::format(alloc, reply).expect(rt, "memory")
+}
 
 /// The benches, and the jobs that they took and have yet to give back. A bench goes by its number, a job by its ticket.
 #[derive(Drop)]
@@ -20,79 +26,87 @@ pub(crate) struct Crew {
 }
 
 impl Crew {
-    pub(crate) fn new(alloc: Global, benches: Vec<Bench>) -> Result<Crew, Fail> {
-        Ok(Crew {
+    pub(crate) fn new(rt: &impl Abort, alloc: Global, benches: Vec<Bench>) -> Crew {
+        Crew {
             alloc,
             benches,
             jobs: Vec::new(alloc),
-            memo: Memo::new(alloc, 16)?,
+            memo: Memo::new(alloc, 16).expect(rt, "memo"),
             rays: Rays::new(),
-        })
+        }
     }
 
-    pub(crate) fn take(&mut self, i: usize) -> Result<String, Fail> {
+    pub(crate) fn take(&mut self, rt: &impl Abort, i: usize) -> String {
         let Some(bench) = self.benches.get_mut(i) else {
-            return Err("no such bench".into());
+            panic!(rt; "no such bench");
         };
         match bench.take() {
             Taken::Job(job) => {
                 let ticket = job.ticket().0;
-                self.jobs.push(job)?;
-                Ok(format!(in self.alloc; "job {ticket}")?)
+                self.jobs.push(job).expect(rt, "memory");
+                told(rt, self.alloc, format_args!("job {ticket}"))
             }
-            Taken::Stop => Ok(format!(in self.alloc; "stop")?),
-            Taken::Nothing => Ok(format!(in self.alloc; "nothing")?),
+            Taken::Stop => told(rt, self.alloc, "stop"),
+            Taken::Nothing => told(rt, self.alloc, "nothing"),
         }
     }
 
-    pub(crate) fn solve(&mut self, i: usize, ticket: u64) -> Result<String, Fail> {
-        let done = held(&mut self.jobs, ticket)?.solve(&self.rays, &mut self.memo);
-        self.give(i, Back::Solved(done))
+    pub(crate) fn solve(&mut self, rt: &impl Abort, i: usize, ticket: u64) -> String {
+        let done = held(rt, &mut self.jobs, ticket).solve(&self.rays, &mut self.memo);
+        self.give(rt, i, Back::Solved(done))
     }
 
-    pub(crate) fn hand_back(&mut self, i: usize, ticket: u64) -> Result<String, Fail> {
-        let job = held(&mut self.jobs, ticket)?;
-        self.give(i, Back::Returned(job))
+    pub(crate) fn hand_back(&mut self, rt: &impl Abort, i: usize, ticket: u64) -> String {
+        let job = held(rt, &mut self.jobs, ticket);
+        self.give(rt, i, Back::Returned(job))
     }
 
     /// Gives back a job of this ticket that was not taken, and which asks what the line does.
-    pub(crate) fn make_up(&mut self, i: usize, ticket: u64, line: &str) -> Result<String, Fail> {
-        let default = Bound::new(3).ok_or("bound")?;
-        let record = read_record(self.alloc, &self.rays, line.as_bytes(), default)?;
+    pub(crate) fn make_up(&mut self, rt: &impl Abort, i: usize, ticket: u64, line: &str) -> String {
+        let default = Bound::new(3).expect(rt, "bound");
+        let record = read_record(self.alloc, &self.rays, line.as_bytes(), default).expect(rt, line);
         let job = Job::new(Ticket(ticket), record.problem());
-        self.give(i, Back::Returned(job))
+        self.give(rt, i, Back::Returned(job))
     }
 
     /// Drops the last bench.
-    pub(crate) fn leave(&mut self) -> Result<String, Fail> {
+    pub(crate) fn leave(&mut self, rt: &impl Abort) -> String {
         let left = self.benches.pop().is_some();
-        Ok(format!(in self.alloc; "left {left}")?)
+        told(rt, self.alloc, format_args!("left {left}"))
     }
 
-    fn give(&mut self, i: usize, back: Back) -> Result<String, Fail> {
+    fn give(&mut self, rt: &impl Abort, i: usize, back: Back) -> String {
         let Some(bench) = self.benches.get_mut(i) else {
-            return Err("no such bench".into());
+            panic!(rt; "no such bench");
         };
         match bench.back(back) {
-            Ok(()) => Ok(format!(in self.alloc; "ok")?),
-            Err(back) => refused(self.alloc, &back),
+            Ok(()) => told(rt, self.alloc, "ok"),
+            Err(back) => refused(rt, self.alloc, &back),
         }
     }
 }
 
 /// The job of this ticket, which is taken out of those in hand.
-fn held(jobs: &mut Vec<Job>, ticket: u64) -> Result<Job, Fail> {
+fn held(rt: &impl Abort, jobs: &mut Vec<Job>, ticket: u64) -> Job {
     for i in 0..jobs.len() {
         if jobs[i].ticket().0 == ticket {
-            return Ok(jobs.remove(i));
+            return jobs.remove(i);
         }
     }
-    Err("no such job in hand".into())
+    panic!(rt; "no such job in hand")
 }
 
-fn refused(alloc: Global, back: &Back) -> Result<String, Fail> {
+fn refused(rt: &impl Abort, alloc: Global, back: &Back) -> String {
     match back {
-        Back::Solved(done) => Ok(format!(in alloc; "refused solved {}", done.ticket().0)?),
-        Back::Returned(job) => Ok(format!(in alloc; "refused returned {}", job.ticket().0)?),
+        Back::Solved(done) => told(
+            rt,
+            alloc,
+            format_args!("refused solved {}", done.ticket().0),
+        ),
+        Back::Returned(job) => told(
+            rt,
+            alloc,
+            format_args!("refused returned {}", job.ticket().0),
+        ),
     }
 }

@@ -5,7 +5,7 @@ use crate::test_calls::{Call, Reply};
 use desk_room::Settled;
 use std::alloc::Global;
 use std::collections::VecDeque;
-use std::test::Fail;
+use std::process::Abort;
 
 /// A letter in the record ring.
 #[derive(Clone, Copy, Drop)]
@@ -92,67 +92,70 @@ impl PlainRoom {
     }
 
     /// Makes a call, and answers what a room answers.
-    pub(crate) fn reply(&mut self, call: Call) -> Result<Reply, Fail> {
+    pub(crate) fn reply(&mut self, rt: &impl Abort, call: Call) -> Reply {
         match call {
-            Call::Submit(_) => self.submit(),
-            Call::Withdraw(n) => self.withdraw(n),
-            Call::Bye => self.bye(),
-            Call::Collect => Ok(self.answers.pop_front().unwrap_or(Reply::Nothing)),
-            Call::Take => self.take(),
-            Call::Solve => self.solve(),
-            Call::Return => self.hand_back(),
-            Call::MakeUp(ticket) => self.give(Work {
-                ticket,
-                is_made_up: true,
-                is_solved: false,
-            }),
-            Call::Turn => self.turn(),
+            Call::Submit(_) => self.submit(rt),
+            Call::Withdraw(n) => self.withdraw(rt, n),
+            Call::Bye => self.bye(rt),
+            Call::Collect => self.answers.pop_front().unwrap_or(Reply::Nothing),
+            Call::Take => self.take(rt),
+            Call::Solve => self.solve(rt),
+            Call::Return => self.hand_back(rt),
+            Call::MakeUp(ticket) => {
+                let made_up = Work {
+                    ticket,
+                    is_made_up: true,
+                    is_solved: false,
+                };
+                self.give(rt, made_up)
+            }
+            Call::Turn => self.turn(rt),
             Call::Close => {
                 self.is_closed = true;
-                Ok(Reply::Done)
+                Reply::Done
             }
-            Call::SendHome => self.send_home(),
-            Call::Settle => Ok(Reply::Settled(self.settle())),
+            Call::SendHome => self.send_home(rt),
+            Call::Settle => Reply::Settled(self.settle()),
         }
     }
 
     /// Sends a letter where the ring has a place.
-    fn send(&mut self, letter: Sent) -> Result<Reply, Fail> {
+    fn send(&mut self, rt: &impl Abort, letter: Sent) -> Reply {
         if self.letters.len() >= self.ring {
-            return Ok(Reply::Refused("Busy"));
+            return Reply::Refused("Busy");
         }
-        self.letters.push_back(letter)?;
-        Ok(Reply::Done)
+        self.letters.push_back(letter).expect(rt, "memory");
+        Reply::Done
     }
 
-    fn submit(&mut self) -> Result<Reply, Fail> {
+    fn submit(&mut self, rt: &impl Abort) -> Reply {
         if self.is_gone {
-            return Ok(Reply::Refused("Gone"));
+            return Reply::Refused("Gone");
         }
-        let reply = self.send(Sent::Record)?;
+        let reply = self.send(rt, Sent::Record);
         if reply == Reply::Done {
             self.sent = self.sent.wrapping_add(1);
         }
-        Ok(reply)
+        reply
     }
 
-    fn withdraw(&mut self, n: u64) -> Result<Reply, Fail> {
+    fn withdraw(&mut self, rt: &impl Abort, n: u64) -> Reply {
         if self.is_gone {
-            return Ok(Reply::Refused("Gone"));
+            return Reply::Refused("Gone");
         }
         if self.sent <= n {
-            return Ok(Reply::Refused("NotSent"));
+            return Reply::Refused("NotSent");
         }
-        self.send(Sent::Withdrawal(n))
+        self.send(rt, Sent::Withdrawal(n))
     }
 
-    fn bye(&mut self) -> Result<Reply, Fail> {
+    fn bye(&mut self, rt: &impl Abort) -> Reply {
         if self.is_gone {
-            return Ok(Reply::Refused("Gone"));
+            return Reply::Refused("Gone");
         }
-        let reply = self.send(Sent::Farewell)?;
+        let reply = self.send(rt, Sent::Farewell);
         self.is_gone = reply == Reply::Done;
-        Ok(reply)
+        reply
     }
 
     fn settle(&self) -> Settled {
@@ -169,72 +172,73 @@ impl PlainRoom {
     }
 
     /// Once a stop was taken, nothing is.
-    fn take(&mut self) -> Result<Reply, Fail> {
+    fn take(&mut self, rt: &impl Abort) -> Reply {
         if self.has_stopped {
-            return Ok(Reply::Stop);
+            return Reply::Stop;
         }
         match self.orders.pop_front() {
-            None => Ok(Reply::Nothing),
+            None => Reply::Nothing,
             Some(None) => {
                 self.has_stopped = true;
-                Ok(Reply::Stop)
+                Reply::Stop
             }
             Some(Some(ticket)) => {
-                self.hand.push_back(Work {
+                let work = Work {
                     ticket,
                     is_made_up: false,
                     is_solved: false,
-                })?;
-                Ok(Reply::Job(ticket))
+                };
+                self.hand.push_back(work).expect(rt, "memory");
+                Reply::Job(ticket)
             }
         }
     }
 
     /// Puts a job into the back ring where it has a place.
-    fn give(&mut self, work: Work) -> Result<Reply, Fail> {
+    fn give(&mut self, rt: &impl Abort, work: Work) -> Reply {
         if self.backs.len() >= self.ring {
-            return Ok(Reply::HandedBack(work.ticket));
+            return Reply::HandedBack(work.ticket);
         }
-        self.backs.push_back(work)?;
-        Ok(Reply::Done)
+        self.backs.push_back(work).expect(rt, "memory");
+        Reply::Done
     }
 
     /// Gives back the first job in hand, which stays there, solved, where it is refused.
-    fn solve(&mut self) -> Result<Reply, Fail> {
+    fn solve(&mut self, rt: &impl Abort) -> Reply {
         let Some(mut work) = self.hand.pop_front() else {
-            return Ok(Reply::Impossible);
+            return Reply::Impossible;
         };
         work.is_solved = true;
-        self.give_from_hand(work)
+        self.give_from_hand(rt, work)
     }
 
-    fn hand_back(&mut self) -> Result<Reply, Fail> {
+    fn hand_back(&mut self, rt: &impl Abort) -> Reply {
         match self.hand.pop_front() {
-            None => Ok(Reply::Impossible),
+            None => Reply::Impossible,
             Some(work) => {
                 if work.is_solved {
-                    self.hand.push_front(work)?;
-                    return Ok(Reply::Impossible);
+                    self.hand.push_front(work).expect(rt, "memory");
+                    return Reply::Impossible;
                 }
-                self.give_from_hand(work)
+                self.give_from_hand(rt, work)
             }
         }
     }
 
-    fn give_from_hand(&mut self, work: Work) -> Result<Reply, Fail> {
-        let reply = self.give(work)?;
+    fn give_from_hand(&mut self, rt: &impl Abort, work: Work) -> Reply {
+        let reply = self.give(rt, work);
         if reply != Reply::Done {
-            self.hand.push_front(work)?;
+            self.hand.push_front(work).expect(rt, "memory");
         }
-        Ok(reply)
+        reply
     }
 
     /// One stop for the one bench, put out once.
-    fn send_home(&mut self) -> Result<Reply, Fail> {
+    fn send_home(&mut self, rt: &impl Abort) -> Reply {
         if !self.is_home {
-            self.orders.push_back(None)?;
+            self.orders.push_back(None).expect(rt, "memory");
         }
         self.is_home = true;
-        Ok(Reply::Owed(0))
+        Reply::Owed(0)
     }
 }

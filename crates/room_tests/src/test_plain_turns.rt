@@ -3,11 +3,11 @@
 use crate::test_calls::Reply;
 use crate::test_plain_room::{Pending, Phase, PlainRoom, Sent, Work};
 use desk_room::Turn;
-use std::test::Fail;
+use std::process::Abort;
 
 impl PlainRoom {
     /// What the bench gave back is heard, letters are taken, jobs are ordered, and what is ready is delivered.
-    pub(crate) fn turn(&mut self) -> Result<Reply, Fail> {
+    pub(crate) fn turn(&mut self, rt: &impl Abort) -> Reply {
         let mut turn = Turn {
             accepted: 0,
             byes: 0,
@@ -23,10 +23,10 @@ impl PlainRoom {
                 self.hear(work, &mut turn);
             }
         }
-        self.read(&mut turn)?;
-        self.order(&mut turn)?;
-        self.deliver(&mut turn)?;
-        Ok(Reply::Turned(turn))
+        self.read(rt, &mut turn);
+        self.order(rt, &mut turn);
+        self.deliver(rt, &mut turn);
+        Reply::Turned(turn)
     }
 
     /// What is not out under this ticket, or was not asked, is a stranger.
@@ -47,19 +47,20 @@ impl PlainRoom {
     }
 
     /// Letters are taken while the desk would accept a record.
-    fn read(&mut self, turn: &mut Turn) -> Result<(), Fail> {
+    fn read(&mut self, rt: &impl Abort, turn: &mut Turn) {
         for _ in 0..self.ring {
             if self.is_closed || self.pending.len() >= self.ring {
-                return Ok(());
+                return;
             }
             match self.letters.pop_front() {
-                None => return Ok(()),
+                None => return,
                 Some(Sent::Record) => {
-                    self.pending.push_back(Pending {
+                    let entry = Pending {
                         number: self.accepted,
                         phase: Phase::Waiting,
                         is_withdrawn: false,
-                    })?;
+                    };
+                    self.pending.push_back(entry).expect(rt, "memory");
                     self.accepted = self.accepted.wrapping_add(1);
                     turn.accepted = turn.accepted.wrapping_add(1);
                 }
@@ -70,7 +71,6 @@ impl PlainRoom {
                 }
             }
         }
-        Ok(())
     }
 
     /// Withdraws a record that is pending and was not withdrawn.
@@ -84,18 +84,19 @@ impl PlainRoom {
     }
 
     /// Each job that waits goes out, unless its record was withdrawn or the bench was sent home.
-    fn order(&mut self, turn: &mut Turn) -> Result<(), Fail> {
+    fn order(&mut self, rt: &impl Abort, turn: &mut Turn) {
         if self.is_home {
-            return Ok(());
+            return;
         }
         for entry in self.pending.iter_mut() {
             if entry.phase == Phase::Waiting && !entry.is_withdrawn {
                 entry.phase = Phase::Out;
-                self.orders.push_back(Some(entry.number))?;
+                self.orders
+                    .push_back(Some(entry.number))
+                    .expect(rt, "memory");
                 turn.ordered = turn.ordered.wrapping_add(1);
             }
         }
-        Ok(())
     }
 
     /// What comes of the first pending record: its notice once it is withdrawn and not out, else its answer once it is finished.
@@ -109,18 +110,17 @@ impl PlainRoom {
         }
     }
 
-    fn deliver(&mut self, turn: &mut Turn) -> Result<(), Fail> {
+    fn deliver(&mut self, rt: &impl Abort, turn: &mut Turn) {
         for _ in 0..self.ring {
             if self.answers.len() >= self.ring {
-                return Ok(());
+                return;
             }
             let Some(delivery) = self.ready() else {
-                return Ok(());
+                return;
             };
-            self.answers.push_back(delivery)?;
+            self.answers.push_back(delivery).expect(rt, "memory");
             let _ = self.pending.pop_front();
             turn.delivered = turn.delivered.wrapping_add(1);
         }
-        Ok(())
     }
 }

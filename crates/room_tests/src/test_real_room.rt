@@ -4,6 +4,7 @@ ghost use Rattle.room_ends.specs.Windows.{SameWindow};
 ghost use Rattle.desk_room.specs.Keepers.{IsOf, SameRoom};
 
 use crate::test_calls::{Call, Reply};
+use crate::test_rows::same;
 use crate::test_scenes::{A, ANSWER_A};
 use chess_moves::Rays;
 use chess_notation::{Record, read_record};
@@ -15,7 +16,6 @@ use mate_search::Memo;
 use std::alloc::Global;
 use std::collections::VecDeque;
 use std::process::Abort;
-use std::test::Fail;
 
 /// The records that the window sends, by their numbers: mate in one, asked for within so many moves as tell them apart.
 const LINES: [&str; 5] = [
@@ -40,23 +40,27 @@ pub(crate) struct Tools {
     mate: Outcome,
 }
 
-pub(crate) fn make_tools(rt: &impl Abort, alloc: Global) -> Result<Tools, Fail> {
+fn record_of(rt: &impl Abort, alloc: Global, rays: &Rays, line: &str) -> Record {
+    let default = Bound::new(3).expect(rt, "bound");
+    read_record(alloc, rays, line.as_bytes(), default).expect(rt, line)
+}
+
+pub(crate) fn make_tools(rt: &impl Abort, alloc: Global) -> Tools {
     let rays = Rays::new();
-    let mut memo = Memo::new(alloc, 16)?;
-    let default = Bound::new(3).ok_or("bound")?;
-    let record = read_record(alloc, &rays, A.as_bytes(), default)?;
+    let mut memo = Memo::new(alloc, 16).expect(rt, "memo");
+    let record = record_of(rt, alloc, &rays, A);
     let done = Job::new(Ticket(0), record.problem()).solve(&rays, &mut memo);
-    let mate = done.outcome().clone()?;
-    let text = done.into_answer(record).text(alloc, &rays)?;
-    assert_eq!(rt; text.as_str(), ANSWER_A);
-    let unsent = read_record(alloc, &rays, UNSENT.as_bytes(), default)?;
-    Ok(Tools {
+    let mate = done.outcome().clone().expect(rt, "mate");
+    let text = done.into_answer(record).text(alloc, &rays).expect(rt, A);
+    same(rt, &A, &text.as_str(), &ANSWER_A);
+    let unsent = record_of(rt, alloc, &rays, UNSENT);
+    Tools {
         alloc,
         rays,
         memo,
         unsent,
         mate,
-    })
+    }
 }
 
 /// The number of the record that asks this bound.
@@ -64,17 +68,13 @@ fn number_of(bound: Bound) -> u64 {
     u64::from(bound.get()).wrapping_sub(1)
 }
 
-fn refused(code: &'static str) -> Reply {
-    Reply::Refused(code)
-}
-
-fn submit(alloc: Global, rays: &Rays, window: &mut Window, n: u64) -> Result<Reply, Fail>
+fn submit(rt: &impl Abort, alloc: Global, rays: &Rays, window: &mut Window, n: u64) -> Reply
     ensures { SameWindow window.old window.new }
 {
-    let line = LINES.get(n as usize).ok_or("line")?;
+    let line = LINES.get(n as usize).expect(rt, "line");
     match window.submit(alloc, rays, line.as_bytes()) {
-        Ok(()) => Ok(Reply::Done),
-        Err(fault) => Ok(refused(fault.code())),
+        Ok(()) => Reply::Done,
+        Err(fault) => Reply::Refused(fault.code()),
     }
 }
 
@@ -86,29 +86,29 @@ fn delivered(delivery: &Delivery, mate: &Outcome) -> Reply {
             if answer.outcome() == mate {
                 Reply::Answer(number_of(answer.asked().bound))
             } else {
-                refused("a wrong outcome")
+                Reply::Refused("a wrong outcome")
             }
         }
     }
 }
 
 /// A call of the window.
-fn reply_of_window(tools: &Tools, window: &mut Window, call: Call) -> Result<Reply, Fail>
+fn reply_of_window(rt: &impl Abort, tools: &Tools, window: &mut Window, call: Call) -> Reply
     ensures { SameWindow window.old window.new }
 {
     match call {
-        Call::Submit(n) => submit(tools.alloc, &tools.rays, window, n),
+        Call::Submit(n) => submit(rt, tools.alloc, &tools.rays, window, n),
         Call::Withdraw(n) => match window.withdraw(n) {
-            Ok(()) => Ok(Reply::Done),
-            Err(fault) => Ok(refused(fault.code())),
+            Ok(()) => Reply::Done,
+            Err(fault) => Reply::Refused(fault.code()),
         },
         Call::Bye => match window.bye() {
-            Ok(()) => Ok(Reply::Done),
-            Err(fault) => Ok(refused(fault.code())),
+            Ok(()) => Reply::Done,
+            Err(fault) => Reply::Refused(fault.code()),
         },
         _ => match window.collect() {
-            Some(delivery) => Ok(delivered(&delivery, &tools.mate)),
-            None => Ok(Reply::Nothing),
+            Some(delivery) => delivered(&delivery, &tools.mate),
+            None => Reply::Nothing,
         },
     }
 }
@@ -128,18 +128,18 @@ fn reply_of_keeper(keeper: &mut Keeper, call: Call) -> Reply
     }
 }
 
-fn take(bench: &mut Bench, hand: &mut VecDeque<Back>) -> Result<Reply, Fail> {
+fn take(rt: &impl Abort, bench: &mut Bench, hand: &mut VecDeque<Back>) -> Reply {
     match bench.take() {
         Taken::Job(job) => {
             let number = number_of(job.problem().bound);
             if job.ticket().0 != number {
-                return Ok(refused("a job of another record"));
+                return Reply::Refused("a job of another record");
             }
-            hand.push_back(Back::Returned(job))?;
-            Ok(Reply::Job(number))
+            hand.push_back(Back::Returned(job)).expect(rt, "memory");
+            Reply::Job(number)
         }
-        Taken::Stop => Ok(Reply::Stop),
-        Taken::Nothing => Ok(Reply::Nothing),
+        Taken::Stop => Reply::Stop,
+        Taken::Nothing => Reply::Nothing,
     }
 }
 
@@ -151,35 +151,40 @@ fn ticket_of(back: &Back) -> u64 {
 }
 
 /// Gives back what was in hand, where it stays if it is refused.
-fn give(bench: &mut Bench, hand: &mut VecDeque<Back>, back: Back) -> Result<Reply, Fail> {
+fn give(rt: &impl Abort, bench: &mut Bench, hand: &mut VecDeque<Back>, back: Back) -> Reply {
     match bench.back(back) {
-        Ok(()) => Ok(Reply::Done),
+        Ok(()) => Reply::Done,
         Err(back) => {
             let ticket = ticket_of(&back);
-            hand.push_front(back)?;
-            Ok(Reply::HandedBack(ticket))
+            hand.push_front(back).expect(rt, "memory");
+            Reply::HandedBack(ticket)
         }
     }
 }
 
-fn solve(tools: &mut Tools, bench: &mut Bench, hand: &mut VecDeque<Back>) -> Result<Reply, Fail> {
+fn solve(
+    rt: &impl Abort,
+    tools: &mut Tools,
+    bench: &mut Bench,
+    hand: &mut VecDeque<Back>,
+) -> Reply {
     match hand.pop_front() {
-        None => Ok(Reply::Impossible),
-        Some(Back::Solved(done)) => give(bench, hand, Back::Solved(done)),
+        None => Reply::Impossible,
+        Some(Back::Solved(done)) => give(rt, bench, hand, Back::Solved(done)),
         Some(Back::Returned(job)) => {
             let done = job.solve(&tools.rays, &mut tools.memo);
-            give(bench, hand, Back::Solved(done))
+            give(rt, bench, hand, Back::Solved(done))
         }
     }
 }
 
-fn hand_back(bench: &mut Bench, hand: &mut VecDeque<Back>) -> Result<Reply, Fail> {
+fn hand_back(rt: &impl Abort, bench: &mut Bench, hand: &mut VecDeque<Back>) -> Reply {
     match hand.pop_front() {
-        None => Ok(Reply::Impossible),
-        Some(Back::Returned(job)) => give(bench, hand, Back::Returned(job)),
+        None => Reply::Impossible,
+        Some(Back::Returned(job)) => give(rt, bench, hand, Back::Returned(job)),
         Some(Back::Solved(done)) => {
-            hand.push_front(Back::Solved(done))?;
-            Ok(Reply::Impossible)
+            hand.push_front(Back::Solved(done)).expect(rt, "memory");
+            Reply::Impossible
         }
     }
 }
@@ -194,41 +199,43 @@ fn make_up(bench: &mut Bench, problem: Problem, ticket: u64) -> Reply {
 
 /// A call of the bench.
 fn reply_of_bench(
+    rt: &impl Abort,
     tools: &mut Tools,
     bench: &mut Bench,
     hand: &mut VecDeque<Back>,
     call: Call,
-) -> Result<Reply, Fail> {
+) -> Reply {
     match call {
-        Call::Take => take(bench, hand),
-        Call::Solve => solve(tools, bench, hand),
-        Call::Return => hand_back(bench, hand),
-        Call::MakeUp(ticket) => Ok(make_up(bench, tools.unsent.problem(), ticket)),
-        _ => Ok(Reply::Impossible),
+        Call::Take => take(rt, bench, hand),
+        Call::Solve => solve(rt, tools, bench, hand),
+        Call::Return => hand_back(rt, bench, hand),
+        Call::MakeUp(ticket) => make_up(bench, tools.unsent.problem(), ticket),
+        _ => Reply::Impossible,
     }
 }
 
 /// A call of the window, of the keeper or of the bench.
 #[tactic(auto, using(crate::proofs::Rooms::of_then, crate::proofs::Rooms::of_window, crate::proofs::Rooms::room_same, crate::proofs::Rooms::room_then))]
 pub(crate) fn reply(
+    rt: &impl Abort,
     tools: &mut Tools,
     keeper: &mut Keeper,
     window: &mut Window,
     bench: &mut Bench,
     hand: &mut VecDeque<Back>,
     call: Call,
-) -> Result<Reply, Fail>
+) -> Reply
     requires { IsOf window.old keeper.old }
     ensures { IsOf window.new keeper.new }
 {
     match call {
         Call::Submit(_) | Call::Withdraw(_) | Call::Bye | Call::Collect => {
-            reply_of_window(tools, window, call)
+            reply_of_window(rt, tools, window, call)
         }
-        Call::Turn | Call::Close | Call::SendHome => Ok(reply_of_keeper(keeper, call)),
-        Call::Settle => Ok(Reply::Settled(keeper.settle(window))),
+        Call::Turn | Call::Close | Call::SendHome => reply_of_keeper(keeper, call),
+        Call::Settle => Reply::Settled(keeper.settle(window)),
         Call::Take | Call::Solve | Call::Return | Call::MakeUp(_) => {
-            reply_of_bench(tools, bench, hand, call)
+            reply_of_bench(rt, tools, bench, hand, call)
         }
     }
 }

@@ -4,7 +4,8 @@ ghost use Rattle.std.specs.Prelude.{IfOk};
 ghost use Rattle.room_ends.specs.Windows.{SameWindow};
 ghost use Rattle.desk_room.specs.Keepers.{IsOf, SameRoom};
 
-use crate::test_crews::Crew;
+use crate::test_crews::{Crew, told};
+use crate::test_rows::same;
 use chess_moves::Rays;
 use chess_notation::Record;
 use chess_problems::Bound;
@@ -51,43 +52,40 @@ fn default() -> Result<Bound, Fail> {
     Ok(Bound::new(3).ok_or("bound")?)
 }
 
-fn told<E: Display + Drop>(alloc: Global, answered: Result<(), E>) -> Result<String, Fail> {
-    match answered {
-        Ok(()) => Ok(format!(in alloc; "ok")?),
-        Err(fault) => Ok(format!(in alloc; "refused {fault}")?),
+fn answered<E: Display + Drop>(rt: &impl Abort, alloc: Global, reply: Result<(), E>) -> String {
+    match reply {
+        Ok(()) => told(rt, alloc, "ok"),
+        Err(fault) => told(rt, alloc, format_args!("refused {fault}")),
     }
 }
 
-fn noticed(alloc: Global, ticket: Ticket, record: &Record) -> Result<String, Fail> {
+fn noticed(rt: &impl Abort, alloc: Global, ticket: Ticket, record: &Record) -> String {
     let position = record.position.text();
-    Ok(format!(in alloc;
-        "notice {} of {} dm {};",
-        ticket.0,
-        position.as_str(),
-        record.bound.get()
-    )?)
+    let bound = record.bound.get();
+    let notice = format_args!("notice {} of {} dm {bound};", ticket.0, position.as_str());
+    told(rt, alloc, notice)
 }
 
-fn delivered(alloc: Global, rays: &Rays, delivery: Delivery) -> Result<String, Fail> {
+fn delivered(rt: &impl Abort, alloc: Global, rays: &Rays, delivery: Delivery) -> String {
     match delivery {
-        Delivery::Answer(answer) => Ok(answer.text(alloc, rays)?),
-        Delivery::Notice(ticket, record) => noticed(alloc, ticket, &record),
+        Delivery::Answer(answer) => answer.text(alloc, rays).expect(rt, "memory"),
+        Delivery::Notice(ticket, record) => noticed(rt, alloc, ticket, &record),
     }
 }
 
-fn collect(alloc: Global, rays: &Rays, window: &mut Window) -> Result<String, Fail>
+fn collect(rt: &impl Abort, alloc: Global, rays: &Rays, window: &mut Window) -> String
     ensures { SameWindow window.old window.new }
 {
     match window.collect() {
-        Some(delivery) => delivered(alloc, rays, delivery),
-        None => Ok(format!(in alloc; "none")?),
+        Some(delivery) => delivered(rt, alloc, rays, delivery),
+        None => told(rt, alloc, "none"),
     }
 }
 
 /// What a turn did, without the counts that are 0.
-fn turned(alloc: Global, turn: Turn) -> Result<String, Fail> {
-    let mut told = format!(in alloc; "turned")?;
-    for (name, count) in [
+fn turned(rt: &impl Abort, alloc: Global, turn: Turn) -> String {
+    let mut text = told(rt, alloc, "turned");
+    for (name, count) in &[
         ("accepted", turn.accepted),
         ("byes", turn.byes),
         ("withdrawn", turn.withdrawn),
@@ -97,67 +95,77 @@ fn turned(alloc: Global, turn: Turn) -> Result<String, Fail> {
         ("strangers", turn.strangers),
         ("delivered", turn.delivered),
     ] {
-        if count > 0 {
-            told = format!(in alloc; "{told} {name} {count}")?;
+        if *count > 0 {
+            text = told(rt, alloc, format_args!("{text} {name} {count}"));
         }
     }
-    Ok(told)
+    text
 }
 
 /// A call of the keeper alone.
 #[tactic(auto, using(crate::proofs::Rooms::room_same, crate::proofs::Rooms::room_then))]
-fn reply_of_keeper(alloc: Global, keeper: &mut Keeper, call: Call) -> Result<String, Fail>
+fn reply_of_keeper(rt: &impl Abort, alloc: Global, keeper: &mut Keeper, call: Call) -> String
     ensures { SameRoom keeper.old keeper.new }
 {
     match call {
-        Call::Turn => turned(alloc, keeper.turn()),
-        Call::SendHome => Ok(format!(in alloc; "owed {}", keeper.send_home())?),
+        Call::Turn => turned(rt, alloc, keeper.turn()),
+        Call::SendHome => told(rt, alloc, format_args!("owed {}", keeper.send_home())),
         Call::Close => {
             keeper.close();
-            Ok(format!(in alloc; "closed")?)
+            told(rt, alloc, "closed")
         }
-        Call::Byes => Ok(format!(in alloc; "byes {}", keeper.byes())?),
-        _ => Ok(format!(in alloc; "drained {}", keeper.is_drained())?),
+        Call::Byes => told(rt, alloc, format_args!("byes {}", keeper.byes())),
+        _ => told(rt, alloc, format_args!("drained {}", keeper.is_drained())),
     }
 }
 
 /// A call of a bench.
-fn reply_of_bench(crew: &mut Crew, call: Call) -> Result<String, Fail> {
+fn reply_of_bench(rt: &impl Abort, crew: &mut Crew, call: Call) -> String {
     match call {
-        Call::Take(i) => crew.take(i),
-        Call::Solve(i, ticket) => crew.solve(i, ticket),
-        Call::Return(i, ticket) => crew.hand_back(i, ticket),
-        Call::MakeUp(i, ticket) => crew.make_up(i, ticket, A),
-        _ => crew.leave(),
+        Call::Take(i) => crew.take(rt, i),
+        Call::Solve(i, ticket) => crew.solve(rt, i, ticket),
+        Call::Return(i, ticket) => crew.hand_back(rt, i, ticket),
+        Call::MakeUp(i, ticket) => crew.make_up(rt, i, ticket, A),
+        _ => crew.leave(rt),
     }
 }
 
 /// A call of the window, of the keeper or of a bench.
 #[tactic(auto, using(crate::proofs::Rooms::of_then, crate::proofs::Rooms::of_window, crate::proofs::Rooms::room_same, crate::proofs::Rooms::room_then))]
 fn reply(
+    rt: &impl Abort,
     keeper: &mut Keeper,
     window: &mut Window,
     crew: &mut Crew,
     call: Call,
-) -> Result<String, Fail>
+) -> String
     requires { IsOf window.old keeper.old }
     ensures of { IsOf window.new keeper.new }
     ensures room { SameRoom keeper.old keeper.new }
 {
     let alloc = crew.alloc;
     match call {
-        Call::Submit(line) => told(alloc, window.submit(alloc, &crew.rays, line.as_bytes())),
-        Call::Withdraw(n) => told(alloc, window.withdraw(n)),
-        Call::Bye => told(alloc, window.bye()),
-        Call::Collect => collect(alloc, &crew.rays, window),
+        Call::Submit(line) => answered(
+            rt,
+            alloc,
+            window.submit(alloc, &crew.rays, line.as_bytes()),
+        ),
+        Call::Withdraw(n) => answered(rt, alloc, window.withdraw(n)),
+        Call::Bye => answered(rt, alloc, window.bye()),
+        Call::Collect => collect(rt, alloc, &crew.rays, window),
         Call::Settle => {
             let settled = keeper.settle(window);
-            Ok(format!(in alloc; "left {} uncollected {}", settled.left, settled.uncollected)?)
+            let (left, uncollected) = (settled.left, settled.uncollected);
+            told(
+                rt,
+                alloc,
+                format_args!("left {left} uncollected {uncollected}"),
+            )
         }
         Call::Turn | Call::Byes | Call::Drained | Call::Close | Call::SendHome => {
-            reply_of_keeper(alloc, keeper, call)
+            reply_of_keeper(rt, alloc, keeper, call)
         }
-        _ => reply_of_bench(crew, call),
+        _ => reply_of_bench(rt, crew, call),
     }
 }
 
@@ -189,10 +197,10 @@ pub(crate) fn check_room(
     calls: &[(Call, &str)],
 ) -> Result<(), Fail> {
     let (mut keeper, mut window, benches) = ends_of_one(alloc, benches, ring)?;
-    let mut crew = Crew::new(alloc, benches)?;
+    let mut crew = Crew::new(rt, alloc, benches);
     for (number, (call, wanted)) in calls.iter().enumerate() {
-        let found = reply(&mut keeper, &mut window, &mut crew, *call)?;
-        assert_eq!(rt; found.as_str(), *wanted, "call {number}");
+        let found = reply(rt, &mut keeper, &mut window, &mut crew, *call);
+        same(rt, &number, &found.as_str(), wanted);
     }
     Ok(())
 }
@@ -222,21 +230,22 @@ pub(crate) fn ends_of_two(
 
 /// A call of the window of this number, of the keeper or of a bench, where there are two windows.
 fn reply_of_two(
+    rt: &impl Abort,
     keeper: &mut Keeper,
     first: &mut Window,
     second: &mut Window,
     crew: &mut Crew,
     number: usize,
     call: Call,
-) -> Result<String, Fail>
+) -> String
     requires first { IsOf first.old keeper.old }
     requires second { IsOf second.old keeper.old }
     ensures first { IsOf first.new keeper.new }
     ensures second { IsOf second.new keeper.new }
 {
     match number {
-        0 => reply(keeper, first, crew, call),
-        _ => reply(keeper, second, crew, call),
+        0 => reply(rt, keeper, first, crew, call),
+        _ => reply(rt, keeper, second, crew, call),
     }
 }
 
@@ -250,10 +259,18 @@ pub(crate) fn check_two_windows(
     calls: &[(usize, Call, &str)],
 ) -> Result<(), Fail> {
     let (mut keeper, mut first, mut second, benches) = ends_of_two(alloc, benches, ring)?;
-    let mut crew = Crew::new(alloc, benches)?;
+    let mut crew = Crew::new(rt, alloc, benches);
     for (number, (at, call, wanted)) in calls.iter().enumerate() {
-        let found = reply_of_two(&mut keeper, &mut first, &mut second, &mut crew, *at, *call)?;
-        assert_eq!(rt; found.as_str(), *wanted, "call {number}");
+        let found = reply_of_two(
+            rt,
+            &mut keeper,
+            &mut first,
+            &mut second,
+            &mut crew,
+            *at,
+            *call,
+        );
+        same(rt, &number, &found.as_str(), wanted);
     }
     Ok(())
 }

@@ -8,9 +8,9 @@ use desk_room::{Back, Bench, Taken};
 use mate_jobs::Job;
 use mate_search::Memo;
 use std::alloc::Global;
+use std::process::Abort;
 use std::random::RandomSource;
 use std::sync::Wait;
-use std::test::Fail;
 
 /// A line that no window sends.
 const UNASKED: &str = "k7/8/8/8/8/8/8/K7 w - - dm 1;";
@@ -26,20 +26,21 @@ pub(crate) struct Solver {
 }
 
 impl Solver {
-    pub(crate) fn new<R: RandomSource>(
+    pub(crate) fn new<R: Abort + RandomSource>(
         rt: &R,
         alloc: Global,
         bench: Bench,
         manner: Manner,
-    ) -> Result<Solver, Fail> {
-        let default = Bound::new(3).ok_or("bound")?;
-        Ok(Solver {
+    ) -> Solver {
+        let default = Bound::new(3).expect(rt, "bound");
+        let unasked = read_record(alloc, &Rays::new(), UNASKED.as_bytes(), default);
+        Solver {
             bench,
             manner,
             pace: Pace::new(rt),
-            memo: Memo::new(alloc, 16)?,
-            unasked: read_record(alloc, &Rays::new(), UNASKED.as_bytes(), default)?,
-        })
+            memo: Memo::new(alloc, 16).expect(rt, "memo"),
+            unasked: unasked.expect(rt, UNASKED),
+        }
     }
 
     /// Gives it back once the ring has a place.

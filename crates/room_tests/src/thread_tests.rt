@@ -4,6 +4,7 @@ ghost use Rattle.std.specs.Prelude.{◌≡◌};
 ghost use Rattle.desk_room.specs.Keepers.{SameRoom};
 
 use crate::test_manners::{Manner, Pace};
+use crate::test_rows::same;
 use crate::test_scenes::ends_of_two;
 use crate::test_solvers::Solver;
 use crate::test_submitters::{RECORDS, SameEnds, Submitter};
@@ -68,12 +69,9 @@ fn check_counts(rt: &impl Abort, ring: usize, manner: Manner, done: Turn) {
         strangers: if manner == Manner::MakesUp { all } else { 0 },
         delivered: all,
     };
-    assert_eq!(rt; done, wanted, "rings of {ring}");
-    assert_eq!(rt;
-        done.returned > 0,
-        manner == Manner::Returns,
-        "rings of {ring}"
-    );
+    same(rt, &ring, &done, &wanted);
+    let returns = manner == Manner::Returns;
+    same(rt, &ring, &(done.returned > 0), &returns);
 }
 
 /// Puts a window to work on a thread of its own.
@@ -98,8 +96,8 @@ fn check_across<R: Abort + Threads + Wait + RandomSource + Copy + Send + 'static
     manner: Manner,
 ) -> Result<(), Fail> {
     let (mut keeper, first, second, mut benches) = ends_of_two(alloc, 2, ring)?;
-    let one = Solver::new(&rt, alloc, benches.pop().ok_or("no bench")?, manner)?;
-    let other = Solver::new(&rt, alloc, benches.pop().ok_or("one bench")?, manner)?;
+    let one = Solver::new(&rt, alloc, benches.pop().expect(&rt, "no bench"), manner);
+    let other = Solver::new(&rt, alloc, benches.pop().expect(&rt, "one bench"), manner);
     let first = start(rt, alloc, first, manner);
     let second = start(rt, alloc, second, manner);
     let one = thread::spawn(&rt, move || one.work(&rt)).expect(&rt, "a thread");
@@ -109,30 +107,19 @@ fn check_across<R: Abort + Threads + Wait + RandomSource + Copy + Send + 'static
     check_counts(&rt, ring, manner, done);
     let mut first = first.join(&rt);
     let mut second = second.join(&rt);
-    assert_eq!(rt;
-        (first.wrong, second.wrong),
-        (None, None),
-        "rings of {ring}"
-    );
-    assert!(rt; keeper.is_drained(), "rings of {ring}");
+    let wrong = (first.wrong, second.wrong);
+    same(&rt, &ring, &wrong, &(None, None));
+    same(&rt, &ring, &keeper.is_drained(), &true);
     keeper.close();
-    assert_eq!(rt; keeper.send_home(), 0, "rings of {ring}");
+    same(&rt, &ring, &keeper.send_home(), &0);
     one.join(&rt);
     other.join(&rt);
     let nothing = Settled {
         left: 0,
         uncollected: 0,
     };
-    assert_eq!(rt;
-        keeper.settle(&mut first.window),
-        nothing,
-        "rings of {ring}"
-    );
-    assert_eq!(rt;
-        keeper.settle(&mut second.window),
-        nothing,
-        "rings of {ring}"
-    );
+    same(&rt, &ring, &keeper.settle(&mut first.window), &nothing);
+    same(&rt, &ring, &keeper.settle(&mut second.window), &nothing);
     Ok(())
 }
 

@@ -1,5 +1,6 @@
 //! Calls of a window, told with the replies.
 
+use crate::test_rows::same;
 use crate::test_scenes::{A, ANSWER_A, ANSWER_B, B, Call, check_room};
 use chess_notation::EpdFault;
 use desk_room::{ByeFault, WindowFault, WithdrawFault};
@@ -18,7 +19,7 @@ const IN_SIXTEEN: &str = "7k/8/5K2/8/8/8/8/R7 w - - dm 16;";
 
 #[test]
 fn each_kind_of_letter_takes_a_place(rt: HostRuntime) -> Result<(), Fail> {
-    let calls = [
+    static CALLS: [(Call, &str); 32] = [
         (Call::Settle, "left 0 uncollected 0"),
         (Call::Submit(A), "ok"),
         (Call::Withdraw(1), "refused NotSent"),
@@ -53,12 +54,12 @@ fn each_kind_of_letter_takes_a_place(rt: HostRuntime) -> Result<(), Fail> {
         (Call::Collect, "none"),
         (Call::Settle, "left 0 uncollected 0"),
     ];
-    check_room(&rt, rt.alloc(), 1, 2, &calls)
+    check_room(&rt, rt.alloc(), 1, 2, &CALLS)
 }
 
 #[test]
 fn nothing_is_sent_after_the_farewell(rt: HostRuntime) -> Result<(), Fail> {
-    let calls = [
+    static CALLS: [(Call, &str); 14] = [
         (Call::Submit(A), "ok"),
         (Call::Bye, "ok"),
         (Call::Bye, "refused Gone"),
@@ -74,12 +75,12 @@ fn nothing_is_sent_after_the_farewell(rt: HostRuntime) -> Result<(), Fail> {
         (Call::Collect, ANSWER_A),
         (Call::Turn, "turned"),
     ];
-    check_room(&rt, rt.alloc(), 1, 8, &calls)
+    check_room(&rt, rt.alloc(), 1, 8, &CALLS)
 }
 
 #[test]
 fn a_line_without_a_record_is_not_sent(rt: HostRuntime) -> Result<(), Fail> {
-    let calls = [
+    static CALLS: [(Call, &str); 7] = [
         (Call::Submit(WITHOUT_SIDE), "refused Fen FieldCount"),
         (Call::Submit(IN_SIXTEEN), "refused BoundTooLarge"),
         (Call::Settle, "left 0 uncollected 0"),
@@ -88,12 +89,12 @@ fn a_line_without_a_record_is_not_sent(rt: HostRuntime) -> Result<(), Fail> {
         (Call::Submit(B), "refused Busy"),
         (Call::Settle, "left 1 uncollected 0"),
     ];
-    check_room(&rt, rt.alloc(), 1, 1, &calls)
+    check_room(&rt, rt.alloc(), 1, 1, &CALLS)
 }
 
 #[test]
 fn deliveries_are_collected_in_order(rt: HostRuntime) -> Result<(), Fail> {
-    let calls = [
+    static CALLS: [(Call, &str); 22] = [
         (Call::Collect, "none"),
         (Call::Submit(A), "ok"),
         (Call::Submit(B), "ok"),
@@ -117,45 +118,40 @@ fn deliveries_are_collected_in_order(rt: HostRuntime) -> Result<(), Fail> {
         (Call::Collect, "none"),
         (Call::Settle, "left 0 uncollected 0"),
     ];
-    check_room(&rt, rt.alloc(), 1, 2, &calls)
+    check_room(&rt, rt.alloc(), 1, 2, &CALLS)
 }
 
 /// Refuses where a fault prints otherwise.
-fn check_name<E: Display + Drop>(
-    rt: &impl Abort,
-    alloc: Global,
-    fault: E,
-    code: &str,
-    wanted: &str,
-) -> Result<(), Fail> {
-    let printed = format!(in alloc; "{fault}")?;
-    assert_eq!(rt; printed.as_str(), wanted);
-    assert_eq!(rt; code, wanted);
-    Ok(())
+fn check_print<E: Display>(rt: &impl Abort, alloc: Global, fault: &E, name: &str) {
+    let printed = fault.to_string(alloc).expect(rt, name);
+    same(rt, &"printed", &printed.as_str(), &name);
 }
 
 #[test]
-fn faults_print_as_their_names(rt: HostRuntime) -> Result<(), Fail> {
-    let alloc = rt.alloc();
-    let faults = [
+fn faults_print_as_their_names(rt: HostRuntime) {
+    static WINDOW_FAULTS: [(WindowFault, &str); 5] = [
         (WindowFault::Gone, "Gone"),
         (WindowFault::BadRecord(EpdFault::BadString), "BadString"),
         (WindowFault::BadRecord(EpdFault::NoMemory), "NoMemory"),
         (WindowFault::Busy, "Busy"),
         (WindowFault::Exhausted, "Exhausted"),
     ];
-    for (fault, wanted) in faults {
-        check_name(&rt, alloc, fault, fault.code(), wanted)?;
+    for (fault, name) in &WINDOW_FAULTS {
+        same(&rt, &"code", &fault.code(), name);
+        check_print(&rt, rt.alloc(), fault, name);
     }
-    for (fault, wanted) in [
+    static WITHDRAW_FAULTS: [(WithdrawFault, &str); 3] = [
         (WithdrawFault::Gone, "Gone"),
         (WithdrawFault::NotSent, "NotSent"),
         (WithdrawFault::Busy, "Busy"),
-    ] {
-        check_name(&rt, alloc, fault, fault.code(), wanted)?;
+    ];
+    for (fault, name) in &WITHDRAW_FAULTS {
+        same(&rt, &"code", &fault.code(), name);
+        check_print(&rt, rt.alloc(), fault, name);
     }
-    for (fault, wanted) in [(ByeFault::Gone, "Gone"), (ByeFault::Busy, "Busy")] {
-        check_name(&rt, alloc, fault, fault.code(), wanted)?;
+    static BYE_FAULTS: [(ByeFault, &str); 2] = [(ByeFault::Gone, "Gone"), (ByeFault::Busy, "Busy")];
+    for (fault, name) in &BYE_FAULTS {
+        same(&rt, &"code", &fault.code(), name);
+        check_print(&rt, rt.alloc(), fault, name);
     }
-    Ok(())
 }
