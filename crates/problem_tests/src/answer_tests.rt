@@ -4,33 +4,22 @@ ghost use Rattle.std.specs.Prelude.{◌≡◌, true};
 ghost use Rattle.chess_moves.specs.Laws.{IsLine};
 ghost use Rattle.chess_problems.specs.Outcomes.{AreLegal, IsPlayable};
 
-use crate::record_reading_tests::record_of;
+use crate::test_rows::{bound_of, move_of, read, same};
 use arrayvec::ArrayVec;
-use chess_board::{Move, Position, Square, after};
+use chess_board::{Move, Position, after};
 use chess_moves::{Rays, is_legal, legal_listed};
 use chess_notation::{NoMemory, answer_text};
-use chess_problems::{Bound, Outcome};
+use chess_problems::Outcome;
 use std::alloc::Global;
 use std::process::Abort;
-use std::test::Fail;
-
-/// The square of a name such as e5.
-fn square_of(file: u8, rank: u8) -> Result<Square, Fail> {
-    Ok(Square::at(file.saturating_sub(b'a'), rank.saturating_sub(b'1')).ok_or("square")?)
-}
 
 /// The moves of names such as e2e4.
-fn moves_of<const N: usize>(names: &[&[u8; 4]]) -> Result<ArrayVec<Move, N>, Fail> {
+fn moves_of<const N: usize>(rt: &impl Abort, names: &[&str]) -> ArrayVec<Move, N> {
     let mut moves = ArrayVec::new();
     for name in names {
-        let m = Move {
-            origin: square_of(name[0], name[1])?,
-            target: square_of(name[2], name[3])?,
-            promotion: None,
-        };
-        moves.try_push(m).ok().ok_or("room")?;
+        moves.try_push(move_of(rt, name)).ok().expect(rt, "room");
     }
-    Ok(moves)
+    moves
 }
 
 /// Whether each of the moves is legal.
@@ -74,88 +63,82 @@ fn is_playable(rays: &Rays, position: &Position, outcome: &Outcome) -> bool
     }
 }
 
-fn mate_of(dm: u8, keys: &[&[u8; 4]], pv: &[&[u8; 4]]) -> Result<Outcome, Fail> {
-    Ok(Outcome::Mate {
-        dm: Bound::new(dm).ok_or("dm")?,
-        keys: moves_of(keys)?,
-        pv: moves_of(pv)?,
-    })
+fn mate_of(rt: &impl Abort, dm: u8, keys: &[&str], pv: &[&str]) -> Outcome {
+    Outcome::Mate {
+        dm: bound_of(rt, dm),
+        keys: moves_of(rt, keys),
+        pv: moves_of(rt, pv),
+    }
 }
 
 /// Refuses where the answer to a line is not this one.
-fn check_answer(
-    rt: &impl Abort,
-    alloc: Global,
-    line: &str,
-    outcome: &Outcome,
-    expected: &str,
-) -> Result<(), Fail> {
+fn check_answer(rt: &impl Abort, alloc: Global, line: &str, outcome: &Outcome, expected: &str) {
     let rays = Rays::new();
-    let record = record_of(alloc, line)?;
+    let record = read(rt, alloc, line.as_bytes()).expect(rt, line);
     if !is_playable(&rays, &record.position, outcome) {
-        return Err(Fail::new("a move that is not legal"));
+        panic!(rt; "a move that is not legal: {line}");
     }
-    let text = answer_text(alloc, &rays, &record, outcome)?;
-    assert_eq!(rt; text.as_str(), expected);
-    Ok(())
+    let text = answer_text(alloc, &rays, &record, outcome).expect(rt, line);
+    same(rt, &line, &text.as_str(), &expected);
 }
 
 #[test]
-fn answers_a_mate_among_other_operations(rt: HostRuntime) -> Result<(), Fail> {
-    let outcome = mate_of(1, &[b"a1a8"], &[b"a1a8"])?;
+fn answers_a_mate_among_other_operations(rt: HostRuntime) {
+    let outcome = mate_of(&rt, 1, &["a1a8"], &["a1a8"]);
     check_answer(
         &rt,
         rt.alloc(),
         "6k1/5ppp/8/8/8/8/8/R3K3 w Q - dm 1;",
         &outcome,
         "6k1/5ppp/8/8/8/8/8/R3K3 w Q - bm Ra8#; dm 1; pv Ra8#;",
-    )?;
+    );
     check_answer(
         &rt,
         rt.alloc(),
         "6k1/5ppp/8/8/8/8/8/R3K3 w Q - dm 1; id \"A;  b\";",
         &outcome,
         "6k1/5ppp/8/8/8/8/8/R3K3 w Q - bm Ra8#; dm 1; id \"A;  b\"; pv Ra8#;",
-    )
+    );
 }
 
 #[test]
-fn answers_keys_in_order_and_a_line_of_three(rt: HostRuntime) -> Result<(), Fail> {
+fn answers_keys_in_order_and_a_line_of_three(rt: HostRuntime) {
     check_answer(
         &rt,
         rt.alloc(),
         "3k4/8/8/8/8/8/2R1R3/R3K3 w Q - dm 1;",
-        &mate_of(1, &[b"a1d1", b"e1c1"], &[b"a1d1"])?,
+        &mate_of(&rt, 1, &["a1d1", "e1c1"], &["a1d1"]),
         "3k4/8/8/8/8/8/2R1R3/R3K3 w Q - bm O-O-O# Rd1#; dm 1; pv Rd1#;",
-    )?;
+    );
     check_answer(
         &rt,
         rt.alloc(),
         "7k/p7/5K2/8/8/8/8/1R6 w - - dm 3;",
-        &mate_of(2, &[b"f6g6", b"f6f7"], &[b"f6g6", b"a7a5", b"b1b8"])?,
+        &mate_of(&rt, 2, &["f6g6", "f6f7"], &["f6g6", "a7a5", "b1b8"]),
         "7k/p7/5K2/8/8/8/8/1R6 w - - bm Kf7 Kg6; dm 2; pv Kg6 a5 Rb8#;",
-    )
+    );
 }
 
 #[test]
-fn answers_that_there_is_no_mate(rt: HostRuntime) -> Result<(), Fail> {
-    for (line, expected) in [
-        (
-            "4k3/8/8/8/8/8/8/4K3 w - - dm 3;",
-            "4k3/8/8/8/8/8/8/4K3 w - - c0 \"no mate in 3\";",
-        ),
-        (
-            "4k3/8/8/8/8/8/8/4K3 w - - dm 15;",
-            "4k3/8/8/8/8/8/8/4K3 w - - c0 \"no mate in 15\";",
-        ),
-    ] {
-        check_answer(&rt, rt.alloc(), line, &Outcome::NoMate, expected)?;
-    }
-    Ok(())
+fn answers_that_there_is_no_mate(rt: HostRuntime) {
+    check_answer(
+        &rt,
+        rt.alloc(),
+        "4k3/8/8/8/8/8/8/4K3 w - - dm 3;",
+        &Outcome::NoMate,
+        "4k3/8/8/8/8/8/8/4K3 w - - c0 \"no mate in 3\";",
+    );
+    check_answer(
+        &rt,
+        rt.alloc(),
+        "4k3/8/8/8/8/8/8/4K3 w - - dm 15;",
+        &Outcome::NoMate,
+        "4k3/8/8/8/8/8/8/4K3 w - - c0 \"no mate in 15\";",
+    );
 }
 
 #[test]
-fn answers_in_ascii_order_of_opcode(rt: HostRuntime) -> Result<(), Fail> {
+fn answers_in_ascii_order_of_opcode(rt: HostRuntime) {
     check_answer(
         &rt,
         rt.alloc(),
@@ -164,13 +147,12 @@ fn answers_in_ascii_order_of_opcode(rt: HostRuntime) -> Result<(), Fail> {
         &Outcome::NoMate,
         "4k3/8/8/8/8/8/8/4K3 w - - A; B; C; D; E; F; G; H; I; J; K; L; M; N; O; P; Q; R; S; T; U; V; W; X; Y; Z; \
          a; b; c; c0 \"no mate in 3\"; d; e; f; g; h; i; j; k; l; m; n; o; p; q; r; s; t; u; v; w; x; y; z;",
-    )
+    );
 }
 
 #[test]
-fn prints_no_memory_as_its_name(rt: HostRuntime) -> Result<(), Fail> {
-    let text = NoMemory.to_string(rt.alloc())?;
-    assert_eq!(rt; text.as_str(), "NoMemory");
-    assert_eq!(rt; NoMemory.code(), "NoMemory");
-    Ok(())
+fn prints_no_memory_as_its_name(rt: HostRuntime) {
+    let text = NoMemory.to_string(rt.alloc()).expect(&rt, "NoMemory");
+    let found = (text.as_str(), NoMemory.code());
+    same(&rt, &"NoMemory", &found, &("NoMemory", "NoMemory"));
 }

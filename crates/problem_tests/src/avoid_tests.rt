@@ -1,15 +1,9 @@
 //! Problems with moves to avoid, on one memo with those without.
 
-use chess_moves::Rays;
-use chess_problems::Bound;
-use mate_answers::solve_input;
-use mate_search::Memo;
-use std::alloc::Global;
-use std::process::Abort;
-use std::test::Fail;
+use crate::test_rows::{check_input, memo_of};
 
 /// Records, each with its answer. The second of the first three keeps its position in the memo as one with a mate in two.
-const KNOWN: [(&str, &str); 7] = [
+static KNOWN: [(&str, &str); 7] = [
     (
         "7k/8/5K2/8/8/8/8/R7 w - - am Kf7 Kg6; dm 2;",
         "7k/8/5K2/8/8/8/8/R7 w - - am Kf7 Kg6; c0 \"no mate in 2\";\n",
@@ -41,32 +35,13 @@ const KNOWN: [(&str, &str); 7] = [
     ),
 ];
 
-/// Refuses where one of them is answered otherwise over this memo.
-fn check_known(
-    rt: &impl Abort,
-    alloc: Global,
-    rays: &Rays,
-    known: &(&str, &str),
-    memo: &mut Memo,
-) -> Result<(), Fail> {
-    let default = Bound::new(1).ok_or("bound")?;
-    let output = solve_input(alloc, rays, known.0.as_bytes(), default, memo)?;
-    assert_eq!(rt; output.text.as_slice(), known.1.as_bytes(), "{}", known.0);
-    assert_eq!(rt; output.refused, 0, "{}", known.0);
-    Ok(())
-}
-
 #[test]
-fn leaves_out_moves_to_avoid(rt: HostRuntime) -> Result<(), Fail> {
-    let rays = Rays::new();
-    for entries in [1, 16, 65_536] {
-        let mut memo = Memo::new(rt.alloc(), entries)?;
-        for known in &KNOWN {
-            check_known(&rt, rt.alloc(), &rays, known, &mut memo)?;
-        }
-        for known in KNOWN.iter().rev() {
-            check_known(&rt, rt.alloc(), &rays, known, &mut memo)?;
+fn leaves_out_moves_to_avoid(rt: HostRuntime) {
+    let alloc = rt.alloc();
+    for entries in &[1, 16, 65_536] {
+        let mut memo = memo_of(&rt, alloc, *entries);
+        for (line, answer) in KNOWN.iter().chain(KNOWN.iter().rev()) {
+            check_input(&rt, alloc, &mut memo, line, line.as_bytes(), (answer, 0));
         }
     }
-    Ok(())
 }

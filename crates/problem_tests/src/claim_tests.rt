@@ -1,17 +1,27 @@
 //! Lines held against their own claims.
 
+use crate::test_rows::{bound_of, memo_of, same};
 use chess_moves::Rays;
-use chess_problems::Bound;
 use mate_claims::{BoundSource, ClaimMemory, ClaimRows, Counts, Verdict, told_of};
 use mate_search::Memo;
-use std::test::Fail;
+use std::alloc::Global;
+use std::process::Abort;
 use text_lines::answer_input;
 
+/// Refuses where something else is told of a rook's ending, in which Kf7 and Kg6 mate in two, with such a tail.
+fn check_told(rt: &impl Abort, alloc: Global, tail: &str, wanted: &str, memo: &mut Memo) {
+    let line = format!(in alloc; "7k/8/5K2/8/8/8/8/R7 w - -{tail}").expect(rt, tail);
+    let row = format!(in alloc; "f:7\t{wanted}\n").expect(rt, tail);
+    let default = bound_of(rt, 3);
+    let told = told_of(alloc, &Rays::new(), b"f:7", line.as_bytes(), default, memo);
+    let told = told.expect(rt, tail);
+    same(rt, &tail, &told.row.as_slice(), &row.as_bytes());
+}
+
 #[test]
-fn tells_the_first_verdict_that_applies(rt: HostRuntime) -> Result<(), Fail> {
-    let alloc = rt.alloc();
-    // A rook's ending, in which Kf7 and Kg6 mate in two, and what is told behind the line's place.
-    let table: [(&str, &str); 38] = [
+fn tells_the_first_verdict_that_applies(rt: HostRuntime) {
+    // Tails, and what is told behind the line's place.
+    static TABLE: [(&str, &str); 38] = [
         (" bm Kf7 Kg6; dm 2;", "sound\t#2\t#2\tKf7 Kg6\tKf7 Kg6\t-"),
         (
             " bm Kg6 Kf7 Kg6; dm 2;",
@@ -102,31 +112,20 @@ fn tells_the_first_verdict_that_applies(rt: HostRuntime) -> Result<(), Fail> {
         (" bm #0; am Kf8;", "BadAvoid\t-\t-\t-\t-\t-"),
         (" 1; bm #0;", "BadOpcode\t-\t-\t-\t-\t-"),
     ];
-    let default = Bound::new(3).ok_or("bound")?;
-    let mut memo = Memo::new(alloc, 16)?;
-    for (tail, expected) in table {
-        let mut line = Vec::from_slice(alloc, b"7k/8/5K2/8/8/8/8/R7 w - -")?;
-        line.extend_from_slice(tail.as_bytes())?;
-        let mut row = Vec::from_slice(alloc, b"f:7\t")?;
-        row.extend_from_slice(expected.as_bytes())?;
-        row.push(b'\n')?;
-        let told = told_of(
-            alloc,
-            &Rays::new(),
-            b"f:7",
-            line.as_slice(),
-            default,
-            &mut memo,
-        )?;
-        assert_eq!(rt; told.row.as_slice(), row.as_slice(), "{tail}");
+    let mut memo = memo_of(&rt, rt.alloc(), 16);
+    for (tail, wanted) in &TABLE {
+        check_told(&rt, rt.alloc(), tail, wanted, &mut memo);
     }
-    Ok(())
+}
+
+fn check_counts(rt: &impl Abort, alloc: Global, counts: &Counts, wanted: &str) {
+    let text = counts.text(alloc).expect(rt, wanted);
+    same(rt, &"counts", &text.as_str(), &wanted);
 }
 
 #[test]
-fn counts_each_verdict(rt: HostRuntime) -> Result<(), Fail> {
-    let mut counts = Counts::new();
-    let verdicts = [
+fn counts_each_verdict(rt: HostRuntime) {
+    static VERDICTS: [Option<Verdict>; 13] = [
         Some(Verdict::Sound),
         Some(Verdict::Sound),
         Some(Verdict::Unclaimed),
@@ -141,67 +140,64 @@ fn counts_each_verdict(rt: HostRuntime) -> Result<(), Fail> {
         None,
         None,
     ];
-    for verdict in verdicts {
+    let mut counts = Counts::new();
+    for verdict in &VERDICTS {
         counts = counts
-            .with(verdict, Some(BoundSource::Line))
-            .ok_or("count")?;
+            .with(*verdict, Some(BoundSource::Line))
+            .expect(&rt, "count");
     }
-    let text = counts.text(rt.alloc())?;
-    assert_eq!(rt;
-        text.as_str(),
-        "sound 2, unclaimed 4, cooked 1, wrong 1, short 1, unsolvable 1, refused 3"
+    check_counts(
+        &rt,
+        rt.alloc(),
+        &counts,
+        "sound 2, unclaimed 4, cooked 1, wrong 1, short 1, unsolvable 1, refused 3",
     );
     // Two that say no number of moves, one of them with a fault of its claims, and a line that is no record.
-    for (verdict, source) in [
+    static MORE: [(Option<Verdict>, Option<BoundSource>); 3] = [
         (Some(Verdict::Short), Some(BoundSource::Default)),
         (None, Some(BoundSource::Default)),
         (None, None),
-    ] {
-        counts = counts.with(verdict, source).ok_or("count")?;
+    ];
+    for (verdict, source) in &MORE {
+        counts = counts.with(*verdict, *source).expect(&rt, "count");
     }
-    let text = counts.text(rt.alloc())?;
-    assert_eq!(rt;
-        text.as_str(),
-        "sound 2, unclaimed 4, cooked 1, wrong 1, short 2, unsolvable 1, refused 5; 2 without a number of moves"
+    check_counts(
+        &rt,
+        rt.alloc(),
+        &counts,
+        "sound 2, unclaimed 4, cooked 1, wrong 1, short 2, unsolvable 1, refused 5; 2 without a number of moves",
     );
-    Ok(())
 }
 
 #[test]
-fn counts_the_lines_of_an_input(rt: HostRuntime) -> Result<(), Fail> {
+fn counts_the_lines_of_an_input(rt: HostRuntime) {
     let alloc = rt.alloc();
     let record = "6k1/5ppp/8/8/8/8/8/R3K3 w Q - bm Ra8; dm 1;";
-    let mut input = Vec::from_slice(alloc, record.as_bytes())?;
-    input.extend_from_slice(b"\r\n  \n")?;
-    input.extend_from_slice(record.as_bytes())?;
-    // Their third line has 2,000 bytes.
-    let longer = input.len() + 2000 - record.len();
-    input.resize(longer, b' ')?;
-    input.extend_from_slice(b"\nx")?;
+    // The third line has 2,000 bytes.
+    let input = format!(in alloc; "{record}\r\n  \n{record:<2000}\nx").expect(&rt, "input");
     let rays = Rays::new();
     let rows = ClaimRows {
         rays: &rays,
-        default: Bound::new(3).ok_or("bound")?,
+        default: bound_of(&rt, 3),
         prefix: b"f:",
     };
     let mut memory = ClaimMemory {
-        memo: Memo::new(alloc, 16)?,
+        memo: memo_of(&rt, alloc, 16),
         counts: Counts::new(),
     };
     let mut text = Vec::new(alloc);
     let before = memory.counts.not_sound();
-    let Ok(refused) = answer_input(alloc, &rows, input.as_slice(), &mut memory, &mut text) else {
-        return Err(Fail::from("stopped"));
+    let Ok(refused) = answer_input(alloc, &rows, input.as_bytes(), &mut memory, &mut text) else {
+        panic!(rt; "stopped");
     };
     memory.count_unread(before, refused);
-    let expected =
+    let expected: &[u8] =
         b"f:1\tsound\t#1\t#1\tRa8#\tRa8#\t-\nf:3\tTooLong\t-\t-\t-\t-\t-\nf:4\tFen FieldCount\t-\t-\t-\t-\t-\n";
-    assert_eq!(rt; text.as_slice(), expected.as_slice());
-    assert_eq!(rt; refused, 2);
-    let counts = memory.counts.text(alloc)?;
-    assert_eq!(rt;
-        counts.as_str(),
-        "sound 1, unclaimed 0, cooked 0, wrong 0, short 0, unsolvable 0, refused 2"
+    same(&rt, &"rows", &(text.as_slice(), refused), &(expected, 2));
+    check_counts(
+        &rt,
+        alloc,
+        &memory.counts,
+        "sound 1, unclaimed 0, cooked 0, wrong 0, short 0, unsolvable 0, refused 2",
     );
-    Ok(())
 }

@@ -1,19 +1,24 @@
 //! Inputs and what they are answered, line by line.
 
-use chess_moves::Rays;
-use chess_problems::Bound;
-use mate_answers::solve_input;
+use crate::test_rows::{check_input, memo_of};
 use mate_search::Memo;
-use std::test::Fail;
+use std::alloc::Global;
+use std::process::Abort;
+
+/// A record with mate on the back rank, and its answer.
+const BACK_RANK: &str = "6k1/5ppp/8/8/8/8/8/R3K3 w Q - dm 1;";
+
+const ANSWER: &str = "6k1/5ppp/8/8/8/8/8/R3K3 w Q - bm Ra8#; dm 1; pv Ra8#;\n";
+
+const TOO_LONG: &str = "# line 1: TooLong\n";
 
 #[test]
-fn answers_the_lines_of_an_input(rt: HostRuntime) -> Result<(), Fail> {
-    let back_rank = "6k1/5ppp/8/8/8/8/8/R3K3 w Q - bm Ra8#; dm 1; pv Ra8#;\n";
-    let table = [
+fn answers_the_lines_of_an_input(rt: HostRuntime) {
+    static TABLE: [(&str, &str, usize); 6] = [
         ("", "", 0),
         ("\n  \n\r\n", "", 0),
-        ("6k1/5ppp/8/8/8/8/8/R3K3 w Q - dm 1;", back_rank, 0),
-        ("6k1/5ppp/8/8/8/8/8/R3K3 w Q - dm 1;\r\n", back_rank, 0),
+        (BACK_RANK, ANSWER, 0),
+        ("6k1/5ppp/8/8/8/8/8/R3K3 w Q - dm 1;\r\n", ANSWER, 0),
         (
             "\n  \n8/8/8/8/8/8/8/K7 w - - dm 1;\r\n6k1/5ppp/8/8/8/8/8/R3K3 w Q - dm 1;",
             "# line 3: Fen BadKings\n6k1/5ppp/8/8/8/8/8/R3K3 w Q - bm Ra8#; dm 1; pv Ra8#;\n",
@@ -27,60 +32,65 @@ fn answers_the_lines_of_an_input(rt: HostRuntime) -> Result<(), Fail> {
             1,
         ),
     ];
-    let default = Bound::new(1).ok_or("bound")?;
-    let mut memo = Memo::new(rt.alloc(), 16)?;
-    for (input, text, refused) in table {
-        let output = solve_input(
+    let mut memo = memo_of(&rt, rt.alloc(), 16);
+    for (input, text, refused) in &TABLE {
+        check_input(
+            &rt,
             rt.alloc(),
-            &Rays::new(),
-            input.as_bytes(),
-            default,
             &mut memo,
-        )?;
-        assert_eq!(rt; output.text.as_slice(), text.as_bytes(), "{input}");
-        assert_eq!(rt; output.refused, refused, "{input}");
+            input,
+            input.as_bytes(),
+            (text, *refused),
+        );
     }
-    Ok(())
+}
+
+/// Refuses where a line is answered otherwise that begins and ends so, and has so many bytes before its end, and where the line behind it
+/// has no reply.
+fn check_long(
+    rt: &impl Abort,
+    alloc: Global,
+    memo: &mut Memo,
+    line: (&str, usize, &str),
+    reply: &str,
+) {
+    let (begin, bytes, end) = line;
+    let input = format!(in alloc; "{begin:<bytes$}{end}\n8/8").expect(rt, reply);
+    let wanted = format!(in alloc; "{reply}# line 2: Fen FieldCount\n").expect(rt, reply);
+    let refused = if reply == TOO_LONG { 2 } else { 1 };
+    check_input(
+        rt,
+        alloc,
+        memo,
+        &line,
+        input.as_bytes(),
+        (wanted.as_str(), refused),
+    );
 }
 
 #[test]
-fn a_long_line_is_blank_or_too_long(rt: HostRuntime) -> Result<(), Fail> {
-    let alloc = rt.alloc();
-    let back_rank = "6k1/5ppp/8/8/8/8/8/R3K3 w Q - bm Ra8#; dm 1; pv Ra8#;\n";
-    let record = "6k1/5ppp/8/8/8/8/8/R3K3 w Q - dm 1;";
-    let too_long = "# line 1: TooLong\n";
+fn a_long_line_is_blank_or_too_long(rt: HostRuntime) {
     // What a line begins with, how many bytes it has with the spaces behind that, what it ends with, and the reply.
-    let table = [
-        (record, 1023, "", back_rank),
-        (record, 1023, "\r", back_rank),
-        (record, 1024, "", too_long),
-        (record, 1024, "\r", too_long),
-        (record, 1023, "\r\r", too_long),
-        (record, 100_000, "", too_long),
-        ("", 1024, "", ""),
-        ("", 1025, "\r", ""),
-        ("", 100_000, "", ""),
-        ("", 100_000, "\r", ""),
-        ("", 100_000, "\r\r", too_long),
-        ("", 100_000, "\r ", too_long),
-        ("", 100_000, "x", too_long),
-        ("", 1024, "x", too_long),
-        ("x", 100_000, "", too_long),
-        ("\r", 100_000, "\r", too_long),
+    static TABLE: [((&str, usize, &str), &str); 16] = [
+        ((BACK_RANK, 1023, ""), ANSWER),
+        ((BACK_RANK, 1023, "\r"), ANSWER),
+        ((BACK_RANK, 1024, ""), TOO_LONG),
+        ((BACK_RANK, 1024, "\r"), TOO_LONG),
+        ((BACK_RANK, 1023, "\r\r"), TOO_LONG),
+        ((BACK_RANK, 100_000, ""), TOO_LONG),
+        (("", 1024, ""), ""),
+        (("", 1025, "\r"), ""),
+        (("", 100_000, ""), ""),
+        (("", 100_000, "\r"), ""),
+        (("", 100_000, "\r\r"), TOO_LONG),
+        (("", 100_000, "\r "), TOO_LONG),
+        (("", 100_000, "x"), TOO_LONG),
+        (("", 1024, "x"), TOO_LONG),
+        (("x", 100_000, ""), TOO_LONG),
+        (("\r", 100_000, "\r"), TOO_LONG),
     ];
-    let default = Bound::new(1).ok_or("bound")?;
-    let mut memo = Memo::new(alloc, 16)?;
-    for (begin, bytes, end, reply) in table {
-        let mut input = Vec::from_slice(alloc, begin.as_bytes())?;
-        input.resize(bytes, b' ')?;
-        input.extend_from_slice(end.as_bytes())?;
-        input.extend_from_slice(b"\n8/8")?;
-        let mut want = Vec::from_slice(alloc, reply.as_bytes())?;
-        want.extend_from_slice(b"# line 2: Fen FieldCount\n")?;
-        let refused = if reply == too_long { 2 } else { 1 };
-        let output = solve_input(alloc, &Rays::new(), input.as_slice(), default, &mut memo)?;
-        assert_eq!(rt; output.text.as_slice(), want.as_slice(), "{bytes}");
-        assert_eq!(rt; output.refused, refused, "{bytes}");
+    let mut memo = memo_of(&rt, rt.alloc(), 16);
+    for (line, reply) in &TABLE {
+        check_long(&rt, rt.alloc(), &mut memo, *line, reply);
     }
-    Ok(())
 }

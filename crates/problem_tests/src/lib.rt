@@ -31,4 +31,6 @@ mod san_tests;
 #[cfg(test)]
 mod solve_tests;
 #[cfg(test)]
+mod test_rows;
+#[cfg(test)]
 mod view_tests;

@@ -2,11 +2,12 @@
 
 ghost use Rattle.std.specs.Prelude.{⊤};
 
+use crate::test_rows::{bound_of, memo_of, same};
 use chess_moves::Rays;
-use chess_problems::Bound;
 use mate_answers::{Limited, LimitedMemory, TimeLimit};
 use mate_search::{Halt, Memo, OneThread};
-use std::test::Fail;
+use std::alloc::Global;
+use std::process::Abort;
 use text_lines::answer_bytes;
 
 /// A limit that is over from the first question on, or never.
@@ -27,11 +28,35 @@ impl TimeLimit for Clock {
     fn begin(&self) {}
 }
 
+/// Refuses where a line is answered otherwise, or is not counted where it was not decided.
+fn check_limited(
+    rt: &impl Abort,
+    alloc: Global,
+    is_over: bool,
+    (line, wanted): (&str, &str),
+    memory: &mut LimitedMemory<Memo>,
+) {
+    let limited = Limited {
+        rays: &Rays::new(),
+        default: bound_of(rt, 3),
+        seconds: 7,
+        limit: &Clock { is_over },
+        solver: OneThread,
+    };
+    let before = memory.undecided;
+    let output = answer_bytes(alloc, &limited, line.as_bytes(), memory).expect(rt, line);
+    let found = (output.text.as_slice(), output.refused);
+    same(rt, &line, &found, &(wanted.as_bytes(), 0));
+    let is_late = wanted.contains("not decided");
+    let counted = before.saturating_add(is_late as usize);
+    same(rt, &line, &memory.undecided, &counted);
+}
+
 /// A search asks whether to stop at each position behind the first that it searches for more than a mate in one. So where the time is over
 /// at once, mates in one and in two are judged, and no longer ones.
 #[test]
-fn says_what_was_judged_in_time(rt: HostRuntime) -> Result<(), Fail> {
-    let table = [
+fn says_what_was_judged_in_time(rt: HostRuntime) {
+    static TABLE: [(&str, &str, &str); 4] = [
         (
             "6k1/2r2ppp/3r4/8/8/8/8/R6K w - - dm 3; id \"x\";",
             "6k1/2r2ppp/3r4/8/8/8/8/R6K w - - c0 \"no mate in 2, not decided within 3 in 7 s\"; dm 3; id \"x\";\n",
@@ -56,36 +81,14 @@ fn says_what_was_judged_in_time(rt: HostRuntime) -> Result<(), Fail> {
             "7k/8/5K2/8/8/8/8/R7 w - - bm Kf7 Kg6; dm 2; pv Kg6 Kg8 Ra8#;\n",
         ),
     ];
-    let rays = Rays::new();
+    let alloc = rt.alloc();
     let mut memory = LimitedMemory {
-        memory: Memo::new(rt.alloc(), 16)?,
+        memory: memo_of(&rt, alloc, 16),
         undecided: 0,
     };
-    for (line, late, whole) in table {
-        for (is_over, input, wanted) in [
-            (true, line, late),
-            (false, late, whole),
-            (false, line, whole),
-        ] {
-            let clock = Clock { is_over };
-            let limited = Limited {
-                rays: &rays,
-                default: Bound::new(3).ok_or("bound")?,
-                seconds: 7,
-                limit: &clock,
-                solver: OneThread,
-            };
-            let before = memory.undecided;
-            let output = answer_bytes(rt.alloc(), &limited, input.as_bytes(), &mut memory)?;
-            assert_eq!(rt; output.text.as_slice(), wanted.as_bytes(), "{input}");
-            assert_eq!(rt; output.refused, 0);
-            let is_late = wanted.contains("not decided");
-            assert_eq!(rt;
-                memory.undecided,
-                before.saturating_add(is_late as usize),
-                "{input}"
-            );
-        }
+    for (line, late, whole) in &TABLE {
+        check_limited(&rt, alloc, true, (line, late), &mut memory);
+        check_limited(&rt, alloc, false, (late, whole), &mut memory);
+        check_limited(&rt, alloc, false, (line, whole), &mut memory);
     }
-    Ok(())
 }

@@ -6,14 +6,14 @@ ghost use Rattle.std.specs.Prelude.{⊤};
 use crate::plain_memo::PlainMemo;
 use crate::plain_search::loses;
 use crate::plain_solving::solve_either;
-use chess_board::{Move, Position, after, read_fen};
+use crate::test_rows::{bound_of, memo_of, position_of, same};
+use chess_board::{Move, Position, after};
 use chess_moves::{Rays, is_legal, legal, legal_moves};
-use chess_problems::{AvoidList, Bound, Outcome, Problem};
+use chess_problems::{AvoidList, Outcome, Problem};
 use mate_search::{Guide, Halt, Memo, leaves_lost, solve_until};
 use std::alloc::Global;
 use std::cell::Cell;
 use std::process::Abort;
-use std::test::Fail;
 
 /// Counts how often it is asked whether to stop, which it never says.
 #[derive(Drop)]
@@ -50,7 +50,7 @@ impl Chance {
 }
 
 /// Where games begin: with rights to castle on both sides, pawns that may be taken en passant or promote, and few men and more.
-const BEGUN: [&str; 8] = [
+static BEGUN: [&str; 8] = [
     "7n/6Q1/2Np4/2k1P3/3N4/7K/8/8 w - - 0 1",
     "1r3N1k/4NR1P/1b4K1/8/4r3/8/8/8 w - - 0 1",
     "r3k2r/p6p/8/3N4/8/3Q4/8/4K3 w kq - 0 1",
@@ -97,95 +97,81 @@ struct Both {
 
 impl Both {
     /// Nothing yet, over memos of so many entries.
-    fn new(alloc: Global, entries: usize) -> Result<Both, Fail> {
-        Ok(Both {
-            memo: Memo::new(alloc, entries)?,
-            plain: PlainMemo::new(alloc, entries).ok_or("plain")?,
+    fn new(rt: &impl Abort, alloc: Global, entries: usize) -> Both {
+        Both {
+            memo: memo_of(rt, alloc, entries),
+            plain: PlainMemo::new(alloc, entries).expect(rt, "plain"),
             asked: Counter {
                 asked: Cell::new(0),
             },
             wanted: Counter {
                 asked: Cell::new(0),
             },
-        })
+        }
     }
 
     /// Refuses where one asked more often than the other, or keeps more.
-    fn check_counts(&self, rt: &impl Abort) -> Result<(), Fail> {
-        assert_eq!(rt; self.asked.asked.get(), self.wanted.asked.get());
-        assert_eq!(rt; self.memo.len(), self.plain.len());
-        Ok(())
+    fn check_counts(&self, rt: &impl Abort) {
+        let found = (self.asked.asked.get(), self.memo.len());
+        let wanted = (self.wanted.asked.get(), self.plain.len());
+        same(rt, &"asked and kept", &found, &wanted);
     }
 
     /// Asks both whether each first move leaves the defender lost with `k` more.
-    fn check_first_moves(
-        &mut self,
-        rt: &impl Abort,
-        rays: &Rays,
-        position: &Position,
-        k: u8,
-    ) -> Result<(), Fail> {
+    fn check_first_moves(&mut self, rt: &impl Abort, rays: &Rays, position: &Position, k: u8) {
         for m in legal_moves(rays, position) {
             let _origin = m.origin;
             if !is_legal(rays, position, m) {
-                return Err(Fail::from("legal"));
+                panic!(rt; "not legal: {m:?}");
             }
             let guide = Guide {
                 rays,
                 halt: &self.asked,
             };
-            let found = leaves_lost(&guide, position, m, k, &mut self.memo)?;
+            let found = leaves_lost(&guide, position, m, k, &mut self.memo);
             let guide = Guide {
                 rays,
                 halt: &self.wanted,
             };
-            let wanted = loses(&guide, &after(position, m), k, &mut self.plain)?;
-            assert_eq!(rt; found, wanted);
-            self.check_counts(rt)?;
+            let wanted = loses(&guide, &after(position, m), k, &mut self.plain);
+            same(
+                rt,
+                &m,
+                &found.expect(rt, "found"),
+                &wanted.expect(rt, "wanted"),
+            );
+            self.check_counts(rt);
         }
-        Ok(())
     }
 
     /// Asks both what there is to say of a problem, and gives it.
-    fn check_outcome(
-        &mut self,
-        rt: &impl Abort,
-        rays: &Rays,
-        problem: &Problem,
-    ) -> Result<Outcome, Fail> {
-        let found = solve_until(rays, problem, &mut self.memo, &self.asked)?;
+    fn check_outcome(&mut self, rt: &impl Abort, rays: &Rays, problem: &Problem) -> Outcome {
+        let found = solve_until(rays, problem, &mut self.memo, &self.asked).expect(rt, "found");
         let guide = Guide {
             rays,
             halt: &self.wanted,
         };
-        let wanted = solve_either(&guide, problem, &mut self.plain)?;
-        assert_eq!(rt; found, wanted);
-        self.check_counts(rt)?;
-        Ok(found)
+        let wanted = solve_either(&guide, problem, &mut self.plain).expect(rt, "wanted");
+        same(rt, &"outcome", &found, &wanted);
+        self.check_counts(rt);
+        found
     }
 
     /// The same of a position, and then without its first key, or another move where it has none.
-    fn check_outcomes(
-        &mut self,
-        rt: &impl Abort,
-        rays: &Rays,
-        position: &Position,
-        most: u8,
-    ) -> Result<(), Fail> {
+    fn check_outcomes(&mut self, rt: &impl Abort, rays: &Rays, position: &Position, most: u8) {
         let mut problem = Problem {
             position: *position,
-            bound: Bound::new(most).ok_or("bound")?,
+            bound: bound_of(rt, most),
             avoid: AvoidList::new(),
         };
-        let first = match self.check_outcome(rt, rays, &problem)? {
+        let first = match self.check_outcome(rt, rays, &problem) {
             Outcome::Mate { keys, .. } => keys.get(0).copied(),
             Outcome::NoMate => legal(rays, position).get(0).copied(),
         };
         if let Some(m) = first {
             problem.avoid.push(m);
-            let _outcome = self.check_outcome(rt, rays, &problem)?;
+            let _outcome = self.check_outcome(rt, rays, &problem);
         }
-        Ok(())
     }
 
     /// Asks both about a position of a game that begins there: its first moves, and the problem before or behind these.
@@ -196,26 +182,25 @@ impl Both {
         text: &str,
         chance: &mut Chance,
         most: u8,
-    ) -> Result<(), Fail> {
-        let begun = read_fen(text.as_bytes())?.position;
+    ) {
+        let begun = position_of(rt, text);
         let moves = chance.below(4).saturating_mul(2);
         let position = played(rays, &begun, chance, moves);
         let is_last = chance.below(2) == 0;
         if !is_last {
-            self.check_outcomes(rt, rays, &position, most.saturating_sub(1))?;
+            self.check_outcomes(rt, rays, &position, most.saturating_sub(1));
         }
         for k in 0..most {
-            self.check_first_moves(rt, rays, &position, k)?;
+            self.check_first_moves(rt, rays, &position, k);
         }
         if is_last {
-            self.check_outcomes(rt, rays, &position, most.saturating_sub(1))?;
+            self.check_outcomes(rt, rays, &position, most.saturating_sub(1));
         }
-        Ok(())
     }
 }
 
 /// Endings with few moves, which are searched for longer mates: most positions that a large memo keeps are of these.
-const ENDINGS: [&str; 4] = [
+static ENDINGS: [&str; 4] = [
     "8/8/8/3k4/8/8/8/R3K3 w Q - 0 1",
     "7k/8/8/5K2/8/1R6/8/8 w - - 0 1",
     "8/8/4k3/8/8/2Q5/8/K7 w - - 0 1",
@@ -235,59 +220,58 @@ fn check_games(
     entries: usize,
     games: (usize, usize),
     most: u8,
-) -> Result<usize, Fail> {
+) -> usize {
     let rays = Rays::new();
     let mut chance = Chance {
         state: games.1 as u64,
     };
-    let mut both = Both::new(alloc, entries)?;
+    let mut both = Both::new(rt, alloc, entries);
     mark(alloc);
     for game in 0..games.0 {
-        let text = BEGUN.get(game % BEGUN.len()).ok_or("game")?;
-        both.check_game(rt, &rays, text, &mut chance, most)?;
+        let text = BEGUN.get(game % BEGUN.len()).expect(rt, "game");
+        both.check_game(rt, &rays, text, &mut chance, most);
     }
     for game in 0..games.1 {
-        let text = ENDINGS.get(game % ENDINGS.len()).ok_or("ending")?;
-        both.check_game(rt, &rays, text, &mut chance, most.saturating_add(2))?;
+        let text = ENDINGS.get(game % ENDINGS.len()).expect(rt, "ending");
+        both.check_game(rt, &rays, text, &mut chance, most.saturating_add(2));
     }
     mark(alloc);
-    Ok(both.memo.len())
+    both.memo.len()
 }
 
 /// Memos that are soon full, where a filter begins anew again and again: on both sides of the least with a table, and of those where a
 /// filter has twice as many words.
 #[test]
-fn small_memos_are_asked_as_often(rt: HostRuntime) -> Result<(), Fail> {
-    for entries in [1, 2, 7, 8, 100, 256, 257, 511, 512, 513] {
-        assert_eq!(rt; check_games(&rt, rt.alloc(), entries, (8, 4), 3)?, entries);
+fn small_memos_are_asked_as_often(rt: HostRuntime) {
+    static TABLE: [usize; 10] = [1, 2, 7, 8, 100, 256, 257, 511, 512, 513];
+    for entries in &TABLE {
+        let kept = check_games(&rt, rt.alloc(), *entries, (8, 4), 3);
+        same(&rt, entries, &kept, entries);
     }
-    Ok(())
 }
 
 /// Memos that are full just where a filter has no room for more marks at first, or one position later, or once it has grown, and on both
 /// sides of one where it has twice as many words. The largest begins anew once it has grown.
 #[test]
-fn memos_are_asked_as_often_where_a_filter_grows(rt: HostRuntime) -> Result<(), Fail> {
-    for (entries, endings) in [
+fn memos_are_asked_as_often_where_a_filter_grows(rt: HostRuntime) {
+    static TABLE: [(usize, usize); 6] = [
         (4_095, 8),
         (4_097, 8),
         (8_191, 16),
         (8_192, 16),
         (8_193, 16),
         (9_000, 24),
-    ] {
-        assert_eq!(rt;
-            check_games(&rt, rt.alloc(), entries, (8, endings), 3)?,
-            entries
-        );
+    ];
+    for (entries, endings) in &TABLE {
+        let kept = check_games(&rt, rt.alloc(), *entries, (8, *endings), 3);
+        same(&rt, endings, &kept, entries);
     }
-    Ok(())
 }
 
 /// The largest memo, which is not full. The same games as of that one of 9,000 lead to more positions than its
 /// filter has marks for at first.
 #[test]
-fn a_large_memo_is_asked_as_often(rt: HostRuntime) -> Result<(), Fail> {
-    assert!(rt; check_games(&rt, rt.alloc(), 65_536, (8, 24), 3)? > 10_000);
-    Ok(())
+fn a_large_memo_is_asked_as_often(rt: HostRuntime) {
+    let kept = check_games(&rt, rt.alloc(), 65_536, (8, 24), 3);
+    same(&rt, &kept, &(kept > 10_000), &true);
 }
