@@ -155,7 +155,8 @@ static MOVES: [Explanation; 1] = [Explanation {
     means: "The number before it counts the moves from 1. A move is written in SAN, where a capital
 letter stands for a piece and none for a pawn, or by its coordinates; and it may not leave
 its own king attacked. `matedesk moves FEN` lists all that are legal. `verify` says so of an
-operand of `bm` that is a string or names no legal move.",
+operand of `bm` that is a string or names no legal move, and of the first word of `pv` where
+that claims.",
     example: Some(Example {
         faulty: "matedesk play \"4k3/8/8/8/8/8/8/R3K3 w Q - 0 1\" O-O",
         mended: "matedesk play \"4k3/8/8/8/8/8/8/R3K3 w Q - 0 1\" O-O-O",
