@@ -33,6 +33,7 @@ _matedesk() {
                 '--memo=[positions that are remembered]:positions: ' \
                 '--limit=[seconds that a record may take]:seconds: ' \
                 '--workers=[threads that solve each record]:threads:(1 2 3 4 5 6 7 8 9 10 11 12 13 14 15 16)' \
+                '--json[print JSON]' \
                 '--from=[line of the first file to begin with]:line: ' \
                 '--progress[tell how far it is]' \
                 '--record[records themselves in place of files]' \
@@ -43,7 +44,10 @@ _matedesk() {
             _arguments $help \
                 '--bound=[moves within which a record without dm asks for mate]:bound:(1 2 3 4 5 6 7 8 9 10 11 12 13 14 15)' \
                 '--memo=[positions that are remembered]:positions: ' \
+                '--import[take problems as import does]' \
+                '--limit=[seconds that a record may take]:seconds: ' \
                 '--header[print a first row of names]' \
+                '--json[print JSON]' \
                 '--from=[line of the first file to begin with]:line: ' \
                 '--progress[tell how far it is]' \
                 '--record[records themselves in place of files]' \
@@ -57,6 +61,8 @@ _matedesk() {
                 '--defences[show only the defences that parry the threat]' \
                 '--set-play[show what would follow were the defender to move first]' \
                 '--tries[show the first moves that one reply alone refutes]' \
+                '--column[print each tree on one line]' \
+                '--figurines[show pieces as figurines]' \
                 '--lines=[lines that a tree has at most]:lines: ' \
                 '--from=[line of the first file to begin with]:line: ' \
                 '--progress[tell how far it is]' \
@@ -77,6 +83,7 @@ _matedesk() {
             _arguments $help \
                 '--keep[tell in c9 what was changed]' \
                 '--bound=[moves within which a problem that says no number asks for mate]:bound:(1 2 3 4 5 6 7 8 9 10 11 12 13 14 15)' \
+                '--letters=[letters of men]:letters:(cs da de en es et fi fr hu is it nl no pl pt ro ru sv)' \
                 '*:collection:_files'
             ;;
         serve)
@@ -91,7 +98,7 @@ _matedesk() {
         uci) _arguments $help ;;
         look) _arguments $help '--board[draw the board too]' '--flip[draw it as Black sees it]' '--svg[draw it as an image]' '--lines[read files of positions]' '*:FEN or file:_files' ;;
         play) _arguments $help '1:FEN: ' '*:move: ' ;;
-        moves) _arguments $help '--coordinates[write moves by their coordinates]' '--fen[write the FEN after each move]' '--lines[read files of positions]' '*:FEN or file:_files' ;;
+        moves) _arguments $help '--coordinates[write moves by their coordinates]' '--fen[write the FEN after each move]' '--json[print JSON]' '--lines[read files of positions]' '*:FEN or file:_files' ;;
         perft) _arguments $help '--divide[count the lines behind each first move too]' '--lines[read files of positions]' '1:FEN or depth: ' '2:depth:(0 1 2 3 4 5 6)' '*:file:_files' ;;
         explain) _arguments $help '*:code:{compadd -- ${(f)"$(matedesk explain 2>/dev/null | cut -d : -f 1)"}}' ;;
         esac

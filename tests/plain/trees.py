@@ -4,6 +4,18 @@ plainly and slowly."""
 from fen import HOMES, Position, in_check
 from moves import after, bare_text, legal_moves
 
+HEADINGS = {"set play", "tries"}
+FIGURINES = str.maketrans("KQRBN", "\u2654\u2655\u2656\u2657\u2658")
+
+
+def in_column(lines):
+    """The same lines as one, a colon behind each heading; none where there is none."""
+    return [" ".join(line.strip() + (":" if line in HEADINGS else "") for line in lines)] if lines else []
+
+
+def with_figurines(lines):
+    return [line.translate(FIGURINES) for line in lines]
+
 
 def moved(position, move):
     """The position after a move."""

@@ -7,14 +7,14 @@ ghost use Rattle.move_words.specs.declared.naming.Named.{Named as NamedValue};
 
 use chess_board::{Move, Position};
 use chess_moves::Rays;
-use move_words::{Named, named_move};
+use move_words::{Letters, Named, named_move};
 
-/// The one legal move that a word names, if it names one alone.
-pub fn move_meant(rays: &Rays, position: &Position, word: &[u8]) -> Option<Move>
-    ensures meant { IfSome result (λ m. named position.now word.now ≡ NamedValue.One m) }
-    ensures none { IfNone result ((m : MoveValue) → named position.now word.now ≢ NamedValue.One m) }
+/// The one legal move that a word names under these letters, if it names one alone.
+pub fn move_meant(rays: &Rays, letters: &Letters, position: &Position, word: &[u8]) -> Option<Move>
+    ensures meant { IfSome result (λ m. named letters.now position.now word.now ≡ NamedValue.One m) }
+    ensures none { IfNone result ((m : MoveValue) → named letters.now position.now word.now ≢ NamedValue.One m) }
 {
-    match named_move(rays, position, word) {
+    match named_move(rays, letters, position, word) {
         Named::One(m) => Some(m),
         Named::No | Named::Several => None,
     }

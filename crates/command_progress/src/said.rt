@@ -102,10 +102,41 @@ fn said_by_operations(operations: &[u8]) -> Said {
     said
 }
 
+/// What follows the first place of a text in a line, if it stands there.
+fn behind<'t>(line: &'t [u8], text: &[u8]) -> Option<&'t [u8]> {
+    for index in 0..line.len() {
+        let (_, rest) = line.split_at(index);
+        if let Some(more) = rest.strip_prefix(text) {
+            return Some(more);
+        }
+    }
+    None
+}
+
+/// What an object in JSON says. In its strings a quotation mark stands behind a stroke, so these are its own members.
+fn said_by_object(line: &[u8]) -> Said {
+    if behind(line, b",\"error\":\"").is_some() {
+        return Said::Refused;
+    }
+    if behind(line, b",\"verdict\":\"").is_some() {
+        return Said::Row;
+    }
+    match behind(line, b",\"dm\":") {
+        Some([first, second, ..]) if second.is_ascii_digit() => Said::Mate(number_in(&[
+            *first, *second,
+        ])),
+        Some([first, ..]) if first.is_ascii_digit() => Said::Mate(number_in(&[*first])),
+        _ => Said::NoMate,
+    }
+}
+
 /// What a line says.
 pub(crate) fn said_by(line: &[u8]) -> Said {
     if line.starts_with(b"# line ") {
         return Said::Refused;
+    }
+    if line.starts_with(b"{") {
+        return said_by_object(line);
     }
     if line.contains(&b'\t') {
         return Said::Row;

@@ -6,7 +6,7 @@ use Rattle.clap.specs.declared.builder.action.ArgAction.TheVariants.{SetTrue}
 use Rattle.clap.specs.declared.builder.value_parser.ValueParser.TheVariants as parser
 use Rattle.clap.specs.declared.builder.arg.Arg.{Arg}
 use Rattle.command_words.specs.ClapWords.{new_rule, rule_of}
-use Rattle.command_words.specs.CommandLine.{bound_rule, depth_rule, files_rule, flag_rule, from_rule, import_bound_rule, limit_rule, memo_rule}
+use Rattle.command_words.specs.CommandLine.{bound_rule, depth_rule, files_rule, flag_rule, from_rule, import_bound_rule, letters_rule, limit_rule, memo_rule}
 use Rattle.command_words.specs.CommandLine.{most_lines_rule, progress_rule, shown_rule, solve_workers_rule, title_rule, wanted, words_rule, workers_rule}
 use Rattle.command_words.specs.declared.arguments.Argument.{Argument}
 use Rattle.command_words.specs.declared.arguments.Argument.TheVariants as argument
@@ -41,6 +41,8 @@ argument_rule argument.File = files_rule
 argument_rule argument.Positions = files_rule
 argument_rule argument.Bound = bound_rule
 argument_rule argument.ImportBound = import_bound_rule
+argument_rule argument.VerifyBound = import_bound_rule
+argument_rule argument.Letters = letters_rule
 argument_rule argument.Workers = workers_rule
 argument_rule argument.SolveWorkers = solve_workers_rule
 argument_rule argument.Memo = memo_rule (codes "65536")
@@ -56,9 +58,14 @@ argument_rule argument.RecordFen = flag_rule (codes "fen")
 argument_rule argument.Defences = flag_rule (codes "defences")
 argument_rule argument.SetPlay = flag_rule (codes "set-play")
 argument_rule argument.Tries = flag_rule (codes "tries")
+argument_rule argument.Column = flag_rule (codes "column")
+argument_rule argument.TreeFigurines = flag_rule (codes "figurines")
 argument_rule argument.Solutions = flag_rule (codes "solutions")
 argument_rule argument.Figurines = flag_rule (codes "figurines")
 argument_rule argument.Header = flag_rule (codes "header")
+argument_rule argument.Import = flag_rule (codes "import")
+argument_rule argument.Json = flag_rule (codes "json")
+argument_rule argument.MovesJson = flag_rule (codes "json")
 argument_rule argument.Keep = flag_rule (codes "keep")
 argument_rule argument.Board = flag_rule (codes "board")
 argument_rule argument.Flip = flag_rule (codes "flip")

@@ -1,6 +1,6 @@
 -- What the words of a command line ask for.
 use Rattle.std.specs.Prelude.{ℕ, ◌^◌, ◌==◌, ◌&&◌, ◌||◌, Bool, List, [], ◌∷◌, Option, None, Some, true, false, codes}
-use Rattle.std.specs.Prelude.{length, nat_lt, option_map, option_and_then, unwrap_or, if◌then◌else◌}
+use Rattle.std.specs.Prelude.{is_some, length, nat_lt, not, option_map, option_and_then, unwrap_or, if◌then◌else◌}
 use Rattle.std.specs.List.{list_all, list_any}
 use Rattle.std.specs.Option.{option_map_or}
 use Rattle.std.specs.Char.{digit_value}
@@ -32,16 +32,21 @@ pub data Asked : Type 0 where
   svg : Text → Colour → Asked
   play : Text → List Text → Asked
   moves : MoveForm → Text → Asked
+  moves_json : Text → Asked
   perft : Text → ℕ → Asked
   divide : Text → ℕ → Asked
   lines : LineView → List Text → Asked
   solve : ℕ → ℕ → ℕ → List Text → Asked
+  solve_json : ℕ → ℕ → ℕ → List Text → Asked
   solve_on : ℕ → ℕ → ℕ → ℕ → List Text → Asked
   limited : ℕ → ℕ → ℕ → ℕ → List Text → Asked
   verify : ℕ → ℕ → Bool → ℕ → List Text → Asked
+  verify_json : ℕ → ℕ → ℕ → List Text → Asked
+  verify_imported : Option ℕ → ℕ → Bool → ℕ → List Text → Asked
+  verify_limited : ℕ → ℕ → ℕ → Bool → ℕ → List Text → Asked
   tree : ℕ → TreeForm → ℕ → List Text → Asked
   sheet : ℕ → ℕ → SheetForm → Text → List Text → Asked
-  imports : Bool → Option ℕ → List Text → Asked
+  imports : Bool → Option ℕ → Text → List Text → Asked
   serve : ℕ → ℕ → ℕ → List Text → Asked
   replay : Text → Asked
   explain : List Text → Asked
@@ -107,9 +112,16 @@ form_in rows =
     if is_given (codes "coordinates") rows then (if is_given (codes "fen") rows then SanCoordinatesFen else Coordinates)
     else (if is_given (codes "fen") rows then SanFen else San)
 
+-- moves are asked for in JSON, and in none of those forms, which it has all
+abbrev pub moves_at : List Row → Text → Option Asked
+moves_at rows fen =
+    if not (is_given (codes "json") rows) then Some (moves (form_in rows) fen)
+    else if is_given (codes "coordinates") rows || is_given (codes "fen") rows then None
+    else Some (moves_json fen)
+
 -- what the arguments of `moves` ask for
 unfoldable pub moves_in : List Row → Option Asked
-moves_in rows = option_map (moves (form_in rows)) (first_of (codes "FEN") rows)
+moves_in rows = option_and_then (moves_at rows) (first_of (codes "FEN") rows)
 
 abbrev pub perft_at : List Row → ℕ → Text → Asked
 perft_at rows depth fen = if is_given (codes "divide") rows then divide fen depth else perft fen depth
@@ -145,28 +157,65 @@ abbrev pub solve_at : Option ℕ → ℕ → ℕ → ℕ → ℕ → List Text �
 solve_at None workers bound memo from names = if workers == 1 then solve bound memo from names else solve_on workers bound memo from names
 solve_at (Some seconds) workers bound memo from names = limited seconds bound memo from names
 
+-- the same in JSON, which one worker writes without a limit
+abbrev pub solve_json_at : Option ℕ → ℕ → ℕ → ℕ → ℕ → List Text → Option Asked
+solve_json_at None workers bound memo from names = if workers == 1 then Some (solve_json bound memo from names) else None
+solve_json_at (Some seconds) workers bound memo from names = None
+
+-- which of these
+abbrev pub solve_as : Bool → Option ℕ → ℕ → ℕ → ℕ → ℕ → List Text → Option Asked
+solve_as false limit workers bound memo from names = Some (solve_at limit workers bound memo from names)
+solve_as true limit workers bound memo from names = solve_json_at limit workers bound memo from names
+
 -- what the arguments of `solve` ask for
 unfoldable pub solve_in : List Row → Option Asked
 solve_in rows =
     option_and_then (λ workers. option_and_then (λ bound. option_and_then
-    (λ memo. option_and_then (λ from. option_map (λ names. solve_at (limit_in rows) workers bound memo from names) (all_of (codes "FILE") rows))
+    (λ memo. option_and_then (λ from. option_and_then
+    (λ names. solve_as (is_given (codes "json") rows) (limit_in rows) workers bound memo from names) (all_of (codes "FILE") rows))
     (from_in rows)) (memo_size_in rows)) (bound_in rows)) (workers_in rows)
+
+-- the bound of records that say none, where it isn't given
+abbrev pub default_bound : ℕ
+default_bound = 3
+
+-- what `verify` asks for rows of records: of each so many seconds at most, or as long as it takes
+abbrev pub verify_rows_at : Option ℕ → ℕ → ℕ → Bool → ℕ → List Text → Asked
+verify_rows_at None bound memo header from names = verify bound memo header from names
+verify_rows_at (Some seconds) bound memo header from names = verify_limited seconds bound memo header from names
+
+-- of problems that are imported, which have no limit
+abbrev pub verify_imported_at : Option ℕ → Option ℕ → ℕ → Bool → ℕ → List Text → Option Asked
+verify_imported_at None bound memo header from names = Some (verify_imported bound memo header from names)
+verify_imported_at (Some seconds) bound memo header from names = None
+
+-- what `verify` asks for: rows, with or without the names of their fields, of records or of problems that are imported; or JSON of records
+abbrev pub verify_at : List Row → ℕ → ℕ → List Text → Option Asked
+verify_at rows memo from names =
+    let header = is_given (codes "header") rows in
+    let imported = is_given (codes "import") rows in
+    if not (is_given (codes "json") rows) then
+    (if imported then verify_imported_at (limit_in rows) (bound_in rows) memo header from names
+    else Some (verify_rows_at (limit_in rows) (unwrap_or (bound_in rows) default_bound) memo header from names))
+    else if header || (imported || is_some (limit_in rows)) then None
+    else Some (verify_json (unwrap_or (bound_in rows) default_bound) memo from names)
 
 -- what the arguments of `verify` ask for
 unfoldable pub verify_in : List Row → Option Asked
 verify_in rows =
-    option_and_then (λ bound. option_and_then
-    (λ memo. option_and_then (λ from. option_map (λ names. verify bound memo (is_given (codes "header") rows) from names)
-    (all_of (codes "FILE") rows))
-    (from_in rows)) (memo_size_in rows)) (bound_in rows)
+    option_and_then (λ memo. option_and_then (λ from. option_and_then (verify_at rows memo from) (all_of (codes "FILE") rows))
+    (from_in rows)) (memo_size_in rows)
 
--- what is shown of a tree: how many moves, whether only the defences that parry, set play, tries, and how many lines
+-- what is shown of a tree: how many moves, whether only the defences that parry, set play, tries, in one column, with figurines, and how
+-- many lines
 unfoldable pub tree_form_in : List Row → TreeForm
 tree_form_in rows = record {
   moves = some_number (option_map_or byte_or_zero (one_of (codes "D") rows) 0);
   defences = is_given (codes "defences") rows;
   set_play = is_given (codes "set-play") rows;
   tries = is_given (codes "tries") rows;
+  column = is_given (codes "column") rows;
+  figurines = is_given (codes "figurines") rows;
   lines = some_number (option_map_or number_or_zero (one_of (codes "N") rows) 0);
 }
 
@@ -187,9 +236,12 @@ sheet_in rows =
     (λ memo. option_and_then (λ title. option_map (λ names. sheet bound memo (sheet_form_in rows) title names)
     (all_of (codes "FILE") rows)) (first_of (codes "T") rows)) (memo_size_in rows)) (bound_in rows)
 
--- what the arguments of `import` ask for: whether what was changed is told, the bound of problems that say none, if one is given, and files
+-- what the arguments of `import` ask for: whether what was changed is told, the bound of problems that say none, if one is given, the letters
+-- of men, and files
 unfoldable pub import_in : List Row → Option Asked
-import_in rows = option_map (imports (is_given (codes "keep") rows) (bound_in rows)) (all_of (codes "FILE") rows)
+import_in rows =
+    option_and_then (λ letters. option_map (imports (is_given (codes "keep") rows) (bound_in rows) letters) (all_of (codes "FILE") rows))
+    (first_of (codes "L") rows)
 
 -- what the arguments of `serve` ask for
 unfoldable pub serve_in : List Row → Option Asked
@@ -239,6 +291,7 @@ abbrev pub is_threaded : Asked → Bool
 is_threaded (serve workers bound memo names) = true
 is_threaded (solve_on workers bound memo from names) = true
 is_threaded (limited seconds bound memo from names) = true
+is_threaded (verify_limited seconds bound memo header from names) = true
 is_threaded uci = true
 is_threaded _ = false
 

@@ -31,6 +31,10 @@ import_bound_rule = record (new_rule (codes "B")) {
   parser = Some (parser.Signed (pos 1) (pos 15));
 }
 
+-- the letters of men, which are English where it isn't given
+unfoldable pub letters_rule : Rule
+letters_rule = record (new_rule (codes "L")) { long = Some (codes "letters"); defaults = codes "en" ∷ [] }
+
 -- an option that has to be given, and reads a number from 1 to 16
 unfoldable pub workers_rule : Rule
 workers_rule = record (wanted (codes "N")) {
@@ -114,16 +118,23 @@ with_lines_of_files a = with_rule (with_given_records (with_rule (with_rule a fr
 
 unfoldable pub solve_app : App
 solve_app = with_lines_of_files
-    (with_rule (with_rule (with_solving_options (new_app (codes "solve")) (codes "65536")) limit_rule) solve_workers_rule)
+    (with_rule (with_rule (with_rule (with_solving_options (new_app (codes "solve")) (codes "65536")) limit_rule) solve_workers_rule)
+    (flag_rule (codes "json")))
+
+-- with what `verify` may do beside its rows: imported problems, the names of fields, and JSON in place of rows
+unfoldable pub with_row_options : App → App
+with_row_options a = with_rule (with_rule (with_rule a (flag_rule (codes "import"))) (flag_rule (codes "header"))) (flag_rule (codes "json"))
 
 unfoldable pub verify_app : App
-verify_app = with_lines_of_files (with_rule (with_solving_options (new_app (codes "verify")) (codes "65536")) (flag_rule (codes "header")))
+verify_app = with_lines_of_files
+    (with_row_options (with_rule (with_rule (with_rule (new_app (codes "verify")) import_bound_rule) (memo_rule (codes "65536"))) limit_rule))
 
 -- with the options of `tree`: the bound, and what is shown
 unfoldable pub with_tree_options : App → App
 with_tree_options a =
-    with_rule (with_rule (with_rule (with_rule (with_rule (with_rule a bound_rule) shown_rule) (flag_rule (codes "defences")))
-    (flag_rule (codes "set-play"))) (flag_rule (codes "tries"))) most_lines_rule
+    with_rule (with_rule (with_rule (with_rule (with_rule (with_rule (with_rule (with_rule a bound_rule) shown_rule)
+    (flag_rule (codes "defences"))) (flag_rule (codes "set-play"))) (flag_rule (codes "tries"))) (flag_rule (codes "column")))
+    (flag_rule (codes "figurines"))) most_lines_rule
 
 unfoldable pub tree_app : App
 tree_app = with_lines_of_files (with_tree_options (new_app (codes "tree")))
@@ -140,7 +151,8 @@ unfoldable pub sheet_app : App
 sheet_app = with_rule (with_solving_options (with_sheet_options (new_app (codes "sheet"))) (codes "65536")) files_rule
 
 unfoldable pub import_app : App
-import_app = with_rule (with_rule (with_rule (new_app (codes "import")) (flag_rule (codes "keep"))) import_bound_rule) files_rule
+import_app = with_rule (with_rule (with_rule (with_rule (new_app (codes "import")) (flag_rule (codes "keep"))) import_bound_rule) letters_rule)
+    files_rule
 
 unfoldable pub serve_app : App
 serve_app =
@@ -156,8 +168,8 @@ unfoldable pub play_app : App
 play_app = with_rule (with_rule (new_app (codes "play")) (wanted (codes "FEN"))) (words_rule (codes "MOVE"))
 
 unfoldable pub moves_app : App
-moves_app = with_rule (with_rule (with_rule (new_app (codes "moves")) (flag_rule (codes "coordinates")))
-    (flag_rule (codes "fen"))) (wanted (codes "FEN"))
+moves_app = with_rule (with_rule (with_rule (with_rule (new_app (codes "moves")) (flag_rule (codes "coordinates")))
+    (flag_rule (codes "fen"))) (flag_rule (codes "json"))) (wanted (codes "FEN"))
 
 unfoldable pub perft_app : App
 perft_app = with_rule (with_rule (with_rule (new_app (codes "perft")) (flag_rule (codes "divide"))) (wanted (codes "FEN"))) depth_rule

@@ -13,7 +13,7 @@ takes_fen name = bytes_eq name (codes "look") || bytes_eq name (codes "play") ||
 abbrev pub is_option_of : Text → Text → Bool
 is_option_of name word =
     if bytes_eq name (codes "look") then bytes_eq word (codes "--board") || bytes_eq word (codes "--flip") || bytes_eq word (codes "--svg")
-    else if bytes_eq name (codes "moves") then bytes_eq word (codes "--coordinates") || bytes_eq word (codes "--fen")
+    else if bytes_eq name (codes "moves") then bytes_eq word (codes "--coordinates") || bytes_eq word (codes "--fen") || bytes_eq word (codes "--json")
     else bytes_eq name (codes "perft") && bytes_eq word (codes "--divide")
 
 -- begins with a hyphen, and asks neither for help nor for the end of the options

@@ -4,12 +4,13 @@ ghost use Rattle.std.specs.Prelude.{◌≡◌};
 ghost use Rattle.command_words.specs.Arguments.{argument_rule, row_rule};
 
 use crate::help::{
-    ABOUT_BOARD, ABOUT_BOUND, ABOUT_COORDINATES, ABOUT_DEFENCES, ABOUT_DEPTH, ABOUT_DIVIDE,
-    ABOUT_FEN, ABOUT_FENS, ABOUT_FIGURINES, ABOUT_FILE, ABOUT_FLIP, ABOUT_FROM, ABOUT_HEADER,
-    ABOUT_IMPORT_BOUND, ABOUT_KEEP, ABOUT_LIMIT, ABOUT_MEMO, ABOUT_MEMOS, ABOUT_MOST_LINES,
-    ABOUT_MOVE, ABOUT_POSITIONS, ABOUT_PROGRESS, ABOUT_RECORD, ABOUT_RECORD_FEN, ABOUT_SCRIPT,
-    ABOUT_SET_PLAY, ABOUT_SHOWN, ABOUT_SOLUTIONS, ABOUT_SOLVE_WORKERS, ABOUT_SVG, ABOUT_TITLE,
-    ABOUT_TRIES, ABOUT_WORD, ABOUT_WORKERS,
+    ABOUT_BOARD, ABOUT_BOUND, ABOUT_COLUMN, ABOUT_COORDINATES, ABOUT_DEFENCES, ABOUT_DEPTH,
+    ABOUT_DIVIDE, ABOUT_FEN, ABOUT_FENS, ABOUT_FIGURINES, ABOUT_FILE, ABOUT_FLIP, ABOUT_FROM,
+    ABOUT_HEADER, ABOUT_IMPORT_BOUND, ABOUT_IMPORTED, ABOUT_JSON, ABOUT_KEEP, ABOUT_LETTERS,
+    ABOUT_LIMIT, ABOUT_MEMO, ABOUT_MEMOS, ABOUT_MOST_LINES, ABOUT_MOVE, ABOUT_MOVES_JSON,
+    ABOUT_POSITIONS, ABOUT_PROGRESS, ABOUT_RECORD, ABOUT_RECORD_FEN, ABOUT_SCRIPT, ABOUT_SET_PLAY,
+    ABOUT_SHOWN, ABOUT_SOLUTIONS, ABOUT_SOLVE_WORKERS, ABOUT_SVG, ABOUT_TITLE,
+    ABOUT_TREE_FIGURINES, ABOUT_TRIES, ABOUT_VERIFY_BOUND, ABOUT_WORD, ABOUT_WORKERS,
 };
 
 /// The arguments of the commands.
@@ -24,6 +25,8 @@ pub(crate) enum Argument {
     Positions,
     Bound,
     ImportBound,
+    VerifyBound,
+    Letters,
     Workers,
     SolveWorkers,
     Memo,
@@ -39,9 +42,14 @@ pub(crate) enum Argument {
     Defences,
     SetPlay,
     Tries,
+    Column,
+    TreeFigurines,
     Solutions,
     Figurines,
     Header,
+    Import,
+    Json,
+    MovesJson,
     Keep,
     Board,
     Flip,
@@ -168,12 +176,33 @@ static BOUND: Row = Row {
     ..OPTIONAL
 };
 
-/// The bound of problems that say none, where they are imported.
-static IMPORT_BOUND: Row = Row {
+/// The same, which need not be given.
+const OPEN_BOUND: Row = Row {
     id: "B",
     long: "bound",
     form: BOUNDS,
+    ..OPTIONAL
+};
+
+/// The bound of problems that say none, where they are imported.
+static IMPORT_BOUND: Row = Row {
     help: ABOUT_IMPORT_BOUND,
+    ..OPEN_BOUND
+};
+
+/// The same of `verify`, where records as they stand are asked within 3 moves.
+static VERIFY_BOUND: Row = Row {
+    help: ABOUT_VERIFY_BOUND,
+    ..OPEN_BOUND
+};
+
+/// The letters of men, where problems are imported.
+static LETTERS: Row = Row {
+    id: "L",
+    long: "letters",
+    form: Form::TextOption,
+    defaults: &["en"],
+    help: ABOUT_LETTERS,
     ..OPTIONAL
 };
 
@@ -302,6 +331,18 @@ static TRIES: Row = Row {
     ..FLAG
 };
 
+static COLUMN: Row = Row {
+    id: "column",
+    help: ABOUT_COLUMN,
+    ..FLAG
+};
+
+static TREE_FIGURINES: Row = Row {
+    id: "figurines",
+    help: ABOUT_TREE_FIGURINES,
+    ..FLAG
+};
+
 static SOLUTIONS: Row = Row {
     id: "solutions",
     help: ABOUT_SOLUTIONS,
@@ -317,6 +358,26 @@ static FIGURINES: Row = Row {
 static HEADER: Row = Row {
     id: "header",
     help: ABOUT_HEADER,
+    ..FLAG
+};
+
+static IMPORT: Row = Row {
+    id: "import",
+    help: ABOUT_IMPORTED,
+    ..FLAG
+};
+
+/// JSON in place of lines or rows.
+static JSON: Row = Row {
+    id: "json",
+    help: ABOUT_JSON,
+    ..FLAG
+};
+
+/// JSON in place of lines of moves.
+static MOVES_JSON: Row = Row {
+    id: "json",
+    help: ABOUT_MOVES_JSON,
     ..FLAG
 };
 
@@ -377,6 +438,8 @@ pub(crate) fn row_of(argument: Argument) -> &'static Row
         Argument::Positions => &POSITIONS,
         Argument::Bound => &BOUND,
         Argument::ImportBound => &IMPORT_BOUND,
+        Argument::VerifyBound => &VERIFY_BOUND,
+        Argument::Letters => &LETTERS,
         Argument::Workers => &WORKERS,
         Argument::SolveWorkers => &SOLVE_WORKERS,
         Argument::Memo => &MEMO,
@@ -392,9 +455,14 @@ pub(crate) fn row_of(argument: Argument) -> &'static Row
         Argument::Defences => &DEFENCES,
         Argument::SetPlay => &SET_PLAY,
         Argument::Tries => &TRIES,
+        Argument::Column => &COLUMN,
+        Argument::TreeFigurines => &TREE_FIGURINES,
         Argument::Solutions => &SOLUTIONS,
         Argument::Figurines => &FIGURINES,
         Argument::Header => &HEADER,
+        Argument::Import => &IMPORT,
+        Argument::Json => &JSON,
+        Argument::MovesJson => &MOVES_JSON,
         Argument::Keep => &KEEP,
         Argument::Board => &BOARD,
         Argument::Flip => &FLIP,

@@ -72,6 +72,7 @@ static SOLVE: Subcommand = Subcommand {
         Argument::Memo,
         Argument::Limit,
         Argument::SolveWorkers,
+        Argument::Json,
         Argument::From,
         Argument::Progress,
         Argument::Record,
@@ -85,9 +86,12 @@ static VERIFY: Subcommand = Subcommand {
     about: ABOUT_VERIFY,
     after_help: AFTER_VERIFY,
     arguments: &[
-        Argument::Bound,
+        Argument::VerifyBound,
         Argument::Memo,
+        Argument::Limit,
+        Argument::Import,
         Argument::Header,
+        Argument::Json,
         Argument::From,
         Argument::Progress,
         Argument::Record,
@@ -106,6 +110,8 @@ static TREE: Subcommand = Subcommand {
         Argument::Defences,
         Argument::SetPlay,
         Argument::Tries,
+        Argument::Column,
+        Argument::TreeFigurines,
         Argument::MostLines,
         Argument::From,
         Argument::Progress,
@@ -119,7 +125,12 @@ static IMPORT: Subcommand = Subcommand {
     name: "import",
     about: ABOUT_IMPORT,
     after_help: AFTER_IMPORT,
-    arguments: &[Argument::Keep, Argument::ImportBound, Argument::File],
+    arguments: &[
+        Argument::Keep,
+        Argument::ImportBound,
+        Argument::Letters,
+        Argument::File,
+    ],
 };
 
 static SERVE: Subcommand = Subcommand {
@@ -172,7 +183,12 @@ static MOVES: Subcommand = Subcommand {
     name: "moves",
     about: ABOUT_MOVES,
     after_help: AFTER_MOVES,
-    arguments: &[Argument::Coordinates, Argument::Fens, Argument::Fen],
+    arguments: &[
+        Argument::Coordinates,
+        Argument::Fens,
+        Argument::MovesJson,
+        Argument::Fen,
+    ],
 };
 
 static PERFT: Subcommand = Subcommand {

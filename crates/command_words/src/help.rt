@@ -37,7 +37,7 @@ Status:
   2  the words ask for nothing, or `serve` is given more than 16 files
   3  no memory, or no thread
   4  a file can't be read, or the output can't be written
-  5  some record was not decided within the seconds of `solve --limit`
+  5  some record was not decided within the seconds of `--limit`
 
 `matedesk COMMAND --help` says more about a command.";
 
@@ -85,7 +85,10 @@ A sound problem then has no mate within its bound:
   8/8/3p1p2/1N2p3/4kNQ1/5n2/2K3B1/8 w - - am Bh1; c0 \"no mate in 2\";
 
 The FILE `-` is standard input; a file by that name is `./-`. With --record or --fen there
-are no files: `matedesk solve --fen '7k/8/5K2/8/8/8/8/R7 w - -' --bound 2`.
+are no files: `matedesk solve --fen '7k/8/5K2/8/8/8/8/R7 w - -' --bound 2`. With --json each
+answer is an object in JSON, without --limit and --workers:
+  {\"line\":1,\"fen\":\"7k/8/5K2/8/8/8/8/R7 w - -\",\"bm\":[\"Kf7\",\"Kg6\"],\"dm\":2,
+  \"pv\":[\"Kg6\",\"Kg8\",\"Ra8#\"],\"operations\":{}}
 
 Status:
   0  every line was answered
@@ -123,6 +126,7 @@ The verdict is the first of these that applies:
               another number than `dm` (TwoLengths); or `pv` begins with no legal move
               (NoSuchMove). Of no record the other fields are `-`; else CLAIMED is what
               stands behind `bm`, or `pv` and its first word
+  undecided   with `--limit S`, it was not decided within S seconds
   unsolvable  there is no mate within the number asked
   short       there is one in fewer moves; that a claimed move would mate in the number
               asked is not told
@@ -133,7 +137,11 @@ The verdict is the first of these that applies:
 
 Moves to avoid (`am`) are left out at the first move, as `solve` does. With --header a row
 with these seven names stands before all others. At the end standard error says how many
-lines came to each verdict, and of how many records the number asked has a question mark.
+lines came to each verdict, of how many records the number asked has a question mark, and
+how many were not decided.
+With --import the lines are problems in any form that `import` takes, and LINE is the line
+where one begins; one that says no number of moves is NoBound, unless --bound is given. With
+--json each row is an object in JSON.
 
 Example:
   $ cat problems.epd
@@ -148,8 +156,9 @@ Status:
   0  each record is sound
   1  a line is not
   2  the words ask for nothing
-  3  no memory
+  3  no memory; with `--limit` also no thread
   4  a FILE can't be read, or the output can't be written
+  5  with `--limit`: every line has its row, and some record was not decided
 At 3 and 4 the first of the rows may have been written.";
 
 /// `tree` in one line.
@@ -176,7 +185,8 @@ The tree goes down to mate, or to the attacker's D-th move. With --defences it i
 as magazines print it. A reply is left out where a threat still mates in time after it;
 mates stand behind the replies that they answer, and threats behind moves that don't mate:
   1...d5, d6 2.Ng2#
-With --set-play `set play` has before the keys what the attacker would answer were the
+With --column as well the tree stands on one line, as in a solution column; with --figurines
+its pieces are figurines. With --set-play `set play` has before the keys what the attacker would answer were the
 defender to move first. With --tries `tries` has behind them each first move that exactly
 one reply refutes: 1.Qh3? Kd5!
 
@@ -212,11 +222,12 @@ pub const ABOUT_SHEET: &str = "Makes a page of diagrams of the problems of files
 pub const AFTER_SHEET: &str =
     "Each line is a record, as `matedesk solve --help` says. The page is one file of HTML, which
 any browser shows and prints; nothing is fetched. It has for each record, in order: its
-number, a diagram, `#N` (the bound), how many men each side has (7+5) and what `id` says; a
-black dot where Black moves; rights to castle and an en passant target in words; and the
+number, a diagram, `#N` (the bound), how many men each side has (7+5) and what `id` says;
+`Black to move` where it is; rights to castle and an en passant target in words; and the
 record, which a click copies. At its end stand the lines that are refused, by FILE:K CODE,
-and with --solutions, before them, of each problem the keys, the number of moves and one
-line of play, or that there is no mate within its bound. Nothing is solved without it.
+and with --solutions, before them, each problem's solution as `tree --defences --column`
+tells it, behind what isn't sound (`short`, `cooked`), or that there is no mate within its
+bound. Nothing is solved without it.
 
 The page is made whole before any of it is written: where a file can't be read, nothing is.
 
@@ -234,6 +245,31 @@ Status:
 
 /// The option `--header` in one line.
 pub const ABOUT_HEADER: &str = "Prints a first row with the names of the fields";
+
+/// The option `--bound` of `verify` in one line.
+pub const ABOUT_VERIFY_BOUND: &str =
+    "Within how many moves a record without `dm` asks for mate, 1 to 15 (default 3)";
+
+/// The option `--import` in one line.
+pub const ABOUT_IMPORTED: &str =
+    "Takes problems in any form that `import` takes; without --bound one that says no number is refused";
+
+/// The option `--json` of `solve` and `verify` in one line.
+pub const ABOUT_JSON: &str = "Prints an object in JSON for each line, in place of its text";
+
+/// The option `--json` of `moves` in one line.
+pub const ABOUT_MOVES_JSON: &str =
+    "Prints one object in JSON, with each move in SAN and by coordinates";
+
+/// The option `--column` in one line.
+pub const ABOUT_COLUMN: &str = "Prints each tree on one line, as a solution column does";
+
+/// The option `--figurines` of `tree` in one line.
+pub const ABOUT_TREE_FIGURINES: &str = "Shows pieces as figurines in the lines of the tree";
+
+/// The option `--letters` of `import` in one line.
+pub const ABOUT_LETTERS: &str =
+    "The letters of men: six for king, queen, rook, bishop, knight, pawn, or a language, as `de`";
 
 /// The option `--solutions` in one line.
 pub const ABOUT_SOLUTIONS: &str = "Solves the problems, and has their solutions behind them";
@@ -273,6 +309,8 @@ stand in one file in any mixture:
     its id, and the first move the claim `bm`; the number of moves is said by Stipulation, else
     by White, Black, Event, Annotator, or a comment before the first move
   - Popeye's input, from BeginProblem to EndProblem, with stipulation `#N` or `N#`
+Men may have other letters: --letters KDTLSB, or `de`, names those for king, queen, rook,
+bishop, knight and pawn, in positions and in moves.
 What can't be read is printed as `# line K: CODE`, by the line where it begins; `matedesk
 explain CODE` says what that means.
 

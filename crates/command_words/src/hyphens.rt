@@ -29,7 +29,7 @@ pub(crate) fn is_option_of(name: &str, word: &str) -> bool
     if is_same(name, "look") {
         is_same(word, "--board") || is_same(word, "--flip") || is_same(word, "--svg")
     } else if is_same(name, "moves") {
-        is_same(word, "--coordinates") || is_same(word, "--fen")
+        is_same(word, "--coordinates") || is_same(word, "--fen") || is_same(word, "--json")
     } else {
         is_same(name, "perft") && is_same(word, "--divide")
     }

@@ -19,6 +19,6 @@ pub use help::VERSION;
 pub use hyphens::escaped;
 pub use limits::{Depth, LineNumber, MemoSize, Workers};
 pub use request::{
-    Files, LimitedSolve, LineView, MoveForm, Request, SheetForm, TreeForm, asks_progress,
-    gives_records, parse, request_of,
+    Files, LimitedSolve, LimitedVerify, LineView, MoveForm, Request, SheetForm, TreeForm,
+    asks_progress, gives_records, parse, request_of,
 };

@@ -1,6 +1,6 @@
 //! From the words of a command line to a request.
 
-ghost use Rattle.std.specs.Prelude.{◌≡◌, ◌≢◌, None, codes, IfOk, IfErr, map, option_map, false, true};
+ghost use Rattle.std.specs.Prelude.{◌≡◌, ◌≢◌, None, codes, IfOk, IfErr, map, option_map, unwrap_or, false, true};
 ghost use Rattle.std.specs.Option.{option_map_or};
 ghost use Rattle.clap.specs.Walk.{byte_or_zero};
 ghost use Rattle.clap.specs.Words.{all_of, first_of, found_of, kind_of, one_of, rows_of};
@@ -8,6 +8,7 @@ ghost use Rattle.command_words.specs.Asked.{desk_asked_by, lines_asked_by, recor
 ghost use Rattle.command_words.specs.Asked.{asked_by, asked_exactly, bound_in, depth_in, form_in, from_in, is_given, limit_in, lines_in, look_in};
 ghost use Rattle.command_words.specs.Asked.{look_lines_in, memo_size_in, moves_in, number_or_zero, perft_in, perft_lines_in, play_in};
 ghost use Rattle.command_words.specs.Asked.{side_in, svg_at, workers_in, serve_in, solve_in, some_number, tree_form_in, tree_in, verify_in};
+ghost use Rattle.command_words.specs.Asked.{default_bound, moves_at, solve_as, solve_at, solve_json_at, verify_at, verify_rows_at};
 ghost use Rattle.command_words.specs.Asked.{sheet_form_in, sheet_in, import_in, asked_of, asks_display_exactly, is_display, may_display_exactly};
 ghost use Rattle.command_words.specs.Asked.{answers_records, progress_of, records_given_by, records_given_exactly, records_given_of};
 ghost use Rattle.command_words.specs.Request.{plan_of};
@@ -58,6 +59,10 @@ pub struct TreeForm {
     pub set_play: bool,
     /// Whether tries are shown.
     pub tries: bool,
+    /// Whether the tree stands on one line.
+    pub column: bool,
+    /// Whether pieces are figurines, in place of letters.
+    pub figurines: bool,
     /// How many lines at most, where a number is given.
     pub lines: Option<u32>,
 }
@@ -78,6 +83,18 @@ pub struct LimitedSolve<'m, 'a> {
     pub workers: Workers,
     pub bound: Bound,
     pub memo: MemoSize,
+    pub files: Files<'m, 'a>,
+}
+
+/// What is asked where each record that is held against its claims may take so many seconds: the bound of records that say none, the size of
+/// a memo, whether a first row names the fields, and the files.
+#[derive(Clone, Copy)]
+pub struct LimitedVerify<'m, 'a> {
+    /// How many seconds, 1 to 86,400.
+    pub seconds: u32,
+    pub bound: Bound,
+    pub memo: MemoSize,
+    pub header: bool,
     pub files: Files<'m, 'a>,
 }
 
@@ -103,6 +120,8 @@ pub enum Request<'m, 'a> {
     Play(&'a str, Option<&'m [&'a str]>),
     /// List the legal moves of a FEN in such a form, or say how the game has ended.
     Moves(MoveForm, &'a str),
+    /// List the legal moves of a FEN in JSON, or how the game has ended.
+    MovesJson(&'a str),
     /// Count the lines of so many legal moves from a FEN.
     Perft(&'a str, Depth),
     /// The same, for each first move too.
@@ -111,6 +130,8 @@ pub enum Request<'m, 'a> {
     Lines(LineView, &'m [&'a str]),
     /// Answer the records of files, in order, over a memo of such a size; the bound is for records that say none.
     Solve(Bound, MemoSize, Files<'m, 'a>),
+    /// The same in JSON.
+    SolveJson(Bound, MemoSize, Files<'m, 'a>),
     /// The same, each record by so many workers, each over a memo of such a size.
     SolveOn(Workers, Bound, MemoSize, Files<'m, 'a>),
     /// The same, where each record may take so many seconds.
@@ -118,14 +139,20 @@ pub enum Request<'m, 'a> {
     /// Hold the records of files, in order, against their own claims, over a memo of such a size; the bound is for records that say none.
     /// Whether a first row names the fields.
     Verify(Bound, MemoSize, bool, Files<'m, 'a>),
+    /// The same in JSON.
+    VerifyJson(Bound, MemoSize, Files<'m, 'a>),
+    /// The same of problems as they are imported; where a bound is given, it is for problems that say none, which are else refused.
+    VerifyImported(Option<Bound>, MemoSize, bool, Files<'m, 'a>),
+    /// The same, where each record may take so many seconds.
+    VerifyLimited(LimitedVerify<'m, 'a>),
     /// Tell the trees of the records of files, in order, in such a form; the bound is for records that say none.
     Tree(Bound, TreeForm, Files<'m, 'a>),
     /// Make a page of the records of files, in order, in such a form and with such a title. Solutions are found over a memo of such a size;
     /// the bound is for records that say none.
     Sheet(Bound, MemoSize, SheetForm, &'a str, &'m [&'a str]),
     /// Make records of the problems of files, in order; whether what was changed is told in them. Where a bound is given, it is for problems
-    /// that say none, which are else refused.
-    Import(bool, Option<Bound>, &'m [&'a str]),
+    /// that say none, which are else refused. What the letters of men are.
+    Import(bool, Option<Bound>, &'a str, &'m [&'a str]),
     /// Answer the records of files by so many workers, each over a memo of such a size, all files at once; the bound is for records
     /// that say none.
     Serve(Workers, Bound, MemoSize, &'m [&'a str]),
@@ -291,13 +318,26 @@ fn form_in(matches: &ArgMatches) -> MoveForm
     }
 }
 
+/// What is asked of the moves of a FEN; nothing where they are to be in JSON and in another form, too.
+fn moves_as<'m, 'a>(matches: &'m ArgMatches<'a>, fen: &'a str) -> Option<Request<'m, 'a>>
+    ensures { option_map plan_of result ≡ moves_at (rows_of (found_of matches.now)) fen.entry.now }
+{
+    if !is_given(matches, "json") {
+        Some(Request::Moves(form_in(matches), fen))
+    } else if is_given(matches, "coordinates") || is_given(matches, "fen") {
+        None
+    } else {
+        Some(Request::MovesJson(fen))
+    }
+}
+
 /// What the arguments of `moves` ask for.
 #[tactic(auto, unfolding(crate::specs::Asked::moves_in))]
 fn moves_in<'m, 'a>(matches: &'m ArgMatches<'a>) -> Option<Request<'m, 'a>>
     ensures { option_map plan_of result ≡ moves_in (rows_of (found_of matches.now)) }
 {
     let fen = text_in(matches, "FEN")?;
-    Some(Request::Moves(form_in(matches), fen))
+    moves_as(matches, fen)
 }
 
 /// What the arguments of `perft` ask for.
@@ -346,6 +386,51 @@ fn perft_lines_in<'m, 'a>(matches: &'m ArgMatches<'a>) -> Option<Request<'m, 'a>
     lines_in(matches, LineView::Perft(depth))
 }
 
+/// What `solve` is asked for.
+fn solve_with<'m, 'a>(
+    limit: Option<u32>,
+    workers: Workers,
+    bound: Bound,
+    memo: MemoSize,
+    from: LineNumber,
+    names: &'m [&'a str],
+) -> Request<'m, 'a>
+    ensures { plan_of result ≡ solve_at limit workers bound memo from (map (λ s. s.now) names.entry.now) }
+{
+    let files = Files { names, from };
+    if let Some(seconds) = limit {
+        return Request::Limited(LimitedSolve {
+            seconds,
+            workers,
+            bound,
+            memo,
+            files,
+        });
+    }
+    if workers.get() == 1 {
+        Request::Solve(bound, memo, files)
+    } else {
+        Request::SolveOn(workers, bound, memo, files)
+    }
+}
+
+/// What `solve` is asked for in JSON; nothing with a limit or more than one worker.
+fn solve_json_with<'m, 'a>(
+    limit: Option<u32>,
+    workers: Workers,
+    bound: Bound,
+    memo: MemoSize,
+    from: LineNumber,
+    names: &'m [&'a str],
+) -> Option<Request<'m, 'a>>
+    ensures { option_map plan_of result ≡ solve_json_at limit workers bound memo from (map (λ s. s.now) names.entry.now) }
+{
+    if limit.is_some() || workers.get() != 1 {
+        return None;
+    }
+    Some(Request::SolveJson(bound, memo, Files { names, from }))
+}
+
 /// What the arguments of `solve` ask for.
 #[tactic(auto, unfolding(crate::specs::Asked::solve_in))]
 fn solve_in<'m, 'a>(matches: &'m ArgMatches<'a>) -> Option<Request<'m, 'a>>
@@ -356,21 +441,87 @@ fn solve_in<'m, 'a>(matches: &'m ArgMatches<'a>) -> Option<Request<'m, 'a>>
     let memo = memo_size_in(matches)?;
     let from = from_in(matches)?;
     let names = names_in(matches, "FILE")?;
+    let limit = limit_in(matches);
+    if is_given(matches, "json") {
+        solve_json_with(limit, workers, bound, memo, from, names)
+    } else {
+        Some(solve_with(limit, workers, bound, memo, from, names))
+    }
+}
+
+/// The bound of records that say none, where none is given.
+fn default_bound() -> Bound
+    ensures { result ≡ default_bound }
+{
+    match Bound::new(3) {
+        Some(bound) => bound,
+        None => unreachable!(),
+    }
+}
+
+/// The bound of records that say none.
+fn bound_or_default(matches: &ArgMatches) -> Bound
+    ensures { result ≡ unwrap_or (bound_in (rows_of (found_of matches.now))) default_bound }
+{
+    match bound_in(matches) {
+        Some(bound) => bound,
+        None => default_bound(),
+    }
+}
+
+/// What `verify` is asked for in rows of records.
+fn verify_rows_with<'m, 'a>(
+    limit: Option<u32>,
+    bound: Bound,
+    memo: MemoSize,
+    header: bool,
+    from: LineNumber,
+    names: &'m [&'a str],
+) -> Request<'m, 'a>
+    ensures { plan_of result ≡ verify_rows_at limit bound memo header from (map (λ s. s.now) names.entry.now) }
+{
     let files = Files { names, from };
-    if let Some(seconds) = limit_in(matches) {
-        return Some(Request::Limited(LimitedSolve {
+    match limit {
+        Some(seconds) => Request::VerifyLimited(LimitedVerify {
             seconds,
-            workers,
             bound,
             memo,
+            header,
             files,
-        }));
+        }),
+        None => Request::Verify(bound, memo, header, files),
     }
-    if workers.get() == 1 {
-        Some(Request::Solve(bound, memo, files))
-    } else {
-        Some(Request::SolveOn(workers, bound, memo, files))
+}
+
+/// What `verify` is asked for; nothing where it is to be in JSON, and with names of fields, a limit or of imported problems, too, or of these
+/// with a limit.
+fn verify_with<'m, 'a>(
+    matches: &'m ArgMatches<'a>,
+    memo: MemoSize,
+    from: LineNumber,
+    names: &'m [&'a str],
+) -> Option<Request<'m, 'a>>
+    ensures { option_map plan_of result ≡ verify_at (rows_of (found_of matches.now)) memo from (map (λ s. s.now) names.entry.now) }
+{
+    let header = is_given(matches, "header");
+    let imported = is_given(matches, "import");
+    let limit = limit_in(matches);
+    if is_given(matches, "json") {
+        if header || imported || limit.is_some() {
+            return None;
+        }
+        let bound = bound_or_default(matches);
+        return Some(Request::VerifyJson(bound, memo, Files { names, from }));
     }
+    if imported {
+        if limit.is_some() {
+            return None;
+        }
+        let bound = bound_in(matches);
+        return Some(Request::VerifyImported(bound, memo, header, Files { names, from }));
+    }
+    let bound = bound_or_default(matches);
+    Some(verify_rows_with(limit, bound, memo, header, from, names))
 }
 
 /// What the arguments of `verify` ask for.
@@ -378,12 +529,10 @@ fn solve_in<'m, 'a>(matches: &'m ArgMatches<'a>) -> Option<Request<'m, 'a>>
 fn verify_in<'m, 'a>(matches: &'m ArgMatches<'a>) -> Option<Request<'m, 'a>>
     ensures { option_map plan_of result ≡ verify_in (rows_of (found_of matches.now)) }
 {
-    let bound = bound_in(matches)?;
     let memo = memo_size_in(matches)?;
     let from = from_in(matches)?;
     let names = names_in(matches, "FILE")?;
-    let header = is_given(matches, "header");
-    Some(Request::Verify(bound, memo, header, Files { names, from }))
+    verify_with(matches, memo, from, names)
 }
 
 /// How many of the attacker's moves are shown of a tree. `clap` has kept them to their range, and has none where none are given.
@@ -416,6 +565,8 @@ fn tree_form_in(matches: &ArgMatches) -> TreeForm
         defences: is_given(matches, "defences"),
         set_play: is_given(matches, "set-play"),
         tries: is_given(matches, "tries"),
+        column: is_given(matches, "column"),
+        figurines: is_given(matches, "figurines"),
         lines: most_lines_in(matches),
     }
 }
@@ -463,8 +614,9 @@ fn import_in<'m, 'a>(matches: &'m ArgMatches<'a>) -> Option<Request<'m, 'a>>
 {
     let keep = is_given(matches, "keep");
     let bound = bound_in(matches);
+    let letters = text_in(matches, "L")?;
     let names = names_in(matches, "FILE")?;
-    Some(Request::Import(keep, bound, names))
+    Some(Request::Import(keep, bound, letters, names))
 }
 
 /// What the arguments of `serve` ask for.

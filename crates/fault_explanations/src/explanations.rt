@@ -270,7 +270,7 @@ of `#0` in `bm`, too.",
 ];
 
 /// What `verify` says of a record's claims.
-static VERDICTS: [Explanation; 7] = [
+static VERDICTS: [Explanation; 8] = [
     Explanation {
         code: "TwoLengths",
         comes: "the first `#N` in `bm` isn't the number of `dm`",
@@ -280,6 +280,13 @@ one.",
             faulty: "7k/8/5K2/8/8/8/8/R7 w - - bm #3 Kf7 Kg6; dm 2;",
             mended: "7k/8/5K2/8/8/8/8/R7 w - - bm #2 Kf7 Kg6; dm 2;",
         }),
+    },
+    Explanation {
+        code: "undecided",
+        comes: "with `--limit`, the record was not decided in its seconds",
+        means: "Nothing is held against it, and what the fourth and the fifth field would have is not known.
+A longer limit may decide it; hard ones are solved sooner by `solve --workers`.",
+        example: None,
     },
     Explanation {
         code: "unsolvable",
@@ -475,25 +482,25 @@ static IMPORTS: [Explanation; 7] = [
     },
     Explanation {
         code: "BadStipulation",
-        comes: "a problem for Popeye has no stipulation, or one that isn't `#N` or `N#`; a game's `Stipulation` is no mate in N",
+        comes: "a problem for Popeye, or of Olive's, has no stipulation, or one that isn't `#N` or `N#`; a game's `Stipulation` is no mate in N",
         means: "Direct mates alone are solved here; `h#2` or `s#3` are not.",
         example: None,
     },
     Explanation {
         code: "FairyCondition",
-        comes: "a problem for Popeye has a condition",
+        comes: "a problem for Popeye, or of Olive's, has a condition",
         means: "Whatever stands behind `Condition` changes the rules of chess.",
         example: None,
     },
     Explanation {
         code: "FairyPiece",
-        comes: "a word of `Pieces`, or a letter of `Forsyth`, is no man of chess",
+        comes: "a word of `Pieces`, a letter of `Forsyth`, or a man in a file of Olive's is none of chess",
         means: "Men are `K`, `Q`, `R`, `B`, `S` for the knight, and `P`, behind `White` or `Black`. `N` is the nightrider there.",
         example: None,
     },
     Explanation {
         code: "UnknownCommand",
-        comes: "a problem for Popeye has another command, or an option that changes the problem",
+        comes: "a problem for Popeye has another command, or an option that changes the problem; one of Olive's has twins",
         means: "Twins are not read, for one. Options that change only how it is solved or shown are passed over.",
         example: None,
     },

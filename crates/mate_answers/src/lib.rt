@@ -9,5 +9,5 @@ mod input_replies;
 mod limited_replies;
 
 pub use input_replies::{Answers, answer_input, replies_go_on, solve_input};
-pub use limited_replies::{Limited, LimitedMemory, TimeLimit};
+pub use limited_replies::{Limited, LimitedMemory, TimeLimit, decide};
 pub use text_lines::{Output, fault_text, first_line, without_cr};

@@ -63,7 +63,7 @@ fn is_no_mate(outcome: &Outcome) -> bool
 /// What there is to say of a record's problem; or, where the time is over before that is known, the most moves within which there is known to
 /// be no mate. The mate is asked for within one move more at a time: what was found before stands in the memory.
 #[tactic(auto, unfolding(chess_problems::specs::Outcomes::IsPlayable))]
-fn decide<T: TimeLimit, S: Solver<T>>(
+pub fn decide<T: TimeLimit, S: Solver<T>>(
     guide: &Guide<T>,
     solver: &S,
     record: &Record,

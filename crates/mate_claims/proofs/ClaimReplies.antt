@@ -1,17 +1,18 @@
 -- What is told of a line: by a fault of its record, or by what comes of its claims.
-use Rattle.std.proofs.Common.{◌≡◌, ◌≢◌, ◌⊎◌, ◌<◌, ◌++◌, ℕ, List, [], Option, None, Some, Result, Ok, Err}
-use Rattle.std.proofs.Common.{IfOk, inl, inr, refl, subst, arith, length, decimal, false}
+use Rattle.std.proofs.Common.{◌≡◌, ◌≢◌, ◌⊎◌, ◌<◌, ◌++◌, ◌∙◌, ℕ, List, [], Option, None, Some, Result, Ok, Err}
+use Rattle.std.proofs.Common.{IfOk, ap, inl, inr, refl, subst, arith, length, decimal, false}
 use Rattle.chess_notation.specs.declared.epd_faults.EpdFault.{EpdFault}
 use Rattle.chess_notation.specs.declared.epd_faults.EpdFault.TheVariants as fault
 use Rattle.chess_notation.specs.Words.{is_blank, words_in}
 use Rattle.chess_notation.specs.Claims.{claim_words, claims_text}
 use Rattle.chess_notation.specs.Records.{RecordValue, problem_of, Reads, max_line}
 use Rattle.chess_notation.specs.EpdFaults.{IsAmissBy, IsFaultOf, epd_fault_name, fault_number}
+use Rattle.chess_problems.specs.declared.outcomes.Outcome.{Outcome}
 use Rattle.mate_search.specs.inside.Truth.{truth}
 use Rattle.mate_claims.specs.declared.bound_sources.BoundSource.{BoundSource}
 use Rattle.mate_claims.specs.declared.verdicts.Verdict.{Verdict}
-use Rattle.mate_claims.specs.Rows.{refused_row}
-use Rattle.mate_claims.specs.Said.{said_by, said_of}
+use Rattle.mate_claims.specs.Rows.{refused_row, row_of}
+use Rattle.mate_claims.specs.Said.{Said, said_by, said_of}
 use Rattle.mate_claims.specs.BoundSources.{IsSource, ReadsClaimed}
 use Rattle.mate_claims.specs.ClaimReplies.{IsClaimReply, IsTold, IsToldBy, refusals_of, no_record, of_record, told}
 
@@ -25,8 +26,19 @@ fault_told place default bound line kind row verdict source (Ok x) (inl first) o
 fault_told place default bound line kind row verdict source (Ok x) (inr memory) other is none nowhere = absurd (other memory.0)
 fault_told place default bound line kind row verdict source (Err e) why other is none nowhere = tt
 
+-- What is told of a record of whose claims this comes, by what was found.
+pub told_by_said : {X E : Type 0} (place : List ℕ) (r : RecordValue) (source : BoundSource) (word claims : List ℕ) (v : Option Verdict)
+    (found outcome : Outcome) (said : Outcome → Said) (row : X → List ℕ) (verdict : X → Option Verdict) (result : Result X E) → found ≡ outcome
+    → record { word = word; claims = claims; verdict = v } ≡ said found → IfOk result (λ x. row x ≡ row_of place r source word found claims)
+    → IfOk result (λ x. verdict x ≡ v)
+    → IfOk result (λ x. (row x ≡ row_of place r source (said outcome).word outcome (said outcome).claims) × (verdict x ≡ (said outcome).verdict))
+told_by_said place r source word claims v found outcome said row verdict (Ok x) same is at of =
+    subst (λ o. (row x ≡ row_of place r source (said o).word o (said o).claims) × (verdict x ≡ (said o).verdict)) same
+    (at ∙ ap (λ (s : Said). row_of place r source s.word found s.claims) is, of ∙ ap (λ (s : Said). s.verdict) is)
+told_by_said place r source word claims v found outcome said row verdict (Err e) same is at of = tt
+
 -- What is told of a record that a line says.
-told_record : (place : List ℕ) (default : ℕ) (line : List ℕ) (r : RecordValue) (source : BoundSource) (words row : List ℕ) (verdict : Option Verdict)
+pub told_record : (place : List ℕ) (default : ℕ) (line : List ℕ) (r : RecordValue) (source : BoundSource) (words row : List ℕ) (verdict : Option Verdict)
     → ReadsClaimed line default r → IsSource line r source → words ≡ claims_text line
     → IsToldBy place r source (said_by line words (words_in words) r (truth (problem_of r))) row verdict
     → IsTold place default line row verdict (Some source)
@@ -51,7 +63,7 @@ pub told_reply : (prefix place : List ℕ) (default number : ℕ) (line row : Li
 told_reply prefix place default number line row verdict source refusals filled at is count =
     rw count (told row verdict source filled (subst (λ p. IsTold p default line row verdict source) at is))
 
-none_before : (line : List ℕ) (earlier : EpdFault) → fault_number earlier < 1 → ¬ (IsAmissBy line earlier)
+pub none_before : (line : List ℕ) (earlier : EpdFault) → fault_number earlier < 1 → ¬ (IsAmissBy line earlier)
 none_before line fault.TooLong less = absurd (omega (arith, less))
 none_before line fault.NotPrintable less = absurd (omega (arith, less))
 none_before line (fault.Fen f) less = absurd (omega (arith, less))

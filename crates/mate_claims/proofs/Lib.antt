@@ -4,3 +4,4 @@ pub mod ListedKeys
 pub mod MovesTested
 pub mod PlaySegments
 pub mod TextBytes
+pub mod UndecidedClaims

@@ -7,7 +7,7 @@ use Rattle.chess_notation.specs.EpdFaults.{IsFaultOf, epd_fault_name}
 use Rattle.mate_search.specs.inside.Truth.{truth}
 use Rattle.mate_claims.specs.declared.bound_sources.BoundSource.{BoundSource}
 use Rattle.mate_claims.specs.declared.verdicts.Verdict.{Verdict}
-use Rattle.mate_claims.specs.declared.verdicts.Verdict.TheVariants.{Sound}
+use Rattle.mate_claims.specs.declared.verdicts.Verdict.TheVariants.{Sound, Undecided}
 use Rattle.mate_claims.specs.BoundSources.{IsSource, ReadsClaimed}
 use Rattle.mate_claims.specs.Rows.{row_of, refused_row}
 use Rattle.mate_claims.specs.Said.{Said, said_of}
@@ -24,9 +24,10 @@ pub data IsTold (place : List ℕ) (default : ℕ) (line : List ℕ) : List ℕ 
       → IsSource line r source → IsToldBy place r source (said_of line r (truth (problem_of r))) row verdict
       → IsTold place default line row verdict (Some source)
 
--- a line that isn't sound is refused by its claims
+-- a line that is known not to be sound is refused by its claims
 abbrev pub refusals_of : Option Verdict → ℕ
 refusals_of (Some Sound) = 0
+refusals_of (Some Undecided) = 0
 refusals_of _ = 1
 
 -- What one line is answered, its place the name's part and its number, and how many refusals that is: nothing where it is blank.

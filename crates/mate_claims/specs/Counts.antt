@@ -3,11 +3,11 @@ use Rattle.std.specs.Prelude.{ℕ, ◌+◌, ◌-◌, ◌==◌, List, [], ◌++�
 use Rattle.mate_claims.specs.declared.bound_sources.BoundSource.{BoundSource}
 use Rattle.mate_claims.specs.declared.bound_sources.BoundSource.TheVariants.{Default}
 use Rattle.mate_claims.specs.declared.verdicts.Verdict.{Verdict}
-use Rattle.mate_claims.specs.declared.verdicts.Verdict.TheVariants.{Sound, Unclaimed, Cooked, Wrong, Short, Unsolvable}
+use Rattle.mate_claims.specs.declared.verdicts.Verdict.TheVariants.{Sound, Unclaimed, Cooked, Wrong, Short, Unsolvable, Undecided}
 use Rattle.mate_claims.specs.declared.counts.Counts.{Counts}
 
 abbrev pub no_counts : Counts
-no_counts = record { sound = 0; unclaimed = 0; cooked = 0; wrong = 0; short = 0; unsolvable = 0; refused = 0; unnumbered = 0 }
+no_counts = record { sound = 0; unclaimed = 0; cooked = 0; wrong = 0; short = 0; unsolvable = 0; undecided = 0; refused = 0; unnumbered = 0 }
 
 -- how many lines came to this verdict, or were refused
 abbrev pub count_of : Option Verdict → Counts → ℕ
@@ -17,6 +17,7 @@ count_of (Some Cooked) c = c.cooked
 count_of (Some Wrong) c = c.wrong
 count_of (Some Short) c = c.short
 count_of (Some Unsolvable) c = c.unsolvable
+count_of (Some Undecided) c = c.undecided
 count_of None c = c.refused
 
 abbrev pub with_count : Option Verdict → ℕ → Counts → Counts
@@ -26,6 +27,7 @@ with_count (Some Cooked) count c = record c { cooked = count }
 with_count (Some Wrong) count c = record c { wrong = count }
 with_count (Some Short) count c = record c { short = count }
 with_count (Some Unsolvable) count c = record c { unsolvable = count }
+with_count (Some Undecided) count c = record c { undecided = count }
 with_count None count c = record c { refused = count }
 
 -- one record more whose number of moves comes from there
@@ -41,6 +43,7 @@ with_one verdict source c = with_source source (with_count verdict (count_of ver
 abbrev pub with_refusals : ℕ → Counts → Counts
 with_refusals count c = record c { refused = min (c.refused + count) 18446744073709551615 }
 
+-- how many are known not to be sound
 abbrev pub not_sound_in : Counts → ℕ
 not_sound_in c = c.unclaimed + c.cooked + c.wrong + c.short + c.unsolvable + c.refused
 
@@ -52,10 +55,12 @@ with_unread before unsound c = with_refusals (unsound - (min (not_sound_in c) 18
 abbrev pub count_text : List ℕ → ℕ → List ℕ
 count_text name count = name ++ decimal count
 
--- how many say no number of moves, where there are any
-abbrev pub unnumbered_text : ℕ → List ℕ
-unnumbered_text count = if count == 0 then [] else count_text (codes "; ") count ++ codes " without a number of moves"
+-- how many there are of this kind, where there are any
+abbrev pub some_text : ℕ → List ℕ → List ℕ
+some_text count kind = if count == 0 then [] else count_text (codes "; ") count ++ kind
 
 unfoldable pub counts_text : Counts → List ℕ
 counts_text c = count_text (codes "sound ") c.sound ++ count_text (codes ", unclaimed ") c.unclaimed ++ count_text (codes ", cooked ") c.cooked
-    ++ count_text (codes ", wrong ") c.wrong ++ count_text (codes ", short ") c.short ++ count_text (codes ", unsolvable ") c.unsolvable ++ count_text (codes ", refused ") c.refused ++ unnumbered_text c.unnumbered
+    ++ count_text (codes ", wrong ") c.wrong ++ count_text (codes ", short ") c.short ++ count_text (codes ", unsolvable ") c.unsolvable
+    ++ count_text (codes ", refused ") c.refused
+    ++ some_text c.unnumbered (codes " without a number of moves") ++ some_text c.undecided (codes " not decided")

@@ -5,3 +5,4 @@ pub mod Counts
 pub mod PlayWords
 pub mod Said
 pub mod ClaimReplies
+pub mod LimitedClaims

@@ -6,7 +6,7 @@ use Rattle.chess_problems.specs.declared.outcomes.Outcome.{Outcome}
 use Rattle.chess_problems.specs.declared.outcomes.Outcome.TheVariants.{Mate, NoMate}
 use Rattle.chess_problems.specs.SameProblems.{is_same_move}
 use Rattle.mate_claims.specs.declared.verdicts.Verdict.{Verdict}
-use Rattle.mate_claims.specs.declared.verdicts.Verdict.TheVariants.{Sound, Unclaimed, Cooked, Wrong, Short, Unsolvable}
+use Rattle.mate_claims.specs.declared.verdicts.Verdict.TheVariants.{Sound, Unclaimed, Cooked, Wrong, Short, Unsolvable, Undecided}
 
 -- A verdict is printed as a word.
 abbrev pub verdict_name : Verdict → List ℕ
@@ -16,6 +16,7 @@ verdict_name Cooked = codes "cooked"
 verdict_name Wrong = codes "wrong"
 verdict_name Short = codes "short"
 verdict_name Unsolvable = codes "unsolvable"
+verdict_name Undecided = codes "undecided"
 
 -- Each of these moves is among the others.
 abbrev pub are_among : List Move → List Move → Bool

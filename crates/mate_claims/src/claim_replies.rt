@@ -7,17 +7,17 @@ ghost use Rattle.chess_notation.specs.Records.{problem_of};
 ghost use Rattle.chess_problems.specs.Outcomes.{IsPlayable};
 ghost use Rattle.mate_search.specs.inside.Truth.{truth};
 ghost use Rattle.mate_claims.specs.ClaimReplies.{IsTold, IsToldBy};
-ghost use Rattle.mate_claims.specs.Rows.{keys_found as keys_found_in, listed, refused_row as refused_row_of};
+ghost use Rattle.mate_claims.specs.Rows.{keys_found as keys_found_in, listed, refused_row as refused_row_of, row_of};
 ghost use Rattle.mate_claims.specs.Said.{said_by};
 
 use crate::bound_sources::{BoundSource, bound_source};
 use crate::rows::{Found, keys_text, push_row, refused_row};
-use crate::said::said_of_record;
+use crate::said::{Said, said_of_record};
 use crate::verdicts::Verdict;
 use byte_streams::NoMemory;
 use chess_moves::Rays;
 use chess_notation::{EpdFault, Record, bound_claimed, claims_text, read_record};
-use chess_problems::Bound;
+use chess_problems::{Bound, Outcome};
 use mate_search::{Memo, solve};
 use std::alloc::Global;
 
@@ -30,7 +30,7 @@ pub struct Told {
 }
 
 /// What is told of a line that says no record. Want of memory is no fault of the line.
-fn told_of_fault(alloc: Global, place: &[u8], fault: EpdFault) -> Result<Told, NoMemory>
+pub(crate) fn told_of_fault(alloc: Global, place: &[u8], fault: EpdFault) -> Result<Told, NoMemory>
     ensures fault { IfOk result (λ told. fault ≢ EpdFault.NoMemory) }
     ensures row { IfOk result (λ told. told.row.items ≡ refused_row_of place.now (epd_fault_name fault)) }
     ensures verdict { IfOk result (λ told. told.verdict ≡ None) }
@@ -43,6 +43,39 @@ fn told_of_fault(alloc: Global, place: &[u8], fault: EpdFault) -> Result<Told, N
         row: refused_row(alloc, place, fault.code())?,
         verdict: None,
         source: None,
+    })
+}
+
+/// What is told of a record of whose claims this comes, by what was found.
+pub(crate) fn told_by(
+    alloc: Global,
+    place: &[u8],
+    record: &Record,
+    source: BoundSource,
+    said: &Said,
+    found: &Found<'_>,
+) -> Result<Told, NoMemory>
+    requires keys { found.now.keys.now ≡ listed «record».now.position (keys_found_in found.now.outcome.now) }
+    ensures row { IfOk result (λ told. told.row.items
+        ≡ row_of place.now «record».now source said.now.word.now found.now.outcome.now said.now.claims.items) }
+    ensures verdict { IfOk result (λ told. told.verdict ≡ said.now.verdict) }
+    ensures source { IfOk result (λ told. told.source ≡ Some source) }
+{
+    let mut row = Vec::new(alloc);
+    push_row(
+        alloc,
+        &mut row,
+        place,
+        record,
+        source,
+        said.word,
+        found,
+        said.claims.as_slice(),
+    )?;
+    Ok(Told {
+        row,
+        verdict: said.verdict,
+        source: Some(source),
     })
 }
 
@@ -65,22 +98,32 @@ fn told_of_found(
     ensures source { IfOk result (λ told. told.source ≡ Some source) }
 {
     let said = said_of_record(alloc, rays, line, record, words, found)?;
-    let mut row = Vec::new(alloc);
-    push_row(
-        alloc,
-        &mut row,
-        place,
-        record,
-        source,
-        said.word,
-        found,
-        said.claims.as_slice(),
-    )?;
-    Ok(Told {
-        row,
-        verdict: said.verdict,
-        source: Some(source),
-    })
+    told_by(alloc, place, record, source, &said, found)
+}
+
+/// What is told of a record with this outcome, where these words stand behind `bm`.
+pub(crate) fn told_of_outcome(
+    alloc: Global,
+    rays: &Rays,
+    place: &[u8],
+    line: &[u8],
+    record: &Record,
+    source: BoundSource,
+    words: &[u8],
+    outcome: &Outcome,
+) -> Result<Told, NoMemory>
+    requires truth { outcome.now ≡ truth (problem_of «record».now) }
+    requires playable { IsPlayable «record».now.position outcome.now }
+    ensures told { IfOk result (λ told. IsToldBy place.now «record».now source
+        (said_by line.now words.now (words_in words.now) «record».now (truth (problem_of «record».now))) told.row.items told.verdict) }
+    ensures source { IfOk result (λ told. told.source ≡ Some source) }
+{
+    let keys = keys_text(alloc, rays, &record.position, outcome)?;
+    let found = Found {
+        outcome,
+        keys: keys.as_bytes(),
+    };
+    told_of_found(alloc, rays, place, line, record, source, words, &found)
 }
 
 /// What is told of a record, where these words stand behind `bm`.
@@ -103,12 +146,7 @@ fn told_of_record(
     // That a memo keeps no more than it has room for is this call's clause.
     memo.len();
     let outcome = solve(rays, &record.problem(), memo);
-    let keys = keys_text(alloc, rays, &record.position, &outcome)?;
-    let found = Found {
-        outcome: &outcome,
-        keys: keys.as_bytes(),
-    };
-    told_of_found(alloc, rays, place, line, record, source, words, &found)
+    told_of_outcome(alloc, rays, place, line, record, source, words, &outcome)
 }
 
 /// What is told of a line that isn't blank: of a record whether it keeps to what it claims. The place of the line, its number in its file for

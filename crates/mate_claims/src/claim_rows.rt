@@ -33,19 +33,17 @@ pub struct ClaimMemory {
 }
 
 impl ClaimMemory {
-    /// Counts as refused what is missing of so many lines that aren't sound, since there were so many before: a line that is too long is
-    /// refused unread, and no count has it yet.
+    /// Counts as refused what is missing of so many lines that aren't sound, since there were so many before.
     pub fn count_unread(&mut self, before: usize, unsound: usize)
         ensures memo { self.new.memo ≡ self.old.memo }
         ensures counts { self.new.counts ≡ with_unread before unsound self.old.counts }
     {
-        let counted = self.counts.not_sound().saturating_sub(before);
-        self.counts = self.counts.with_refused(unsound.saturating_sub(counted));
+        self.counts = self.counts.with_unread(before, unsound);
     }
 }
 
 /// The place of a line, by its number.
-fn place_of(alloc: Global, prefix: &[u8], number: usize) -> Result<Vec<u8>, AllocError>
+pub(crate) fn place_of(alloc: Global, prefix: &[u8], number: usize) -> Result<Vec<u8>, AllocError>
     ensures { IfOk result (λ place. place.items ≡ prefix.now ++ decimal number) }
 {
     let mut place = Vec::from_slice(alloc, prefix)?;
@@ -54,12 +52,12 @@ fn place_of(alloc: Global, prefix: &[u8], number: usize) -> Result<Vec<u8>, Allo
 }
 
 /// How many refusals a verdict is, or none.
-fn refusals(verdict: Option<Verdict>) -> usize
+pub(crate) fn refusals(verdict: Option<Verdict>) -> usize
     ensures count { result ≡ refusals_of verdict }
     ensures few { result ≤ 1 }
 {
     match verdict {
-        Some(Verdict::Sound) => 0,
+        Some(Verdict::Sound | Verdict::Undecided) => 0,
         _ => 1,
     }
 }

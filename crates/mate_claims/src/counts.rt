@@ -2,7 +2,7 @@
 
 ghost use Rattle.std.specs.Prelude.{◌≡◌, ◌++◌, IfOk, IfSome, OnOk, min, string_bytes};
 ghost use Rattle.mate_claims.specs.Counts.{no_counts, count_of as count_in, with_count as with_count_of, with_source as with_source_of};
-ghost use Rattle.mate_claims.specs.Counts.{with_one, with_refusals, not_sound_in, count_text, counts_text, unnumbered_text};
+ghost use Rattle.mate_claims.specs.Counts.{with_one, with_refusals, with_unread as with_unread_of, not_sound_in, count_text, counts_text, some_text};
 
 use crate::bound_sources::BoundSource;
 use crate::verdicts::Verdict;
@@ -18,6 +18,7 @@ pub struct Counts {
     pub wrong: usize,
     pub short: usize,
     pub unsolvable: usize,
+    pub undecided: usize,
     pub refused: usize,
     /// How many records say no number of moves, whatever comes of their claims.
     pub unnumbered: usize,
@@ -35,6 +36,7 @@ impl Counts {
             wrong: 0,
             short: 0,
             unsolvable: 0,
+            undecided: 0,
             refused: 0,
             unnumbered: 0,
         }
@@ -51,6 +53,7 @@ impl Counts {
             Some(Verdict::Wrong) => self.wrong,
             Some(Verdict::Short) => self.short,
             Some(Verdict::Unsolvable) => self.unsolvable,
+            Some(Verdict::Undecided) => self.undecided,
             None => self.refused,
         }
     }
@@ -84,6 +87,10 @@ impl Counts {
                 unsolvable: count,
                 ..self
             },
+            Some(Verdict::Undecided) => Counts {
+                undecided: count,
+                ..self
+            },
             None => Counts {
                 refused: count,
                 ..self
@@ -113,7 +120,7 @@ impl Counts {
         self.with_count(verdict, count).with_source(source)
     }
 
-    /// How many lines are not sound, as far as there is a number for it.
+    /// How many lines are known not to be sound, as far as there is a number for it.
     pub fn not_sound(&self) -> usize
         ensures { result ≡ min (not_sound_in self.now) 18446744073709551615 }
     {
@@ -135,6 +142,15 @@ impl Counts {
         }
     }
 
+    /// With what is missing of so many lines that aren't sound, since there were so many before, counted as refused: a line that is too long
+    /// is refused unread, and no count has it yet.
+    pub fn with_unread(self, before: usize, unsound: usize) -> Counts
+        ensures { result ≡ with_unread_of before unsound self }
+    {
+        let counted = self.not_sound().saturating_sub(before);
+        self.with_refused(unsound.saturating_sub(counted))
+    }
+
     /// Adds the counts, one behind the other.
     #[tactic(auto, unfolding(crate::specs::Counts::counts_text))]
     fn push_to(&self, alloc: Global, text: &mut String) -> Result<(), AllocError>
@@ -147,7 +163,8 @@ impl Counts {
         push_count(alloc, text, ", short ", self.short)?;
         push_count(alloc, text, ", unsolvable ", self.unsolvable)?;
         push_count(alloc, text, ", refused ", self.refused)?;
-        push_unnumbered(alloc, text, self.unnumbered)?;
+        push_some(alloc, text, self.unnumbered, " without a number of moves")?;
+        push_some(alloc, text, self.undecided, " not decided")?;
         Ok(())
     }
 
@@ -169,13 +186,13 @@ fn push_count(alloc: Global, text: &mut String, name: &str, count: usize) -> Res
     text.push_str(count.to_string(alloc)?.as_str())
 }
 
-/// Adds how many records say no number of moves, where there are any.
-fn push_unnumbered(alloc: Global, text: &mut String, count: usize) -> Result<(), AllocError>
-    ensures { OnOk result (string_bytes text.new ≡ string_bytes text.old ++ unnumbered_text count) }
+/// Adds how many there are of this kind, where there are any.
+fn push_some(alloc: Global, text: &mut String, count: usize, kind: &str) -> Result<(), AllocError>
+    ensures { OnOk result (string_bytes text.new ≡ string_bytes text.old ++ some_text count kind.now) }
 {
     if count == 0 {
         return Ok(());
     }
     push_count(alloc, text, "; ", count)?;
-    text.push_str(" without a number of moves")
+    text.push_str(kind)
 }

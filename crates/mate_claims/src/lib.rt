@@ -2,14 +2,15 @@
 //!
 //! What a record says, and claims in `bm`, is `chess_notation`'s business, solving is `mate_search`'s, and lines are `text_lines`'s. To read:
 //! `specs/Verdicts.antt` and `verdicts`, `specs/BoundSources.antt` and `bound_sources`, `specs/Rows.antt` and `rows`, `counts`, then
-//! `play_words`, what the line of play claims; `specs/Said.antt` and `said`, what comes of claims; and `specs/ClaimReplies.antt`, `claim_replies`
-//! and `claim_rows`.
+//! `play_words`, what the line of play claims; `specs/Said.antt` and `said`, what comes of claims; `specs/ClaimReplies.antt`, `claim_replies`
+//! and `claim_rows`; and `specs/LimitedClaims.antt` and `limited_claims`, where each record may take so long.
 #![tactic(auto)]
 
 mod bound_sources;
 mod claim_replies;
 mod claim_rows;
 mod counts;
+mod limited_claims;
 mod play_words;
 mod rows;
 mod said;
@@ -19,5 +20,6 @@ pub use bound_sources::BoundSource;
 pub use claim_replies::{Told, told_of};
 pub use claim_rows::{ClaimMemory, ClaimRows};
 pub use counts::Counts;
+pub use limited_claims::{LimitedClaimMemory, LimitedClaims};
 pub use rows::refused_row;
 pub use verdicts::{Verdict, judge};

@@ -8,6 +8,8 @@ ghost use Rattle.chess_notation.specs.MoveReading.{move_named};
 ghost use Rattle.chess_notation.specs.Records.{problem_of};
 ghost use Rattle.chess_problems.specs.Outcomes.{AreLegal, IsPlayable};
 ghost use Rattle.mate_search.specs.inside.Truth.{truth};
+ghost use Rattle.chess_problems.specs.declared.outcomes.Outcome.TheVariants.{NoMate};
+ghost use Rattle.mate_claims.specs.LimitedClaims.{unjudged};
 ghost use Rattle.mate_claims.specs.Rows.{listed, keys_found as keys_found_in};
 ghost use Rattle.mate_claims.specs.Said.{claims_refusal, marked as marked_text, play_claimed as play_claimed_in, unread as unread_of};
 ghost use Rattle.mate_claims.specs.Said.{said_by, said_of_moves as said_by_moves, said_of_play as said_by_play};
@@ -150,6 +152,28 @@ fn said_of_words(
     let moves = claimed.as_slice();
     let text = listed_text(alloc, rays, &record.position, moves)?;
     said_of_moves(alloc, rays, line, record, outcome, moves, text.as_bytes())
+}
+
+/// What comes of what these words claim, and the line of play, of a record that was not decided.
+pub(crate) fn said_undecided(
+    alloc: Global,
+    rays: &Rays,
+    line: &[u8],
+    record: &Record,
+    words: &[u8],
+) -> Result<Said, NoMemory>
+    ensures { IfOk result (λ said. record { word = said.word.now; claims = said.claims.items; verdict = said.verdict }
+        ≡ unjudged (said_by line.now words.now (words_in words.now) «record».now NoMate)) }
+{
+    let said = said_of_words(alloc, rays, line, record, &Outcome::NoMate, words)?;
+    match said.verdict {
+        Some(_) => Ok(Said {
+            word: Verdict::Undecided.code(),
+            claims: said.claims,
+            verdict: Some(Verdict::Undecided),
+        }),
+        None => Ok(said),
+    }
 }
 
 /// The moves that these words claim, where they are none or the keys as they are listed, and say no other length than the one asked for.

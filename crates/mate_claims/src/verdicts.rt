@@ -24,6 +24,8 @@ pub enum Verdict {
     Short,
     /// There is no mate within the number of moves asked for.
     Unsolvable,
+    /// It is not known in time what there is to say of the problem.
+    Undecided,
 }
 
 impl Verdict {
@@ -38,6 +40,7 @@ impl Verdict {
             Verdict::Wrong => "wrong",
             Verdict::Short => "short",
             Verdict::Unsolvable => "unsolvable",
+            Verdict::Undecided => "undecided",
         }
     }
 }

@@ -1,4 +1,5 @@
 pub mod DefencesBelow
+pub mod LaidOutLines
 pub mod LegalMoves
 pub mod LegalReplies
 pub mod NoMovesLeft

@@ -1,17 +1,16 @@
 -- Lines written one by one.
-use Rattle.std.proofs.Common.{◌≡◌, ◌∙◌, ℕ, zero, suc, ◌+◌, ◌-◌, ◌<◌, ◌≤◌, ◌==◌, Bool, true, false, ◌||◌, List, [], ◌∷◌, ◌++◌, Option, Some}
-use Rattle.std.proofs.Common.{None, length, take, drop, get_or, codes, refl, sym, ap, subst, arith, append_assoc, append-nil, take-append-drop}
-use Rattle.std.specs.Prelude.{nat_lt, cond, ⊤}
+use Rattle.std.proofs.Common.{◌≡◌, ◌∙◌, ℕ, suc, ◌+◌, ◌<◌, ◌≤◌, ◌==◌, Bool, true, false, ◌&&◌, ◌||◌, List, [], ◌∷◌, ◌++◌, Option, Some}
+use Rattle.std.proofs.Common.{None, length, take, drop, get_or, refl, sym, ap, subst, arith, append_assoc, append-nil, take-append-drop}
+use Rattle.std.specs.Prelude.{cond, ⊤}
 use Rattle.std.specs.List.{flat_map}
 use Rattle.std.proofs.lemmas.Bool.Decides.{nat_tests}
 use Rattle.std.proofs.lemmas.List.{flat_map_more, take_all, take_more}
 use Rattle.std.proofs.lemmas.Grind.{flat_map-append}
 use Rattle.byte_streams.specs.declared.stops.Stop.{Stop}
-use Rattle.mate_tree.specs.Lines.{line}
+use Rattle.mate_tree.specs.Layouts.{figured, figurine, unindented}
 use Rattle.mate_tree.specs.SetPlay.{headed}
-use Rattle.mate_tree.specs.Trees.{printed}
-use Rattle.mate_tree.specs.inside.Sheets.{GoesBy, Room, SheetValue, Begins, Says, Takes, Writes, behind, headed_on, is_closed, is_some_line, mark}
-use Rattle.mate_tree.specs.inside.Sheets.{name_lines, next, said, shown}
+use Rattle.mate_tree.specs.inside.Sheets.{GoesBy, Room, SheetValue, Begins, Ends, Says, Takes, Writes, behind, ending, headed_on, is_closed}
+use Rattle.mate_tree.specs.inside.Sheets.{is_some_line, mark, name_lines, next, part, past, said, shown, stays_fresh}
 use Rattle.mate_tree.proofs.Steps.{by_as, by_closed, by_none, by_on}
 
 -- ---- texts
@@ -43,48 +42,206 @@ ends_broken {a} {b} {s} {t} {x} why takes broken =
     by_stop None goes = goes
     by_stop (Some i) goes = goes
 
+-- the same by another word for the text
+pub takes_as : {a b : Option (List ℕ)} {s t : SheetValue} {x y : List ℕ} → x ≡ y → Takes a s b t x → Takes a s b t y
+takes_as {a} {b} {s} {t} {x} {y} same takes = subst (Takes a s b t) same takes
+
+pub takes_none : (a : Option (List ℕ)) (s : SheetValue) → Takes a s a s []
+takes_none a s = record { goes = by_none s.stop a s.pending (s.room ≡ s.room) refl }
+
+-- nothing behind a text
+pub takes_last : {a b c : Option (List ℕ)} {s t u : SheetValue} {x : List ℕ} → Takes a s b t x → Takes b t c u [] → Takes a s c u x
+takes_last {a} {b} {c} {s} {t} {u} {x} first second = takes_as (append-nil x) (takes_more first second)
+
+-- ---- parts of a line
+
+-- a room by its fields
+abbrev room_of : Option ℕ → Bool → Bool → Bool → Bool → Bool → Room
+room_of left cut column figurines begun fresh =
+    record { left = left; cut = cut; column = column; figurines = figurines; begun = begun; fresh = fresh }
+
+pub one_more : (n : ℕ) → (suc n == 0) ≡ false
+one_more n = grind (arith, nat_tests)
+
+length_none : (xs ys : List ℕ) → ((length xs == 0) && (length ys == 0)) ≡ (length (xs ++ ys) == 0)
+length_none [] ys = refl
+length_none (x ∷ xs) ys = rw (one_more (length xs), one_more (length (xs ++ ys))) refl
+
+unindented_append : (xs ys : List ℕ) → unindented xs ++ part (length (unindented xs) == 0) ys ≡ unindented (xs ++ ys)
+unindented_append [] ys = refl
+unindented_append (x ∷ xs) ys = by (x == 32) (unindented_append xs ys)
+  where
+    by : (space : Bool) → unindented xs ++ part (length (unindented xs) == 0) ys ≡ unindented (xs ++ ys)
+        → cond space (unindented xs) (x ∷ xs) ++ part (length (cond space (unindented xs) (x ∷ xs)) == 0) ys
+        ≡ cond space (unindented (xs ++ ys)) (x ∷ (xs ++ ys))
+    by true so = so
+    by false so = rw (one_more (length xs)) refl
+
+-- a part behind another one
+part_append : (fresh : Bool) (xs ys : List ℕ) → part fresh xs ++ part (stays_fresh fresh xs) ys ≡ part fresh (xs ++ ys)
+part_append true xs ys = unindented_append xs ys
+part_append false xs ys = refl
+
+fresh_append : (fresh : Bool) (xs ys : List ℕ) → stays_fresh (stays_fresh fresh xs) ys ≡ stays_fresh fresh (xs ++ ys)
+fresh_append true xs ys =
+    length_none (unindented xs) (part (length (unindented xs) == 0) ys) ∙ ap (λ l. length l == 0) (unindented_append xs ys)
+fresh_append false xs ys = refl
+
+figured_append : (figurines : Bool) (xs ys : List ℕ) → figured figurines xs ++ figured figurines ys ≡ figured figurines (xs ++ ys)
+figured_append true xs ys = sym (flat_map-append figurine xs ys)
+figured_append false xs ys = refl
+
+shown_none_at : (left : Option ℕ) (cut column figurines begun fresh : Bool) → [] ≡ shown (room_of left cut column figurines begun fresh) []
+shown_none_at left true column figurines begun fresh = refl
+shown_none_at left false column true begun true = refl
+shown_none_at left false column true begun false = refl
+shown_none_at left false column false begun true = refl
+shown_none_at left false column false begun false = refl
+
+shown_none : (r : Room) → [] ≡ shown r []
+shown_none r = shown_none_at r.left r.cut r.column r.figurines r.begun r.fresh
+
+past_none_at : (left : Option ℕ) (cut column figurines begun fresh : Bool)
+    → room_of left cut column figurines begun fresh ≡ past (room_of left cut column figurines begun fresh) []
+past_none_at left true column figurines begun fresh = refl
+past_none_at left false column figurines begun true = refl
+past_none_at left false column figurines begun false = refl
+
+past_none : (r : Room) → r ≡ past r []
+past_none r = past_none_at r.left r.cut r.column r.figurines r.begun r.fresh
+
+shown_append_at : (left : Option ℕ) (cut column figurines begun fresh : Bool) (xs ys : List ℕ)
+    → shown (room_of left cut column figurines begun fresh) xs ++ shown (past (room_of left cut column figurines begun fresh) xs) ys
+    ≡ shown (room_of left cut column figurines begun fresh) (xs ++ ys)
+shown_append_at left true column figurines begun fresh xs ys = refl
+shown_append_at left false column figurines begun fresh xs ys =
+    figured_append figurines (part fresh xs) (part (stays_fresh fresh xs) ys) ∙ ap (figured figurines) (part_append fresh xs ys)
+
+shown_append : (r : Room) (xs ys : List ℕ) → shown r xs ++ shown (past r xs) ys ≡ shown r (xs ++ ys)
+shown_append r xs ys = shown_append_at r.left r.cut r.column r.figurines r.begun r.fresh xs ys
+
+past_append_at : (left : Option ℕ) (cut column figurines begun fresh : Bool) (xs ys : List ℕ)
+    → past (past (room_of left cut column figurines begun fresh) xs) ys ≡ past (room_of left cut column figurines begun fresh) (xs ++ ys)
+past_append_at left true column figurines begun fresh xs ys = refl
+past_append_at left false column figurines begun fresh xs ys = ap (room_of left false column figurines begun) (fresh_append fresh xs ys)
+
+past_append : (r : Room) (xs ys : List ℕ) → past (past r xs) ys ≡ past r (xs ++ ys)
+past_append r xs ys = past_append_at r.left r.cut r.column r.figurines r.begun r.fresh xs ys
+
+past_open_at : (left : Option ℕ) (cut column figurines begun before fresh : Bool) (text : List ℕ) → cut ≡ false → fresh ≡ stays_fresh before text
+    → room_of left cut column figurines begun fresh ≡ past (room_of left cut column figurines begun before) text
+past_open_at left true column figurines begun before fresh text cut stays = cc
+past_open_at left false column figurines begun before fresh text cut stays = ap (room_of left false column figurines begun) stays
+
+past_open : (r : Room) (fresh : Bool) (text : List ℕ) → r.cut ≡ false → fresh ≡ stays_fresh r.fresh text → record r { fresh = fresh } ≡ past r text
+past_open r fresh text cut stays = past_open_at r.left r.cut r.column r.figurines r.begun r.fresh fresh text cut stays
+
+shown_open : (r : Room) (shows text : List ℕ) → r.cut ≡ false → shows ≡ part r.fresh text → figured r.figurines shows ≡ shown r text
+shown_open r shows text cut is = rw cut (ap (figured r.figurines) is)
+
+past_cut : (r : Room) (x : List ℕ) → r.cut ≡ true → past r x ≡ r
+past_cut r x cut = rw cut refl
+
+shown_cut : (r : Room) (x : List ℕ) → r.cut ≡ true → shown r x ≡ []
+shown_cut r x cut = rw cut refl
+
 pub says_none : (a : Option (List ℕ)) (s : SheetValue) → Says a s a s []
 says_none a s = record {
-  goes = by_as s.stop s.stop a a s.pending s.pending [] (shown s.room []) (s.room ≡ s.room) (s.room ≡ s.room) (none s.room.cut []) (λ same. same)
-      (by_none s.stop a s.pending (s.room ≡ s.room) refl);
+  goes = by_as s.stop s.stop a a s.pending s.pending [] (shown s.room []) (s.room ≡ s.room) (s.room ≡ past s.room [])
+      (shown_none s.room) (λ same. past_none s.room) (by_none s.stop a s.pending (s.room ≡ s.room) refl);
 }
-  where
-    none : (cut : Bool) (x : List ℕ) → x ≡ cond cut x x
-    none true x = refl
-    none false x = refl
-
-shown_append : (cut : Bool) (x y : List ℕ) → cond cut [] x ++ cond cut [] y ≡ cond cut [] (x ++ y)
-shown_append true x y = refl
-shown_append false x y = refl
 
 pub says_more : {a b c : Option (List ℕ)} {s t u : SheetValue} {x y : List ℕ} → Says a s b t x → Says b t c u y → Says a s c u (x ++ y)
 says_more {a} {b} {c} {s} {t} {u} {x} {y} first second = record {
-  goes = by_as s.stop u.stop a c s.pending u.pending (shown s.room x ++ shown s.room y) (shown s.room (x ++ y)) (u.room ≡ s.room) (u.room ≡ s.room)
-      (shown_append s.room.cut x y) (λ same. same)
-      (by_on s.stop t.stop u.stop a b c s.pending t.pending u.pending (shown s.room x) (shown t.room y) (shown s.room y)
-      (t.room ≡ s.room) (u.room ≡ t.room) (u.room ≡ s.room) (λ same. (ap (λ r. shown r y) same, λ later. later ∙ same)) first.goes second.goes);
+  goes = by_as s.stop u.stop a c s.pending u.pending (shown s.room x ++ shown (past s.room x) y) (shown s.room (x ++ y))
+      (u.room ≡ past (past s.room x) y) (u.room ≡ past s.room (x ++ y))
+      (shown_append s.room x y) (λ same. same ∙ past_append s.room x y)
+      (by_on s.stop t.stop u.stop a b c s.pending t.pending u.pending (shown s.room x) (shown t.room y) (shown (past s.room x) y)
+      (t.room ≡ past s.room x) (u.room ≡ past t.room y) (u.room ≡ past (past s.room x) y)
+      (λ same. (ap (λ r. shown r y) same, λ later. later ∙ ap (λ r. past r y) same)) first.goes second.goes);
 }
+
+-- A part is written, where what is shown of it is.
+pub says_part : {a b : Option (List ℕ)} {t v : SheetValue} {shows : List ℕ} (s : SheetValue) (text : List ℕ) (none : Bool) → s.room.cut ≡ false
+    → shows ≡ part s.room.fresh text → none ≡ (length shows == 0) → v ≡ record s { room = record s.room { fresh = s.room.fresh && none } }
+    → Takes a v b t (figured v.room.figurines shows) → Says a s b t text
+says_part {a} {b} {t} {v} {shows} s text none cut is nothing passed takes =
+    let fresh = s.room.fresh && none in
+    let stays : fresh ≡ stays_fresh s.room.fresh text =
+    ap (λ n. s.room.fresh && n) (nothing ∙ ap (λ l. length l == 0) is) in
+    let own = subst (λ w. Takes a w b t (figured w.room.figurines shows)) passed takes in
+    record {
+      goes = by_as s.stop t.stop a b s.pending t.pending (figured s.room.figurines shows) (shown s.room text)
+          (t.room ≡ record s.room { fresh = fresh }) (t.room ≡ past s.room text)
+          (shown_open s.room shows text cut is) (λ same. same ∙ past_open s.room fresh text cut stays) own.goes;
+    }
+
+-- Nothing is, where a line was left out.
+pub says_cut : (a : Option (List ℕ)) (s : SheetValue) (text : List ℕ) → s.room.cut ≡ true → Says a s a s text
+says_cut a s text cut = record {
+  goes = by_as s.stop s.stop a a s.pending s.pending [] (shown s.room text) (s.room ≡ s.room) (s.room ≡ past s.room text)
+      (sym (shown_cut s.room text cut)) (λ same. sym (past_cut s.room text cut)) (by_none s.stop a s.pending (s.room ≡ s.room) refl);
+}
+
+pub figured_on : (figurines : Bool) (x : List ℕ) → figurines ≡ true → flat_map figurine x ≡ figured figurines x
+figured_on true x is = refl
+figured_on false x is = cc
+
+pub figured_off : (figurines : Bool) (x : List ℕ) → figurines ≡ false → x ≡ figured figurines x
+figured_off true x is = cc
+figured_off false x is = refl
+
+-- A line is begun, where what stands before it is written, and it is counted.
+pub begins_by : {a b : Option (List ℕ)} {s t u : SheetValue} {text : List ℕ} → text ≡ mark s.room → Takes a s b t text
+    → u ≡ record t { room = next t.room } → Begins a s b u
+begins_by {a} {b} {s} {t} {u} {text} is takes counted = subst (λ v. Begins a s b v) (sym counted) (record {
+  goes = by_as s.stop t.stop a b s.pending t.pending text (mark s.room) (t.room ≡ s.room) (next t.room ≡ next s.room)
+      is (λ same. ap next same) takes.goes;
+})
+
+pub ends_by : {a b : Option (List ℕ)} {s t : SheetValue} {text : List ℕ} → text ≡ ending s.room → Takes a s b t text → Ends a s b t
+ends_by {a} {b} {s} {t} {text} is takes = record {
+  goes = by_as s.stop t.stop a b s.pending t.pending text (ending s.room) (t.room ≡ s.room) (t.room ≡ s.room) is (λ same. same) takes.goes;
+}
+
+-- texts of bytes, one after the other
+pub bytes_more : {a b c : Option (List ℕ)} {s t u : SheetValue} {x : List ℕ} (f : ℕ → List ℕ) (xs : List ℕ) (i : ℕ) → i < length xs
+    → Takes a s b t (flat_map f (take i xs)) → Takes b t c u x → x ≡ f (get_or xs i 0) → Takes a s c u (flat_map f (take (i + 1) xs))
+bytes_more {a} {b} {c} {s} {t} {u} {x} f xs i here first second is =
+    takes_as (ap (λ l. flat_map f (take i xs) ++ l) is ∙ flat_map_more f [] (take i xs) (get_or xs i 0)
+    ∙ ap (flat_map f) (sym (take_more xs i 0 here))) (takes_more first second)
+
+pub bytes_all : {a b : Option (List ℕ)} {s t : SheetValue} (f : ℕ → List ℕ) (xs : List ℕ) (i : ℕ) → length xs ≤ i
+    → Takes a s b t (flat_map f (take i xs)) → Takes a s b t (flat_map f xs)
+bytes_all f xs i past takes = takes_as (ap (flat_map f) (take_all i xs past)) takes
 
 -- ---- lines
 
-said_one : (r : Room) (l : List ℕ) → mark r ++ shown (next r) (line l) ≡ said r (l ∷ [])
+said_one : (r : Room) (l : List ℕ) → mark r ++ (shown (next r) l ++ ending (past (next r) l)) ≡ said r (l ∷ [])
 unfolding said
-said_one r l = sym (append-nil (mark r ++ shown (next r) (line l)))
+said_one r l = sym (append-nil (mark r ++ (shown (next r) l ++ ending (past (next r) l))))
 
-behind_one : (r : Room) (l : List ℕ) → next r ≡ behind r (l ∷ [])
+behind_one : (r : Room) (l : List ℕ) → past (next r) l ≡ behind r (l ∷ [])
 unfolding behind
 behind_one r l = refl
 
 -- a line that was begun and ended
-pub writes_one : {a b c : Option (List ℕ)} {s t u : SheetValue} {l : List ℕ} → Begins a s b t → Says b t c u (line l) → Writes a s c u (l ∷ [])
-writes_one {a} {b} {c} {s} {t} {u} {l} first second = record {
-  goes = by_as s.stop u.stop a c s.pending u.pending (mark s.room ++ shown (next s.room) (line l)) (said s.room (l ∷ []))
-      (u.room ≡ next s.room) (u.room ≡ behind s.room (l ∷ []))
-      (said_one s.room l) (λ same. same ∙ behind_one s.room l)
-      (by_on s.stop t.stop u.stop a b c s.pending t.pending u.pending (mark s.room) (shown t.room (line l)) (shown (next s.room) (line l))
-      (t.room ≡ next s.room) (u.room ≡ t.room) (u.room ≡ next s.room)
-      (λ same. (ap (λ r. shown r (line l)) same, λ later. later ∙ same)) first.goes second.goes);
-}
+pub writes_one : {a b c d : Option (List ℕ)} {s t u v : SheetValue} {l : List ℕ} → Begins a s b t → Says b t c u l → Ends c u d v
+    → Writes a s d v (l ∷ [])
+writes_one {a} {b} {c} {d} {s} {t} {u} {v} {l} first second third =
+    let text = shown t.room l ++ ending (past t.room l) in
+    let rest = by_on t.stop u.stop v.stop b c d t.pending u.pending v.pending (shown t.room l) (ending u.room) (ending (past t.room l))
+    (u.room ≡ past t.room l) (v.room ≡ u.room) (v.room ≡ past t.room l)
+    (λ same. (ap ending same, λ later. later ∙ same)) second.goes third.goes in
+    let whole = shown (next s.room) l ++ ending (past (next s.room) l) in
+    record {
+      goes = by_as s.stop v.stop a d s.pending v.pending (mark s.room ++ whole) (said s.room (l ∷ []))
+          (v.room ≡ past (next s.room) l) (v.room ≡ behind s.room (l ∷ []))
+          (said_one s.room l) (λ same. same ∙ behind_one s.room l)
+          (by_on s.stop t.stop v.stop a b d s.pending t.pending v.pending (mark s.room) text whole
+          (t.room ≡ next s.room) (v.room ≡ past t.room l) (v.room ≡ past (next s.room) l)
+          (λ same. (ap (λ r. shown r l ++ ending (past r l)) same, λ later. later ∙ ap (λ r. past r l) same)) first.goes rest);
+    }
 
 nothing_said : (r : Room) → [] ≡ said r []
 unfolding said
@@ -104,13 +261,14 @@ said_append : (r : Room) (xs ys : List (List ℕ)) → said r xs ++ said (behind
 unfolding said behind
 said_append r [] ys = refl
 said_append r (x ∷ xs) ys =
-    append_assoc (mark r ++ shown (next r) (line x)) (said (next r) xs) (said (behind (next r) xs) ys)
-    ∙ ap (λ t. mark r ++ shown (next r) (line x) ++ t) (said_append (next r) xs ys)
+    let first = mark r ++ (shown (next r) x ++ ending (past (next r) x)) in
+    append_assoc first (said (past (next r) x) xs) (said (behind (past (next r) x) xs) ys)
+    ∙ ap (λ t. first ++ t) (said_append (past (next r) x) xs ys)
 
 behind_append : (r : Room) (xs ys : List (List ℕ)) → behind (behind r xs) ys ≡ behind r (xs ++ ys)
 unfolding behind
 behind_append r [] ys = refl
-behind_append r (x ∷ xs) ys = behind_append (next r) xs ys
+behind_append r (x ∷ xs) ys = behind_append (past (next r) x) xs ys
 
 pub writes_more : {a b c : Option (List ℕ)} {s t u : SheetValue} {xs ys : List (List ℕ)} → Writes a s b t xs → Writes b t c u ys
     → Writes a s c u (xs ++ ys)
@@ -132,23 +290,28 @@ writes_first first second = writes_more first second
 next_cut : (r : Room) → r.cut ≡ true → next r ≡ r
 next_cut r cut = rw cut refl
 
+behind_line : (r : Room) (x : List ℕ) → r.cut ≡ true → past (next r) x ≡ r
+behind_line r x cut = ap (λ q. past q x) (next_cut r cut) ∙ past_cut r x cut
+
 mark_cut : (r : Room) → r.cut ≡ true → mark r ≡ []
 mark_cut r cut = rw cut refl
 
-shown_cut : (r : Room) (x : List ℕ) → r.cut ≡ true → shown r x ≡ []
-shown_cut r x cut = rw cut refl
+ending_cut : (r : Room) → r.cut ≡ true → ending r ≡ []
+ending_cut r cut = rw cut refl
 
-said_cut : (r : Room) (ls : List (List ℕ)) → r.cut ≡ true → said r ls ≡ []
+pub said_cut : (r : Room) (ls : List (List ℕ)) → r.cut ≡ true → said r ls ≡ []
 unfolding said
 said_cut r [] cut = refl
 said_cut r (l ∷ ls) cut =
-    ap (λ m. m ++ shown (next r) (line l) ++ said (next r) ls) (mark_cut r cut)
-    ∙ ap (λ q. shown q (line l) ++ said q ls) (next_cut r cut) ∙ ap (λ m. m ++ said r ls) (shown_cut r (line l) cut) ∙ said_cut r ls cut
+    ap (λ m. m ++ (shown (next r) l ++ ending (past (next r) l)) ++ said (past (next r) l) ls) (mark_cut r cut)
+    ∙ ap (λ q. (shown (next r) l ++ ending q) ++ said q ls) (behind_line r l cut)
+    ∙ ap (λ q. (shown q l ++ ending r) ++ said r ls) (next_cut r cut)
+    ∙ ap (λ m. (m ++ ending r) ++ said r ls) (shown_cut r l cut) ∙ ap (λ m. m ++ said r ls) (ending_cut r cut) ∙ said_cut r ls cut
 
-behind_cut : (r : Room) (ls : List (List ℕ)) → r.cut ≡ true → behind r ls ≡ r
+pub behind_cut : (r : Room) (ls : List (List ℕ)) → r.cut ≡ true → behind r ls ≡ r
 unfolding behind
 behind_cut r [] cut = refl
-behind_cut r (l ∷ ls) cut = ap (λ q. behind q ls) (next_cut r cut) ∙ behind_cut r ls cut
+behind_cut r (l ∷ ls) cut = ap (λ q. behind q ls) (behind_line r l cut) ∙ behind_cut r ls cut
 
 -- Once a line was left out, or writing stopped, nothing more is written.
 pub writes_closed : {a b : Option (List ℕ)} {s t : SheetValue} {xs : List (List ℕ)} (ys : List (List ℕ)) → is_closed t ≡ true → Writes a s b t xs
@@ -234,42 +397,3 @@ module _ {X : Type 0} (name : List ℕ) (f : X → List (List ℕ)) (xs : List X
       let rest = flat_map f (drop i xs) in
       subst (Writes a s b t) (sym (headed_append name first rest) ∙ ap (headed name) (sym (lines_split f xs i)))
       (writes_closed (headed_on name (is_some_line first) rest) closed before)
-
--- ---- what is written in the end
-
-abbrev room_for : Option ℕ → Room
-room_for left = record { left = left; cut = false }
-
-said_all : (ls : List (List ℕ)) → said (room_for None) ls ≡ flat_map line ls
-unfolding said
-said_all [] = refl
-said_all (l ∷ ls) = ap (λ t. line l ++ t) (said_all ls)
-
-next_room : (n : ℕ) → next (room_for (Some (suc n))) ≡ room_for (Some n)
-next_room n =
-    let room : (suc n == 0) ≡ false = grind (arith, nat_tests) in
-    let left : suc n - 1 ≡ n = omega arith in
-    rw room (ap (λ m. room_for (Some m)) left)
-
-no_mark : (n : ℕ) → mark (room_for (Some (suc n))) ≡ []
-no_mark n = let room : (suc n == 0) ≡ false = grind (arith, nat_tests) in rw room refl
-
-shown_first : (n : ℕ) (l : List ℕ) (ls : List (List ℕ)) → line l ++ printed (Some n) ls ≡ printed (Some (suc n)) (l ∷ ls)
-shown_first n l ls =
-    let more : nat_lt (suc n) (suc (length ls)) ≡ nat_lt n (length ls) = grind (arith, nat_tests) in
-    rw more (sym (append_assoc (line l) (flat_map line (take n ls)) (cond (nat_lt n (length ls)) (line (codes "..")) [])))
-
-said_most : (n : ℕ) (ls : List (List ℕ)) → said (room_for (Some n)) ls ≡ printed (Some n) ls
-unfolding said
-said_most zero [] = refl
-said_most (suc n) [] = let few : nat_lt (suc n) 0 ≡ false = grind (arith, nat_tests) in rw few refl
-said_most zero (l ∷ ls) =
-    let more : nat_lt 0 (suc (length ls)) ≡ true = grind (arith, nat_tests) in
-    rw more (ap (λ t. line (codes "..") ++ t) (said_cut (record { left = Some 0; cut = true }) ls refl))
-said_most (suc n) (l ∷ ls) =
-    ap (λ m. m ++ shown (next (room_for (Some (suc n)))) (line l) ++ said (next (room_for (Some (suc n)))) ls) (no_mark n)
-    ∙ ap (λ r. shown r (line l) ++ said r ls) (next_room n) ∙ ap (λ t. line l ++ t) (said_most n ls) ∙ shown_first n l ls
-
-pub printed_is : (most : Option ℕ) (ls : List (List ℕ)) → said (record { left = most; cut = false }) ls ≡ printed most ls
-printed_is None ls = said_all ls
-printed_is (Some n) ls = said_most n ls

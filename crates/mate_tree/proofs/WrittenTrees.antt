@@ -1,6 +1,6 @@
 -- The tree of a mate, written part by part, and the whole reply.
-use Rattle.std.proofs.Common.{◌≡◌, ◌∙◌, ℕ, ◌-◌, ◌++◌, List, [], Option, Some, None, Result, Ok, Err, IfErr, OnOk, false}
-use Rattle.std.proofs.Common.{refl, sym, ap, subst, append-nil}
+use Rattle.std.proofs.Common.{◌≡◌, ◌∙◌, ℕ, ◌-◌, ◌++◌, List, [], Option, Some, None, Result, Ok, Err, IfErr, OnOk, true}
+use Rattle.std.proofs.Common.{refl, sym, ap, subst, append_assoc, append-nil}
 use Rattle.std.specs.Prelude.{if◌then◌else◌, ⊤}
 use Rattle.std.specs.Io.KnownBytes.{Appends}
 use Rattle.byte_streams.specs.declared.stops.Stop.{Stop}
@@ -19,46 +19,55 @@ use Rattle.mate_tree.specs.Lines.{line}
 use Rattle.mate_tree.specs.Keys.{key_lines}
 use Rattle.mate_tree.specs.SetPlay.{set_play}
 use Rattle.mate_tree.specs.Tries.{tries}
-use Rattle.mate_tree.specs.Trees.{mate_lines, printed, tree_lines}
+use Rattle.mate_tree.specs.Layouts.{column_text}
+use Rattle.mate_tree.specs.Trees.{mate_lines, printed, shown_lines, tree_lines}
 use Rattle.mate_tree.specs.TreeReplies.{tree_reply}
 use Rattle.mate_tree.specs.inside.Replies.{IsJust}
-use Rattle.mate_tree.specs.inside.Sheets.{GoesBy, SheetValue, Takes, Writes, behind, said}
+use Rattle.mate_tree.specs.inside.Sheets.{GoesBy, SheetValue, Takes, Writes, behind, closing, room_for, said}
 use Rattle.mate_tree.proofs.Steps.{by_as, by_on}
-use Rattle.mate_tree.proofs.WrittenLines.{printed_is, writes_more}
+use Rattle.mate_tree.proofs.LaidOutLines.{column_is, printed_is}
+use Rattle.mate_tree.proofs.WrittenLines.{writes_more}
 
 pub mate_written : {a b c d : Option (List ℕ)} {s t u v : SheetValue} (form : Form) (q : ProblemValue) (p : Setup) (n shown : ℕ) (keys : List Move)
     → p ≡ q.position → shown ≡ moves_shown form.moves n - 1
-    → Writes a s b t (if form.set_play then set_play (n - 1) p else []) → Writes b t c u (key_lines form.defences shown n p keys)
-    → Writes c u d v (if form.tries then tries (n - 1) q.position q.avoid else []) → Writes a s d v (mate_lines form q n keys)
+    → Writes a s b t (if form.set_play then set_play form.column (n - 1) p else []) → Writes b t c u (key_lines form.defences shown n p keys)
+    → Writes c u d v (if form.tries then tries form.column (n - 1) q.position q.avoid else []) → Writes a s d v (mate_lines form q n keys)
 mate_written {a} {b} {c} {d} {s} {t} {u} {v} form q p n shown keys at is first second third =
     let keyed : key_lines form.defences shown n p keys ≡ key_lines form.defences (moves_shown form.moves n - 1) n q.position keys =
     ap (λ r. key_lines form.defences shown n r keys) at ∙ ap (λ d. key_lines form.defences d n q.position keys) is in
-    writes_more (writes_more (subst (λ r. Writes a s b t (if form.set_play then set_play (n - 1) r else [])) at first)
+    writes_more (writes_more (subst (λ r. Writes a s b t (if form.set_play then set_play form.column (n - 1) r else [])) at first)
     (subst (Writes b t c u) keyed second)) third
 
+-- what is written on a fresh sheet, by another word for it
+fresh_goes : (form : Form) (end : Option Stop) (a d : Option (List ℕ)) (s : SheetValue) (x y : List ℕ) → x ≡ y
+    → s ≡ record { pending = []; room = room_for form; stop = None } → GoesBy s.stop end a s.pending d [] x ⊤ → GoesBy None end a [] d [] y ⊤
+fresh_goes form end a d s x y same fresh goes =
+    by_as None end a d [] [] x y ⊤ ⊤ same (λ _. tt)
+    (subst (λ i. GoesBy i end a [] d [] x ⊤) (ap (λ (v : SheetValue). v.stop) fresh)
+    (subst (λ p. GoesBy s.stop end a p d [] x ⊤) (ap (λ (v : SheetValue). v.pending) fresh) goes))
+
 -- the answer, the tree, and the empty line
-pub reply_goes : (form : Form) (r : RecordValue) (o : Outcome) (answer : List ℕ) (end : Option Stop) (a b c d : Option (List ℕ)) (s t u : SheetValue)
-    → o ≡ truth (problem_of r) → answer ≡ line (answer_text r o)
-    → s ≡ record { pending = []; room = record { left = form.lines; cut = false }; stop = None }
-    → Takes a s b t answer → Writes b t c u (tree_lines form (problem_of r) o)
-    → GoesBy u.stop end c u.pending d [] (line []) ⊤ → GoesBy None end a [] d [] (tree_reply form r) ⊤
-reply_goes form r o answer end a b c d s t u told answered fresh first tree last =
+pub reply_goes : (form : Form) (r : RecordValue) (o : Outcome) (answer last : List ℕ) (end : Option Stop) (a b c d : Option (List ℕ))
+    (s t u : SheetValue) → o ≡ truth (problem_of r) → answer ≡ line (answer_text r o)
+    → s ≡ record { pending = []; room = room_for form; stop = None }
+    → Takes a s b t answer → Writes b t c u (tree_lines form (problem_of r) o) → last ≡ closing u.room
+    → GoesBy u.stop end c u.pending d [] last ⊤ → GoesBy None end a [] d [] (tree_reply form r) ⊤
+reply_goes form r o answer last end a b c d s t u told answered fresh first tree closes finish =
     let lines = tree_lines form (problem_of r) o in
     let text = said s.room lines in
+    let close = closing (behind s.room lines) in
     let head = by_on s.stop t.stop u.stop a b c s.pending t.pending u.pending answer (said t.room lines) text
-    (t.room ≡ s.room) (u.room ≡ behind t.room lines) ⊤ (λ same. (ap (λ r. said r lines) same, λ later. tt)) first.goes tree.goes in
-    let all = by_on s.stop u.stop end a c d s.pending u.pending [] (answer ++ text) (line []) (line []) ⊤ ⊤ ⊤ (λ _. (refl, λ _. tt)) head last in
-    let shown : text ≡ printed form.lines lines =
-    ap (λ (v : SheetValue). said v.room lines) fresh ∙ printed_is form.lines lines in
-    let whole : (answer ++ text) ++ line [] ≡ tree_reply form r =
-    ap (λ x. answer ++ x ++ line []) shown
-    ∙ ap (λ x. x ++ printed form.lines lines ++ line []) answered
-    ∙ ap (λ x. line (answer_text r x) ++ printed form.lines (tree_lines form (problem_of r) x) ++ line []) told in
-    let fresh_stop = ap (λ (v : SheetValue). v.stop) fresh in
-    let fresh_pending = ap (λ (v : SheetValue). v.pending) fresh in
-    by_as None end a d [] [] ((answer ++ text) ++ line []) (tree_reply form r) ⊤ ⊤ whole (λ _. tt)
-    (subst (λ i. GoesBy i end a [] d [] ((answer ++ text) ++ line []) ⊤) fresh_stop
-    (subst (λ p. GoesBy s.stop end a p d [] ((answer ++ text) ++ line []) ⊤) fresh_pending all))
+    (t.room ≡ s.room) (u.room ≡ behind t.room lines) (u.room ≡ behind s.room lines)
+    (λ same. (ap (λ r. said r lines) same, λ later. later ∙ ap (λ r. behind r lines) same)) first.goes tree.goes in
+    let all = by_on s.stop u.stop end a c d s.pending u.pending [] (answer ++ text) last close (u.room ≡ behind s.room lines) ⊤ ⊤
+    (λ same. (closes ∙ ap closing same, λ _. tt)) head finish in
+    let shown : text ++ close ≡ printed form lines ++ line [] =
+    ap (λ (v : SheetValue). said v.room lines ++ closing (behind v.room lines)) fresh ∙ printed_is form lines in
+    let whole : (answer ++ text) ++ close ≡ tree_reply form r =
+    append_assoc answer text close ∙ ap (λ x. answer ++ x) shown ∙ sym (append_assoc answer (printed form lines) (line []))
+    ∙ ap (λ x. x ++ printed form lines ++ line []) answered
+    ∙ ap (λ x. line (answer_text r x) ++ printed form (tree_lines form (problem_of r) x) ++ line []) told in
+    fresh_goes form end a d s ((answer ++ text) ++ close) (tree_reply form r) whole fresh all
 
 pub whole_appends : (old new : Option (List ℕ)) (text : List ℕ) → GoesBy None None old [] new [] text ⊤ → Appends old new text
 whole_appends old new text (a, gone, is, on) = subst (Appends old new) (sym (is ∙ append-nil gone)) on
@@ -72,19 +81,30 @@ part_breaks old new text stop.NoReader (broken, part) = (text, 0, (refl, refl), 
 
 -- ---- what has come of it where the reply is finished
 
-module _ (form : Form) (r : RecordValue) (o : Outcome) (answer : List ℕ) (a b c d : Option (List ℕ)) (s t u : SheetValue) where
+module _ (form : Form) (r : RecordValue) (o : Outcome) (answer last : List ℕ) (a b c d : Option (List ℕ)) (s t u : SheetValue) where
   pub finished_ok : {X E : Type 0} (end : Result X E) → o ≡ truth (problem_of r) → answer ≡ line (answer_text r o)
-      → s ≡ record { pending = []; room = record { left = form.lines; cut = false }; stop = None }
-      → Takes a s b t answer → Writes b t c u (tree_lines form (problem_of r) o)
-      → OnOk end (GoesBy u.stop None c u.pending d [] (line []) ⊤) → OnOk end (Appends a d (tree_reply form r))
-  finished_ok (Ok x) told answered fresh first tree last =
-      whole_appends a d (tree_reply form r) (reply_goes form r o answer None a b c d s t u told answered fresh first tree last)
-  finished_ok (Err e) told answered fresh first tree last = tt
+      → s ≡ record { pending = []; room = room_for form; stop = None }
+      → Takes a s b t answer → Writes b t c u (tree_lines form (problem_of r) o) → last ≡ closing u.room
+      → OnOk end (GoesBy u.stop None c u.pending d [] last ⊤) → OnOk end (Appends a d (tree_reply form r))
+  finished_ok (Ok x) told answered fresh first tree closes finish =
+      whole_appends a d (tree_reply form r) (reply_goes form r o answer last None a b c d s t u told answered fresh first tree closes finish)
+  finished_ok (Err e) told answered fresh first tree closes finish = tt
 
   pub finished_err : {X : Type 0} (end : Result X Stop) → o ≡ truth (problem_of r) → answer ≡ line (answer_text r o)
-      → s ≡ record { pending = []; room = record { left = form.lines; cut = false }; stop = None }
-      → Takes a s b t answer → Writes b t c u (tree_lines form (problem_of r) o)
-      → IfErr end (λ why. GoesBy u.stop (Some why) c u.pending d [] (line []) ⊤) → IfErr end (BreaksOff (IsJust (tree_reply form r) 0) a d)
-  finished_err (Ok x) told answered fresh first tree last = tt
-  finished_err (Err why) told answered fresh first tree last =
-      part_breaks a d (tree_reply form r) why (reply_goes form r o answer (Some why) a b c d s t u told answered fresh first tree last)
+      → s ≡ record { pending = []; room = room_for form; stop = None }
+      → Takes a s b t answer → Writes b t c u (tree_lines form (problem_of r) o) → last ≡ closing u.room
+      → IfErr end (λ why. GoesBy u.stop (Some why) c u.pending d [] last ⊤) → IfErr end (BreaksOff (IsJust (tree_reply form r) 0) a d)
+  finished_err (Ok x) told answered fresh first tree closes finish = tt
+  finished_err (Err why) told answered fresh first tree closes finish =
+      part_breaks a d (tree_reply form r) why (reply_goes form r o answer last (Some why) a b c d s t u told answered fresh first tree closes finish)
+
+-- lines in a column behind a text
+pub column_added : (form : Form) (ls : List (List ℕ)) (old new : List ℕ) (c : Option (List ℕ)) (s u : SheetValue) → form.column ≡ true
+    → s ≡ record { pending = []; room = room_for form; stop = None } → Writes (Some old) s c u ls
+    → GoesBy u.stop None c u.pending (Some new) [] [] ⊤ → new ≡ old ++ column_text (shown_lines form ls)
+column_added form ls old new c s u column fresh tree finish =
+    let all = by_on s.stop u.stop None (Some old) c (Some new) s.pending u.pending [] (said s.room ls) [] [] (u.room ≡ behind s.room ls) ⊤ ⊤
+    (λ _. (refl, λ _. tt)) tree.goes finish in
+    whole_appends (Some old) (Some new) (column_text (shown_lines form ls))
+    (fresh_goes form None (Some old) (Some new) s (said s.room ls ++ []) (column_text (shown_lines form ls))
+    (append-nil (said s.room ls) ∙ ap (λ (v : SheetValue). said v.room ls) fresh ∙ column_is form ls column) fresh all)

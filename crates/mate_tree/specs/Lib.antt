@@ -1,5 +1,6 @@
 pub mod Forms
 pub mod Lines
+pub mod Layouts
 pub mod Passing
 pub mod Continuations
 pub mod Defences

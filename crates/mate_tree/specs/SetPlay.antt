@@ -1,5 +1,5 @@
 -- Set play: what the attacker has ready, were the defender to move first.
-use Rattle.std.specs.Prelude.{ℕ, List, [], ◌∷◌, ◌++◌, codes}
+use Rattle.std.specs.Prelude.{ℕ, List, [], ◌∷◌, ◌++◌, codes, Bool}
 use Rattle.std.specs.List.{flat_map}
 use Rattle.std.specs.Option.{option_map_or}
 use Rattle.chess_board.specs.Positions.{Setup}
@@ -8,6 +8,7 @@ use Rattle.chess_board.specs.MakeMove.{after_setup}
 use Rattle.chess_moves.specs.inside.Listing.{legal_moves}
 use Rattle.chess_problems.specs.declared.outcomes.Outcome.{Outcome}
 use Rattle.chess_problems.specs.declared.outcomes.Outcome.TheVariants.{Mate, NoMate}
+use Rattle.mate_tree.specs.Layouts.{heading}
 use Rattle.mate_tree.specs.Lines.{defence_text, attack_words}
 use Rattle.mate_tree.specs.Passing.{passed}
 use Rattle.mate_tree.specs.Continuations.{soonest}
@@ -30,5 +31,5 @@ abbrev pub set_lines : ℕ → Setup → List (List ℕ)
 set_lines k q = flat_map (set_line_within k q) (legal_moves q)
 
 -- the attacker passes, where it is not in check
-unfoldable pub set_play : ℕ → Setup → List (List ℕ)
-set_play k p = option_map_or (λ q. headed (codes "set play") (set_lines k q)) (passed p) []
+unfoldable pub set_play : Bool → ℕ → Setup → List (List ℕ)
+set_play column k p = option_map_or (λ q. headed (heading column (codes "set play")) (set_lines k q)) (passed p) []

@@ -14,7 +14,7 @@ use Rattle.mate_tree.specs.Trees.{printed, tree_lines}
 -- the reply to a line that says this record: its answer, the tree, and an empty line
 abbrev pub tree_reply : Form → RecordValue → List ℕ
 tree_reply form r = line (answer_text r (truth (problem_of r)))
-    ++ printed form.lines (tree_lines form (problem_of r) (truth (problem_of r))) ++ line []
+    ++ printed form (tree_lines form (problem_of r) (truth (problem_of r))) ++ line []
 
 -- What one line is answered, and how many refusals that is: nothing where it is blank.
 pub data IsTreeReply (form : Form) (default number : ℕ) (said : List ℕ) : List ℕ → ℕ → Type 0 where

@@ -10,6 +10,7 @@ use Rattle.chess_notation.specs.SanText.{san_text}
 use Rattle.chess_problems.specs.SameProblems.{is_same_move}
 use Rattle.chess_problems.specs.declared.outcomes.Outcome.{Outcome}
 use Rattle.chess_problems.specs.declared.outcomes.Outcome.TheVariants.{Mate, NoMate}
+use Rattle.mate_tree.specs.Layouts.{heading}
 use Rattle.mate_tree.specs.Lines.{attack_text}
 use Rattle.mate_tree.specs.Continuations.{soonest}
 use Rattle.mate_tree.specs.SetPlay.{headed}
@@ -39,5 +40,5 @@ abbrev pub try_lines : ℕ → Setup → List Move → Move → List (List ℕ)
 try_lines k p avoid m =
     if list_any (is_same_move m) avoid then [] else option_map_or (λ r. try_line p m r ∷ []) (sole (refutations k (after_setup p m))) []
 
-unfoldable pub tries : ℕ → Setup → List Move → List (List ℕ)
-tries k p avoid = headed (codes "tries") (flat_map (try_lines k p avoid) (legal_moves p))
+unfoldable pub tries : Bool → ℕ → Setup → List Move → List (List ℕ)
+tries column k p avoid = headed (heading column (codes "tries")) (flat_map (try_lines k p avoid) (legal_moves p))

@@ -1,9 +1,9 @@
-//! How much of a tree is shown.
+//! How much of a tree is shown, and how.
 
 ghost use Rattle.std.specs.Prelude.{◌≡◌};
 ghost use Rattle.mate_tree.specs.Forms.{moves_shown};
 
-/// What is shown of a tree, and how much.
+/// What is shown of a tree, how much, and how.
 #[derive(Clone, Copy, Debug, PartialEq, Eq)]
 pub struct Form {
     /// How many of the attacker's moves; without a number all of a mate in up to 3, and 2 of a longer one.
@@ -16,6 +16,10 @@ pub struct Form {
     pub tries: bool,
     /// How many lines at most; without a number all.
     pub lines: Option<u32>,
+    /// Whether the lines stand behind each other, as one.
+    pub column: bool,
+    /// Whether pieces are figurines in the lines, in place of letters.
+    pub figurines: bool,
 }
 
 impl Form {

@@ -4,14 +4,16 @@
 //! What is true of a position is `mate_search`'s business, and how a move is written `chess_notation`'s. Each definition stands in the
 //! file of `specs/` with the same name. To read: `forms`, `lines`, `continuations` and `defences`, the tree below a move;
 //! `passing` and `threats`; `parries` and `variations`, of which a magazine prints a solution; `keys`, `set_play`, `tries`; then `trees`,
-//! over `sheets`, and `tree_replies`. `laws` says of the definitions what they are meant to say.
+//! over `sheets` and `layouts`, and `tree_replies` and `columns`. `laws` says of the definitions what they are meant to say.
 #![tactic(auto)]
 
+mod columns;
 mod continuations;
 mod defences;
 mod forms;
 mod keys;
 mod laws;
+mod layouts;
 mod lines;
 mod parries;
 mod passing;
@@ -23,6 +25,7 @@ mod trees;
 mod tries;
 mod variations;
 
+pub use columns::push_column;
 pub use forms::Form;
 pub use laws::{
     defences_answered, each_has_line, leaves_mate, line_branches, parries_read, soonest_reads,

@@ -1,6 +1,6 @@
 //! Set play: what the attacker has ready, were the defender to move first.
 
-ghost use Rattle.std.specs.Prelude.{◌≡◌, ◌≤◌, codes, not, true};
+ghost use Rattle.std.specs.Prelude.{◌≡◌, ◌≤◌, true};
 ghost use Rattle.chess_board.specs.Legality.{is_legal};
 ghost use Rattle.chess_board.specs.Moves.{Move};
 ghost use Rattle.chess_board.specs.Positions.{Setup};
@@ -11,6 +11,7 @@ ghost use Rattle.mate_tree.specs.inside.Sheets.{Writes, is_some_line};
 
 use crate::continuations::soonest;
 use crate::defences::Place;
+use crate::layouts::set_play_heading;
 use crate::lines::{push_attacks, push_defence};
 use crate::passing::passed;
 use crate::sheets::Sheet;
@@ -56,9 +57,10 @@ fn write_set_line<O: Write>(
     }
 }
 
-/// Writes each of the defender's moves after which there is a mate within the moves that are left.
+/// Writes each of the defender's moves after which there is a mate within the moves that are left, below a heading.
 fn write_set_lines<O: Write>(
     position: &Position,
+    heading: &[u8],
     at: Place<'_>,
     memo: &mut Memo,
     sheet: &mut Sheet,
@@ -66,7 +68,7 @@ fn write_set_lines<O: Write>(
 )
     requires { at.left ≤ 15 }
     ensures lines { Writes (O.contents out.old) sheet.old (O.contents out.new) sheet.new
-        (headed (codes "set play") (set_lines at.entry.left position.now)) }
+        (headed heading.now (set_lines at.entry.left position.now)) }
     ensures room { memo.new.room ≡ memo.old.room }
 {
     // That each of them is legal by itself, as `after` asks.
@@ -79,7 +81,7 @@ fn write_set_lines<O: Write>(
         }
         let outcome = soonest(at.rays, &after(position, *r), at.left, memo);
         let has = has_line(&outcome);
-        sheet.write_name(out, b"set play", is_open, has);
+        sheet.write_name(out, heading, is_open, has);
         write_set_line(at.rays, position, *r, &outcome, sheet, out);
         is_open |= has;
     }
@@ -89,17 +91,18 @@ fn write_set_lines<O: Write>(
 #[tactic(auto, unfolding(crate::specs::SetPlay::set_play))]
 pub(crate) fn write_set_play<O: Write>(
     position: &Position,
+    column: bool,
     at: Place<'_>,
     memo: &mut Memo,
     sheet: &mut Sheet,
     out: &mut O,
 )
     requires { at.left ≤ 15 }
-    ensures lines { Writes (O.contents out.old) sheet.old (O.contents out.new) sheet.new (set_play at.entry.left position.now) }
+    ensures lines { Writes (O.contents out.old) sheet.old (O.contents out.new) sheet.new (set_play column at.entry.left position.now) }
     ensures room { memo.new.room ≡ memo.old.room }
 {
     match passed(position) {
-        Some(other) => write_set_lines(&other, at, memo, sheet, out),
+        Some(other) => write_set_lines(&other, set_play_heading(column), at, memo, sheet, out),
         None => {}
     }
 }

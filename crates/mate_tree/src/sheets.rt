@@ -1,9 +1,13 @@
 //! What lines are written on, as they are made: as many as there is room for.
 
-ghost use Rattle.std.specs.Prelude.{◌≡◌, [], ◌∷◌, IfErr, None, OnOk, Some, codes, false, ⊤};
-ghost use Rattle.mate_tree.specs.Lines.{line};
-ghost use Rattle.mate_tree.specs.inside.Sheets.{Begins, GoesBy, Says, Takes, Writes, is_closed, name_lines};
+ghost use Rattle.std.specs.Prelude.{◌≡◌, ◌++◌, ◌&&◌, [], IfErr, None, OnOk, Some, codes, ⊤};
+ghost use Rattle.std.specs.List.{flat_map};
+ghost use Rattle.mate_tree.specs.Layouts.{figured, figurine as figurine_of};
+ghost use Rattle.mate_tree.specs.inside.Sheets.{Begins, Ends, GoesBy, Says, Takes, Writes, closing, ending, gap, is_closed};
+ghost use Rattle.mate_tree.specs.inside.Sheets.{line_end as line_end_of, mark, name_lines, next, part as part_of, room_for};
 
+use crate::forms::Form;
+use crate::layouts::{figurine, line_end, part};
 use arrayvec::ArrayVec;
 use byte_streams::{Stop, put};
 use std::io::Write;
@@ -22,6 +26,14 @@ pub(crate) struct Sheet {
     left: Option<u32>,
     /// Whether a line was left out.
     cut: bool,
+    /// Whether lines stand behind each other.
+    column: bool,
+    /// Whether pieces are figurines, in place of letters.
+    figurines: bool,
+    /// Whether a line was begun.
+    begun: bool,
+    /// Whether nothing stands there yet of the last line of a column.
+    fresh: bool,
     /// Why writing stopped, where it did.
     stop: Option<Stop>,
 }
@@ -31,18 +43,33 @@ impl Model for Sheet {
 
     ghost Value = { SheetValue };
 
-    ghost view = { λ s. record { pending = s.pending.items; room = record { left = s.left; cut = s.cut }; stop = s.stop } };
+    ghost view = { λ s. record {
+      pending = s.pending.items;
+      room = record {
+        left = s.left;
+        cut = s.cut;
+        column = s.column;
+        figurines = s.figurines;
+        begun = s.begun;
+        fresh = s.fresh;
+      };
+      stop = s.stop;
+    } };
 }
 
 impl Sheet {
-    /// An empty sheet with room for so many lines.
-    pub(crate) fn new(lines: Option<u32>) -> Sheet
-        ensures { result ≡ record { pending = []; room = record { left = lines; cut = false }; stop = None } }
+    /// An empty sheet for lines of this form.
+    pub(crate) fn new(form: Form) -> Sheet
+        ensures { result ≡ record { pending = []; room = room_for form; stop = None } }
     {
         Sheet {
             pending: ArrayVec::new(),
-            left: lines,
+            left: form.lines,
             cut: false,
+            column: form.column,
+            figurines: form.figurines,
+            begun: false,
+            fresh: false,
             stop: None,
         }
     }
@@ -102,40 +129,140 @@ impl Sheet {
         }
     }
 
-    /// Begins a line: two dots in place of the first that there is no room for, and then nothing.
-    pub(crate) fn begin<O: Write>(&mut self, out: &mut O)
-        ensures { Begins (O.contents out.old) self.old (O.contents out.new) self.new }
+    /// What stands before a line: in a column a space, but for the first.
+    fn gap(&self) -> &'static [u8]
+        ensures { result.now ≡ gap self.now.room }
+    {
+        if self.column && self.begun { b" " } else { b"" }
+    }
+
+    /// Two dots in place of a line.
+    fn dots(&self) -> &'static [u8]
+        ensures { result.now ≡ gap self.now.room ++ codes ".." ++ line_end_of self.now.room.column }
+    {
+        if !self.column {
+            b"..\n"
+        } else if self.begun {
+            b" .."
+        } else {
+            b".."
+        }
+    }
+
+    /// What stands before the next line, or two dots in place of the first that there is no room for, and then nothing.
+    fn mark(&self) -> &'static [u8]
+        ensures { result.now ≡ mark self.now.room }
+    {
+        if self.cut {
+            return b"";
+        }
+        match self.left {
+            Some(0) => self.dots(),
+            Some(_) => self.gap(),
+            None => self.gap(),
+        }
+    }
+
+    /// Counts a line.
+    fn count_line(&mut self)
+        ensures { self.new ≡ record self.old { room = next self.old.room } }
     {
         if self.cut {
             return;
         }
+        self.begun = true;
         match self.left {
-            Some(0) => {
-                self.add(out, b"..\n");
-                self.cut = true;
-            }
+            Some(0) => self.cut = true,
             Some(left) => {
                 self.left = Some(left - 1);
+                self.fresh = self.column;
             }
-            None => {}
+            None => self.fresh = self.column,
         }
+    }
+
+    /// Begins a line.
+    pub(crate) fn begin<O: Write>(&mut self, out: &mut O)
+        ensures { Begins (O.contents out.old) self.old (O.contents out.new) self.new }
+    {
+        let mark = self.mark();
+        self.add(out, mark);
+        self.count_line();
+    }
+
+    /// Adds a text with figurines in place of letters.
+    fn add_figurines<O: Write>(&mut self, out: &mut O, text: &[u8])
+        ensures { Takes (O.contents out.old) self.old (O.contents out.new) self.new (flat_map figurine_of text.now) }
+    {
+        for byte in text {
+            self.add(out, figurine(byte));
+        }
+    }
+
+    /// Whether pieces are figurines, in place of letters.
+    fn has_figurines(&self) -> bool
+        ensures { result ≡ self.now.room.figurines }
+    {
+        self.figurines
+    }
+
+    /// Adds a text with letters, or with figurines.
+    fn show<O: Write>(&mut self, out: &mut O, text: &[u8])
+        ensures { Takes (O.contents out.old) self.old (O.contents out.new) self.new (figured self.old.room.figurines text.now) }
+    {
+        if self.has_figurines() {
+            self.add_figurines(out, text);
+        } else {
+            self.add(out, text);
+        }
+    }
+
+    /// Whether a line was left out.
+    fn is_cut(&self) -> bool
+        ensures { result ≡ self.now.room.cut }
+    {
+        self.cut
+    }
+
+    /// What is shown of a part of a line.
+    fn part<'a>(&self, text: &'a [u8]) -> &'a [u8]
+        ensures { result.now ≡ part_of self.now.room.fresh text.now }
+    {
+        part(self.fresh, text)
+    }
+
+    /// Keeps in mind whether nothing stands there yet, behind what is shown of a part of a line.
+    fn pass(&mut self, none: bool)
+        ensures { self.new ≡ record self.old { room = record self.old.room { fresh = self.old.room.fresh && none } } }
+    {
+        self.fresh &= none;
     }
 
     /// Adds a part of a line that was begun.
     pub(crate) fn push<O: Write>(&mut self, out: &mut O, text: &[u8])
         ensures { Says (O.contents out.old) self.old (O.contents out.new) self.new text.now }
     {
-        if self.cut {
+        if self.is_cut() {
             return;
         }
-        self.add(out, text);
+        let shown = self.part(text);
+        self.pass(shown.is_empty());
+        self.show(out, shown);
+    }
+
+    /// What stands behind a line.
+    fn ending(&self) -> &'static [u8]
+        ensures { result.now ≡ ending self.now.room }
+    {
+        if self.cut { b"" } else { line_end(self.column) }
     }
 
     /// Ends a line.
     pub(crate) fn end<O: Write>(&mut self, out: &mut O)
-        ensures { Says (O.contents out.old) self.old (O.contents out.new) self.new (codes "\n") }
+        ensures { Ends (O.contents out.old) self.old (O.contents out.new) self.new }
     {
-        self.push(out, b"\n");
+        let ending = self.ending();
+        self.add(out, ending);
     }
 
     /// Writes a name, where it does not stand there and something is to stand below it.
@@ -158,13 +285,24 @@ impl Sheet {
         }
     }
 
-    /// Writes an empty line, and all that is pending; says whether all was written.
-    pub(crate) fn finish<O: Write>(&mut self, out: &mut O) -> Result<(), Stop>
-        ensures ok { OnOk result (GoesBy self.old.stop None (O.contents out.old) self.old.pending (O.contents out.new) [] (line []) ⊤) }
-        ensures err { IfErr result (λ stop.
-            GoesBy self.old.stop (Some stop) (O.contents out.old) self.old.pending (O.contents out.new) [] (line []) ⊤) }
+    /// What ends a column, and an empty line.
+    pub(crate) fn closing(&self) -> &'static [u8]
+        ensures { result.now ≡ closing self.now.room }
     {
-        self.add(out, b"\n");
+        if self.column && self.begun {
+            b"\n\n"
+        } else {
+            b"\n"
+        }
+    }
+
+    /// Writes a last text, and all that is pending; says whether all was written.
+    pub(crate) fn finish<O: Write>(&mut self, out: &mut O, last: &[u8]) -> Result<(), Stop>
+        ensures ok { OnOk result (GoesBy self.old.stop None (O.contents out.old) self.old.pending (O.contents out.new) [] last.now ⊤) }
+        ensures err { IfErr result (λ stop.
+            GoesBy self.old.stop (Some stop) (O.contents out.old) self.old.pending (O.contents out.new) [] last.now ⊤) }
+    {
+        self.add(out, last);
         self.flush(out);
         if let Some(stop) = self.stop {
             return Err(stop);

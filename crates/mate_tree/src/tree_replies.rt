@@ -60,10 +60,11 @@ fn write_record<O: Write>(
     let outcome = solve(shown.rays, &record.problem(), memo);
     match answer_line(alloc, shown.rays, record, &outcome) {
         Ok(answer) => {
-            let mut sheet = Sheet::new(shown.form.lines);
+            let mut sheet = Sheet::new(shown.form);
             sheet.add(out, answer.as_slice());
             write_tree(shown, record, &outcome, memo, &mut sheet, out);
-            sheet.finish(out)
+            let closing = sheet.closing();
+            sheet.finish(out, closing)
         }
         Err(_) => Err(Stop::NoMemory),
     }

@@ -31,7 +31,7 @@ pub(crate) struct Shown<'a> {
 /// Writes set play, where it is asked for.
 fn write_set_if_asked<O: Write>(
     position: &Position,
-    is_asked: bool,
+    form: &Form,
     at: Place<'_>,
     memo: &mut Memo,
     sheet: &mut Sheet,
@@ -39,18 +39,18 @@ fn write_set_if_asked<O: Write>(
 )
     requires { at.left ≤ 15 }
     ensures lines { Writes (O.contents out.old) sheet.old (O.contents out.new) sheet.new
-        (if is_asked then set_play at.entry.left position.now else []) }
+        (if form.now.set_play then set_play form.now.column at.entry.left position.now else []) }
     ensures room { memo.new.room ≡ memo.old.room }
 {
-    if is_asked {
-        write_set_play(position, at, memo, sheet, out);
+    if form.set_play {
+        write_set_play(position, form.column, at, memo, sheet, out);
     }
 }
 
 /// Writes tries, where they are asked for.
 fn write_tries_if_asked<O: Write>(
     record: &Record,
-    is_asked: bool,
+    form: &Form,
     at: Place<'_>,
     memo: &mut Memo,
     sheet: &mut Sheet,
@@ -58,13 +58,14 @@ fn write_tries_if_asked<O: Write>(
 )
     requires { at.left ≤ 15 }
     ensures lines { Writes (O.contents out.old) sheet.old (O.contents out.new) sheet.new
-        (if is_asked then tries at.entry.left «record».now.position «record».now.avoid else []) }
+        (if form.now.tries then tries form.now.column at.entry.left «record».now.position «record».now.avoid else []) }
     ensures room { memo.new.room ≡ memo.old.room }
 {
-    if is_asked {
+    if form.tries {
         write_tries(
             &record.position,
             record.avoid.as_slice(),
+            form.column,
             at,
             memo,
             sheet,
@@ -98,14 +99,7 @@ pub(crate) fn write_tree<O: Write>(
                 shown: shown.form.moves_shown(n).saturating_sub(1),
             };
             let behind = Place { left: n - 1, ..at };
-            write_set_if_asked(
-                &record.position,
-                shown.form.set_play,
-                behind,
-                memo,
-                sheet,
-                out,
-            );
+            write_set_if_asked(&record.position, &shown.form, behind, memo, sheet, out);
             write_keys(
                 &record.position,
                 keys.as_slice(),
@@ -115,7 +109,7 @@ pub(crate) fn write_tree<O: Write>(
                 sheet,
                 out,
             );
-            write_tries_if_asked(record, shown.form.tries, behind, memo, sheet, out);
+            write_tries_if_asked(record, &shown.form, behind, memo, sheet, out);
         }
         Outcome::NoMate => {}
     }

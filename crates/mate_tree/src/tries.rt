@@ -11,6 +11,7 @@ ghost use Rattle.mate_tree.specs.inside.Sheets.{Writes};
 
 use crate::continuations::soonest;
 use crate::defences::Place;
+use crate::layouts::tries_heading;
 use crate::lines::push_attack;
 use crate::sheets::Sheet;
 use chess_board::{Move, Position, after};
@@ -118,18 +119,21 @@ fn write_try<O: Write>(
 pub(crate) fn write_tries<O: Write>(
     position: &Position,
     avoid: &[Move],
+    column: bool,
     at: Place<'_>,
     memo: &mut Memo,
     sheet: &mut Sheet,
     out: &mut O,
 )
     requires { at.left ≤ 15 }
-    ensures lines { Writes (O.contents out.old) sheet.old (O.contents out.new) sheet.new (tries at.entry.left position.now avoid.now) }
+    ensures lines { Writes (O.contents out.old) sheet.old (O.contents out.new) sheet.new
+        (tries column at.entry.left position.now avoid.now) }
     ensures room { memo.new.room ≡ memo.old.room }
 {
     // That each of them is legal by itself, as `after` asks.
     legal_listed();
     let moves = legal(at.rays, position);
+    let heading = tries_heading(column);
     let mut is_open = false;
     for m in moves.as_slice() {
         if sheet.is_closed() {
@@ -137,7 +141,7 @@ pub(crate) fn write_tries<O: Write>(
         }
         let refuted = refutation(at.rays, position, *m, at.left, avoid, memo);
         let has = refuted.is_some();
-        sheet.write_name(out, b"tries", is_open, has);
+        sheet.write_name(out, heading, is_open, has);
         write_try(at.rays, position, *m, refuted, sheet, out);
         is_open |= has;
     }

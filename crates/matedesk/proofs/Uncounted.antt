@@ -1,17 +1,17 @@
 -- What there is of a command that starts threads, where memory gives out before it does.
 use Rattle.std.proofs.Common.{◌≡◌, ◌<◌, ◌-◌, Bool, true, false, ℕ, zero, suc, List, [], Option, Some, None, Result, Ok, Err, IfOk, IfErr}
-use Rattle.std.proofs.Common.{refl, subst, arith}
+use Rattle.std.proofs.Common.{inl, refl, subst, arith}
 use Rattle.std.proofs.KnownBytes.{Appends-nil, Keeps-refl}
 use Rattle.byte_streams.specs.declared.stops.Stop.{Stop}
 use Rattle.byte_streams.specs.declared.stops.Stop.TheVariants as stop
 use Rattle.clap.specs.Words.{Text}
-use Rattle.command_words.specs.Asked.{Asked, look, board, svg, play, moves, perft, divide, lines, solve, solve_on, limited}
-use Rattle.command_words.specs.Asked.{verify, tree, sheet, imports, serve, replay, explain, uci, asks_threads}
-use Rattle.plain_commands.specs.Command.{Ends, EndsByStatus, EndsInPart}
+use Rattle.command_words.specs.Asked.{Asked, look, board, svg, play, moves, moves_json, perft, divide, lines, solve, solve_json, solve_on}
+use Rattle.command_words.specs.Asked.{limited, verify, verify_json, verify_imported, verify_limited, tree, sheet, imports, serve, replay, explain, uci, asks_threads}
+use Rattle.plain_commands.specs.Command.{Ends, EndsByStatus, EndsInPart, Shown, ShownInPart, Stops}
 use Rattle.file_answers.specs.Sources.{held, held_back}
 use Rattle.file_answers.specs.Status.{status_of}
 use Rattle.file_answers.specs.Writing.{Gains}
-use Rattle.file_solving.specs.Solved.{LimitedNone, SolvesLimited, SolvesNone, StopsLimited}
+use Rattle.file_solving.specs.Solved.{LimitedNone, SolvesNone}
 
 -- Nothing is written, and the status is that of no memory.
 pub ends_uncounted : (holds : Text → Option (List ℕ)) (refuses : Text → Type 0) → EndsByStatus holds refuses → LimitedNone
@@ -20,6 +20,13 @@ pub ends_uncounted : (holds : Text → Option (List ℕ)) (refuses : Text → Ty
 ends_uncounted holds refuses ends none seconds bound memo from names out =
     ends (limited seconds bound memo from names) (Err stop.NoMemory) 3 out out refl tt
     (record { gained = []; shows = none holds seconds bound from names; appends = Appends-nil out })
+
+pub ends_unverified : (holds : Text → Option (List ℕ)) (refuses : Text → Type 0) → EndsByStatus holds refuses
+    → (seconds bound memo : ℕ) (header : Bool) (from : ℕ) (names : List Text) (out : Option (List ℕ))
+    → Ends holds refuses (Some (verify_limited seconds bound memo header from names)) 3 out out
+ends_unverified holds refuses ends seconds bound memo header from names out =
+    ends (verify_limited seconds bound memo header from names) (Err stop.NoMemory) 3 out out refl tt
+    (record { gained = []; shows = inl refl; appends = Appends-nil out })
 
 pub ends_unshared : (holds : Text → Option (List ℕ)) (refuses : Text → Type 0) → EndsByStatus holds refuses → SolvesNone
     → (workers bound memo from : ℕ) (names : List Text) (out : Option (List ℕ))
@@ -34,6 +41,8 @@ ends_unstarted holds refuses ends none unsolved (Some (serve workers bound memo 
     ends (serve workers bound memo names) (Err stop.NoMemory) 3 out out refl tt (Keeps-refl out)
 ends_unstarted holds refuses ends none unsolved (Some (limited seconds bound memo from names)) threads out =
     ends_uncounted holds refuses ends none seconds bound memo from names out
+ends_unstarted holds refuses ends none unsolved (Some (verify_limited seconds bound memo header from names)) threads out =
+    ends_unverified holds refuses ends seconds bound memo header from names out
 ends_unstarted holds refuses ends none unsolved (Some (solve_on workers bound memo from names)) threads out =
     ends_unshared holds refuses ends unsolved workers bound memo from names out
 ends_unstarted holds refuses ends none unsolved (Some uci) threads out = ends uci (Err stop.NoMemory) 3 out out refl tt tt
@@ -43,14 +52,18 @@ ends_unstarted holds refuses ends none unsolved (Some (board fen side)) threads 
 ends_unstarted holds refuses ends none unsolved (Some (svg fen side)) threads out = cc
 ends_unstarted holds refuses ends none unsolved (Some (play fen words)) threads out = cc
 ends_unstarted holds refuses ends none unsolved (Some (moves form fen)) threads out = cc
+ends_unstarted holds refuses ends none unsolved (Some (moves_json fen)) threads out = cc
 ends_unstarted holds refuses ends none unsolved (Some (perft fen depth)) threads out = cc
 ends_unstarted holds refuses ends none unsolved (Some (divide fen depth)) threads out = cc
 ends_unstarted holds refuses ends none unsolved (Some (lines view names)) threads out = cc
 ends_unstarted holds refuses ends none unsolved (Some (solve bound memo from names)) threads out = cc
+ends_unstarted holds refuses ends none unsolved (Some (solve_json bound memo from names)) threads out = cc
 ends_unstarted holds refuses ends none unsolved (Some (verify bound memo header from names)) threads out = cc
+ends_unstarted holds refuses ends none unsolved (Some (verify_json bound memo from names)) threads out = cc
+ends_unstarted holds refuses ends none unsolved (Some (verify_imported bound memo header from names)) threads out = cc
 ends_unstarted holds refuses ends none unsolved (Some (tree bound form from names)) threads out = cc
 ends_unstarted holds refuses ends none unsolved (Some (sheet bound memo form title names)) threads out = cc
-ends_unstarted holds refuses ends none unsolved (Some (imports keep bound names)) threads out = cc
+ends_unstarted holds refuses ends none unsolved (Some (imports keep bound letters names)) threads out = cc
 ends_unstarted holds refuses ends none unsolved (Some (replay name)) threads out = cc
 ends_unstarted holds refuses ends none unsolved (Some (explain words)) threads out = cc
 
@@ -63,26 +76,29 @@ ends_given false holds refuses texts files = files
 
 -- All is shown, whether or not some records were not decided, or it stopped.
 ends_in_time_by : (holds : Text → Option (List ℕ)) (refuses : Text → Type 0) → EndsByStatus holds refuses → EndsInPart holds refuses
-    → (seconds bound memo from : ℕ) (names : List Text) (ended : Result Bool Stop) (undecided status : ℕ) (old new : Option (List ℕ))
+    → (a : Asked) (Shows : Bool → ℕ → List ℕ → Type 0) (old new : Option (List ℕ))
+    → ((refused : Bool) → Gains (Shows refused 0) old new → Shown holds a refused old new)
+    → ((refused : Bool) (n : ℕ) → 0 < n → Gains (Shows refused n) old new → ShownInPart holds a old new)
+    → (ended : Result Bool Stop) (undecided status : ℕ)
     → IfOk ended (λ _. 0 < undecided → status ≡ 5) → (undecided ≡ 0 → status ≡ status_of ended) → IfErr ended (λ _. status ≡ status_of ended)
-    → IfOk ended (λ refused. Gains (SolvesLimited holds seconds bound from names refused undecided) old new)
-    → IfErr ended (λ stop. StopsLimited holds refuses seconds bound from names stop old new)
-    → Ends holds refuses (Some (limited seconds bound memo from names)) status old new
-ends_in_time_by holds refuses ends in_part seconds bound memo from names (Ok refused) zero status old new late decided stopped ok err =
-    ends (limited seconds bound memo from names) (Ok refused) status old new (decided refl) ok tt
-ends_in_time_by holds refuses ends in_part seconds bound memo from names (Ok refused) (suc n) status old new late decided stopped ok err =
-    rw (late (omega arith)) (in_part (limited seconds bound memo from names) old new (refused, suc n, omega arith, ok))
-ends_in_time_by holds refuses ends in_part seconds bound memo from names (Err stop) undecided status old new late decided stopped ok err =
-    ends (limited seconds bound memo from names) (Err stop) status old new stopped tt err
+    → IfOk ended (λ refused. Gains (Shows refused undecided) old new) → IfErr ended (λ stop. Stops holds refuses a stop old new)
+    → Ends holds refuses (Some a) status old new
+ends_in_time_by holds refuses ends in_part a Shows old new whole part (Ok refused) zero status late decided stopped ok err =
+    ends a (Ok refused) status old new (decided refl) (whole refused ok) tt
+ends_in_time_by holds refuses ends in_part a Shows old new whole part (Ok refused) (suc n) status late decided stopped ok err =
+    rw (late (omega arith)) (in_part a old new (part refused (suc n) (omega arith) ok))
+ends_in_time_by holds refuses ends in_part a Shows old new whole part (Err stop) undecided status late decided stopped ok err =
+    ends a (Err stop) status old new stopped tt err
 
 pub ends_in_time : (holds : Text → Option (List ℕ)) (refuses : Text → Type 0) → EndsByStatus holds refuses → EndsInPart holds refuses
-    → (seconds bound memo from : ℕ) (names : List Text) (ended : Result Bool Stop) (before undecided status : ℕ) (old new : Option (List ℕ))
+    → (a : Asked) (Shows : Bool → ℕ → List ℕ → Type 0) (old new : Option (List ℕ))
+    → ((refused : Bool) → Gains (Shows refused 0) old new → Shown holds a refused old new)
+    → ((refused : Bool) (n : ℕ) → 0 < n → Gains (Shows refused n) old new → ShownInPart holds a old new)
+    → (ended : Result Bool Stop) (before undecided status : ℕ)
     → before ≡ 0 → IfOk ended (λ _. 0 < undecided → status ≡ 5) → (undecided ≡ 0 → status ≡ status_of ended)
-    → IfErr ended (λ _. status ≡ status_of ended)
-    → IfOk ended (λ refused. Gains (SolvesLimited holds seconds bound from names refused (undecided - before)) old new)
-    → IfErr ended (λ stop. StopsLimited holds refuses seconds bound from names stop old new)
-    → Ends holds refuses (Some (limited seconds bound memo from names)) status old new
-ends_in_time holds refuses ends in_part seconds bound memo from names ended before undecided status old new none late decided stopped ok err =
+    → IfErr ended (λ _. status ≡ status_of ended) → IfOk ended (λ refused. Gains (Shows refused (undecided - before)) old new)
+    → IfErr ended (λ stop. Stops holds refuses a stop old new) → Ends holds refuses (Some a) status old new
+ends_in_time holds refuses ends in_part a Shows old new whole part ended before undecided status none late decided stopped ok err =
     let all : undecided - before ≡ undecided = omega (arith, none) in
-    ends_in_time_by holds refuses ends in_part seconds bound memo from names ended undecided status old new late decided stopped
-    (subst (λ n. IfOk ended (λ refused. Gains (SolvesLimited holds seconds bound from names refused n) old new)) all ok) err
+    ends_in_time_by holds refuses ends in_part a Shows old new whole part ended undecided status late decided stopped
+    (subst (λ n. IfOk ended (λ refused. Gains (Shows refused n) old new)) all ok) err

@@ -5,6 +5,7 @@ ghost use Rattle.std.specs.String.{string_bytes};
 ghost use Rattle.command_words.specs.Asked.{asked, asks_display, asks_threads, may_display};
 ghost use Rattle.plain_commands.specs.Command.{EndsBy};
 
+use crate::limited_verifying::verify_in_time;
 use crate::limiting::solve_in_time;
 use crate::serving::serve;
 use crate::sharing::solve_on;
@@ -19,7 +20,7 @@ use std::io::Write;
 use std::sync::Wait;
 use std::thread::Threads;
 
-/// Answers words that ask for `serve`, `uci`, `solve --workers` or `solve --limit`. That they were parsed before shows that they are no fault:
+/// Answers words that ask for `serve`, `uci`, `--workers` or `--limit`. That they were parsed before shows that they are no fault:
 /// what is refused now is memory.
 // Its own frame: these commands have large values, which would lie on the stack of all others, too.
 #[inline(never)]
@@ -62,6 +63,7 @@ where
             rt, alloc, *workers, *bound, *memo, files, &given, out, err,
         ),
         Some(Request::Limited(asked)) => solve_in_time(rt, alloc, asked, &given, out, err),
+        Some(Request::VerifyLimited(asked)) => verify_in_time(rt, alloc, asked, &given, out, err),
         Some(Request::Uci) => talk(rt, alloc, &given, out, err),
         _ => unreachable!(),
     }
@@ -104,7 +106,7 @@ fn are_told(alloc: Global, words: &[String]) -> bool {
 }
 
 /// The program: answers what the words ask for, of which the first is the program's own name. It reads files from `source`. Only
-/// `serve`, `uci`, `solve` with `--workers` or `--limit`, and what has `--progress` start threads, and wait for them.
+/// `serve`, `uci`, `solve` with `--workers`, `solve` and `verify` with `--limit`, and what has `--progress` start threads, and wait for them.
 ///
 /// A fault of `err` is passed over and changes no status. So does one of the thread that tells on standard error how far the command is.
 pub fn command<

@@ -1,29 +1,28 @@
 //! The command `solve --limit`.
 
-ghost use Rattle.std.specs.Prelude.{◌≡◌, ◌<◌, ◌-◌, IfErr, IfOk, Some, map};
+ghost use Rattle.std.specs.Prelude.{◌≡◌, ◌-◌, IfErr, IfOk, Some, map};
 ghost use Rattle.command_words.specs.Asked.{limited as limited_asked};
 ghost use Rattle.plain_commands.specs.Command.{Ends};
-ghost use Rattle.file_answers.specs.Status.{status_of};
 ghost use Rattle.file_solving.specs.Solved.{SolvesLimited, StopsLimited};
 ghost use Rattle.file_answers.specs.Writing.{Gains};
 
+use crate::counting::{Counting, start, status_in_time, unsolved};
 use crate::sharing::thread_memory;
 use crate::tick_limit::TickLimit;
 use byte_streams::Stop;
 use chess_moves::Rays;
 use chess_problems::{Outcome, Problem};
 use command_words::LimitedSolve;
-use file_answers::{NO_THREAD, Source, complain, in_part, no_memory, status_of};
+use file_answers::{Source, no_memory};
 use file_solving::{limited_none, solve_limited};
 use mate_answers::{Limited, LimitedMemory};
 use mate_search::{Guide, Solver, Stopped};
 use parallel_search::{ThreadMemory, solve_on_threads};
 use plain_commands::{ends_by_status, ends_in_part};
-use std::alloc::{AllocError, Global};
+use std::alloc::Global;
 use std::io::Write;
-use std::sync::{Arc, Wait};
-use std::thread;
-use std::thread::{JoinHandle, Threads};
+use std::sync::Wait;
+use std::thread::Threads;
 
 /// Workers solve, unless a limit stops them.
 #[derive(Clone, Copy)]
@@ -47,66 +46,6 @@ impl<R: Threads + Sync> Solver<TickLimit> for InTime<'_, R> {
         memory: &mut ThreadMemory,
     ) -> Result<Outcome, Stopped> {
         solve_on_threads(self.rt, guide, problem, memory)
-    }
-}
-
-/// A limit, and the thread that counts for it.
-#[derive(Drop)]
-struct Counting {
-    limit: Arc<TickLimit, Global>,
-    thread: JoinHandle<()>,
-}
-
-/// Why nothing is counted.
-#[derive(Clone, Copy, PartialEq, Eq)]
-enum Uncounted {
-    NoMemory,
-    NoThread,
-}
-
-impl From<AllocError> for Uncounted {
-    fn from(_refused: AllocError) -> Uncounted {
-        Uncounted::NoMemory
-    }
-}
-
-/// Starts a thread that counts, for a limit of so many seconds.
-fn start<R: Threads + Wait + Clone + Drop + Send + 'static>(
-    rt: &R,
-    alloc: Global,
-    seconds: u32,
-) -> Result<Counting, Uncounted> {
-    let Ok(limit) = Arc::new(alloc, TickLimit::new(seconds)) else {
-        return Err(Uncounted::NoMemory);
-    };
-    let theirs = Arc::try_clone(&limit)?;
-    let own: R = rt.clone()?;
-    match thread::spawn(rt, move || theirs.count(&own)) {
-        Ok(thread) => Ok(Counting { limit, thread }),
-        Err(_) => Err(Uncounted::NoThread),
-    }
-}
-
-/// Says why nothing is solved, and gives the status.
-fn unsolved<E: Write>(fault: Uncounted, err: &mut E) -> u8
-    ensures { result ≡ 3 }
-{
-    if fault == Uncounted::NoMemory {
-        return no_memory(err);
-    }
-    complain(err, "NoThread");
-    NO_THREAD
-}
-
-/// The status of a command that ended so, and how many records were not decided then.
-fn status_in_time<E: Write>(ended: Result<bool, Stop>, undecided: usize, err: &mut E) -> u8
-    ensures in_part { IfOk ended (λ _. 0 < undecided → result ≡ 5) }
-    ensures decided { undecided ≡ 0 → result ≡ status_of ended }
-    ensures stopped { IfErr ended (λ _. result ≡ status_of ended) }
-{
-    match ended {
-        Ok(_) if undecided > 0 => in_part(err, undecided),
-        _ => status_of(ended, err),
     }
 }
 

@@ -1,24 +1,30 @@
--- What the letters and signs of a word say. Men have their English letters (PGN Specification, section 8.2.3.2).
+-- What the letters and signs of a word say. Men have the letters of a language.
 use Rattle.std.specs.Prelude.{ℕ, ◌-◌, ◌==◌, nat_le, List, [], ◌∷◌, Option, Some, None, is_some, Bool, false, ◌&&◌, ◌||◌, if◌then◌else◌}
+use Rattle.std.specs.Char.{to_ascii_uppercase}
 use Rattle.std.specs.List.{list_all}
+use Rattle.std.specs.Option.{option_map_or}
 use Rattle.chess_board.specs.Characters.{char}
 use Rattle.chess_board.specs.declared.men.Colour.{Colour}
 use Rattle.chess_board.specs.declared.men.Colour.TheVariants.{White, Black}
 use Rattle.chess_board.specs.declared.men.Kind.{Kind}
 use Rattle.chess_board.specs.declared.men.Kind.TheVariants.{Pawn, Knight, Bishop, Rook, Queen, King}
+use Rattle.move_words.specs.declared.languages.Letters.{Letters}
 use Rattle.move_words.specs.declared.letters.Sign.{Sign}
 use Rattle.move_words.specs.declared.letters.Sign.TheVariants.{Goes, Captures}
+use Rattle.move_words.specs.Languages.{kind_of_letter}
 
-abbrev pub kind_of_letter : ℕ → Option Kind
-kind_of_letter b =
-    if b == char "K" then Some King else (if b == char "Q" then Some Queen else (if b == char "R" then Some Rook
-    else (if b == char "B" then Some Bishop else (if b == char "N" then Some Knight else (if b == char "P" then Some Pawn else None)))))
+abbrev pub officer : Option Kind → Option Kind
+officer None = None
+officer (Some Pawn) = None
+officer (Some Knight) = Some Knight
+officer (Some Bishop) = Some Bishop
+officer (Some Rook) = Some Rook
+officer (Some Queen) = Some Queen
+officer (Some King) = None
 
 -- what a pawn becomes, by a capital or a small letter
-abbrev pub kind_becoming : ℕ → Option Kind
-kind_becoming b =
-    if (b == char "Q") || (b == char "q") then Some Queen else (if (b == char "R") || (b == char "r") then Some Rook
-    else (if (b == char "B") || (b == char "b") then Some Bishop else (if (b == char "N") || (b == char "n") then Some Knight else None)))
+abbrev pub kind_becoming : Letters → ℕ → Option Kind
+kind_becoming l b = officer (kind_of_letter l (to_ascii_uppercase b))
 
 -- files and ranks, counted from 0
 abbrev pub file_of_letter : ℕ → Option ℕ
@@ -40,6 +46,22 @@ said says (b ∷ bs) = says b
 abbrev pub behind : {A : Type 0} → (ℕ → Option A) → List ℕ → List ℕ
 behind says [] = []
 behind says (b ∷ bs) = if is_some (says b) then bs else b ∷ bs
+
+-- the two letters of a king that has two
+abbrev pub are_kings : Letters → ℕ → ℕ → Bool
+are_kings l a b = (a == l.king) && option_map_or (λ second. b == second) l.behind_king false
+
+-- the man whose letter a text begins with
+abbrev pub first_man : Letters → List ℕ → Option Kind
+first_man l [] = None
+first_man l (a ∷ []) = kind_of_letter l a
+first_man l (a ∷ b ∷ bs) = if are_kings l a b then Some King else kind_of_letter l a
+
+-- the text behind that letter, or those two
+abbrev pub behind_man : Letters → List ℕ → List ℕ
+behind_man l [] = []
+behind_man l (a ∷ []) = behind (kind_of_letter l) (a ∷ [])
+behind_man l (a ∷ b ∷ bs) = if are_kings l a b then bs else behind (kind_of_letter l) (a ∷ b ∷ bs)
 
 -- Signs of check, mate, praise and blame, of the end of a phrase, and the second bracket round what a pawn becomes.
 abbrev pub is_sign : ℕ → Bool

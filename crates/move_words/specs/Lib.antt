@@ -1,3 +1,4 @@
+pub mod Languages
 pub mod Letters
 pub mod Places
 pub mod Parts

@@ -6,6 +6,7 @@ use Rattle.chess_board.specs.declared.men.Colour.{Colour}
 use Rattle.chess_board.specs.Moves.{Move}
 use Rattle.chess_board.specs.Positions.{Setup}
 use Rattle.chess_moves.specs.inside.Listing.{legal_moves}
+use Rattle.move_words.specs.declared.languages.Letters.{Letters}
 use Rattle.move_words.specs.declared.patterns.Pattern.{Pattern}
 use Rattle.move_words.specs.declared.naming.Named.{Named}
 use Rattle.move_words.specs.declared.naming.Named.TheVariants.{One, No, Several}
@@ -22,13 +23,13 @@ abbrev pub fitting : Setup → Option Pattern → List Move
 fitting p None = []
 fitting p (Some pattern) = filter (fits p pattern) (legal_moves p)
 
-abbrev pub pattern_behind : Option (List ℕ) → Option Pattern
-pattern_behind None = None
-pattern_behind (Some text) = pattern_of text
+abbrev pub pattern_behind : Letters → Option (List ℕ) → Option Pattern
+pattern_behind l None = None
+pattern_behind l (Some text) = pattern_of l text
 
--- What a word names: the one legal move that fits it behind the number of the first move.
-unfoldable pub named : Setup → List ℕ → Named
-named p word = named_by (fitting p (pattern_behind (without_number p.side word)))
+-- What a word names under these letters: the one legal move that fits it behind the number of the first move.
+unfoldable pub named : Letters → Setup → List ℕ → Named
+named l p word = named_by (fitting p (pattern_behind l (without_number p.side word)))
 
 -- What is true of the one move that is named.
 abbrev pub IfOne : Named → (Move → Type 0) → Type 0

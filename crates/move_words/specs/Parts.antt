@@ -7,7 +7,8 @@ use Rattle.chess_board.specs.declared.men.Wing.TheVariants.{KingSide, QueenSide}
 use Rattle.move_words.specs.declared.letters.Sign.{Sign}
 use Rattle.move_words.specs.declared.places.Place.{Place}
 use Rattle.move_words.specs.declared.parts.Parts.{Parts}
-use Rattle.move_words.specs.Letters.{behind, is_end, kind_becoming, kind_of_letter, said, sign_of}
+use Rattle.move_words.specs.declared.languages.Letters.{Letters}
+use Rattle.move_words.specs.Letters.{behind, behind_man, first_man, is_end, kind_becoming, said, sign_of}
 use Rattle.move_words.specs.Places.{after_place, place}
 
 -- the text behind the sign before what a pawn becomes, if it is there
@@ -16,24 +17,23 @@ after_opening [] = []
 after_opening (b ∷ bs) = if (b == char "=") || (b == char "(") || (b == char "/") then bs else b ∷ bs
 
 -- behind a man's letter, a place, a sign and another place
-abbrev pub parts_before : Option Kind → Place → Option Sign → Place → List ℕ → Parts
-parts_before man first sign second rest = record {
+abbrev pub parts_before : Letters → Option Kind → Place → Option Sign → Place → List ℕ → Parts
+parts_before l man first sign second rest = record {
   man = man;
   first = first;
   sign = sign;
   second = second;
-  promotion = said kind_becoming (after_opening rest);
-  is_ended = is_end (behind kind_becoming (after_opening rest));
+  promotion = said (kind_becoming l) (after_opening rest);
+  is_ended = is_end (behind (kind_becoming l) (after_opening rest));
 }
 
 -- behind a man's letter and a place
-abbrev pub parts_behind : Option Kind → Place → List ℕ → Parts
-parts_behind man first rest =
-    parts_before man first (said sign_of rest) (place (behind sign_of rest)) (after_place (behind sign_of rest))
+abbrev pub parts_behind : Letters → Option Kind → Place → List ℕ → Parts
+parts_behind l man first rest =
+    parts_before l man first (said sign_of rest) (place (behind sign_of rest)) (after_place (behind sign_of rest))
 
-abbrev pub parts_of : List ℕ → Parts
-parts_of word =
-    parts_behind (said kind_of_letter word) (place (behind kind_of_letter word)) (after_place (behind kind_of_letter word))
+abbrev pub parts_of : Letters → List ℕ → Parts
+parts_of l word = parts_behind l (first_man l word) (place (behind_man l word)) (after_place (behind_man l word))
 
 abbrev pub is_oh : ℕ → Bool
 is_oh b = (b == char "O") || (b == char "0")

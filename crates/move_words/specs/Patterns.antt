@@ -11,6 +11,7 @@ use Rattle.chess_board.specs.EnPassant.{is_en_passant}
 use Rattle.chess_board.specs.Men.{is_kind}
 use Rattle.chess_board.specs.Moves.{Move}
 use Rattle.chess_board.specs.Positions.{Setup, is_empty, man_at}
+use Rattle.move_words.specs.declared.languages.Letters.{Letters}
 use Rattle.move_words.specs.declared.letters.Sign.{Sign}
 use Rattle.move_words.specs.declared.letters.Sign.TheVariants.{Goes, Captures}
 use Rattle.move_words.specs.declared.places.Place.{Place}
@@ -63,8 +64,8 @@ pattern_or (Some wing) going = Some (patterns.Castling wing)
 pattern_or None going = going_pattern going
 
 -- What a word says: castling, or which man goes from where to where, and what it becomes.
-unfoldable pub pattern_of : List ℕ → Option Pattern
-pattern_of word = pattern_or (castling_wing word) (going_of (parts_of word))
+unfoldable pub pattern_of : Letters → List ℕ → Option Pattern
+pattern_of l word = pattern_or (castling_wing word) (going_of (parts_of l word))
 
 -- The kind is what is said, if something is.
 abbrev pub is_kind_said : Option Kind → Kind → Bool

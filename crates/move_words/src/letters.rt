@@ -2,10 +2,13 @@
 
 ghost use Rattle.std.specs.Prelude.{◌≡◌, IfNone, IfSome, None, Some};
 ghost use Rattle.std.specs.List.{list_all};
-ghost use Rattle.move_words.specs.Letters.{file_of_letter, kind_becoming, kind_of_letter, is_sign as is_sign_byte, is_end as is_end_of, rank_of_digit};
+ghost use Rattle.move_words.specs.Letters.{are_kings as are_of_king, behind_man, file_of_letter, first_man, kind_becoming as becoming};
+ghost use Rattle.move_words.specs.Languages.{kind_of_letter};
+ghost use Rattle.move_words.specs.Letters.{is_sign as is_sign_byte, is_end as is_end_of, rank_of_digit};
 ghost use Rattle.move_words.specs.Letters.{behind, is_p_end as is_p_end_of, said, sign_of as sign_of_byte, without_number as word_without_number};
 ghost use Rattle.move_words.specs.Letters.{behind_number as text_behind_number};
 
+use crate::languages::Letters;
 use chess_board::{Colour, Kind};
 
 /// What stands between two squares.
@@ -17,31 +20,13 @@ pub enum Sign {
     Captures,
 }
 
-/// The kind of man that a capital is the letter of.
-pub(crate) fn kind_of(letter: u8) -> Option<Kind>
-    ensures { result ≡ kind_of_letter letter }
-{
-    match letter {
-        b'K' => Some(Kind::King),
-        b'Q' => Some(Kind::Queen),
-        b'R' => Some(Kind::Rook),
-        b'B' => Some(Kind::Bishop),
-        b'N' => Some(Kind::Knight),
-        b'P' => Some(Kind::Pawn),
-        _ => None,
-    }
-}
-
 /// What a pawn becomes, by a capital or, as coordinates have it, a small letter.
-fn kind_becoming(letter: u8) -> Option<Kind>
-    ensures { result ≡ kind_becoming letter }
+fn kind_becoming(letters: &Letters, letter: u8) -> Option<Kind>
+    ensures { result ≡ becoming letters.now letter }
 {
-    match letter {
-        b'Q' | b'q' => Some(Kind::Queen),
-        b'R' | b'r' => Some(Kind::Rook),
-        b'B' | b'b' => Some(Kind::Bishop),
-        b'N' | b'n' => Some(Kind::Knight),
-        _ => None,
+    match letters.kind(letter.to_ascii_uppercase()) {
+        Some(Kind::King | Kind::Pawn) => None,
+        kind => kind,
     }
 }
 
@@ -75,17 +60,40 @@ fn sign_of(byte: u8) -> Option<Sign>
     }
 }
 
-/// The man whose letter a text begins with, and what stands behind.
-pub(crate) fn man_at(text: &[u8]) -> (Option<Kind>, &[u8])
-    ensures said { result.0 ≡ said kind_of_letter text.now }
-    ensures behind { result.1.now ≡ behind kind_of_letter text.now }
+/// Whether they are the two letters of a king that has two.
+fn are_kings(letters: &Letters, first: u8, second: u8) -> bool
+    ensures { result ≡ are_of_king letters.now first second }
+{
+    match letters.behind_king {
+        Some(behind) => first == letters.king && second == behind,
+        None => false,
+    }
+}
+
+/// The man whose letter a text begins with, if it is one's, and what stands behind.
+fn letter_at<'t>(letters: &Letters, text: &'t [u8]) -> (Option<Kind>, &'t [u8])
+    ensures said { result.0 ≡ said (kind_of_letter letters.now) text.now }
+    ensures behind { result.1.now ≡ behind (kind_of_letter letters.now) text.now }
 {
     let [first, rest @ ..] = text else {
         return (None, text);
     };
-    match kind_of(*first) {
+    match letters.kind(*first) {
         Some(kind) => (Some(kind), rest),
         None => (None, text),
+    }
+}
+
+/// The man whose letter a text begins with, or whose two, and what stands behind.
+pub(crate) fn man_at<'t>(letters: &Letters, text: &'t [u8]) -> (Option<Kind>, &'t [u8])
+    ensures said { result.0 ≡ first_man letters.now text.now }
+    ensures behind { result.1.now ≡ behind_man letters.now text.now }
+{
+    match text {
+        [first, second, rest @ ..] if are_kings(letters, *first, *second) => {
+            (Some(Kind::King), rest)
+        }
+        _ => letter_at(letters, text),
     }
 }
 
@@ -132,14 +140,14 @@ pub(crate) fn sign_at(text: &[u8]) -> (Option<Sign>, &[u8])
 }
 
 /// What a text says first that a pawn becomes, and what stands behind.
-pub(crate) fn becoming_at(text: &[u8]) -> (Option<Kind>, &[u8])
-    ensures said { result.0 ≡ said kind_becoming text.now }
-    ensures behind { result.1.now ≡ behind kind_becoming text.now }
+pub(crate) fn becoming_at<'t>(letters: &Letters, text: &'t [u8]) -> (Option<Kind>, &'t [u8])
+    ensures said { result.0 ≡ said (becoming letters.now) text.now }
+    ensures behind { result.1.now ≡ behind (becoming letters.now) text.now }
 {
     let [first, rest @ ..] = text else {
         return (None, text);
     };
-    match kind_becoming(*first) {
+    match kind_becoming(letters, *first) {
         Some(kind) => (Some(kind), rest),
         None => (None, text),
     }

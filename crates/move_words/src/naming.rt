@@ -7,6 +7,7 @@ ghost use Rattle.move_words.specs.Patterns.{fits};
 ghost use Rattle.move_words.specs.Naming.{IfOne, is_aside as is_word_aside, named as named_in, named_by};
 ghost use Rattle.move_words.specs.inside.Counting.{with_move};
 
+use crate::languages::Letters;
 use crate::letters::{is_end, without_number};
 use crate::patterns::{Pattern, fits, pattern_of};
 use chess_board::{Colour, Move, Position};
@@ -52,17 +53,17 @@ fn named_by_pattern(rays: &Rays, position: &Position, pattern: &Pattern) -> Name
 }
 
 /// The legal move that a word names as people write it: behind `1.`, or `1...` where Black is to move, castling by letters or digits, or a
-/// man's English letter (none for a pawn, and none needed where both squares are said), from where and to where, with `-`, `x` or `:`
+/// man's letter (none for a pawn, and none needed where both squares are said), from where and to where, with `-`, `x` or `:`
 /// between, what the pawn becomes, and signs behind. A capture that is said has to be one; signs behind may be wrong.
 #[tactic(auto, unfolding(crate::specs::Naming::named))]
-pub fn named_move(rays: &Rays, position: &Position, word: &[u8]) -> Named
-    ensures named { result ≡ named_in position.now word.now }
+pub fn named_move(rays: &Rays, letters: &Letters, position: &Position, word: &[u8]) -> Named
+    ensures named { result ≡ named_in letters.now position.now word.now }
     ensures legal { IfOne result (λ m. is_legal position.now m ≡ true) }
 {
     let Some(text) = without_number(position.side(), word) else {
         return Named::No;
     };
-    match pattern_of(text) {
+    match pattern_of(letters, text) {
         Some(pattern) => named_by_pattern(rays, position, &pattern),
         None => Named::No,
     }

@@ -4,6 +4,7 @@ ghost use Rattle.std.specs.Prelude.{◌≡◌};
 ghost use Rattle.move_words.specs.Parts.{after_opening, castling_wing, is_oh as is_oh_byte, parts_of as parts_of_word, wing_behind as wing_behind_of};
 ghost use Rattle.move_words.specs.Parts.{wing_if as wing_if_of};
 
+use crate::languages::Letters;
 use crate::letters::{Sign, becoming_at, is_end, man_at, sign_at};
 use crate::places::{Place, place_at};
 use chess_board::{Kind, Wing};
@@ -31,14 +32,14 @@ fn without_opening(text: &[u8]) -> &[u8]
 }
 
 /// A word, cut into its parts.
-pub(crate) fn parts_of(word: &[u8]) -> Parts
-    ensures { result ≡ parts_of_word word.now }
+pub(crate) fn parts_of(letters: &Letters, word: &[u8]) -> Parts
+    ensures { result ≡ parts_of_word letters.now word.now }
 {
-    let (man, rest) = man_at(word);
+    let (man, rest) = man_at(letters, word);
     let (first, rest) = place_at(rest);
     let (sign, rest) = sign_at(rest);
     let (second, rest) = place_at(rest);
-    let (promotion, rest) = becoming_at(without_opening(rest));
+    let (promotion, rest) = becoming_at(letters, without_opening(rest));
     Parts {
         man,
         first,

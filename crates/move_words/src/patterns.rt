@@ -5,6 +5,7 @@ ghost use Rattle.move_words.specs.Patterns.{captures as does_capture, fits as do
 ghost use Rattle.move_words.specs.Patterns.{going_of as going_of_parts, is_kind_said as is_kind_of, is_towards as is_towards_wing};
 ghost use Rattle.move_words.specs.Patterns.{man_said as man_said_by, pattern_of as pattern_of_word};
 
+use crate::languages::Letters;
 use crate::letters::Sign;
 use crate::parts::{Parts, castling_wing, parts_of};
 use crate::places::Place;
@@ -72,13 +73,13 @@ fn going_of(parts: Parts) -> Option<Going>
 
 /// What a word says of a move, or nothing that can be understood.
 #[tactic(auto, unfolding(crate::specs::Patterns::pattern_of))]
-pub(crate) fn pattern_of(word: &[u8]) -> Option<Pattern>
-    ensures { result ≡ pattern_of_word word.now }
+pub(crate) fn pattern_of(letters: &Letters, word: &[u8]) -> Option<Pattern>
+    ensures { result ≡ pattern_of_word letters.now word.now }
 {
     if let Some(wing) = castling_wing(word) {
         return Some(Pattern::Castling(wing));
     }
-    match going_of(parts_of(word)) {
+    match going_of(parts_of(letters, word)) {
         Some(going) => Some(Pattern::Going(going)),
         None => None,
     }

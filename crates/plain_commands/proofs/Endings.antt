@@ -6,13 +6,17 @@ use Rattle.std.specs.Io.KnownBytes.{Keeps}
 use Rattle.clap.specs.Words.{Text}
 use Rattle.byte_streams.specs.declared.stops.Stop.{Stop}
 use Rattle.byte_streams.specs.declared.stops.Stop.TheVariants as stop
-use Rattle.command_words.specs.Asked.{Asked, look, board, svg, play, moves, perft, divide, lines, solve, solve_on}
-use Rattle.command_words.specs.Asked.{limited, verify, tree, sheet, imports, serve, replay, explain, uci}
+use Rattle.command_words.specs.Asked.{Asked, look, board, svg, play, moves, moves_json, perft, divide, lines, solve, solve_json, solve_on}
+use Rattle.command_words.specs.Asked.{limited, verify, verify_limited, verify_json, verify_imported, tree, sheet, imports, serve, replay, explain, uci}
 use Rattle.file_answers.specs.Status.{status_of}
 use Rattle.file_solving.specs.Solved.{LimitedNone, SolvesNone}
 use Rattle.plain_commands.specs.Told.{TellsNone}
+use Rattle.json_replies.specs.declared.replies.Form.TheVariants.{Answer, Row}
+use Rattle.mate_answers.specs.InputReplies.{IsLineReply}
+use Rattle.mate_claims.specs.ClaimReplies.{IsClaimReply}
+use Rattle.plain_commands.specs.Imported.{letters_in}
 use Rattle.plain_commands.specs.PositionLines.{command_of}
-use Rattle.plain_commands.proofs.Unopened.{imports_at_once, lines_at_once}
+use Rattle.plain_commands.proofs.Unopened.{imports_at_once, json_at_once, lines_at_once}
 use Rattle.plain_commands.specs.Command.{Ends, EndsByStatus, EndsInPart, Shown, Stops, StopsBy}
 
 -- Where memory gives out at once, nothing is written.
@@ -24,23 +28,32 @@ stops_unread none late untold holds refuses (Some (board fen side)) old new kept
 stops_unread none late untold holds refuses (Some (svg fen side)) old new kept = kept
 stops_unread none late untold holds refuses (Some (play fen words)) old new kept = kept
 stops_unread none late untold holds refuses (Some (moves form fen)) old new kept = kept
+stops_unread none late untold holds refuses (Some (moves_json fen)) old new kept = kept
 stops_unread none late untold holds refuses (Some (perft fen depth)) old new kept = kept
 stops_unread none late untold holds refuses (Some (divide fen depth)) old new kept = kept
 stops_unread none late untold holds refuses (Some (lines view names)) old new kept =
     lines_at_once holds refuses (command_of view) names old new kept
 stops_unread none late untold holds refuses (Some (solve bound memo from names)) old new kept =
     record { gained = []; shows = none holds bound from names; appends = Appends-kept old old new [] (Appends-nil old) kept }
+stops_unread none late untold holds refuses (Some (solve_json bound memo from names)) old new kept =
+    json_at_once holds refuses Answer (IsLineReply bound) from names old new kept
 stops_unread none late untold holds refuses (Some (solve_on workers bound memo from names)) old new kept =
     record { gained = []; shows = none holds bound from names; appends = Appends-kept old old new [] (Appends-nil old) kept }
 stops_unread none late untold holds refuses (Some (limited seconds bound memo from names)) old new kept =
     record { gained = []; shows = late holds seconds bound from names; appends = Appends-kept old old new [] (Appends-nil old) kept }
 stops_unread none late untold holds refuses (Some (verify bound memo header from names)) old new kept =
     record { gained = []; shows = inl refl; appends = Appends-kept old old new [] (Appends-nil old) kept }
+stops_unread none late untold holds refuses (Some (verify_json bound memo from names)) old new kept =
+    json_at_once holds refuses Row (IsClaimReply [] bound) from names old new kept
+stops_unread none late untold holds refuses (Some (verify_imported bound memo header from names)) old new kept =
+    record { gained = []; shows = inl refl; appends = Appends-kept old old new [] (Appends-nil old) kept }
+stops_unread none late untold holds refuses (Some (verify_limited seconds bound memo header from names)) old new kept =
+    record { gained = []; shows = inl refl; appends = Appends-kept old old new [] (Appends-nil old) kept }
 stops_unread none late untold holds refuses (Some (tree bound form from names)) old new kept =
     record { gained = []; shows = untold holds bound form from names; appends = Appends-kept old old new [] (Appends-nil old) kept }
 stops_unread none late untold holds refuses (Some (sheet bound memo form title names)) old new kept = kept
-stops_unread none late untold holds refuses (Some (imports keep bound names)) old new kept =
-    imports_at_once holds refuses keep names old new kept
+stops_unread none late untold holds refuses (Some (imports keep bound letters names)) old new kept =
+    imports_at_once holds refuses (letters_in letters) keep names old new kept
 stops_unread none late untold holds refuses (Some (serve workers bound memo names)) old new kept = kept
 stops_unread none late untold holds refuses (Some (replay name)) old new kept = kept
 stops_unread none late untold holds refuses (Some (explain words)) old new kept = kept
@@ -53,16 +66,21 @@ no_reader holds refuses (board fen side) old new stops = stops
 no_reader holds refuses (svg fen side) old new stops = stops
 no_reader holds refuses (play fen words) old new stops = stops
 no_reader holds refuses (moves form fen) old new stops = stops
+no_reader holds refuses (moves_json fen) old new stops = stops
 no_reader holds refuses (perft fen depth) old new stops = stops
 no_reader holds refuses (divide fen depth) old new stops = stops
 no_reader holds refuses (lines view names) old new stops = stops
 no_reader holds refuses (solve bound memo from names) old new stops = stops
+no_reader holds refuses (solve_json bound memo from names) old new stops = stops
 no_reader holds refuses (solve_on workers bound memo from names) old new stops = stops
 no_reader holds refuses (limited seconds bound memo from names) old new stops = stops
 no_reader holds refuses (verify bound memo header from names) old new stops = stops
+no_reader holds refuses (verify_json bound memo from names) old new stops = stops
+no_reader holds refuses (verify_imported bound memo header from names) old new stops = stops
+no_reader holds refuses (verify_limited seconds bound memo header from names) old new stops = stops
 no_reader holds refuses (tree bound form from names) old new stops = stops
 no_reader holds refuses (sheet bound memo form title names) old new stops = stops
-no_reader holds refuses (imports keep bound names) old new stops = stops
+no_reader holds refuses (imports keep bound letters names) old new stops = stops
 no_reader holds refuses (serve workers bound memo names) old new stops = stops
 no_reader holds refuses (replay name) old new stops = stops
 no_reader holds refuses (explain words) old new stops = stops

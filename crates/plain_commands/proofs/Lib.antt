@@ -1,5 +1,3 @@
 mod Shown
 mod Unopened
-mod VerifiedFiles
-mod HeadedRows
 mod Endings

@@ -1,5 +1,5 @@
 -- What is written before a file is opened: nothing.
-use Rattle.std.proofs.Common.{ℕ, Bool, false, List, [], Option, refl}
+use Rattle.std.proofs.Common.{◌≡◌, ℕ, Bool, true, false, List, [], Option, refl}
 use Rattle.std.proofs.KnownBytes.{Appends-kept, Appends-nil}
 use Rattle.std.specs.Io.KnownBytes.{Keeps}
 use Rattle.text_lines.specs.Replies.{IsReplyToFirst as IsReplyToFirstBy}
@@ -9,24 +9,14 @@ use Rattle.plain_commands.specs.PositionLines.{StopsLines, first_position_replie
 use Rattle.plain_commands.specs.declared.fen_commands.FenCommand.{FenCommand}
 use Rattle.command_words.specs.declared.request.TreeForm.{TreeForm}
 use Rattle.problem_import.specs.Imports.{IsImportOfFirst, none as nothing_imported}
+use Rattle.problem_import.specs.LetteredImports.{IsImportOfFirstIn, IsLetteredOfFirst, english, lettered}
+use Rattle.move_words.specs.Languages.{is_english}
+use Rattle.move_words.specs.declared.languages.Letters.{Letters}
 use Rattle.plain_commands.specs.Imported.{StopsImporting, first_import_replies}
+use Rattle.json_replies.specs.declared.replies.Form.{Form}
+use Rattle.json_commands.specs.JsonFiles.{StopsJson, first_file_replies, has_several as are_several}
+use Rattle.text_lines.specs.Replies.{LineReplies}
 use Rattle.plain_commands.specs.Told.{StopsTelling, TellsNone, first_tree_replies}
-use Rattle.plain_commands.specs.Verified.{VerifiesNone, StopsVerifying, first_claim_replies, has_several}
-
-pub no_claim_reply : (several : Bool) (bound from : ℕ) (name input : List ℕ) → first_claim_replies several bound from name input []
-no_claim_reply several bound from name input = no_reply_on _ from input
-
-pub verifies_none : VerifiesNone
-verifies_none holds bound from names = answers_none holds _ _ from names (no_claim_reply (has_several names) bound)
-
-pub verifies_at_once : (holds : List ℕ → Option (List ℕ)) (refuses : List ℕ → Type 0) (bound from : ℕ) (names : List (List ℕ))
-    (old new : Option (List ℕ)) → Keeps old new
-    → StopsVerifying holds refuses bound from names stop.NoMemory old new
-verifies_at_once holds refuses bound from names old new kept = record {
-  gained = [];
-  shows = verifies_none holds bound from names;
-  appends = Appends-kept old old new [] (Appends-nil old) kept;
-}
 
 pub no_position_reply : (command : FenCommand) (from : ℕ) (name input : List ℕ) → first_position_replies command from name input []
 unfolding IsReplyToFirstBy
@@ -42,15 +32,35 @@ lines_at_once holds refuses command names old new kept =
       appends = Appends-kept old old new [] (Appends-nil old) kept;
     }
 
-pub no_import : (keep : Bool) (from : ℕ) (name input : List ℕ) → first_import_replies keep from name input []
-unfolding IsImportOfFirst IsReplyToFirstBy
-no_import keep from name input = ([], [], false, (0, 0, (refl, refl)), nothing_imported, refl)
+no_import_by : (letters : Letters) (keep are : Bool) (input : List ℕ) → is_english letters ≡ are → IsImportOfFirstIn letters keep input []
+unfolding IsImportOfFirst IsLetteredOfFirst IsReplyToFirstBy
+no_import_by letters keep true input is = english is ([], [], false, (0, 0, (refl, refl)), nothing_imported, refl)
+no_import_by letters keep false input is = lettered is ([], [], false, (0, 0, (refl, refl)), nothing_imported, refl)
 
-pub imports_at_once : (holds : List ℕ → Option (List ℕ)) (refuses : List ℕ → Type 0) (keep : Bool) (names : List (List ℕ))
-    (old new : Option (List ℕ)) → Keeps old new
-    → StopsImporting holds refuses keep names stop.NoMemory old new
-imports_at_once holds refuses keep names old new kept =
-    record { gained = []; shows = answers_none holds _ _ 1 names (no_import keep); appends = Appends-kept old old new [] (Appends-nil old) kept }
+pub no_import : (letters : Letters) (keep : Bool) (from : ℕ) (name input : List ℕ) → first_import_replies letters keep from name input []
+no_import letters keep from name input = no_import_by letters keep (is_english letters) input refl
+
+pub imports_at_once : (holds : List ℕ → Option (List ℕ)) (refuses : List ℕ → Type 0) (letters : Letters) (keep : Bool)
+    (names : List (List ℕ)) (old new : Option (List ℕ)) → Keeps old new
+    → StopsImporting holds refuses letters keep names stop.NoMemory old new
+imports_at_once holds refuses letters keep names old new kept = record {
+  gained = [];
+  shows = answers_none holds _ _ 1 names (no_import letters keep);
+  appends = Appends-kept old old new [] (Appends-nil old) kept;
+}
+
+pub no_json_reply : (form : Form) (several : Bool) (replies : LineReplies) (from : ℕ) (name input : List ℕ)
+    → first_file_replies form several replies from name input []
+no_json_reply form several replies from name input = no_reply_on _ from input
+
+pub json_at_once : (holds : List ℕ → Option (List ℕ)) (refuses : List ℕ → Type 0) (form : Form) (replies : LineReplies) (from : ℕ)
+    (names : List (List ℕ)) (old new : Option (List ℕ)) → Keeps old new
+    → StopsJson holds refuses form replies from names stop.NoMemory old new
+json_at_once holds refuses form replies from names old new kept = record {
+  gained = [];
+  shows = answers_none holds _ _ from names (no_json_reply form (are_several names) replies);
+  appends = Appends-kept old old new [] (Appends-nil old) kept;
+}
 
 pub no_tree_reply : (form : TreeForm) (bound from : ℕ) (name input : List ℕ) → first_tree_replies form bound from name input []
 no_tree_reply form bound from name input = no_reply_on _ from input

@@ -1,5 +1,5 @@
 -- How a command ends, and the program with it.
-use Rattle.std.specs.Prelude.{◌≡◌, ◌<◌, ◌≤◌, ◌⊎◌, ℕ, Bool, List, Option, None, Some, Result, IfErr, IfOk, IfSome, IsSomeAnd, true, false, ⊤}
+use Rattle.std.specs.Prelude.{is_some, ◌≡◌, ◌<◌, ◌≤◌, ◌⊎◌, ℕ, Bool, List, Option, None, Some, Result, IfErr, IfOk, IfSome, IsSomeAnd, true, false, ⊤}
 use Rattle.std.specs.Io.KnownBytes.{Keeps}
 use Rattle.clap.specs.Words.{Text}
 use Rattle.byte_streams.specs.declared.stops.Stop.{Stop}
@@ -10,19 +10,25 @@ use Rattle.file_answers.specs.Writing.{Gains, GainsPart, StopsShowing}
 use Rattle.chess_views.specs.Counts.{divided_text, perft_text}
 use Rattle.chess_views.specs.Listings.{moves_text}
 use Rattle.chess_views.specs.Looks.{look_board_text, look_text}
-use Rattle.command_words.specs.Asked.{Asked, asked, records_given, look, board, svg, play, moves, perft, divide, lines, solve, solve_on}
-use Rattle.command_words.specs.Asked.{limited, verify, tree, sheet, imports, serve, replay, explain, uci}
+use Rattle.command_words.specs.Asked.{Asked, asked, records_given, look, board, svg, play, moves, moves_json, perft, divide, lines, solve, solve_json}
+use Rattle.command_words.specs.Asked.{solve_on, limited, verify, verify_limited, verify_json, verify_imported, tree, sheet, imports, serve, replay, explain}
+use Rattle.command_words.specs.Asked.{uci}
+use Rattle.move_words.specs.Languages.{letters_said}
 use Rattle.problem_sheets.specs.Diagrams.{svg_of}
+use Rattle.json_replies.specs.Moves.{moves_json as moves_object}
+use Rattle.json_commands.specs.Solved.{SolvesJson, StopsSolvingJson}
+use Rattle.json_commands.specs.Verified.{VerifiesJson, StopsVerifyingJson}
+use Rattle.import_claims.specs.VerifiedImports.{VerifiesImported, StopsVerifyingImported}
 use Rattle.plain_commands.specs.Explained.{ExplainsSome, ExplainsWords}
 use Rattle.plain_commands.specs.FenCommands.{ShowsFen, columns_of}
 use Rattle.plain_commands.specs.Played.{ShowsPlay}
 use Rattle.plain_commands.specs.PositionLines.{ShowsLines, StopsLines, command_of}
 use Rattle.plain_commands.specs.Replayed.{ReplaysFile, StopsReplaying}
 use Rattle.file_solving.specs.Solved.{Solves, SolvesLimited, StopsLimited, StopsSolving}
-use Rattle.plain_commands.specs.Verified.{StopsHeaded, VerifiesHeaded}
+use Rattle.file_verifying.specs.Verified.{LimitedHeaded, StopsHeaded, StopsLimitedHeaded, VerifiesHeaded}
 use Rattle.plain_commands.specs.Told.{StopsTelling, Tells}
 use Rattle.plain_commands.specs.Sheeted.{Sheets, StopsSheet}
-use Rattle.plain_commands.specs.Imported.{ImportsFiles, StopsImporting}
+use Rattle.plain_commands.specs.Imported.{ImportsFiles, StopsImporting, letters_in}
 use Rattle.plain_commands.specs.Served.{HaveNoWindows, Serves}
 
 -- What a command shows where names hold such inputs, and whether anything that it was given is refused. The size of a memo and the
@@ -33,16 +39,21 @@ Shows holds (board fen side) refused text = ShowsFen (look_board_text side) fen 
 Shows holds (svg fen side) refused text = ShowsFen (svg_of side) fen refused text
 Shows holds (play fen words) refused text = ShowsPlay fen words refused text
 Shows holds (moves form fen) refused text = ShowsFen (moves_text (columns_of form)) fen refused text
+Shows holds (moves_json fen) refused text = ShowsFen moves_object fen refused text
 Shows holds (perft fen depth) refused text = ShowsFen (perft_text depth) fen refused text
 Shows holds (divide fen depth) refused text = ShowsFen (divided_text depth) fen refused text
 Shows holds (lines view names) refused text = ShowsLines holds (command_of view) names refused text
 Shows holds (solve bound memo from names) refused text = Solves holds bound from names refused text
+Shows holds (solve_json bound memo from names) refused text = SolvesJson holds bound from names refused text
 Shows holds (solve_on workers bound memo from names) refused text = Solves holds bound from names refused text
 Shows holds (limited seconds bound memo from names) refused text = SolvesLimited holds seconds bound from names refused 0 text
 Shows holds (verify bound memo header from names) refused text = VerifiesHeaded holds bound header from names refused text
+Shows holds (verify_json bound memo from names) refused text = VerifiesJson holds bound from names refused text
+Shows holds (verify_imported bound memo header from names) refused text = VerifiesImported holds bound header from names refused text
+Shows holds (verify_limited seconds bound memo header from names) refused text = LimitedHeaded holds bound header from names refused 0 text
 Shows holds (tree bound form from names) refused text = Tells holds bound form from names refused text
 Shows holds (sheet bound memo form title names) refused text = Sheets holds bound form title names refused text
-Shows holds (imports keep bound names) refused text = ImportsFiles holds keep names refused text
+Shows holds (imports keep bound letters names) refused text = ImportsFiles holds (letters_in letters) keep names refused text
 Shows holds (serve workers bound memo names) refused text = Serves holds bound names refused text
 Shows holds (replay name) refused text = ReplaysFile (holds name) refused text
 Shows holds (explain words) refused text = ExplainsWords words refused text
@@ -53,10 +64,12 @@ abbrev pub Shown : (Text → Option (List ℕ)) → Asked → Bool → (old new 
 Shown holds uci refused old new = refused ≡ false
 Shown holds asks refused old new = Gains (Shows holds asks refused) old new
 
--- The output gained what `solve --limit` shows where some records were not decided, and whether or not a line is refused.
+-- The output gained what `solve --limit` or `verify --limit` shows where some records were not decided, and whether or not a line is refused.
 abbrev pub ShownInPart : (Text → Option (List ℕ)) → Asked → (old new : Option (List ℕ)) → Type 0
 ShownInPart holds (limited seconds bound memo from names) old new =
     (refused : Bool) × (undecided : ℕ) × (0 < undecided) × Gains (SolvesLimited holds seconds bound from names refused undecided) old new
+ShownInPart holds (verify_limited seconds bound memo header from names) old new =
+    (unsound : Bool) × (undecided : ℕ) × (0 < undecided) × Gains (LimitedHeaded holds bound header from names unsound undecided) old new
 ShownInPart holds asks old new = ⊥
 
 -- What the output gained where `serve` stops: nothing where memory gives out, no thread is to be had or a file can't be read, which
@@ -70,12 +83,17 @@ StopsServing holds refuses bound names NoReader old new = GainsPart (λ text. (r
 abbrev pub Stops : (Text → Option (List ℕ)) → (Text → Type 0) → Asked → Stop → (old new : Option (List ℕ)) → Type 0
 Stops holds refuses (lines view names) stop old new = StopsLines holds refuses (command_of view) names stop old new
 Stops holds refuses (solve bound memo from names) stop old new = StopsSolving holds refuses bound from names stop old new
+Stops holds refuses (solve_json bound memo from names) stop old new = StopsSolvingJson holds refuses bound from names stop old new
 Stops holds refuses (solve_on workers bound memo from names) stop old new = StopsSolving holds refuses bound from names stop old new
 Stops holds refuses (limited seconds bound memo from names) stop old new = StopsLimited holds refuses seconds bound from names stop old new
 Stops holds refuses (verify bound memo header from names) stop old new = StopsHeaded holds refuses bound header from names stop old new
+Stops holds refuses (verify_json bound memo from names) stop old new = StopsVerifyingJson holds refuses bound from names stop old new
+Stops holds refuses (verify_imported bound memo header from names) stop old new = StopsVerifyingImported holds refuses bound header from names stop old new
+Stops holds refuses (verify_limited seconds bound memo header from names) stop old new =
+    StopsLimitedHeaded holds refuses bound header from names stop old new
 Stops holds refuses (tree bound form from names) stop old new = StopsTelling holds refuses bound form from names stop old new
 Stops holds refuses (sheet bound memo form title names) stop old new = StopsSheet holds refuses bound form title names stop old new
-Stops holds refuses (imports keep bound names) stop old new = StopsImporting holds refuses keep names stop old new
+Stops holds refuses (imports keep bound letters names) stop old new = StopsImporting holds refuses (letters_in letters) keep names stop old new
 Stops holds refuses (serve workers bound memo names) stop old new = StopsServing holds refuses bound names stop old new
 Stops holds refuses (replay name) stop old new = StopsReplaying (holds name) (refuses name) stop old new
 Stops holds refuses (explain words) stop old new = StopsShowing (ExplainsSome words) stop old new
@@ -87,10 +105,16 @@ abbrev pub StopsBy : (Text → Option (List ℕ)) → (Text → Type 0) → Opti
 StopsBy holds refuses None stop old new = Keeps old new
 StopsBy holds refuses (Some asks) stop old new = Stops holds refuses asks stop old new
 
--- The words ask for nothing, or for `serve` with more files than there are windows for.
+-- Problems are asked to be imported with letters of men that these words give, or something else is asked for.
+abbrev pub has_letters : Asked → Bool
+has_letters (imports keep bound letters names) = is_some (letters_said letters)
+has_letters _ = true
+
+-- The words ask for nothing, for `serve` with more files than there are windows for, or for letters of men that there are none of.
 abbrev pub AsksInVain : Option Asked → Type 0
 AsksInVain None = ⊤
 AsksInVain (Some (serve workers bound memo names)) = HaveNoWindows names
+AsksInVain (Some (imports keep bound letters names)) = letters_said letters ≡ None
 AsksInVain (Some asks) = ⊥
 
 -- How the program ends, by what the words ask for, what names hold, and which names may be refused. Help and the version are
@@ -101,7 +125,7 @@ pub record Ends (holds : Text → Option (List ℕ)) (refuses : Text → Type 0)
   pub answered : status ≡ 0 → IfSome asks (λ a. Shown holds a false old new)
   -- 1: the same, and something was refused
   pub refused : status ≡ 1 → IsSomeAnd asks (λ a. Shown holds a true old new)
-  -- 2: the words ask for nothing, or for too many files to be served
+  -- 2: the words ask for nothing, for too many files to be served, or for letters of men that there are none of
   pub misused : status ≡ 2 → AsksInVain asks × Keeps old new
   -- 3: memory gave out, or no thread was to be had
   pub no_memory : status ≡ 3 → StopsBy holds refuses asks NoMemory old new

@@ -8,11 +8,12 @@ use Rattle.chess_views.specs.Listings.{moves_line, moves_text}
 use Rattle.chess_views.specs.Looks.{look_board_text, look_text}
 use Rattle.chess_views.specs.declared.columns.Columns.{Columns}
 use Rattle.problem_sheets.specs.Diagrams.{svg_of}
+use Rattle.json_replies.specs.Moves.{moves_json}
 use Rattle.chess_views.specs.declared.columns.Columns.TheVariants as column
 use Rattle.command_words.specs.declared.request.MoveForm.{MoveForm}
 use Rattle.command_words.specs.declared.request.MoveForm.TheVariants.{San, Coordinates, SanFen, SanCoordinatesFen}
 use Rattle.plain_commands.specs.declared.fen_commands.FenCommand.{FenCommand}
-use Rattle.plain_commands.specs.declared.fen_commands.FenCommand.TheVariants.{Look, Board, Svg, Moves, MovesLine, Perft, Divide}
+use Rattle.plain_commands.specs.declared.fen_commands.FenCommand.TheVariants.{Look, Board, Svg, Moves, MovesLine, MovesJson, Perft, Divide}
 
 -- what stands on a line of `moves`, by how the moves are to be written
 abbrev pub columns_of : MoveForm → Columns
@@ -28,6 +29,7 @@ shown_text (Board side) v = look_board_text side v
 shown_text (Svg side) v = svg_of side v
 shown_text (Moves form) v = moves_text (columns_of form) v
 shown_text MovesLine v = moves_line v
+shown_text MovesJson v = moves_json v
 shown_text (Perft depth) v = perft_text depth v
 shown_text (Divide depth) v = divided_text depth v
 

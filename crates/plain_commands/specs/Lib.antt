@@ -1,7 +1,6 @@
 pub mod FenCommands
 pub mod Played
 pub mod PositionLines
-pub mod Verified
 pub mod Told
 pub mod Imported
 pub mod Replayed

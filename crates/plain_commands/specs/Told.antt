@@ -9,7 +9,15 @@ use Rattle.file_answers.specs.LinesFrom.{IsReplyOn, IsReplyToFirstOn}
 
 -- what is shown of a tree, as the words ask for it
 abbrev pub tree_form_of : TreeForm → Form
-tree_form_of f = record { moves = f.moves; defences = f.defences; set_play = f.set_play; tries = f.tries; lines = f.lines }
+tree_form_of f = record {
+  moves = f.moves;
+  defences = f.defences;
+  set_play = f.set_play;
+  tries = f.tries;
+  column = f.column;
+  figurines = f.figurines;
+  lines = f.lines;
+}
 
 -- What records are answered whose trees are asked for in such a form, whatever their file is called.
 abbrev pub tree_replies : TreeForm → ℕ → ℕ → List ℕ → List ℕ → List ℕ → ℕ → Type 0

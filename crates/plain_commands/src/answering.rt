@@ -5,25 +5,32 @@ ghost use Rattle.std.specs.String.{string_bytes};
 ghost use Rattle.clap.specs.Words.{kind_of};
 ghost use Rattle.command_words.specs.Asked.{asked, asks_display, asks_threads, is_display, is_threaded, may_display};
 ghost use Rattle.command_words.specs.Request.{plan_of};
-ghost use Rattle.plain_commands.specs.Command.{Ends, EndsBy, EndsByStatus, EndsInPart, Shown, Stops};
+ghost use Rattle.plain_commands.specs.Command.{has_letters, Ends, EndsBy, EndsByStatus, EndsInPart, Shown, Stops};
 
 use crate::explaining::explain_given;
 use crate::fen_commands::{FenCommand, show_fen};
-use crate::importing::import;
+use crate::importing::import_given;
 use crate::playing::play_given;
 use crate::position_answers::show_lines;
 use crate::replaying::replay;
 use crate::sheeting::{SheetAsked, sheet};
 use crate::telling::{tells_none, tree};
-use crate::verifying::verify;
 use byte_streams::{Stop, stop_of_output};
 use clap::Error;
 use clap::error::ErrorKind;
 use command_words::{Request, escaped, gives_records, parse, request_of};
 use file_answers::{ANSWERED, GivenTexts, MISUSED, Source, complain, no_memory, status_of};
 use file_solving::{limited_none, solve, solves_none};
+use file_verifying::verify;
+use import_claims::verify_imported;
+use json_commands::{solve_json, verify_json};
+use move_words::Letters;
 use std::alloc::Global;
 use std::io::Write;
+
+/// What is said of a word that gives no letters of men.
+const NO_LETTERS: &str =
+    "--letters takes six capitals, each another, as KDTLSB, or the code of a language, as de";
 
 /// Whether a request is one for threads.
 fn is_threaded(request: &Request) -> bool
@@ -31,8 +38,22 @@ fn is_threaded(request: &Request) -> bool
 {
     matches!(
         request,
-        Request::Serve(..) | Request::SolveOn(..) | Request::Limited(..) | Request::Uci
+        Request::Serve(..)
+            | Request::SolveOn(..)
+            | Request::Limited(..)
+            | Request::VerifyLimited(..)
+            | Request::Uci
     )
+}
+
+/// Whether a request has letters of men, where it wants some.
+fn has_letters(request: &Request) -> bool
+    ensures { result ≡ has_letters (plan_of request.now) }
+{
+    match request {
+        Request::Import(_, _, letters, _) => Letters::said(letters).is_some(),
+        _ => true,
+    }
 }
 
 /// Answers a request that starts no threads; gives whether anything was refused.
@@ -54,14 +75,24 @@ fn answer<S: Source, O: Write, E: Write>(
         Request::Svg(fen, side) => show_fen(alloc, FenCommand::Svg(*side), fen, out, err),
         Request::Play(fen, moves) => play_given(alloc, fen, *moves, out, err),
         Request::Moves(form, fen) => show_fen(alloc, FenCommand::Moves(*form), fen, out, err),
+        Request::MovesJson(fen) => show_fen(alloc, FenCommand::MovesJson, fen, out, err),
         Request::Perft(fen, depth) => show_fen(alloc, FenCommand::Perft(*depth), fen, out, err),
         Request::Divide(fen, depth) => show_fen(alloc, FenCommand::Divide(*depth), fen, out, err),
         Request::Lines(view, names) => show_lines(alloc, *view, names, source, out, err),
         Request::Solve(bound, memo, files) => {
             solve(alloc, *bound, *memo, files, source, out, err)
         }
+        Request::SolveJson(bound, memo, files) => {
+            solve_json(alloc, *bound, *memo, files, source, out, err)
+        }
         Request::Verify(bound, memo, header, files) => {
             verify(alloc, *bound, *memo, *header, files, source, out, err)
+        }
+        Request::VerifyJson(bound, memo, files) => {
+            verify_json(alloc, *bound, *memo, files, source, out, err)
+        }
+        Request::VerifyImported(bound, memo, header, files) => {
+            verify_imported(alloc, *bound, *memo, *header, files, source, out, err)
         }
         Request::Tree(bound, form, files) => tree(alloc, *bound, *form, files, source, out, err),
         Request::Sheet(bound, size, form, title, names) => {
@@ -73,12 +104,14 @@ fn answer<S: Source, O: Write, E: Write>(
             };
             sheet(alloc, &asked, names, source, out, err)
         }
-        Request::Import(keep, bound, names) => {
-            import(alloc, *keep, *bound, names, source, out, err)
+        Request::Import(keep, bound, letters, names) => {
+            import_given(alloc, *keep, *bound, letters, names, source, out, err)
         }
-        Request::Serve(..) | Request::SolveOn(..) | Request::Limited(..) | Request::Uci => {
-            unreachable!()
-        }
+        Request::Serve(..)
+        | Request::SolveOn(..)
+        | Request::Limited(..)
+        | Request::VerifyLimited(..)
+        | Request::Uci => unreachable!(),
         Request::Replay(name) => replay(alloc, name, source, out, err),
         Request::Explain(words) => explain_given(alloc, *words, out, err),
     }
@@ -103,12 +136,16 @@ fn run<S: Source, O: Write, E: Write>(
     let Some(request) = request else {
         complain(
             err,
-            "--flip goes with --board or --svg, and these not with each other",
+            "--flip goes with --board or --svg, and these not with each other; --json goes alone, but for files, numbers and --progress, and --import without --limit",
         );
         return Some(MISUSED);
     };
     if is_threaded(request) {
         return None;
+    }
+    if !has_letters(request) {
+        complain(err, NO_LETTERS);
+        return Some(MISUSED);
     }
     let ended = answer(alloc, request, source, out, err);
     Some(status_of(ended, err))
@@ -187,7 +224,8 @@ pub fn plain_command<S: Source, O: Write, E: Write>(
     }
 }
 
-/// How a `solve --limit` has ended that showed all, of which some records were not decided. It does nothing: its contract is the law.
+/// How `solve --limit` or `verify --limit` has ended that showed all, of which some records were not decided. It does nothing: its contract
+/// is the law.
 #[tactic(auto, using(crate::proofs::Endings::ends_in_part))]
 pub fn ends_in_part<S: Source>(source: &S)
     ensures { EndsInPart (S.holds source.now) (S.refuses source.now) }

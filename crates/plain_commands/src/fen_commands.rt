@@ -15,6 +15,7 @@ use chess_views::{
 };
 use command_words::{Depth, MoveForm};
 use file_answers::{complain, show};
+use json_replies::moves_json;
 use problem_sheets::svg_text;
 use std::alloc::{AllocError, Global};
 use std::io::Write;
@@ -32,6 +33,8 @@ pub enum FenCommand {
     Moves(MoveForm),
     /// The same in SAN on one line.
     MovesLine,
+    /// The same in JSON.
+    MovesJson,
     /// How many lines of so many legal moves there are.
     Perft(Depth),
     /// The same, for each first move too.
@@ -79,6 +82,7 @@ pub(crate) fn shown_text(
         FenCommand::Svg(side) => svg_text(alloc, &fen.position, side),
         FenCommand::Moves(form) => moves_text(alloc, rays, fen, columns_of(form)),
         FenCommand::MovesLine => moves_line(alloc, rays, fen),
+        FenCommand::MovesJson => moves_json(alloc, rays, fen),
         FenCommand::Perft(depth) => perft_text(alloc, rays, fen, depth.get()),
         FenCommand::Divide(depth) => divided_text(alloc, rays, fen, depth.get()),
     }

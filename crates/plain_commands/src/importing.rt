@@ -1,15 +1,16 @@
 //! The command `import`.
 
-ghost use Rattle.std.specs.Prelude.{IfErr, IfOk, map};
+ghost use Rattle.std.specs.Prelude.{◌≡◌, IfErr, IfOk, map};
 ghost use Rattle.file_answers.specs.Writing.{Gains};
-ghost use Rattle.plain_commands.specs.Imported.{ImportsFiles, StopsImporting};
+ghost use Rattle.plain_commands.specs.Imported.{ImportsFiles, StopsImporting, letters_in};
 
 use byte_streams::{Input, Stop};
 use chess_moves::Rays;
 use chess_problems::Bound;
 use command_words::{Files, LineNumber};
 use file_answers::{FileAnswers, FileStart, Source, answer_files};
-use problem_import::import_input;
+use move_words::Letters;
+use problem_import::import_input_in;
 use std::alloc::Global;
 use std::io::Write;
 
@@ -19,6 +20,8 @@ struct Imports<'a> {
     rays: &'a Rays,
     /// Whether what was changed is told in a record.
     keep: bool,
+    /// The letters of men.
+    letters: Letters,
     /// The bound of problems that say none.
     bound: Option<Bound>,
 }
@@ -29,13 +32,13 @@ impl<'a> FileAnswers for Imports<'a> {
 
     type Memory = ();
 
-    ghost replies = { λ imports. import_replies imports.keep };
+    ghost replies = { λ imports. import_replies imports.letters imports.keep };
 
-    ghost told = { λ imports. unmarked (import_replies imports.keep) };
+    ghost told = { λ imports. unmarked (import_replies imports.letters imports.keep) };
 
     ghost tells = { λ _ _ _ _ _ _ _ told. told };
 
-    ghost first = { λ imports. first_import_replies imports.keep };
+    ghost first = { λ imports. first_import_replies imports.letters imports.keep };
 
     fn answer<S: Source, I: Input + Drop, O: Write>(
         &self,
@@ -45,7 +48,15 @@ impl<'a> FileAnswers for Imports<'a> {
         _memory: &mut (),
         out: &mut O,
     ) -> Result<usize, Stop> {
-        import_input(alloc, self.rays, self.keep, self.bound, input, out)
+        import_input_in(
+            alloc,
+            self.rays,
+            &self.letters,
+            self.keep,
+            self.bound,
+            input,
+            out,
+        )
     }
 
     fn begins_with_nothing(&self) {}
@@ -53,24 +64,26 @@ impl<'a> FileAnswers for Imports<'a> {
 
 /// Makes records of the problems of each file in order, those that say no number of moves with such a bound, if one is given, and opens a
 /// file only after those before were written; gives whether a problem was refused. A file that can't be read is named on `err`.
-pub fn import<S: Source, O: Write, E: Write>(
+fn import<S: Source, O: Write, E: Write>(
     alloc: Global,
     keep: bool,
     bound: Option<Bound>,
+    letters: Letters,
     names: &[&str],
     source: &S,
     out: &mut O,
     err: &mut E,
 ) -> Result<bool, Stop>
-    ensures ok { IfOk result (λ refused. Gains (ImportsFiles (S.holds source.now) keep (map (λ s. s.now) names.now) refused)
+    ensures ok { IfOk result (λ refused. Gains (ImportsFiles (S.holds source.now) letters keep (map (λ s. s.now) names.now) refused)
         (O.contents out.old) (O.contents out.new)) }
-    ensures err { IfErr result (λ stop. StopsImporting (S.holds source.now) (S.refuses source.now) keep
+    ensures err { IfErr result (λ stop. StopsImporting (S.holds source.now) (S.refuses source.now) letters keep
         (map (λ s. s.now) names.now) stop (O.contents out.old) (O.contents out.new)) }
 {
     let rays = Rays::new();
     let imports = Imports {
         rays: &rays,
         keep,
+        letters,
         bound,
     };
     let files = Files {
@@ -78,4 +91,34 @@ pub fn import<S: Source, O: Write, E: Write>(
         from: LineNumber::first(),
     };
     answer_files(alloc, &imports, &files, source, &mut (), out, err)
+}
+
+/// The letters of men that a word gives.
+fn letters_in(word: &str) -> Letters
+    ensures { result ≡ letters_in word.now }
+{
+    match Letters::said(word) {
+        Some(letters) => letters,
+        None => Letters::ENGLISH,
+    }
+}
+
+/// The same with the letters of men that a word gives.
+pub fn import_given<S: Source, O: Write, E: Write>(
+    alloc: Global,
+    keep: bool,
+    bound: Option<Bound>,
+    word: &str,
+    names: &[&str],
+    source: &S,
+    out: &mut O,
+    err: &mut E,
+) -> Result<bool, Stop>
+    ensures ok { IfOk result (λ refused. Gains (ImportsFiles (S.holds source.now) (letters_in word.now) keep (map (λ s. s.now) names.now) refused)
+        (O.contents out.old) (O.contents out.new)) }
+    ensures err { IfErr result (λ stop. StopsImporting (S.holds source.now) (S.refuses source.now) (letters_in word.now) keep
+        (map (λ s. s.now) names.now) stop (O.contents out.old) (O.contents out.new)) }
+{
+    let letters = letters_in(word);
+    import(alloc, keep, bound, letters, names, source, out, err)
 }

@@ -3,10 +3,10 @@
 //! a table of faults, or over a position.
 //!
 //! What the words of a command line ask for is the business of `command_words`, how files are answered, what is shown and the statuses that
-//! of `file_answers`, how files are solved that of `file_solving`, and what is answered that of the crates of chess and of the desk. To read:
-//! `answering`, where the contract of `plain_command` says how each command ends; then `fen_commands` and `playing`; `verifying`, `telling`,
-//! `importing` and `position_answers`, which answer each line of each file; `sheeting`; `replaying`, over the scripts of `desk_scripts`; and
-//! `explaining`, over `fault_explanations` and `fen_explanations`.
+//! of `file_answers`, how files are solved, and held against their claims, that of `file_solving` and `file_verifying`, and what is answered
+//! that of the crates of chess and of the desk. To read: `answering`, where the contract of `plain_command` says how each command ends; then
+//! `fen_commands` and `playing`; `telling`, `importing` and `position_answers`, which answer each line of each file; `sheeting`; `replaying`,
+//! over the scripts of `desk_scripts`; and `explaining`, over `fault_explanations` and `fen_explanations`.
 #![tactic(auto)]
 
 mod answering;
@@ -18,7 +18,6 @@ mod position_answers;
 mod replaying;
 mod sheeting;
 mod telling;
-mod verifying;
 
 pub use answering::{ends_by_status, ends_in_part, plain_command};
 pub use desk_scripts::{Script, ScriptFault, read_script};

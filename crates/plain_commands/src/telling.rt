@@ -35,6 +35,8 @@ fn form_of(form: &TreeForm) -> Form
         defences: form.defences,
         set_play: form.set_play,
         tries: form.tries,
+        column: form.column,
+        figurines: form.figurines,
         lines: form.lines,
     }
 }

@@ -1,5 +1,5 @@
 -- What is printed are records and refusals, one behind the other.
-use Rattle.std.proofs.Common.{◌≡◌, ◌≢◌, ◌⊎◌, inl, inr, ℕ, ◌+◌, ◌<◌, ◌≤◌, length, take, Bool, true, false, ◌||◌, Option, None, Some, Result}
+use Rattle.std.proofs.Common.{◌≡◌, ◌≢◌, ◌⊎◌, inl, inr, ℕ, ◌+◌, ◌<◌, length, take, Bool, true, false, ◌||◌, Option, None, Some, Result}
 use Rattle.std.proofs.Common.{Ok, Err, IfOk, IfErr, List, [], ◌∷◌, ◌++◌, refl, sym, ap, ◌∙◌, subst, append_assoc, arith, length-append}
 use Rattle.std.specs.Prelude.{Contains, IfNone, map, replicate}
 use Rattle.std.proofs.KnownBytes.{Appends-nil, Appends-trans}
@@ -23,8 +23,12 @@ use Rattle.problem_import.specs.declared.line_kinds.LineKind.TheVariants as kind
 use Rattle.text_lines.specs.Lines.{lines_of, without_cr}
 use Rattle.text_lines.specs.Replies.{IsReply, IsReplyFrom, IsReplyToFirst}
 use Rattle.problem_import.specs.Imports.{AreImported, EndsWithLine, ImportsAreRecords, IsClean, IsImport, IsImportOfFirst, IsImportReply}
-use Rattle.problem_import.specs.Imports.{IsKept, IsMade, IsRecord, none, one_if, plain, printed, read, refused, refused_line, skipped, unchanged}
-use Rattle.problem_import.specs.Imports.{told, untold}
+use Rattle.problem_import.specs.Changes.{telling}
+use Rattle.problem_import.specs.Imports.{HasPositionOf, ImportsKeepPositions, IsKept, IsMade, IsPlaced, IsRecord, IsToldOther, KeepsPosition}
+use Rattle.problem_import.specs.Imports.{none, one_if, plain, printed, read, refused, refused_line, skipped, told, unchanged, untold}
+use Rattle.problem_import.specs.declared.changes.Change.{Change}
+use Rattle.problem_import.specs.declared.changes.Change.TheVariants.{Pgn, Popeye}
+use Rattle.problem_import.proofs.Positions.{no_empty_position}
 
 pub imported_append : (P : List ℕ → Type 0) (a b : List ℕ) (x y : Bool) → AreImported P a x → AreImported P b y → AreImported P (a ++ b) (x || y)
 imported_append P a b x y none more = more
@@ -36,7 +40,7 @@ imported_append P a b x y (refused number fault rest any on) more =
     (refused number fault (rest ++ b) (any || y) (imported_append P rest b any y on more))
 
 -- Records of one kind are records of another.
-imported_for : (P Q : List ℕ → Type 0) → ((line : List ℕ) → IsRecord line → P line → Q line) → (text : List ℕ) (any : Bool)
+pub imported_for : (P Q : List ℕ → Type 0) → ((line : List ℕ) → IsRecord line → P line → Q line) → (text : List ℕ) (any : Bool)
     → AreImported P text any → AreImported Q text any
 imported_for P Q each text any none = none
 imported_for P Q each text any (printed line rest any' is kind on) =
@@ -101,11 +105,11 @@ refusal_next P old new number fault any same before =
 
 -- ---- replies to lines, and an input's end
 
-some_if : (any : Bool) → one_if any ≡ 0 → any ≡ false
+pub some_if : (any : Bool) → one_if any ≡ 0 → any ≡ false
 some_if true is = absurd (omega (arith, is))
 some_if false is = refl
 
-none_of : (x y : Bool) → x ≡ false → y ≡ false → (x || y) ≡ false
+pub none_of : (x y : Bool) → x ≡ false → y ≡ false → (x || y) ≡ false
 none_of x y one other = rw (one, other) refl
 
 no_word : (word : List ℕ) (n : ℕ) (rest : List ℕ) → [] ≡ replicate n 32 ++ (word ++ rest) → word ≢ [] → ⊥
@@ -114,78 +118,141 @@ no_word (b ∷ bs) n rest is some =
     let long : 0 ≡ length (replicate n 32 ++ ((b ∷ bs) ++ rest)) = ap length is in
     omega (arith, long, length-append (replicate n 32) ((b ∷ bs) ++ rest), length-append (b ∷ bs) rest)
 
-no_empty_record : IsRecord [] → ⊥
+pub no_empty_record : IsRecord [] → ⊥
 no_empty_record (r, reads) =
     let (n, rest, is, word, apart, more) = reads.words in no_word reads.fields.placement n rest is word.0
-
-too_long : (line r : List ℕ) → max_line < length line → IsRecord r → r ≡ line → ⊥
-too_long line r long one is = let short : length r ≤ max_line = one.1.short in omega (arith, short, long, ap length is)
 
 pub not_both : (x : Bool) → x ≡ false → x ≡ true → ⊥
 not_both x off on = let no : false ≡ true = sym off ∙ on in cc
 
--- What is made where no line is read is made of a line that is too long for a record.
-long_made : (keep : Bool) (line : List ℕ) → max_line < length line → (r : List ℕ) → IsRecord r → IsMade keep [] r → IsMade keep line r
-long_made keep line long r is unchanged = absurd (no_empty_record is)
-long_made keep line long r is (plain made off) = plain made off
-long_made keep line long r is (told made has on one changed) =
-    told made has on one (changed.0, λ is'. absurd (too_long line made long one is'))
-long_made keep line long r is (untold made has on changed unread) =
-    untold made has on (changed.0, λ is'. absurd (too_long line made long is is')) unread
-
-either : {A B C : Type 0} → (A → B) → A ⊎ C → B ⊎ C
+pub either : {A B C : Type 0} → (A → B) → A ⊎ C → B ⊎ C
 either f (inl a) = inl (f a)
 either f (inr c) = inr c
 
-made_kept : (keep : Bool) (lines : List (List ℕ)) (line r : List ℕ) → (r ≡ line → Contains lines r) → IsMade keep line r → IsKept keep lines r
-made_kept keep lines line r here unchanged = λ on. inl (here refl)
-made_kept keep lines line r here (plain made off) = λ on. absurd (not_both keep off on)
-made_kept keep lines line r here (told made has on one changed) = λ _. inr (made, has, changed.0, inl refl)
-made_kept keep lines line r here (untold made has on changed unread) = λ _. inr (made, has, changed.0, inr unread)
+-- ---- laws of what is printed, by what each record is among the lines
 
-abbrev Imported : Bool → List (List ℕ) → List ℕ → ℕ → Type 0
-Imported keep lines text count = (any : Bool) × AreImported (IsKept keep lines) text any × (count ≡ 0 → any ≡ false)
+abbrev Kind : Type 1
+Kind = List (List ℕ) → List ℕ → Type 0
 
-reply_imported : (keep : Bool) (number : ℕ) (line : List ℕ) (lines : List (List ℕ)) (text : List ℕ) (count : ℕ)
-    → IsImportReply keep number line text count → Imported keep (line ∷ lines) text count
-reply_imported keep number line lines text count (skipped blank) = (false, none, λ is. refl)
-reply_imported keep number line lines text count (read text' any filled on clean kept) = (
+-- It is so of what is made of a line among others.
+abbrev IsOfLines : Bool → Kind → Type 0
+IsOfLines keep K = (lines : List (List ℕ)) (line r : List ℕ) → IsRecord r → (r ≡ line → Contains lines r) → Contains lines line
+    → IsMade keep line r → K lines r
+
+abbrev Widens : Kind → Type 0
+Widens K = (line : List ℕ) (lines : List (List ℕ)) (r : List ℕ) → K lines r → K (line ∷ lines) r
+
+-- It is so of what is made at the end.
+abbrev IsOfEnd : Bool → Kind → Type 0
+IsOfEnd keep K = (lines : List (List ℕ)) (r : List ℕ) → IsRecord r → IsMade keep [] r → K lines r
+
+abbrev Imported : Kind → List (List ℕ) → List ℕ → ℕ → Type 0
+Imported K lines text count = (any : Bool) × AreImported (K lines) text any × (count ≡ 0 → any ≡ false)
+
+among_first : (line : List ℕ) (lines : List (List ℕ)) → Contains (line ∷ lines) line
+among_first line lines = Contains-append_left (line ∷ []) lines line (Contains-push [] line)
+
+reply_imported : (keep : Bool) (K : Kind) → IsOfLines keep K → (number : ℕ) (line : List ℕ) (lines : List (List ℕ)) (text : List ℕ) (count : ℕ)
+    → IsImportReply keep number line text count → Imported K (line ∷ lines) text count
+reply_imported keep K each number line lines text count (skipped blank) = (false, none, λ is. refl)
+reply_imported keep K each number line lines text count (read text' any filled on clean kept) = (
   any,
-  imported_for (IsMade keep line) (IsKept keep (line ∷ lines))
-      (λ r _. made_kept keep (line ∷ lines) line r (λ is. rw is (Contains-append_left (line ∷ []) lines line (Contains-push [] line))))
-      text' any on,
+  imported_for (IsMade keep line) (K (line ∷ lines))
+      (λ r one. each (line ∷ lines) line r one (λ is. rw is (among_first line lines)) (among_first line lines)) text' any on,
   some_if any,
 )
 
-replies_imported : (keep : Bool) (number : ℕ) (lines : List (List ℕ)) (text : List ℕ) (count : ℕ)
-    → IsReplyFrom (IsImportReply keep) number lines text count → Imported keep (map without_cr lines) text count
-replies_imported keep number [] text count (is, nobody) = rw is (false, none, λ _. refl)
-replies_imported keep number (line ∷ lines) text count (here, few, more, others, one, on, is, all) =
+replies_imported : (keep : Bool) (K : Kind) → IsOfLines keep K → Widens K → (number : ℕ) (lines : List (List ℕ)) (text : List ℕ) (count : ℕ)
+    → IsReplyFrom (IsImportReply keep) number lines text count → Imported K (map without_cr lines) text count
+replies_imported keep K each wider number [] text count (is, nobody) = rw is (false, none, λ _. refl)
+replies_imported keep K each wider number (line ∷ lines) text count (here, few, more, others, one, on, is, all) =
     let behind : List (List ℕ) = map without_cr lines in
-    let (x, first, clear) = reply_imported keep number (without_cr line) behind here few one in
-    let (y, rest, clear') = replies_imported keep (number + 1) lines more others on in
-    let wider = imported_for (IsKept keep behind) (IsKept keep (without_cr line ∷ behind))
-    (λ r _ kept on. either (Contains-append_right (without_cr line ∷ []) behind r) (kept on)) more y rest in
+    let (x, first, clear) = reply_imported keep K each number (without_cr line) behind here few one in
+    let (y, rest, clear') = replies_imported keep K each wider (number + 1) lines more others on in
+    let widened = imported_for (K behind) (K (without_cr line ∷ behind)) (λ r _ so. wider (without_cr line) behind r so) more y rest in
     rw is (
       x || y,
-      imported_append (IsKept keep (without_cr line ∷ behind)) here more x y first wider,
+      imported_append (K (without_cr line ∷ behind)) here more x y first widened,
       λ zero. none_of x y (clear (omega (arith, zero, all))) (clear' (omega (arith, zero, all))),
     )
 
-pub imports_are_records : ImportsAreRecords
+all_imported : (keep : Bool) (K : Kind) → IsOfLines keep K → Widens K → IsOfEnd keep K
+    → (input text : List ℕ) (count : ℕ) → IsImport keep input text count → Imported K (map without_cr (lines_of input)) text count
 unfolding IsImport IsReply
-imports_are_records keep input text count (replies, refusals, last, any, are, ends, is, all) =
+all_imported keep K each wider at_end input text count (replies, refusals, last, any, are, ends, is, all) =
     let lines : List (List ℕ) = map without_cr (lines_of input) in
-    let (x, first, clear) = replies_imported keep 1 (lines_of input) replies refusals are in
-    let end = imported_for (IsMade keep []) (IsKept keep lines)
-    (λ r one. made_kept keep lines [] r (λ empty. absurd (no_empty_record (subst IsRecord empty one)))) last any ends in
+    let (x, first, clear) = replies_imported keep K each wider 1 (lines_of input) replies refusals are in
+    let end = imported_for (IsMade keep []) (K lines) (at_end lines) last any ends in
     rw is (
       x || any,
-      imported_append (IsKept keep lines) replies last x any first end,
+      imported_append (K lines) replies last x any first end,
       λ zero. none_of x any (clear (omega (arith, zero, all))) (some_if any (omega (arith, zero, all))),
     )
 
-some_text : (text : List ℕ) → 0 < length text → text ≢ []
+-- ---- each is a line as it stands, or is told
+
+pub made_kept : (keep : Bool) (lines : List (List ℕ)) (line r : List ℕ) → (r ≡ line → Contains lines r) → IsMade keep line r → IsKept keep lines r
+made_kept keep lines line r here unchanged = λ on. inl (here refl)
+made_kept keep lines line r here (plain made has off own) = λ on. absurd (not_both keep off on)
+made_kept keep lines line r here (told made has on one changed own) = λ _. inr (made, has, changed.0, inl refl)
+made_kept keep lines line r here (untold made has on changed own unread) = λ _. inr (made, has, changed.0, inr unread)
+
+pub imports_are_records : ImportsAreRecords
+imports_are_records keep input text count is =
+    all_imported keep (IsKept keep) (λ lines line r one here among made. made_kept keep lines line r here made)
+    (λ line lines r kept on. either (Contains-append_right (line ∷ []) lines r) (kept on))
+    (λ lines r one made. made_kept keep lines [] r (λ empty. absurd (no_empty_record (subst IsRecord empty one))) made)
+    input text count is
+
+-- ---- each has the position of a line, or is told to be of a game or for Popeye
+
+abbrev IsAt : List (List ℕ) → List ℕ → Type 0
+IsAt lines r = Contains lines r ⊎ (((own : List ℕ) × Contains lines own × HasPositionOf own r) ⊎ IsToldOther r)
+
+own_or_told : (b : Bool) (A B : Type 0) → (b ≡ true → B) → (b ≡ false → A) → A ⊎ B
+own_or_told true A B other own = inr (other refl)
+own_or_told false A B other own = inl (own refl)
+
+placed : (lines : List (List ℕ)) (line r : List ℕ) (has : Change → Bool) → Contains lines line → ((has Pgn || has Popeye) ≡ true → IsToldOther r)
+    → KeepsPosition line r has → IsAt lines r
+placed lines line r has among other own =
+    inr (own_or_told (has Pgn || has Popeye) ((own' : List ℕ) × Contains lines own' × HasPositionOf own' r) (IsToldOther r) other
+    (λ off. (line, among, own off)))
+
+made_placed : (keep : Bool) (lines : List (List ℕ)) (line r : List ℕ) → (r ≡ line → Contains lines r) → Contains lines line → IsMade keep line r
+    → IsPlaced keep lines r
+made_placed keep lines line r here among unchanged = λ on. inl (here refl)
+made_placed keep lines line r here among (plain made has off own) = λ on. absurd (not_both keep off on)
+made_placed keep lines line r here among (told made has on one changed own) = λ _.
+    placed lines line (made ++ telling has) has among (λ is. (made, has, is, inl refl)) own
+made_placed keep lines line r here among (untold made has on changed own unread) = λ _.
+    placed lines line made has among (λ is. (made, has, is, inr unread)) own
+
+wider_at : (line : List ℕ) (lines : List (List ℕ)) (r : List ℕ) → IsAt lines r → IsAt (line ∷ lines) r
+wider_at line lines r (inl is) = inl (Contains-append_right (line ∷ []) lines r is)
+wider_at line lines r (inr (inl (own, among, is))) = inr (inl (own, Contains-append_right (line ∷ []) lines own among, is))
+wider_at line lines r (inr (inr other)) = inr (inr other)
+
+-- What is made at the end is told.
+placed_last : (lines : List (List ℕ)) (r : List ℕ) (has : Change → Bool) → IsRecord r → ((has Pgn || has Popeye) ≡ true → IsToldOther r)
+    → KeepsPosition [] r has → IsAt lines r
+placed_last lines r has one other own =
+    inr (own_or_told (has Pgn || has Popeye) ((own' : List ℕ) × Contains lines own' × HasPositionOf own' r) (IsToldOther r) other
+    (λ off. absurd (no_empty_position r one (own off))))
+
+end_placed : (keep : Bool) (lines : List (List ℕ)) (r : List ℕ) → IsRecord r → IsMade keep [] r → IsPlaced keep lines r
+end_placed keep lines r one unchanged = λ _. absurd (no_empty_record one)
+end_placed keep lines r one (plain made has off own) = λ on. absurd (not_both keep off on)
+end_placed keep lines r one (told made has on one' changed own) = λ _. placed_last lines (made ++ telling has) has one (λ is. (made, has, is, inl refl)) own
+end_placed keep lines r one (untold made has on changed own unread) = λ _. placed_last lines made has one (λ is. (made, has, is, inr unread)) own
+
+pub imports_keep_positions : ImportsKeepPositions
+imports_keep_positions keep input text count is =
+    let all = all_imported keep (IsPlaced keep) (λ lines line r one here among made. made_placed keep lines line r here among made)
+    (λ line lines r so on. wider_at line lines r (so on)) (end_placed keep) input text count is in
+    (all.0, all.1)
+
+pub some_text : (text : List ℕ) → 0 < length text → text ≢ []
 some_text text some = λ is. let none : 0 < 0 = subst (λ t. 0 < length t) is some in omega (arith, none)
 
 pub read_reply : (keep : Bool) (number : ℕ) (line out text : List ℕ) (any : Bool) (count : ℕ) → is_blank line ≡ false
@@ -194,13 +261,12 @@ pub read_reply : (keep : Bool) (number : ℕ) (line out text : List ℕ) (any : 
 read_reply keep number line out text any count filled on clean kept same is =
     rw (same, is) (read text any filled on clean (λ one. some_text text (kept one)))
 
-pub long_reply : (keep : Bool) (number : ℕ) (out text : List ℕ) (any : Bool) (count : ℕ) → AreImported (IsMade keep []) text any
-    → out ≡ text → count ≡ one_if any
+pub long_reply : (keep : Bool) (number : ℕ) (out text : List ℕ) (any : Bool) (count : ℕ)
+    → ((line : List ℕ) → AreImported (IsMade keep line) text any) → out ≡ text → count ≡ one_if any
     → (line : List ℕ) → is_blank line ≡ false → max_line < length line → IsImportReply keep number line out count
 long_reply keep number out text any count on same is line filled long =
     let no_record : IsRecord line → ⊥ = λ one. omega (arith, one.1.short, long) in
-    let of_line = imported_for (IsMade keep []) (IsMade keep line) (long_made keep line long) text any on in
-    read_reply keep number line out text any count filled of_line (λ clean. absurd (no_record (clean_record line clean))) (λ one. absurd (no_record one)) same is
+    read_reply keep number line out text any count filled (on line) (λ clean. absurd (no_record (clean_record line clean))) (λ one. absurd (no_record one)) same is
 
 pub where_none : {A : Type 0} (X : Type 0) (found : Option A) → ((a : A) → found ≢ Some a) → IfNone found X → X
 where_none X None other then = then
@@ -212,7 +278,7 @@ part_more : (a b c : Option (List ℕ)) (text here : List ℕ) → Appends a b t
 part_more a b c text here before (part, rest, is, on) =
     (text ++ part, rest, ap (λ t. text ++ t) is ∙ sym (append_assoc text part rest), Appends-trans a b c text part before on)
 
-appends_more : (s : Stop) (a b c : Option (List ℕ)) (text here : List ℕ) → Appends a b text → AppendsBy s b c here → AppendsBy s a c (text ++ here)
+pub appends_more : (s : Stop) (a b c : Option (List ℕ)) (text here : List ℕ) → Appends a b text → AppendsBy s b c here → AppendsBy s a c (text ++ here)
 appends_more stop.NoMemory a b c text here before on = Appends-trans a b c text here before on
 appends_more stop.Unreadable a b c text here before on = Appends-trans a b c text here before on
 appends_more stop.Unwritable a b c text here before on = part_more a b c text here before on

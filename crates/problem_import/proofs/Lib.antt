@@ -1,4 +1,10 @@
+pub mod AsciiTexts
+pub mod FieldTexts
+pub mod Findings
+pub mod AnsweredProblems
 pub mod Imports
+pub mod LetteredImports
+pub mod Positions
 pub mod LinesTaken
 pub mod ToldChanges
 mod ClearClaims

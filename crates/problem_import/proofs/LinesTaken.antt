@@ -4,7 +4,7 @@ use Rattle.problem_import.specs.Imports.{EndsWithLine}
 use Rattle.problem_import.specs.declared.line_kinds.LineKind.{LineKind}
 use Rattle.problem_import.specs.declared.line_kinds.LineKind.TheVariants as kinds
 use Rattle.problem_import.specs.declared.reading.Open.{Open}
-use Rattle.problem_import.specs.declared.reading.Open.TheVariants.{Nothing, Game, Movetext, Popeye}
+use Rattle.problem_import.specs.declared.reading.Open.TheVariants.{Nothing, Game, Movetext, Popeye, Olive}
 use Rattle.problem_import.specs.inside.OpenProblems.{due, has_tags}
 use Rattle.problem_import.proofs.Imports.{filled_behind}
 
@@ -13,12 +13,14 @@ due_le_one Nothing = omega arith
 due_le_one (Game game) = omega arith
 due_le_one (Movetext movetext) = omega arith
 due_le_one (Popeye problem) = omega arith
+due_le_one (Olive problem) = omega arith
 
 pub tags_due : (what : Open) → due what ≡ 0 → has_tags what ≡ false
 tags_due Nothing none = refl
 tags_due (Game game) none = absurd (omega (arith, none))
 tags_due (Movetext movetext) none = refl
 tags_due (Popeye problem) none = refl
+tags_due (Olive problem) none = refl
 
 pub due_printed : (old new findings made printed : ℕ) → old ≤ 1 → old ≤ new + findings → (0 < findings → 0 < made)
     → (0 < made → 0 < printed) → old ≤ new + printed

@@ -9,7 +9,9 @@ use Rattle.problem_import.specs.declared.changes.Change.TheVariants.{Bound, Semi
 use Rattle.problem_import.specs.declared.changes.Changes.{Changes}
 use Rattle.problem_import.specs.declared.changes.Form.{Form}
 use Rattle.problem_import.specs.declared.changes.Form.TheVariants as forms
+use Rattle.problem_import.specs.inside.Findings.{IsOwn}
 use Rattle.problem_import.specs.inside.KeptChanges.{has_change, is_game, is_popeye, is_told}
+use Rattle.problem_import.proofs.Positions.{keeps_position, keeps_told}
 
 some_told : (form : Form) (letters tabs quotes marks moves bound semicolon operation cut : Bool)
     → IsAny (is_told form letters tabs quotes marks moves bound semicolon operation cut)
@@ -51,16 +53,17 @@ telling_behind has text begun listing whole first second third =
 
 -- ---- what is printed
 
-pub made_plain : (keep : Bool) (line text : List ℕ) → keep ≡ false → IsMade keep line text
-made_plain keep line text off = plain text off
+pub made_plain : (keep : Bool) (line text : List ℕ) (c : Changes) → keep ≡ false → IsOwn c.form line text → IsMade keep line text
+made_plain keep line text c off own = plain text (has_change c) off (keeps_position c line text own)
 
 pub made_unchanged : (keep : Bool) (line text : List ℕ) → text ≡ line → IsMade keep line text
 made_unchanged keep line text is = rw is unchanged
 
-pub made_told : (keep : Bool) (line text whole : List ℕ) (has : Change → Bool) → keep ≡ true → IsRecord text → IsChanged line text has
-    → whole ≡ text ++ telling has → IsMade keep line whole
-made_told keep line text whole has on one changed is = rw is (told text has on one changed)
+pub made_told : (keep : Bool) (line text whole : List ℕ) (c : Changes) → keep ≡ true → IsRecord text → IsOwn c.form line text
+    → IsChanged line text (has_change c) → whole ≡ text ++ telling (has_change c) → IsMade keep line whole
+made_told keep line text whole c on one own changed is = rw is (told text (has_change c) on one changed (keeps_told c line text one own))
 
-pub made_untold : (keep : Bool) (line text whole : List ℕ) (has : Change → Bool) → keep ≡ true → IsChanged line text has
-    → whole ≡ text ++ telling has → ¬ (IsRecord whole) → IsMade keep line text
-made_untold keep line text whole has on changed is unread = untold text has on changed (λ one. unread (rw is one))
+pub made_untold : (keep : Bool) (line text whole : List ℕ) (c : Changes) → keep ≡ true → IsOwn c.form line text
+    → IsChanged line text (has_change c) → whole ≡ text ++ telling (has_change c) → ¬ (IsRecord whole) → IsMade keep line text
+made_untold keep line text whole c on own changed is unread =
+    untold text (has_change c) on changed (keeps_position c line text own) (λ one. unread (rw is one))

@@ -1,15 +1,19 @@
 -- What `import` prints (own to this project).
 use Rattle.std.specs.Prelude.{◌≡◌, ◌≢◌, ◌⊎◌, ℕ, ◌+◌, List, [], ◌∷◌, ◌++◌, codes, decimal, map, Contains}
-use Rattle.std.specs.Prelude.{Bool, true, false, if◌then◌else◌}
+use Rattle.std.specs.Prelude.{Bool, true, false, ◌||◌, if◌then◌else◌}
 use Rattle.chess_board.specs.Characters.{char}
+use Rattle.chess_board.specs.Fens.{SpellsSetup}
 use Rattle.chess_notation.specs.Words.{is_blank}
+use Rattle.chess_notation.specs.RecordFields.{line_fields}
 use Rattle.chess_notation.specs.Records.{RecordValue, Reads}
 use Rattle.chess_notation.specs.EpdFaults.{epd_fault_name}
 use Rattle.text_lines.specs.Lines.{lines_of, without_cr}
 use Rattle.text_lines.specs.Replies.{IsReply, IsReplyToFirst}
 use Rattle.problem_import.specs.Changes.{IsAny, IsChanged, telling}
+use Rattle.problem_import.specs.Letters.{IsTextOf}
 use Rattle.problem_import.specs.Mendable.{has_clear_claims, has_nothing_to_mend}
 use Rattle.problem_import.specs.declared.changes.Change.{Change}
+use Rattle.problem_import.specs.declared.changes.Change.TheVariants.{Pgn, Popeye}
 use Rattle.problem_import.specs.declared.import_faults.ImportFault.{ImportFault}
 use Rattle.problem_import.specs.declared.import_faults.ImportFault.TheVariants.{Record, NoFen, NoBound, TwoBounds, BadStipulation}
 use Rattle.problem_import.specs.declared.import_faults.ImportFault.TheVariants.{FairyCondition, FairyPiece, UnknownCommand}
@@ -41,15 +45,23 @@ pub data AreImported (IsKind : List ℕ → Type 0) : List ℕ → Bool → Type
   refused : (number : ℕ) (fault : ImportFault) (more : List ℕ) (any : Bool) → AreImported IsKind more any
       → AreImported IsKind (refused_line number fault ++ more) true
 
+-- The record has the position that the first four words of what the line says spell.
+abbrev pub HasPositionOf : (line made : List ℕ) → Type 0
+HasPositionOf line made = (text : List ℕ) × IsTextOf line text × ((r : RecordValue) → Reads made 3 r → SpellsSetup (line_fields text) r.position)
+
+-- Unless it was made of a game or of a problem for Popeye, which was open before the line, the record has the line's position.
+abbrev pub KeepsPosition : (line made : List ℕ) → (Change → Bool) → Type 0
+KeepsPosition line made has = (has Pgn || has Popeye) ≡ false → HasPositionOf line made
+
 -- What may be printed where a line is read, or none, which is empty: the line as it stands; without `keep` what was made; with `keep` that
 -- and what was changed, unless it would be no record then.
 pub data IsMade (keep : Bool) (line : List ℕ) : List ℕ → Type 0 where
   unchanged : IsMade keep line line
-  plain : (made : List ℕ) → keep ≡ false → IsMade keep line made
+  plain : (made : List ℕ) (has : Change → Bool) → keep ≡ false → KeepsPosition line made has → IsMade keep line made
   told : (made : List ℕ) (has : Change → Bool) → keep ≡ true → IsRecord made → IsChanged line made has
-      → IsMade keep line (made ++ telling has)
-  untold : (made : List ℕ) (has : Change → Bool) → keep ≡ true → IsChanged line made has → ¬ (IsRecord (made ++ telling has))
-      → IsMade keep line made
+      → KeepsPosition line (made ++ telling has) has → IsMade keep line (made ++ telling has)
+  untold : (made : List ℕ) (has : Change → Bool) → keep ≡ true → IsChanged line made has → KeepsPosition line made has
+      → ¬ (IsRecord (made ++ telling has)) → IsMade keep line made
 
 -- The line is a record, and there is nothing to mend, no move that it claims either.
 abbrev pub IsClean : List ℕ → Type 0
@@ -92,3 +104,18 @@ IsKept keep lines line = keep ≡ true → Contains lines line ⊎ IsTold line
 abbrev pub ImportsAreRecords : Type 0
 ImportsAreRecords = (keep : Bool) (input text : List ℕ) (count : ℕ) → IsImport keep input text count
     → (any : Bool) × AreImported (IsKept keep (map without_cr (lines_of input))) text any × (count ≡ 0 → any ≡ false)
+
+-- The record tells that it was made of a game or of a problem for Popeye, or would be none if it did.
+abbrev pub IsToldOther : List ℕ → Type 0
+IsToldOther line = (made : List ℕ) × (has : Change → Bool) × ((has Pgn || has Popeye) ≡ true)
+    × ((line ≡ made ++ telling has) ⊎ (¬ (IsRecord (line ++ telling has))))
+
+-- With `keep` the record is one of these lines as it stands, or has the position of one, or is told to be of a game or for Popeye.
+abbrev pub IsPlaced : Bool → List (List ℕ) → List ℕ → Type 0
+IsPlaced keep lines line =
+    keep ≡ true → Contains lines line ⊎ (((own : List ℕ) × Contains lines own × HasPositionOf own line) ⊎ IsToldOther line)
+
+-- With `keep` each record that is printed is placed so.
+abbrev pub ImportsKeepPositions : Type 0
+ImportsKeepPositions = (keep : Bool) (input text : List ℕ) (count : ℕ) → IsImport keep input text count
+    → (any : Bool) × AreImported (IsPlaced keep (map without_cr (lines_of input))) text any

@@ -1,4 +1,7 @@
 pub mod Changes
 pub mod Imports
+pub mod LetteredImports
+pub mod Letters
 pub mod Mendable
+pub mod Problems
 pub mod inside

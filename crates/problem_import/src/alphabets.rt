@@ -2,7 +2,7 @@
 //! them for Russian and ISO 843 for Greek, without marks).
 
 /// Letters in rows, and what stands for them in that order, each behind a space. The hard and the soft sign of Russian are nothing.
-static ROWS: [(&str, &str); 13] = [
+static ROWS: [(&str, &str); 12] = [
     (
         "АБВГДЕЖЗИЙКЛМНОПРСТУФХЦЧШЩЪЫЬЭЮЯ",
         "A B V G D E Zh Z I I K L M N O P R S T U F Kh Ts Ch Sh Shch  Y  E Yu Ya",
@@ -31,7 +31,6 @@ static ROWS: [(&str, &str); 13] = [
         "ae oe o l d d th h t ng a ss ij i j k s l 'n",
     ),
     ("ǄǅǆǇǈǉǊǋǌﬀﬁﬂªº", "DZ Dz dz LJ Lj lj NJ Nj nj ff fi fl a o"),
-    ("♔♚♕♛♖♜♗♝♘♞♙♟", "K K Q Q R R B B N N P P"),
     (
         "\u{2010}\u{2011}\u{2012}\u{2013}\u{2014}\u{2212}\u{2026}\u{02bb}\u{02bc}№×½",
         "- - - - - - ... ' ' No. x 1/2",

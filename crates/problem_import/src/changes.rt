@@ -105,7 +105,9 @@ impl Changes {
     }
 
     /// The same, and a bound.
-    pub(crate) fn of_bound(self) -> Changes {
+    pub(crate) fn of_bound(self) -> Changes
+        ensures { result.form ≡ self.form }
+    {
         Changes {
             bound: true,
             ..self
@@ -113,7 +115,9 @@ impl Changes {
     }
 
     /// The same, made of another form.
-    pub(crate) fn of(self, form: Form) -> Changes {
+    pub(crate) fn of(self, form: Form) -> Changes
+        ensures { result.form ≡ form }
+    {
         Changes { form, ..self }
     }
 

@@ -194,6 +194,16 @@ impl Diagram {
         }
         Ok(())
     }
+
+    /// Adds a problem with these men, in which White moves and mates in so many moves.
+    pub(crate) fn push_problem(&self, text: &mut Vec<u8>, bound: &[u8]) -> Result<(), AllocError> {
+        self.push_placement(text)?;
+        text.extend_from_slice(b" w ")?;
+        self.push_rights(text)?;
+        text.extend_from_slice(b" - dm ")?;
+        text.extend_from_slice(bound)?;
+        push_byte(text, b';')
+    }
 }
 
 /// Adds the digit for so many empty squares, or nothing for none.

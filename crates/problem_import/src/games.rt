@@ -5,6 +5,8 @@ use crate::changes::Changes;
 use crate::import_faults::ImportFault;
 use crate::moves::is_position;
 use crate::texts::{is_same, is_word, push_bound_operation, push_byte, word_at};
+use lettered_placements::line_read;
+use move_words::Letters;
 use std::alloc::{AllocError, Global};
 use stipulations::{Asked, moves_asked};
 
@@ -158,6 +160,19 @@ fn is_key(word: &[u8]) -> bool {
     }
 }
 
+/// The value of a tag: that of `FEN` with English letters.
+fn value_read(
+    alloc: Global,
+    letters: &Letters,
+    name: &[u8],
+    value: Vec<u8>,
+) -> Result<Vec<u8>, AllocError> {
+    if letters.is_english() || !is_word(name, "FEN") {
+        return Ok(value);
+    }
+    line_read(alloc, letters, value.as_slice())
+}
+
 impl Game {
     /// Without a tag pair.
     pub(crate) fn new(alloc: Global, number: usize, changes: Changes) -> Game {
@@ -211,6 +226,7 @@ impl Game {
     pub(crate) fn take_line<'t>(
         &mut self,
         alloc: Global,
+        letters: &Letters,
         line: &'t [u8],
     ) -> Result<&'t [u8], AllocError> {
         let mut rest = line.trim_ascii_start();
@@ -222,7 +238,7 @@ impl Game {
             let (_, behind) = cut_at(more, b'"');
             let mut value = Vec::new(alloc);
             let behind = take_value(&mut value, behind)?;
-            self.take_tag(name, value);
+            self.take_tag(name, value_read(alloc, letters, name, value)?);
             rest = cut_at(behind, b']').1.trim_ascii_start();
         }
         Ok(rest)

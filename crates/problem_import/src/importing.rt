@@ -4,8 +4,9 @@ ghost use Rattle.std.specs.Prelude.{◌≡◌, ◌≢◌, ◌≤◌, ◌<◌, �
 ghost use Rattle.std.specs.Io.KnownBytes.{Appends};
 ghost use Rattle.byte_streams.specs.Inputs.{MayBe};
 ghost use Rattle.byte_streams.specs.Stops.{AppendsBy};
-ghost use Rattle.problem_import.specs.Imports.{AreImported, EndsWithLine, ImportsAreRecords, IsClean};
+ghost use Rattle.problem_import.specs.Imports.{AreImported, EndsWithLine, ImportsAreRecords, ImportsKeepPositions, IsClean};
 ghost use Rattle.problem_import.specs.Imports.{IsImport, IsImportOfFirst, IsMade, IsRecord, one_if as one_if_any};
+ghost use Rattle.problem_import.specs.inside.Findings.{AreFoundOf};
 ghost use Rattle.problem_import.specs.inside.OpenProblems.{due, has_tags};
 ghost use Rattle.problem_import.specs.inside.TagPairs.{is_tag_line};
 
@@ -13,10 +14,12 @@ use crate::changes::{Changes, Form};
 use crate::import_faults::ImportFault;
 use crate::line_kinds::{LineKind, kind_of};
 use crate::printing::{Printed, Printing};
-use crate::reading::{Finding, Found, Open, Reading, push_finding};
+use crate::reading::{Finding, Open, Reading};
+use crate::texts::trimmed;
 use byte_streams::{Input, NoMemory, Stop, put};
 use chess_moves::Rays;
 use chess_notation::{Bound, EpdFault};
+use move_words::Letters;
 use std::alloc::Global;
 use std::cell::Cell;
 use std::io::Write;
@@ -24,8 +27,8 @@ use text_lines::{LineHandler, Output, answer_input};
 
 /// What imports lines.
 #[derive(Drop)]
-struct Imports<'a> {
-    printing: Printing<'a>,
+pub(crate) struct Imports<'a> {
+    pub(crate) printing: Printing<'a>,
     /// Whether a long line is passed over, since it is one of a game. A line that is too long is refused without the memory that goes
     /// from line to line, so this stands here.
     passes: Cell<bool>,
@@ -33,7 +36,7 @@ struct Imports<'a> {
     last_long: Cell<usize>,
 }
 
-fn one_if(any: bool) -> usize
+pub(crate) fn one_if(any: bool) -> usize
     ensures { result ≡ one_if_any any }
 {
     if any { 1 } else { 0 }
@@ -48,6 +51,8 @@ fn take(
     reading: &mut Reading,
     findings: &mut Vec<Finding>,
 ) -> Result<(), NoMemory>
+    requires { kind ≡ LineKind.Mendable → IsRecord line.now }
+    ensures own { IfOk result (λ _. AreFoundOf line.now findings.old.items → AreFoundOf line.now findings.new.items) }
     ensures found { IfOk result (λ _. kind ≡ LineKind.Mendable → 0 < length findings.new.items) }
     ensures kept { IfOk result (λ _. due reading.old.open + length findings.old.items ≤ due reading.new.open + length findings.new.items) }
     ensures more { IfOk result (λ _. kind ≡ LineKind.Other → is_tag_line line.now ≡ true → has_tags reading.old.open ≡ false
@@ -60,7 +65,7 @@ fn take(
         }
         LineKind::Mendable => {
             let changes = Changes::none(Form::Line);
-            reading.take_record(alloc, number, line, true, changes, findings)?;
+            reading.take_record(alloc, number, trimmed(line), true, changes, findings)?;
             Ok(())
         }
         LineKind::Other => {
@@ -70,9 +75,54 @@ fn take(
     }
 }
 
+impl<'a> Imports<'a> {
+    /// Before the first line of an input.
+    pub(crate) fn new(rays: &'a Rays, keep: bool, bound: Option<Bound>) -> Imports<'a>
+        ensures { result.printing.keep ≡ keep }
+    {
+        Imports::lettered(rays, Letters::ENGLISH, keep, bound)
+    }
+
+    /// The same where men have such letters.
+    pub(crate) fn lettered(
+        rays: &'a Rays,
+        letters: Letters,
+        keep: bool,
+        bound: Option<Bound>,
+    ) -> Imports<'a>
+        ensures { result.printing.keep ≡ keep }
+    {
+        Imports {
+            printing: Printing {
+                rays,
+                keep,
+                bound,
+                letters,
+            },
+            passes: Cell::new(false),
+            last_long: Cell::new(0),
+        }
+    }
+}
+
 impl Imports<'_> {
+    /// Begins with the first line of another input.
+    pub(crate) fn begin(&self) {
+        self.passes.set(false);
+        self.last_long.set(0);
+    }
+
+    /// Whether a line that is too long is passed over, since it is one of a game; it is noted then.
+    pub(crate) fn passes_long(&self, number: usize) -> bool {
+        let passes = self.passes.get();
+        if passes {
+            self.last_long.set(number);
+        }
+        passes
+    }
+
     /// What was found once a line is taken.
-    fn findings(
+    pub(crate) fn findings(
         &self,
         alloc: Global,
         number: usize,
@@ -80,6 +130,8 @@ impl Imports<'_> {
         kind: LineKind,
         reading: &mut Reading,
     ) -> Result<Vec<Finding>, NoMemory>
+        requires { kind ≡ LineKind.Mendable → IsRecord line.now }
+        ensures own { IfOk result (λ findings. AreFoundOf line.now findings.items) }
         ensures found { IfOk result (λ findings. kind ≡ LineKind.Mendable → 0 < length findings.items) }
         ensures kept { IfOk result (λ findings. due reading.old.open ≤ due reading.new.open + length findings.items) }
         ensures more { IfOk result (λ findings. kind ≡ LineKind.Other → is_tag_line line.now ≡ true → has_tags reading.old.open ≡ false
@@ -125,7 +177,7 @@ impl Imports<'_> {
 }
 
 /// What is printed, as the reply to a line.
-fn output_of(printed: Printed) -> Output
+pub(crate) fn output_of(printed: Printed) -> Output
     ensures text { result.text.items ≡ printed.text.items }
     ensures refused { result.refused ≡ one_if_any printed.any }
     ensures few { result.refused ≤ 1 }
@@ -158,14 +210,11 @@ impl LineHandler for Imports<'_> {
     }
 
     fn refuse_long(&self, alloc: Global, number: usize) -> Result<Output, NoMemory> {
-        let mut findings = Vec::new(alloc);
-        if self.passes.get() {
-            self.last_long.set(number);
-        } else {
-            let found = Found::Fault(ImportFault::Record(EpdFault::TooLong));
-            push_finding(&mut findings, Finding { number, found })?;
+        let mut printed = Printed::new(alloc);
+        if self.passes_long(number) {
+            return Ok(output_of(printed));
         }
-        let printed = self.printing.printed(alloc, b"", findings.as_slice())?;
+        printed.push_refusal(alloc, number, ImportFault::Record(EpdFault::TooLong))?;
         Ok(output_of(printed))
     }
 
@@ -175,7 +224,7 @@ impl LineHandler for Imports<'_> {
 }
 
 /// Writes what is printed once the input has ended; gives at how many lines, its end for one, a problem is refused.
-fn put_last<O: Write>(
+pub(crate) fn put_last<O: Write>(
     alloc: Global,
     imports: &Imports<'_>,
     count: usize,
@@ -239,11 +288,7 @@ pub fn import_input<I: Input + Drop, O: Write>(
         × AppendsBy stop (O.contents out.old) (O.contents out.new) text) }
     ensures unreadable { IfErr result (λ stop. stop ≡ Stop.Unreadable → I.breaks input) }
 {
-    let imports = Imports {
-        printing: Printing { rays, keep, bound },
-        passes: Cell::new(false),
-        last_long: Cell::new(0),
-    };
+    let imports = Imports::new(rays, keep, bound);
     let mut reading = Reading::new();
     import_lines(alloc, &imports, input, &mut reading, out)
 }
@@ -251,4 +296,9 @@ pub fn import_input<I: Input + Drop, O: Write>(
 /// A law: whatever was read, records and refusals are printed.
 pub fn imports_are_records()
     ensures { ImportsAreRecords }
+{}
+
+/// A law: with `keep` each record that is printed has the position of a line, or is told to be of a game or for Popeye.
+pub fn imports_keep_positions()
+    ensures { ImportsKeepPositions }
 {}

@@ -1,29 +1,40 @@
-//! Collections of problems as they are found, made into records: lines of EPD and FEN that want mending, games in PGN, Popeye's input.
+//! Collections of problems as they are found, made into records: lines of EPD and FEN that want mending, games in PGN, Popeye's input, files
+//! of Olive's; men may have the letters of another language.
 //!
 //! What a record is, is `chess_notation`'s business, and lines are `text_lines`'s. To read: `specs/Imports.antt` and `importing`, where
-//! the law of what is printed stands, over `printing` and `import_faults`; `reading`, which tells the forms apart; then each form:
-//! `mending` (over `tokens`, `lengths`, `letters`, `alphabets` and `changes`) and `moves`, `games` (and `tag_pairs`), and `popeye` (over `popeye_words`
-//! and `diagrams`).
+//! the law of what is printed stands, over `printing` and `import_faults`; `lettered_imports`, the same by another language's letters;
+//! `reading`, which tells the forms apart; then each form: `mending` (over `fields`, `tokens`, `lengths`, `letters`, `alphabets`,
+//! `figurines` and `changes`) and `moves`, `games` (and `tag_pairs`), `popeye` (over `popeye_words` and `diagrams`), and `olive`.
 #![tactic(auto)]
 
 mod alphabets;
 mod changes;
 mod diagrams;
+mod fields;
+mod figurines;
 mod games;
 mod import_faults;
 mod importing;
 mod lengths;
+mod lettered_imports;
 mod letters;
 mod line_kinds;
+mod made_records;
 mod mending;
 mod moves;
+mod olive;
 mod popeye;
 mod popeye_words;
 mod printing;
+mod problem_handlers;
+mod problem_lines;
 mod reading;
 mod tag_pairs;
 mod texts;
 mod tokens;
 
 pub use import_faults::ImportFault;
-pub use importing::{import_input, imports_are_records};
+pub use importing::{import_input, imports_are_records, imports_keep_positions};
+pub use lettered_imports::{import_input_in, lettered_are_records};
+pub use problem_handlers::ProblemHandler;
+pub use problem_lines::{ProblemLines, ProblemMemory, answer_problems, answers_are_imports};

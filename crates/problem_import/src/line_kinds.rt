@@ -117,6 +117,7 @@ pub(crate) fn kind_of(alloc: Global, rays: &Rays, line: &[u8]) -> Result<LineKin
     ensures record { IfOk result (λ kind. kind ≡ LineKind.Clean → IsRecord line.now) }
     ensures other { IfOk result (λ kind. kind ≡ LineKind.Other → ¬ (IsRecord line.now)) }
     ensures mendable { IfOk result (λ kind. kind ≡ LineKind.Mendable → ¬ (IsClean line.now)) }
+    ensures mended { IfOk result (λ kind. kind ≡ LineKind.Mendable → IsRecord line.now) }
 {
     let Some(position) = position_in(alloc, rays, line)? else {
         return Ok(LineKind::Other);

@@ -1,8 +1,12 @@
 //! A line of EPD or FEN, mended.
 
+ghost use Rattle.std.specs.Prelude.{IfOk};
+ghost use Rattle.problem_import.specs.inside.Findings.{IsMendedOf};
+
 use crate::changes::Changes;
+use crate::fields::{field_words, push_counters};
 use crate::lengths::{length_digits, mate_digits};
-use crate::texts::{are_digits, is_same, push_bound_operation, push_byte, trimmed, word_at};
+use crate::texts::{is_same, push_bound_operation, push_byte, trimmed, word_at};
 use crate::tokens::{Kind, Token, segment_at, token_at};
 use std::alloc::{AllocError, Global};
 use stipulations::{Asked, moves_asked};
@@ -11,6 +15,7 @@ use stipulations::{Asked, moves_asked};
 #[derive(Drop)]
 struct Mending<'a> {
     alloc: Global,
+    /// What stands behind its four fields.
     text: Vec<u8>,
     changes: &'a mut Changes,
     /// Whether it has a bound, or the line has.
@@ -338,23 +343,6 @@ impl Mending<'_> {
         }
         Ok(())
     }
-
-    /// Adds four fields and two counters, as far as they are there; gives what stands behind.
-    fn push_fields<'t>(&mut self, line: &'t [u8]) -> Result<&'t [u8], AllocError> {
-        let mut rest = line;
-        for index in 0..6 {
-            let (word, behind) = word_at(rest);
-            if index > 3 && !are_digits(word) {
-                break;
-            }
-            if index > 0 {
-                self.text.push(b' ')?;
-            }
-            self.text.extend_from_slice(word)?;
-            rest = behind;
-        }
-        Ok(rest)
-    }
 }
 
 /// What a line is once it is mended.
@@ -366,12 +354,18 @@ pub(crate) enum Mended {
     Two,
 }
 
-/// A line in printable ASCII, mended.
+/// A line in printable ASCII, mended. One that has fewer words than a position has fields stays as it is.
 pub(crate) fn mended_line(
     alloc: Global,
     line: &[u8],
     changes: &mut Changes,
-) -> Result<Mended, AllocError> {
+) -> Result<Mended, AllocError>
+    ensures { IfOk result (IsMendedOf line.now) }
+{
+    let fields = field_words(line);
+    if fields.target.is_empty() {
+        return Ok(Mended::Text(Vec::from_slice(alloc, line)?, false));
+    }
     let mut mending = Mending {
         alloc,
         text: Vec::new(alloc),
@@ -379,7 +373,7 @@ pub(crate) fn mended_line(
         is_bound: false,
         comments: 0,
     };
-    let operations = mending.push_fields(line)?;
+    let operations = push_counters(&mut mending.text, fields.behind)?;
     mending.is_bound = has_bound(operations);
     mending.comments = next_comment(operations);
     let asked = asked_in(operations);
@@ -389,5 +383,5 @@ pub(crate) fn mended_line(
     mending.push_operations(operations)?;
     mending.push_asked(asked)?;
     let Mending { text, is_bound, .. } = mending;
-    Ok(Mended::Text(text, is_bound))
+    Ok(Mended::Text(fields.text_before(alloc, text.as_slice())?, is_bound))
 }

@@ -1,22 +1,25 @@
 //! The moves that a record claims and avoids, mended: each that is named otherwise than in SAN.
 
-ghost use Rattle.std.specs.Prelude.{◌≡◌, IfSome};
+ghost use Rattle.std.specs.Prelude.{◌≡◌, IfOk, IfSome};
+ghost use Rattle.chess_notation.specs.RecordFields.{line_fields};
 ghost use Rattle.problem_import.specs.inside.MendedMoves.{IsMeant};
 
 use crate::changes::Changes;
-use crate::texts::{are_digits, is_same, push_byte, trimmed, word_at};
+use crate::fields::{behind_counters, field_words, push_counters};
+use crate::texts::{is_same, push_byte, push_word, trimmed, word_at};
 use crate::tokens::{Kind, segment_at, token_at};
 use arrayvec::ArrayString;
-use chess_board::{Position, read_fields};
+use chess_board::Position;
 use chess_moves::Rays;
 use chess_notation::{claimed_moves, san};
-use move_words::{Named, is_aside, named_move};
+use move_words::{Letters, Named, is_aside, named_move};
 use std::alloc::{AllocError, Global};
 
-/// A text that is made anew, and whether a move was mended in it.
+/// What stands behind four fields, made anew, and whether a move was mended in it.
 #[derive(Drop)]
 struct Moves<'a> {
     rays: &'a Rays,
+    letters: &'a Letters,
     position: &'a Position,
     text: Vec<u8>,
     is_mended: bool,
@@ -42,11 +45,16 @@ fn have_moves(operations: &[u8]) -> bool {
     false
 }
 
-/// The text in SAN of the one legal move that a word names as people write moves.
-fn san_meant(rays: &Rays, position: &Position, word: &[u8]) -> Option<ArrayString<8>>
-    ensures { IfSome result (λ text. IsMeant position.now word.now text.bytes) }
+/// The text in SAN of the one legal move that a word names as people write moves, under these letters.
+fn san_meant(
+    rays: &Rays,
+    letters: &Letters,
+    position: &Position,
+    word: &[u8],
+) -> Option<ArrayString<8>>
+    ensures { IfSome result (λ text. IsMeant letters.now position.now word.now text.bytes) }
 {
-    match named_move(rays, position, word) {
+    match named_move(rays, letters, position, word) {
         Named::One(m) => Some(san(rays, position, m)),
         Named::No | Named::Several => None,
     }
@@ -55,7 +63,29 @@ fn san_meant(rays: &Rays, position: &Position, word: &[u8]) -> Option<ArrayStrin
 impl Moves<'_> {
     /// Adds a word behind a space.
     fn push(&mut self, word: &[u8]) -> Result<(), AllocError> {
-        self.text.push(b' ')?;
+        push_word(&mut self.text, word)
+    }
+
+    /// Whether a word says a number of moves, or a move as SAN has it.
+    fn is_said(&self, word: &[u8]) -> bool {
+        claimed_moves(self.rays, self.position, word).is_ok()
+    }
+
+    /// Whether a word is one that stays: a number of moves, or, where men have their English letters, a move as SAN has it.
+    fn stays(&self, word: &[u8]) -> bool {
+        match claimed_moves(self.rays, self.position, word) {
+            Ok(moves) => self.letters.is_english() || moves.is_empty(),
+            Err(_) => false,
+        }
+    }
+
+    /// Adds a word that names no move under the letters: behind `?` where it would be one in English.
+    fn push_unnamed(&mut self, word: &[u8]) -> Result<(), AllocError> {
+        if !self.is_said(word) {
+            return self.push(word);
+        }
+        self.is_mended = true;
+        self.push(b"?")?;
         self.text.extend_from_slice(word)
     }
 
@@ -65,11 +95,12 @@ impl Moves<'_> {
             self.is_mended = true;
             return Ok(());
         }
-        let Some(text) = san_meant(self.rays, self.position, word) else {
-            return self.push(word);
+        let Some(text) = san_meant(self.rays, self.letters, self.position, word) else {
+            return self.push_unnamed(word);
         };
-        self.is_mended = true;
-        self.push(text.as_str().as_bytes())
+        let text = text.as_str().as_bytes();
+        self.is_mended = self.is_mended || text != word;
+        self.push(text)
     }
 
     /// Adds operands that are moves: those that stand as they have to, as they are.
@@ -81,9 +112,7 @@ impl Moves<'_> {
             };
             let taken = rest.len().saturating_sub(token.rest.len()).min(rest.len());
             let word = trimmed(rest.split_at(taken).0);
-            if !matches!(token.kind, Kind::Word)
-                || claimed_moves(self.rays, self.position, word).is_ok()
-            {
+            if !matches!(token.kind, Kind::Word) || self.stays(word) {
                 self.push(word)?;
             } else {
                 self.push_mended(word)?;
@@ -114,55 +143,45 @@ impl Moves<'_> {
     }
 }
 
-/// The position of a text's four fields, if they say one.
-fn position_of(text: &[u8]) -> Option<Position> {
-    let (placement, rest) = word_at(text);
-    let (side, rest) = word_at(rest);
-    let (castling, rest) = word_at(rest);
-    let (target, _) = word_at(rest);
-    read_fields(placement, side, castling, target).ok()
-}
-
-/// What stands behind four fields, and two counters if they are there.
-fn operations_of(text: &[u8]) -> &[u8] {
-    let mut rest = text;
-    for index in 0..6 {
-        let (word, behind) = word_at(rest);
-        if index > 3 && !are_digits(word) {
-            break;
-        }
-        rest = behind;
-    }
-    rest
-}
-
 /// Whether a text is a position, and counters if they are there, and no operation stands behind.
 pub(crate) fn is_position(text: &[u8]) -> bool {
-    position_of(text).is_some() && trimmed(operations_of(text)).is_empty()
+    let fields = field_words(text);
+    fields.position().is_some() && trimmed(behind_counters(fields.behind)).is_empty()
 }
 
 /// A text whose moves are mended, or none where none wants it.
-fn mended(alloc: Global, rays: &Rays, text: &[u8]) -> Result<Option<Vec<u8>>, AllocError> {
-    let operations = operations_of(text);
+fn mended(
+    alloc: Global,
+    rays: &Rays,
+    letters: &Letters,
+    text: &[u8],
+) -> Result<Option<Vec<u8>>, AllocError>
+    ensures { IfOk result (λ made. IfSome made (λ new. line_fields new.items ≡ line_fields text.now)) }
+{
+    let fields = field_words(text);
+    let mut counters = Vec::new(alloc);
+    let operations = push_counters(&mut counters, fields.behind)?;
+    if fields.target.is_empty() {
+        return Ok(None);
+    }
     if !have_moves(operations) {
         return Ok(None);
     }
-    let Some(position) = position_of(text) else {
+    let Some(position) = fields.position() else {
         return Ok(None);
     };
-    let fields = text.len().saturating_sub(operations.len()).min(text.len());
     let mut moves = Moves {
         rays,
+        letters,
         position: &position,
-        text: Vec::from_slice(alloc, text.split_at(fields).0)?,
+        text: counters,
         is_mended: false,
     };
     moves.push_operations(operations)?;
-    Ok(if moves.is_mended {
-        Some(moves.text)
-    } else {
-        None
-    })
+    if !moves.is_mended {
+        return Ok(None);
+    }
+    Ok(Some(fields.text_before(alloc, moves.text.as_slice())?))
 }
 
 /// A text in which each move that it claims or avoids is named in SAN, as far as one legal move can be meant; a move's number and `ep` are
@@ -170,10 +189,14 @@ fn mended(alloc: Global, rays: &Rays, text: &[u8]) -> Result<Option<Vec<u8>>, Al
 pub(crate) fn with_moves(
     alloc: Global,
     rays: &Rays,
+    letters: &Letters,
     text: &[u8],
     changes: &mut Changes,
-) -> Result<Vec<u8>, AllocError> {
-    match mended(alloc, rays, text)? {
+) -> Result<Vec<u8>, AllocError>
+    ensures fields { IfOk result (λ made. line_fields made.items ≡ line_fields text.now) }
+    ensures form { changes.new.form ≡ changes.old.form }
+{
+    match mended(alloc, rays, letters, text)? {
         Some(mended) => {
             changes.moves = true;
             Ok(mended)

@@ -182,12 +182,7 @@ impl PopeyeProblem {
     /// What is made of the problem, read as a record: White moves, and castling is allowed where king and rook stand at home.
     pub(crate) fn text(&self, alloc: Global) -> Result<Vec<u8>, AllocError> {
         let mut text = Vec::new(alloc);
-        self.diagram.push_placement(&mut text)?;
-        text.extend_from_slice(b" w ")?;
-        self.diagram.push_rights(&mut text)?;
-        text.extend_from_slice(b" - dm ")?;
-        text.extend_from_slice(self.bound.as_slice())?;
-        text.push(b';')?;
+        self.diagram.push_problem(&mut text, self.bound.as_slice())?;
         push_id_operation(&mut text, self.id.as_slice())?;
         Ok(text)
     }

@@ -4,9 +4,12 @@ ghost use Rattle.std.specs.Prelude.{◌≡◌, ◌<◌, ◌++◌, ◌∷◌, [],
 ghost use Rattle.chess_board.specs.Characters.{char};
 ghost use Rattle.problem_import.specs.Changes.{telling};
 ghost use Rattle.problem_import.specs.Imports.{AreImported, EndsWithLine, IsMade, IsRecord, refused_line};
+ghost use Rattle.problem_import.specs.inside.FieldTexts.{GoesOn};
+ghost use Rattle.problem_import.specs.inside.Findings.{AreFoundOf, IsFoundOf, IsOwn};
 ghost use Rattle.problem_import.specs.inside.KeptChanges.{has_change};
 
 use crate::changes::Changes;
+use crate::fields::push_behind;
 use crate::import_faults::ImportFault;
 use crate::line_kinds::{LineKind, record_fault};
 use crate::moves::with_moves;
@@ -15,6 +18,7 @@ use crate::texts::push_bound_operation;
 use byte_streams::NoMemory;
 use chess_moves::Rays;
 use chess_notation::Bound;
+use move_words::Letters;
 use std::alloc::{AllocError, Global};
 
 /// What is printed, and whether a problem is refused there.
@@ -24,12 +28,14 @@ pub(crate) struct Printed {
     pub(crate) any: bool,
 }
 
-/// How what is printed goes on records: whether what was changed to make them is told, and the bound of those that say none.
+/// How what is printed goes on records: whether what was changed to make them is told, the bound of those that say none, and the letters of
+/// men in the moves that they claim and avoid.
 #[derive(Clone, Copy)]
 pub(crate) struct Printing<'a> {
     pub(crate) rays: &'a Rays,
     pub(crate) keep: bool,
     pub(crate) bound: Option<Bound>,
+    pub(crate) letters: Letters,
 }
 
 /// A record, and behind it the operation that tells what was changed.
@@ -44,9 +50,13 @@ fn telling_text(alloc: Global, text: &[u8], changes: &Changes) -> Result<Vec<u8>
 }
 
 /// A record that says no number of moves, with this bound.
-fn with_bound(alloc: Global, text: &[u8], bound: Bound) -> Result<Vec<u8>, AllocError> {
+fn with_bound(alloc: Global, text: &[u8], bound: Bound) -> Result<Vec<u8>, AllocError>
+    ensures { IfOk result (λ bounded. GoesOn text.now bounded.items) }
+{
+    let mut operation = Vec::new(alloc);
+    push_bound_operation(&mut operation, bound.get())?;
     let mut bounded = Vec::from_slice(alloc, text)?;
-    push_bound_operation(&mut bounded, bound.get())?;
+    push_behind(&mut bounded, operation.as_slice())?;
     Ok(bounded)
 }
 
@@ -115,7 +125,7 @@ impl Printed {
     }
 
     /// Adds a refusal.
-    fn push_refusal(
+    pub(crate) fn push_refusal(
         &mut self,
         alloc: Global,
         number: usize,
@@ -141,7 +151,8 @@ impl Printing<'_> {
         text: &[u8],
         changes: &Changes,
     ) -> Result<Option<Vec<u8>>, NoMemory>
-        requires { IsRecord text.now }
+        requires record { IsRecord text.now }
+        requires own { IsOwn changes.now.form line.now text.now }
         ensures record { IfOk result (λ told. IfSome told (λ more. IsRecord more.items)) }
         ensures told { IfOk result (λ told. IfSome told (λ more. IsMade self.now.keep line.now more.items)) }
         ensures none { IfOk result (λ told. IfNone told (IsMade self.now.keep line.now text.now)) }
@@ -168,7 +179,8 @@ impl Printing<'_> {
         text: &[u8],
         changes: &Changes,
     ) -> Result<(), NoMemory>
-        requires { IsRecord text.now }
+        requires record { IsRecord text.now }
+        requires own { IsOwn changes.now.form line.now text.now }
         ensures imported { IfOk result (λ _. AreImported (IsMade self.now.keep line.now) printed.old.text.items printed.old.any
             → AreImported (IsMade self.now.keep line.now) printed.new.text.items printed.new.any) }
         ensures filled { IfOk result (λ _. 0 < length printed.new.text.items) }
@@ -191,6 +203,7 @@ impl Printing<'_> {
         text: &[u8],
         changes: &Changes,
     ) -> Result<(), NoMemory>
+        requires { IsOwn changes.now.form line.now text.now }
         ensures imported { IfOk result (λ _. AreImported (IsMade self.now.keep line.now) printed.old.text.items printed.old.any
             → AreImported (IsMade self.now.keep line.now) printed.new.text.items printed.new.any) }
         ensures filled { IfOk result (λ _. 0 < length printed.new.text.items) }
@@ -212,6 +225,7 @@ impl Printing<'_> {
         text: &[u8],
         changes: &Changes,
     ) -> Result<(), NoMemory>
+        requires { IsOwn changes.now.form line.now text.now }
         ensures imported { IfOk result (λ _. AreImported (IsMade self.now.keep line.now) printed.old.text.items printed.old.any
             → AreImported (IsMade self.now.keep line.now) printed.new.text.items printed.new.any) }
         ensures filled { IfOk result (λ _. 0 < length printed.new.text.items) }
@@ -237,6 +251,7 @@ impl Printing<'_> {
         line: &[u8],
         finding: &Finding,
     ) -> Result<(), NoMemory>
+        requires { IsFoundOf line.now finding.now.found }
         ensures imported { IfOk result (λ _. AreImported (IsMade self.now.keep line.now) printed.old.text.items printed.old.any
             → AreImported (IsMade self.now.keep line.now) printed.new.text.items printed.new.any) }
         ensures filled { IfOk result (λ _. 0 < length printed.new.text.items) }
@@ -244,7 +259,13 @@ impl Printing<'_> {
         match &finding.found {
             Found::Text(text, changes, is_bound) => {
                 let mut changes = *changes;
-                let text = with_moves(alloc, self.rays, text.as_slice(), &mut changes)?;
+                let text = with_moves(
+                    alloc,
+                    self.rays,
+                    &self.letters,
+                    text.as_slice(),
+                    &mut changes,
+                )?;
                 let text = text.as_slice();
                 if *is_bound {
                     self.push_text(alloc, printed, line, finding.number, text, &changes)
@@ -266,6 +287,7 @@ impl Printing<'_> {
         line: &[u8],
         findings: &[Finding],
     ) -> Result<Printed, NoMemory>
+        requires { AreFoundOf line.now findings.now }
         ensures imported { IfOk result (λ printed. AreImported (IsMade self.now.keep line.now) printed.text.items printed.any) }
         ensures filled { IfOk result (λ printed. 0 < length findings.now → 0 < length printed.text.items) }
     {

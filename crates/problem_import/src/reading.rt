@@ -1,6 +1,8 @@
 //! The forms told apart, line by line, and what the lines so far have said of problems that are open.
 
-ghost use Rattle.std.specs.Prelude.{◌≡◌, ◌≤◌, ◌<◌, ◌+◌, IfOk, length, false, true};
+ghost use Rattle.std.specs.Prelude.{◌≡◌, ◌≤◌, ◌<◌, ◌+◌, ℕ, List, IfOk, length, false, true};
+ghost use Rattle.problem_import.specs.Letters.{IsTextOf};
+ghost use Rattle.problem_import.specs.inside.Findings.{AreFoundOf, IsFoundOf};
 ghost use Rattle.problem_import.specs.inside.OpenProblems.{due, goes_on as does_go_on, has_tags};
 ghost use Rattle.problem_import.specs.inside.TagPairs.{is_tag_line, is_tag_pair as is_tag_pair_text};
 
@@ -9,10 +11,12 @@ use crate::games::{Game, Movetext};
 use crate::import_faults::ImportFault;
 use crate::letters::ascii_text;
 use crate::mending::{Mended, mended_line};
+use crate::olive::{OliveProblem, is_border};
 use crate::popeye::PopeyeProblem;
 use crate::popeye_words::{Command, command_of};
 use crate::tag_pairs::{begins_with, is_tag_pair};
 use crate::texts::{trimmed, word_at};
+use move_words::Letters;
 use std::alloc::{AllocError, Global};
 
 /// What was found of a problem: what its record is to be, or why there is none.
@@ -37,11 +41,14 @@ pub(crate) enum Open {
     Game(Game),
     Movetext(Movetext),
     Popeye(PopeyeProblem),
+    Olive(OliveProblem),
 }
 
 /// Adds a finding.
 pub(crate) fn push_finding(findings: &mut Vec<Finding>, finding: Finding) -> Result<(), AllocError>
-    ensures { IfOk result (λ _. length findings.new.items ≡ length findings.old.items + 1) }
+    ensures length { IfOk result (λ _. length findings.new.items ≡ length findings.old.items + 1) }
+    ensures own { IfOk result (λ _. (line : List ℕ) → AreFoundOf line findings.old.items → IsFoundOf line finding.found
+        → AreFoundOf line findings.new.items) }
 {
     findings.push(finding)?;
     Ok(())
@@ -53,6 +60,8 @@ pub(crate) struct Reading {
     pub(crate) open: Open,
     /// The number of the last line that wasn't blank.
     last: usize,
+    /// The letters of men in games, and those that figurines stand for.
+    letters: Letters,
 }
 
 /// Whether a text begins with a placement, as far as can be seen: its first word has three strokes.
@@ -74,9 +83,15 @@ fn is_remark(text: &[u8]) -> bool {
 impl Reading {
     /// Before the first line.
     pub(crate) fn new() -> Reading {
+        Reading::lettered(Letters::ENGLISH)
+    }
+
+    /// Before the first line, where men have such letters.
+    pub(crate) fn lettered(letters: Letters) -> Reading {
         Reading {
             open: Open::Nothing,
             last: 0,
+            letters,
         }
     }
 
@@ -93,12 +108,14 @@ impl Reading {
         findings: &mut Vec<Finding>,
     ) -> Result<(), AllocError>
         ensures found { IfOk result (λ _. length findings.new.items ≡ due self.old.open + length findings.old.items) }
+        ensures own { IfOk result (λ _. (line : List ℕ) → AreFoundOf line findings.old.items → AreFoundOf line findings.new.items) }
         ensures next { self.new.open ≡ next }
     {
         let open = std::mem::replace(&mut self.open, next);
         match open {
             Open::Game(game) => finish_game(alloc, game, findings),
             Open::Popeye(problem) => finish_popeye(alloc, &problem, findings),
+            Open::Olive(problem) => finish_olive(alloc, problem, findings),
             Open::Nothing | Open::Movetext(_) => Ok(()),
         }
     }
@@ -120,7 +137,7 @@ impl Reading {
         match &self.open {
             Open::Game(game) => game.in_comment,
             Open::Movetext(movetext) => movetext.in_comment,
-            Open::Nothing | Open::Popeye(_) => false,
+            Open::Nothing | Open::Popeye(_) | Open::Olive(_) => false,
         }
     }
 
@@ -132,13 +149,14 @@ impl Reading {
         findings: &mut Vec<Finding>,
     ) -> Result<(), AllocError>
         ensures kept { IfOk result (λ _. due self.old.open + length findings.old.items ≤ due self.new.open + length findings.new.items) }
+        ensures own { IfOk result (λ _. (line : List ℕ) → AreFoundOf line findings.old.items → AreFoundOf line findings.new.items) }
         ensures tags { IfOk result (λ _. does_go_on self.old.open self.old.last number ≡ false
             → does_go_on self.new.open self.new.last number ≡ false) }
     {
         let has_begun = match &self.open {
             Open::Game(game) => game.is_begun,
             Open::Movetext(_) => true,
-            Open::Nothing | Open::Popeye(_) => false,
+            Open::Nothing | Open::Popeye(_) | Open::Olive(_) => false,
         };
         if !has_begun || number <= self.last.saturating_add(1) {
             return Ok(());
@@ -155,6 +173,7 @@ impl Reading {
         findings: &mut Vec<Finding>,
     ) -> Result<(), AllocError>
         ensures kept { IfOk result (λ _. due self.old.open + length findings.old.items ≤ due self.new.open + length findings.new.items) }
+        ensures own { IfOk result (λ _. (line : List ℕ) → AreFoundOf line findings.old.items → AreFoundOf line findings.new.items) }
         ensures tags { IfOk result (λ _. has_tags self.old.open ≡ false → has_tags self.new.open ≡ false) }
     {
         if number <= self.last || !self.passes() {
@@ -192,6 +211,7 @@ impl Reading {
         findings: &mut Vec<Finding>,
     ) -> Result<(), AllocError>
         ensures kept { IfOk result (λ _. due self.old.open + length findings.old.items ≤ due self.new.open + length findings.new.items) }
+        ensures own { IfOk result (λ _. (line : List ℕ) → AreFoundOf line findings.old.items → AreFoundOf line findings.new.items) }
         ensures more { IfOk result (λ _. does_go_on self.old.open self.old.last number ≡ false
             → due self.old.open + length findings.old.items < due self.new.open + length findings.new.items) }
     {
@@ -213,6 +233,7 @@ impl Reading {
         findings: &mut Vec<Finding>,
     ) -> Result<&'t [u8], AllocError>
         ensures kept { IfOk result (λ _. due self.old.open + length findings.old.items ≤ due self.new.open + length findings.new.items) }
+        ensures own { IfOk result (λ _. (line : List ℕ) → AreFoundOf line findings.old.items → AreFoundOf line findings.new.items) }
         ensures more { IfOk result (λ _. does_go_on self.old.open self.old.last number ≡ false
             → due self.old.open + length findings.old.items < due self.new.open + length findings.new.items) }
     {
@@ -220,7 +241,7 @@ impl Reading {
         match &mut self.open {
             Open::Game(game) => {
                 game.changes = game.changes.and(changes);
-                game.take_line(alloc, line)
+                game.take_line(alloc, &self.letters, line)
             }
             _ => Ok(&[]),
         }
@@ -235,7 +256,8 @@ impl Reading {
         changes: Changes,
         findings: &mut Vec<Finding>,
     ) -> Result<(), AllocError>
-        ensures { IfOk result (λ _. due self.old.open + length findings.old.items ≤ due self.new.open + length findings.new.items) }
+        ensures kept { IfOk result (λ _. due self.old.open + length findings.old.items ≤ due self.new.open + length findings.new.items) }
+        ensures own { IfOk result (λ _. (line : List ℕ) → AreFoundOf line findings.old.items → AreFoundOf line findings.new.items) }
     {
         let Open::Popeye(problem) = &mut self.open else {
             return Ok(());
@@ -255,6 +277,29 @@ impl Reading {
         Ok(())
     }
 
+    /// Takes a line of a problem of Olive's.
+    fn take_olive(
+        &mut self,
+        alloc: Global,
+        line: &[u8],
+        changes: Changes,
+        findings: &mut Vec<Finding>,
+    ) -> Result<(), AllocError>
+        ensures kept { IfOk result (λ _. due self.old.open + length findings.old.items ≤ due self.new.open + length findings.new.items) }
+        ensures own { IfOk result (λ _. (line : List ℕ) → AreFoundOf line findings.old.items → AreFoundOf line findings.new.items) }
+    {
+        let Open::Olive(problem) = &mut self.open else {
+            return Ok(());
+        };
+        problem.changes = problem.changes.and(changes);
+        problem.take_line(line)?;
+        if !problem.is_ended {
+            return Ok(());
+        }
+        self.finish(alloc, Open::Nothing, findings)?;
+        Ok(())
+    }
+
     /// Takes a line of movetext up to the first move of the game that is open, which ends it.
     fn take_moves(
         &mut self,
@@ -262,7 +307,8 @@ impl Reading {
         line: &[u8],
         findings: &mut Vec<Finding>,
     ) -> Result<(), AllocError>
-        ensures { IfOk result (λ _. due self.old.open + length findings.old.items ≤ due self.new.open + length findings.new.items) }
+        ensures kept { IfOk result (λ _. due self.old.open + length findings.old.items ≤ due self.new.open + length findings.new.items) }
+        ensures own { IfOk result (λ _. (line : List ℕ) → AreFoundOf line findings.old.items → AreFoundOf line findings.new.items) }
     {
         let Open::Game(game) = &mut self.open else {
             return Ok(());
@@ -285,7 +331,8 @@ impl Reading {
         line: &[u8],
         findings: &mut Vec<Finding>,
     ) -> Result<(), AllocError>
-        ensures { IfOk result (λ _. due self.old.open + length findings.old.items ≤ due self.new.open + length findings.new.items) }
+        ensures kept { IfOk result (λ _. due self.old.open + length findings.old.items ≤ due self.new.open + length findings.new.items) }
+        ensures own { IfOk result (λ _. (line : List ℕ) → AreFoundOf line findings.old.items → AreFoundOf line findings.new.items) }
     {
         self.take_moves(alloc, line, findings)?;
         self.pass(line);
@@ -303,15 +350,14 @@ impl Reading {
         findings: &mut Vec<Finding>,
     ) -> Result<(), AllocError>
         ensures found { IfOk result (λ _. length findings.new.items ≡ due self.old.open + length findings.old.items + 1) }
+        ensures own { IfOk result (λ _. (whole : List ℕ) → IsTextOf whole line.now → AreFoundOf whole findings.old.items
+            → AreFoundOf whole findings.new.items) }
         ensures ended { IfOk result (λ _. self.new.open ≡ Open.Nothing) }
     {
         self.finish(alloc, Open::Nothing, findings)?;
-        let mut changes = changes;
-        let found = match mended_line(alloc, line, &mut changes)? {
-            Mended::Text(text, is_bound) => Found::Text(text, changes, is_bound || is_record),
-            Mended::Two => Found::Fault(ImportFault::TwoBounds),
-        };
-        push_finding(findings, Finding { number, found })
+        let found = found_line(alloc, line, is_record, changes)?;
+        push_finding(findings, Finding { number, found })?;
+        Ok(())
     }
 
     /// Begins a problem for Popeye behind its first word.
@@ -323,11 +369,70 @@ impl Reading {
         changes: Changes,
         findings: &mut Vec<Finding>,
     ) -> Result<(), AllocError>
-        ensures { IfOk result (λ _. due self.old.open + length findings.old.items < due self.new.open + length findings.new.items) }
+        ensures more { IfOk result (λ _. due self.old.open + length findings.old.items < due self.new.open + length findings.new.items) }
+        ensures own { IfOk result (λ _. (line : List ℕ) → AreFoundOf line findings.old.items → AreFoundOf line findings.new.items) }
     {
         let problem = PopeyeProblem::new(alloc, number, Changes::none(Form::Popeye));
         self.finish(alloc, Open::Popeye(problem), findings)?;
         self.take_popeye(alloc, number, behind, changes, findings)?;
+        Ok(())
+    }
+
+    /// Begins a problem of Olive's behind its first line.
+    fn begin_olive(
+        &mut self,
+        alloc: Global,
+        number: usize,
+        findings: &mut Vec<Finding>,
+    ) -> Result<(), AllocError>
+        ensures more { IfOk result (λ _. due self.old.open + length findings.old.items < due self.new.open + length findings.new.items) }
+        ensures own { IfOk result (λ _. (line : List ℕ) → AreFoundOf line findings.old.items → AreFoundOf line findings.new.items) }
+    {
+        let problem = OliveProblem::new(alloc, number, Changes::none(Form::Popeye));
+        self.finish(alloc, Open::Olive(problem), findings)?;
+        Ok(())
+    }
+
+    /// Whether a problem of Olive's is open.
+    fn is_olives(&self) -> bool {
+        matches!(&self.open, Open::Olive(_))
+    }
+
+    /// Takes a line that is no tag pair of a game.
+    fn take_untagged(
+        &mut self,
+        alloc: Global,
+        number: usize,
+        line: &[u8],
+        changes: Changes,
+        findings: &mut Vec<Finding>,
+    ) -> Result<(), AllocError>
+        ensures kept { IfOk result (λ _. due self.old.open + length findings.old.items ≤ due self.new.open + length findings.new.items) }
+        ensures own { IfOk result (λ _. (whole : List ℕ) → IsTextOf whole line.now → AreFoundOf whole findings.old.items
+            → AreFoundOf whole findings.new.items) }
+    {
+        if is_border(line) {
+            self.begin_olive(alloc, number, findings)?;
+            return Ok(());
+        }
+        let (first, behind) = word_at(line);
+        if let Some(Command::Begin) = command_of(first) {
+            self.begin_popeye(alloc, number, behind, changes, findings)?;
+            return Ok(());
+        }
+        if self.is_olives() {
+            self.take_olive(alloc, line, changes, findings)?;
+            return Ok(());
+        }
+        if matches!(&self.open, Open::Popeye(_)) {
+            self.take_popeye(alloc, number, line, changes, findings)?;
+            return Ok(());
+        }
+        if self.passes() && !begins_with_placement(line) {
+            self.take_movetext(alloc, line, findings)?;
+            return Ok(());
+        }
+        self.take_record(alloc, number, line, false, changes, findings)?;
         Ok(())
     }
 
@@ -341,6 +446,7 @@ impl Reading {
         findings: &mut Vec<Finding>,
     ) -> Result<(), AllocError>
         ensures kept { IfOk result (λ _. due self.old.open + length findings.old.items ≤ due self.new.open + length findings.new.items) }
+        ensures own { IfOk result (λ _. (line : List ℕ) → AreFoundOf line findings.old.items → AreFoundOf line findings.new.items) }
         ensures more { IfOk result (λ _. does_go_on self.old.open self.old.last number ≡ false
             → due self.old.open + length findings.old.items < due self.new.open + length findings.new.items) }
     {
@@ -362,30 +468,18 @@ impl Reading {
         findings: &mut Vec<Finding>,
     ) -> Result<(), AllocError>
         ensures kept { IfOk result (λ _. due self.old.open + length findings.old.items ≤ due self.new.open + length findings.new.items) }
+        ensures own { IfOk result (λ _. (whole : List ℕ) → IsTextOf whole line.now → AreFoundOf whole findings.old.items
+            → AreFoundOf whole findings.new.items) }
         ensures more { IfOk result (λ _. is_tag_pair_text line.now ≡ true → does_go_on self.old.open self.old.last number ≡ false
             → due self.old.open + length findings.old.items < due self.new.open + length findings.new.items) }
     {
-        if begins_with(b'[', line) {
+        if begins_with(b'[', line) && (is_tag_pair(line) || !self.is_olives()) {
             return self.take_game(alloc, number, line, changes, findings);
         }
         if is_remark(line) {
             return Ok(());
         }
-        let (first, behind) = word_at(line);
-        if let Some(Command::Begin) = command_of(first) {
-            self.begin_popeye(alloc, number, behind, changes, findings)?;
-            return Ok(());
-        }
-        if matches!(&self.open, Open::Popeye(_)) {
-            self.take_popeye(alloc, number, line, changes, findings)?;
-            return Ok(());
-        }
-        if self.passes() && !begins_with_placement(line) {
-            self.take_movetext(alloc, line, findings)?;
-            return Ok(());
-        }
-        self.take_record(alloc, number, line, false, changes, findings)?;
-        Ok(())
+        self.take_untagged(alloc, number, line, changes, findings)
     }
 
     /// Takes a text that isn't empty, in printable ASCII. One that is a tag pair isn't passed over where a comment is open, so that a game
@@ -399,6 +493,8 @@ impl Reading {
         findings: &mut Vec<Finding>,
     ) -> Result<(), AllocError>
         ensures kept { IfOk result (λ _. due self.old.open + length findings.old.items ≤ due self.new.open + length findings.new.items) }
+        ensures own { IfOk result (λ _. (line : List ℕ) → IsTextOf line text.now → AreFoundOf line findings.old.items
+            → AreFoundOf line findings.new.items) }
         ensures more { IfOk result (λ _. is_tag_pair_text text.now ≡ true → does_go_on self.old.open self.old.last number ≡ false
             → due self.old.open + length findings.old.items < due self.new.open + length findings.new.items) }
     {
@@ -418,11 +514,12 @@ impl Reading {
         findings: &mut Vec<Finding>,
     ) -> Result<(), AllocError>
         ensures kept { IfOk result (λ _. due self.old.open + length findings.old.items ≤ due self.new.open + length findings.new.items) }
+        ensures own { IfOk result (λ _. AreFoundOf line.now findings.old.items → AreFoundOf line.now findings.new.items) }
         ensures more { IfOk result (λ _. is_tag_line line.now ≡ true → does_go_on self.old.open self.old.last number ≡ false
             → due self.old.open + length findings.old.items < due self.new.open + length findings.new.items) }
     {
         let mut changes = Changes::none(Form::Line);
-        let text = ascii_text(alloc, line, &mut changes)?;
+        let text = ascii_text(alloc, &self.letters, line, &mut changes)?;
         let text = trimmed(text.as_slice());
         if text.is_empty() {
             return Ok(());
@@ -433,44 +530,109 @@ impl Reading {
     }
 }
 
+/// What a line in printable ASCII says, which may be a record as it stands.
+fn found_line(
+    alloc: Global,
+    line: &[u8],
+    is_record: bool,
+    changes: Changes,
+) -> Result<Found, AllocError>
+    ensures { IfOk result (λ found. (whole : List ℕ) → IsTextOf whole line.now → IsFoundOf whole found) }
+{
+    let mut changes = changes;
+    match mended_line(alloc, line, &mut changes)? {
+        Mended::Text(text, is_bound) => Ok(Found::Text(text, changes, is_bound || is_record)),
+        Mended::Two => Ok(Found::Fault(ImportFault::TwoBounds)),
+    }
+}
+
 /// What the tag pairs of a game say.
+fn found_game(alloc: Global, game: &mut Game) -> Result<Found, AllocError>
+    ensures { IfOk result (λ found. (line : List ℕ) → IsFoundOf line found) }
+{
+    if let Some(fault) = game.first_fault() {
+        return Ok(Found::Fault(fault));
+    }
+    let text = game.text(alloc)?;
+    Ok(Found::Text(text, game.changes.of(Form::Game), game.is_bound()))
+}
+
+/// Adds what the tag pairs of a game say.
 fn finish_game(alloc: Global, game: Game, findings: &mut Vec<Finding>) -> Result<(), AllocError>
-    ensures { IfOk result (λ _. length findings.new.items ≡ length findings.old.items + 1) }
+    ensures length { IfOk result (λ _. length findings.new.items ≡ length findings.old.items + 1) }
+    ensures own { IfOk result (λ _. (line : List ℕ) → AreFoundOf line findings.old.items → AreFoundOf line findings.new.items) }
 {
     let mut game = game;
-    let found = match game.first_fault() {
-        Some(fault) => Found::Fault(fault),
-        None => {
-            let text = game.text(alloc)?;
-            Found::Text(text, game.changes, game.is_bound())
-        }
-    };
+    let found = found_game(alloc, &mut game)?;
     push_finding(
         findings,
         Finding {
             number: game.number,
             found,
         },
-    )
+    )?;
+    Ok(())
 }
 
 /// What a problem for Popeye says.
+fn found_popeye(alloc: Global, problem: &PopeyeProblem) -> Result<Found, AllocError>
+    ensures { IfOk result (λ found. (line : List ℕ) → IsFoundOf line found) }
+{
+    if let Some(fault) = problem.first_fault() {
+        return Ok(Found::Fault(fault));
+    }
+    let text = problem.text(alloc)?;
+    Ok(Found::Text(text, problem.changes.of(Form::Popeye), true))
+}
+
+/// Adds what a problem for Popeye says.
 fn finish_popeye(
     alloc: Global,
     problem: &PopeyeProblem,
     findings: &mut Vec<Finding>,
 ) -> Result<(), AllocError>
-    ensures { IfOk result (λ _. length findings.new.items ≡ length findings.old.items + 1) }
+    ensures length { IfOk result (λ _. length findings.new.items ≡ length findings.old.items + 1) }
+    ensures own { IfOk result (λ _. (line : List ℕ) → AreFoundOf line findings.old.items → AreFoundOf line findings.new.items) }
 {
-    let found = match problem.first_fault() {
-        Some(fault) => Found::Fault(fault),
-        None => Found::Text(problem.text(alloc)?, problem.changes, true),
-    };
+    let found = found_popeye(alloc, problem)?;
     push_finding(
         findings,
         Finding {
             number: problem.number,
             found,
         },
-    )
+    )?;
+    Ok(())
+}
+
+/// What a problem of Olive's says.
+fn found_olive(alloc: Global, problem: &mut OliveProblem) -> Result<Found, AllocError>
+    ensures { IfOk result (λ found. (line : List ℕ) → IsFoundOf line found) }
+{
+    if let Some(fault) = problem.first_fault() {
+        return Ok(Found::Fault(fault));
+    }
+    let text = problem.text(alloc)?;
+    Ok(Found::Text(text, problem.changes.of(Form::Popeye), true))
+}
+
+/// Adds what a problem of Olive's says.
+fn finish_olive(
+    alloc: Global,
+    problem: OliveProblem,
+    findings: &mut Vec<Finding>,
+) -> Result<(), AllocError>
+    ensures length { IfOk result (λ _. length findings.new.items ≡ length findings.old.items + 1) }
+    ensures own { IfOk result (λ _. (line : List ℕ) → AreFoundOf line findings.old.items → AreFoundOf line findings.new.items) }
+{
+    let mut problem = problem;
+    let found = found_olive(alloc, &mut problem)?;
+    push_finding(
+        findings,
+        Finding {
+            number: problem.number,
+            found,
+        },
+    )?;
+    Ok(())
 }

@@ -1,8 +1,10 @@
 //! Texts of bytes: what stands at their ends, and their words.
 
-ghost use Rattle.std.specs.Prelude.{◌≡◌, drop};
-ghost use Rattle.chess_notation.specs.Words.{after_spaces as text_after_spaces};
-ghost use Rattle.problem_import.specs.inside.TagPairs.{trimmed as trimmed_text};
+ghost use Rattle.std.specs.Prelude.{◌≡◌, ◌++◌, ◌∷◌, IfOk, drop};
+ghost use Rattle.chess_board.specs.Characters.{char};
+ghost use Rattle.chess_notation.specs.Words.{after_spaces as text_after_spaces, after_word, behind, front_word as word_in_front};
+ghost use Rattle.chess_notation.specs.Words.{word_at as word_of_text};
+ghost use Rattle.problem_import.specs.Letters.{trimmed as trimmed_text};
 
 use std::alloc::AllocError;
 
@@ -14,7 +16,10 @@ pub(crate) fn trimmed(text: &[u8]) -> &[u8]
 }
 
 /// The text up to its first space, and what stands behind.
-fn front_word(text: &[u8]) -> (&[u8], &[u8]) {
+fn front_word(text: &[u8]) -> (&[u8], &[u8])
+    ensures word { result.0.now ≡ word_in_front text.now }
+    ensures rest { result.1.now ≡ after_word text.now }
+{
     for (index, byte) in text.iter().enumerate() {
         if *byte == b' ' {
             return text.split_at(index);
@@ -24,8 +29,12 @@ fn front_word(text: &[u8]) -> (&[u8], &[u8]) {
 }
 
 /// The first word of a text, empty where there is none, and what stands behind.
-pub(crate) fn word_at(text: &[u8]) -> (&[u8], &[u8]) {
-    front_word(text.trim_ascii_start())
+#[tactic(auto, unfolding(chess_notation::specs::Words::word_at, chess_notation::specs::Words::behind))]
+pub(crate) fn word_at(text: &[u8]) -> (&[u8], &[u8])
+    ensures word { result.0.now ≡ word_of_text text.now }
+    ensures rest { result.1.now ≡ behind text.now }
+{
+    front_word(after_spaces(text))
 }
 
 /// The text from its first byte that is no space.
@@ -69,6 +78,15 @@ pub(crate) fn is_same(text: &[u8], other: &str) -> bool {
 /// Adds a byte.
 pub(crate) fn push_byte(text: &mut Vec<u8>, byte: u8) -> Result<(), AllocError> {
     text.push(byte)?;
+    Ok(())
+}
+
+/// Adds a word behind a space.
+pub(crate) fn push_word(text: &mut Vec<u8>, word: &[u8]) -> Result<(), AllocError>
+    ensures { IfOk result (λ _. text.new.items ≡ text.old.items ++ char " " ∷ word.now) }
+{
+    text.push(b' ')?;
+    text.extend_from_slice(word)?;
     Ok(())
 }
 

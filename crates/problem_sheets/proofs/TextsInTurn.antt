@@ -1,5 +1,5 @@
 -- Texts added in turn, one for each item of a list.
-use Rattle.std.proofs.Common.{◌≡◌, ◌∙◌, ℕ, ◌+◌, ◌<◌, ◌≤◌, List, ◌++◌, length, take, get_or, ap, sym, append-nil}
+use Rattle.std.proofs.Common.{◌≡◌, ◌∙◌, ℕ, ◌+◌, ◌<◌, ◌≤◌, List, ◌++◌, length, take, get_or, ap, sym, append-nil, append_assoc}
 use Rattle.std.specs.List.{flat_map}
 use Rattle.std.proofs.lemmas.List.{flat_map_more, take_all, take_more}
 
@@ -15,3 +15,11 @@ turn_more f old before after xs n inside first next =
 pub turn_all : (f : ℕ → List ℕ) (old after xs : List ℕ) (n : ℕ) → length xs ≤ n → after ≡ old ++ flat_map f (take n xs)
     → after ≡ old ++ flat_map f xs
 turn_all f old after xs n past is = is ∙ ap (λ t. old ++ flat_map f t) (take_all n xs past)
+
+-- words and a number, twice, and words
+pub two_counted : (t a d b e z first second third : List ℕ) → first ≡ t ++ a ++ d → second ≡ first ++ b ++ e → third ≡ second ++ z
+    → third ≡ t ++ (a ++ d ++ b ++ e ++ z)
+two_counted t a d b e z first second third one two three =
+    three ∙ ap (λ x. x ++ z) two ∙ ap (λ x. x ++ b ++ e ++ z) one
+    ∙ ap (λ x. x ++ b ++ e ++ z) (append_assoc t a d) ∙ ap (λ x. x ++ e ++ z) (append_assoc t (a ++ d) b)
+    ∙ ap (λ x. x ++ z) (append_assoc t (a ++ d ++ b) e) ∙ append_assoc t (a ++ d ++ b ++ e) z

@@ -1,16 +1,14 @@
 -- The solutions on the last pages.
-use Rattle.std.specs.Prelude.{ℕ, ◌+◌, ◌==◌, List, [], ◌∷◌, ◌++◌, codes, map, decimal, Bool, false, not, if◌then◌else◌}
+use Rattle.std.specs.Prelude.{ℕ, ◌+◌, ◌==◌, List, [], ◌∷◌, ◌++◌, codes, length, decimal, nat_lt, None, Bool, true, false, if◌then◌else◌}
 use Rattle.std.specs.List.{flat_map}
 use Rattle.chess_board.specs.Characters.{char}
-use Rattle.chess_board.specs.MakeMove.{after_setup}
-use Rattle.chess_board.specs.Moves.{Move}
-use Rattle.chess_board.specs.Positions.{Setup}
-use Rattle.chess_notation.specs.Answers.{in_order, operand_words}
 use Rattle.chess_notation.specs.Records.{RecordValue, problem_of}
-use Rattle.chess_notation.specs.SanText.{san_text}
 use Rattle.chess_problems.specs.declared.outcomes.Outcome.{Outcome}
 use Rattle.chess_problems.specs.declared.outcomes.Outcome.TheVariants.{Mate, NoMate}
 use Rattle.mate_search.specs.inside.Truth.{truth}
+use Rattle.mate_tree.specs.declared.forms.Form.{Form}
+use Rattle.mate_tree.specs.Layouts.{column_text}
+use Rattle.mate_tree.specs.Trees.{shown_lines, tree_lines}
 
 -- A piece's letter as its figurine, by a character reference; other characters as they are.
 abbrev pub figurine : ℕ → List ℕ
@@ -26,30 +24,46 @@ figurine b =
 abbrev pub moves_text : Bool → List ℕ → List ℕ
 moves_text figurines text = if figurines then flat_map figurine text else text
 
--- the keys as `bm` of an answer lists them
-abbrev pub keys_text : Setup → List Move → List ℕ
-keys_text p keys = operand_words (in_order (map (san_text p) keys))
+-- what is shown of a solution: the defences that parry alone, in a column
+abbrev pub solution_form : Form
+solution_form = record {
+  moves = None;
+  defences = true;
+  set_play = false;
+  tries = false;
+  lines = None;
+  column = true;
+  figurines = false;
+}
 
--- the number before a move: before each of the attacker's
-abbrev pub number_text : ℕ → Bool → List ℕ
-number_text n replies = if replies then [] else decimal n ++ codes "."
+-- a solution as a magazine's column has it
+abbrev pub solved_text : Bool → RecordValue → Outcome → List ℕ
+solved_text figurines r o = moves_text figurines (column_text (shown_lines solution_form (tree_lines solution_form (problem_of r) o)))
 
--- A line of play, the attacker's moves numbered from n: ` 1.Bh1 Ke3 2.Qxf3#`. It begins with a reply where the defender moves.
-unfoldable pub play_text : ℕ → Bool → Setup → List Move → List ℕ
-play_text n replies p [] = []
-play_text n replies p (m ∷ ms) =
-    codes " " ++ number_text n replies ++ san_text p m ++ play_text (if replies then n + 1 else n) (not replies) (after_setup p m) ms
+-- a mate in fewer moves than are asked for
+unfoldable pub lengths_text : ℕ → ℕ → List ℕ
+lengths_text bound dm = codes " <i>short: #" ++ decimal dm ++ codes ", not #" ++ decimal bound ++ codes "</i>"
 
--- the keys, the number of moves and the line of play, or that there is none
-unfoldable pub outcome_text : Bool → RecordValue → Outcome → List ℕ
-outcome_text figurines r (Mate dm keys pv) =
-    codes "<b>" ++ moves_text figurines (keys_text r.position keys.items) ++ codes "</b> #" ++ decimal dm ++ codes ":"
-    ++ moves_text figurines (play_text 1 false r.position pv.items)
-outcome_text figurines r NoMate = codes "no mate in " ++ decimal r.bound
+abbrev pub short_text : ℕ → ℕ → List ℕ
+short_text bound dm = if nat_lt dm bound then lengths_text bound dm else []
 
--- the solution of the problem that is numbered so: what is true of it
+-- more than one key
+abbrev pub cooked_text : ℕ → List ℕ
+cooked_text keys = if nat_lt 1 keys then codes " <i>cooked</i>" else []
+
+-- what is not sound of the problem
+abbrev pub flags_text : ℕ → Outcome → List ℕ
+flags_text bound (Mate dm keys pv) = short_text bound dm ++ cooked_text (length keys.items) ++ codes " "
+flags_text bound NoMate = codes " <i>no mate in " ++ decimal bound ++ codes "</i>"
+
+-- the problem's number, what is not sound of it, and its solution, by what there is to say of it
+abbrev pub told_text : Bool → ℕ → RecordValue → Outcome → List ℕ
+told_text figurines n r o =
+    codes "<p><b>" ++ decimal n ++ codes "</b>" ++ flags_text r.bound o ++ solved_text figurines r o ++ codes "</p>\n"
+
+-- the same by what is true of it
 unfoldable pub solution_text : Bool → ℕ → RecordValue → List ℕ
-solution_text figurines n r = codes "<p>" ++ decimal n ++ codes ". " ++ outcome_text figurines r (truth (problem_of r)) ++ codes "</p>\n"
+solution_text figurines n r = told_text figurines n r (truth (problem_of r))
 
 unfoldable pub solutions_from : Bool → ℕ → List RecordValue → List ℕ
 solutions_from figurines n [] = []

@@ -29,9 +29,8 @@ cite, small, code { display: block }
 cite:empty, small:empty { display: none }
 code { font-size: .7rem; color: var(--faint); cursor: copy }
 code:hover { color: inherit }
-section p { margin: .2rem 0; break-inside: avoid }
+section p { margin: .2rem 0 }
 section { max-width: 45rem; margin: 2rem auto 0 }
-section b { font-weight: normal; border-bottom: 1px solid }
 @page { margin: 10mm 14mm }
 @media print {
   body { margin: 0; font-size: 9pt }
@@ -39,6 +38,7 @@ section b { font-weight: normal; border-bottom: 1px solid }
   main { grid-template-columns: repeat(3, 50mm); justify-content: space-between; gap: 2mm }
   code { display: none }
   section { break-before: page; max-width: none }
+  section div { columns: 2 }
 }
 </style>
 </head>

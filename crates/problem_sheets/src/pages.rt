@@ -1,7 +1,7 @@
 //! A page.
 
 ghost use Rattle.std.specs.Prelude.{◌≡◌, ◌++◌, IfOk};
-ghost use Rattle.problem_sheets.specs.Pages.{head_text, page_end, page_start, page_text as page_text_of};
+ghost use Rattle.problem_sheets.specs.Pages.{framed_text, head_text, page_end, page_start, page_text as page_text_of};
 ghost use Rattle.problem_sheets.specs.Pages.{refusals_text, section_text, solutions_text, style};
 
 use crate::contents::Contents;
@@ -73,6 +73,23 @@ fn push_section(text: &mut Vec<u8>, name: &[u8], paragraphs: &[u8]) -> Result<()
     text.extend_from_slice(b"</section>\n")
 }
 
+/// Adds paragraphs in a frame.
+#[tactic(auto, unfolding(crate::specs::Pages::framed_text))]
+fn push_framed(text: &mut Vec<u8>, paragraphs: &[u8]) -> Result<(), AllocError>
+    ensures { IfOk result (λ _. text.new.items ≡ text.old.items ++ framed_text paragraphs.now) }
+{
+    push_three(text, b"<div>\n", paragraphs, b"</div>\n")
+}
+
+/// Adds a section of this name, its paragraphs in a frame.
+fn push_framed_section(text: &mut Vec<u8>, name: &[u8], paragraphs: &[u8]) -> Result<(), AllocError>
+    ensures { IfOk result (λ _. text.new.items ≡ text.old.items ++ section_text name.now (framed_text paragraphs.now)) }
+{
+    push_three(text, b"<section>\n<h2>", name, b"</h2>\n")?;
+    push_framed(text, paragraphs)?;
+    text.extend_from_slice(b"</section>\n")
+}
+
 /// Adds the lines that are refused, where there are any.
 fn push_refusals(text: &mut Vec<u8>, refused: &[u8]) -> Result<(), AllocError>
     ensures { IfOk result (λ _. text.new.items ≡ text.old.items ++ refusals_text refused.now) }
@@ -110,7 +127,7 @@ fn push_solutions_if_asked(
         contents.records.as_slice(),
         memo,
     )?;
-    push_section(text, b"Solutions", solutions.as_slice())?;
+    push_framed_section(text, b"Solutions", solutions.as_slice())?;
     Ok(())
 }
 

@@ -1,18 +1,17 @@
 //! The solutions on the last pages.
 
-ghost use Rattle.std.specs.Prelude.{◌≡◌, ◌++◌, ◌≤◌, IfOk, false};
-ghost use Rattle.chess_moves.specs.Laws.{IsLine};
-ghost use Rattle.chess_problems.specs.Outcomes.{AreLegal, IsPlayable};
-ghost use Rattle.problem_sheets.specs.Solutions.{figurine, keys_text, moves_text, number_text, outcome_text};
-ghost use Rattle.problem_sheets.specs.Solutions.{play_text as play_text_of, solution_text, solutions_from};
+ghost use Rattle.std.specs.Prelude.{◌≡◌, ◌++◌, IfOk, codes, decimal};
+ghost use Rattle.chess_problems.specs.Outcomes.{IsPlayable};
+ghost use Rattle.problem_sheets.specs.Solutions.{cooked_text, figurine, flags_text, lengths_text, moves_text, short_text};
+ghost use Rattle.problem_sheets.specs.Solutions.{solution_form as solution_form_of, solution_text, solutions_from, solved_text};
 
 use crate::diagrams::push_number;
 use byte_streams::NoMemory;
-use chess_board::{Move, Position, after};
 use chess_moves::Rays;
-use chess_notation::{Record, listed_text, san};
+use chess_notation::Record;
 use chess_problems::Outcome;
 use mate_search::{Memo, solve};
+use mate_tree::{Form, push_column};
 use std::alloc::{AllocError, Global};
 use std::slice::from_ref;
 
@@ -56,104 +55,105 @@ fn push_moves(text: &mut Vec<u8>, figurines: bool, moves: &[u8]) -> Result<(), A
     Ok(())
 }
 
-/// Adds the number before a move of the attacker's.
-fn push_move_number(text: &mut Vec<u8>, number: usize, replies: bool) -> Result<(), AllocError>
-    ensures { IfOk result (λ _. text.new.items ≡ text.old.items ++ number_text number replies) }
+/// What is shown of a solution: the defences that parry alone, in a column.
+fn solution_form() -> Form
+    ensures { result ≡ solution_form_of }
 {
-    if replies {
-        return Ok(());
+    Form {
+        moves: None,
+        defences: true,
+        set_play: false,
+        tries: false,
+        lines: None,
+        column: true,
+        figurines: false,
     }
-    push_number(text, number)?;
-    text.push(b'.')?;
-    Ok(())
 }
 
-/// A line of play, the attacker's moves numbered from 1.
-#[tactic(auto, unfolding(crate::specs::Solutions::play_text))]
-fn play_text(
-    alloc: Global,
-    rays: &Rays,
-    position: &Position,
-    moves: &[Move],
-) -> Result<Vec<u8>, AllocError>
-    requires { IsLine position.now moves.now }
-    ensures { IfOk result (λ text. text.items ≡ play_text_of 1 false position.now moves.now) }
-{
-    let mut text = Vec::new(alloc);
-    let mut now = *position;
-    let mut number = 1;
-    let mut replies = false;
-    for m in moves {
-        text.push(b' ')?;
-        push_move_number(&mut text, number, replies)?;
-        text.extend_from_slice(san(rays, &now, *m).as_str().as_bytes())?;
-        now = after(&now, *m);
-        if replies {
-            number += 1;
-        }
-        replies = !replies;
-    }
-    Ok(text)
-}
-
-/// Adds the keys.
-fn push_keys(
-    alloc: Global,
-    text: &mut Vec<u8>,
-    notation: &Notation<'_>,
-    position: &Position,
-    keys: &[Move],
-) -> Result<(), NoMemory>
-    requires { AreLegal position.now keys.now }
-    ensures { IfOk result (λ _. text.new.items ≡ text.old.items ++ moves_text notation.now.figurines (keys_text position.now keys.now)) }
-{
-    let keys = listed_text(alloc, notation.rays, position, keys)?;
-    push_moves(text, notation.figurines, keys.as_bytes())?;
-    Ok(())
-}
-
-/// Adds a line of play.
-fn push_play(
-    alloc: Global,
-    text: &mut Vec<u8>,
-    notation: &Notation<'_>,
-    position: &Position,
-    moves: &[Move],
-) -> Result<(), AllocError>
-    requires { IsLine position.now moves.now }
-    ensures { IfOk result (λ _. text.new.items ≡ text.old.items ++ moves_text notation.now.figurines (play_text_of 1 false position.now moves.now)) }
-{
-    let play = play_text(alloc, notation.rays, position, moves)?;
-    push_moves(text, notation.figurines, play.as_slice())
-}
-
-/// Adds what there is to say of a problem.
-#[tactic(auto, unfolding(crate::specs::Solutions::outcome_text, chess_problems::specs::Outcomes::IsPlayable))]
-fn push_outcome(
+/// Adds a solution as a magazine's column has it.
+fn push_solved(
     alloc: Global,
     text: &mut Vec<u8>,
     notation: &Notation<'_>,
     record: &Record,
     outcome: &Outcome,
+    memo: &mut Memo,
 ) -> Result<(), NoMemory>
     requires { IsPlayable «record».now.position outcome.now }
-    ensures { IfOk result (λ _. text.new.items ≡ text.old.items ++ outcome_text notation.now.figurines «record».now outcome.now) }
+    ensures text { IfOk result (λ _. text.new.items ≡ text.old.items ++ solved_text notation.now.figurines «record».now outcome.now) }
+    ensures room { memo.new.room ≡ memo.old.room }
+{
+    let mut moves = Vec::new(alloc);
+    push_column(
+        notation.rays,
+        solution_form(),
+        record,
+        outcome,
+        memo,
+        &mut moves,
+    )?;
+    push_moves(text, notation.figurines, moves.as_slice())?;
+    Ok(())
+}
+
+/// Adds words and a number of moves.
+fn push_counted(text: &mut Vec<u8>, words: &[u8], moves: u8) -> Result<(), AllocError>
+    ensures { IfOk result (λ _. text.new.items ≡ text.old.items ++ words.now ++ decimal moves) }
+{
+    text.extend_from_slice(words)?;
+    push_number(text, moves as usize)
+}
+
+/// Adds that there is a mate in fewer moves than are asked for.
+fn push_lengths(text: &mut Vec<u8>, bound: u8, dm: u8) -> Result<(), AllocError>
+    ensures { IfOk result (λ _. text.new.items ≡ text.old.items ++ lengths_text bound dm) }
+{
+    push_counted(text, b" <i>short: #", dm)?;
+    push_counted(text, b", not #", bound)?;
+    text.extend_from_slice(b"</i>")?;
+    Ok(())
+}
+
+/// Adds that there is a mate in fewer moves than are asked for, where there is.
+fn push_short(text: &mut Vec<u8>, bound: u8, dm: u8) -> Result<(), AllocError>
+    ensures { IfOk result (λ _. text.new.items ≡ text.old.items ++ short_text bound dm) }
+{
+    if dm >= bound {
+        return Ok(());
+    }
+    push_lengths(text, bound, dm)
+}
+
+/// Adds that there is more than one key, where there is.
+fn push_cooked(text: &mut Vec<u8>, keys: usize) -> Result<(), AllocError>
+    ensures { IfOk result (λ _. text.new.items ≡ text.old.items ++ cooked_text keys) }
+{
+    if keys <= 1 {
+        return Ok(());
+    }
+    text.extend_from_slice(b" <i>cooked</i>")
+}
+
+/// Adds that there is no mate.
+fn push_no_mate(text: &mut Vec<u8>, bound: u8) -> Result<(), AllocError>
+    ensures { IfOk result (λ _. text.new.items ≡ text.old.items ++ codes " <i>no mate in " ++ decimal bound ++ codes "</i>") }
+{
+    text.extend_from_slice(b" <i>no mate in ")?;
+    push_number(text, bound as usize)?;
+    text.extend_from_slice(b"</i>")
+}
+
+/// Adds what is not sound of a problem.
+fn push_flags(text: &mut Vec<u8>, bound: u8, outcome: &Outcome) -> Result<(), AllocError>
+    ensures { IfOk result (λ _. text.new.items ≡ text.old.items ++ flags_text bound outcome.now) }
 {
     match outcome {
-        Outcome::Mate { dm, keys, pv } => {
-            text.extend_from_slice(b"<b>")?;
-            push_keys(alloc, text, notation, &record.position, keys.as_slice())?;
-            text.extend_from_slice(b"</b> #")?;
-            push_number(text, dm.get() as usize)?;
-            text.extend_from_slice(b":")?;
-            push_play(alloc, text, notation, &record.position, pv.as_slice())?;
-            Ok(())
+        Outcome::Mate { dm, keys, .. } => {
+            push_short(text, bound, dm.get())?;
+            push_cooked(text, keys.len())?;
+            text.extend_from_slice(b" ")
         }
-        Outcome::NoMate => {
-            text.extend_from_slice(b"no mate in ")?;
-            push_number(text, record.bound.get() as usize)?;
-            Ok(())
-        }
+        Outcome::NoMate => push_no_mate(text, bound),
     }
 }
 
@@ -171,10 +171,11 @@ fn push_solution(
     ensures room { memo.new.room ≡ memo.old.room }
 {
     let outcome = solve(notation.rays, &record.problem(), memo);
-    text.extend_from_slice(b"<p>")?;
+    text.extend_from_slice(b"<p><b>")?;
     push_number(text, number)?;
-    text.extend_from_slice(b". ")?;
-    push_outcome(alloc, text, notation, record, &outcome)?;
+    text.extend_from_slice(b"</b>")?;
+    push_flags(text, record.bound.get(), &outcome)?;
+    push_solved(alloc, text, notation, record, &outcome, memo)?;
     text.extend_from_slice(b"</p>\n")?;
     Ok(())
 }

@@ -5,6 +5,7 @@ ghost use Rattle.std.specs.Prelude.{⊤};
 use crate::test_rows::{bound_of, memo_of, same};
 use chess_moves::Rays;
 use mate_answers::{Limited, LimitedMemory, TimeLimit};
+use mate_claims::{Counts, LimitedClaimMemory, LimitedClaims};
 use mate_search::{Halt, Memo, OneThread};
 use std::alloc::Global;
 use std::process::Abort;
@@ -90,5 +91,78 @@ fn says_what_was_judged_in_time(rt: HostRuntime) {
         check_limited(&rt, alloc, true, (line, late), &mut memory);
         check_limited(&rt, alloc, false, (late, whole), &mut memory);
         check_limited(&rt, alloc, false, (line, whole), &mut memory);
+    }
+}
+
+/// Refuses where something else is told of a line that is held against its claims.
+fn check_claims(
+    rt: &impl Abort,
+    alloc: Global,
+    is_over: bool,
+    (line, wanted): (&str, &str),
+    memory: &mut LimitedClaimMemory<Memo>,
+) {
+    let limited = Limited {
+        rays: &Rays::new(),
+        default: bound_of(rt, 3),
+        seconds: 7,
+        limit: &Clock { is_over },
+        solver: OneThread,
+    };
+    let claims = LimitedClaims {
+        limited: &limited,
+        prefix: b"f:",
+    };
+    let output = answer_bytes(alloc, &claims, line.as_bytes(), memory).expect(rt, line);
+    let refused = !(wanted.contains("sound") || wanted.contains("undecided")) as usize;
+    let found = (output.text.as_slice(), output.refused);
+    same(rt, &line, &found, &(wanted.as_bytes(), refused));
+}
+
+#[test]
+fn tells_claims_of_records_that_were_not_decided(rt: HostRuntime) {
+    // Lines, and what is told where the time is over at once, and where it never is.
+    static TABLE: [(&str, &str, &str); 5] = [
+        (
+            "6k1/2r2ppp/3r4/8/8/8/8/R6K w - - bm Ra8; dm 3; id \"x\";",
+            "f:1\tundecided\t#3\t-\t-\tRa8+\tx\n",
+            "f:1\tsound\t#3\t#3\tRa8+\tRa8+\tx\n",
+        ),
+        (
+            "6k1/2r2ppp/3r4/8/8/8/8/R6K w - - pv Ra8 Rc8;",
+            "f:1\tundecided\t#3?\t-\t-\tpv Ra8+\t-\n",
+            "f:1\tsound\t#3?\t#3\tRa8+\tpv Ra8+\t-\n",
+        ),
+        (
+            "6k1/2r2ppp/3r4/8/8/8/8/R6K w - - dm 3; pv Ra9;",
+            "f:1\tNoSuchMove\t#3\t-\t-\tpv Ra9\t-\n",
+            "f:1\tNoSuchMove\t#3\t#3\tRa8+\tpv Ra9\t-\n",
+        ),
+        (
+            "6k1/2r2ppp/3r4/8/8/8/8/R6K w - - bm #2 Ra8; dm 3;",
+            "f:1\tTwoLengths\t#3\t-\t-\t#2 Ra8\t-\n",
+            "f:1\tTwoLengths\t#3\t#3\tRa8+\t#2 Ra8\t-\n",
+        ),
+        // A mate in two is found before anything is asked.
+        (
+            "7k/8/5K2/8/8/8/8/R7 w - - bm Kf7 Kg6; dm 2;",
+            "f:1\tsound\t#2\t#2\tKf7 Kg6\tKf7 Kg6\t-\n",
+            "f:1\tsound\t#2\t#2\tKf7 Kg6\tKf7 Kg6\t-\n",
+        ),
+    ];
+    let alloc = rt.alloc();
+    let mut memory = LimitedClaimMemory {
+        memory: memo_of(&rt, alloc, 16),
+        counts: Counts::new(),
+    };
+    for (line, late, _) in &TABLE {
+        check_claims(&rt, alloc, true, (line, late), &mut memory);
+    }
+    let counts = memory.counts.text(alloc).expect(&rt, "counts");
+    let wanted =
+        "sound 1, unclaimed 0, cooked 0, wrong 0, short 0, unsolvable 0, refused 2; 1 without a number of moves; 2 not decided";
+    same(&rt, &"counts", &counts.as_str(), &wanted);
+    for (line, _, whole) in &TABLE {
+        check_claims(&rt, alloc, false, (line, whole), &mut memory);
     }
 }

@@ -1,15 +1,33 @@
 -- Not for believing: lines as they are written one by one, through a buffer. They come to `printed`.
-use Rattle.std.specs.Prelude.{◌≡◌, ℕ, ◌-◌, ◌==◌, List, [], ◌∷◌, ◌++◌, codes, Bool, true, false, Option, Some, None, if◌then◌else◌}
+use Rattle.std.specs.Prelude.{◌≡◌, ℕ, ◌-◌, ◌==◌, ◌&&◌, List, [], ◌∷◌, ◌++◌, codes, length, Bool, true, false, Option, Some, None}
+use Rattle.std.specs.Prelude.{if◌then◌else◌}
 use Rattle.std.specs.Io.KnownBytes.{Appends, Keeps}
 use Rattle.byte_streams.specs.declared.stops.Stop.{Stop}
 use Rattle.byte_streams.specs.Stops.{AppendsPart, is_of_output}
-use Rattle.mate_tree.specs.Lines.{line}
+use Rattle.mate_tree.specs.declared.forms.Form.{Form}
+use Rattle.mate_tree.specs.Layouts.{figured, unindented}
 use Rattle.mate_tree.specs.SetPlay.{headed}
 
--- how many lines there is still room for, where that is limited, and whether a line was left out
+-- How many lines there is still room for, where that is limited, and whether a line was left out; how lines are laid out; whether one was
+-- begun; and whether nothing stands there yet of the last one of a column.
 pub record Room : Type 0 where
   pub left : Option ℕ
   pub cut : Bool
+  pub column : Bool
+  pub figurines : Bool
+  pub begun : Bool
+  pub fresh : Bool
+
+-- the room of an empty sheet
+abbrev pub room_for : Form → Room
+room_for form = record {
+  left = form.lines;
+  cut = false;
+  column = form.column;
+  figurines = form.figurines;
+  begun = false;
+  fresh = false;
+}
 
 -- what is not written yet, the room for lines, and why writing stopped, where it did
 pub record SheetValue : Type 0 where
@@ -25,37 +43,73 @@ closed_by (Some stop) cut = true
 abbrev pub is_closed : SheetValue → Bool
 is_closed s = closed_by s.stop s.room.cut
 
--- ---- the room
+-- ---- between lines
 
 abbrev pub next_in : Room → Option ℕ → Room
-next_in r None = r
-next_in r (Some n) = if n == 0 then record r { cut = true } else record r { left = Some (n - 1) }
+next_in r None = record r { begun = true; fresh = r.column }
+next_in r (Some n) =
+    if n == 0 then record r { cut = true; begun = true } else record r { left = Some (n - 1); begun = true; fresh = r.column }
 
--- the room behind a line more
+-- the room where a line more is begun
 abbrev pub next : Room → Room
 next r = if r.cut then r else next_in r r.left
 
-abbrev pub mark_in : Option ℕ → List ℕ
-mark_in None = []
-mark_in (Some n) = if n == 0 then line (codes "..") else []
+-- what ends a line
+abbrev pub line_end : Bool → List ℕ
+line_end column = if column then [] else codes "\n"
 
--- two dots in place of the first line that there is no room for
+-- what stands before a line: in a column a space, but for the first
+abbrev pub gap : Room → List ℕ
+gap r = if r.column && r.begun then codes " " else []
+
+abbrev pub mark_in : Room → Option ℕ → List ℕ
+mark_in r None = gap r
+mark_in r (Some n) = if n == 0 then gap r ++ codes ".." ++ line_end r.column else gap r
+
+-- what stands before a line, or two dots in place of the first that there is no room for
 abbrev pub mark : Room → List ℕ
-mark r = if r.cut then [] else mark_in r.left
+mark r = if r.cut then [] else mark_in r r.left
 
--- a text, unless a line was left out
+-- what stands behind a line
+abbrev pub ending : Room → List ℕ
+ending r = if r.cut then [] else line_end r.column
+
+-- what ends a column, where one was begun, and an empty line
+abbrev pub closing_of : Bool → Bool → List ℕ
+closing_of column begun = if column && begun then codes "\n\n" else codes "\n"
+
+abbrev pub closing : Room → List ℕ
+closing r = closing_of r.column r.begun
+
+-- ---- within a line
+
+-- what is shown of a part of a line: without indentation, where nothing stands there yet of a line of a column
+abbrev pub part : Bool → List ℕ → List ℕ
+part fresh text = if fresh then unindented text else text
+
+-- Nothing stands there yet behind this part, either.
+abbrev pub stays_fresh : Bool → List ℕ → Bool
+stays_fresh fresh text = fresh && (length (part fresh text) == 0)
+
+-- a part of a line, unless a line was left out
 abbrev pub shown : Room → List ℕ → List ℕ
-shown r text = if r.cut then [] else text
+shown r text = if r.cut then [] else figured r.figurines (part r.fresh text)
+
+-- the room behind it
+abbrev pub past : Room → List ℕ → Room
+past r text = if r.cut then r else record r { fresh = stays_fresh r.fresh text }
+
+-- ---- lines
 
 -- the text of lines
 unfoldable pub said : Room → List (List ℕ) → List ℕ
 said r [] = []
-said r (l ∷ ls) = mark r ++ shown (next r) (line l) ++ said (next r) ls
+said r (l ∷ ls) = mark r ++ (shown (next r) l ++ ending (past (next r) l)) ++ said (past (next r) l) ls
 
 -- the room behind them
 unfoldable pub behind : Room → List (List ℕ) → Room
 behind r [] = r
-behind r (l ∷ ls) = behind (next r) ls
+behind r (l ∷ ls) = behind (past (next r) l) ls
 
 -- ---- what is written
 
@@ -79,7 +133,11 @@ pub record Begins (old : Option (List ℕ)) (s : SheetValue) (new : Option (List
 
 -- A part of a line is written, where there is room for the line.
 pub record Says (old : Option (List ℕ)) (s : SheetValue) (new : Option (List ℕ)) (t : SheetValue) (text : List ℕ) : Type 0 where
-  pub goes : Goes old s new t (shown s.room text) s.room
+  pub goes : Goes old s new t (shown s.room text) (past s.room text)
+
+-- A line is ended.
+pub record Ends (old : Option (List ℕ)) (s : SheetValue) (new : Option (List ℕ)) (t : SheetValue) : Type 0 where
+  pub goes : Goes old s new t (ending s.room) s.room
 
 -- Lines are written.
 pub record Writes (old : Option (List ℕ)) (s : SheetValue) (new : Option (List ℕ)) (t : SheetValue) (ls : List (List ℕ)) : Type 0 where

@@ -4,8 +4,9 @@ use Rattle.chess_board.specs.Moves.{Move}
 use Rattle.chess_board.specs.Positions.{Setup}
 use Rattle.chess_notation.specs.SanText.{san_text}
 use Rattle.move_words.specs.Naming.{named}
+use Rattle.move_words.specs.declared.languages.Letters.{Letters}
 use Rattle.move_words.specs.declared.naming.Named.TheVariants.{One}
 
--- The text is that of the one legal move that the word names.
-abbrev pub IsMeant : Setup → List ℕ → List ℕ → Type 0
-IsMeant p word text = (m : Move) × (named p word ≡ One m) × (text ≡ san_text p m)
+-- The text is that of the one legal move that the word names under these letters.
+abbrev pub IsMeant : Letters → Setup → List ℕ → List ℕ → Type 0
+IsMeant l p word text = (m : Move) × (named l p word ≡ One m) × (text ≡ san_text p m)

@@ -1,11 +1,11 @@
 -- Not for believing: which lines are tag pairs of a game (PGN Specification, 8.1.1). No contract of a public call rests on it.
-use Rattle.std.specs.Prelude.{ℕ, ◌-◌, ◌==◌, List, [], ◌∷◌, length, take, drop}
+use Rattle.std.specs.Prelude.{ℕ, ◌==◌, List, [], ◌∷◌, drop}
 use Rattle.std.specs.Prelude.{Bool, false, ◌&&◌, ◌||◌, if◌then◌else◌}
-use Rattle.std.specs.Char.{is_ascii_whitespace}
-use Rattle.std.specs.List.{list_all, prefix_len, suffix_len}
+use Rattle.std.specs.List.{list_all}
 use Rattle.chess_board.specs.Characters.{char}
 use Rattle.chess_notation.specs.Operations.{is_opcode_byte, is_printable}
 use Rattle.chess_notation.specs.Words.{after_spaces}
+use Rattle.problem_import.specs.Letters.{trimmed}
 
 abbrev pub begins_with : ℕ → List ℕ → Bool
 begins_with byte [] = false
@@ -40,13 +40,6 @@ is_named text = begins_with_name text && is_value (after_spaces (after_name text
 -- `[Name "value"]`, and nothing else
 abbrev pub is_tag_pair : List ℕ → Bool
 is_tag_pair text = begins_with (char "[") text && is_named (after_spaces (drop 1 text))
-
-abbrev pub without_end : List ℕ → List ℕ
-without_end text = take (length text - suffix_len is_ascii_whitespace text) text
-
--- the text without white space at either end
-abbrev pub trimmed : List ℕ → List ℕ
-trimmed text = without_end (drop (prefix_len is_ascii_whitespace text) text)
 
 -- The line is printable ASCII, and but for white space at its ends a tag pair.
 abbrev pub is_tag_line : List ℕ → Bool

@@ -1,4 +1,4 @@
-use Rattle.std.proofs.Common.{◌≡◌, ◌||◌, codes, get_or, sym, ap, subst, ◌∙◌, refl}
+use Rattle.std.proofs.Common.{◌≡◌, ◌||◌, get_or, sym, ap, subst, ◌∙◌, refl}
 use Rattle.std.specs.List.{flat_map}
 use Rattle.mate_tree.specs.Continuations.{soonest}
 use Rattle.mate_tree.specs.SetPlay.{headed, set_line, set_line_within}
@@ -12,17 +12,17 @@ loop-r-init g c = record { lines = writes_none (g.O.Write.contents c.args.out.no
 pub returns-then-is_closed-clause-lines : goal.returns-then-is_closed-clause-lines
 returns-then-is_closed-clause-lines g c =
     subst (λ rs. Writes (g.O.Write.contents c.args.out.now) c.args.sheet.now (g.O.Write.contents c.loop-r.out) c.loop-r.sheet
-    (headed (codes "set play") (flat_map (set_line_within c.args.at.left c.args.position.now) rs)))
+    (headed c.args.heading.now (flat_map (set_line_within c.args.at.left c.args.position.now) rs)))
     (c.as_slice-r-items.ensures.value ∙ c.legal-replies.ensures)
-    (headed_closed (codes "set play") (set_line_within c.args.at.left c.args.position.now) c.as_slice-r-items.result.now
+    (headed_closed c.args.heading.now (set_line_within c.args.at.left c.args.position.now) c.as_slice-r-items.result.now
     c.loop-r.r-index (sym c.is_closed.ensures ∙ c.if-is_closed.true) c.loop-r.invariant.lines)
 
 pub returns-clause-lines : goal.returns-clause-lines
 returns-clause-lines g c =
     subst (λ rs. Writes (g.O.Write.contents c.args.out.now) c.args.sheet.now (g.O.Write.contents c.loop-r.out) c.loop-r.sheet
-    (headed (codes "set play") (flat_map (set_line_within c.args.at.left c.args.position.now) rs)))
+    (headed c.args.heading.now (flat_map (set_line_within c.args.at.left c.args.position.now) rs)))
     (c.as_slice-r-items.ensures.value ∙ c.legal-replies.ensures)
-    (headed_all (codes "set play") (set_line_within c.args.at.left c.args.position.now) c.as_slice-r-items.result.now
+    (headed_all c.args.heading.now (set_line_within c.args.at.left c.args.position.now) c.as_slice-r-items.result.now
     c.loop-r.r-index c.loop-r-test.false c.loop-r.invariant.lines)
 
 pub loop-r-preserved : goal.loop-r-preserved
@@ -34,14 +34,14 @@ loop-r-preserved g c =
     ap (set_line q c.r-item.result) (c.soonest-outcome.ensures.truth ∙ ap (soonest k) c.after.ensures) ∙ ap (set_line_within k q) c.r-item.is in
     let has = c.has_line-has.ensures q c.r-item.result in
     record {
-      lines = headed_more (codes "set play") (set_line_within k q) rs c.loop-r.is_open c.loop-r.r-index c.r-item.result
+      lines = headed_more c.args.heading.now (set_line_within k q) rs c.loop-r.is_open c.loop-r.r-index c.r-item.result
           c.loop-r-test.true c.loop-r.invariant.is_open c.loop-r.invariant.lines
           (subst (λ ls. Writes (g.O.Write.contents c.loop-r.out) c.loop-r.sheet
           (g.O.Write.contents c.write_set_line.new.out) c.write_set_line.new.sheet
-          (headed_on (codes "set play") c.loop-r.is_open ls)) same
-          (writes_named (codes "set play") c.loop-r.is_open c.has_line-has.result (set_line q c.r-item.result c.soonest-outcome.result) has
+          (headed_on c.args.heading.now c.loop-r.is_open ls)) same
+          (writes_named c.args.heading.now c.loop-r.is_open c.has_line-has.result (set_line q c.r-item.result c.soonest-outcome.result) has
           c.write_name.ensures c.write_set_line.ensures));
-      is_open = open_more (codes "set play") (set_line_within k q) rs c.loop-r.is_open _ c.loop-r.r-index c.r-item.result
+      is_open = open_more c.args.heading.now (set_line_within k q) rs c.loop-r.is_open _ c.loop-r.r-index c.r-item.result
           c.loop-r-test.true c.loop-r.invariant.is_open
           (ap (λ b. c.loop-r.is_open || b) (has ∙ ap is_some_line same));
       room = c.soonest-outcome.ensures.room ∙ c.loop-r.invariant.room;

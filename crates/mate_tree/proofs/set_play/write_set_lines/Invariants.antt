@@ -1,4 +1,4 @@
-use Rattle.std.proofs.Common.{◌≡◌, codes, take}
+use Rattle.std.proofs.Common.{◌≡◌, take}
 use Rattle.std.specs.List.{flat_map}
 use Rattle.mate_tree.specs.SetPlay.{headed, set_line_within}
 use Rattle.mate_tree.specs.inside.Sheets.{Writes, is_some_line}
@@ -8,7 +8,7 @@ use Rattle.mate_tree.proofs.set_play.write_set_lines.Given as goal
 abbrev pub invariant-loop-r : goal.invariant-loop-r
 invariant-loop-r g l = record {
   lines : Writes (g.O.Write.contents l.initial.out) l.initial.sheet (g.O.Write.contents l.out) l.sheet
-      (headed (codes "set play") (flat_map (set_line_within l.at.left l.position) (take l.r-index l.r-items)));
+      (headed l.heading (flat_map (set_line_within l.at.left l.position) (take l.r-index l.r-items)));
   is_open : l.is_open ≡ is_some_line (flat_map (set_line_within l.at.left l.position) (take l.r-index l.r-items));
   room : l.memo.room ≡ l.fn.memo.room;
 }

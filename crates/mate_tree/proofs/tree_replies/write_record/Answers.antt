@@ -7,16 +7,16 @@ use Rattle.mate_tree.proofs.tree_replies.write_record.Goals as goal
 pub returns-in-Ok-clause-ok : goal.returns-in-Ok-clause-ok
 returns-in-Ok-clause-ok g c =
     let told = c.solve-outcome.ensures.truth ∙ ap truth c.problem.ensures in
-    finished_ok c.args.shown.form c.args.record.now c.solve-outcome.result c.as_slice.result.now _ _ _ _
+    finished_ok c.args.shown.form c.args.record.now c.solve-outcome.result c.as_slice.result.now c.closing-closing.result.now _ _ _ _
     c.new-sheet.result c.add.new.self c.write_tree.new.sheet c.finish.result told (c.as_slice.ensures.value ∙ c.in-Ok.ensures) c.new-sheet.ensures
-    c.add.ensures c.write_tree.ensures.lines c.finish.ensures.ok
+    c.add.ensures c.write_tree.ensures.lines c.closing-closing.ensures c.finish.ensures.ok
 
 pub returns-in-Ok-clause-err : goal.returns-in-Ok-clause-err
 returns-in-Ok-clause-err g c =
     let told = c.solve-outcome.ensures.truth ∙ ap truth c.problem.ensures in
-    finished_err c.args.shown.form c.args.record.now c.solve-outcome.result c.as_slice.result.now _ _ _ _
+    finished_err c.args.shown.form c.args.record.now c.solve-outcome.result c.as_slice.result.now c.closing-closing.result.now _ _ _ _
     c.new-sheet.result c.add.new.self c.write_tree.new.sheet c.finish.result told (c.as_slice.ensures.value ∙ c.in-Ok.ensures) c.new-sheet.ensures
-    c.add.ensures c.write_tree.ensures.lines c.finish.ensures.err
+    c.add.ensures c.write_tree.ensures.lines c.closing-closing.ensures c.finish.ensures.err
 
 pub returns-in-Err-clause-err : goal.returns-in-Err-clause-err
 returns-in-Err-clause-err g c = Keeps-refl (g.O.Write.contents c.args.out.now)

@@ -1,4 +1,4 @@
-use Rattle.std.proofs.Common.{◌≡◌, codes, take}
+use Rattle.std.proofs.Common.{◌≡◌, take}
 use Rattle.std.specs.List.{flat_map}
 use Rattle.mate_tree.specs.SetPlay.{headed}
 use Rattle.mate_tree.specs.Tries.{try_lines}
@@ -9,7 +9,7 @@ use Rattle.mate_tree.proofs.tries.write_tries.Given as goal
 abbrev pub invariant-loop-m : goal.invariant-loop-m
 invariant-loop-m g l = record {
   lines : Writes (g.O.Write.contents l.initial.out) l.initial.sheet (g.O.Write.contents l.out) l.sheet
-      (headed (codes "tries") (flat_map (try_lines l.at.left l.position l.avoid) (take l.m-index l.m-items)));
+      (headed l.heading (flat_map (try_lines l.at.left l.position l.avoid) (take l.m-index l.m-items)));
   is_open : l.is_open ≡ is_some_line (flat_map (try_lines l.at.left l.position l.avoid) (take l.m-index l.m-items));
   room : l.memo.room ≡ l.fn.memo.room;
 }

@@ -8,8 +8,8 @@ pub returns-in-Some : goal.returns-in-Some
 returns-in-Some g c =
     let moved : c.as_bytes.result.now ≡ san_text (after_setup c.args.position.now c.args.m) c.in-Some.r = search rules in
     rw (c.in-Some.is, ← moved)
-    (writes_one c.begin.ensures (says_more (says_more (says_more (says_more (says_more c.push.ensures c.push_attack.ensures) c.push-in-Some.ensures)
-    c.push-in-Some-2.ensures) c.push-in-Some-3.ensures) c.end.ensures))
+    (writes_one c.begin.ensures (says_more (says_more (says_more (says_more c.push.ensures c.push_attack.ensures) c.push-in-Some.ensures)
+    c.push-in-Some-2.ensures) c.push-in-Some-3.ensures) c.end.ensures)
 
 pub returns-in-None : goal.returns-in-None
 returns-in-None g c = rw (c.in-None.is) (writes_none (g.O.Write.contents c.args.out.now) c.args.sheet.now)

@@ -10,5 +10,5 @@ returns g c =
     (g.O.Write.contents c.push_attacks.new.out) c.push_attacks.new.sheet (attack_words (c.args.at.number + 1) p c.args.moves.now))
     c.after.ensures c.push_attacks.ensures in
     writes_one c.begin.ensures
-    (says_more (says_more (says_more (says_more c.push_spaces.ensures (says_more c.push_defence.ensures c.push_replies.ensures)) answers)
-    c.push_dual.ensures) c.end.ensures)
+    (says_more (says_more (says_more c.push_spaces.ensures (says_more c.push_defence.ensures c.push_replies.ensures)) answers)
+    c.push_dual.ensures) c.end.ensures

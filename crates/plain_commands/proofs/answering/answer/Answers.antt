@@ -30,6 +30,12 @@ returns-in-Moves-clause-ok g c = rw (c.in-Moves.is) c.show_fen-in-Moves.ensures.
 pub returns-in-Moves-clause-err : goal.returns-in-Moves-clause-err
 returns-in-Moves-clause-err g c = rw (c.in-Moves.is) c.show_fen-in-Moves.ensures.err
 
+pub returns-in-MovesJson-clause-ok : goal.returns-in-MovesJson-clause-ok
+returns-in-MovesJson-clause-ok g c = rw (c.in-MovesJson.is) c.show_fen-in-MovesJson.ensures.ok
+
+pub returns-in-MovesJson-clause-err : goal.returns-in-MovesJson-clause-err
+returns-in-MovesJson-clause-err g c = rw (c.in-MovesJson.is) c.show_fen-in-MovesJson.ensures.err
+
 pub returns-in-Perft-clause-ok : goal.returns-in-Perft-clause-ok
 returns-in-Perft-clause-ok g c = rw (c.in-Perft.is) c.show_fen-in-Perft.ensures.ok
 
@@ -54,11 +60,29 @@ returns-in-Solve-clause-ok g c = rw (c.in-Solve.is) c.solve.ensures.ok
 pub returns-in-Solve-clause-err : goal.returns-in-Solve-clause-err
 returns-in-Solve-clause-err g c = rw (c.in-Solve.is) c.solve.ensures.err
 
+pub returns-in-SolveJson-clause-ok : goal.returns-in-SolveJson-clause-ok
+returns-in-SolveJson-clause-ok g c = rw (c.in-SolveJson.is) c.solve_json.ensures.ok
+
+pub returns-in-SolveJson-clause-err : goal.returns-in-SolveJson-clause-err
+returns-in-SolveJson-clause-err g c = rw (c.in-SolveJson.is) c.solve_json.ensures.err
+
 pub returns-in-Verify-clause-ok : goal.returns-in-Verify-clause-ok
 returns-in-Verify-clause-ok g c = rw (c.in-Verify.is) c.verify.ensures.ok
 
 pub returns-in-Verify-clause-err : goal.returns-in-Verify-clause-err
 returns-in-Verify-clause-err g c = rw (c.in-Verify.is) c.verify.ensures.err
+
+pub returns-in-VerifyJson-clause-ok : goal.returns-in-VerifyJson-clause-ok
+returns-in-VerifyJson-clause-ok g c = rw (c.in-VerifyJson.is) c.verify_json.ensures.ok
+
+pub returns-in-VerifyJson-clause-err : goal.returns-in-VerifyJson-clause-err
+returns-in-VerifyJson-clause-err g c = rw (c.in-VerifyJson.is) c.verify_json.ensures.err
+
+pub returns-in-VerifyImported-clause-ok : goal.returns-in-VerifyImported-clause-ok
+returns-in-VerifyImported-clause-ok g c = rw (c.in-VerifyImported.is) c.verify_imported.ensures.ok
+
+pub returns-in-VerifyImported-clause-err : goal.returns-in-VerifyImported-clause-err
+returns-in-VerifyImported-clause-err g c = rw (c.in-VerifyImported.is) c.verify_imported.ensures.err
 
 pub returns-in-Tree-clause-ok : goal.returns-in-Tree-clause-ok
 returns-in-Tree-clause-ok g c = rw (c.in-Tree.is) c.tree.ensures.ok
@@ -73,10 +97,10 @@ pub returns-in-Sheet-clause-err : goal.returns-in-Sheet-clause-err
 returns-in-Sheet-clause-err g c = rw (c.in-Sheet.is) c.sheet.ensures.err
 
 pub returns-in-Import-clause-ok : goal.returns-in-Import-clause-ok
-returns-in-Import-clause-ok g c = rw (c.in-Import.is) c.import.ensures.ok
+returns-in-Import-clause-ok g c = rw (c.in-Import.is) c.import_given.ensures.ok
 
 pub returns-in-Import-clause-err : goal.returns-in-Import-clause-err
-returns-in-Import-clause-err g c = rw (c.in-Import.is) c.import.ensures.err
+returns-in-Import-clause-err g c = rw (c.in-Import.is) c.import_given.ensures.err
 
 pub returns-in-Replay-clause-ok : goal.returns-in-Replay-clause-ok
 returns-in-Replay-clause-ok g c = rw (c.in-Replay.is) c.replay.ensures.ok

@@ -29,3 +29,6 @@ returns-clause-begun c = λ tag none.
     (λ other. c.in_ok-findings.ensures.more other tag (tags_due c.args.reading.now.open none))
     (λ some. c.in_ok-printed.ensures.filled (rw c.as_slice.ensures.value some)) c.in_ok-with_line_if.ensures.filled
     c.in_ok-with_line_if.ensures.clean
+
+pub printed-requires : goal.printed-requires
+printed-requires c = rw c.as_slice.ensures.value c.in_ok-findings.ensures.own

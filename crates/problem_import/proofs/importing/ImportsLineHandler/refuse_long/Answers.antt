@@ -1,7 +1,16 @@
 use Rattle.problem_import.proofs.Imports.{long_reply}
 use Rattle.problem_import.proofs.importing.ImportsLineHandler.refuse_long.Goals as goal
 
+pub returns-then-passes_long-clause-reply : goal.returns-then-passes_long-clause-reply
+returns-then-passes_long-clause-reply c =
+    long_reply c.args.self.now.printing.keep c.args.number c.output_of.result.text.items c.new-printed.result.text.items
+    c.new-printed.result.any c.output_of.result.refused (λ line. c.new-printed.ensures c.args.self.now.printing.keep line)
+    c.output_of.ensures.text c.output_of.ensures.refused
+
 pub returns-clause-reply : goal.returns-clause-reply
 returns-clause-reply c =
-    long_reply c.args.self.now.printing.keep c.args.number c.output_of.result.text.items c.in_ok-printed.printed.text.items
-    c.in_ok-printed.printed.any c.output_of.result.refused c.in_ok-printed.ensures.imported c.output_of.ensures.text c.output_of.ensures.refused
+    let keep = c.args.self.now.printing.keep in
+    long_reply keep c.args.number c.output_of-2.result.text.items c.push_refusal.new.self.text.items
+    c.push_refusal.new.self.any c.output_of-2.result.refused
+    (λ line. c.in_ok-push_refusal.ensures.imported keep line (c.new-printed.ensures keep line))
+    c.output_of-2.ensures.text c.output_of-2.ensures.refused

@@ -1,0 +1,27 @@
+//! A caller of `import_claims`.
+
+ghost use Rattle.std.specs.Prelude.{IfOk, None, map, true};
+ghost use Rattle.file_answers.specs.Writing.{Gains};
+ghost use Rattle.import_claims.specs.VerifiedImports.{VerifiesImported};
+
+use byte_streams::Stop;
+use command_words::{Files, MemoSize};
+use file_answers::Source;
+use import_claims::verify_imported;
+use std::alloc::Global;
+use std::io::Write;
+
+/// The rows of the problems of files, behind the names of their fields; gives whether one isn't sound. Whoever says no number of moves is refused.
+pub fn headed_rows<S: Source, O: Write, E: Write>(
+    alloc: Global,
+    size: MemoSize,
+    files: &Files,
+    source: &S,
+    out: &mut O,
+    err: &mut E,
+) -> Result<bool, Stop>
+    ensures { IfOk result (λ unsound. Gains (VerifiesImported (S.holds source.now) None true files.now.from
+        (map (λ s. s.now) files.now.names.now) unsound) (O.contents out.old) (O.contents out.new)) }
+{
+    verify_imported(alloc, None, size, true, files, source, out, err)
+}

@@ -1,0 +1,3 @@
+mod Unopened
+mod VerifiedFiles
+mod HeadedRows

@@ -1,0 +1,32 @@
+-- What is written before a file is opened: nothing.
+use Rattle.std.proofs.Common.{ℕ, Bool, List, [], Option}
+use Rattle.std.specs.Bool.{⊤}
+use Rattle.std.proofs.KnownBytes.{Appends-kept, Appends-nil}
+use Rattle.std.specs.Io.KnownBytes.{Keeps}
+use Rattle.byte_streams.specs.declared.stops.Stop.TheVariants as stop
+use Rattle.file_answers.specs.FileAnswers.{AnswersFirst, StopsAnswering}
+use Rattle.file_answers.proofs.Unopened.{answers_none, no_reply_on}
+use Rattle.file_verifying.specs.Verified.{claim_replies, first_claim_replies, first_limited_claim_replies, has_several, limited_claim_replies}
+
+pub no_claim_reply : (several : Bool) (bound from : ℕ) (name input : List ℕ) → first_claim_replies several bound from name input []
+no_claim_reply several bound from name input = no_reply_on _ from input
+
+pub no_limited_reply : (several : Bool) (bound from : ℕ) (name input : List ℕ) → first_limited_claim_replies several bound from name input []
+no_limited_reply several bound from name input = no_reply_on _ from input
+
+pub verifies_none : (holds : List ℕ → Option (List ℕ)) (bound from : ℕ) (names : List (List ℕ)) → AnswersFirst holds
+    (claim_replies (has_several names) bound) (first_claim_replies (has_several names) bound) from names (λ _. ⊤) []
+verifies_none holds bound from names = answers_none holds _ _ from names (no_claim_reply (has_several names) bound)
+
+pub limited_none : (holds : List ℕ → Option (List ℕ)) (bound from : ℕ) (names : List (List ℕ)) → AnswersFirst holds
+    (limited_claim_replies (has_several names) bound) (first_limited_claim_replies (has_several names) bound) from names (λ _. ⊤) []
+limited_none holds bound from names = answers_none holds _ _ from names (no_limited_reply (has_several names) bound)
+
+pub verifies_at_once : (holds : List ℕ → Option (List ℕ)) (refuses : List ℕ → Type 0) (bound from : ℕ) (names : List (List ℕ))
+    (old new : Option (List ℕ)) → Keeps old new → StopsAnswering holds refuses
+    (claim_replies (has_several names) bound) (first_claim_replies (has_several names) bound) from names stop.NoMemory old new
+verifies_at_once holds refuses bound from names old new kept = record {
+  gained = [];
+  shows = verifies_none holds bound from names;
+  appends = Appends-kept old old new [] (Appends-nil old) kept;
+}

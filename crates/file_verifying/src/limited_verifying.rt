@@ -1,0 +1,122 @@
+//! The command `verify` where each record may take so many seconds.
+
+ghost use Rattle.std.specs.Prelude.{◌-◌, IfErr, IfOk, map};
+ghost use Rattle.file_answers.specs.Writing.{Gains};
+ghost use Rattle.file_verifying.specs.Verified.{LimitedHeaded, StopsLimitedHeaded, StopsVerifyingInTime, VerifiesInTime};
+
+use crate::headings::{prefix_of, put_header};
+use byte_streams::{Input, Stop};
+use command_words::Files;
+use file_answers::{
+    FileAnswers, FileStart, Source, answer_files, answer_lines_from, complain, holds_reads,
+};
+use mate_answers::{Limited, TimeLimit};
+use mate_claims::{LimitedClaimMemory, LimitedClaims};
+use mate_search::Solver;
+use std::alloc::Global;
+use std::io::Write;
+
+/// Holds records against their claims so.
+#[derive(Clone, Copy)]
+struct LimitedAnswers<'a, 'r, T, V> {
+    limited: &'a Limited<'r, T, V>,
+    /// Whether a row names its file.
+    several: bool,
+}
+
+impl<T: TimeLimit, V: Solver<T>> FileAnswers for LimitedAnswers<'_, '_, T, V> {
+    ghost use Rattle.file_verifying.specs.Verified.{limited_claim_replies, limited_claims_told, first_limited_claim_replies};
+
+    type Memory = LimitedClaimMemory<V::Memory>;
+
+    ghost ready = { λ answers. V.ready answers.limited.now.solver };
+
+    ghost replies = { λ answers. limited_claim_replies answers.several answers.limited.now.default };
+
+    ghost told = { λ answers. limited_claims_told answers.several answers.limited.now.default };
+
+    ghost tally = { λ memory. memory.counts.undecided };
+
+    ghost tells = { λ _ _ _ _ _ _ _ told. told.0 };
+
+    ghost first = { λ answers. first_limited_claim_replies answers.several answers.limited.now.default };
+
+    fn answer<S: Source, I: Input + Drop, O: Write>(
+        &self,
+        alloc: Global,
+        start: &FileStart<S>,
+        input: I,
+        memory: &mut LimitedClaimMemory<V::Memory>,
+        out: &mut O,
+    ) -> Result<usize, Stop> {
+        let prefix = prefix_of(alloc, self.several, start.name)?;
+        let claims = LimitedClaims {
+            limited: self.limited,
+            prefix: prefix.as_slice(),
+        };
+        let before = memory.counts.not_sound();
+        let unsound = answer_lines_from(alloc, &claims, start, input, memory, out)?;
+        memory.counts = memory.counts.with_unread(before, unsound);
+        Ok(unsound)
+    }
+
+    #[tactic(auto, using(crate::proofs::Unopened::no_limited_reply))]
+    fn begins_with_nothing(&self) {}
+}
+
+/// Writes the row of each record of each file, in order, but of those of the first file that are passed over, and tells the counts.
+fn verify_rows<T: TimeLimit, V: Solver<T>, S: Source, O: Write, E: Write>(
+    alloc: Global,
+    limited: &Limited<T, V>,
+    files: &Files,
+    source: &S,
+    memory: &mut LimitedClaimMemory<V::Memory>,
+    out: &mut O,
+    err: &mut E,
+) -> Result<bool, Stop>
+    requires ready { V.ready limited.now.solver }
+    ensures ok { IfOk result (λ unsound. Gains (VerifiesInTime (S.holds source.now) limited.now.default files.now.from
+        (map (λ s. s.now) files.now.names.now) unsound (memory.new.counts.undecided - memory.old.counts.undecided))
+        (O.contents out.old) (O.contents out.new)) }
+    ensures err { IfErr result (λ stop. StopsVerifyingInTime (S.holds source.now) (S.refuses source.now) limited.now.default files.now.from
+        (map (λ s. s.now) files.now.names.now) stop (O.contents out.old) (O.contents out.new)) }
+{
+    // How many inputs there are of so many names.
+    holds_reads();
+    let answers = LimitedAnswers {
+        limited,
+        several: files.names.len() > 1,
+    };
+    match answer_files(alloc, &answers, files, source, memory, out, err) {
+        Ok(unsound) => {
+            let counts = memory.counts.text(alloc)?;
+            complain(err, counts.as_str());
+            Ok(unsound)
+        }
+        Err(stop) => Err(stop),
+    }
+}
+
+/// Holds records against their claims as `verify` does, by who solves them, but that one which the limit stops before it is decided is told
+/// as undecided; gives whether a line is known not to be sound. How many records were not decided, the memory counts, as all else that is
+/// told at the end on `err`; a file that can't be read is named there.
+pub fn verify_limited<T: TimeLimit, V: Solver<T>, S: Source, O: Write, E: Write>(
+    alloc: Global,
+    limited: &Limited<T, V>,
+    header: bool,
+    files: &Files,
+    source: &S,
+    memory: &mut LimitedClaimMemory<V::Memory>,
+    out: &mut O,
+    err: &mut E,
+) -> Result<bool, Stop>
+    requires ready { V.ready limited.now.solver }
+    ensures ok { IfOk result (λ unsound. Gains (LimitedHeaded (S.holds source.now) limited.now.default header files.now.from
+        (map (λ s. s.now) files.now.names.now) unsound (memory.new.counts.undecided - memory.old.counts.undecided))
+        (O.contents out.old) (O.contents out.new)) }
+    ensures err { IfErr result (λ stop. StopsLimitedHeaded (S.holds source.now) (S.refuses source.now) limited.now.default header files.now.from
+        (map (λ s. s.now) files.now.names.now) stop (O.contents out.old) (O.contents out.new)) }
+{
+    put_header(out, header)?;
+    verify_rows(alloc, limited, files, source, memory, out, err)
+}

@@ -1,0 +1,5 @@
+mod FirstLines
+mod ReadRecords
+mod Unopened
+mod VerifiedFiles
+mod HeadedRows

@@ -1,0 +1,2 @@
+pub mod ImportedRows
+pub mod VerifiedImports

@@ -1,0 +1,40 @@
+//! The problems of an input from one of its lines on.
+
+ghost use Rattle.std.specs.Prelude.{◌≡◌, ℕ, List, IfErr, IfOk};
+ghost use Rattle.std.specs.Io.KnownBytes.{Appends};
+ghost use Rattle.byte_streams.specs.Inputs.{MayBe};
+ghost use Rattle.byte_streams.specs.Stops.{AppendsBy};
+ghost use Rattle.problem_import.specs.Problems.{IsEnded, IsEndedFirst, IsProblemReply};
+ghost use Rattle.file_answers.specs.LinesFrom.{IsReplyOn, IsReplyToFirstOn};
+
+use byte_streams::{Input, Stop};
+use file_answers::{FileStart, Source, answer_lines_from};
+use problem_import::{ProblemHandler, ProblemLines, ProblemMemory};
+use std::alloc::Global;
+use std::io::Write;
+
+/// Answers the problems of an input that its lines from that of a number on say. Gives at how many lines, the end of the input for one, a
+/// refusal is among it.
+pub(crate) fn answer_problems_from<H: ProblemHandler, S: Source, I: Input + Drop, O: Write>(
+    alloc: Global,
+    lines: &ProblemLines<H>,
+    start: &FileStart<S>,
+    input: I,
+    memory: &mut ProblemMemory<H::Memory>,
+    out: &mut O,
+) -> Result<usize, Stop>
+    ensures ok { IfOk result (λ count. (bytes : List ℕ) × (text : List ℕ) × MayBe (I.left input) bytes
+        × IsEnded (H.records lines.now.handler.now) (H.rows lines.now.handler.now)
+        (IsReplyOn (IsProblemReply (H.records lines.now.handler.now) (H.rows lines.now.handler.now)) start.now.from bytes) text count
+        × Appends (O.contents out.old) (O.contents out.new) text) }
+    ensures err { IfErr result (λ stop. (bytes : List ℕ) × (text : List ℕ) × MayBe (I.left input) bytes
+        × IsEndedFirst (H.records lines.now.handler.now) (H.rows lines.now.handler.now)
+        (IsReplyToFirstOn (IsProblemReply (H.records lines.now.handler.now) (H.rows lines.now.handler.now)) start.now.from bytes) text
+        × AppendsBy stop (O.contents out.old) (O.contents out.new) text) }
+    ensures unreadable { IfErr result (λ stop. stop ≡ Stop.Unreadable → I.breaks input) }
+{
+    match answer_lines_from(alloc, lines, start, input, memory, out) {
+        Ok(count) => lines.put_last(alloc, count, memory, out),
+        Err(stop) => Err(stop),
+    }
+}

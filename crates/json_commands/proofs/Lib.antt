@@ -1,0 +1,2 @@
+pub mod Unopened
+pub mod SeveralFiles

@@ -1,0 +1,3 @@
+pub mod JsonFiles
+pub mod Solved
+pub mod Verified

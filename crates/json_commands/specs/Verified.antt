@@ -1,0 +1,15 @@
+-- What `verify --json` shows.
+use Rattle.std.specs.Prelude.{ℕ, Bool, List, [], Option}
+use Rattle.byte_streams.specs.declared.stops.Stop.{Stop}
+use Rattle.json_replies.specs.declared.replies.Form.TheVariants.{Row}
+use Rattle.mate_claims.specs.ClaimReplies.{IsClaimReply}
+use Rattle.json_commands.specs.JsonFiles.{AnswersJson, StopsJson}
+
+-- The rows of `verify` in JSON, and whether a line isn't sound.
+abbrev pub VerifiesJson : (List ℕ → Option (List ℕ)) → (bound from : ℕ) → List (List ℕ) → Bool → List ℕ → Type 0
+VerifiesJson holds bound from names unsound gained = AnswersJson holds Row (IsClaimReply [] bound) from names unsound gained
+
+-- What the output gained where it stops.
+abbrev pub StopsVerifyingJson : (List ℕ → Option (List ℕ)) → (List ℕ → Type 0) → (bound from : ℕ) → List (List ℕ) → Stop
+    → (old new : Option (List ℕ)) → Type 0
+StopsVerifyingJson holds refuses bound from names stop old new = StopsJson holds refuses Row (IsClaimReply [] bound) from names stop old new

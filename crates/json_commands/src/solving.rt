@@ -1,0 +1,100 @@
+//! The command `solve --json`.
+
+ghost use Rattle.std.specs.Prelude.{◌≡◌, ◌-◌, IfErr, IfOk, map};
+ghost use Rattle.file_answers.specs.Writing.{Gains};
+ghost use Rattle.json_commands.specs.Solved.{SolvesJson, SolvesLimitedJson, StopsLimitedJson, StopsSolvingJson};
+
+use crate::json_files::answer_json;
+use byte_streams::Stop;
+use chess_moves::Rays;
+use chess_problems::Bound;
+use command_words::{Files, MemoSize};
+use file_answers::Source;
+use file_solving::new_memo;
+use json_replies::Form;
+use mate_answers::{Answers, Limited, LimitedMemory, TimeLimit};
+use mate_search::{Never, OneThread, Solver};
+use std::alloc::Global;
+use std::io::Write;
+
+/// Answers as `solve` of `file_solving` does, but in JSON: a line for each that isn't blank. It gives whether a line was refused, and names a
+/// file that can't be read on `err`.
+pub fn solve_json<S: Source, O: Write, E: Write>(
+    alloc: Global,
+    bound: Bound,
+    size: MemoSize,
+    files: &Files,
+    source: &S,
+    out: &mut O,
+    err: &mut E,
+) -> Result<bool, Stop>
+    ensures ok { IfOk result (λ refused. Gains (SolvesJson (S.holds source.now) bound files.now.from
+        (map (λ s. s.now) files.now.names.now) refused) (O.contents out.old) (O.contents out.new)) }
+    ensures err { IfErr result (λ stop. StopsSolvingJson (S.holds source.now) (S.refuses source.now) bound files.now.from
+        (map (λ s. s.now) files.now.names.now) stop (O.contents out.old) (O.contents out.new)) }
+{
+    let rays = Rays::new();
+    let mut memo = new_memo(alloc, size.get() as usize)?;
+    let answers = Answers {
+        rays: &rays,
+        default: bound,
+        solver: OneThread,
+    };
+    solve_json_by(alloc, &answers, files, source, &mut memo, out, err)
+}
+
+/// The same, by who solves the records, over a memory of its own.
+pub fn solve_json_by<V: Solver<Never>, S: Source, O: Write, E: Write>(
+    alloc: Global,
+    answers: &Answers<V>,
+    files: &Files,
+    source: &S,
+    memory: &mut V::Memory,
+    out: &mut O,
+    err: &mut E,
+) -> Result<bool, Stop>
+    requires ready { V.ready answers.now.solver }
+    ensures ok { IfOk result (λ refused. Gains (SolvesJson (S.holds source.now) answers.now.default files.now.from
+        (map (λ s. s.now) files.now.names.now) refused) (O.contents out.old) (O.contents out.new)) }
+    ensures err { IfErr result (λ stop. StopsSolvingJson (S.holds source.now) (S.refuses source.now) answers.now.default files.now.from
+        (map (λ s. s.now) files.now.names.now) stop (O.contents out.old) (O.contents out.new)) }
+{
+    answer_json(
+        alloc,
+        answers,
+        Form::Answer,
+        files,
+        source,
+        memory,
+        out,
+        err,
+    )
+}
+
+/// The same, where each record may take so many seconds. How many records were not decided, the memory counts.
+pub fn solve_json_limited<T: TimeLimit, V: Solver<T>, S: Source, O: Write, E: Write>(
+    alloc: Global,
+    limited: &Limited<T, V>,
+    files: &Files,
+    source: &S,
+    memory: &mut LimitedMemory<V::Memory>,
+    out: &mut O,
+    err: &mut E,
+) -> Result<bool, Stop>
+    requires ready { V.ready limited.now.solver }
+    ensures ok { IfOk result (λ refused. Gains (SolvesLimitedJson (S.holds source.now) limited.now.seconds limited.now.default files.now.from
+        (map (λ s. s.now) files.now.names.now) refused (memory.new.undecided - memory.old.undecided)) (O.contents out.old) (O.contents out.new)) }
+    ensures err { IfErr result (λ stop. StopsLimitedJson (S.holds source.now) (S.refuses source.now) limited.now.seconds limited.now.default
+        files.now.from (map (λ s. s.now) files.now.names.now) stop (O.contents out.old) (O.contents out.new)) }
+{
+    answer_json(
+        alloc,
+        limited,
+        Form::Answer,
+        files,
+        source,
+        memory,
+        out,
+        err,
+    )
+}

@@ -1,0 +1,113 @@
+//! The command `verify --json`.
+
+ghost use Rattle.std.specs.Prelude.{◌≡◌, IfErr, IfOk, map};
+ghost use Rattle.file_answers.specs.Writing.{Gains};
+ghost use Rattle.json_commands.specs.Verified.{StopsVerifyingJson, VerifiesJson};
+
+use crate::json_files::has_several;
+use byte_streams::{Input, Stop};
+use chess_moves::Rays;
+use chess_problems::Bound;
+use command_words::{Files, MemoSize};
+use file_answers::{
+    FileAnswers, FileStart, Source, answer_files, answer_lines_from, complain, holds_reads,
+};
+use file_solving::new_memo;
+use json_replies::{Form, JsonReplies, front_of};
+use mate_claims::{ClaimMemory, ClaimRows, Counts};
+use std::alloc::Global;
+use std::io::Write;
+
+/// Holds records against their claims, with the bound of those that say none.
+#[derive(Clone, Copy)]
+struct JsonClaims<'a> {
+    rays: &'a Rays,
+    bound: Bound,
+    /// Whether an object names its file.
+    several: bool,
+}
+
+impl FileAnswers for JsonClaims<'_> {
+    ghost use Rattle.std.specs.Prelude.{[]};
+    ghost use Rattle.file_answers.specs.FileAnswers.{unmarked};
+    ghost use Rattle.json_commands.specs.JsonFiles.{file_replies, first_file_replies};
+    ghost use Rattle.json_replies.specs.declared.replies.Form.TheVariants.{Row};
+    ghost use Rattle.mate_claims.specs.ClaimReplies.{IsClaimReply};
+
+    type Memory = ClaimMemory;
+
+    ghost replies = { λ claims. file_replies Row claims.several (IsClaimReply [] claims.bound) };
+
+    ghost told = { λ claims. unmarked (file_replies Row claims.several (IsClaimReply [] claims.bound)) };
+
+    ghost tells = { λ _ _ _ _ _ _ _ told. told };
+
+    ghost first = { λ claims. first_file_replies Row claims.several (IsClaimReply [] claims.bound) };
+
+    fn answer<S: Source, I: Input + Drop, O: Write>(
+        &self,
+        alloc: Global,
+        start: &FileStart<S>,
+        input: I,
+        memory: &mut ClaimMemory,
+        out: &mut O,
+    ) -> Result<usize, Stop> {
+        let front = front_of(alloc, self.several, start.name)?;
+        let rows = ClaimRows {
+            rays: self.rays,
+            default: self.bound,
+            prefix: b"",
+        };
+        let json = JsonReplies {
+            handler: &rows,
+            form: Form::Row,
+            front: front.as_slice(),
+        };
+        let before = memory.counts.not_sound();
+        let unsound = answer_lines_from(alloc, &json, start, input, memory, out)?;
+        memory.count_unread(before, unsound);
+        Ok(unsound)
+    }
+
+    #[tactic(auto, using(crate::proofs::Unopened::no_file_reply))]
+    fn begins_with_nothing(&self) {}
+}
+
+/// Holds records against their claims as `verify` does, but in JSON: a line for each that isn't blank. It gives whether a line isn't sound.
+/// At the end `err` is told how many lines came to which verdict; a file that can't be read is named there.
+pub fn verify_json<S: Source, O: Write, E: Write>(
+    alloc: Global,
+    bound: Bound,
+    size: MemoSize,
+    files: &Files,
+    source: &S,
+    out: &mut O,
+    err: &mut E,
+) -> Result<bool, Stop>
+    ensures ok { IfOk result (λ refused. Gains (VerifiesJson (S.holds source.now) bound files.now.from
+        (map (λ s. s.now) files.now.names.now) refused) (O.contents out.old) (O.contents out.new)) }
+    ensures err { IfErr result (λ stop. StopsVerifyingJson (S.holds source.now) (S.refuses source.now) bound files.now.from
+        (map (λ s. s.now) files.now.names.now) stop (O.contents out.old) (O.contents out.new)) }
+{
+    // How many inputs there are of so many names.
+    holds_reads();
+    let rays = Rays::new();
+    let memo = new_memo(alloc, size.get() as usize)?;
+    let mut memory = ClaimMemory {
+        memo,
+        counts: Counts::new(),
+    };
+    let claims = JsonClaims {
+        rays: &rays,
+        bound,
+        several: has_several(files.names),
+    };
+    match answer_files(alloc, &claims, files, source, &mut memory, out, err) {
+        Ok(unsound) => {
+            let counts = memory.counts.text(alloc)?;
+            complain(err, counts.as_str());
+            Ok(unsound)
+        }
+        Err(stop) => Err(stop),
+    }
+}

@@ -1,0 +1,131 @@
+-- What is told of a line where each record may take so long.
+use Rattle.std.proofs.Common.{◌≡◌, ◌⊎◌, ◌<◌, ◌+◌, ◌-◌, ◌≤◌, ◌++◌, ◌∙◌, ℕ, List, Option, None, Some, Result, Ok, Err}
+use Rattle.std.proofs.Common.{IfOk, ap, inl, inr, refl, subst, arith, length, decimal, false}
+use Rattle.chess_notation.specs.Words.{is_blank, words_in}
+use Rattle.chess_notation.specs.Claims.{claim_words, claims_text}
+use Rattle.chess_notation.specs.Records.{RecordValue, problem_of, max_line}
+use Rattle.chess_notation.specs.EpdFaults.{epd_fault_name}
+use Rattle.chess_notation.specs.declared.epd_faults.EpdFault.TheVariants as fault
+use Rattle.chess_problems.specs.declared.outcomes.Outcome.TheVariants.{NoMate}
+use Rattle.mate_search.specs.inside.Truth.{truth}
+use Rattle.mate_answers.specs.LimitedReplies.{IsNoneSoFar}
+use Rattle.mate_claims.specs.declared.bound_sources.BoundSource.{BoundSource}
+use Rattle.mate_claims.specs.declared.bound_sources.BoundSource.TheVariants as source
+use Rattle.mate_claims.specs.declared.counts.Counts.{Counts}
+use Rattle.mate_claims.specs.declared.verdicts.Verdict.{Verdict}
+use Rattle.mate_claims.specs.declared.verdicts.Verdict.TheVariants as verdict
+use Rattle.mate_claims.specs.BoundSources.{IsSource, ReadsClaimed}
+use Rattle.mate_claims.specs.ClaimReplies.{IsToldBy, no_record, refusals_of}
+use Rattle.mate_claims.specs.Counts.{count_of, with_count, with_one, with_source}
+use Rattle.mate_claims.specs.LimitedClaims.{IsLateClaim, IsLimitedClaim, IsToldInTime, IsToldLate, in_time, late, marked, told, undecided_of, unjudged}
+use Rattle.mate_claims.specs.Rows.{refused_row}
+use Rattle.mate_claims.specs.Said.{Said, said_by, said_of}
+use Rattle.mate_claims.specs.Verdicts.{verdict_name}
+use Rattle.mate_claims.proofs.ClaimReplies.{none_before, told_record}
+
+-- ---- what comes of claims without an outcome
+
+abbrev said_as : List ℕ → List ℕ → Option Verdict → Said
+said_as word claims v = record { word = word; claims = claims; verdict = v }
+
+pub unjudged_some : (word claims new : List ℕ) (v : Option Verdict) (x : Verdict) (said : Said)
+    → record { word = word; claims = claims; verdict = v } ≡ said → v ≡ Some x
+    → new ≡ verdict_name verdict.Undecided → record { word = new; claims = claims; verdict = Some verdict.Undecided } ≡ unjudged said
+unjudged_some word claims new None x said is some named = cc
+unjudged_some word claims new (Some y) x said is some named =
+    ap (λ n. said_as n claims (Some verdict.Undecided)) named ∙ ap unjudged is
+
+pub unjudged_none : (word claims : List ℕ) (v : Option Verdict) (said : Said)
+    → record { word = word; claims = claims; verdict = v } ≡ said → v ≡ None → record { word = word; claims = claims; verdict = v } ≡ unjudged said
+unjudged_none word claims (Some x) said is none = cc
+unjudged_none word claims None said is none = ap unjudged is
+
+-- ---- what is told
+
+-- What is told of a record that a line says, decided or not.
+told_either : (place : List ℕ) (default : ℕ) (line : List ℕ) (r : RecordValue) (from : BoundSource) (words row : List ℕ) (v : Option Verdict)
+    → ReadsClaimed line default r → IsSource line r from → words ≡ claims_text line
+    → IsToldBy place r from (said_by line words (words_in words) r (truth (problem_of r))) row v
+    ⊎ ((none : ℕ) × IsNoneSoFar r none × IsToldLate place r from (unjudged (said_by line words (words_in words) r NoMate)) row v)
+    → IsToldInTime place default line row v (Some from)
+unfolding said_of claim_words
+told_either place default line r from words row v reads comes same (inl is) =
+    in_time row v (Some from) (told_record place default line r from words row v reads comes same is)
+told_either place default line r from words row v reads comes same (inr is) =
+    late r from is.0 row v reads comes is.1
+    (subst (λ t. IsToldLate place r from (unjudged (said_by line t (words_in t) r NoMate)) row v) same is.2)
+
+pub told_of_either : {X E : Type 0} (place : List ℕ) (default : ℕ) (line : List ℕ) (r : RecordValue) (from : BoundSource) (words : List ℕ)
+    (row : X → List ℕ) (v : X → Option Verdict) (source : X → Option BoundSource) (result : Result X E) → ReadsClaimed line default r
+    → IsSource line r from → words ≡ claims_text line
+    → IfOk result (λ x. IsToldBy place r from (said_by line words (words_in words) r (truth (problem_of r))) (row x) (v x)
+    ⊎ ((none : ℕ) × IsNoneSoFar r none × IsToldLate place r from (unjudged (said_by line words (words_in words) r NoMate)) (row x) (v x)))
+    → IfOk result (λ x. source x ≡ Some from) → IfOk result (λ x. IsToldInTime place default line (row x) (v x) (source x))
+told_of_either place default line r from words row v source (Ok x) reads comes same is known =
+    rw known (told_either place default line r from words (row x) (v x) reads comes same is)
+told_of_either place default line r from words row v source (Err e) reads comes same is known = tt
+
+-- ---- how many were not decided
+
+kept_by_source : (from : Option BoundSource) (c : Counts) → (with_source from c).undecided ≡ c.undecided
+kept_by_source None c = refl
+kept_by_source (Some source.Line) c = refl
+kept_by_source (Some source.Default) c = refl
+
+as_many : (n : ℕ) → n ≡ n + 0
+as_many n = omega arith
+
+more_by_verdict : (v : Option Verdict) (c : Counts) → (with_count v (count_of v c + 1) c).undecided ≡ c.undecided + undecided_of v
+more_by_verdict None c = as_many c.undecided
+more_by_verdict (Some verdict.Sound) c = as_many c.undecided
+more_by_verdict (Some verdict.Unclaimed) c = as_many c.undecided
+more_by_verdict (Some verdict.Cooked) c = as_many c.undecided
+more_by_verdict (Some verdict.Wrong) c = as_many c.undecided
+more_by_verdict (Some verdict.Short) c = as_many c.undecided
+more_by_verdict (Some verdict.Unsolvable) c = as_many c.undecided
+more_by_verdict (Some verdict.Undecided) c = refl
+
+counted_undecided : (v : Option Verdict) (from : Option BoundSource) (old new : Counts) → new ≡ with_one v from old
+    → new.undecided ≡ old.undecided + undecided_of v
+counted_undecided v from old new is =
+    ap (λ (c : Counts). c.undecided) is ∙ kept_by_source from (with_count v (count_of v old + 1) old) ∙ more_by_verdict v old
+
+pub no_fewer_undecided : (v : Option Verdict) (from : Option BoundSource) (old new : Counts) → new ≡ with_one v from old
+    → old.undecided ≤ new.undecided
+no_fewer_undecided v from old new is = omega (arith, counted_undecided v from old new is)
+
+-- ---- replies
+
+-- What is told of a line is its reply.
+pub limited_reply : (prefix place : List ℕ) (default number : ℕ) (line row : List ℕ) (v : Option Verdict) (from : Option BoundSource)
+    (refusals : ℕ) → is_blank line ≡ false → place ≡ prefix ++ decimal number
+    → IsToldInTime place default line row v from → refusals ≡ refusals_of v → IsLimitedClaim prefix default number line row refusals
+limited_reply prefix place default number line row v from refusals filled at is count =
+    rw count (told row v from filled (subst (λ p. IsToldInTime p default line row v from) at is))
+
+-- So many records more were not decided.
+pub late_reply : (prefix place : List ℕ) (default number : ℕ) (line row : List ℕ) (v : Option Verdict) (from : Option BoundSource)
+    (old new : Counts) → is_blank line ≡ false → place ≡ prefix ++ decimal number → IsToldInTime place default line row v from
+    → new ≡ with_one v from old → IsLateClaim prefix default number line row (new.undecided - old.undecided)
+late_reply prefix place default number line row v from old new filled at is count =
+    let more : undecided_of v ≡ new.undecided - old.undecided = omega (arith, counted_undecided v from old new count) in
+    subst (IsLateClaim prefix default number line row) more
+    (marked row v from filled (subst (λ p. IsToldInTime p default line row v from) at is))
+
+-- A line that is too long is refused by that, whatever else is amiss.
+long_told : (place : List ℕ) (default : ℕ) (line row : List ℕ) → max_line < length line → row ≡ refused_row place (epd_fault_name fault.TooLong)
+    → IsToldInTime place default line row None None
+long_told place default line row long is =
+    in_time row None None (rw is (no_record fault.TooLong (record { applies = long; first = none_before line })))
+
+pub long_limited : (prefix place : List ℕ) (default number : ℕ) (line row : List ℕ) → is_blank line ≡ false
+    → max_line < length line → place ≡ prefix ++ decimal number
+    → row ≡ refused_row place (epd_fault_name fault.TooLong) → IsLimitedClaim prefix default number line row 1
+long_limited prefix place default number line row filled long at is =
+    limited_reply prefix place default number line row None None 1 filled at (long_told place default line row long is) refl
+
+pub long_unmarked : (prefix place : List ℕ) (default number : ℕ) (line row : List ℕ) → is_blank line ≡ false
+    → max_line < length line → place ≡ prefix ++ decimal number
+    → row ≡ refused_row place (epd_fault_name fault.TooLong) → IsLateClaim prefix default number line row 0
+long_unmarked prefix place default number line row filled long at is =
+    marked row None None filled (subst (λ p. IsToldInTime p default line row None None) at (long_told place default line row long is))

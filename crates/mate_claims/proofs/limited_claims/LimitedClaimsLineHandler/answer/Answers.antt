@@ -1,0 +1,20 @@
+use Rattle.std.proofs.Common.{◌++◌, decimal, refl}
+use Rattle.mate_claims.proofs.UndecidedClaims.{late_reply, limited_reply, no_fewer_undecided}
+use Rattle.mate_claims.proofs.limited_claims.LimitedClaimsLineHandler.answer.Goals as goal
+
+pub returns-clause-reply : goal.returns-clause-reply
+returns-clause-reply g c =
+    limited_reply c.args.self.now.prefix.now (c.args.self.now.prefix.now ++ decimal c.args.number) c.args.self.now.limited.now.default c.args.number
+    c.args.line.now c.in_ok-told.told.row.items c.in_ok-told.told.verdict c.in_ok-told.told.source
+    c.refusals.result c.requires.filled refl c.in_ok-told.ensures.told c.refusals.ensures.count
+
+pub returns-clause-marked : goal.returns-clause-marked
+returns-clause-marked g c =
+    late_reply c.args.self.now.prefix.now (c.args.self.now.prefix.now ++ decimal c.args.number) c.args.self.now.limited.now.default c.args.number
+    c.args.line.now c.in_ok-told.told.row.items c.in_ok-told.told.verdict c.in_ok-told.told.source
+    c.args.memory.now.counts c.tell.new.memory.counts c.requires.filled refl c.in_ok-told.ensures.told c.in_ok-told.ensures.counts
+
+pub returns-clause-grows : goal.returns-clause-grows
+returns-clause-grows g c =
+    no_fewer_undecided c.in_ok-told.told.verdict c.in_ok-told.told.source c.args.memory.now.counts c.tell.new.memory.counts
+    c.in_ok-told.ensures.counts

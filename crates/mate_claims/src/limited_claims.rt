@@ -1,0 +1,193 @@
+//! The lines of an input held against their own claims, row by row, where each record may take so long.
+
+ghost use Rattle.std.specs.Prelude.{◌≡◌, ◌++◌, ◌⊎◌, ℕ, IfOk, decimal};
+ghost use Rattle.chess_notation.specs.Words.{words_in};
+ghost use Rattle.chess_notation.specs.Records.{problem_of};
+ghost use Rattle.chess_problems.specs.declared.outcomes.Outcome.TheVariants.{NoMate};
+ghost use Rattle.mate_search.specs.inside.Truth.{truth};
+ghost use Rattle.mate_answers.specs.LimitedReplies.{IsNoneSoFar};
+ghost use Rattle.mate_claims.specs.ClaimReplies.{IsToldBy};
+ghost use Rattle.mate_claims.specs.Counts.{with_one};
+ghost use Rattle.mate_claims.specs.LimitedClaims.{IsToldInTime, IsToldLate, unjudged};
+ghost use Rattle.mate_claims.specs.Said.{said_by};
+
+use crate::bound_sources::{BoundSource, bound_source};
+use crate::claim_replies::{Told, told_by, told_of_fault, told_of_outcome};
+use crate::claim_rows::{place_of, refusals};
+use crate::counts::Counts;
+use crate::rows::{Found, refused_row};
+use crate::said::said_undecided;
+use byte_streams::NoMemory;
+use chess_moves::Rays;
+use chess_notation::{EpdFault, Record, bound_claimed, claims_text, read_record};
+use chess_problems::Outcome;
+use mate_answers::{Limited, TimeLimit, decide};
+use mate_search::{Guide, Solver};
+use std::alloc::Global;
+use text_lines::{LineHandler, Output};
+
+/// What holds lines against their own claims, by one who solves their records in so many seconds each, and what stands before the number of
+/// each line in its row.
+#[derive(Clone, Copy)]
+pub struct LimitedClaims<'a, 'r, T, S> {
+    pub limited: &'a Limited<'r, T, S>,
+    pub prefix: &'a [u8],
+}
+
+/// What goes from each line to the next: the memory of who solves them, and how many lines came to which verdict.
+#[derive(Drop)]
+pub struct LimitedClaimMemory<M> {
+    pub memory: M,
+    pub counts: Counts,
+}
+
+/// What is told of a record that was not decided, where these words stand behind `bm`.
+fn told_of_undecided(
+    alloc: Global,
+    rays: &Rays,
+    place: &[u8],
+    line: &[u8],
+    record: &Record,
+    source: BoundSource,
+    words: &[u8],
+) -> Result<Told, NoMemory>
+    ensures told { IfOk result (λ told. IsToldLate place.now «record».now source
+        (unjudged (said_by line.now words.now (words_in words.now) «record».now NoMate)) told.row.items told.verdict) }
+    ensures source { IfOk result (λ told. told.source ≡ Some source) }
+{
+    let said = said_undecided(alloc, rays, line, record, words)?;
+    let found = Found {
+        outcome: &Outcome::NoMate,
+        keys: b"",
+    };
+    told_by(alloc, place, record, source, &said, &found)
+}
+
+impl<T: TimeLimit, S: Solver<T>> LimitedClaims<'_, '_, T, S> {
+    /// What is told of a record, where these words stand behind `bm`.
+    fn tell_record(
+        &self,
+        alloc: Global,
+        place: &[u8],
+        line: &[u8],
+        record: &Record,
+        source: BoundSource,
+        words: &[u8],
+        memory: &mut S::Memory,
+    ) -> Result<Told, NoMemory>
+        requires { S.ready self.now.limited.now.solver }
+        ensures told { IfOk result (λ told. IsToldBy place.now «record».now source
+            (said_by line.now words.now (words_in words.now) «record».now (truth (problem_of «record».now))) told.row.items told.verdict
+            ⊎ ((none : ℕ) × IsNoneSoFar «record».now none × IsToldLate place.now «record».now source
+            (unjudged (said_by line.now words.now (words_in words.now) «record».now NoMate)) told.row.items told.verdict)) }
+        ensures source { IfOk result (λ told. told.source ≡ Some source) }
+        ensures room { S.room memory.new ≡ S.room memory.old }
+    {
+        let limited = self.limited;
+        limited.limit.begin();
+        let rays = limited.rays;
+        let guide = Guide {
+            rays,
+            halt: limited.limit,
+        };
+        match decide(&guide, &limited.solver, record, memory) {
+            Ok(outcome) => {
+                told_of_outcome(alloc, rays, place, line, record, source, words, &outcome)
+            }
+            Err(_) => told_of_undecided(alloc, rays, place, line, record, source, words),
+        }
+    }
+
+    /// What is told of a line that isn't blank.
+    #[tactic(auto, unfolding(chess_notation::specs::Claims::claim_words))]
+    fn tell_line(
+        &self,
+        alloc: Global,
+        place: &[u8],
+        line: &[u8],
+        memory: &mut S::Memory,
+    ) -> Result<Told, NoMemory>
+        requires { S.ready self.now.limited.now.solver }
+        ensures told { IfOk result (λ told. IsToldInTime place.now self.now.limited.now.default line.now told.row.items told.verdict told.source) }
+        ensures room { S.room memory.new ≡ S.room memory.old }
+    {
+        let limited = self.limited;
+        let words = claims_text(alloc, line)?;
+        let bound = bound_claimed(words.as_slice(), limited.default);
+        match read_record(alloc, limited.rays, line, bound) {
+            Ok(record) => {
+                let words = words.as_slice();
+                let default = limited.default;
+                let source = bound_source(alloc, limited.rays, line, words, &record, default)?;
+                self.tell_record(alloc, place, line, &record, source, words, memory)
+            }
+            Err(fault) => told_of_fault(alloc, place, fault),
+        }
+    }
+
+    /// What is told of a line, which is counted.
+    fn tell(
+        &self,
+        alloc: Global,
+        number: usize,
+        line: &[u8],
+        memory: &mut LimitedClaimMemory<S::Memory>,
+    ) -> Result<Told, NoMemory>
+        requires { S.ready self.now.limited.now.solver }
+        ensures told { IfOk result (λ told. IsToldInTime (self.now.prefix.now ++ decimal number) self.now.limited.now.default line.now
+            told.row.items told.verdict told.source) }
+        ensures counts { IfOk result (λ told. memory.new.counts ≡ with_one told.verdict told.source memory.old.counts) }
+        ensures room { S.room memory.new.memory ≡ S.room memory.old.memory }
+    {
+        let place = place_of(alloc, self.prefix, number)?;
+        let told = self.tell_line(alloc, place.as_slice(), line, &mut memory.memory)?;
+        let Some(counts) = memory.counts.with(told.verdict, told.source) else {
+            return Err(NoMemory);
+        };
+        memory.counts = counts;
+        Ok(told)
+    }
+}
+
+impl<T: TimeLimit, S: Solver<T>> LineHandler for LimitedClaims<'_, '_, T, S> {
+    ghost use Rattle.mate_claims.specs.LimitedClaims.{IsLateClaim, IsLimitedClaim, skipped, unmarked as none_marked};
+
+    type Memory = LimitedClaimMemory<S::Memory>;
+
+    ghost ready = { λ claims. S.ready claims.limited.now.solver };
+
+    ghost replies = { λ claims. IsLimitedClaim claims.prefix.now claims.limited.now.default };
+
+    ghost marks = { λ claims. IsLateClaim claims.prefix.now claims.limited.now.default };
+
+    ghost tally = { λ memory. memory.counts.undecided };
+
+    ghost room = { λ memory. S.room memory.memory };
+
+    /// The row of a line, with a newline behind it. A record that is not decided is counted.
+    fn answer(
+        &self,
+        alloc: Global,
+        number: usize,
+        line: &[u8],
+        memory: &mut LimitedClaimMemory<S::Memory>,
+    ) -> Result<Output, NoMemory> {
+        let told = self.tell(alloc, number, line, memory)?;
+        Ok(Output {
+            refused: refusals(told.verdict),
+            text: told.row,
+        })
+    }
+
+    fn refuse_long(&self, alloc: Global, number: usize) -> Result<Output, NoMemory> {
+        let place = place_of(alloc, self.prefix, number)?;
+        Ok(Output {
+            text: refused_row(alloc, place.as_slice(), EpdFault::TooLong.code())?,
+            refused: 1,
+        })
+    }
+
+    ghost skips = { λ claims number line blank. skipped blank };
+
+    ghost unmarked = { λ claims number line blank. none_marked blank };
+}

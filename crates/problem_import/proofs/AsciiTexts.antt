@@ -1,0 +1,59 @@
+-- What stands for a line in ASCII.
+use Rattle.std.proofs.Common.{◌≡◌, ℕ, List, [], ◌∷◌, ◌++◌, length, ◌==◌, Bool, true, false, ◌||◌, if◌then◌else◌, Option, Some, None, refl, ap, sym, ◌∙◌, append_assoc}
+use Rattle.std.specs.List.{list_all}
+use Rattle.std.proofs.lemmas.Bool.{and_parts}
+use Rattle.std.proofs.lemmas.List.{append-nil}
+use Rattle.chess_notation.specs.Operations.{is_printable}
+use Rattle.problem_import.specs.Imports.{IsRecord}
+use Rattle.problem_import.specs.Letters.{IsAscii, IsTextOf, is_plain_byte, plain_before, plain_byte, plain_front, trimmed}
+use Rattle.problem_import.proofs.FieldTexts.{some_of}
+
+chosen : (p : Bool) (x y : Option ℕ) → p ≡ true → (if p then x else y) ≡ x
+chosen true x y is = refl
+chosen false x y is = let no : false ≡ true = is in cc
+
+itself : (b : ℕ) → is_printable b ≡ true → plain_byte b ≡ Some b
+itself b is = chosen (is_printable b) (Some b) (if (b == 9) || (b == 13) then Some 32 else None) is
+
+printable_front : (line : List ℕ) → list_all is_printable line ≡ true → plain_front line ≡ line
+printable_front [] is = refl
+printable_front (b ∷ bs) is =
+    let parts = and_parts (is_printable b) (list_all is_printable bs) is in
+    ap (λ p. plain_before p (plain_front bs)) (itself b parts.0) ∙ ap (λ t. b ∷ t) (printable_front bs parts.1)
+
+pub printable_ascii : (line text : List ℕ) → list_all is_printable line ≡ true → text ≡ line → IsAscii line text
+unfolding IsAscii
+printable_ascii line text are is = ([], is ∙ sym (printable_front line are) ∙ sym (append-nil (plain_front line)), λ _. refl)
+
+pub front_ascii : (line none text : List ℕ) → none ≡ [] → text ≡ none ++ plain_front line → IsAscii line text
+unfolding IsAscii
+front_ascii line none text empty is = ([], is ∙ ap (λ t. t ++ plain_front line) empty ∙ sym (append-nil (plain_front line)), λ _. refl)
+
+pub behind_front : (line none front more text back : List ℕ) → none ≡ [] → front ≡ none ++ plain_front line → text ≡ front ++ more
+    → (list_all is_plain_byte line ≡ true → back ≡ []) → (length back == 0) ≡ false → IsAscii line text
+unfolding IsAscii
+behind_front line none front more text back empty first is whole some =
+    (more, is ∙ ap (λ t. t ++ more) (first ∙ ap (λ t. t ++ plain_front line) empty), λ all. absurd (some_of back some (whole all)))
+
+-- ---- what a line says
+
+pub says_trimmed : (line ascii text : List ℕ) → IsAscii line ascii → text ≡ trimmed ascii → IsTextOf line text
+unfolding IsTextOf
+says_trimmed line ascii text is same = (ascii, is, same)
+
+pub record_says : (line text : List ℕ) → IsRecord line → text ≡ trimmed line → IsTextOf line text
+record_says line text (r, reads) same = says_trimmed line line text (printable_ascii line line reads.printable refl) same
+
+-- ---- a byte more
+
+pub front_more : (line rest more : List ℕ) (b p : ℕ) (text old new : List ℕ) → rest ≡ b ∷ more → plain_byte b ≡ Some p → new ≡ old ++ p ∷ []
+    → old ++ plain_front rest ≡ text ++ plain_front line → new ++ plain_front more ≡ text ++ plain_front line
+front_more line rest more b p text old new is one grown before =
+    let here : plain_front rest ≡ p ∷ plain_front more = ap plain_front is ∙ ap (λ o. plain_before o (plain_front more)) one in
+    ap (λ t. t ++ plain_front more) grown ∙ append_assoc old (p ∷ []) (plain_front more) ∙ ap (λ t. old ++ t) (sym here) ∙ before
+
+pub front_ends : (line rest more : List ℕ) (b : ℕ) (text new : List ℕ) → rest ≡ b ∷ more → plain_byte b ≡ None
+    → new ++ plain_front rest ≡ text ++ plain_front line → new ≡ text ++ plain_front line
+front_ends line rest more b text new is none before =
+    let here : plain_front rest ≡ [] = ap plain_front is ∙ ap (λ o. plain_before o (plain_front more)) none in
+    sym (append-nil new) ∙ ap (λ t. new ++ t) (sym here) ∙ before

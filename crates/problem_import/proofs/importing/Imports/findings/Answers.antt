@@ -1,0 +1,7 @@
+use Rattle.problem_import.proofs.Findings.{none_found}
+use Rattle.problem_import.proofs.importing.Imports.findings.Goals as goal
+
+pub returns-clause-own : goal.returns-clause-own
+returns-clause-own c =
+    c.in_ok-take.ensures.own
+    (c.in_ok-note_long.ensures.own c.args.line.now (none_found c.args.line.now c.new-findings.result.items c.new-findings.ensures.items))

@@ -1,0 +1,4 @@
+use Rattle.problem_import.proofs.reading.finish_popeye.Goals as goal
+
+pub returns-clause-own : goal.returns-clause-own
+returns-clause-own c = λ line before. c.in_ok-push_finding.ensures.own line before (c.in_ok-found.ensures line)

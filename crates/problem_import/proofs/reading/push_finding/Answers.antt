@@ -1,0 +1,6 @@
+use Rattle.problem_import.proofs.Findings.{one_found}
+use Rattle.problem_import.proofs.reading.push_finding.Goals as goal
+
+pub returns-clause-own : goal.returns-clause-own
+returns-clause-own c = λ line before one.
+    one_found line c.args.findings.now.items c.push.new.self.items c.args.finding c.in_ok-push.ensures.items before one

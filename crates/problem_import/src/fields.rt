@@ -1,0 +1,102 @@
+//! The four fields with which a text begins, and what stands behind them.
+
+ghost use Rattle.std.specs.Prelude.{◌≡◌, IfOk};
+ghost use Rattle.chess_notation.specs.RecordFields.{behind_fields, line_fields};
+ghost use Rattle.problem_import.specs.inside.FieldTexts.{GoesOn, IsBehindFields};
+
+use crate::texts::{after_spaces, are_digits, push_word, word_at};
+use chess_board::{Position, read_fields};
+use std::alloc::{AllocError, Global};
+
+/// The first four words of a text, of which any may be empty, and what stands behind them.
+#[derive(Clone, Copy)]
+pub(crate) struct FieldWords<'t> {
+    pub(crate) placement: &'t [u8],
+    pub(crate) side: &'t [u8],
+    pub(crate) castling: &'t [u8],
+    pub(crate) target: &'t [u8],
+    pub(crate) behind: &'t [u8],
+}
+
+/// Takes the first four words of a text off.
+#[tactic(auto, unfolding(chess_notation::specs::RecordFields::fourth_word, chess_notation::specs::RecordFields::line_fields, chess_notation::specs::RecordFields::behind_fields))]
+pub(crate) fn field_words(text: &[u8]) -> FieldWords<'_>
+    ensures fields { line_fields text.now
+        ≡ record { placement = result.placement.now; side = result.side.now; castling = result.castling.now; target = result.target.now } }
+    ensures behind { result.behind.now ≡ behind_fields text.now }
+{
+    let (placement, rest) = word_at(text);
+    let (side, rest) = word_at(rest);
+    let (castling, rest) = word_at(rest);
+    let (target, behind) = word_at(rest);
+    FieldWords {
+        placement,
+        side,
+        castling,
+        target,
+        behind,
+    }
+}
+
+/// What stands behind two counters, as far as they are there.
+pub(crate) fn behind_counters(behind: &[u8]) -> &[u8] {
+    let mut rest = behind;
+    for _ in 0..2 {
+        let (word, more) = word_at(rest);
+        if !are_digits(word) {
+            break;
+        }
+        rest = more;
+    }
+    rest
+}
+
+/// Adds two counters, as far as they are there, each behind a space; gives what stands behind.
+pub(crate) fn push_counters<'t>(
+    text: &mut Vec<u8>,
+    behind: &'t [u8],
+) -> Result<&'t [u8], AllocError> {
+    let mut rest = behind;
+    for _ in 0..2 {
+        let (word, more) = word_at(rest);
+        if !are_digits(word) {
+            break;
+        }
+        push_word(text, word)?;
+        rest = more;
+    }
+    Ok(rest)
+}
+
+/// Adds what stands behind fields, with one space before it; nothing where that is blank.
+pub(crate) fn push_behind(text: &mut Vec<u8>, more: &[u8]) -> Result<(), AllocError>
+    ensures { IfOk result (λ _. GoesOn text.old.items text.new.items) }
+{
+    let more = after_spaces(more);
+    if more.is_empty() {
+        return Ok(());
+    }
+    push_word(text, more)?;
+    Ok(())
+}
+
+impl FieldWords<'_> {
+    /// The position that they say, if they say one.
+    pub(crate) fn position(&self) -> Option<Position> {
+        read_fields(self.placement, self.side, self.castling, self.target).ok()
+    }
+
+    /// They with one space between each two, and what else is said behind another.
+    pub(crate) fn text_before(&self, alloc: Global, more: &[u8]) -> Result<Vec<u8>, AllocError>
+        ensures { IfOk result (λ text. IsBehindFields
+            (record { placement = self.now.placement.now; side = self.now.side.now; castling = self.now.castling.now; target = self.now.target.now })
+            text.items) }
+    {
+        let mut text = Vec::from_slice(alloc, self.placement)?;
+        push_word(&mut text, self.side)?;
+        push_word(&mut text, self.castling)?;
+        push_word(&mut text, self.target)?;
+        push_behind(&mut text, more)?;
+        Ok(text)
+    }
+}

@@ -1,0 +1,166 @@
+//! Inputs of collections whose men have the letters of a language, imported line by line.
+
+ghost use Rattle.std.specs.Prelude.{◌≡◌, ◌≢◌, ◌≤◌, ◌<◌, ◌+◌, List, ℕ, Bool, IfErr, IfOk, length};
+ghost use Rattle.std.specs.Io.KnownBytes.{Appends};
+ghost use Rattle.byte_streams.specs.Inputs.{MayBe};
+ghost use Rattle.byte_streams.specs.Stops.{AppendsBy};
+ghost use Rattle.problem_import.specs.Imports.{AreImported, IsMade, IsRecord};
+ghost use Rattle.problem_import.specs.LetteredImports.{IsImportIn, IsImportOfFirstIn, IsLettered, IsLetteredOfFirst, LetteredAreRecords};
+ghost use Rattle.problem_import.specs.inside.OpenProblems.{due};
+
+use crate::import_faults::ImportFault;
+use crate::importing::{Imports, import_input, output_of, put_last};
+use crate::line_kinds::{LineKind, kind_of};
+use crate::printing::Printed;
+use crate::reading::Reading;
+use byte_streams::{Input, NoMemory, Stop};
+use chess_moves::Rays;
+use chess_notation::{Bound, EpdFault};
+use lettered_placements::line_read;
+use move_words::Letters;
+use std::alloc::Global;
+use std::io::Write;
+use text_lines::{LineHandler, Output, answer_input};
+
+/// What imports lines whose men have such letters.
+#[derive(Drop)]
+struct LetteredImports<'a> {
+    imports: Imports<'a>,
+    letters: Letters,
+}
+
+/// A line that is read by letters is made anew, also where nothing is to mend.
+fn kind_anew(kind: LineKind) -> LineKind
+    ensures clean { result ≢ LineKind.Clean }
+    ensures other { result ≡ LineKind.Other → kind ≡ LineKind.Other }
+    ensures mendable { result ≡ LineKind.Mendable → kind ≢ LineKind.Other }
+{
+    match kind {
+        LineKind::Clean | LineKind::Mendable => LineKind::Mendable,
+        LineKind::Other => LineKind::Other,
+    }
+}
+
+impl LetteredImports<'_> {
+    /// What is printed once a line is taken, as the letters say it.
+    fn reply(
+        &self,
+        alloc: Global,
+        number: usize,
+        line: &[u8],
+        reading: &mut Reading,
+    ) -> Result<Printed, NoMemory>
+        ensures imported { IfOk result (λ printed. AreImported (IsMade self.now.imports.printing.keep line.now) printed.text.items printed.any) }
+        ensures kept { IfOk result (λ printed. IsRecord line.now → 0 < length printed.text.items) }
+        ensures ended { IfOk result (λ printed. due reading.old.open ≤ due reading.new.open + length printed.text.items) }
+    {
+        let first = kind_of(alloc, self.imports.printing.rays, line)?;
+        let kind = kind_anew(first);
+        let findings = self.imports.findings(alloc, number, line, kind, reading)?;
+        let printing = &self.imports.printing;
+        let printed = printing.printed(alloc, line, findings.as_slice())?;
+        Ok(printed)
+    }
+}
+
+impl LetteredImports<'_> {
+    /// What is printed of a line that is too long: nothing of one that is passed over.
+    fn long_reply(&self, alloc: Global, number: usize) -> Result<Printed, NoMemory>
+        ensures imported { IfOk result (λ printed. (keep : Bool) (line : List ℕ) → AreImported (IsMade keep line) printed.text.items printed.any) }
+    {
+        let mut printed = Printed::new(alloc);
+        if self.imports.passes_long(number) {
+            return Ok(printed);
+        }
+        printed.push_refusal(alloc, number, ImportFault::Record(EpdFault::TooLong))?;
+        Ok(printed)
+    }
+}
+
+impl LineHandler for LetteredImports<'_> {
+    ghost use Rattle.problem_import.specs.LetteredImports.{IsLetteredReply, skipped};
+
+    type Memory = Reading;
+
+    ghost replies = { λ imports. IsLetteredReply imports.letters imports.imports.printing.keep };
+
+    ghost room = { λ _. 0 };
+
+    fn answer(
+        &self,
+        alloc: Global,
+        number: usize,
+        line: &[u8],
+        reading: &mut Reading,
+    ) -> Result<Output, NoMemory> {
+        let read = line_read(alloc, &self.letters, line)?;
+        let printed = self.reply(alloc, number, read.as_slice(), reading)?;
+        Ok(output_of(printed))
+    }
+
+    fn refuse_long(&self, alloc: Global, number: usize) -> Result<Output, NoMemory> {
+        let printed = self.long_reply(alloc, number)?;
+        Ok(output_of(printed))
+    }
+
+    ghost skips = { λ _ number line blank. skipped blank };
+
+    ghost unmarked = { λ _ _ _ _. tt };
+}
+
+/// Imports an input by letters, over what goes from line to line.
+fn import_lettered<I: Input + Drop, O: Write>(
+    alloc: Global,
+    imports: &LetteredImports<'_>,
+    input: I,
+    reading: &mut Reading,
+    out: &mut O,
+) -> Result<usize, Stop>
+    ensures ok { IfOk result (λ count. (bytes : List ℕ) × (text : List ℕ) × MayBe (I.left input) bytes
+        × IsLettered imports.now.letters imports.now.imports.printing.keep bytes text count × Appends (O.contents out.old) (O.contents out.new) text) }
+    ensures err { IfErr result (λ stop. (bytes : List ℕ) × (text : List ℕ) × MayBe (I.left input) bytes
+        × IsLetteredOfFirst imports.now.letters imports.now.imports.printing.keep bytes text
+        × AppendsBy stop (O.contents out.old) (O.contents out.new) text) }
+    ensures unreadable { IfErr result (λ stop. stop ≡ Stop.Unreadable → I.breaks input) }
+{
+    match answer_input(alloc, imports, input, reading, out) {
+        Ok(count) => put_last(alloc, &imports.imports, count, reading, out),
+        Err(stop) => Err(stop),
+    }
+}
+
+/// Imports an input as `import_input` does, of which men have such letters: in placements, in the moves that records claim and avoid, and in a
+/// game's first. Figurines mean the same in each language, and problems for Popeye have letters of their own.
+///
+/// Where the letters aren't English, every line is made anew: a placement's letter that is no man's is `?`, and a move that is one in English
+/// alone stands behind `?`.
+pub fn import_input_in<I: Input + Drop, O: Write>(
+    alloc: Global,
+    rays: &Rays,
+    letters: &Letters,
+    keep: bool,
+    bound: Option<Bound>,
+    input: I,
+    out: &mut O,
+) -> Result<usize, Stop>
+    ensures ok { IfOk result (λ count. (bytes : List ℕ) × (text : List ℕ) × MayBe (I.left input) bytes
+        × IsImportIn letters.now keep bytes text count × Appends (O.contents out.old) (O.contents out.new) text) }
+    ensures err { IfErr result (λ stop. (bytes : List ℕ) × (text : List ℕ) × MayBe (I.left input) bytes
+        × IsImportOfFirstIn letters.now keep bytes text × AppendsBy stop (O.contents out.old) (O.contents out.new) text) }
+    ensures unreadable { IfErr result (λ stop. stop ≡ Stop.Unreadable → I.breaks input) }
+{
+    if letters.is_english() {
+        return import_input(alloc, rays, keep, bound, input, out);
+    }
+    let imports = LetteredImports {
+        imports: Imports::lettered(rays, *letters, keep, bound),
+        letters: *letters,
+    };
+    let mut reading = Reading::lettered(*letters);
+    import_lettered(alloc, &imports, input, &mut reading, out)
+}
+
+/// A law: whatever was read by letters, records and refusals are printed.
+pub fn lettered_are_records()
+    ensures { LetteredAreRecords }
+{}

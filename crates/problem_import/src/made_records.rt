@@ -1,0 +1,73 @@
+//! Records made of problems that were found.
+
+ghost use Rattle.std.specs.Prelude.{IfOk};
+ghost use Rattle.problem_import.specs.Imports.{IsRecord};
+
+use crate::import_faults::ImportFault;
+use crate::line_kinds::record_fault;
+use crate::moves::with_moves;
+use crate::reading::Found;
+use crate::texts::push_bound_operation;
+use byte_streams::NoMemory;
+use chess_moves::Rays;
+use chess_notation::Bound;
+use move_words::Letters;
+use std::alloc::Global;
+
+/// The text, if it is a record, or its fault.
+fn checked(
+    alloc: Global,
+    rays: &Rays,
+    text: Vec<u8>,
+) -> Result<Result<Vec<u8>, ImportFault>, NoMemory>
+    ensures { IfOk result (λ made. IfOk made (λ text. IsRecord text.items)) }
+{
+    match record_fault(alloc, rays, text.as_slice())? {
+        None => Ok(Ok(text)),
+        Some(fault) => Ok(Err(ImportFault::Record(fault))),
+    }
+}
+
+/// The record that a text is with the bound of those that say none, or why there is none.
+fn bounded(
+    alloc: Global,
+    rays: &Rays,
+    bound: Option<Bound>,
+    text: Vec<u8>,
+) -> Result<Result<Vec<u8>, ImportFault>, NoMemory>
+    ensures { IfOk result (λ made. IfOk made (λ text. IsRecord text.items)) }
+{
+    let mut text = text;
+    match (record_fault(alloc, rays, text.as_slice())?, bound) {
+        (None, Some(bound)) => {
+            push_bound_operation(&mut text, bound.get())?;
+            checked(alloc, rays, text)
+        }
+        (None, None) => Ok(Err(ImportFault::NoBound)),
+        (Some(fault), _) => Ok(Err(ImportFault::Record(fault))),
+    }
+}
+
+/// The record that is made of what was found, whose moves have such letters, or why there is none.
+pub(crate) fn made_record(
+    alloc: Global,
+    rays: &Rays,
+    letters: &Letters,
+    bound: Option<Bound>,
+    found: &Found,
+) -> Result<Result<Vec<u8>, ImportFault>, NoMemory>
+    ensures { IfOk result (λ made. IfOk made (λ text. IsRecord text.items)) }
+{
+    match found {
+        Found::Text(text, changes, is_bound) => {
+            let mut changes = *changes;
+            let text = with_moves(alloc, rays, letters, text.as_slice(), &mut changes)?;
+            if *is_bound {
+                checked(alloc, rays, text)
+            } else {
+                bounded(alloc, rays, bound, text)
+            }
+        }
+        Found::Fault(fault) => Ok(Err(*fault)),
+    }
+}
