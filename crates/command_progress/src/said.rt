@@ -113,6 +113,18 @@ fn behind<'t>(line: &'t [u8], text: &[u8]) -> Option<&'t [u8]> {
     None
 }
 
+/// What is said in the comment of an object in JSON: that none was found in time, or else that there is none.
+fn said_by_comment(comment: &[u8]) -> Said {
+    if comment.starts_with(b"not decided within ") {
+        return Said::Undecided;
+    }
+    match comment.strip_prefix(b"no mate in ".as_slice()) {
+        Some([_, b',', ..]) => Said::Undecided,
+        Some([_, second, b',', ..]) if second.is_ascii_digit() => Said::Undecided,
+        _ => Said::NoMate,
+    }
+}
+
 /// What an object in JSON says. In its strings a quotation mark stands behind a stroke, so these are its own members.
 fn said_by_object(line: &[u8]) -> Said {
     if behind(line, b",\"error\":\"").is_some() {
@@ -126,7 +138,10 @@ fn said_by_object(line: &[u8]) -> Said {
             *first, *second,
         ])),
         Some([first, ..]) if first.is_ascii_digit() => Said::Mate(number_in(&[*first])),
-        _ => Said::NoMate,
+        _ => match behind(line, b"\"c0\":[\"") {
+            Some(comment) => said_by_comment(comment),
+            None => Said::NoMate,
+        },
     }
 }
 

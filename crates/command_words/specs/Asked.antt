@@ -39,7 +39,9 @@ pub data Asked : Type 0 where
   solve : ℕ → ℕ → ℕ → List Text → Asked
   solve_json : ℕ → ℕ → ℕ → List Text → Asked
   solve_on : ℕ → ℕ → ℕ → ℕ → List Text → Asked
+  solve_json_on : ℕ → ℕ → ℕ → ℕ → List Text → Asked
   limited : ℕ → ℕ → ℕ → ℕ → List Text → Asked
+  limited_json : ℕ → ℕ → ℕ → ℕ → List Text → Asked
   verify : ℕ → ℕ → Bool → ℕ → List Text → Asked
   verify_json : ℕ → ℕ → ℕ → List Text → Asked
   verify_imported : Option ℕ → ℕ → Bool → ℕ → List Text → Asked
@@ -157,21 +159,22 @@ abbrev pub solve_at : Option ℕ → ℕ → ℕ → ℕ → ℕ → List Text �
 solve_at None workers bound memo from names = if workers == 1 then solve bound memo from names else solve_on workers bound memo from names
 solve_at (Some seconds) workers bound memo from names = limited seconds bound memo from names
 
--- the same in JSON, which one worker writes without a limit
-abbrev pub solve_json_at : Option ℕ → ℕ → ℕ → ℕ → ℕ → List Text → Option Asked
-solve_json_at None workers bound memo from names = if workers == 1 then Some (solve_json bound memo from names) else None
-solve_json_at (Some seconds) workers bound memo from names = None
+-- the same in JSON
+abbrev pub solve_json_at : Option ℕ → ℕ → ℕ → ℕ → ℕ → List Text → Asked
+solve_json_at None workers bound memo from names =
+    if workers == 1 then solve_json bound memo from names else solve_json_on workers bound memo from names
+solve_json_at (Some seconds) workers bound memo from names = limited_json seconds bound memo from names
 
 -- which of these
-abbrev pub solve_as : Bool → Option ℕ → ℕ → ℕ → ℕ → ℕ → List Text → Option Asked
-solve_as false limit workers bound memo from names = Some (solve_at limit workers bound memo from names)
+abbrev pub solve_as : Bool → Option ℕ → ℕ → ℕ → ℕ → ℕ → List Text → Asked
+solve_as false limit workers bound memo from names = solve_at limit workers bound memo from names
 solve_as true limit workers bound memo from names = solve_json_at limit workers bound memo from names
 
 -- what the arguments of `solve` ask for
 unfoldable pub solve_in : List Row → Option Asked
 solve_in rows =
     option_and_then (λ workers. option_and_then (λ bound. option_and_then
-    (λ memo. option_and_then (λ from. option_and_then
+    (λ memo. option_and_then (λ from. option_map
     (λ names. solve_as (is_given (codes "json") rows) (limit_in rows) workers bound memo from names) (all_of (codes "FILE") rows))
     (from_in rows)) (memo_size_in rows)) (bound_in rows)) (workers_in rows)
 
@@ -290,7 +293,9 @@ asked_by name rows =
 abbrev pub is_threaded : Asked → Bool
 is_threaded (serve workers bound memo names) = true
 is_threaded (solve_on workers bound memo from names) = true
+is_threaded (solve_json_on workers bound memo from names) = true
 is_threaded (limited seconds bound memo from names) = true
+is_threaded (limited_json seconds bound memo from names) = true
 is_threaded (verify_limited seconds bound memo header from names) = true
 is_threaded uci = true
 is_threaded _ = false

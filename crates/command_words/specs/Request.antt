@@ -1,11 +1,12 @@
 -- What a request asks for.
 use Rattle.std.specs.Prelude.{[], map, option_map, unwrap_or}
-use Rattle.command_words.specs.Asked.{Asked, look, board, svg, play, moves, moves_json, perft, divide, lines, solve, solve_json, solve_on}
-use Rattle.command_words.specs.Asked.{limited, verify, verify_limited, verify_json, verify_imported, tree, sheet, imports, serve, replay, explain, uci}
+use Rattle.command_words.specs.Asked.{Asked, look, board, svg, play, moves, moves_json, perft, divide, lines, solve, solve_json, solve_on, solve_json_on}
+use Rattle.command_words.specs.Asked.{limited, limited_json, verify, verify_limited, verify_json, verify_imported, tree, sheet, imports, serve, replay}
+use Rattle.command_words.specs.Asked.{explain, uci}
 use Rattle.command_words.specs.declared.request.Request.{Request}
 use Rattle.command_words.specs.declared.request.Request.TheVariants.{Look, Board, Svg, Play, Moves, MovesJson, Perft, Divide, Lines}
-use Rattle.command_words.specs.declared.request.Request.TheVariants.{Solve, SolveJson, SolveOn, Limited, Verify, VerifyLimited, VerifyJson, VerifyImported}
-use Rattle.command_words.specs.declared.request.Request.TheVariants.{Tree, Sheet, Import, Serve, Replay, Explain, Uci}
+use Rattle.command_words.specs.declared.request.Request.TheVariants.{Solve, SolveJson, SolveOn, SolveJsonOn, Limited, LimitedJson, Verify, VerifyLimited}
+use Rattle.command_words.specs.declared.request.Request.TheVariants.{VerifyJson, VerifyImported, Tree, Sheet, Import, Serve, Replay, Explain, Uci}
 
 abbrev pub plan_of : Request → Asked
 plan_of (Look fen) = look fen.now
@@ -20,7 +21,9 @@ plan_of (Lines view names) = lines view (map (λ s. s.now) names.now)
 plan_of (Solve bound memo files) = solve bound memo files.from (map (λ s. s.now) files.names.now)
 plan_of (SolveJson bound memo files) = solve_json bound memo files.from (map (λ s. s.now) files.names.now)
 plan_of (SolveOn workers bound memo files) = solve_on workers bound memo files.from (map (λ s. s.now) files.names.now)
+plan_of (SolveJsonOn workers bound memo files) = solve_json_on workers bound memo files.from (map (λ s. s.now) files.names.now)
 plan_of (Limited asked) = limited asked.seconds asked.bound asked.memo asked.files.from (map (λ s. s.now) asked.files.names.now)
+plan_of (LimitedJson asked) = limited_json asked.seconds asked.bound asked.memo asked.files.from (map (λ s. s.now) asked.files.names.now)
 plan_of (Verify bound memo header files) = verify bound memo header files.from (map (λ s. s.now) files.names.now)
 plan_of (VerifyJson bound memo files) = verify_json bound memo files.from (map (λ s. s.now) files.names.now)
 plan_of (VerifyImported bound memo header files) = verify_imported bound memo header files.from (map (λ s. s.now) files.names.now)

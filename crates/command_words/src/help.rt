@@ -86,7 +86,7 @@ A sound problem then has no mate within its bound:
 
 The FILE `-` is standard input; a file by that name is `./-`. With --record or --fen there
 are no files: `matedesk solve --fen '7k/8/5K2/8/8/8/8/R7 w - -' --bound 2`. With --json each
-answer is an object in JSON, without --limit and --workers:
+answer is an object in JSON:
   {\"line\":1,\"fen\":\"7k/8/5K2/8/8/8/8/R7 w - -\",\"bm\":[\"Kf7\",\"Kg6\"],\"dm\":2,
   \"pv\":[\"Kg6\",\"Kg8\",\"Ra8#\"],\"operations\":{}}
 

@@ -132,10 +132,14 @@ pub enum Request<'m, 'a> {
     Solve(Bound, MemoSize, Files<'m, 'a>),
     /// The same in JSON.
     SolveJson(Bound, MemoSize, Files<'m, 'a>),
-    /// The same, each record by so many workers, each over a memo of such a size.
+    /// Answer them, each record by so many workers, each over a memo of such a size.
     SolveOn(Workers, Bound, MemoSize, Files<'m, 'a>),
-    /// The same, where each record may take so many seconds.
+    /// The same in JSON.
+    SolveJsonOn(Workers, Bound, MemoSize, Files<'m, 'a>),
+    /// Answer them, where each record may take so many seconds.
     Limited(LimitedSolve<'m, 'a>),
+    /// The same in JSON.
+    LimitedJson(LimitedSolve<'m, 'a>),
     /// Hold the records of files, in order, against their own claims, over a memo of such a size; the bound is for records that say none.
     /// Whether a first row names the fields.
     Verify(Bound, MemoSize, bool, Files<'m, 'a>),
@@ -414,7 +418,7 @@ fn solve_with<'m, 'a>(
     }
 }
 
-/// What `solve` is asked for in JSON; nothing with a limit or more than one worker.
+/// What `solve` is asked for in JSON.
 fn solve_json_with<'m, 'a>(
     limit: Option<u32>,
     workers: Workers,
@@ -422,13 +426,24 @@ fn solve_json_with<'m, 'a>(
     memo: MemoSize,
     from: LineNumber,
     names: &'m [&'a str],
-) -> Option<Request<'m, 'a>>
-    ensures { option_map plan_of result ≡ solve_json_at limit workers bound memo from (map (λ s. s.now) names.entry.now) }
+) -> Request<'m, 'a>
+    ensures { plan_of result ≡ solve_json_at limit workers bound memo from (map (λ s. s.now) names.entry.now) }
 {
-    if limit.is_some() || workers.get() != 1 {
-        return None;
+    let files = Files { names, from };
+    if let Some(seconds) = limit {
+        return Request::LimitedJson(LimitedSolve {
+            seconds,
+            workers,
+            bound,
+            memo,
+            files,
+        });
     }
-    Some(Request::SolveJson(bound, memo, Files { names, from }))
+    if workers.get() == 1 {
+        Request::SolveJson(bound, memo, files)
+    } else {
+        Request::SolveJsonOn(workers, bound, memo, files)
+    }
 }
 
 /// What the arguments of `solve` ask for.
@@ -442,11 +457,11 @@ fn solve_in<'m, 'a>(matches: &'m ArgMatches<'a>) -> Option<Request<'m, 'a>>
     let from = from_in(matches)?;
     let names = names_in(matches, "FILE")?;
     let limit = limit_in(matches);
-    if is_given(matches, "json") {
+    Some(if is_given(matches, "json") {
         solve_json_with(limit, workers, bound, memo, from, names)
     } else {
-        Some(solve_with(limit, workers, bound, memo, from, names))
-    }
+        solve_with(limit, workers, bound, memo, from, names)
+    })
 }
 
 /// The bound of records that say none, where none is given.

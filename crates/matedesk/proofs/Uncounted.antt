@@ -5,13 +5,18 @@ use Rattle.std.proofs.KnownBytes.{Appends-nil, Keeps-refl}
 use Rattle.byte_streams.specs.declared.stops.Stop.{Stop}
 use Rattle.byte_streams.specs.declared.stops.Stop.TheVariants as stop
 use Rattle.clap.specs.Words.{Text}
-use Rattle.command_words.specs.Asked.{Asked, look, board, svg, play, moves, moves_json, perft, divide, lines, solve, solve_json, solve_on}
-use Rattle.command_words.specs.Asked.{limited, verify, verify_json, verify_imported, verify_limited, tree, sheet, imports, serve, replay, explain, uci, asks_threads}
+use Rattle.command_words.specs.Asked.{Asked, look, board, svg, play, moves, moves_json, perft, divide, lines, solve, solve_json, solve_on, solve_json_on}
+use Rattle.command_words.specs.Asked.{limited, limited_json, verify, verify_json, verify_imported, verify_limited, tree, sheet, imports, serve, replay}
+use Rattle.command_words.specs.Asked.{explain, uci, asks_threads}
 use Rattle.plain_commands.specs.Command.{Ends, EndsByStatus, EndsInPart, Shown, ShownInPart, Stops}
 use Rattle.file_answers.specs.Sources.{held, held_back}
 use Rattle.file_answers.specs.Status.{status_of}
 use Rattle.file_answers.specs.Writing.{Gains}
 use Rattle.file_solving.specs.Solved.{LimitedNone, SolvesNone}
+use Rattle.json_commands.proofs.Unopened.{stops_at_once}
+use Rattle.json_replies.specs.declared.replies.Form.TheVariants.{Answer}
+use Rattle.mate_answers.specs.InputReplies.{IsLineReply}
+use Rattle.mate_answers.specs.LimitedReplies.{IsLimitedReply}
 
 -- Nothing is written, and the status is that of no memory.
 pub ends_uncounted : (holds : Text → Option (List ℕ)) (refuses : Text → Type 0) → EndsByStatus holds refuses → LimitedNone
@@ -20,6 +25,13 @@ pub ends_uncounted : (holds : Text → Option (List ℕ)) (refuses : Text → Ty
 ends_uncounted holds refuses ends none seconds bound memo from names out =
     ends (limited seconds bound memo from names) (Err stop.NoMemory) 3 out out refl tt
     (record { gained = []; shows = none holds seconds bound from names; appends = Appends-nil out })
+
+pub ends_uncounted_json : (holds : Text → Option (List ℕ)) (refuses : Text → Type 0) → EndsByStatus holds refuses
+    → (seconds bound memo from : ℕ) (names : List Text) (out : Option (List ℕ))
+    → Ends holds refuses (Some (limited_json seconds bound memo from names)) 3 out out
+ends_uncounted_json holds refuses ends seconds bound memo from names out =
+    ends (limited_json seconds bound memo from names) (Err stop.NoMemory) 3 out out refl tt
+    (stops_at_once holds refuses Answer (IsLimitedReply seconds bound) from names out out (Keeps-refl out))
 
 pub ends_unverified : (holds : Text → Option (List ℕ)) (refuses : Text → Type 0) → EndsByStatus holds refuses
     → (seconds bound memo : ℕ) (header : Bool) (from : ℕ) (names : List Text) (out : Option (List ℕ))
@@ -35,16 +47,27 @@ ends_unshared holds refuses ends none workers bound memo from names out =
     ends (solve_on workers bound memo from names) (Err stop.NoMemory) 3 out out refl tt
     (record { gained = []; shows = none holds bound from names; appends = Appends-nil out })
 
+pub ends_unshared_json : (holds : Text → Option (List ℕ)) (refuses : Text → Type 0) → EndsByStatus holds refuses
+    → (workers bound memo from : ℕ) (names : List Text) (out : Option (List ℕ))
+    → Ends holds refuses (Some (solve_json_on workers bound memo from names)) 3 out out
+ends_unshared_json holds refuses ends workers bound memo from names out =
+    ends (solve_json_on workers bound memo from names) (Err stop.NoMemory) 3 out out refl tt
+    (stops_at_once holds refuses Answer (IsLineReply bound) from names out out (Keeps-refl out))
+
 pub ends_unstarted : (holds : Text → Option (List ℕ)) (refuses : Text → Type 0) → EndsByStatus holds refuses → LimitedNone → SolvesNone
     → (asks : Option Asked) → asks_threads asks ≡ true → (out : Option (List ℕ)) → Ends holds refuses asks 3 out out
 ends_unstarted holds refuses ends none unsolved (Some (serve workers bound memo names)) threads out =
     ends (serve workers bound memo names) (Err stop.NoMemory) 3 out out refl tt (Keeps-refl out)
 ends_unstarted holds refuses ends none unsolved (Some (limited seconds bound memo from names)) threads out =
     ends_uncounted holds refuses ends none seconds bound memo from names out
+ends_unstarted holds refuses ends none unsolved (Some (limited_json seconds bound memo from names)) threads out =
+    ends_uncounted_json holds refuses ends seconds bound memo from names out
 ends_unstarted holds refuses ends none unsolved (Some (verify_limited seconds bound memo header from names)) threads out =
     ends_unverified holds refuses ends seconds bound memo header from names out
 ends_unstarted holds refuses ends none unsolved (Some (solve_on workers bound memo from names)) threads out =
     ends_unshared holds refuses ends unsolved workers bound memo from names out
+ends_unstarted holds refuses ends none unsolved (Some (solve_json_on workers bound memo from names)) threads out =
+    ends_unshared_json holds refuses ends workers bound memo from names out
 ends_unstarted holds refuses ends none unsolved (Some uci) threads out = ends uci (Err stop.NoMemory) 3 out out refl tt tt
 ends_unstarted holds refuses ends none unsolved None threads out = cc
 ends_unstarted holds refuses ends none unsolved (Some (look fen)) threads out = cc

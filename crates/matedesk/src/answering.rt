@@ -5,6 +5,7 @@ ghost use Rattle.std.specs.String.{string_bytes};
 ghost use Rattle.command_words.specs.Asked.{asked, asks_display, asks_threads, may_display};
 ghost use Rattle.plain_commands.specs.Command.{EndsBy};
 
+use crate::json_solving::{solve_json_in_time, solve_json_on};
 use crate::limited_verifying::verify_in_time;
 use crate::limiting::solve_in_time;
 use crate::serving::serve;
@@ -62,7 +63,13 @@ where
         Some(Request::SolveOn(workers, bound, memo, files)) => solve_on(
             rt, alloc, *workers, *bound, *memo, files, &given, out, err,
         ),
+        Some(Request::SolveJsonOn(workers, bound, memo, files)) => solve_json_on(
+            rt, alloc, *workers, *bound, *memo, files, &given, out, err,
+        ),
         Some(Request::Limited(asked)) => solve_in_time(rt, alloc, asked, &given, out, err),
+        Some(Request::LimitedJson(asked)) => {
+            solve_json_in_time(rt, alloc, asked, &given, out, err)
+        }
         Some(Request::VerifyLimited(asked)) => verify_in_time(rt, alloc, asked, &given, out, err),
         Some(Request::Uci) => talk(rt, alloc, &given, out, err),
         _ => unreachable!(),

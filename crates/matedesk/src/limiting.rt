@@ -26,8 +26,8 @@ use std::thread::Threads;
 
 /// Workers solve, unless a limit stops them.
 #[derive(Clone, Copy)]
-struct InTime<'a, R> {
-    rt: &'a R,
+pub(crate) struct InTime<'a, R> {
+    pub(crate) rt: &'a R,
 }
 
 impl<R: Threads + Sync> Solver<TickLimit> for InTime<'_, R> {

@@ -6,13 +6,15 @@ use Rattle.std.specs.Io.KnownBytes.{Keeps}
 use Rattle.clap.specs.Words.{Text}
 use Rattle.byte_streams.specs.declared.stops.Stop.{Stop}
 use Rattle.byte_streams.specs.declared.stops.Stop.TheVariants as stop
-use Rattle.command_words.specs.Asked.{Asked, look, board, svg, play, moves, moves_json, perft, divide, lines, solve, solve_json, solve_on}
-use Rattle.command_words.specs.Asked.{limited, verify, verify_limited, verify_json, verify_imported, tree, sheet, imports, serve, replay, explain, uci}
+use Rattle.command_words.specs.Asked.{Asked, look, board, svg, play, moves, moves_json, perft, divide, lines, solve, solve_json, solve_on, solve_json_on}
+use Rattle.command_words.specs.Asked.{limited, limited_json, verify, verify_limited, verify_json, verify_imported, tree, sheet, imports, serve, replay}
+use Rattle.command_words.specs.Asked.{explain, uci}
 use Rattle.file_answers.specs.Status.{status_of}
 use Rattle.file_solving.specs.Solved.{LimitedNone, SolvesNone}
 use Rattle.plain_commands.specs.Told.{TellsNone}
 use Rattle.json_replies.specs.declared.replies.Form.TheVariants.{Answer, Row}
 use Rattle.mate_answers.specs.InputReplies.{IsLineReply}
+use Rattle.mate_answers.specs.LimitedReplies.{IsLimitedReply}
 use Rattle.mate_claims.specs.ClaimReplies.{IsClaimReply}
 use Rattle.plain_commands.specs.Imported.{letters_in}
 use Rattle.plain_commands.specs.PositionLines.{command_of}
@@ -39,8 +41,12 @@ stops_unread none late untold holds refuses (Some (solve_json bound memo from na
     json_at_once holds refuses Answer (IsLineReply bound) from names old new kept
 stops_unread none late untold holds refuses (Some (solve_on workers bound memo from names)) old new kept =
     record { gained = []; shows = none holds bound from names; appends = Appends-kept old old new [] (Appends-nil old) kept }
+stops_unread none late untold holds refuses (Some (solve_json_on workers bound memo from names)) old new kept =
+    json_at_once holds refuses Answer (IsLineReply bound) from names old new kept
 stops_unread none late untold holds refuses (Some (limited seconds bound memo from names)) old new kept =
     record { gained = []; shows = late holds seconds bound from names; appends = Appends-kept old old new [] (Appends-nil old) kept }
+stops_unread none late untold holds refuses (Some (limited_json seconds bound memo from names)) old new kept =
+    json_at_once holds refuses Answer (IsLimitedReply seconds bound) from names old new kept
 stops_unread none late untold holds refuses (Some (verify bound memo header from names)) old new kept =
     record { gained = []; shows = inl refl; appends = Appends-kept old old new [] (Appends-nil old) kept }
 stops_unread none late untold holds refuses (Some (verify_json bound memo from names)) old new kept =
@@ -73,7 +79,9 @@ no_reader holds refuses (lines view names) old new stops = stops
 no_reader holds refuses (solve bound memo from names) old new stops = stops
 no_reader holds refuses (solve_json bound memo from names) old new stops = stops
 no_reader holds refuses (solve_on workers bound memo from names) old new stops = stops
+no_reader holds refuses (solve_json_on workers bound memo from names) old new stops = stops
 no_reader holds refuses (limited seconds bound memo from names) old new stops = stops
+no_reader holds refuses (limited_json seconds bound memo from names) old new stops = stops
 no_reader holds refuses (verify bound memo header from names) old new stops = stops
 no_reader holds refuses (verify_json bound memo from names) old new stops = stops
 no_reader holds refuses (verify_imported bound memo header from names) old new stops = stops

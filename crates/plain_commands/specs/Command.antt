@@ -11,12 +11,12 @@ use Rattle.chess_views.specs.Counts.{divided_text, perft_text}
 use Rattle.chess_views.specs.Listings.{moves_text}
 use Rattle.chess_views.specs.Looks.{look_board_text, look_text}
 use Rattle.command_words.specs.Asked.{Asked, asked, records_given, look, board, svg, play, moves, moves_json, perft, divide, lines, solve, solve_json}
-use Rattle.command_words.specs.Asked.{solve_on, limited, verify, verify_limited, verify_json, verify_imported, tree, sheet, imports, serve, replay, explain}
-use Rattle.command_words.specs.Asked.{uci}
+use Rattle.command_words.specs.Asked.{solve_on, solve_json_on, limited, limited_json, verify, verify_limited, verify_json, verify_imported, tree, sheet}
+use Rattle.command_words.specs.Asked.{imports, serve, replay, explain, uci}
 use Rattle.move_words.specs.Languages.{letters_said}
 use Rattle.problem_sheets.specs.Diagrams.{svg_of}
 use Rattle.json_replies.specs.Moves.{moves_json as moves_object}
-use Rattle.json_commands.specs.Solved.{SolvesJson, StopsSolvingJson}
+use Rattle.json_commands.specs.Solved.{SolvesJson, SolvesLimitedJson, StopsLimitedJson, StopsSolvingJson}
 use Rattle.json_commands.specs.Verified.{VerifiesJson, StopsVerifyingJson}
 use Rattle.import_claims.specs.VerifiedImports.{VerifiesImported, StopsVerifyingImported}
 use Rattle.plain_commands.specs.Explained.{ExplainsSome, ExplainsWords}
@@ -46,7 +46,9 @@ Shows holds (lines view names) refused text = ShowsLines holds (command_of view)
 Shows holds (solve bound memo from names) refused text = Solves holds bound from names refused text
 Shows holds (solve_json bound memo from names) refused text = SolvesJson holds bound from names refused text
 Shows holds (solve_on workers bound memo from names) refused text = Solves holds bound from names refused text
+Shows holds (solve_json_on workers bound memo from names) refused text = SolvesJson holds bound from names refused text
 Shows holds (limited seconds bound memo from names) refused text = SolvesLimited holds seconds bound from names refused 0 text
+Shows holds (limited_json seconds bound memo from names) refused text = SolvesLimitedJson holds seconds bound from names refused 0 text
 Shows holds (verify bound memo header from names) refused text = VerifiesHeaded holds bound header from names refused text
 Shows holds (verify_json bound memo from names) refused text = VerifiesJson holds bound from names refused text
 Shows holds (verify_imported bound memo header from names) refused text = VerifiesImported holds bound header from names refused text
@@ -68,6 +70,8 @@ Shown holds asks refused old new = Gains (Shows holds asks refused) old new
 abbrev pub ShownInPart : (Text → Option (List ℕ)) → Asked → (old new : Option (List ℕ)) → Type 0
 ShownInPart holds (limited seconds bound memo from names) old new =
     (refused : Bool) × (undecided : ℕ) × (0 < undecided) × Gains (SolvesLimited holds seconds bound from names refused undecided) old new
+ShownInPart holds (limited_json seconds bound memo from names) old new =
+    (refused : Bool) × (undecided : ℕ) × (0 < undecided) × Gains (SolvesLimitedJson holds seconds bound from names refused undecided) old new
 ShownInPart holds (verify_limited seconds bound memo header from names) old new =
     (unsound : Bool) × (undecided : ℕ) × (0 < undecided) × Gains (LimitedHeaded holds bound header from names unsound undecided) old new
 ShownInPart holds asks old new = ⊥
@@ -85,7 +89,9 @@ Stops holds refuses (lines view names) stop old new = StopsLines holds refuses (
 Stops holds refuses (solve bound memo from names) stop old new = StopsSolving holds refuses bound from names stop old new
 Stops holds refuses (solve_json bound memo from names) stop old new = StopsSolvingJson holds refuses bound from names stop old new
 Stops holds refuses (solve_on workers bound memo from names) stop old new = StopsSolving holds refuses bound from names stop old new
+Stops holds refuses (solve_json_on workers bound memo from names) stop old new = StopsSolvingJson holds refuses bound from names stop old new
 Stops holds refuses (limited seconds bound memo from names) stop old new = StopsLimited holds refuses seconds bound from names stop old new
+Stops holds refuses (limited_json seconds bound memo from names) stop old new = StopsLimitedJson holds refuses seconds bound from names stop old new
 Stops holds refuses (verify bound memo header from names) stop old new = StopsHeaded holds refuses bound header from names stop old new
 Stops holds refuses (verify_json bound memo from names) stop old new = StopsVerifyingJson holds refuses bound from names stop old new
 Stops holds refuses (verify_imported bound memo header from names) stop old new = StopsVerifyingImported holds refuses bound header from names stop old new

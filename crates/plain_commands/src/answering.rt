@@ -40,7 +40,9 @@ fn is_threaded(request: &Request) -> bool
         request,
         Request::Serve(..)
             | Request::SolveOn(..)
+            | Request::SolveJsonOn(..)
             | Request::Limited(..)
+            | Request::LimitedJson(..)
             | Request::VerifyLimited(..)
             | Request::Uci
     )
@@ -109,7 +111,9 @@ fn answer<S: Source, O: Write, E: Write>(
         }
         Request::Serve(..)
         | Request::SolveOn(..)
+        | Request::SolveJsonOn(..)
         | Request::Limited(..)
+        | Request::LimitedJson(..)
         | Request::VerifyLimited(..)
         | Request::Uci => unreachable!(),
         Request::Replay(name) => replay(alloc, name, source, out, err),
