@@ -437,7 +437,7 @@ files: `cat FILE.. | matedesk serve --workers 4 -`.",
     },
     Explanation {
         code: "NoThread",
-        comes: "`serve`, `uci` or `solve --limit` could start no more threads",
+        comes: "`serve`, `uci`, `solve --limit` or `verify --limit` could start no more threads",
         means: "The system allows no more of them: `serve` with fewer files, or `solve` alone, which starts none.",
         example: None,
     },
