@@ -1,6 +1,6 @@
 //! A caller of `problem_import`.
 
-ghost use Rattle.std.specs.Prelude.{ℕ, List, IfOk, true};
+ghost use Rattle.std.specs.Prelude.{ℕ, List, IfOk, None, true};
 ghost use Rattle.std.specs.Io.KnownBytes.{Appends};
 ghost use Rattle.byte_streams.specs.Inputs.{MayBe};
 ghost use Rattle.problem_import.specs.Imports.{IsImport};
@@ -17,7 +17,7 @@ pub fn import_all<I: Input + Drop, O: Write>(
     input: I,
     out: &mut O,
 ) -> Result<usize, Stop>
-    ensures { IfOk result (λ count. (bytes : List ℕ) × (text : List ℕ) × MayBe (I.left input) bytes × IsImport true bytes text count
+    ensures { IfOk result (λ count. (bytes : List ℕ) × (text : List ℕ) × MayBe (I.left input) bytes × IsImport true None bytes text count
         × Appends (O.contents out.old) (O.contents out.new) text) }
 {
     let rays = Rays::new();

@@ -8,13 +8,15 @@ use Rattle.file_answers.proofs.Unopened.{answers_none, no_reply_on}
 use Rattle.problem_import.specs.Problems.{no_problem}
 use Rattle.import_claims.specs.VerifiedImports.{ShowsFirst, StopsRows, first_imported_replies, has_several}
 
-pub no_imported_reply : (several : Bool) (bound from : ℕ) (name input : List ℕ) → first_imported_replies several bound from name input []
+pub no_imported_reply : (several : Bool) (bound : Option ℕ) (from : ℕ) (name input : List ℕ)
+    → first_imported_replies several bound from name input []
 no_imported_reply several bound from name input = (0, ([], 0, [], [], false, no_reply_on _ from input, (0, no_problem, refl), refl, refl))
 
-pub shows_none : (holds : List ℕ → Option (List ℕ)) (bound from : ℕ) (names : List (List ℕ)) → ShowsFirst holds bound from names (λ _. ⊤) []
+pub shows_none : (holds : List ℕ → Option (List ℕ)) (bound : Option ℕ) (from : ℕ) (names : List (List ℕ))
+    → ShowsFirst holds bound from names (λ _. ⊤) []
 shows_none holds bound from names = answers_none holds _ _ from names (no_imported_reply (has_several names) bound)
 
-pub stops_at_once : (holds : List ℕ → Option (List ℕ)) (refuses : List ℕ → Type 0) (bound from : ℕ) (names : List (List ℕ))
+pub stops_at_once : (holds : List ℕ → Option (List ℕ)) (refuses : List ℕ → Type 0) (bound : Option ℕ) (from : ℕ) (names : List (List ℕ))
     (old new : Option (List ℕ)) → Keeps old new → StopsRows holds refuses bound from names stop.NoMemory old new
 stops_at_once holds refuses bound from names old new kept = record {
   gained = [];

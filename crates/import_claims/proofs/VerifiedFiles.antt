@@ -15,7 +15,7 @@ same_several : (names : List (Bor (List ℕ))) (several : Bool) → several ≡ 
     → several ≡ has_several (map (λ s. s.now) names)
 same_several names several is = is ∙ sym (ap (nat_lt 1) (length-map names (λ s. s.now)))
 
-pub shows_each : (holds : List ℕ → Option (List ℕ)) (default bound from : ℕ) (names : List (Bor (List ℕ))) (several unsound : Bool)
+pub shows_each : (holds : List ℕ → Option (List ℕ)) (default bound : Option ℕ) (from : ℕ) (names : List (Bor (List ℕ))) (several unsound : Bool)
     (old new : Option (List ℕ)) → default ≡ bound → several ≡ nat_lt 1 (length names)
     → Gains (Answers holds (imported_replies several default) from (map (λ s. s.now) names) unsound) old new
     → Gains (ShowsRows holds bound from (map (λ s. s.now) names) unsound) old new
@@ -24,7 +24,8 @@ shows_each holds default bound from names several unsound old new same is gains 
     subst (λ n. Gains (ShowsRows holds n from texts unsound) old new) same
     (subst (λ b. Gains (Answers holds (imported_replies b default) from texts unsound) old new) (same_several names several is) gains)
 
-pub stops_between : (holds : List ℕ → Option (List ℕ)) (refuses : List ℕ → Type 0) (default bound from : ℕ) (names : List (Bor (List ℕ)))
+pub stops_between : (holds : List ℕ → Option (List ℕ)) (refuses : List ℕ → Type 0)
+    (default bound : Option ℕ) (from : ℕ) (names : List (Bor (List ℕ)))
     (several : Bool) (s : Stop) (old new : Option (List ℕ)) → default ≡ bound → several ≡ nat_lt 1 (length names)
     → StopsAnswering holds refuses (imported_replies several default) (first_imported_replies several default) from (map (λ s. s.now) names) s old new
     → StopsRows holds refuses bound from (map (λ s. s.now) names) s old new
@@ -34,7 +35,7 @@ stops_between holds refuses default bound from names several s old new same is s
     (subst (λ b. StopsAnswering holds refuses (imported_replies b default) (first_imported_replies b default) from texts s old new)
     (same_several names several is) stops)
 
-pub stops_uncounted : HoldsEach → (holds : List ℕ → Option (List ℕ)) (refuses : List ℕ → Type 0) (default bound from : ℕ)
+pub stops_uncounted : HoldsEach → (holds : List ℕ → Option (List ℕ)) (refuses : List ℕ → Type 0) (default bound : Option ℕ) (from : ℕ)
     (names : List (Bor (List ℕ))) (several unsound : Bool) (old new : Option (List ℕ)) → default ≡ bound → several ≡ nat_lt 1 (length names)
     → Gains (Answers holds (imported_replies several default) from (map (λ s. s.now) names) unsound) old new
     → StopsRows holds refuses bound from (map (λ s. s.now) names) stop.NoMemory old new

@@ -24,24 +24,25 @@ bound_or_three None = 3
 
 -- What is answered once a line is read: of each record that `import` may print then its row, as `verify` has it, by the number of its line
 -- or of the first line of what it was made of; of each refusal the row of its fault.
-abbrev pub imported_reply : List ℕ → ℕ → ℕ → List ℕ → List ℕ → ℕ → Type 0
-imported_reply prefix bound = IsProblemReply (IsClaimReply prefix bound) (IsRefusedRow prefix)
+abbrev pub imported_reply : List ℕ → Option ℕ → ℕ → List ℕ → List ℕ → ℕ → Type 0
+imported_reply prefix bound = IsProblemReply bound (IsClaimReply prefix (bound_or_three bound)) (IsRefusedRow prefix)
 
 -- The rows of a file's problems, of those that its lines from that of a number on say.
-abbrev pub imported_replies : Bool → ℕ → ℕ → List ℕ → List ℕ → List ℕ → ℕ → Type 0
-imported_replies several bound from name input text unsound = IsEnded (IsClaimReply (prefix_of several name) bound)
+abbrev pub imported_replies : Bool → Option ℕ → ℕ → List ℕ → List ℕ → List ℕ → ℕ → Type 0
+imported_replies several bound from name input text unsound = IsEnded bound (IsClaimReply (prefix_of several name) (bound_or_three bound))
     (IsRefusedRow (prefix_of several name)) (IsReplyOn (imported_reply (prefix_of several name) bound) from input) text unsound
 
-abbrev pub first_imported_replies : Bool → ℕ → ℕ → List ℕ → List ℕ → List ℕ → Type 0
-first_imported_replies several bound from name input text = IsEndedFirst (IsClaimReply (prefix_of several name) bound)
+abbrev pub first_imported_replies : Bool → Option ℕ → ℕ → List ℕ → List ℕ → List ℕ → Type 0
+first_imported_replies several bound from name input text = IsEndedFirst bound (IsClaimReply (prefix_of several name) (bound_or_three bound))
     (IsRefusedRow (prefix_of several name)) (IsReplyToFirstOn (imported_reply (prefix_of several name) bound) from input) text
 
 -- The rows of what the names hold, of the first of them from the line of such a number on, and whether one isn't sound.
-abbrev pub ShowsRows : (List ℕ → Option (List ℕ)) → ℕ → ℕ → List (List ℕ) → Bool → List ℕ → Type 0
+abbrev pub ShowsRows : (List ℕ → Option (List ℕ)) → Option ℕ → ℕ → List (List ℕ) → Bool → List ℕ → Type 0
 ShowsRows holds bound from names unsound gained = Answers holds (imported_replies (has_several names) bound) from names unsound gained
 
 -- What the output gained where the rows stop.
-abbrev pub StopsRows : (List ℕ → Option (List ℕ)) → (List ℕ → Type 0) → ℕ → ℕ → List (List ℕ) → Stop → (old new : Option (List ℕ)) → Type 0
+abbrev pub StopsRows : (List ℕ → Option (List ℕ)) → (List ℕ → Type 0) → Option ℕ → ℕ → List (List ℕ) → Stop → (old new : Option (List ℕ))
+    → Type 0
 StopsRows holds refuses bound from names stop old new = StopsAnswering holds refuses
     (imported_replies (has_several names) bound) (first_imported_replies (has_several names) bound) from names stop old new
 
@@ -55,15 +56,16 @@ Headed header Rows text = (rows : List ℕ) × (text ≡ header_text header ++ r
 
 -- What `verify --import` shows, with such a bound or none, and whether a row isn't sound.
 abbrev pub VerifiesImported : (List ℕ → Option (List ℕ)) → Option ℕ → Bool → ℕ → List (List ℕ) → Bool → List ℕ → Type 0
-VerifiesImported holds bound header from names unsound gained = Headed header (ShowsRows holds (bound_or_three bound) from names unsound) gained
+VerifiesImported holds bound header from names unsound gained = Headed header (ShowsRows holds bound from names unsound) gained
 
 -- Rows of what some of the first lines say, up to names such as `Stops` says.
-abbrev pub ShowsFirst : (List ℕ → Option (List ℕ)) → ℕ → ℕ → List (List ℕ) → (List (List ℕ) → Type 0) → List ℕ → Type 0
+abbrev pub ShowsFirst : (List ℕ → Option (List ℕ)) → Option ℕ → ℕ → List (List ℕ) → (List (List ℕ) → Type 0) → List ℕ → Type 0
 ShowsFirst holds bound from names Stops gained = AnswersFirst holds
     (imported_replies (has_several names) bound) (first_imported_replies (has_several names) bound) from names Stops gained
 
 -- as where the rows stop, behind the first row; where memory gives out perhaps nothing
-abbrev pub StopsHeaded : (List ℕ → Option (List ℕ)) → (List ℕ → Type 0) → ℕ → Bool → ℕ → List (List ℕ) → Stop → (old new : Option (List ℕ)) → Type 0
+abbrev pub StopsHeaded : (List ℕ → Option (List ℕ)) → (List ℕ → Type 0) → Option ℕ → Bool → ℕ → List (List ℕ) → Stop
+    → (old new : Option (List ℕ)) → Type 0
 StopsHeaded holds refuses bound header from names NoMemory old new =
     Gains (λ text. (text ≡ []) ⊎ Headed header (ShowsFirst holds bound from names (λ _. ⊤)) text) old new
 StopsHeaded holds refuses bound header from names Unreadable old new =
@@ -77,4 +79,4 @@ StopsHeaded holds refuses bound header from names NoReader old new =
 abbrev pub StopsVerifyingImported : (List ℕ → Option (List ℕ)) → (List ℕ → Type 0) → Option ℕ → Bool → ℕ → List (List ℕ) → Stop
     → (old new : Option (List ℕ)) → Type 0
 StopsVerifyingImported holds refuses bound header from names stop old new =
-    StopsHeaded holds refuses (bound_or_three bound) header from names stop old new
+    StopsHeaded holds refuses bound header from names stop old new

@@ -24,12 +24,15 @@ pub(crate) fn answer_problems_from<H: ProblemHandler, S: Source, I: Input + Drop
     out: &mut O,
 ) -> Result<usize, Stop>
     ensures ok { IfOk result (λ count. (bytes : List ℕ) × (text : List ℕ) × MayBe (I.left input) bytes
-        × IsEnded (H.records lines.now.handler.now) (H.rows lines.now.handler.now)
-        (IsReplyOn (IsProblemReply (H.records lines.now.handler.now) (H.rows lines.now.handler.now)) start.now.from bytes) text count
+        × IsEnded lines.now.bound (H.records lines.now.handler.now) (H.rows lines.now.handler.now)
+        (IsReplyOn (IsProblemReply lines.now.bound (H.records lines.now.handler.now) (H.rows lines.now.handler.now)) start.now.from bytes)
+        text count
         × Appends (O.contents out.old) (O.contents out.new) text) }
     ensures err { IfErr result (λ stop. (bytes : List ℕ) × (text : List ℕ) × MayBe (I.left input) bytes
-        × IsEndedFirst (H.records lines.now.handler.now) (H.rows lines.now.handler.now)
-        (IsReplyToFirstOn (IsProblemReply (H.records lines.now.handler.now) (H.rows lines.now.handler.now)) start.now.from bytes) text
+        × IsEndedFirst lines.now.bound (H.records lines.now.handler.now) (H.rows lines.now.handler.now)
+        (IsReplyToFirstOn (IsProblemReply lines.now.bound (H.records lines.now.handler.now) (H.rows lines.now.handler.now)) start.now.from
+        bytes)
+        text
         × AppendsBy stop (O.contents out.old) (O.contents out.new) text) }
     ensures unreadable { IfErr result (λ stop. stop ≡ Stop.Unreadable → I.breaks input) }
 {

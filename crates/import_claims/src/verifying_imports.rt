@@ -44,17 +44,17 @@ fn prefix_of(alloc: Global, several: bool, name: &str) -> Result<Vec<u8>, AllocE
 
 impl<'a> FileAnswers for ImportedAnswers<'a> {
     ghost use Rattle.file_answers.specs.FileAnswers.{unmarked};
-    ghost use Rattle.import_claims.specs.VerifiedImports.{bound_or_three as asked_for, first_imported_replies, imported_replies};
+    ghost use Rattle.import_claims.specs.VerifiedImports.{first_imported_replies, imported_replies};
 
     type Memory = ProblemMemory<ClaimMemory>;
 
-    ghost replies = { λ answers. imported_replies answers.several (asked_for answers.bound) };
+    ghost replies = { λ answers. imported_replies answers.several answers.bound };
 
-    ghost told = { λ answers. unmarked (imported_replies answers.several (asked_for answers.bound)) };
+    ghost told = { λ answers. unmarked (imported_replies answers.several answers.bound) };
 
     ghost tells = { λ _ _ _ _ _ _ _ told. told };
 
-    ghost first = { λ answers. first_imported_replies answers.several (asked_for answers.bound) };
+    ghost first = { λ answers. first_imported_replies answers.several answers.bound };
 
     fn answer<S: Source, I: Input + Drop, O: Write>(
         &self,
@@ -105,9 +105,9 @@ fn show_rows<S: Source, O: Write, E: Write>(
     out: &mut O,
     err: &mut E,
 ) -> Result<bool, Stop>
-    ensures ok { IfOk result (λ refused. Gains (ShowsRows (S.holds source.now) (three_unless bound) files.now.from
+    ensures ok { IfOk result (λ refused. Gains (ShowsRows (S.holds source.now) bound files.now.from
         (map (λ s. s.now) files.now.names.now) refused) (O.contents out.old) (O.contents out.new)) }
-    ensures err { IfErr result (λ stop. StopsRows (S.holds source.now) (S.refuses source.now) (three_unless bound) files.now.from
+    ensures err { IfErr result (λ stop. StopsRows (S.holds source.now) (S.refuses source.now) bound files.now.from
         (map (λ s. s.now) files.now.names.now) stop (O.contents out.old) (O.contents out.new)) }
 {
     // How many inputs there are of so many names.

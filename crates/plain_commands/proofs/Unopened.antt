@@ -32,20 +32,22 @@ lines_at_once holds refuses command names old new kept =
       appends = Appends-kept old old new [] (Appends-nil old) kept;
     }
 
-no_import_by : (letters : Letters) (keep are : Bool) (input : List ℕ) → is_english letters ≡ are → IsImportOfFirstIn letters keep input []
+no_import_by : (letters : Letters) (keep are : Bool) (bound : Option ℕ) (input : List ℕ) → is_english letters ≡ are
+    → IsImportOfFirstIn letters keep bound input []
 unfolding IsImportOfFirst IsLetteredOfFirst IsReplyToFirstBy
-no_import_by letters keep true input is = english is ([], [], false, (0, 0, (refl, refl)), nothing_imported, refl)
-no_import_by letters keep false input is = lettered is ([], [], false, (0, 0, (refl, refl)), nothing_imported, refl)
+no_import_by letters keep true bound input is = english is ([], [], false, (0, 0, (refl, refl)), nothing_imported, refl)
+no_import_by letters keep false bound input is = lettered is ([], [], false, (0, 0, (refl, refl)), nothing_imported, refl)
 
-pub no_import : (letters : Letters) (keep : Bool) (from : ℕ) (name input : List ℕ) → first_import_replies letters keep from name input []
-no_import letters keep from name input = no_import_by letters keep (is_english letters) input refl
+pub no_import : (letters : Letters) (keep : Bool) (bound : Option ℕ) (from : ℕ) (name input : List ℕ)
+    → first_import_replies letters keep bound from name input []
+no_import letters keep bound from name input = no_import_by letters keep (is_english letters) bound input refl
 
 pub imports_at_once : (holds : List ℕ → Option (List ℕ)) (refuses : List ℕ → Type 0) (letters : Letters) (keep : Bool)
-    (names : List (List ℕ)) (old new : Option (List ℕ)) → Keeps old new
-    → StopsImporting holds refuses letters keep names stop.NoMemory old new
-imports_at_once holds refuses letters keep names old new kept = record {
+    (bound : Option ℕ) (names : List (List ℕ)) (old new : Option (List ℕ)) → Keeps old new
+    → StopsImporting holds refuses letters keep bound names stop.NoMemory old new
+imports_at_once holds refuses letters keep bound names old new kept = record {
   gained = [];
-  shows = answers_none holds _ _ 1 names (no_import letters keep);
+  shows = answers_none holds _ _ 1 names (no_import letters keep bound);
   appends = Appends-kept old old new [] (Appends-nil old) kept;
 }
 

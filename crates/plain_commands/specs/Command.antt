@@ -55,7 +55,7 @@ Shows holds (verify_imported bound memo header from names) refused text = Verifi
 Shows holds (verify_limited seconds bound memo header from names) refused text = LimitedHeaded holds bound header from names refused 0 text
 Shows holds (tree bound form from names) refused text = Tells holds bound form from names refused text
 Shows holds (sheet bound memo form title names) refused text = Sheets holds bound form title names refused text
-Shows holds (imports keep bound letters names) refused text = ImportsFiles holds (letters_in letters) keep names refused text
+Shows holds (imports keep bound letters names) refused text = ImportsFiles holds (letters_in letters) keep bound names refused text
 Shows holds (serve workers bound memo names) refused text = Serves holds bound names refused text
 Shows holds (replay name) refused text = ReplaysFile (holds name) refused text
 Shows holds (explain words) refused text = ExplainsWords words refused text
@@ -99,7 +99,8 @@ Stops holds refuses (verify_limited seconds bound memo header from names) stop o
     StopsLimitedHeaded holds refuses bound header from names stop old new
 Stops holds refuses (tree bound form from names) stop old new = StopsTelling holds refuses bound form from names stop old new
 Stops holds refuses (sheet bound memo form title names) stop old new = StopsSheet holds refuses bound form title names stop old new
-Stops holds refuses (imports keep bound letters names) stop old new = StopsImporting holds refuses (letters_in letters) keep names stop old new
+Stops holds refuses (imports keep bound letters names) stop old new = StopsImporting holds refuses (letters_in letters) keep bound names
+    stop old new
 Stops holds refuses (serve workers bound memo names) stop old new = StopsServing holds refuses bound names stop old new
 Stops holds refuses (replay name) stop old new = StopsReplaying (holds name) (refuses name) stop old new
 Stops holds refuses (explain words) stop old new = StopsShowing (ExplainsSome words) stop old new

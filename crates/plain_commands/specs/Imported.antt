@@ -11,18 +11,18 @@ abbrev pub letters_in : List ℕ → Letters
 letters_in word = unwrap_or (letters_said word) english
 
 -- What a file is imported as, whatever it is called. No lines of it are passed over.
-abbrev pub import_replies : Letters → Bool → ℕ → List ℕ → List ℕ → List ℕ → ℕ → Type 0
-import_replies letters keep from name input text count = IsImportIn letters keep input text count
+abbrev pub import_replies : Letters → Bool → Option ℕ → ℕ → List ℕ → List ℕ → List ℕ → ℕ → Type 0
+import_replies letters keep bound from name input text count = IsImportIn letters keep bound input text count
 
-abbrev pub first_import_replies : Letters → Bool → ℕ → List ℕ → List ℕ → List ℕ → Type 0
-first_import_replies letters keep from name input text = IsImportOfFirstIn letters keep input text
+abbrev pub first_import_replies : Letters → Bool → Option ℕ → ℕ → List ℕ → List ℕ → List ℕ → Type 0
+first_import_replies letters keep bound from name input text = IsImportOfFirstIn letters keep bound input text
 
 -- What the names hold, imported with such letters, with `keep` or without, and whether a problem is refused.
-abbrev pub ImportsFiles : (List ℕ → Option (List ℕ)) → Letters → Bool → List (List ℕ) → Bool → List ℕ → Type 0
-ImportsFiles holds letters keep names refused gained = Answers holds (import_replies letters keep) 1 names refused gained
+abbrev pub ImportsFiles : (List ℕ → Option (List ℕ)) → Letters → Bool → Option ℕ → List (List ℕ) → Bool → List ℕ → Type 0
+ImportsFiles holds letters keep bound names refused gained = Answers holds (import_replies letters keep bound) 1 names refused gained
 
 -- What the output gained where `import` stops.
-abbrev pub StopsImporting : (List ℕ → Option (List ℕ)) → (List ℕ → Type 0) → Letters → Bool → List (List ℕ) → Stop
+abbrev pub StopsImporting : (List ℕ → Option (List ℕ)) → (List ℕ → Type 0) → Letters → Bool → Option ℕ → List (List ℕ) → Stop
     → (old new : Option (List ℕ)) → Type 0
-StopsImporting holds refuses letters keep names stop old new =
-    StopsAnswering holds refuses (import_replies letters keep) (first_import_replies letters keep) 1 names stop old new
+StopsImporting holds refuses letters keep bound names stop old new =
+    StopsAnswering holds refuses (import_replies letters keep bound) (first_import_replies letters keep bound) 1 names stop old new

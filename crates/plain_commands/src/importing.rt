@@ -32,13 +32,13 @@ impl<'a> FileAnswers for Imports<'a> {
 
     type Memory = ();
 
-    ghost replies = { λ imports. import_replies imports.letters imports.keep };
+    ghost replies = { λ imports. import_replies imports.letters imports.keep imports.bound };
 
-    ghost told = { λ imports. unmarked (import_replies imports.letters imports.keep) };
+    ghost told = { λ imports. unmarked (import_replies imports.letters imports.keep imports.bound) };
 
     ghost tells = { λ _ _ _ _ _ _ _ told. told };
 
-    ghost first = { λ imports. first_import_replies imports.letters imports.keep };
+    ghost first = { λ imports. first_import_replies imports.letters imports.keep imports.bound };
 
     fn answer<S: Source, I: Input + Drop, O: Write>(
         &self,
@@ -74,9 +74,9 @@ fn import<S: Source, O: Write, E: Write>(
     out: &mut O,
     err: &mut E,
 ) -> Result<bool, Stop>
-    ensures ok { IfOk result (λ refused. Gains (ImportsFiles (S.holds source.now) letters keep (map (λ s. s.now) names.now) refused)
+    ensures ok { IfOk result (λ refused. Gains (ImportsFiles (S.holds source.now) letters keep bound (map (λ s. s.now) names.now) refused)
         (O.contents out.old) (O.contents out.new)) }
-    ensures err { IfErr result (λ stop. StopsImporting (S.holds source.now) (S.refuses source.now) letters keep
+    ensures err { IfErr result (λ stop. StopsImporting (S.holds source.now) (S.refuses source.now) letters keep bound
         (map (λ s. s.now) names.now) stop (O.contents out.old) (O.contents out.new)) }
 {
     let rays = Rays::new();
@@ -114,9 +114,9 @@ pub fn import_given<S: Source, O: Write, E: Write>(
     out: &mut O,
     err: &mut E,
 ) -> Result<bool, Stop>
-    ensures ok { IfOk result (λ refused. Gains (ImportsFiles (S.holds source.now) (letters_in word.now) keep (map (λ s. s.now) names.now) refused)
-        (O.contents out.old) (O.contents out.new)) }
-    ensures err { IfErr result (λ stop. StopsImporting (S.holds source.now) (S.refuses source.now) (letters_in word.now) keep
+    ensures ok { IfOk result (λ refused. Gains (ImportsFiles (S.holds source.now) (letters_in word.now) keep bound
+        (map (λ s. s.now) names.now) refused) (O.contents out.old) (O.contents out.new)) }
+    ensures err { IfErr result (λ stop. StopsImporting (S.holds source.now) (S.refuses source.now) (letters_in word.now) keep bound
         (map (λ s. s.now) names.now) stop (O.contents out.old) (O.contents out.new)) }
 {
     let letters = letters_in(word);

@@ -25,7 +25,7 @@ use Rattle.problem_import.specs.Problems.{IsLastCut, IsLastPut, IsProblemReply, 
 use Rattle.problem_import.specs.inside.Answered.{IsFilled, IsFound}
 use Rattle.problem_import.proofs.Imports.{appends_more, filled_behind, not_both, read_reply, record_kept}
 
-module _ (R : LineReplies) (Q : RefusalRows) where
+module _ (G : Option ℕ) (R : LineReplies) (Q : RefusalRows) where
   answered_as : (P : List ℕ → Type 0) (a b x y : List ℕ) (m n : ℕ) → a ≡ b → x ≡ y → m ≡ n → AreAnswered P R Q a x m → AreAnswered P R Q b y n
   answered_as P a b x y m n lines text count one =
       subst (λ t. AreAnswered P R Q t y n) lines (subst (λ t. AreAnswered P R Q a t n) text (subst (λ k. AreAnswered P R Q a x k) count one))
@@ -66,10 +66,10 @@ module _ (R : LineReplies) (Q : RefusalRows) where
   any_more a (suc m) n is = rw (is, lt-ltb 0 (suc m) (omega arith), lt-ltb 0 (suc m + n) (omega arith)) refl
 
   pub record_answered : (line lines made here text new : List ℕ) (number count : ℕ) (any after : Bool) → IsRecord made
-      → R number made here count → new ≡ text ++ here → after ≡ (any || nat_lt 0 count) → IsAnswered line R Q lines text any
-      → IsAnswered line R Q (lines ++ made ++ 10 ∷ []) new after
+      → R number made here count → new ≡ text ++ here → after ≡ (any || nat_lt 0 count) → IsAnswered G line R Q lines text any
+      → IsAnswered G line R Q (lines ++ made ++ 10 ∷ []) new after
   record_answered line lines made here text new number count any after is one same or (refusals, on, all) =
-      let P : List ℕ → Type 0 = IsMade false line in
+      let P : List ℕ → Type 0 = IsMade false G line in
       let last : AreAnswered P R Q (made ++ 10 ∷ []) (here ++ []) (count + 0) =
       of_record number made here [] [] count 0 is (plain made (λ _. true) refl (λ other. absurd (not_both (true || true) other refl))) one no_problem in (
         refusals + (count + 0),
@@ -80,10 +80,10 @@ module _ (R : LineReplies) (Q : RefusalRows) where
       )
 
   pub refusal_answered : (line lines here text new : List ℕ) (number : ℕ) (fault : ImportFault) (any after : Bool)
-      → Q number fault here → new ≡ text ++ here → after ≡ (any || true) → IsAnswered line R Q lines text any
-      → IsAnswered line R Q (lines ++ refused_line number fault) new after
+      → Q number fault here → new ≡ text ++ here → after ≡ (any || true) → IsAnswered G line R Q lines text any
+      → IsAnswered G line R Q (lines ++ refused_line number fault) new after
   refusal_answered line lines here text new number fault any after one same or (refusals, on, all) =
-      let P : List ℕ → Type 0 = IsMade false line in
+      let P : List ℕ → Type 0 = IsMade false G line in
       let last : AreAnswered P R Q (refused_line number fault ++ []) (here ++ []) (1 + 0) =
       of_refusal number fault here [] [] 0 one no_problem in (
         refusals + (1 + 0),
@@ -94,21 +94,22 @@ module _ (R : LineReplies) (Q : RefusalRows) where
         or ∙ any_more any refusals 1 all,
       )
 
-  pub none_answered : (line text : List ℕ) (any : Bool) → text ≡ [] → any ≡ false → IsAnswered line R Q [] text any
+  pub none_answered : (line text : List ℕ) (any : Bool) → text ≡ [] → any ≡ false → IsAnswered G line R Q [] text any
   none_answered line text any is off = rw (is, off) (0, no_problem, refl)
 
-  pub none_found : (line text : List ℕ) (any : Bool) → text ≡ [] → any ≡ false → IsFound line R Q 0 text any
+  pub none_found : (line text : List ℕ) (any : Bool) → text ≡ [] → any ≡ false → IsFound G line R Q 0 text any
   none_found line text any is off = ([], λ some. absurd (omega (arith, some)), none_answered line text any is off)
 
-  pub filled_found : (line text : List ℕ) (any : Bool) (count : ℕ) → IsFilled line R Q text any → IsFound line R Q count text any
+  pub filled_found : (line text : List ℕ) (any : Bool) (count : ℕ) → IsFilled G line R Q text any → IsFound G line R Q count text any
   filled_found line text any count (lines, some, answered) = (lines, λ _. some, answered)
 
-  pub found_all : (line text : List ℕ) (any : Bool) (m n : ℕ) → n ≤ m → IsFound line R Q m text any → IsFound line R Q n text any
+  pub found_all : (line text : List ℕ) (any : Bool) (m n : ℕ) → n ≤ m → IsFound G line R Q m text any → IsFound G line R Q n text any
   found_all line text any m n few (lines, some, answered) = (lines, λ one. some (omega (arith, one, few)), answered)
 
   pub filled_record : {A E : Type 0} (r : Result A E) (old new made : List ℕ) (before after : Bool)
-      → IfOk r (λ _. (line lines : List ℕ) → IsAnswered line R Q lines old before → IsAnswered line R Q (lines ++ made ++ 10 ∷ []) new after)
-      → IfOk r (λ _. (line lines : List ℕ) → IsAnswered line R Q lines old before → IsFilled line R Q new after)
+      → IfOk r (λ _. (line lines : List ℕ) → IsAnswered G line R Q lines old before
+      → IsAnswered G line R Q (lines ++ made ++ 10 ∷ []) new after)
+      → IfOk r (λ _. (line lines : List ℕ) → IsAnswered G line R Q lines old before → IsFilled G line R Q new after)
   filled_record (Ok x) old new made before after next =
       λ line lines answered. (lines ++ made ++ 10 ∷ [], filled_behind lines made (lines ++ made ++ 10 ∷ []) refl, next line lines answered)
   filled_record (Err e) old new made before after next = tt
@@ -119,8 +120,9 @@ module _ (R : LineReplies) (Q : RefusalRows) where
       omega (arith, length-append lines (refused_line number fault), length-append front (10 ∷ []))
 
   pub filled_refusal : {A E : Type 0} (r : Result A E) (old new : List ℕ) (number : ℕ) (fault : ImportFault) (before after : Bool)
-      → IfOk r (λ _. (line lines : List ℕ) → IsAnswered line R Q lines old before → IsAnswered line R Q (lines ++ refused_line number fault) new after)
-      → IfOk r (λ _. (line lines : List ℕ) → IsAnswered line R Q lines old before → IsFilled line R Q new after)
+      → IfOk r (λ _. (line lines : List ℕ) → IsAnswered G line R Q lines old before
+      → IsAnswered G line R Q (lines ++ refused_line number fault) new after)
+      → IfOk r (λ _. (line lines : List ℕ) → IsAnswered G line R Q lines old before → IsFilled G line R Q new after)
   filled_refusal (Ok x) old new number fault before after next =
       λ line lines answered. (lines ++ refused_line number fault, refusal_filled lines number fault, next line lines answered)
   filled_refusal (Err e) old new number fault before after next = tt
@@ -136,31 +138,33 @@ module _ (R : LineReplies) (Q : RefusalRows) where
   unclean kinds.Mendable line other mendable not clean = mendable refl clean
   unclean kinds.Other line other mendable not clean = other refl (clean_record line clean)
 
-  read_answers : (number : ℕ) (line lines text : List ℕ) (any : Bool) → is_blank line ≡ false → IsAnswered line R Q lines text any
+  read_answers : (number : ℕ) (line lines text : List ℕ) (any : Bool) → is_blank line ≡ false → IsAnswered G line R Q lines text any
       → (IsClean line → EndsWithLine line lines) → (IsRecord line → 0 < length lines) → (IsClean line → EndsWith (R number line) text)
-      → IsProblemReply R Q number line text (one_if any)
+      → IsProblemReply G R Q number line text (one_if any)
   read_answers number line lines text any filled answered clean kept ends =
-      let (any', on) = imported_of (IsMade false line) lines text answered.0 answered.1 in
-      read lines text (one_if any') any (read_reply false number line lines lines any' (one_if any') filled on clean kept refl refl) answered ends
+      let (any', on) = imported_of (IsMade false G line) lines text answered.0 answered.1 in
+      read lines text (one_if any') any (read_reply false G number line lines lines any' (one_if any') filled on clean kept refl refl)
+      answered ends
 
   pub other_reply : (kind : LineKind) (number : ℕ) (line text : List ℕ) (any : Bool) (found : ℕ) → is_blank line ≡ false
       → (kind ≡ kinds.Other → ¬ (IsRecord line)) → (kind ≡ kinds.Mendable → ¬ (IsClean line)) → kind ≢ kinds.Clean
-      → (kind ≡ kinds.Mendable → 0 < found) → IsFound line R Q found text any → IsProblemReply R Q number line text (one_if any)
+      → (kind ≡ kinds.Mendable → 0 < found) → IsFound G line R Q found text any → IsProblemReply G R Q number line text (one_if any)
   other_reply kind number line text any found filled other mendable not some (lines, printed, answered) =
       let no : ¬ (IsClean line) = unclean kind line other mendable not in
       read_answers number line lines text any filled answered (λ clean. absurd (no clean))
       (record_kept kind line lines lines other (λ is. printed (some is)) (λ more. more) (λ is. absurd (not is))) (λ clean. absurd (no clean))
 
-  pub clean_reply : (number : ℕ) (line text old : List ℕ) (any before : Bool) (found : ℕ) → is_blank line ≡ false → IsFound line R Q found old before
-      → ((lines : List ℕ) → IsAnswered line R Q lines old before → IsAnswered line R Q (lines ++ line ++ 10 ∷ []) text any)
-      → EndsWith (R number line) text → IsProblemReply R Q number line text (one_if any)
+  pub clean_reply : (number : ℕ) (line text old : List ℕ) (any before : Bool) (found : ℕ) → is_blank line ≡ false
+      → IsFound G line R Q found old before
+      → ((lines : List ℕ) → IsAnswered G line R Q lines old before → IsAnswered G line R Q (lines ++ line ++ 10 ∷ []) text any)
+      → EndsWith (R number line) text → IsProblemReply G R Q number line text (one_if any)
   clean_reply number line text old any before found filled (lines, printed, answered) next ends =
       read_answers number line (lines ++ line ++ 10 ∷ []) text any filled (next lines answered) (λ clean. (lines, refl))
       (λ is. filled_behind lines line (lines ++ line ++ 10 ∷ []) refl) (λ clean. ends)
 
   pub long_answers : (number : ℕ) (text out : List ℕ) (any : Bool) (count : ℕ)
-      → ((line : List ℕ) → (lines : List ℕ) × IsAnswered line R Q lines text any) → out ≡ text → count ≡ one_if any
-      → (line : List ℕ) → is_blank line ≡ false → max_line < length line → IsProblemReply R Q number line out count
+      → ((line : List ℕ) → (lines : List ℕ) × IsAnswered G line R Q lines text any) → out ≡ text → count ≡ one_if any
+      → (line : List ℕ) → is_blank line ≡ false → max_line < length line → IsProblemReply G R Q number line out count
   long_answers number text out any count answered same is line filled long =
       let no_record : IsRecord line → ⊥ = λ one. omega (arith, one.1.short, long) in
       let (lines, on) = answered line in
@@ -169,15 +173,16 @@ module _ (R : LineReplies) (Q : RefusalRows) where
 
   -- ---- where it ends or stops
 
-  pub first_of_all : (bytes text : List ℕ) (n : ℕ) → IsReply (IsProblemReply R Q) bytes text n → IsReplyToFirst (IsProblemReply R Q) bytes text
+  pub first_of_all : (bytes text : List ℕ) (n : ℕ) → IsReply (IsProblemReply G R Q) bytes text n
+      → IsReplyToFirst (IsProblemReply G R Q) bytes text
   unfolding IsReply IsReplyToFirst
   first_of_all bytes text n replies = (
     length (lines_of bytes),
     n,
-    subst (λ lines. IsReplyFrom (IsProblemReply R Q) 1 lines text n) (sym (take-length (lines_of bytes))) replies,
+    subst (λ lines. IsReplyFrom (IsProblemReply G R Q) 1 lines text n) (sym (take-length (lines_of bytes))) replies,
   )
 
-  pub none_last : (old : Option (List ℕ)) → IsLastCut R Q stop.NoMemory old old
+  pub none_last : (old : Option (List ℕ)) → IsLastCut G R Q stop.NoMemory old old
   none_last old = ([], [], false, (0, no_problem, refl), Appends-nil old)
 
   by_part : (s : Stop) (text : List ℕ) (old new : Option (List ℕ)) → is_of_output s ≡ true → AppendsPart old new text → AppendsBy s old new text
@@ -186,15 +191,17 @@ module _ (R : LineReplies) (Q : RefusalRows) where
   by_part stop.Unwritable text old new output part = part
   by_part stop.NoReader text old new output part = part
 
-  pub cut_last : (s : Stop) (last shown : List ℕ) (any : Bool) (old new : Option (List ℕ)) → (lines : List ℕ) × IsAnswered [] R Q lines last any
-      → is_of_output s ≡ true → shown ≡ last → AppendsPart old new shown → IsLastCut R Q s old new
+  pub cut_last : (s : Stop) (last shown : List ℕ) (any : Bool) (old new : Option (List ℕ)) → (lines : List ℕ)
+      × IsAnswered G [] R Q lines last any
+      → is_of_output s ≡ true → shown ≡ last → AppendsPart old new shown → IsLastCut G R Q s old new
   cut_last s last shown any old new (lines, answered) output is part =
       (lines, last, any, answered, by_part s last old new output (subst (AppendsPart old new) is part))
 
   pub ended_if : (Replies : List ℕ → List ℕ → ℕ → Type 0) (r : Result ℕ Stop) (count : ℕ) (known old middle new : Option (List ℕ))
       → (bytes : List ℕ) × (text : List ℕ) × MayBe known bytes × Replies bytes text count × Appends old middle text
-      → IfOk r (λ total. IsLastPut R Q count total middle new)
-      → IfOk r (λ total. (bytes : List ℕ) × (text : List ℕ) × MayBe known bytes × IsEnded R Q (Replies bytes) text total × Appends old new text)
+      → IfOk r (λ total. IsLastPut G R Q count total middle new)
+      → IfOk r (λ total. (bytes : List ℕ) × (text : List ℕ) × MayBe known bytes × IsEnded G R Q (Replies bytes) text total
+      × Appends old new text)
   ended_if Replies (Ok total) count known old middle new (bytes, text, may, replies, before) (lines, last, any, answered, is, behind) =
       (bytes, text ++ last, may, (text, count, lines, last, any, replies, answered, refl, is), Appends-trans old middle new text last before behind)
   ended_if Replies (Err s) count known old middle new replied last = tt
@@ -202,8 +209,8 @@ module _ (R : LineReplies) (Q : RefusalRows) where
   pub stopped_if : (Replies : List ℕ → List ℕ → ℕ → Type 0) (First : List ℕ → List ℕ → Type 0)
       → ((bytes text : List ℕ) (n : ℕ) → Replies bytes text n → First bytes text) → (r : Result ℕ Stop) (count : ℕ) (known old middle new : Option (List ℕ))
       → (bytes : List ℕ) × (text : List ℕ) × MayBe known bytes × Replies bytes text count × Appends old middle text
-      → IfErr r (λ s. IsLastCut R Q s middle new)
-      → IfErr r (λ s. (bytes : List ℕ) × (text : List ℕ) × MayBe known bytes × IsEndedFirst R Q (First bytes) text × AppendsBy s old new text)
+      → IfErr r (λ s. IsLastCut G R Q s middle new)
+      → IfErr r (λ s. (bytes : List ℕ) × (text : List ℕ) × MayBe known bytes × IsEndedFirst G R Q (First bytes) text × AppendsBy s old new text)
   stopped_if Replies First are (Ok total) count known old middle new replied last = tt
   stopped_if Replies First are (Err s) count known old middle new (bytes, text, may, replies, before) (lines, last, any, answered, behind) = (
     bytes,
@@ -215,20 +222,21 @@ module _ (R : LineReplies) (Q : RefusalRows) where
 
   pub stopped : (First : List ℕ → List ℕ → Type 0) (s : Stop) (known old new : Option (List ℕ))
       → (bytes : List ℕ) × (text : List ℕ) × MayBe known bytes × First bytes text × AppendsBy s old new text
-      → (bytes : List ℕ) × (text : List ℕ) × MayBe known bytes × IsEndedFirst R Q (First bytes) text × AppendsBy s old new text
+      → (bytes : List ℕ) × (text : List ℕ) × MayBe known bytes × IsEndedFirst G R Q (First bytes) text × AppendsBy s old new text
   stopped First s known old new (bytes, text, may, replies, behind) =
       (bytes, text, may, (0 + one_if false, (text, 0, [], [], false, replies, (0, no_problem, refl), sym (append-nil text), refl)), behind)
 
   -- ---- what is answered is answered to what `import` may print
 
-  one_import : (number : ℕ) (line text : List ℕ) (count : ℕ) → IsProblemReply R Q number line text count
-      → (lines : List ℕ) × (refused : ℕ) × (refusals : ℕ) × IsImportReply false number line lines refused × AreAnswered OfAnyKind R Q lines text refusals
+  one_import : (number : ℕ) (line text : List ℕ) (count : ℕ) → IsProblemReply G R Q number line text count
+      → (lines : List ℕ) × (refused : ℕ) × (refusals : ℕ) × IsImportReply false G number line lines refused
+      × AreAnswered OfAnyKind R Q lines text refusals
   one_import number line text count (skipped blank) = ([], 0, 0, is_skipped blank, no_problem)
   one_import number line text count (read lines text' refused any imports answered ends) =
-      (lines, refused, answered.0, imports, answered_any (IsMade false line) lines text' answered.0 answered.1)
+      (lines, refused, answered.0, imports, answered_any (IsMade false G line) lines text' answered.0 answered.1)
 
-  replies_import : (number : ℕ) (lines : List (List ℕ)) (text : List ℕ) (count : ℕ) → IsReplyFrom (IsProblemReply R Q) number lines text count
-      → (printed : List ℕ) × (refused : ℕ) × (refusals : ℕ) × IsReplyFrom (IsImportReply false) number lines printed refused
+  replies_import : (number : ℕ) (lines : List (List ℕ)) (text : List ℕ) (count : ℕ) → IsReplyFrom (IsProblemReply G R Q) number lines text count
+      → (printed : List ℕ) × (refused : ℕ) × (refusals : ℕ) × IsReplyFrom (IsImportReply false G) number lines printed refused
       × AreAnswered OfAnyKind R Q printed text refusals
   replies_import number [] text count (is, nobody) = rw is ([], 0, 0, (refl, refl), no_problem)
   replies_import number (line ∷ lines) text count (here, few, more, others, one, on, is, all) =
@@ -236,15 +244,16 @@ module _ (R : LineReplies) (Q : RefusalRows) where
       let (ps, rs, ks, next, rest) = replies_import (number + 1) lines more others on in
       rw is (p ++ ps, r + rs, k + ks, (p, r, ps, rs, imports, next, refl, refl), answered_append OfAnyKind p ps here more k ks answered rest)
 
-  pub answers_import : AnswersImports R Q
+  pub answers_import : AnswersImports G R Q
   unfolding AnswersProblems IsImport IsReply
   answers_import input text count (replies, refusals, printed, last, any, are, answered, is, all) =
       let (p, r, k, imports, first) = replies_import 1 (lines_of input) replies refusals are in
-      let (any', on) = imported_of (IsMade false []) printed last answered.0 answered.1 in
+      let (any', on) = imported_of (IsMade false G []) printed last answered.0 answered.1 in
       rw is (
         p ++ printed,
         r + one_if any',
         k + answered.0,
         (p, r, printed, any', imports, on, refl, refl),
-        answered_append OfAnyKind p printed replies last k answered.0 first (answered_any (IsMade false []) printed last answered.0 answered.1),
+        answered_append OfAnyKind p printed replies last k answered.0 first (answered_any (IsMade false G []) printed last answered.0
+            answered.1),
       )

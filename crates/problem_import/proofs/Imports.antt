@@ -24,7 +24,8 @@ use Rattle.text_lines.specs.Lines.{lines_of, without_cr}
 use Rattle.text_lines.specs.Replies.{IsReply, IsReplyFrom, IsReplyToFirst}
 use Rattle.problem_import.specs.Imports.{AreImported, EndsWithLine, ImportsAreRecords, IsClean, IsImport, IsImportOfFirst, IsImportReply}
 use Rattle.problem_import.specs.Changes.{telling}
-use Rattle.problem_import.specs.Imports.{HasPositionOf, ImportsKeepPositions, IsKept, IsMade, IsPlaced, IsRecord, IsToldOther, KeepsPosition}
+use Rattle.problem_import.specs.Imports.{HasPositionOf, ImportsKeepPositions, IsKept, IsMade, IsOfLine, IsPlaced, IsRecord, IsToldOther}
+use Rattle.problem_import.specs.Imports.{KeepsProblem}
 use Rattle.problem_import.specs.Imports.{none, one_if, plain, printed, read, refused, refused_line, skipped, told, unchanged, untold}
 use Rattle.problem_import.specs.declared.changes.Change.{Change}
 use Rattle.problem_import.specs.declared.changes.Change.TheVariants.{Pgn, Popeye}
@@ -135,16 +136,16 @@ abbrev Kind : Type 1
 Kind = List (List ℕ) → List ℕ → Type 0
 
 -- It is so of what is made of a line among others.
-abbrev IsOfLines : Bool → Kind → Type 0
-IsOfLines keep K = (lines : List (List ℕ)) (line r : List ℕ) → IsRecord r → (r ≡ line → Contains lines r) → Contains lines line
-    → IsMade keep line r → K lines r
+abbrev IsOfLines : Bool → Option ℕ → Kind → Type 0
+IsOfLines keep given K = (lines : List (List ℕ)) (line r : List ℕ) → IsRecord r → (r ≡ line → Contains lines r) → Contains lines line
+    → IsMade keep given line r → K lines r
 
 abbrev Widens : Kind → Type 0
 Widens K = (line : List ℕ) (lines : List (List ℕ)) (r : List ℕ) → K lines r → K (line ∷ lines) r
 
 -- It is so of what is made at the end.
-abbrev IsOfEnd : Bool → Kind → Type 0
-IsOfEnd keep K = (lines : List (List ℕ)) (r : List ℕ) → IsRecord r → IsMade keep [] r → K lines r
+abbrev IsOfEnd : Bool → Option ℕ → Kind → Type 0
+IsOfEnd keep given K = (lines : List (List ℕ)) (r : List ℕ) → IsRecord r → IsMade keep given [] r → K lines r
 
 abbrev Imported : Kind → List (List ℕ) → List ℕ → ℕ → Type 0
 Imported K lines text count = (any : Bool) × AreImported (K lines) text any × (count ≡ 0 → any ≡ false)
@@ -152,23 +153,25 @@ Imported K lines text count = (any : Bool) × AreImported (K lines) text any × 
 among_first : (line : List ℕ) (lines : List (List ℕ)) → Contains (line ∷ lines) line
 among_first line lines = Contains-append_left (line ∷ []) lines line (Contains-push [] line)
 
-reply_imported : (keep : Bool) (K : Kind) → IsOfLines keep K → (number : ℕ) (line : List ℕ) (lines : List (List ℕ)) (text : List ℕ) (count : ℕ)
-    → IsImportReply keep number line text count → Imported K (line ∷ lines) text count
-reply_imported keep K each number line lines text count (skipped blank) = (false, none, λ is. refl)
-reply_imported keep K each number line lines text count (read text' any filled on clean kept) = (
+reply_imported : (keep : Bool) (given : Option ℕ) (K : Kind) → IsOfLines keep given K
+    → (number : ℕ) (line : List ℕ) (lines : List (List ℕ)) (text : List ℕ) (count : ℕ)
+    → IsImportReply keep given number line text count → Imported K (line ∷ lines) text count
+reply_imported keep given K each number line lines text count (skipped blank) = (false, none, λ is. refl)
+reply_imported keep given K each number line lines text count (read text' any filled on clean kept) = (
   any,
-  imported_for (IsMade keep line) (K (line ∷ lines))
+  imported_for (IsMade keep given line) (K (line ∷ lines))
       (λ r one. each (line ∷ lines) line r one (λ is. rw is (among_first line lines)) (among_first line lines)) text' any on,
   some_if any,
 )
 
-replies_imported : (keep : Bool) (K : Kind) → IsOfLines keep K → Widens K → (number : ℕ) (lines : List (List ℕ)) (text : List ℕ) (count : ℕ)
-    → IsReplyFrom (IsImportReply keep) number lines text count → Imported K (map without_cr lines) text count
-replies_imported keep K each wider number [] text count (is, nobody) = rw is (false, none, λ _. refl)
-replies_imported keep K each wider number (line ∷ lines) text count (here, few, more, others, one, on, is, all) =
+replies_imported : (keep : Bool) (given : Option ℕ) (K : Kind) → IsOfLines keep given K → Widens K
+    → (number : ℕ) (lines : List (List ℕ)) (text : List ℕ) (count : ℕ)
+    → IsReplyFrom (IsImportReply keep given) number lines text count → Imported K (map without_cr lines) text count
+replies_imported keep given K each wider number [] text count (is, nobody) = rw is (false, none, λ _. refl)
+replies_imported keep given K each wider number (line ∷ lines) text count (here, few, more, others, one, on, is, all) =
     let behind : List (List ℕ) = map without_cr lines in
-    let (x, first, clear) = reply_imported keep K each number (without_cr line) behind here few one in
-    let (y, rest, clear') = replies_imported keep K each wider (number + 1) lines more others on in
+    let (x, first, clear) = reply_imported keep given K each number (without_cr line) behind here few one in
+    let (y, rest, clear') = replies_imported keep given K each wider (number + 1) lines more others on in
     let widened = imported_for (K behind) (K (without_cr line ∷ behind)) (λ r _ so. wider (without_cr line) behind r so) more y rest in
     rw is (
       x || y,
@@ -176,13 +179,13 @@ replies_imported keep K each wider number (line ∷ lines) text count (here, few
       λ zero. none_of x y (clear (omega (arith, zero, all))) (clear' (omega (arith, zero, all))),
     )
 
-all_imported : (keep : Bool) (K : Kind) → IsOfLines keep K → Widens K → IsOfEnd keep K
-    → (input text : List ℕ) (count : ℕ) → IsImport keep input text count → Imported K (map without_cr (lines_of input)) text count
+all_imported : (keep : Bool) (given : Option ℕ) (K : Kind) → IsOfLines keep given K → Widens K → IsOfEnd keep given K
+    → (input text : List ℕ) (count : ℕ) → IsImport keep given input text count → Imported K (map without_cr (lines_of input)) text count
 unfolding IsImport IsReply
-all_imported keep K each wider at_end input text count (replies, refusals, last, any, are, ends, is, all) =
+all_imported keep given K each wider at_end input text count (replies, refusals, last, any, are, ends, is, all) =
     let lines : List (List ℕ) = map without_cr (lines_of input) in
-    let (x, first, clear) = replies_imported keep K each wider 1 (lines_of input) replies refusals are in
-    let end = imported_for (IsMade keep []) (K lines) (at_end lines) last any ends in
+    let (x, first, clear) = replies_imported keep given K each wider 1 (lines_of input) replies refusals are in
+    let end = imported_for (IsMade keep given []) (K lines) (at_end lines) last any ends in
     rw is (
       x || any,
       imported_append (K lines) replies last x any first end,
@@ -191,82 +194,89 @@ all_imported keep K each wider at_end input text count (replies, refusals, last,
 
 -- ---- each is a line as it stands, or is told
 
-pub made_kept : (keep : Bool) (lines : List (List ℕ)) (line r : List ℕ) → (r ≡ line → Contains lines r) → IsMade keep line r → IsKept keep lines r
-made_kept keep lines line r here unchanged = λ on. inl (here refl)
-made_kept keep lines line r here (plain made has off own) = λ on. absurd (not_both keep off on)
-made_kept keep lines line r here (told made has on one changed own) = λ _. inr (made, has, changed.0, inl refl)
-made_kept keep lines line r here (untold made has on changed own unread) = λ _. inr (made, has, changed.0, inr unread)
+pub made_kept : (keep : Bool) (given : Option ℕ) (lines : List (List ℕ)) (line r : List ℕ) → (r ≡ line → Contains lines r)
+    → IsMade keep given line r → IsKept keep lines r
+made_kept keep given lines line r here unchanged = λ on. inl (here refl)
+made_kept keep given lines line r here (plain made has off own) = λ on. absurd (not_both keep off on)
+made_kept keep given lines line r here (told made has on one changed own) = λ _. inr (made, has, changed.0, inl refl)
+made_kept keep given lines line r here (untold made has on changed own unread) = λ _. inr (made, has, changed.0, inr unread)
 
 pub imports_are_records : ImportsAreRecords
-imports_are_records keep input text count is =
-    all_imported keep (IsKept keep) (λ lines line r one here among made. made_kept keep lines line r here made)
+imports_are_records keep given input text count is =
+    all_imported keep given (IsKept keep) (λ lines line r one here among made. made_kept keep given lines line r here made)
     (λ line lines r kept on. either (Contains-append_right (line ∷ []) lines r) (kept on))
-    (λ lines r one made. made_kept keep lines [] r (λ empty. absurd (no_empty_record (subst IsRecord empty one))) made)
+    (λ lines r one made. made_kept keep given lines [] r (λ empty. absurd (no_empty_record (subst IsRecord empty one))) made)
     input text count is
 
--- ---- each has the position of a line, or is told to be of a game or for Popeye
+-- ---- each is the problem of a line, or is told to be of a game or for Popeye
 
-abbrev IsAt : List (List ℕ) → List ℕ → Type 0
-IsAt lines r = Contains lines r ⊎ (((own : List ℕ) × Contains lines own × HasPositionOf own r) ⊎ IsToldOther r)
+abbrev IsAt : Option ℕ → List (List ℕ) → List ℕ → Type 0
+IsAt given lines r = Contains lines r ⊎ (((own : List ℕ) × Contains lines own × IsOfLine given own r) ⊎ IsToldOther r)
 
 own_or_told : (b : Bool) (A B : Type 0) → (b ≡ true → B) → (b ≡ false → A) → A ⊎ B
 own_or_told true A B other own = inr (other refl)
 own_or_told false A B other own = inl (own refl)
 
-placed : (lines : List (List ℕ)) (line r : List ℕ) (has : Change → Bool) → Contains lines line → ((has Pgn || has Popeye) ≡ true → IsToldOther r)
-    → KeepsPosition line r has → IsAt lines r
-placed lines line r has among other own =
-    inr (own_or_told (has Pgn || has Popeye) ((own' : List ℕ) × Contains lines own' × HasPositionOf own' r) (IsToldOther r) other
+placed : (given : Option ℕ) (lines : List (List ℕ)) (line r : List ℕ) (has : Change → Bool) → Contains lines line
+    → ((has Pgn || has Popeye) ≡ true → IsToldOther r) → KeepsProblem given line r has → IsAt given lines r
+placed given lines line r has among other own =
+    inr (own_or_told (has Pgn || has Popeye) ((own' : List ℕ) × Contains lines own' × IsOfLine given own' r) (IsToldOther r) other
     (λ off. (line, among, own off)))
 
-made_placed : (keep : Bool) (lines : List (List ℕ)) (line r : List ℕ) → (r ≡ line → Contains lines r) → Contains lines line → IsMade keep line r
-    → IsPlaced keep lines r
-made_placed keep lines line r here among unchanged = λ on. inl (here refl)
-made_placed keep lines line r here among (plain made has off own) = λ on. absurd (not_both keep off on)
-made_placed keep lines line r here among (told made has on one changed own) = λ _.
-    placed lines line (made ++ telling has) has among (λ is. (made, has, is, inl refl)) own
-made_placed keep lines line r here among (untold made has on changed own unread) = λ _.
-    placed lines line made has among (λ is. (made, has, is, inr unread)) own
+made_placed : (keep : Bool) (given : Option ℕ) (lines : List (List ℕ)) (line r : List ℕ) → (r ≡ line → Contains lines r)
+    → Contains lines line → IsMade keep given line r
+    → IsPlaced keep given lines r
+made_placed keep given lines line r here among unchanged = λ on. inl (here refl)
+made_placed keep given lines line r here among (plain made has off own) = λ on. absurd (not_both keep off on)
+made_placed keep given lines line r here among (told made has on one changed own) = λ _.
+    placed given lines line (made ++ telling has) has among (λ is. (made, has, is, inl refl)) own
+made_placed keep given lines line r here among (untold made has on changed own unread) = λ _.
+    placed given lines line made has among (λ is. (made, has, is, inr unread)) own
 
-wider_at : (line : List ℕ) (lines : List (List ℕ)) (r : List ℕ) → IsAt lines r → IsAt (line ∷ lines) r
-wider_at line lines r (inl is) = inl (Contains-append_right (line ∷ []) lines r is)
-wider_at line lines r (inr (inl (own, among, is))) = inr (inl (own, Contains-append_right (line ∷ []) lines own among, is))
-wider_at line lines r (inr (inr other)) = inr (inr other)
+wider_at : (given : Option ℕ) (line : List ℕ) (lines : List (List ℕ)) (r : List ℕ) → IsAt given lines r → IsAt given (line ∷ lines) r
+wider_at given line lines r (inl is) = inl (Contains-append_right (line ∷ []) lines r is)
+wider_at given line lines r (inr (inl (own, among, is))) = inr (inl (own, Contains-append_right (line ∷ []) lines own among, is))
+wider_at given line lines r (inr (inr other)) = inr (inr other)
 
 -- What is made at the end is told.
-placed_last : (lines : List (List ℕ)) (r : List ℕ) (has : Change → Bool) → IsRecord r → ((has Pgn || has Popeye) ≡ true → IsToldOther r)
-    → KeepsPosition [] r has → IsAt lines r
-placed_last lines r has one other own =
-    inr (own_or_told (has Pgn || has Popeye) ((own' : List ℕ) × Contains lines own' × HasPositionOf own' r) (IsToldOther r) other
-    (λ off. absurd (no_empty_position r one (own off))))
+placed_last : (given : Option ℕ) (lines : List (List ℕ)) (r : List ℕ) (has : Change → Bool) → IsRecord r
+    → ((has Pgn || has Popeye) ≡ true → IsToldOther r) → KeepsProblem given [] r has → IsAt given lines r
+placed_last given lines r has one other own =
+    inr (own_or_told (has Pgn || has Popeye) ((own' : List ℕ) × Contains lines own' × IsOfLine given own' r) (IsToldOther r) other
+    (λ off. absurd (no_empty_position r one (own off).0)))
 
-end_placed : (keep : Bool) (lines : List (List ℕ)) (r : List ℕ) → IsRecord r → IsMade keep [] r → IsPlaced keep lines r
-end_placed keep lines r one unchanged = λ _. absurd (no_empty_record one)
-end_placed keep lines r one (plain made has off own) = λ on. absurd (not_both keep off on)
-end_placed keep lines r one (told made has on one' changed own) = λ _. placed_last lines (made ++ telling has) has one (λ is. (made, has, is, inl refl)) own
-end_placed keep lines r one (untold made has on changed own unread) = λ _. placed_last lines made has one (λ is. (made, has, is, inr unread)) own
+end_placed : (keep : Bool) (given : Option ℕ) (lines : List (List ℕ)) (r : List ℕ) → IsRecord r → IsMade keep given [] r
+    → IsPlaced keep given lines r
+end_placed keep given lines r one unchanged = λ _. absurd (no_empty_record one)
+end_placed keep given lines r one (plain made has off own) = λ on. absurd (not_both keep off on)
+end_placed keep given lines r one (told made has on one' changed own) = λ _.
+    placed_last given lines (made ++ telling has) has one (λ is. (made, has, is, inl refl)) own
+end_placed keep given lines r one (untold made has on changed own unread) = λ _.
+    placed_last given lines made has one (λ is. (made, has, is, inr unread)) own
 
 pub imports_keep_positions : ImportsKeepPositions
-imports_keep_positions keep input text count is =
-    let all = all_imported keep (IsPlaced keep) (λ lines line r one here among made. made_placed keep lines line r here among made)
-    (λ line lines r so on. wider_at line lines r (so on)) (end_placed keep) input text count is in
+imports_keep_positions keep given input text count is =
+    let all = all_imported keep given (IsPlaced keep given) (λ lines line r one here among made. made_placed keep given lines line r here
+    among made)
+    (λ line lines r so on. wider_at given line lines r (so on)) (end_placed keep given) input text count is in
     (all.0, all.1)
 
 pub some_text : (text : List ℕ) → 0 < length text → text ≢ []
 some_text text some = λ is. let none : 0 < 0 = subst (λ t. 0 < length t) is some in omega (arith, none)
 
-pub read_reply : (keep : Bool) (number : ℕ) (line out text : List ℕ) (any : Bool) (count : ℕ) → is_blank line ≡ false
-    → AreImported (IsMade keep line) text any → (IsClean line → EndsWithLine line text) → (IsRecord line → 0 < length text)
-    → out ≡ text → count ≡ one_if any → IsImportReply keep number line out count
-read_reply keep number line out text any count filled on clean kept same is =
+pub read_reply : (keep : Bool) (given : Option ℕ) (number : ℕ) (line out text : List ℕ) (any : Bool) (count : ℕ) → is_blank line ≡ false
+    → AreImported (IsMade keep given line) text any → (IsClean line → EndsWithLine line text) → (IsRecord line → 0 < length text)
+    → out ≡ text → count ≡ one_if any → IsImportReply keep given number line out count
+read_reply keep given number line out text any count filled on clean kept same is =
     rw (same, is) (read text any filled on clean (λ one. some_text text (kept one)))
 
-pub long_reply : (keep : Bool) (number : ℕ) (out text : List ℕ) (any : Bool) (count : ℕ)
-    → ((line : List ℕ) → AreImported (IsMade keep line) text any) → out ≡ text → count ≡ one_if any
-    → (line : List ℕ) → is_blank line ≡ false → max_line < length line → IsImportReply keep number line out count
-long_reply keep number out text any count on same is line filled long =
+pub long_reply : (keep : Bool) (given : Option ℕ) (number : ℕ) (out text : List ℕ) (any : Bool) (count : ℕ)
+    → ((line : List ℕ) → AreImported (IsMade keep given line) text any) → out ≡ text → count ≡ one_if any
+    → (line : List ℕ) → is_blank line ≡ false → max_line < length line → IsImportReply keep given number line out count
+long_reply keep given number out text any count on same is line filled long =
     let no_record : IsRecord line → ⊥ = λ one. omega (arith, one.1.short, long) in
-    read_reply keep number line out text any count filled (on line) (λ clean. absurd (no_record (clean_record line clean))) (λ one. absurd (no_record one)) same is
+    read_reply keep given number line out text any count filled (on line) (λ clean. absurd (no_record (clean_record line clean)))
+    (λ one. absurd (no_record one)) same is
 
 pub where_none : {A : Type 0} (X : Type 0) (found : Option A) → ((a : A) → found ≢ Some a) → IfNone found X → X
 where_none X None other then = then
@@ -284,52 +294,60 @@ appends_more stop.Unreadable a b c text here before on = Appends-trans a b c tex
 appends_more stop.Unwritable a b c text here before on = part_more a b c text here before on
 appends_more stop.NoReader a b c text here before on = part_more a b c text here before on
 
-abbrev Whole : Bool → ℕ → (known old new : Option (List ℕ)) → Type 0
-Whole keep total known old new = (bytes : List ℕ) × (text : List ℕ) × MayBe known bytes × IsImport keep bytes text total
+abbrev Whole : Bool → Option ℕ → ℕ → (known old new : Option (List ℕ)) → Type 0
+Whole keep given total known old new = (bytes : List ℕ) × (text : List ℕ) × MayBe known bytes × IsImport keep given bytes text total
     × Appends old new text
 
-abbrev Part : Bool → Stop → (known old new : Option (List ℕ)) → Type 0
-Part keep s known old new = (bytes : List ℕ) × (text : List ℕ) × MayBe known bytes × IsImportOfFirst keep bytes text × AppendsBy s old new text
+abbrev Part : Bool → Option ℕ → Stop → (known old new : Option (List ℕ)) → Type 0
+Part keep given s known old new = (bytes : List ℕ) × (text : List ℕ) × MayBe known bytes × IsImportOfFirst keep given bytes text
+    × AppendsBy s old new text
 
-abbrev Lines : Bool → ℕ → (known old new : Option (List ℕ)) → Type 0
-Lines keep count known old new = (bytes : List ℕ) × (text : List ℕ) × MayBe known bytes × IsReply (IsImportReply keep) bytes text count
+abbrev Lines : Bool → Option ℕ → ℕ → (known old new : Option (List ℕ)) → Type 0
+Lines keep given count known old new = (bytes : List ℕ) × (text : List ℕ) × MayBe known bytes
+    × IsReply (IsImportReply keep given) bytes text count
     × Appends old new text
 
-ended : (keep : Bool) (count total : ℕ) (known old middle new : Option (List ℕ)) → Lines keep count known old middle
-    → (last : List ℕ) × (any : Bool) × AreImported (IsMade keep []) last any × (total ≡ count + one_if any)
-    × Appends middle new last → Whole keep total known old new
+ended : (keep : Bool) (given : Option ℕ) (count total : ℕ) (known old middle new : Option (List ℕ)) → Lines keep given count known old middle
+    → (last : List ℕ) × (any : Bool) × AreImported (IsMade keep given []) last any × (total ≡ count + one_if any)
+    × Appends middle new last → Whole keep given total known old new
 unfolding IsImport
-ended keep count total known old middle new (bytes, text, may, replies, before) (last, any, on, is, behind) =
+ended keep given count total known old middle new (bytes, text, may, replies, before) (last, any, on, is, behind) =
     (bytes, text ++ last, may, (text, count, last, any, replies, on, refl, is), Appends-trans old middle new text last before behind)
 
-ended_by : (keep : Bool) (s : Stop) (count : ℕ) (known old middle new : Option (List ℕ)) → Lines keep count known old middle
-    → (last : List ℕ) × (any : Bool) × AreImported (IsMade keep []) last any × AppendsBy s middle new last → Part keep s known old new
+ended_by : (keep : Bool) (given : Option ℕ) (s : Stop) (count : ℕ) (known old middle new : Option (List ℕ))
+    → Lines keep given count known old middle
+    → (last : List ℕ) × (any : Bool) × AreImported (IsMade keep given []) last any × AppendsBy s middle new last
+    → Part keep given s known old new
 unfolding IsImportOfFirst IsReply IsReplyToFirst
-ended_by keep s count known old middle new (bytes, text, may, replies, before) (last, any, on, behind) =
-    let Q : List (List ℕ) → Type 0 = λ ls. IsReplyFrom (IsImportReply keep) 1 ls text count in
-    let all : (n : ℕ) × (c : ℕ) × IsReplyFrom (IsImportReply keep) 1 (take n (lines_of bytes)) text c =
+ended_by keep given s count known old middle new (bytes, text, may, replies, before) (last, any, on, behind) =
+    let Q : List (List ℕ) → Type 0 = λ ls. IsReplyFrom (IsImportReply keep given) 1 ls text count in
+    let all : (n : ℕ) × (c : ℕ) × IsReplyFrom (IsImportReply keep given) 1 (take n (lines_of bytes)) text c =
     (length (lines_of bytes), count, subst Q (sym (take-length (lines_of bytes))) replies) in
     (bytes, text ++ last, may, (text, last, any, all, on, refl), appends_more s old middle new text last before behind)
 
-pub stopped : (keep : Bool) (s : Stop) (known old new : Option (List ℕ)) → (bytes : List ℕ) × (text : List ℕ) × MayBe known bytes
-    × IsReplyToFirst (IsImportReply keep) bytes text × AppendsBy s old new text
-    → Part keep s known old new
+pub stopped : (keep : Bool) (given : Option ℕ) (s : Stop) (known old new : Option (List ℕ)) → (bytes : List ℕ) × (text : List ℕ)
+    × MayBe known bytes
+    × IsReplyToFirst (IsImportReply keep given) bytes text × AppendsBy s old new text
+    → Part keep given s known old new
 unfolding IsImportOfFirst
-stopped keep s known old new (bytes, text, may, replies, behind) = (bytes, text, may, (text, [], false, replies, none, sym (append-nil text)), behind)
+stopped keep given s known old new (bytes, text, may, replies, behind) =
+    (bytes, text, may, (text, [], false, replies, none, sym (append-nil text)), behind)
 
-pub nothing_last : (keep : Bool) (old : Option (List ℕ)) → (last : List ℕ) × (any : Bool)
-    × AreImported (IsMade keep []) last any × Appends old old last
-nothing_last keep old = ([], false, none, Appends-nil old)
+pub nothing_last : (keep : Bool) (given : Option ℕ) (old : Option (List ℕ)) → (last : List ℕ) × (any : Bool)
+    × AreImported (IsMade keep given []) last any × Appends old old last
+nothing_last keep given old = ([], false, none, Appends-nil old)
 
-pub ended_if : (keep : Bool) (r : Result ℕ Stop) (count : ℕ) (known old middle new : Option (List ℕ)) → Lines keep count known old middle
-    → IfOk r (λ total. (last : List ℕ) × (any : Bool) × AreImported (IsMade keep []) last any × (total ≡ count + one_if any)
+pub ended_if : (keep : Bool) (given : Option ℕ) (r : Result ℕ Stop) (count : ℕ) (known old middle new : Option (List ℕ))
+    → Lines keep given count known old middle
+    → IfOk r (λ total. (last : List ℕ) × (any : Bool) × AreImported (IsMade keep given []) last any × (total ≡ count + one_if any)
     × Appends middle new last)
-    → IfOk r (λ total. Whole keep total known old new)
-ended_if keep (Ok total) count known old middle new lines last = ended keep count total known old middle new lines last
-ended_if keep (Err s) count known old middle new lines last = tt
+    → IfOk r (λ total. Whole keep given total known old new)
+ended_if keep given (Ok total) count known old middle new lines last = ended keep given count total known old middle new lines last
+ended_if keep given (Err s) count known old middle new lines last = tt
 
-pub stopped_if : (keep : Bool) (r : Result ℕ Stop) (count : ℕ) (known old middle new : Option (List ℕ)) → Lines keep count known old middle
-    → IfErr r (λ s. (last : List ℕ) × (any : Bool) × AreImported (IsMade keep []) last any × AppendsBy s middle new last)
-    → IfErr r (λ s. Part keep s known old new)
-stopped_if keep (Ok total) count known old middle new lines last = tt
-stopped_if keep (Err s) count known old middle new lines last = ended_by keep s count known old middle new lines last
+pub stopped_if : (keep : Bool) (given : Option ℕ) (r : Result ℕ Stop) (count : ℕ) (known old middle new : Option (List ℕ))
+    → Lines keep given count known old middle
+    → IfErr r (λ s. (last : List ℕ) × (any : Bool) × AreImported (IsMade keep given []) last any × AppendsBy s middle new last)
+    → IfErr r (λ s. Part keep given s known old new)
+stopped_if keep given (Ok total) count known old middle new lines last = tt
+stopped_if keep given (Err s) count known old middle new lines last = ended_by keep given s count known old middle new lines last

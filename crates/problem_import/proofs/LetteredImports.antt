@@ -60,128 +60,146 @@ kept_anew first kinds.Clean line findings made other clean same found filled is 
 kept_anew first kinds.Mendable line findings made other clean same found filled is = filled (found refl)
 kept_anew first kinds.Other line findings made other clean same found filled is = absurd (other (same refl) is)
 
-pub lettered_reply : (letters : Letters) (keep : Bool) (number : ℕ) (line own out text : List ℕ) (any : Bool) (count : ℕ) → is_blank line ≡ false
-    → own ≡ line_read letters line → AreImported (IsMade keep own) text any → (IsRecord own → 0 < length text)
-    → out ≡ text → count ≡ one_if any → IsLetteredReply letters keep number line out count
-lettered_reply letters keep number line own out text any count filled says on kept same is =
-    let on' : AreImported (IsMade keep (line_read letters line)) text any = subst (λ t. AreImported (IsMade keep t) text any) says on in
+pub lettered_reply : (letters : Letters) (keep : Bool) (given : Option ℕ) (number : ℕ) (line own out text : List ℕ) (any : Bool)
+    (count : ℕ) → is_blank line ≡ false
+    → own ≡ line_read letters line → AreImported (IsMade keep given own) text any → (IsRecord own → 0 < length text)
+    → out ≡ text → count ≡ one_if any → IsLetteredReply letters keep given number line out count
+lettered_reply letters keep given number line own out text any count filled says on kept same is =
+    let on' : AreImported (IsMade keep given (line_read letters line)) text any = subst (λ t. AreImported (IsMade keep given t) text any)
+    says on in
     rw (same, is) (read text any filled on' (λ one. some_text text (kept (subst IsRecord (sym says) one))))
 
-pub lettered_long : (letters : Letters) (keep : Bool) (number : ℕ) (out text : List ℕ) (any : Bool) (count : ℕ)
-    → ((line : List ℕ) → AreImported (IsMade keep line) text any) → out ≡ text → count ≡ one_if any
-    → (line : List ℕ) → is_blank line ≡ false → max_line < length line → IsLetteredReply letters keep number line out count
-lettered_long letters keep number out text any count on same is line filled long =
+pub lettered_long : (letters : Letters) (keep : Bool) (given : Option ℕ) (number : ℕ) (out text : List ℕ) (any : Bool) (count : ℕ)
+    → ((line : List ℕ) → AreImported (IsMade keep given line) text any) → out ≡ text → count ≡ one_if any
+    → (line : List ℕ) → is_blank line ≡ false → max_line < length line → IsLetteredReply letters keep given number line out count
+lettered_long letters keep given number out text any count on same is line filled long =
     let no_record : IsRecord (line_read letters line) → ⊥ = λ one. omega (arith, one.1.short, long, line_length letters line) in
-    lettered_reply letters keep number line (line_read letters line) out text any count filled refl (on (line_read letters line))
+    lettered_reply letters keep given number line (line_read letters line) out text any count filled refl (on (line_read letters line))
     (λ one. absurd (no_record one)) same is
 
 -- ---- where it ends or stops
 
-abbrev Whole : Letters → Bool → ℕ → (known old new : Option (List ℕ)) → Type 0
-Whole letters keep total known old new = (bytes : List ℕ) × (text : List ℕ) × MayBe known bytes × IsLettered letters keep bytes text total
+abbrev Whole : Letters → Bool → Option ℕ → ℕ → (known old new : Option (List ℕ)) → Type 0
+Whole letters keep given total known old new = (bytes : List ℕ) × (text : List ℕ) × MayBe known bytes
+    × IsLettered letters keep given bytes text total
     × Appends old new text
 
-abbrev Part : Letters → Bool → Stop → (known old new : Option (List ℕ)) → Type 0
-Part letters keep s known old new = (bytes : List ℕ) × (text : List ℕ) × MayBe known bytes × IsLetteredOfFirst letters keep bytes text
+abbrev Part : Letters → Bool → Option ℕ → Stop → (known old new : Option (List ℕ)) → Type 0
+Part letters keep given s known old new = (bytes : List ℕ) × (text : List ℕ) × MayBe known bytes
+    × IsLetteredOfFirst letters keep given bytes text
     × AppendsBy s old new text
 
-abbrev Lines : Letters → Bool → ℕ → (known old new : Option (List ℕ)) → Type 0
-Lines letters keep count known old new = (bytes : List ℕ) × (text : List ℕ) × MayBe known bytes
-    × IsReply (IsLetteredReply letters keep) bytes text count × Appends old new text
+abbrev Lines : Letters → Bool → Option ℕ → ℕ → (known old new : Option (List ℕ)) → Type 0
+Lines letters keep given count known old new = (bytes : List ℕ) × (text : List ℕ) × MayBe known bytes
+    × IsReply (IsLetteredReply letters keep given) bytes text count × Appends old new text
 
-ended : (letters : Letters) (keep : Bool) (count total : ℕ) (known old middle new : Option (List ℕ)) → Lines letters keep count known old middle
-    → (last : List ℕ) × (any : Bool) × AreImported (IsMade keep []) last any × (total ≡ count + one_if any)
-    × Appends middle new last → Whole letters keep total known old new
+ended : (letters : Letters) (keep : Bool) (given : Option ℕ) (count total : ℕ) (known old middle new : Option (List ℕ))
+    → Lines letters keep given count known old middle
+    → (last : List ℕ) × (any : Bool) × AreImported (IsMade keep given []) last any × (total ≡ count + one_if any)
+    × Appends middle new last → Whole letters keep given total known old new
 unfolding IsLettered
-ended letters keep count total known old middle new (bytes, text, may, replies, before) (last, any, on, is, behind) =
+ended letters keep given count total known old middle new (bytes, text, may, replies, before) (last, any, on, is, behind) =
     (bytes, text ++ last, may, (text, count, last, any, replies, on, refl, is), Appends-trans old middle new text last before behind)
 
-ended_by : (letters : Letters) (keep : Bool) (s : Stop) (count : ℕ) (known old middle new : Option (List ℕ))
-    → Lines letters keep count known old middle
-    → (last : List ℕ) × (any : Bool) × AreImported (IsMade keep []) last any × AppendsBy s middle new last → Part letters keep s known old new
+ended_by : (letters : Letters) (keep : Bool) (given : Option ℕ) (s : Stop) (count : ℕ) (known old middle new : Option (List ℕ))
+    → Lines letters keep given count known old middle
+    → (last : List ℕ) × (any : Bool) × AreImported (IsMade keep given []) last any × AppendsBy s middle new last
+    → Part letters keep given s known old new
 unfolding IsLetteredOfFirst IsReply IsReplyToFirst
-ended_by letters keep s count known old middle new (bytes, text, may, replies, before) (last, any, on, behind) =
-    let Q : List (List ℕ) → Type 0 = λ ls. IsReplyFrom (IsLetteredReply letters keep) 1 ls text count in
-    let all : (n : ℕ) × (c : ℕ) × IsReplyFrom (IsLetteredReply letters keep) 1 (take n (lines_of bytes)) text c =
+ended_by letters keep given s count known old middle new (bytes, text, may, replies, before) (last, any, on, behind) =
+    let Q : List (List ℕ) → Type 0 = λ ls. IsReplyFrom (IsLetteredReply letters keep given) 1 ls text count in
+    let all : (n : ℕ) × (c : ℕ) × IsReplyFrom (IsLetteredReply letters keep given) 1 (take n (lines_of bytes)) text c =
     (length (lines_of bytes), count, subst Q (sym (take-length (lines_of bytes))) replies) in
     (bytes, text ++ last, may, (text, last, any, all, on, refl), appends_more s old middle new text last before behind)
 
-pub stopped : (letters : Letters) (keep : Bool) (s : Stop) (known old new : Option (List ℕ)) → (bytes : List ℕ) × (text : List ℕ) × MayBe known bytes
-    × IsReplyToFirst (IsLetteredReply letters keep) bytes text × AppendsBy s old new text
-    → Part letters keep s known old new
+pub stopped : (letters : Letters) (keep : Bool) (given : Option ℕ) (s : Stop) (known old new : Option (List ℕ)) → (bytes : List ℕ)
+    × (text : List ℕ) × MayBe known bytes
+    × IsReplyToFirst (IsLetteredReply letters keep given) bytes text × AppendsBy s old new text
+    → Part letters keep given s known old new
 unfolding IsLetteredOfFirst
-stopped letters keep s known old new (bytes, text, may, replies, behind) =
+stopped letters keep given s known old new (bytes, text, may, replies, behind) =
     (bytes, text, may, (text, [], false, replies, none, sym (append-nil text)), behind)
 
-pub ended_if : (letters : Letters) (keep : Bool) (r : Result ℕ Stop) (count : ℕ) (known old middle new : Option (List ℕ))
-    → Lines letters keep count known old middle
-    → IfOk r (λ total. (last : List ℕ) × (any : Bool) × AreImported (IsMade keep []) last any × (total ≡ count + one_if any)
+pub ended_if : (letters : Letters) (keep : Bool) (given : Option ℕ) (r : Result ℕ Stop) (count : ℕ) (known old middle new : Option (List ℕ))
+    → Lines letters keep given count known old middle
+    → IfOk r (λ total. (last : List ℕ) × (any : Bool) × AreImported (IsMade keep given []) last any × (total ≡ count + one_if any)
     × Appends middle new last)
-    → IfOk r (λ total. Whole letters keep total known old new)
-ended_if letters keep (Ok total) count known old middle new lines last = ended letters keep count total known old middle new lines last
-ended_if letters keep (Err s) count known old middle new lines last = tt
+    → IfOk r (λ total. Whole letters keep given total known old new)
+ended_if letters keep given (Ok total) count known old middle new lines last = ended letters keep given count total known old middle new
+    lines last
+ended_if letters keep given (Err s) count known old middle new lines last = tt
 
-pub stopped_if : (letters : Letters) (keep : Bool) (r : Result ℕ Stop) (count : ℕ) (known old middle new : Option (List ℕ))
-    → Lines letters keep count known old middle
-    → IfErr r (λ s. (last : List ℕ) × (any : Bool) × AreImported (IsMade keep []) last any × AppendsBy s middle new last)
-    → IfErr r (λ s. Part letters keep s known old new)
-stopped_if letters keep (Ok total) count known old middle new lines last = tt
-stopped_if letters keep (Err s) count known old middle new lines last = ended_by letters keep s count known old middle new lines last
+pub stopped_if : (letters : Letters) (keep : Bool) (given : Option ℕ) (r : Result ℕ Stop) (count : ℕ) (known old middle new : Option (List ℕ))
+    → Lines letters keep given count known old middle
+    → IfErr r (λ s. (last : List ℕ) × (any : Bool) × AreImported (IsMade keep given []) last any × AppendsBy s middle new last)
+    → IfErr r (λ s. Part letters keep given s known old new)
+stopped_if letters keep given (Ok total) count known old middle new lines last = tt
+stopped_if letters keep given (Err s) count known old middle new lines last = ended_by letters keep given s count known old middle new
+    lines last
 
 -- ---- English letters, and others
 
-pub english_ok : (letters : Letters) (keep : Bool) (r : Result ℕ Stop) (known old new : Option (List ℕ)) → is_english letters ≡ true
-    → IfOk r (λ count. (bytes : List ℕ) × (text : List ℕ) × MayBe known bytes × IsImport keep bytes text count × Appends old new text)
-    → IfOk r (λ count. (bytes : List ℕ) × (text : List ℕ) × MayBe known bytes × IsImportIn letters keep bytes text count × Appends old new text)
-english_ok letters keep (Ok count) known old new is (bytes, text, may, on, behind) = (bytes, text, may, english is on, behind)
-english_ok letters keep (Err s) known old new is on = tt
+pub english_ok : (letters : Letters) (keep : Bool) (given : Option ℕ) (r : Result ℕ Stop) (known old new : Option (List ℕ))
+    → is_english letters ≡ true
+    → IfOk r (λ count. (bytes : List ℕ) × (text : List ℕ) × MayBe known bytes × IsImport keep given bytes text count × Appends old new text)
+    → IfOk r (λ count. (bytes : List ℕ) × (text : List ℕ) × MayBe known bytes × IsImportIn letters keep given bytes text count
+    × Appends old new text)
+english_ok letters keep given (Ok count) known old new is (bytes, text, may, on, behind) = (bytes, text, may, english is on, behind)
+english_ok letters keep given (Err s) known old new is on = tt
 
-pub english_err : (letters : Letters) (keep : Bool) (r : Result ℕ Stop) (known old new : Option (List ℕ)) → is_english letters ≡ true
-    → IfErr r (λ s. (bytes : List ℕ) × (text : List ℕ) × MayBe known bytes × IsImportOfFirst keep bytes text × AppendsBy s old new text)
-    → IfErr r (λ s. (bytes : List ℕ) × (text : List ℕ) × MayBe known bytes × IsImportOfFirstIn letters keep bytes text × AppendsBy s old new text)
-english_err letters keep (Ok count) known old new is on = tt
-english_err letters keep (Err s) known old new is (bytes, text, may, on, behind) = (bytes, text, may, english is on, behind)
+pub english_err : (letters : Letters) (keep : Bool) (given : Option ℕ) (r : Result ℕ Stop) (known old new : Option (List ℕ))
+    → is_english letters ≡ true
+    → IfErr r (λ s. (bytes : List ℕ) × (text : List ℕ) × MayBe known bytes × IsImportOfFirst keep given bytes text × AppendsBy s old new text)
+    → IfErr r (λ s. (bytes : List ℕ) × (text : List ℕ) × MayBe known bytes × IsImportOfFirstIn letters keep given bytes text
+    × AppendsBy s old new text)
+english_err letters keep given (Ok count) known old new is on = tt
+english_err letters keep given (Err s) known old new is (bytes, text, may, on, behind) = (bytes, text, may, english is on, behind)
 
-pub lettered_ok : (letters : Letters) (keep : Bool) (r : Result ℕ Stop) (known old new : Option (List ℕ)) → is_english letters ≡ false
-    → IfOk r (λ count. Whole letters keep count known old new)
-    → IfOk r (λ count. (bytes : List ℕ) × (text : List ℕ) × MayBe known bytes × IsImportIn letters keep bytes text count × Appends old new text)
-lettered_ok letters keep (Ok count) known old new is (bytes, text, may, on, behind) = (bytes, text, may, lettered is on, behind)
-lettered_ok letters keep (Err s) known old new is on = tt
+pub lettered_ok : (letters : Letters) (keep : Bool) (given : Option ℕ) (r : Result ℕ Stop) (known old new : Option (List ℕ))
+    → is_english letters ≡ false
+    → IfOk r (λ count. Whole letters keep given count known old new)
+    → IfOk r (λ count. (bytes : List ℕ) × (text : List ℕ) × MayBe known bytes × IsImportIn letters keep given bytes text count
+    × Appends old new text)
+lettered_ok letters keep given (Ok count) known old new is (bytes, text, may, on, behind) = (bytes, text, may, lettered is on, behind)
+lettered_ok letters keep given (Err s) known old new is on = tt
 
-pub lettered_err : (letters : Letters) (keep : Bool) (r : Result ℕ Stop) (known old new : Option (List ℕ)) → is_english letters ≡ false
-    → IfErr r (λ s. Part letters keep s known old new)
-    → IfErr r (λ s. (bytes : List ℕ) × (text : List ℕ) × MayBe known bytes × IsImportOfFirstIn letters keep bytes text × AppendsBy s old new text)
-lettered_err letters keep (Ok count) known old new is on = tt
-lettered_err letters keep (Err s) known old new is (bytes, text, may, on, behind) = (bytes, text, may, lettered is on, behind)
+pub lettered_err : (letters : Letters) (keep : Bool) (given : Option ℕ) (r : Result ℕ Stop) (known old new : Option (List ℕ))
+    → is_english letters ≡ false
+    → IfErr r (λ s. Part letters keep given s known old new)
+    → IfErr r (λ s. (bytes : List ℕ) × (text : List ℕ) × MayBe known bytes × IsImportOfFirstIn letters keep given bytes text
+    × AppendsBy s old new text)
+lettered_err letters keep given (Ok count) known old new is on = tt
+lettered_err letters keep given (Err s) known old new is (bytes, text, may, on, behind) = (bytes, text, may, lettered is on, behind)
 
 -- ---- the law
 
 abbrev says : Letters → List ℕ → List ℕ
 says letters line = line_read letters (without_cr line)
 
-abbrev Imported : Bool → List (List ℕ) → List ℕ → ℕ → Type 0
-Imported keep lines text count = (any : Bool) × AreImported (IsKept keep lines) text any × (count ≡ 0 → any ≡ false)
+abbrev Imported : Bool → Option ℕ → List (List ℕ) → List ℕ → ℕ → Type 0
+Imported keep given lines text count = (any : Bool) × AreImported (IsKept keep lines) text any × (count ≡ 0 → any ≡ false)
 
-reply_imported : (letters : Letters) (keep : Bool) (number : ℕ) (line : List ℕ) (lines : List (List ℕ)) (text : List ℕ) (count : ℕ)
-    → IsLetteredReply letters keep number line text count → Imported keep (line_read letters line ∷ lines) text count
-reply_imported letters keep number line lines text count (skipped blank) = (false, none, λ is. refl)
-reply_imported letters keep number line lines text count (read text' any filled on kept) =
+reply_imported : (letters : Letters) (keep : Bool) (given : Option ℕ) (number : ℕ) (line : List ℕ) (lines : List (List ℕ)) (text : List ℕ)
+    (count : ℕ)
+    → IsLetteredReply letters keep given number line text count → Imported keep given (line_read letters line ∷ lines) text count
+reply_imported letters keep given number line lines text count (skipped blank) = (false, none, λ is. refl)
+reply_imported letters keep given number line lines text count (read text' any filled on kept) =
     let own : List ℕ = line_read letters line in (
       any,
-      imported_for (IsMade keep own) (IsKept keep (own ∷ lines))
-          (λ r _. made_kept keep (own ∷ lines) own r (λ is. rw is (Contains-append_left (own ∷ []) lines own (Contains-push [] own))))
+      imported_for (IsMade keep given own) (IsKept keep (own ∷ lines))
+          (λ r _. made_kept keep given (own ∷ lines) own r (λ is. rw is (Contains-append_left (own ∷ []) lines own (Contains-push [] own))))
           text' any on,
       some_if any,
     )
 
-replies_imported : (letters : Letters) (keep : Bool) (number : ℕ) (lines : List (List ℕ)) (text : List ℕ) (count : ℕ)
-    → IsReplyFrom (IsLetteredReply letters keep) number lines text count → Imported keep (map (says letters) lines) text count
-replies_imported letters keep number [] text count (is, nobody) = rw is (false, none, λ _. refl)
-replies_imported letters keep number (line ∷ lines) text count (here, few, more, others, one, on, is, all) =
+replies_imported : (letters : Letters) (keep : Bool) (given : Option ℕ) (number : ℕ) (lines : List (List ℕ)) (text : List ℕ) (count : ℕ)
+    → IsReplyFrom (IsLetteredReply letters keep given) number lines text count → Imported keep given (map (says letters) lines) text count
+replies_imported letters keep given number [] text count (is, nobody) = rw is (false, none, λ _. refl)
+replies_imported letters keep given number (line ∷ lines) text count (here, few, more, others, one, on, is, all) =
     let behind : List (List ℕ) = map (says letters) lines in
     let own : List ℕ = says letters line in
-    let (x, first, clear) = reply_imported letters keep number (without_cr line) behind here few one in
-    let (y, rest, clear') = replies_imported letters keep (number + 1) lines more others on in
+    let (x, first, clear) = reply_imported letters keep given number (without_cr line) behind here few one in
+    let (y, rest, clear') = replies_imported letters keep given (number + 1) lines more others on in
     let wider = imported_for (IsKept keep behind) (IsKept keep (own ∷ behind))
     (λ r _ kept on. either (Contains-append_right (own ∷ []) behind r) (kept on)) more y rest in
     rw is (
@@ -192,11 +210,11 @@ replies_imported letters keep number (line ∷ lines) text count (here, few, mor
 
 pub lettered_are_records : LetteredAreRecords
 unfolding IsLettered IsReply
-lettered_are_records letters keep input text count (replies, refusals, last, any, are, ends, is, all) =
+lettered_are_records letters keep given input text count (replies, refusals, last, any, are, ends, is, all) =
     let lines : List (List ℕ) = map (says letters) (lines_of input) in
-    let (x, first, clear) = replies_imported letters keep 1 (lines_of input) replies refusals are in
-    let end = imported_for (IsMade keep []) (IsKept keep lines)
-    (λ r one. made_kept keep lines [] r (λ empty. absurd (no_empty_record (subst IsRecord empty one)))) last any ends in
+    let (x, first, clear) = replies_imported letters keep given 1 (lines_of input) replies refusals are in
+    let end = imported_for (IsMade keep given []) (IsKept keep lines)
+    (λ r one. made_kept keep given lines [] r (λ empty. absurd (no_empty_record (subst IsRecord empty one)))) last any ends in
     rw is (
       x || any,
       imported_append (IsKept keep lines) replies last x any first end,

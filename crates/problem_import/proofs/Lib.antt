@@ -8,3 +8,7 @@ pub mod Positions
 pub mod LinesTaken
 pub mod ToldChanges
 mod ClearClaims
+pub mod CappedValues
+pub mod TextParts
+pub mod SaidNumbers
+pub mod KnownNumbers

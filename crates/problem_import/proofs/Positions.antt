@@ -1,5 +1,5 @@
--- What is made of a line has its position.
-use Rattle.std.proofs.Common.{◌≡◌, ℕ, List, [], ◌∷◌, ◌++◌, Bool, true, false, ◌||◌, refl, ap, sym, subst, ◌∙◌}
+-- What is made of a line has its position, and its number of moves.
+use Rattle.std.proofs.Common.{◌≡◌, ℕ, List, [], ◌∷◌, ◌++◌, Bool, true, false, ◌||◌, Option, refl, ap, sym, subst, ◌∙◌}
 use Rattle.chess_board.specs.Fens.{SpellsSetup}
 use Rattle.chess_board.specs.Fields.{side_text}
 use Rattle.chess_board.specs.Positions.{Setup}
@@ -8,16 +8,17 @@ use Rattle.chess_board.specs.declared.men.Colour.TheVariants.{White, Black}
 use Rattle.chess_notation.specs.Words.{word_at, behind}
 use Rattle.chess_notation.specs.RecordFields.{line_fields}
 use Rattle.problem_import.specs.Changes.{telling}
-use Rattle.problem_import.specs.Imports.{HasPositionOf, IsRecord, KeepsPosition}
+use Rattle.problem_import.specs.Imports.{HasPositionOf, IsRecord, KeepsProblem}
 use Rattle.problem_import.specs.Letters.{IsAscii, IsTextOf, trimmed}
 use Rattle.problem_import.specs.declared.changes.Change.{Change}
 use Rattle.problem_import.specs.declared.changes.Changes.{Changes}
 use Rattle.problem_import.specs.declared.changes.Form.{Form}
 use Rattle.problem_import.specs.declared.changes.Form.TheVariants.{Line, Game, Popeye}
 use Rattle.problem_import.specs.inside.FieldTexts.{GoesOn}
-use Rattle.problem_import.specs.inside.Findings.{IsOwn}
+use Rattle.problem_import.specs.inside.Findings.{Asks, IsNumberOf, IsOwn}
 use Rattle.problem_import.specs.inside.KeptChanges.{has_change, is_game, is_popeye}
 use Rattle.problem_import.proofs.FieldTexts.{fields_go_on, reads_position}
+use Rattle.problem_import.proofs.KnownNumbers.{own_number}
 
 line_form : (form : Form) → (is_game form || is_popeye form) ≡ false → form ≡ Line
 line_form Line is = refl
@@ -30,8 +31,11 @@ own_position form line made is own =
     let (text, says, same) = own is in
     (text, says, λ r reads. subst (λ f. SpellsSetup f r.position) same (reads_position made r reads))
 
-pub keeps_position : (c : Changes) (line made : List ℕ) → IsOwn c.form line made → KeepsPosition line made (has_change c)
-keeps_position c line made own = λ off. own_position c.form line made (line_form c.form off) own
+pub keeps_problem : (c : Changes) (given : Option ℕ) (line made : List ℕ) (moves : Option ℕ) → IsOwn c.form line made
+    → IsNumberOf c.form given line moves → Asks moves made → KeepsProblem given line made (has_change c)
+keeps_problem c given line made moves own number asks = λ off.
+    let is : c.form ≡ Line = line_form c.form off in
+    (own_position c.form line made is own, own_number c.form given line made moves is number asks)
 
 -- What stands apart behind a record leaves its position.
 pub own_on : (form : Form) (line made more : List ℕ) → IsRecord made → GoesOn made more → IsOwn form line made → IsOwn form line more
@@ -49,11 +53,12 @@ telling_on : (made : List ℕ) (has : Change → Bool) → GoesOn made (made ++ 
 unfolding GoesOn telling
 telling_on made has = (telling has, refl, refl)
 
-pub keeps_told : (c : Changes) (line made : List ℕ) → IsRecord made → IsOwn c.form line made
-    → KeepsPosition line (made ++ telling (has_change c)) (has_change c)
-keeps_told c line made one own =
-    keeps_position c line (made ++ telling (has_change c))
-    (own_on c.form line made (made ++ telling (has_change c)) one (telling_on made (has_change c)) own)
+pub keeps_told : (c : Changes) (given : Option ℕ) (line made : List ℕ) (moves : Option ℕ) → IsRecord made → IsOwn c.form line made
+    → IsNumberOf c.form given line moves → Asks moves (made ++ telling (has_change c))
+    → KeepsProblem given line (made ++ telling (has_change c)) (has_change c)
+keeps_told c given line made moves one own number asks =
+    keeps_problem c given line (made ++ telling (has_change c)) moves
+    (own_on c.form line made (made ++ telling (has_change c)) one (telling_on made (has_change c)) own) number asks
 
 -- ---- nothing says no position
 

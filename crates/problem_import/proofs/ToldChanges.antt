@@ -1,5 +1,5 @@
 -- What was changed: something is told of whatever isn't a line as it stands.
-use Rattle.std.proofs.Common.{◌≡◌, ◌≢◌, ℕ, List, ◌++◌, Bool, true, false, ◌||◌, refl, sym, ap, ◌∙◌, append_assoc}
+use Rattle.std.proofs.Common.{◌≡◌, ◌≢◌, ℕ, List, ◌++◌, Bool, true, false, ◌||◌, Option, refl, sym, ap, subst, ◌∙◌, append_assoc}
 use Rattle.std.specs.Prelude.{codes}
 use Rattle.problem_import.specs.Changes.{IsAny, IsChanged, all_changes, listed, telling}
 use Rattle.problem_import.specs.Imports.{IsMade, IsRecord, plain, told, unchanged, untold}
@@ -9,9 +9,9 @@ use Rattle.problem_import.specs.declared.changes.Change.TheVariants.{Bound, Semi
 use Rattle.problem_import.specs.declared.changes.Changes.{Changes}
 use Rattle.problem_import.specs.declared.changes.Form.{Form}
 use Rattle.problem_import.specs.declared.changes.Form.TheVariants as forms
-use Rattle.problem_import.specs.inside.Findings.{IsOwn}
+use Rattle.problem_import.specs.inside.Findings.{Asks, IsNumberOf, IsOwn}
 use Rattle.problem_import.specs.inside.KeptChanges.{has_change, is_game, is_popeye, is_told}
-use Rattle.problem_import.proofs.Positions.{keeps_position, keeps_told}
+use Rattle.problem_import.proofs.Positions.{keeps_problem, keeps_told}
 
 some_told : (form : Form) (letters tabs quotes marks moves bound semicolon operation cut : Bool)
     → IsAny (is_told form letters tabs quotes marks moves bound semicolon operation cut)
@@ -53,17 +53,23 @@ telling_behind has text begun listing whole first second third =
 
 -- ---- what is printed
 
-pub made_plain : (keep : Bool) (line text : List ℕ) (c : Changes) → keep ≡ false → IsOwn c.form line text → IsMade keep line text
-made_plain keep line text c off own = plain text (has_change c) off (keeps_position c line text own)
+pub made_plain : (keep : Bool) (given : Option ℕ) (line text : List ℕ) (moves : Option ℕ) (c : Changes) → keep ≡ false → IsOwn c.form line text
+    → IsNumberOf c.form given line moves → Asks moves text → IsMade keep given line text
+made_plain keep given line text moves c off own number asks =
+    plain text (has_change c) off (keeps_problem c given line text moves own number asks)
 
-pub made_unchanged : (keep : Bool) (line text : List ℕ) → text ≡ line → IsMade keep line text
-made_unchanged keep line text is = rw is unchanged
+pub made_unchanged : (keep : Bool) (given : Option ℕ) (line text : List ℕ) → text ≡ line → IsMade keep given line text
+made_unchanged keep given line text is = rw is unchanged
 
-pub made_told : (keep : Bool) (line text whole : List ℕ) (c : Changes) → keep ≡ true → IsRecord text → IsOwn c.form line text
-    → IsChanged line text (has_change c) → whole ≡ text ++ telling (has_change c) → IsMade keep line whole
-made_told keep line text whole c on one own changed is = rw is (told text (has_change c) on one changed (keeps_told c line text one own))
+pub made_told : (keep : Bool) (given : Option ℕ) (line text whole : List ℕ) (moves : Option ℕ) (c : Changes) → keep ≡ true → IsRecord text
+    → IsOwn c.form line text → IsNumberOf c.form given line moves → Asks moves whole → IsChanged line text (has_change c)
+    → whole ≡ text ++ telling (has_change c) → IsMade keep given line whole
+made_told keep given line text whole moves c on one own number asks changed is =
+    rw is (told text (has_change c) on one changed
+    (keeps_told c given line text moves one own number (subst (λ t. Asks moves t) is asks)))
 
-pub made_untold : (keep : Bool) (line text whole : List ℕ) (c : Changes) → keep ≡ true → IsOwn c.form line text
-    → IsChanged line text (has_change c) → whole ≡ text ++ telling (has_change c) → ¬ (IsRecord whole) → IsMade keep line text
-made_untold keep line text whole c on own changed is unread =
-    untold text (has_change c) on changed (keeps_position c line text own) (λ one. unread (rw is one))
+pub made_untold : (keep : Bool) (given : Option ℕ) (line text whole : List ℕ) (moves : Option ℕ) (c : Changes) → keep ≡ true
+    → IsOwn c.form line text → IsNumberOf c.form given line moves → Asks moves text → IsChanged line text (has_change c)
+    → whole ≡ text ++ telling (has_change c) → ¬ (IsRecord whole) → IsMade keep given line text
+made_untold keep given line text whole moves c on own number asks changed is unread =
+    untold text (has_change c) on changed (keeps_problem c given line text moves own number asks) (λ one. unread (rw is one))

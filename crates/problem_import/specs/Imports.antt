@@ -1,6 +1,6 @@
 -- What `import` prints (own to this project).
 use Rattle.std.specs.Prelude.{◌≡◌, ◌≢◌, ◌⊎◌, ℕ, ◌+◌, List, [], ◌∷◌, ◌++◌, codes, decimal, map, Contains}
-use Rattle.std.specs.Prelude.{Bool, true, false, ◌||◌, if◌then◌else◌}
+use Rattle.std.specs.Prelude.{Bool, true, false, ◌||◌, if◌then◌else◌, Option, Some}
 use Rattle.chess_board.specs.Characters.{char}
 use Rattle.chess_board.specs.Fens.{SpellsSetup}
 use Rattle.chess_notation.specs.Words.{is_blank}
@@ -12,6 +12,9 @@ use Rattle.text_lines.specs.Replies.{IsReply, IsReplyToFirst}
 use Rattle.problem_import.specs.Changes.{IsAny, IsChanged, telling}
 use Rattle.problem_import.specs.Letters.{IsTextOf}
 use Rattle.problem_import.specs.Mendable.{has_clear_claims, has_nothing_to_mend}
+use Rattle.problem_import.specs.Numbers.{said}
+use Rattle.stipulations.specs.declared.asked.Asked.{Asked}
+use Rattle.stipulations.specs.declared.asked.Asked.TheVariants.{Nothing, Moves, Two}
 use Rattle.problem_import.specs.declared.changes.Change.{Change}
 use Rattle.problem_import.specs.declared.changes.Change.TheVariants.{Pgn, Popeye}
 use Rattle.problem_import.specs.declared.import_faults.ImportFault.{ImportFault}
@@ -49,19 +52,35 @@ pub data AreImported (IsKind : List ℕ → Type 0) : List ℕ → Bool → Type
 abbrev pub HasPositionOf : (line made : List ℕ) → Type 0
 HasPositionOf line made = (text : List ℕ) × IsTextOf line text × ((r : RecordValue) → Reads made 3 r → SpellsSetup (line_fields text) r.position)
 
--- Unless it was made of a game or of a problem for Popeye, which was open before the line, the record has the line's position.
-abbrev pub KeepsPosition : (line made : List ℕ) → (Change → Bool) → Type 0
-KeepsPosition line made has = (has Pgn || has Popeye) ≡ false → HasPositionOf line made
+-- How many moves a record asks that is made of a line which says this: as many as it says. Where it says none, it is a record as it stands,
+-- and what is made of it asks for none itself; or it is none, and so many are given (`--bound`).
+abbrev pub IsNumber : (given : Option ℕ) → (line : List ℕ) → Asked → ℕ → Type 0
+IsNumber given line (Moves m) n = n ≡ m
+IsNumber given line Nothing n = (IsRecord line × (n ≡ 3)) ⊎ ((¬ (IsRecord line)) × (given ≡ Some n))
+IsNumber given line Two n = ⊥
+
+-- The record asks for the number of moves that what the line says does.
+abbrev pub HasNumberOf : Option ℕ → (line made : List ℕ) → Type 0
+HasNumberOf given line made = (text : List ℕ) × IsTextOf line text × ((r : RecordValue) → Reads made 3 r
+    → IsNumber given line (said text) r.bound)
+
+-- The record is the problem that the line says.
+abbrev pub IsOfLine : Option ℕ → (line made : List ℕ) → Type 0
+IsOfLine given line made = HasPositionOf line made × HasNumberOf given line made
+
+-- Unless it was made of a game or of a problem for Popeye, which was open before the line, the record is the line's.
+abbrev pub KeepsProblem : Option ℕ → (line made : List ℕ) → (Change → Bool) → Type 0
+KeepsProblem given line made has = (has Pgn || has Popeye) ≡ false → IsOfLine given line made
 
 -- What may be printed where a line is read, or none, which is empty: the line as it stands; without `keep` what was made; with `keep` that
 -- and what was changed, unless it would be no record then.
-pub data IsMade (keep : Bool) (line : List ℕ) : List ℕ → Type 0 where
-  unchanged : IsMade keep line line
-  plain : (made : List ℕ) (has : Change → Bool) → keep ≡ false → KeepsPosition line made has → IsMade keep line made
+pub data IsMade (keep : Bool) (given : Option ℕ) (line : List ℕ) : List ℕ → Type 0 where
+  unchanged : IsMade keep given line line
+  plain : (made : List ℕ) (has : Change → Bool) → keep ≡ false → KeepsProblem given line made has → IsMade keep given line made
   told : (made : List ℕ) (has : Change → Bool) → keep ≡ true → IsRecord made → IsChanged line made has
-      → KeepsPosition line (made ++ telling has) has → IsMade keep line (made ++ telling has)
-  untold : (made : List ℕ) (has : Change → Bool) → keep ≡ true → IsChanged line made has → KeepsPosition line made has
-      → ¬ (IsRecord (made ++ telling has)) → IsMade keep line made
+      → KeepsProblem given line (made ++ telling has) has → IsMade keep given line (made ++ telling has)
+  untold : (made : List ℕ) (has : Change → Bool) → keep ≡ true → IsChanged line made has → KeepsProblem given line made has
+      → ¬ (IsRecord (made ++ telling has)) → IsMade keep given line made
 
 -- The line is a record, and there is nothing to mend, no move that it claims either.
 abbrev pub IsClean : List ℕ → Type 0
@@ -75,21 +94,21 @@ one_if any = if any then 1 else 0
 
 -- What is printed once a line is read, and how many refusals it counts for: nothing of a blank one; else what it ends, and itself where it
 -- is clean. No record is lost.
-pub data IsImportReply (keep : Bool) (number : ℕ) (line : List ℕ) : List ℕ → ℕ → Type 0 where
-  skipped : is_blank line ≡ true → IsImportReply keep number line [] 0
-  read : (text : List ℕ) (any : Bool) → is_blank line ≡ false → AreImported (IsMade keep line) text any
-      → (IsClean line → EndsWithLine line text) → (IsRecord line → text ≢ []) → IsImportReply keep number line text (one_if any)
+pub data IsImportReply (keep : Bool) (given : Option ℕ) (number : ℕ) (line : List ℕ) : List ℕ → ℕ → Type 0 where
+  skipped : is_blank line ≡ true → IsImportReply keep given number line [] 0
+  read : (text : List ℕ) (any : Bool) → is_blank line ≡ false → AreImported (IsMade keep given line) text any
+      → (IsClean line → EndsWithLine line text) → (IsRecord line → text ≢ []) → IsImportReply keep given number line text (one_if any)
 
--- What an input is imported as: the replies to its lines, and what its end ends.
-unfoldable pub IsImport : Bool → List ℕ → List ℕ → ℕ → Type 0
-IsImport keep input text count = (replies : List ℕ) × (refusals : ℕ) × (last : List ℕ) × (any : Bool)
-    × IsReply (IsImportReply keep) input replies refusals × AreImported (IsMade keep []) last any
+-- What an input is imported as, where so many moves are given or none: the replies to its lines, and what its end ends.
+unfoldable pub IsImport : Bool → Option ℕ → List ℕ → List ℕ → ℕ → Type 0
+IsImport keep given input text count = (replies : List ℕ) × (refusals : ℕ) × (last : List ℕ) × (any : Bool)
+    × IsReply (IsImportReply keep given) input replies refusals × AreImported (IsMade keep given []) last any
     × (text ≡ replies ++ last) × (count ≡ refusals + one_if any)
 
 -- What there is to print where that stops.
-unfoldable pub IsImportOfFirst : Bool → List ℕ → List ℕ → Type 0
-IsImportOfFirst keep input text = (replies : List ℕ) × (last : List ℕ) × (any : Bool)
-    × IsReplyToFirst (IsImportReply keep) input replies × AreImported (IsMade keep []) last any × (text ≡ replies ++ last)
+unfoldable pub IsImportOfFirst : Bool → Option ℕ → List ℕ → List ℕ → Type 0
+IsImportOfFirst keep given input text = (replies : List ℕ) × (last : List ℕ) × (any : Bool)
+    × IsReplyToFirst (IsImportReply keep given) input replies × AreImported (IsMade keep given []) last any × (text ≡ replies ++ last)
 
 -- The record tells what was changed, or would be none if it did.
 abbrev pub IsTold : List ℕ → Type 0
@@ -102,7 +121,7 @@ IsKept keep lines line = keep ≡ true → Contains lines line ⊎ IsTold line
 -- Whatever was read, what is printed are records and refusals, and no refusal where none is counted. With `keep` each record that doesn't
 -- stand in the input is told.
 abbrev pub ImportsAreRecords : Type 0
-ImportsAreRecords = (keep : Bool) (input text : List ℕ) (count : ℕ) → IsImport keep input text count
+ImportsAreRecords = (keep : Bool) (given : Option ℕ) (input text : List ℕ) (count : ℕ) → IsImport keep given input text count
     → (any : Bool) × AreImported (IsKept keep (map without_cr (lines_of input))) text any × (count ≡ 0 → any ≡ false)
 
 -- The record tells that it was made of a game or of a problem for Popeye, or would be none if it did.
@@ -110,12 +129,12 @@ abbrev pub IsToldOther : List ℕ → Type 0
 IsToldOther line = (made : List ℕ) × (has : Change → Bool) × ((has Pgn || has Popeye) ≡ true)
     × ((line ≡ made ++ telling has) ⊎ (¬ (IsRecord (line ++ telling has))))
 
--- With `keep` the record is one of these lines as it stands, or has the position of one, or is told to be of a game or for Popeye.
-abbrev pub IsPlaced : Bool → List (List ℕ) → List ℕ → Type 0
-IsPlaced keep lines line =
-    keep ≡ true → Contains lines line ⊎ (((own : List ℕ) × Contains lines own × HasPositionOf own line) ⊎ IsToldOther line)
+-- With `keep` the record is one of these lines as it stands, or the problem that one says, or is told to be of a game or for Popeye.
+abbrev pub IsPlaced : Bool → Option ℕ → List (List ℕ) → List ℕ → Type 0
+IsPlaced keep given lines line =
+    keep ≡ true → Contains lines line ⊎ (((own : List ℕ) × Contains lines own × IsOfLine given own line) ⊎ IsToldOther line)
 
 -- With `keep` each record that is printed is placed so.
 abbrev pub ImportsKeepPositions : Type 0
-ImportsKeepPositions = (keep : Bool) (input text : List ℕ) (count : ℕ) → IsImport keep input text count
-    → (any : Bool) × AreImported (IsPlaced keep (map without_cr (lines_of input))) text any
+ImportsKeepPositions = (keep : Bool) (given : Option ℕ) (input text : List ℕ) (count : ℕ) → IsImport keep given input text count
+    → (any : Bool) × AreImported (IsPlaced keep given (map without_cr (lines_of input))) text any

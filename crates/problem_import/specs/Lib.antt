@@ -3,5 +3,6 @@ pub mod Imports
 pub mod LetteredImports
 pub mod Letters
 pub mod Mendable
+pub mod Numbers
 pub mod Problems
 pub mod inside

@@ -2,6 +2,7 @@
 
 ghost use Rattle.std.specs.Prelude.{◌≡◌, IfOk};
 ghost use Rattle.chess_notation.specs.RecordFields.{behind_fields, line_fields};
+ghost use Rattle.problem_import.specs.Numbers.{behind_number as behind_number_of};
 ghost use Rattle.problem_import.specs.inside.FieldTexts.{GoesOn, IsBehindFields};
 
 use crate::texts::{after_spaces, are_digits, push_word, word_at};
@@ -38,34 +39,41 @@ pub(crate) fn field_words(text: &[u8]) -> FieldWords<'_>
     }
 }
 
+/// What stands behind a counter, if one is there.
+fn behind_number(text: &[u8]) -> &[u8]
+    ensures { result.now ≡ behind_number_of text.now }
+{
+    let (word, more) = word_at(text);
+    if are_digits(word) { more } else { text }
+}
+
 /// What stands behind two counters, as far as they are there.
-pub(crate) fn behind_counters(behind: &[u8]) -> &[u8] {
-    let mut rest = behind;
-    for _ in 0..2 {
-        let (word, more) = word_at(rest);
-        if !are_digits(word) {
-            break;
-        }
-        rest = more;
+pub(crate) fn behind_counters(behind: &[u8]) -> &[u8]
+    ensures { result.now ≡ behind_number_of (behind_number_of behind.now) }
+{
+    behind_number(behind_number(behind))
+}
+
+/// Adds a counter behind a space, if one is there.
+fn push_counter(text: &mut Vec<u8>, behind: &[u8]) -> Result<(), AllocError> {
+    let (word, _) = word_at(behind);
+    if are_digits(word) {
+        push_word(text, word)?;
     }
-    rest
+    Ok(())
 }
 
 /// Adds two counters, as far as they are there, each behind a space; gives what stands behind.
 pub(crate) fn push_counters<'t>(
     text: &mut Vec<u8>,
     behind: &'t [u8],
-) -> Result<&'t [u8], AllocError> {
-    let mut rest = behind;
-    for _ in 0..2 {
-        let (word, more) = word_at(rest);
-        if !are_digits(word) {
-            break;
-        }
-        push_word(text, word)?;
-        rest = more;
-    }
-    Ok(rest)
+) -> Result<&'t [u8], AllocError>
+    ensures { IfOk result (λ rest. rest.now ≡ behind_number_of (behind_number_of behind.now)) }
+{
+    push_counter(text, behind)?;
+    let rest = behind_number(behind);
+    push_counter(text, rest)?;
+    Ok(behind_number(rest))
 }
 
 /// Adds what stands behind fields, with one space before it; nothing where that is blank.

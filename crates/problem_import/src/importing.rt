@@ -51,7 +51,8 @@ fn take(
     reading: &mut Reading,
     findings: &mut Vec<Finding>,
 ) -> Result<(), NoMemory>
-    requires { kind ≡ LineKind.Mendable → IsRecord line.now }
+    requires mended { kind ≡ LineKind.Mendable → IsRecord line.now }
+    requires other { kind ≡ LineKind.Other → ¬ (IsRecord line.now) }
     ensures own { IfOk result (λ _. AreFoundOf line.now findings.old.items → AreFoundOf line.now findings.new.items) }
     ensures found { IfOk result (λ _. kind ≡ LineKind.Mendable → 0 < length findings.new.items) }
     ensures kept { IfOk result (λ _. due reading.old.open + length findings.old.items ≤ due reading.new.open + length findings.new.items) }
@@ -78,7 +79,8 @@ fn take(
 impl<'a> Imports<'a> {
     /// Before the first line of an input.
     pub(crate) fn new(rays: &'a Rays, keep: bool, bound: Option<Bound>) -> Imports<'a>
-        ensures { result.printing.keep ≡ keep }
+        ensures keep { result.printing.keep ≡ keep }
+        ensures bound { result.printing.bound ≡ bound }
     {
         Imports::lettered(rays, Letters::ENGLISH, keep, bound)
     }
@@ -90,7 +92,8 @@ impl<'a> Imports<'a> {
         keep: bool,
         bound: Option<Bound>,
     ) -> Imports<'a>
-        ensures { result.printing.keep ≡ keep }
+        ensures keep { result.printing.keep ≡ keep }
+        ensures bound { result.printing.bound ≡ bound }
     {
         Imports {
             printing: Printing {
@@ -130,7 +133,8 @@ impl Imports<'_> {
         kind: LineKind,
         reading: &mut Reading,
     ) -> Result<Vec<Finding>, NoMemory>
-        requires { kind ≡ LineKind.Mendable → IsRecord line.now }
+        requires mended { kind ≡ LineKind.Mendable → IsRecord line.now }
+        requires other { kind ≡ LineKind.Other → ¬ (IsRecord line.now) }
         ensures own { IfOk result (λ findings. AreFoundOf line.now findings.items) }
         ensures found { IfOk result (λ findings. kind ≡ LineKind.Mendable → 0 < length findings.items) }
         ensures kept { IfOk result (λ findings. due reading.old.open ≤ due reading.new.open + length findings.items) }
@@ -152,7 +156,8 @@ impl Imports<'_> {
         line: &[u8],
         reading: &mut Reading,
     ) -> Result<Printed, NoMemory>
-        ensures imported { IfOk result (λ printed. AreImported (IsMade self.now.printing.keep line.now) printed.text.items printed.any) }
+        ensures imported { IfOk result (λ printed. AreImported (IsMade self.now.printing.keep self.now.printing.bound line.now)
+            printed.text.items printed.any) }
         ensures clean { IfOk result (λ printed. IsClean line.now → EndsWithLine line.now printed.text.items) }
         ensures kept { IfOk result (λ printed. IsRecord line.now → 0 < length printed.text.items) }
         ensures ended { IfOk result (λ printed. due reading.old.open ≤ due reading.new.open + length printed.text.items) }
@@ -167,7 +172,8 @@ impl Imports<'_> {
 
     /// What is printed once the input has ended.
     fn last(&self, alloc: Global, reading: &mut Reading) -> Result<Printed, NoMemory>
-        ensures imported { IfOk result (λ printed. AreImported (IsMade self.now.printing.keep []) printed.text.items printed.any) }
+        ensures imported { IfOk result (λ printed. AreImported (IsMade self.now.printing.keep self.now.printing.bound [])
+            printed.text.items printed.any) }
         ensures ended { IfOk result (λ printed. due reading.old.open ≤ length printed.text.items) }
     {
         let mut findings = Vec::new(alloc);
@@ -194,7 +200,7 @@ impl LineHandler for Imports<'_> {
 
     type Memory = Reading;
 
-    ghost replies = { λ imports. IsImportReply imports.printing.keep };
+    ghost replies = { λ imports. IsImportReply imports.printing.keep imports.printing.bound };
 
     ghost room = { λ _. 0 };
 
@@ -231,9 +237,11 @@ pub(crate) fn put_last<O: Write>(
     reading: &mut Reading,
     out: &mut O,
 ) -> Result<usize, Stop>
-    ensures ok { IfOk result (λ total. (last : List ℕ) × (any : Bool) × AreImported (IsMade imports.now.printing.keep []) last any
+    ensures ok { IfOk result (λ total. (last : List ℕ) × (any : Bool)
+        × AreImported (IsMade imports.now.printing.keep imports.now.printing.bound []) last any
         × (total ≡ count + one_if_any any) × Appends (O.contents out.old) (O.contents out.new) last) }
-    ensures err { IfErr result (λ stop. (last : List ℕ) × (any : Bool) × AreImported (IsMade imports.now.printing.keep []) last any
+    ensures err { IfErr result (λ stop. (last : List ℕ) × (any : Bool)
+        × AreImported (IsMade imports.now.printing.keep imports.now.printing.bound []) last any
         × AppendsBy stop (O.contents out.old) (O.contents out.new) last) }
     ensures readable { IfErr result (λ stop. stop ≢ Stop.Unreadable) }
 {
@@ -258,9 +266,11 @@ fn import_lines<I: Input + Drop, O: Write>(
     out: &mut O,
 ) -> Result<usize, Stop>
     ensures ok { IfOk result (λ count. (bytes : List ℕ) × (text : List ℕ) × MayBe (I.left input) bytes
-        × IsImport imports.now.printing.keep bytes text count × Appends (O.contents out.old) (O.contents out.new) text) }
+        × IsImport imports.now.printing.keep imports.now.printing.bound bytes text count
+        × Appends (O.contents out.old) (O.contents out.new) text) }
     ensures err { IfErr result (λ stop. (bytes : List ℕ) × (text : List ℕ) × MayBe (I.left input) bytes
-        × IsImportOfFirst imports.now.printing.keep bytes text × AppendsBy stop (O.contents out.old) (O.contents out.new) text) }
+        × IsImportOfFirst imports.now.printing.keep imports.now.printing.bound bytes text
+        × AppendsBy stop (O.contents out.old) (O.contents out.new) text) }
     ensures unreadable { IfErr result (λ stop. stop ≡ Stop.Unreadable → I.breaks input) }
 {
     match answer_input(alloc, imports, input, reading, out) {
@@ -282,9 +292,9 @@ pub fn import_input<I: Input + Drop, O: Write>(
     input: I,
     out: &mut O,
 ) -> Result<usize, Stop>
-    ensures ok { IfOk result (λ count. (bytes : List ℕ) × (text : List ℕ) × MayBe (I.left input) bytes × IsImport keep bytes text count
+    ensures ok { IfOk result (λ count. (bytes : List ℕ) × (text : List ℕ) × MayBe (I.left input) bytes × IsImport keep bound bytes text count
         × Appends (O.contents out.old) (O.contents out.new) text) }
-    ensures err { IfErr result (λ stop. (bytes : List ℕ) × (text : List ℕ) × MayBe (I.left input) bytes × IsImportOfFirst keep bytes text
+    ensures err { IfErr result (λ stop. (bytes : List ℕ) × (text : List ℕ) × MayBe (I.left input) bytes × IsImportOfFirst keep bound bytes text
         × AppendsBy stop (O.contents out.old) (O.contents out.new) text) }
     ensures unreadable { IfErr result (λ stop. stop ≡ Stop.Unreadable → I.breaks input) }
 {

@@ -1,13 +1,58 @@
 //! Numbers of moves, as collections write them.
 
-use crate::texts::{are_digits, is_word, trimmed, word_at};
+ghost use Rattle.std.specs.Prelude.{◌≡◌, drop, if◌then◌else◌, min};
+ghost use Rattle.chess_board.specs.Fields.{digits_value};
+ghost use Rattle.chess_notation.specs.Claims.{is_length as is_length_word};
+ghost use Rattle.problem_import.specs.Numbers.{bound_of_word as bound_of_text};
+
+use crate::texts::{are_digits, is_word, trimmed, without_first, word_at};
+
+/// Whether a word is `#N`.
+pub(crate) fn is_length(word: &[u8]) -> bool
+    ensures { result ≡ is_length_word word.now }
+{
+    match word {
+        [b'#', digits @ ..] => are_digits(digits),
+        _ => false,
+    }
+}
 
 /// The digits of a word `#N`.
 pub(crate) fn length_digits(word: &[u8]) -> Option<&[u8]> {
-    match word {
-        [b'#', digits @ ..] if are_digits(digits) => Some(digits),
-        _ => None,
+    if is_length(word) {
+        Some(without_first(word, 1))
+    } else {
+        None
     }
+}
+
+/// A word without the sign before it, if it is `#N`.
+fn without_sign(word: &[u8]) -> &[u8]
+    ensures { result.now ≡ if is_length_word word.now then drop 1 word.now else word.now }
+{
+    if is_length(word) {
+        without_first(word, 1)
+    } else {
+        word
+    }
+}
+
+/// The number that digits spell, or 16 where it is larger.
+fn capped_value(digits: &[u8]) -> u8
+    ensures { result ≡ min (digits_value digits.now) 16 }
+{
+    let mut value = 0u8;
+    for byte in digits {
+        value = (10 * value + byte.saturating_sub(b'0').min(16)).min(16);
+    }
+    value
+}
+
+/// The number of moves that `dm` asks by a word `N` or `#N`, or 16 where it is larger.
+pub(crate) fn bound_of_word(word: &[u8]) -> u8
+    ensures { result ≡ bound_of_text word.now }
+{
+    capped_value(without_sign(word))
 }
 
 /// The digits of a word `#N` or `N#`.

@@ -1,6 +1,6 @@
 //! Inputs of collections whose men have the letters of a language, imported line by line.
 
-ghost use Rattle.std.specs.Prelude.{◌≡◌, ◌≢◌, ◌≤◌, ◌<◌, ◌+◌, List, ℕ, Bool, IfErr, IfOk, length};
+ghost use Rattle.std.specs.Prelude.{◌≡◌, ◌≢◌, ◌≤◌, ◌<◌, ◌+◌, List, ℕ, Bool, Option, IfErr, IfOk, length};
 ghost use Rattle.std.specs.Io.KnownBytes.{Appends};
 ghost use Rattle.byte_streams.specs.Inputs.{MayBe};
 ghost use Rattle.byte_streams.specs.Stops.{AppendsBy};
@@ -50,7 +50,8 @@ impl LetteredImports<'_> {
         line: &[u8],
         reading: &mut Reading,
     ) -> Result<Printed, NoMemory>
-        ensures imported { IfOk result (λ printed. AreImported (IsMade self.now.imports.printing.keep line.now) printed.text.items printed.any) }
+        ensures imported { IfOk result (λ printed. AreImported
+            (IsMade self.now.imports.printing.keep self.now.imports.printing.bound line.now) printed.text.items printed.any) }
         ensures kept { IfOk result (λ printed. IsRecord line.now → 0 < length printed.text.items) }
         ensures ended { IfOk result (λ printed. due reading.old.open ≤ due reading.new.open + length printed.text.items) }
     {
@@ -66,7 +67,8 @@ impl LetteredImports<'_> {
 impl LetteredImports<'_> {
     /// What is printed of a line that is too long: nothing of one that is passed over.
     fn long_reply(&self, alloc: Global, number: usize) -> Result<Printed, NoMemory>
-        ensures imported { IfOk result (λ printed. (keep : Bool) (line : List ℕ) → AreImported (IsMade keep line) printed.text.items printed.any) }
+        ensures imported { IfOk result (λ printed. (keep : Bool) (given : Option ℕ) (line : List ℕ)
+            → AreImported (IsMade keep given line) printed.text.items printed.any) }
     {
         let mut printed = Printed::new(alloc);
         if self.imports.passes_long(number) {
@@ -82,7 +84,7 @@ impl LineHandler for LetteredImports<'_> {
 
     type Memory = Reading;
 
-    ghost replies = { λ imports. IsLetteredReply imports.letters imports.imports.printing.keep };
+    ghost replies = { λ imports. IsLetteredReply imports.letters imports.imports.printing.keep imports.imports.printing.bound };
 
     ghost room = { λ _. 0 };
 
@@ -117,9 +119,10 @@ fn import_lettered<I: Input + Drop, O: Write>(
     out: &mut O,
 ) -> Result<usize, Stop>
     ensures ok { IfOk result (λ count. (bytes : List ℕ) × (text : List ℕ) × MayBe (I.left input) bytes
-        × IsLettered imports.now.letters imports.now.imports.printing.keep bytes text count × Appends (O.contents out.old) (O.contents out.new) text) }
+        × IsLettered imports.now.letters imports.now.imports.printing.keep imports.now.imports.printing.bound bytes text count
+        × Appends (O.contents out.old) (O.contents out.new) text) }
     ensures err { IfErr result (λ stop. (bytes : List ℕ) × (text : List ℕ) × MayBe (I.left input) bytes
-        × IsLetteredOfFirst imports.now.letters imports.now.imports.printing.keep bytes text
+        × IsLetteredOfFirst imports.now.letters imports.now.imports.printing.keep imports.now.imports.printing.bound bytes text
         × AppendsBy stop (O.contents out.old) (O.contents out.new) text) }
     ensures unreadable { IfErr result (λ stop. stop ≡ Stop.Unreadable → I.breaks input) }
 {
@@ -144,9 +147,9 @@ pub fn import_input_in<I: Input + Drop, O: Write>(
     out: &mut O,
 ) -> Result<usize, Stop>
     ensures ok { IfOk result (λ count. (bytes : List ℕ) × (text : List ℕ) × MayBe (I.left input) bytes
-        × IsImportIn letters.now keep bytes text count × Appends (O.contents out.old) (O.contents out.new) text) }
+        × IsImportIn letters.now keep bound bytes text count × Appends (O.contents out.old) (O.contents out.new) text) }
     ensures err { IfErr result (λ stop. (bytes : List ℕ) × (text : List ℕ) × MayBe (I.left input) bytes
-        × IsImportOfFirstIn letters.now keep bytes text × AppendsBy stop (O.contents out.old) (O.contents out.new) text) }
+        × IsImportOfFirstIn letters.now keep bound bytes text × AppendsBy stop (O.contents out.old) (O.contents out.new) text) }
     ensures unreadable { IfErr result (λ stop. stop ≡ Stop.Unreadable → I.breaks input) }
 {
     if letters.is_english() {

@@ -1,11 +1,14 @@
 //! What a line is: a record in which there is nothing to mend, another record, or none.
 
-ghost use Rattle.std.specs.Prelude.{◌≡◌, IfNone, IfOk, IfSome, None, true};
+ghost use Rattle.std.specs.Prelude.{◌≡◌, IfErr, IfNone, IfOk, IfSome, None, Some, true};
 ghost use Rattle.std.specs.List.{list_all};
 ghost use Rattle.chess_notation.specs.Records.{RecordValue, Reads};
 ghost use Rattle.problem_import.specs.Imports.{IsClean, IsRecord};
 ghost use Rattle.problem_import.specs.Mendable.{has_clear_claims, is_mendable as is_mendable_byte, is_settled};
+ghost use Rattle.problem_import.specs.inside.Findings.{Asks};
+ghost use Rattle.chess_notation.specs.declared.epd_faults.EpdFault.{EpdFault as EpdFaultValue};
 
+use crate::import_faults::ImportFault;
 use byte_streams::NoMemory;
 use chess_board::Position;
 use chess_moves::Rays;
@@ -24,6 +27,17 @@ pub(crate) enum LineKind {
     Other,
 }
 
+/// What a line asks that is to be a record.
+#[derive(Clone, Copy)]
+pub(crate) enum RecordKind {
+    /// It is one, and asks what it is to ask.
+    Right,
+    /// It is one, and asks another number of moves.
+    Other,
+    /// It is none.
+    Refused(EpdFault),
+}
+
 /// The bound of a record that asks for none: whether a line is one doesn't depend on it.
 fn some_bound() -> Bound
     ensures { result ≡ 3 }
@@ -34,24 +48,77 @@ fn some_bound() -> Bound
     }
 }
 
-/// What a line that is no record is refused by; nothing for one that is.
-pub(crate) fn record_fault(
+/// The bound of the record that a line is, or what a line that is none is refused by.
+fn record_bound(
     alloc: Global,
     rays: &Rays,
     line: &[u8],
-) -> Result<Option<EpdFault>, NoMemory>
-    ensures record { IfOk result (λ fault. fault ≡ None → IsRecord line.now) }
-    ensures none { IfOk result (λ fault. IsRecord line.now → fault ≡ None) }
+) -> Result<Result<Bound, EpdFault>, NoMemory>
+    ensures record { IfOk result (λ read. IfOk read (λ bound. IsRecord line.now)) }
+    ensures bound { IfOk result (λ read. IfOk read (λ bound. Asks (Some bound) line.now)) }
+    ensures none { IfOk result (λ read. IfErr read (λ fault. ¬ (IsRecord line.now))) }
 {
     // That a line with a fault is no record is this law.
     records_clear();
-    let Err(fault) = read_record(alloc, rays, line, some_bound()) else {
-        return Ok(None);
-    };
-    if fault == EpdFault::NoMemory {
-        return Err(NoMemory);
+    match read_record(alloc, rays, line, some_bound()) {
+        Ok(record) => Ok(Ok(record.bound)),
+        Err(fault) => {
+            if fault == EpdFault::NoMemory {
+                return Err(NoMemory);
+            }
+            Ok(Err(fault))
+        }
     }
-    Ok(Some(fault))
+}
+
+/// Whether a record of such a bound asks so many moves, where that is a number.
+fn is_asked(bound: Bound, moves: Option<u8>) -> bool
+    ensures { result ≡ true → IfSome moves (λ n. bound ≡ n) }
+{
+    match moves {
+        Some(moves) => bound.get() == moves,
+        None => true,
+    }
+}
+
+/// What a line asks that is to be a record, and to ask so many moves where that is a number.
+pub(crate) fn asking(
+    alloc: Global,
+    rays: &Rays,
+    line: &[u8],
+    moves: Option<u8>,
+) -> Result<RecordKind, NoMemory>
+    ensures record { IfOk result (λ asking. asking ≡ RecordKind.Right → IsRecord line.now) }
+    ensures asks { IfOk result (λ asking. asking ≡ RecordKind.Right → Asks moves line.now) }
+    ensures none { IfOk result (λ asking. (fault : EpdFaultValue) → asking ≡ RecordKind.Refused fault → ¬ (IsRecord line.now)) }
+{
+    match record_bound(alloc, rays, line)? {
+        Ok(bound) => {
+            if is_asked(bound, moves) {
+                Ok(RecordKind::Right)
+            } else {
+                Ok(RecordKind::Other)
+            }
+        }
+        Err(fault) => Ok(RecordKind::Refused(fault)),
+    }
+}
+
+/// What such a line is refused by; nothing where it is a record that asks what it is to ask.
+pub(crate) fn asking_fault(
+    alloc: Global,
+    rays: &Rays,
+    line: &[u8],
+    moves: Option<u8>,
+) -> Result<Option<ImportFault>, NoMemory>
+    ensures record { IfOk result (λ fault. fault ≡ None → IsRecord line.now) }
+    ensures asks { IfOk result (λ fault. fault ≡ None → Asks moves line.now) }
+{
+    match asking(alloc, rays, line, moves)? {
+        RecordKind::Right => Ok(None),
+        RecordKind::Other => Ok(Some(ImportFault::TwoBounds)),
+        RecordKind::Refused(fault) => Ok(Some(ImportFault::Record(fault))),
+    }
 }
 
 fn is_mendable(byte: u8) -> bool

@@ -4,8 +4,9 @@ ghost use Rattle.std.specs.Prelude.{IfOk};
 ghost use Rattle.problem_import.specs.Imports.{IsRecord};
 
 use crate::import_faults::ImportFault;
-use crate::line_kinds::record_fault;
+use crate::line_kinds::asking_fault;
 use crate::moves::with_moves;
+use crate::printing::moves_of;
 use crate::reading::Found;
 use crate::texts::push_bound_operation;
 use byte_streams::NoMemory;
@@ -14,17 +15,18 @@ use chess_notation::Bound;
 use move_words::Letters;
 use std::alloc::Global;
 
-/// The text, if it is a record, or its fault.
+/// The text, if it is a record that asks so many moves where that is a number, or its fault.
 fn checked(
     alloc: Global,
     rays: &Rays,
     text: Vec<u8>,
+    moves: Option<u8>,
 ) -> Result<Result<Vec<u8>, ImportFault>, NoMemory>
     ensures { IfOk result (λ made. IfOk made (λ text. IsRecord text.items)) }
 {
-    match record_fault(alloc, rays, text.as_slice())? {
+    match asking_fault(alloc, rays, text.as_slice(), moves)? {
         None => Ok(Ok(text)),
-        Some(fault) => Ok(Err(ImportFault::Record(fault))),
+        Some(fault) => Ok(Err(fault)),
     }
 }
 
@@ -38,13 +40,13 @@ fn bounded(
     ensures { IfOk result (λ made. IfOk made (λ text. IsRecord text.items)) }
 {
     let mut text = text;
-    match (record_fault(alloc, rays, text.as_slice())?, bound) {
+    match (asking_fault(alloc, rays, text.as_slice(), None)?, bound) {
         (None, Some(bound)) => {
             push_bound_operation(&mut text, bound.get())?;
-            checked(alloc, rays, text)
+            checked(alloc, rays, text, Some(bound.get()))
         }
         (None, None) => Ok(Err(ImportFault::NoBound)),
-        (Some(fault), _) => Ok(Err(ImportFault::Record(fault))),
+        (Some(fault), _) => Ok(Err(fault)),
     }
 }
 
@@ -59,13 +61,12 @@ pub(crate) fn made_record(
     ensures { IfOk result (λ made. IfOk made (λ text. IsRecord text.items)) }
 {
     match found {
-        Found::Text(text, changes, is_bound) => {
+        Found::Text(text, changes, number) => {
             let mut changes = *changes;
             let text = with_moves(alloc, rays, letters, text.as_slice(), &mut changes)?;
-            if *is_bound {
-                checked(alloc, rays, text)
-            } else {
-                bounded(alloc, rays, bound, text)
+            match moves_of(*number) {
+                Some(moves) => checked(alloc, rays, text, moves),
+                None => bounded(alloc, rays, bound, text),
             }
         }
         Found::Fault(fault) => Ok(Err(*fault)),

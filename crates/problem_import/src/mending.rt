@@ -1,13 +1,23 @@
 //! A line of EPD or FEN, mended.
 
-ghost use Rattle.std.specs.Prelude.{IfOk};
-ghost use Rattle.problem_import.specs.inside.Findings.{IsMendedOf};
+ghost use Rattle.std.specs.Prelude.{◌≡◌, IfOk, codes};
+ghost use Rattle.std.specs.Str.{bytes_eq};
+ghost use Rattle.chess_notation.specs.RecordFields.{line_fields};
+ghost use Rattle.chess_notation.specs.Words.{behind, word_at as word_of_text};
+ghost use Rattle.problem_import.specs.Numbers.{asked_by as asked_by_operation, asked_by_id as asked_by_id_of};
+ghost use Rattle.problem_import.specs.Numbers.{asked_by_sign as asked_by_sign_of};
+ghost use Rattle.problem_import.specs.Numbers.{asked_together, bound_among, bound_of_word as bound_of_text, has_moves as does_have_moves};
+ghost use Rattle.problem_import.specs.Numbers.{has_signs as does_have_signs};
+ghost use Rattle.problem_import.specs.Numbers.{has_string as does_have_string};
+ghost use Rattle.problem_import.specs.Numbers.{is_comment as is_comment_opcode, is_free as is_free_operation, or_by_id as other_or_by_id};
+ghost use Rattle.problem_import.specs.Numbers.{parts_of, said};
+ghost use Rattle.problem_import.specs.Numbers.{said_by};
 
 use crate::changes::Changes;
-use crate::fields::{field_words, push_counters};
-use crate::lengths::{length_digits, mate_digits};
+use crate::fields::{behind_counters, field_words, push_counters};
+use crate::lengths::{bound_of_word, is_length, length_digits, mate_digits};
 use crate::texts::{is_same, push_bound_operation, push_byte, trimmed, word_at};
-use crate::tokens::{Kind, Token, segment_at, token_at};
+use crate::tokens::{Kind, Token, part_at, segment_at, token_at};
 use std::alloc::{AllocError, Global};
 use stipulations::{Asked, moves_asked};
 
@@ -25,29 +35,37 @@ struct Mending<'a> {
 }
 
 /// Whether an operation's opcode is `dm`.
-fn is_bound_segment(segment: &[u8]) -> bool {
+fn is_bound_segment(segment: &[u8]) -> bool
+    ensures { result ≡ bytes_eq (word_of_text segment.now) (codes "dm") }
+{
     is_same(word_at(segment).0, "dm")
 }
 
-/// Whether one of these operations is `dm`.
-fn has_bound(operations: &[u8]) -> bool {
+/// The number of moves that an operation `dm` asks, or 16 where it is larger.
+fn bound_of(segment: &[u8]) -> u8
+    ensures { result ≡ bound_of_text (word_of_text (behind segment.now)) }
+{
+    bound_of_word(word_at(word_at(segment).1).0)
+}
+
+/// The number of moves that the first `dm` among operations asks, if there is one.
+fn bound_in(operations: &[u8]) -> Option<u8>
+    ensures { result ≡ bound_among (parts_of 59 operations.now) }
+{
     let mut rest = operations;
-    for _ in 0..operations.len() {
-        match segment_at(rest) {
-            Some(segment) => {
-                if is_bound_segment(segment.text) {
-                    return true;
-                }
-                rest = segment.rest;
-            }
-            None => return false,
+    while let Some(segment) = part_at(rest, b';') {
+        if is_bound_segment(segment.text) {
+            return Some(bound_of(segment.text));
         }
+        rest = segment.rest;
     }
-    false
+    None
 }
 
 /// Whether an opcode's operands are moves.
-fn has_moves(opcode: &[u8]) -> bool {
+fn has_moves(opcode: &[u8]) -> bool
+    ensures { result ≡ does_have_moves opcode.now }
+{
     is_same(opcode, "bm")
         || is_same(opcode, "am")
         || is_same(opcode, "pv")
@@ -56,17 +74,33 @@ fn has_moves(opcode: &[u8]) -> bool {
 }
 
 /// Whether an opcode is one of `c0` to `c9`.
-fn is_comment(opcode: &[u8]) -> bool {
+fn is_comment(opcode: &[u8]) -> bool
+    ensures { result ≡ is_comment_opcode opcode.now }
+{
     match opcode {
-        [b'c', digit] => digit.is_ascii_digit(),
+        [letter, digit] => *letter == b'c' && digit.is_ascii_digit(),
         _ => false,
     }
 }
 
+/// Whether a text has a quotation mark.
+fn has_string(text: &[u8]) -> bool
+    ensures { result ≡ does_have_string text.now }
+{
+    for byte in text {
+        if *byte == b'"' {
+            return true;
+        }
+    }
+    false
+}
+
 /// Whether what stands between two semicolons is words: it has no string, and begins with no opcode that says something of its operands.
-fn is_free(segment: &[u8]) -> bool {
+fn is_free(segment: &[u8]) -> bool
+    ensures { result ≡ is_free_operation segment.now }
+{
     let opcode = word_at(segment).0;
-    !segment.contains(&b'"')
+    !has_string(segment)
         && !has_moves(opcode)
         && !is_comment(opcode)
         && !is_same(opcode, "dm")
@@ -74,30 +108,47 @@ fn is_free(segment: &[u8]) -> bool {
         && !is_same(opcode, "ce")
 }
 
+/// What a word asks that is a sign, as `#2`.
+fn asked_by_sign(word: &[u8]) -> Asked
+    ensures { result ≡ asked_by_sign_of word.now }
+{
+    if is_length(word) {
+        moves_asked(word)
+    } else {
+        Asked::Nothing
+    }
+}
+
 /// What the words among operands ask by a sign that stands alone, as `#2` among claimed keys.
-fn asked_by_signs(operands: &[u8]) -> Asked {
+fn asked_by_signs(operands: &[u8]) -> Asked
+    ensures { result ≡ asked_together asked_by_sign_of Asked.Nothing (parts_of 32 operands.now) }
+{
     let mut rest = operands;
     let mut asked = Asked::Nothing;
-    for _ in 0..operands.len() {
-        let Some(token) = token_at(rest) else {
-            break;
-        };
-        if matches!(token.kind, Kind::Word) && length_digits(token.text).is_some() {
-            asked = asked.and(moves_asked(token.text));
-        }
-        rest = token.rest;
+    while let Some(part) = part_at(rest, b' ') {
+        asked = asked.and(asked_by_sign(part.text));
+        rest = part.rest;
     }
     asked
 }
 
+/// Whether a sign may stand among an opcode's operands.
+fn has_signs(opcode: &[u8]) -> bool
+    ensures { result ≡ does_have_signs opcode.now }
+{
+    is_same(opcode, "bm") || is_same(opcode, "ce")
+}
+
 /// What stands between two semicolons asks: by `bm`, `ce`, a comment, a sign at its head, or words.
-fn asked_by_segment(segment: &[u8]) -> Asked {
+fn asked_by_segment(segment: &[u8]) -> Asked
+    ensures { result ≡ asked_by_operation segment.now }
+{
     let (opcode, operands) = word_at(segment);
-    if is_same(opcode, "bm") || is_same(opcode, "ce") {
+    if has_signs(opcode) {
         asked_by_signs(operands)
     } else if is_comment(opcode) {
         moves_asked(operands)
-    } else if length_digits(opcode).is_some() {
+    } else if is_length(opcode) {
         moves_asked(opcode)
     } else if is_free(segment) {
         moves_asked(segment)
@@ -106,26 +157,51 @@ fn asked_by_segment(segment: &[u8]) -> Asked {
     }
 }
 
+/// What it asks by `id`.
+fn asked_by_id(segment: &[u8]) -> Asked
+    ensures { result ≡ asked_by_id_of segment.now }
+{
+    let (opcode, operands) = word_at(segment);
+    if is_same(opcode, "id") {
+        moves_asked(operands)
+    } else {
+        Asked::Nothing
+    }
+}
+
+/// What an operation asks that isn't `id`, or where that is nothing what `id` does.
+fn or_by_id(others: Asked, by_id: Asked) -> Asked
+    ensures { result ≡ other_or_by_id others by_id }
+{
+    match others {
+        Asked::Nothing => by_id,
+        Asked::Moves(_) | Asked::Two => others,
+    }
+}
+
 /// What operations ask elsewhere than in `dm`; where the others say nothing, by `id`.
-fn asked_in(operations: &[u8]) -> Asked {
+fn asked_in(operations: &[u8]) -> Asked
+    ensures { result ≡ other_or_by_id (asked_together asked_by_operation Asked.Nothing (parts_of 59 operations.now))
+        (asked_together asked_by_id_of Asked.Nothing (parts_of 59 operations.now)) }
+{
     let mut rest = operations;
     let mut asked = Asked::Nothing;
     let mut by_id = Asked::Nothing;
-    for _ in 0..operations.len() {
-        let Some(segment) = segment_at(rest) else {
-            break;
-        };
-        let (opcode, operands) = word_at(segment.text);
-        if is_same(opcode, "id") {
-            by_id = by_id.and(moves_asked(operands));
-        } else {
-            asked = asked.and(asked_by_segment(segment.text));
-        }
+    while let Some(segment) = part_at(rest, b';') {
+        asked = asked.and(asked_by_segment(segment.text));
+        by_id = by_id.and(asked_by_id(segment.text));
         rest = segment.rest;
     }
-    match asked {
-        Asked::Nothing => by_id,
-        Asked::Moves(_) | Asked::Two => asked,
+    or_by_id(asked, by_id)
+}
+
+/// The number of moves that operations say: that of `dm`, or else what they ask.
+fn said_in(operations: &[u8]) -> Asked
+    ensures { result ≡ said_by (parts_of 59 operations.now) }
+{
+    match bound_in(operations) {
+        Some(moves) => Asked::Moves(moves),
+        None => asked_in(operations),
     }
 }
 
@@ -312,9 +388,9 @@ impl Mending<'_> {
         self.push_operation(segment)
     }
 
-    /// Adds the bound that the line asks elsewhere than in `dm`, unless it has one.
-    fn push_asked(&mut self, asked: Asked) -> Result<(), AllocError> {
-        let Asked::Moves(moves) = asked else {
+    /// Adds the bound that the line says, unless it has one.
+    fn push_asked(&mut self, said: Asked) -> Result<(), AllocError> {
+        let Asked::Moves(moves) = said else {
             return Ok(());
         };
         if self.is_bound {
@@ -347,11 +423,10 @@ impl Mending<'_> {
 
 /// What a line is once it is mended.
 #[derive(Drop)]
-pub(crate) enum Mended {
-    /// A text, and whether it says a number of moves.
-    Text(Vec<u8>, bool),
-    /// It has no `dm`, and says two numbers of moves.
-    Two,
+pub(crate) struct Mended {
+    pub(crate) text: Vec<u8>,
+    /// The number of moves that the line says.
+    pub(crate) said: Asked,
 }
 
 /// A line in printable ASCII, mended. One that has fewer words than a position has fields stays as it is.
@@ -360,11 +435,14 @@ pub(crate) fn mended_line(
     line: &[u8],
     changes: &mut Changes,
 ) -> Result<Mended, AllocError>
-    ensures { IfOk result (IsMendedOf line.now) }
+    ensures fields { IfOk result (λ mended. line_fields mended.text.items ≡ line_fields line.now) }
+    ensures said { IfOk result (λ mended. mended.said ≡ said line.now) }
 {
     let fields = field_words(line);
+    let said = said_in(behind_counters(fields.behind));
     if fields.target.is_empty() {
-        return Ok(Mended::Text(Vec::from_slice(alloc, line)?, false));
+        let text = Vec::from_slice(alloc, line)?;
+        return Ok(Mended { text, said });
     }
     let mut mending = Mending {
         alloc,
@@ -374,14 +452,10 @@ pub(crate) fn mended_line(
         comments: 0,
     };
     let operations = push_counters(&mut mending.text, fields.behind)?;
-    mending.is_bound = has_bound(operations);
+    mending.is_bound = bound_in(operations).is_some();
     mending.comments = next_comment(operations);
-    let asked = asked_in(operations);
-    if !mending.is_bound && matches!(asked, Asked::Two) {
-        return Ok(Mended::Two);
-    }
     mending.push_operations(operations)?;
-    mending.push_asked(asked)?;
-    let Mending { text, is_bound, .. } = mending;
-    Ok(Mended::Text(fields.text_before(alloc, text.as_slice())?, is_bound))
+    mending.push_asked(said)?;
+    let mended = fields.text_before(alloc, mending.text.as_slice())?;
+    Ok(Mended { text: mended, said })
 }

@@ -1,19 +1,20 @@
 //! What is printed: records by the grammar, and refusals.
 
-ghost use Rattle.std.specs.Prelude.{◌≡◌, ◌<◌, ◌++◌, ◌∷◌, [], ℕ, Bool, List, IfNone, IfOk, IfSome, decimal, length};
+ghost use Rattle.std.specs.Prelude.{◌≡◌, ◌<◌, ◌++◌, ◌∷◌, [], ℕ, Bool, List, Option, IfNone, IfOk, IfSome, decimal, length};
 ghost use Rattle.chess_board.specs.Characters.{char};
 ghost use Rattle.problem_import.specs.Changes.{telling};
 ghost use Rattle.problem_import.specs.Imports.{AreImported, EndsWithLine, IsMade, IsRecord, refused_line};
 ghost use Rattle.problem_import.specs.inside.FieldTexts.{GoesOn};
-ghost use Rattle.problem_import.specs.inside.Findings.{AreFoundOf, IsFoundOf, IsOwn};
+ghost use Rattle.problem_import.specs.inside.Findings.{AreFoundOf, Asks, IsAskedOf, IsFoundOf, IsNumberOf, IsOwn, MayBeTold};
+ghost use Rattle.problem_import.specs.declared.changes.Form.{Form as FormValue};
 ghost use Rattle.problem_import.specs.inside.KeptChanges.{has_change};
 
 use crate::changes::Changes;
 use crate::fields::push_behind;
 use crate::import_faults::ImportFault;
-use crate::line_kinds::{LineKind, record_fault};
+use crate::line_kinds::{LineKind, RecordKind, asking, asking_fault};
 use crate::moves::with_moves;
-use crate::reading::{Finding, Found};
+use crate::reading::{Finding, Found, Number};
 use crate::texts::push_bound_operation;
 use byte_streams::NoMemory;
 use chess_moves::Rays;
@@ -88,7 +89,7 @@ fn push_refused_line(
 impl Printed {
     /// Nothing.
     pub(crate) fn new(alloc: Global) -> Printed
-        ensures { (keep : Bool) (line : List ℕ) → AreImported (IsMade keep line) result.text.items result.any }
+        ensures { (keep : Bool) (given : Option ℕ) (line : List ℕ) → AreImported (IsMade keep given line) result.text.items result.any }
     {
         Printed {
             text: Vec::new(alloc),
@@ -99,9 +100,9 @@ impl Printed {
     /// Adds a record.
     pub(crate) fn push_record(&mut self, made: &[u8]) -> Result<(), AllocError>
         requires { IsRecord made.now }
-        ensures imported { IfOk result (λ _. (keep : Bool) (line : List ℕ) → IsMade keep line made.now
-            → AreImported (IsMade keep line) self.old.text.items self.old.any
-            → AreImported (IsMade keep line) self.new.text.items self.new.any) }
+        ensures imported { IfOk result (λ _. (keep : Bool) (given : Option ℕ) (line : List ℕ) → IsMade keep given line made.now
+            → AreImported (IsMade keep given line) self.old.text.items self.old.any
+            → AreImported (IsMade keep given line) self.new.text.items self.new.any) }
         ensures text { IfOk result (λ _. self.new.text.items ≡ self.old.text.items ++ made.now ++ char "\n" ∷ []) }
     {
         push_line(&mut self.text, made)?;
@@ -111,8 +112,9 @@ impl Printed {
     /// The same with a line behind it, if that is clean.
     pub(crate) fn with_line_if(self, kind: LineKind, line: &[u8]) -> Result<Printed, AllocError>
         requires { kind ≡ LineKind.Clean → IsRecord line.now }
-        ensures imported { IfOk result (λ printed. (keep : Bool) → AreImported (IsMade keep line.now) self.text.items self.any
-            → AreImported (IsMade keep line.now) printed.text.items printed.any) }
+        ensures imported { IfOk result (λ printed. (keep : Bool) (given : Option ℕ)
+            → AreImported (IsMade keep given line.now) self.text.items self.any
+            → AreImported (IsMade keep given line.now) printed.text.items printed.any) }
         ensures clean { IfOk result (λ printed. kind ≡ LineKind.Clean → EndsWithLine line.now printed.text.items) }
         ensures filled { IfOk result (λ printed. 0 < length self.text.items → 0 < length printed.text.items) }
     {
@@ -131,14 +133,40 @@ impl Printed {
         number: usize,
         fault: ImportFault,
     ) -> Result<(), AllocError>
-        ensures imported { IfOk result (λ _. (keep : Bool) (line : List ℕ) → AreImported (IsMade keep line) self.old.text.items self.old.any
-            → AreImported (IsMade keep line) self.new.text.items self.new.any) }
+        ensures imported { IfOk result (λ _. (keep : Bool) (given : Option ℕ) (line : List ℕ)
+            → AreImported (IsMade keep given line) self.old.text.items self.old.any
+            → AreImported (IsMade keep given line) self.new.text.items self.new.any) }
         ensures filled { IfOk result (λ _. 0 < length self.new.text.items) }
     {
         let text = &mut self.text;
         push_refused_line(text, number, number.to_string(alloc)?.as_bytes(), fault)?;
         self.any = true;
         Ok(())
+    }
+}
+
+/// Whether a record tells what was changed to make it.
+#[derive(Drop)]
+pub(crate) enum ToldRecord {
+    /// It does.
+    As(Vec<u8>),
+    /// It doesn't.
+    Not,
+    /// It would ask for another number of moves if it did.
+    Two,
+}
+
+/// How many moves a record is to ask, where its line says them or is asked none, or any; nothing where its line says none.
+pub(crate) fn moves_of(number: Number) -> Option<Option<u8>>
+    ensures known { IfSome result (λ moves. (form : FormValue) (given : Option ℕ) (line : List ℕ) → IsAskedOf form line number
+        → IsNumberOf form given line moves) }
+    ensures unsaid { IfNone result (number ≡ Number.Unsaid) }
+{
+    match number {
+        Number::Said(moves) => Some(Some(moves)),
+        Number::Own => Some(Some(3)),
+        Number::Any => Some(None),
+        Number::Unsaid => None,
     }
 }
 
@@ -149,25 +177,27 @@ impl Printing<'_> {
         alloc: Global,
         line: &[u8],
         text: &[u8],
+        moves: Option<u8>,
         changes: &Changes,
-    ) -> Result<Option<Vec<u8>>, NoMemory>
+    ) -> Result<ToldRecord, NoMemory>
         requires record { IsRecord text.now }
         requires own { IsOwn changes.now.form line.now text.now }
-        ensures record { IfOk result (λ told. IfSome told (λ more. IsRecord more.items)) }
-        ensures told { IfOk result (λ told. IfSome told (λ more. IsMade self.now.keep line.now more.items)) }
-        ensures none { IfOk result (λ told. IfNone told (IsMade self.now.keep line.now text.now)) }
+        requires number { IsNumberOf changes.now.form self.now.bound line.now moves }
+        requires asks { Asks moves text.now }
+        ensures { IfOk result (λ told. MayBeTold self.now.keep self.now.bound line.now text.now told) }
     {
         if !self.keep {
-            return Ok(None);
+            return Ok(ToldRecord::Not);
         }
         if changes.is_line(line, text) {
-            return Ok(None);
+            return Ok(ToldRecord::Not);
         }
         let told = telling_text(alloc, text, changes)?;
-        let None = record_fault(alloc, self.rays, told.as_slice())? else {
-            return Ok(None);
-        };
-        Ok(Some(told))
+        match asking(alloc, self.rays, told.as_slice(), moves)? {
+            RecordKind::Right => Ok(ToldRecord::As(told)),
+            RecordKind::Other => Ok(ToldRecord::Two),
+            RecordKind::Refused(_) => Ok(ToldRecord::Not),
+        }
     }
 
     /// Adds a record that was made.
@@ -176,24 +206,37 @@ impl Printing<'_> {
         alloc: Global,
         printed: &mut Printed,
         line: &[u8],
+        number: usize,
         text: &[u8],
+        moves: Option<u8>,
         changes: &Changes,
     ) -> Result<(), NoMemory>
         requires record { IsRecord text.now }
         requires own { IsOwn changes.now.form line.now text.now }
-        ensures imported { IfOk result (λ _. AreImported (IsMade self.now.keep line.now) printed.old.text.items printed.old.any
-            → AreImported (IsMade self.now.keep line.now) printed.new.text.items printed.new.any) }
+        requires number { IsNumberOf changes.now.form self.now.bound line.now moves }
+        requires asks { Asks moves text.now }
+        ensures imported { IfOk result (λ _. AreImported (IsMade self.now.keep self.now.bound line.now) printed.old.text.items printed.old.any
+            → AreImported (IsMade self.now.keep self.now.bound line.now) printed.new.text.items printed.new.any) }
         ensures filled { IfOk result (λ _. 0 < length printed.new.text.items) }
     {
-        let Some(told) = self.told(alloc, line, text, changes)? else {
-            printed.push_record(text)?;
-            return Ok(());
-        };
-        printed.push_record(told.as_slice())?;
-        Ok(())
+        let told = self.told(alloc, line, text, moves, changes)?;
+        match told {
+            ToldRecord::As(more) => {
+                printed.push_record(more.as_slice())?;
+                Ok(())
+            }
+            ToldRecord::Not => {
+                printed.push_record(text)?;
+                Ok(())
+            }
+            ToldRecord::Two => {
+                printed.push_refusal(alloc, number, ImportFault::TwoBounds)?;
+                Ok(())
+            }
+        }
     }
 
-    /// Adds the record that a text is, or its fault.
+    /// Adds the record that a text is that is to ask so many moves, where that is a number, or its fault.
     fn push_text(
         &self,
         alloc: Global,
@@ -201,17 +244,19 @@ impl Printing<'_> {
         line: &[u8],
         number: usize,
         text: &[u8],
+        moves: Option<u8>,
         changes: &Changes,
     ) -> Result<(), NoMemory>
-        requires { IsOwn changes.now.form line.now text.now }
-        ensures imported { IfOk result (λ _. AreImported (IsMade self.now.keep line.now) printed.old.text.items printed.old.any
-            → AreImported (IsMade self.now.keep line.now) printed.new.text.items printed.new.any) }
+        requires own { IsOwn changes.now.form line.now text.now }
+        requires number { IsNumberOf changes.now.form self.now.bound line.now moves }
+        ensures imported { IfOk result (λ _. AreImported (IsMade self.now.keep self.now.bound line.now) printed.old.text.items printed.old.any
+            → AreImported (IsMade self.now.keep self.now.bound line.now) printed.new.text.items printed.new.any) }
         ensures filled { IfOk result (λ _. 0 < length printed.new.text.items) }
     {
-        let Some(fault) = record_fault(alloc, self.rays, text)? else {
-            return self.push_made(alloc, printed, line, text, changes);
+        let Some(fault) = asking_fault(alloc, self.rays, text, moves)? else {
+            return self.push_made(alloc, printed, line, number, text, moves, changes);
         };
-        printed.push_refusal(alloc, number, ImportFault::Record(fault))?;
+        printed.push_refusal(alloc, number, fault)?;
         Ok(())
     }
 
@@ -225,22 +270,57 @@ impl Printing<'_> {
         text: &[u8],
         changes: &Changes,
     ) -> Result<(), NoMemory>
-        requires { IsOwn changes.now.form line.now text.now }
-        ensures imported { IfOk result (λ _. AreImported (IsMade self.now.keep line.now) printed.old.text.items printed.old.any
-            → AreImported (IsMade self.now.keep line.now) printed.new.text.items printed.new.any) }
+        requires own { IsOwn changes.now.form line.now text.now }
+        requires number { IsAskedOf changes.now.form line.now Number.Unsaid }
+        ensures imported { IfOk result (λ _. AreImported (IsMade self.now.keep self.now.bound line.now) printed.old.text.items printed.old.any
+            → AreImported (IsMade self.now.keep self.now.bound line.now) printed.new.text.items printed.new.any) }
         ensures filled { IfOk result (λ _. 0 < length printed.new.text.items) }
     {
-        let fault = match (record_fault(alloc, self.rays, text)?, self.bound) {
+        let fault = match (asking_fault(alloc, self.rays, text, None)?, self.bound) {
             (None, Some(bound)) => {
                 let bounded = with_bound(alloc, text, bound)?;
                 let changes = changes.of_bound();
-                return self.push_text(alloc, printed, line, number, bounded.as_slice(), &changes);
+                return self.push_text(
+                    alloc,
+                    printed,
+                    line,
+                    number,
+                    bounded.as_slice(),
+                    Some(bound.get()),
+                    &changes,
+                );
             }
             (None, None) => ImportFault::NoBound,
-            (Some(fault), _) => ImportFault::Record(fault),
+            (Some(fault), _) => fault,
         };
         printed.push_refusal(alloc, number, fault)?;
         Ok(())
+    }
+
+    /// Adds the record that a text is, once its moves are mended, or why there is none.
+    fn push_found(
+        &self,
+        alloc: Global,
+        printed: &mut Printed,
+        line: &[u8],
+        number: usize,
+        text: &[u8],
+        changes: Changes,
+        moves: Number,
+    ) -> Result<(), NoMemory>
+        requires own { IsOwn changes.form line.now text.now }
+        requires number { IsAskedOf changes.form line.now moves }
+        ensures imported { IfOk result (λ _. AreImported (IsMade self.now.keep self.now.bound line.now) printed.old.text.items printed.old.any
+            → AreImported (IsMade self.now.keep self.now.bound line.now) printed.new.text.items printed.new.any) }
+        ensures filled { IfOk result (λ _. 0 < length printed.new.text.items) }
+    {
+        let mut changes = changes;
+        let text = with_moves(alloc, self.rays, &self.letters, text, &mut changes)?;
+        let text = text.as_slice();
+        match moves_of(moves) {
+            Some(moves) => self.push_text(alloc, printed, line, number, text, moves, &changes),
+            None => self.push_unbound(alloc, printed, line, number, text, &changes),
+        }
     }
 
     /// Adds what was found.
@@ -252,29 +332,18 @@ impl Printing<'_> {
         finding: &Finding,
     ) -> Result<(), NoMemory>
         requires { IsFoundOf line.now finding.now.found }
-        ensures imported { IfOk result (λ _. AreImported (IsMade self.now.keep line.now) printed.old.text.items printed.old.any
-            → AreImported (IsMade self.now.keep line.now) printed.new.text.items printed.new.any) }
+        ensures imported { IfOk result (λ _. AreImported (IsMade self.now.keep self.now.bound line.now) printed.old.text.items printed.old.any
+            → AreImported (IsMade self.now.keep self.now.bound line.now) printed.new.text.items printed.new.any) }
         ensures filled { IfOk result (λ _. 0 < length printed.new.text.items) }
     {
+        let number = finding.number;
         match &finding.found {
-            Found::Text(text, changes, is_bound) => {
-                let mut changes = *changes;
-                let text = with_moves(
-                    alloc,
-                    self.rays,
-                    &self.letters,
-                    text.as_slice(),
-                    &mut changes,
-                )?;
+            Found::Text(text, changes, moves) => {
                 let text = text.as_slice();
-                if *is_bound {
-                    self.push_text(alloc, printed, line, finding.number, text, &changes)
-                } else {
-                    self.push_unbound(alloc, printed, line, finding.number, text, &changes)
-                }
+                self.push_found(alloc, printed, line, number, text, *changes, *moves)
             }
             Found::Fault(fault) => {
-                printed.push_refusal(alloc, finding.number, *fault)?;
+                printed.push_refusal(alloc, number, *fault)?;
                 Ok(())
             }
         }
@@ -288,7 +357,7 @@ impl Printing<'_> {
         findings: &[Finding],
     ) -> Result<Printed, NoMemory>
         requires { AreFoundOf line.now findings.now }
-        ensures imported { IfOk result (λ printed. AreImported (IsMade self.now.keep line.now) printed.text.items printed.any) }
+        ensures imported { IfOk result (λ printed. AreImported (IsMade self.now.keep self.now.bound line.now) printed.text.items printed.any) }
         ensures filled { IfOk result (λ printed. 0 < length findings.now → 0 < length printed.text.items) }
     {
         let mut printed = Printed::new(alloc);

@@ -1,6 +1,6 @@
 //! The problems of an input, answered one by one.
 
-ghost use Rattle.std.specs.Prelude.{◌≡◌, ◌≢◌, ◌<◌, ◌≤◌, ◌++◌, ◌∷◌, ◌||◌, [], ℕ, Bool, List, IfErr, IfOk, false, length};
+ghost use Rattle.std.specs.Prelude.{◌≡◌, ◌≢◌, ◌<◌, ◌≤◌, ◌++◌, ◌∷◌, ◌||◌, [], ℕ, Bool, List, Option, IfErr, IfOk, false, length};
 ghost use Rattle.std.specs.Io.KnownBytes.{Appends};
 ghost use Rattle.byte_streams.specs.Inputs.{MayBe};
 ghost use Rattle.byte_streams.specs.Stops.{AppendsBy};
@@ -89,16 +89,21 @@ impl<M> ProblemMemory<M> {
 #[derive(Drop)]
 pub struct ProblemLines<'a, H> {
     imports: Imports<'a>,
+    /// How many moves a problem is asked within that says no number and is no record as it stands.
+    pub bound: Option<Bound>,
     pub handler: &'a H,
 }
 
 impl<'a, H: ProblemHandler> ProblemLines<'a, H> {
     /// A problem that says no number of moves, and is no record as it stands, is made one of such a bound, if one is given, and else refused.
     pub fn new(rays: &'a Rays, bound: Option<Bound>, handler: &'a H) -> ProblemLines<'a, H>
-        ensures { result.handler.now ≡ handler.now }
+        ensures bound { result.bound ≡ bound }
+        ensures handler { result.handler.now ≡ handler.now }
     {
         ProblemLines {
-            imports: Imports::new(rays, false, bound),
+            // It prints nothing itself, and so is given no bound.
+            imports: Imports::new(rays, false, None),
+            bound,
             handler,
         }
     }
@@ -116,8 +121,10 @@ impl<H: ProblemHandler> ProblemLines<'_, H> {
     ) -> Result<(), NoMemory>
         requires { IsRecord made.now }
         ensures answered { IfOk result (λ _. (line : List ℕ) (printed : List ℕ)
-            → IsAnswered line (H.records self.now.handler.now) (H.rows self.now.handler.now) printed answers.old.text.items answers.old.any
-            → IsAnswered line (H.records self.now.handler.now) (H.rows self.now.handler.now) (printed ++ made.now ++ char "\n" ∷ [])
+            → IsAnswered self.now.bound line (H.records self.now.handler.now) (H.rows self.now.handler.now) printed
+            answers.old.text.items answers.old.any
+            → IsAnswered self.now.bound line (H.records self.now.handler.now) (H.rows self.now.handler.now)
+            (printed ++ made.now ++ char "\n" ∷ [])
             answers.new.text.items answers.new.any) }
         ensures ends { IfOk result (λ _. EndsWith (H.records self.now.handler.now number made.now) answers.new.text.items) }
     {
@@ -135,8 +142,10 @@ impl<H: ProblemHandler> ProblemLines<'_, H> {
         answers: &mut Answers,
     ) -> Result<(), NoMemory>
         ensures { IfOk result (λ _. (line : List ℕ) (printed : List ℕ)
-            → IsAnswered line (H.records self.now.handler.now) (H.rows self.now.handler.now) printed answers.old.text.items answers.old.any
-            → IsAnswered line (H.records self.now.handler.now) (H.rows self.now.handler.now) (printed ++ refused_line number fault)
+            → IsAnswered self.now.bound line (H.records self.now.handler.now) (H.rows self.now.handler.now) printed
+            answers.old.text.items answers.old.any
+            → IsAnswered self.now.bound line (H.records self.now.handler.now) (H.rows self.now.handler.now)
+            (printed ++ refused_line number fault)
             answers.new.text.items answers.new.any) }
     {
         let row = self.handler.refuse(alloc, number, fault)?;
@@ -153,15 +162,17 @@ impl<H: ProblemHandler> ProblemLines<'_, H> {
         answers: &mut Answers,
     ) -> Result<(), NoMemory>
         ensures { IfOk result (λ _. (line : List ℕ) (printed : List ℕ)
-            → IsAnswered line (H.records self.now.handler.now) (H.rows self.now.handler.now) printed answers.old.text.items answers.old.any
-            → IsFilled line (H.records self.now.handler.now) (H.rows self.now.handler.now) answers.new.text.items answers.new.any) }
+            → IsAnswered self.now.bound line (H.records self.now.handler.now) (H.rows self.now.handler.now) printed
+            answers.old.text.items answers.old.any
+            → IsFilled self.now.bound line (H.records self.now.handler.now) (H.rows self.now.handler.now)
+            answers.new.text.items answers.new.any) }
     {
         let printing = &self.imports.printing;
         match made_record(
             alloc,
             printing.rays,
             &printing.letters,
-            printing.bound,
+            self.bound,
             &finding.found,
         )? {
             Ok(text) => self.push_record(alloc, finding.number, text.as_slice(), memory, answers),
@@ -176,7 +187,8 @@ impl<H: ProblemHandler> ProblemLines<'_, H> {
         findings: &[Finding],
         memory: &mut H::Memory,
     ) -> Result<Answers, NoMemory>
-        ensures { IfOk result (λ answers. (line : List ℕ) → IsFound line (H.records self.now.handler.now) (H.rows self.now.handler.now)
+        ensures { IfOk result (λ answers. (line : List ℕ) → IsFound self.now.bound line (H.records self.now.handler.now)
+            (H.rows self.now.handler.now)
             (length findings.now) answers.text.items answers.any) }
     {
         let mut answers = Answers::new(alloc);
@@ -195,7 +207,8 @@ impl<H: ProblemHandler> ProblemLines<'_, H> {
         memory: &mut ProblemMemory<H::Memory>,
     ) -> Result<Answers, NoMemory>
         requires { is_blank line.now ≡ false }
-        ensures { IfOk result (λ answers. IsProblemReply (H.records self.now.handler.now) (H.rows self.now.handler.now) number line.now
+        ensures { IfOk result (λ answers. IsProblemReply self.now.bound (H.records self.now.handler.now) (H.rows self.now.handler.now)
+            number line.now
             answers.text.items (one_if_any answers.any)) }
     {
         let kind = kind_of(alloc, self.imports.printing.rays, line)?;
@@ -216,7 +229,8 @@ impl<H: ProblemHandler> ProblemLines<'_, H> {
         alloc: Global,
         memory: &mut ProblemMemory<H::Memory>,
     ) -> Result<Answers, NoMemory>
-        ensures { IfOk result (λ answers. (printed : List ℕ) × IsAnswered [] (H.records self.now.handler.now) (H.rows self.now.handler.now)
+        ensures { IfOk result (λ answers. (printed : List ℕ)
+            × IsAnswered self.now.bound [] (H.records self.now.handler.now) (H.rows self.now.handler.now)
             printed answers.text.items answers.any) }
     {
         let mut findings = Vec::new(alloc);
@@ -235,9 +249,9 @@ impl<H: ProblemHandler> ProblemLines<'_, H> {
         memory: &mut ProblemMemory<H::Memory>,
         out: &mut O,
     ) -> Result<usize, Stop>
-        ensures ok { IfOk result (λ total. IsLastPut (H.records self.now.handler.now) (H.rows self.now.handler.now) count total
+        ensures ok { IfOk result (λ total. IsLastPut self.now.bound (H.records self.now.handler.now) (H.rows self.now.handler.now) count total
             (O.contents out.old) (O.contents out.new)) }
-        ensures err { IfErr result (λ stop. IsLastCut (H.records self.now.handler.now) (H.rows self.now.handler.now) stop
+        ensures err { IfErr result (λ stop. IsLastCut self.now.bound (H.records self.now.handler.now) (H.rows self.now.handler.now) stop
             (O.contents out.old) (O.contents out.new)) }
         ensures readable { IfErr result (λ stop. stop ≢ Stop.Unreadable) }
     {
@@ -259,7 +273,7 @@ impl<H: ProblemHandler> LineHandler for ProblemLines<'_, H> {
 
     type Memory = ProblemMemory<H::Memory>;
 
-    ghost replies = { λ lines. IsProblemReply (H.records lines.handler.now) (H.rows lines.handler.now) };
+    ghost replies = { λ lines. IsProblemReply lines.bound (H.records lines.handler.now) (H.rows lines.handler.now) };
 
     ghost room = { λ _. 0 };
 
@@ -301,10 +315,10 @@ pub fn answer_problems<H: ProblemHandler, I: Input + Drop, O: Write>(
     out: &mut O,
 ) -> Result<usize, Stop>
     ensures ok { IfOk result (λ count. (bytes : List ℕ) × (text : List ℕ) × MayBe (I.left input) bytes
-        × AnswersProblems (H.records lines.now.handler.now) (H.rows lines.now.handler.now) bytes text count
+        × AnswersProblems lines.now.bound (H.records lines.now.handler.now) (H.rows lines.now.handler.now) bytes text count
         × Appends (O.contents out.old) (O.contents out.new) text) }
     ensures err { IfErr result (λ stop. (bytes : List ℕ) × (text : List ℕ) × MayBe (I.left input) bytes
-        × AnswersFirstProblems (H.records lines.now.handler.now) (H.rows lines.now.handler.now) bytes text
+        × AnswersFirstProblems lines.now.bound (H.records lines.now.handler.now) (H.rows lines.now.handler.now) bytes text
         × AppendsBy stop (O.contents out.old) (O.contents out.new) text) }
     ensures unreadable { IfErr result (λ stop. stop ≡ Stop.Unreadable → I.breaks input) }
 {
@@ -316,5 +330,5 @@ pub fn answer_problems<H: ProblemHandler, I: Input + Drop, O: Write>(
 
 /// A law: whoever answers, what is answered is answered to what `import` may print.
 pub fn answers_are_imports<H: ProblemHandler>()
-    ensures { (handler : H) → AnswersImports (H.records handler) (H.rows handler) }
+    ensures { (given : Option ℕ) (handler : H) → AnswersImports given (H.records handler) (H.rows handler) }
 {}

@@ -1,8 +1,9 @@
 //! The forms told apart, line by line, and what the lines so far have said of problems that are open.
 
-ghost use Rattle.std.specs.Prelude.{◌≡◌, ◌≤◌, ◌<◌, ◌+◌, ℕ, List, IfOk, length, false, true};
+ghost use Rattle.std.specs.Prelude.{◌≡◌, ◌≤◌, ◌<◌, ◌+◌, ℕ, List, IfOk, IfSome, length, false, true};
+ghost use Rattle.problem_import.specs.Imports.{IsRecord};
 ghost use Rattle.problem_import.specs.Letters.{IsTextOf};
-ghost use Rattle.problem_import.specs.inside.Findings.{AreFoundOf, IsFoundOf};
+ghost use Rattle.problem_import.specs.inside.Findings.{AreFoundOf, IsAsked, IsFoundOf, IsRecordIf};
 ghost use Rattle.problem_import.specs.inside.OpenProblems.{due, goes_on as does_go_on, has_tags};
 ghost use Rattle.problem_import.specs.inside.TagPairs.{is_tag_line, is_tag_pair as is_tag_pair_text};
 
@@ -10,7 +11,7 @@ use crate::changes::{Changes, Form};
 use crate::games::{Game, Movetext};
 use crate::import_faults::ImportFault;
 use crate::letters::ascii_text;
-use crate::mending::{Mended, mended_line};
+use crate::mending::mended_line;
 use crate::olive::{OliveProblem, is_border};
 use crate::popeye::PopeyeProblem;
 use crate::popeye_words::{Command, command_of};
@@ -18,12 +19,26 @@ use crate::tag_pairs::{begins_with, is_tag_pair};
 use crate::texts::{trimmed, word_at};
 use move_words::Letters;
 use std::alloc::{AllocError, Global};
+use stipulations::Asked;
+
+/// How many moves a text is to ask.
+#[derive(Clone, Copy)]
+pub(crate) enum Number {
+    /// As many as its line says.
+    Said(u8),
+    /// None itself: its line says none, and is a record as it stands.
+    Own,
+    /// As many as are given, if any are: its line says none, and is no record.
+    Unsaid,
+    /// As many as it asks: no line says them.
+    Any,
+}
 
 /// What was found of a problem: what its record is to be, or why there is none.
 #[derive(Drop)]
 pub(crate) enum Found {
-    /// A text, what was changed, and whether it says a number of moves, or is a record as it stands.
-    Text(Vec<u8>, Changes, bool),
+    /// A text, what was changed, and how many moves it is to ask.
+    Text(Vec<u8>, Changes, Number),
     Fault(ImportFault),
 }
 
@@ -350,8 +365,8 @@ impl Reading {
         findings: &mut Vec<Finding>,
     ) -> Result<(), AllocError>
         ensures found { IfOk result (λ _. length findings.new.items ≡ due self.old.open + length findings.old.items + 1) }
-        ensures own { IfOk result (λ _. (whole : List ℕ) → IsTextOf whole line.now → AreFoundOf whole findings.old.items
-            → AreFoundOf whole findings.new.items) }
+        ensures own { IfOk result (λ _. (whole : List ℕ) → IsTextOf whole line.now → IsRecordIf is_record whole
+            → AreFoundOf whole findings.old.items → AreFoundOf whole findings.new.items) }
         ensures ended { IfOk result (λ _. self.new.open ≡ Open.Nothing) }
     {
         self.finish(alloc, Open::Nothing, findings)?;
@@ -408,8 +423,8 @@ impl Reading {
         findings: &mut Vec<Finding>,
     ) -> Result<(), AllocError>
         ensures kept { IfOk result (λ _. due self.old.open + length findings.old.items ≤ due self.new.open + length findings.new.items) }
-        ensures own { IfOk result (λ _. (whole : List ℕ) → IsTextOf whole line.now → AreFoundOf whole findings.old.items
-            → AreFoundOf whole findings.new.items) }
+        ensures own { IfOk result (λ _. (whole : List ℕ) → IsTextOf whole line.now → ¬ (IsRecord whole)
+            → AreFoundOf whole findings.old.items → AreFoundOf whole findings.new.items) }
     {
         if is_border(line) {
             self.begin_olive(alloc, number, findings)?;
@@ -468,8 +483,8 @@ impl Reading {
         findings: &mut Vec<Finding>,
     ) -> Result<(), AllocError>
         ensures kept { IfOk result (λ _. due self.old.open + length findings.old.items ≤ due self.new.open + length findings.new.items) }
-        ensures own { IfOk result (λ _. (whole : List ℕ) → IsTextOf whole line.now → AreFoundOf whole findings.old.items
-            → AreFoundOf whole findings.new.items) }
+        ensures own { IfOk result (λ _. (whole : List ℕ) → IsTextOf whole line.now → ¬ (IsRecord whole)
+            → AreFoundOf whole findings.old.items → AreFoundOf whole findings.new.items) }
         ensures more { IfOk result (λ _. is_tag_pair_text line.now ≡ true → does_go_on self.old.open self.old.last number ≡ false
             → due self.old.open + length findings.old.items < due self.new.open + length findings.new.items) }
     {
@@ -493,8 +508,8 @@ impl Reading {
         findings: &mut Vec<Finding>,
     ) -> Result<(), AllocError>
         ensures kept { IfOk result (λ _. due self.old.open + length findings.old.items ≤ due self.new.open + length findings.new.items) }
-        ensures own { IfOk result (λ _. (line : List ℕ) → IsTextOf line text.now → AreFoundOf line findings.old.items
-            → AreFoundOf line findings.new.items) }
+        ensures own { IfOk result (λ _. (line : List ℕ) → IsTextOf line text.now → ¬ (IsRecord line)
+            → AreFoundOf line findings.old.items → AreFoundOf line findings.new.items) }
         ensures more { IfOk result (λ _. is_tag_pair_text text.now ≡ true → does_go_on self.old.open self.old.last number ≡ false
             → due self.old.open + length findings.old.items < due self.new.open + length findings.new.items) }
     {
@@ -514,7 +529,8 @@ impl Reading {
         findings: &mut Vec<Finding>,
     ) -> Result<(), AllocError>
         ensures kept { IfOk result (λ _. due self.old.open + length findings.old.items ≤ due self.new.open + length findings.new.items) }
-        ensures own { IfOk result (λ _. AreFoundOf line.now findings.old.items → AreFoundOf line.now findings.new.items) }
+        ensures own { IfOk result (λ _. ¬ (IsRecord line.now) → AreFoundOf line.now findings.old.items
+            → AreFoundOf line.now findings.new.items) }
         ensures more { IfOk result (λ _. is_tag_line line.now ≡ true → does_go_on self.old.open self.old.last number ≡ false
             → due self.old.open + length findings.old.items < due self.new.open + length findings.new.items) }
     {
@@ -530,6 +546,28 @@ impl Reading {
     }
 }
 
+/// How many moves a record is to ask that is made of a line which says none, and may be a record as it stands.
+fn number_unsaid(is_record: bool) -> Number
+    ensures { (line : List ℕ) → IsRecordIf is_record line → IsAsked line Asked.Nothing result }
+{
+    if is_record {
+        Number::Own
+    } else {
+        Number::Unsaid
+    }
+}
+
+/// How many moves a record is to ask that is made of a line which says this, and may be a record as it stands; nothing where it says two.
+fn number_of(said: Asked, is_record: bool) -> Option<Number>
+    ensures { IfSome result (λ number. (line : List ℕ) → IsRecordIf is_record line → IsAsked line said number) }
+{
+    match said {
+        Asked::Moves(moves) => Some(Number::Said(moves)),
+        Asked::Nothing => Some(number_unsaid(is_record)),
+        Asked::Two => None,
+    }
+}
+
 /// What a line in printable ASCII says, which may be a record as it stands.
 fn found_line(
     alloc: Global,
@@ -537,12 +575,22 @@ fn found_line(
     is_record: bool,
     changes: Changes,
 ) -> Result<Found, AllocError>
-    ensures { IfOk result (λ found. (whole : List ℕ) → IsTextOf whole line.now → IsFoundOf whole found) }
+    ensures { IfOk result (λ found. (whole : List ℕ) → IsTextOf whole line.now → IsRecordIf is_record whole → IsFoundOf whole found) }
 {
     let mut changes = changes;
-    match mended_line(alloc, line, &mut changes)? {
-        Mended::Text(text, is_bound) => Ok(Found::Text(text, changes, is_bound || is_record)),
-        Mended::Two => Ok(Found::Fault(ImportFault::TwoBounds)),
+    let mended = mended_line(alloc, line, &mut changes)?;
+    match number_of(mended.said, is_record) {
+        Some(number) => Ok(Found::Text(mended.text, changes, number)),
+        None => Ok(Found::Fault(ImportFault::TwoBounds)),
+    }
+}
+
+/// How many moves a record is to ask that is made of a game.
+fn number_by_tags(is_bound: bool) -> Number {
+    if is_bound {
+        Number::Any
+    } else {
+        Number::Unsaid
     }
 }
 
@@ -554,7 +602,8 @@ fn found_game(alloc: Global, game: &mut Game) -> Result<Found, AllocError>
         return Ok(Found::Fault(fault));
     }
     let text = game.text(alloc)?;
-    Ok(Found::Text(text, game.changes.of(Form::Game), game.is_bound()))
+    let number = number_by_tags(game.is_bound());
+    Ok(Found::Text(text, game.changes.of(Form::Game), number))
 }
 
 /// Adds what the tag pairs of a game say.
@@ -582,7 +631,7 @@ fn found_popeye(alloc: Global, problem: &PopeyeProblem) -> Result<Found, AllocEr
         return Ok(Found::Fault(fault));
     }
     let text = problem.text(alloc)?;
-    Ok(Found::Text(text, problem.changes.of(Form::Popeye), true))
+    Ok(Found::Text(text, problem.changes.of(Form::Popeye), Number::Any))
 }
 
 /// Adds what a problem for Popeye says.
@@ -613,7 +662,7 @@ fn found_olive(alloc: Global, problem: &mut OliveProblem) -> Result<Found, Alloc
         return Ok(Found::Fault(fault));
     }
     let text = problem.text(alloc)?;
-    Ok(Found::Text(text, problem.changes.of(Form::Popeye), true))
+    Ok(Found::Text(text, problem.changes.of(Form::Popeye), Number::Any))
 }
 
 /// Adds what a problem of Olive's says.

@@ -1,11 +1,14 @@
 //! Texts of bytes: what stands at their ends, and their words.
 
 ghost use Rattle.std.specs.Prelude.{◌≡◌, ◌++◌, ◌∷◌, IfOk, drop};
+ghost use Rattle.std.specs.Str.{bytes_eq};
 ghost use Rattle.chess_board.specs.Characters.{char};
+ghost use Rattle.chess_notation.specs.RecordFields.{is_number};
 ghost use Rattle.chess_notation.specs.Words.{after_spaces as text_after_spaces, after_word, behind, front_word as word_in_front};
 ghost use Rattle.chess_notation.specs.Words.{word_at as word_of_text};
 ghost use Rattle.problem_import.specs.Letters.{trimmed as trimmed_text};
 
+use chess_notation::are_digits as are_all_digits;
 use std::alloc::AllocError;
 
 /// A text without spaces at either end.
@@ -49,13 +52,10 @@ pub(crate) fn after_spaces(text: &[u8]) -> &[u8]
 }
 
 /// Whether a text is one or more digits.
-pub(crate) fn are_digits(text: &[u8]) -> bool {
-    for byte in text {
-        if !byte.is_ascii_digit() {
-            return false;
-        }
-    }
-    !text.is_empty()
+pub(crate) fn are_digits(text: &[u8]) -> bool
+    ensures { result ≡ is_number text.now }
+{
+    !text.is_empty() && are_all_digits(text)
 }
 
 /// Whether the one text is the other, small and large letters alike.
@@ -71,7 +71,9 @@ pub(crate) fn without_first(text: &[u8], count: usize) -> &[u8]
 }
 
 /// Whether the one text is the other.
-pub(crate) fn is_same(text: &[u8], other: &str) -> bool {
+pub(crate) fn is_same(text: &[u8], other: &str) -> bool
+    ensures { result ≡ bytes_eq text.now other.now }
+{
     text == other.as_bytes()
 }
 

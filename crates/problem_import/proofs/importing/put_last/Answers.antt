@@ -2,7 +2,9 @@ use Rattle.problem_import.proofs.Imports.{nothing_last}
 use Rattle.problem_import.proofs.importing.put_last.Goals as goal
 
 pub returns-in_default-clause-err : goal.returns-in_default-clause-err
-returns-in_default-clause-err g c = nothing_last c.args.imports.now.printing.keep (g.O.Write.contents c.args.out.now)
+returns-in_default-clause-err g c = nothing_last c.args.imports.now.printing.keep c.args.imports.now.printing.bound (g.O.Write.contents
+    c.args.out.now)
 
 pub returns-in_default-checked_add-clause-err : goal.returns-in_default-checked_add-clause-err
-returns-in_default-checked_add-clause-err g c = nothing_last c.args.imports.now.printing.keep (g.O.Write.contents c.args.out.now)
+returns-in_default-checked_add-clause-err g c = nothing_last c.args.imports.now.printing.keep c.args.imports.now.printing.bound
+    (g.O.Write.contents c.args.out.now)

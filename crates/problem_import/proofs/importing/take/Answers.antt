@@ -3,5 +3,9 @@ use Rattle.problem_import.proofs.importing.take.Goals as goal
 
 pub returns-in_ok-take_record-in-Mendable-clause-own : goal.returns-in_ok-take_record-in-Mendable-clause-own
 returns-in_ok-take_record-in-Mendable-clause-own c = λ before.
-    c.in_ok-take_record-in-Mendable.ensures.own c.args.line.now
-    (record_says c.args.line.now c.trimmed.result.now (c.requires c.in-Mendable.is) c.trimmed.ensures) before
+    let is = c.requires.mended c.in-Mendable.is in
+    c.in_ok-take_record-in-Mendable.ensures.own c.args.line.now (record_says c.args.line.now c.trimmed.result.now is c.trimmed.ensures) is
+    before
+
+pub returns-in_ok-take_line-in-Other-clause-own : goal.returns-in_ok-take_line-in-Other-clause-own
+returns-in_ok-take_line-in-Other-clause-own c = λ before. c.in_ok-take_line-in-Other.ensures.own (c.requires.other c.in-Other.is) before

@@ -7,8 +7,9 @@ pub returns-in-Ok-clause-ok : goal.returns-in-Ok-clause-ok
 unfolding AnswersProblems
 returns-in-Ok-clause-ok g c =
     let R = g.H.ProblemHandler.records c.args.lines.now.handler.now in
+    let G = c.args.lines.now.bound in
     let Q = g.H.ProblemHandler.rows c.args.lines.now.handler.now in
-    ended_if R Q (λ bytes text n. IsReply (IsProblemReply R Q) bytes text n) c.put_last.result c.in-Ok.count (g.I.Input.left c.args.input)
+    ended_if G R Q (λ bytes text n. IsReply (IsProblemReply G R Q) bytes text n) c.put_last.result c.in-Ok.count (g.I.Input.left c.args.input)
     (g.O.Write.contents c.args.out.now) (g.O.Write.contents c.answer_input.new.out) (g.O.Write.contents c.put_last.new.out)
     c.in-Ok.ensures.ok c.put_last.ensures.ok
 
@@ -16,15 +17,18 @@ pub returns-in-Ok-clause-err : goal.returns-in-Ok-clause-err
 unfolding AnswersFirstProblems
 returns-in-Ok-clause-err g c =
     let R = g.H.ProblemHandler.records c.args.lines.now.handler.now in
+    let G = c.args.lines.now.bound in
     let Q = g.H.ProblemHandler.rows c.args.lines.now.handler.now in
-    stopped_if R Q (λ bytes text n. IsReply (IsProblemReply R Q) bytes text n) (λ bytes text. IsReplyToFirst (IsProblemReply R Q) bytes text)
-    (first_of_all R Q) c.put_last.result c.in-Ok.count (g.I.Input.left c.args.input) (g.O.Write.contents c.args.out.now)
+    stopped_if G R Q (λ bytes text n. IsReply (IsProblemReply G R Q) bytes text n) (λ bytes text. IsReplyToFirst (IsProblemReply G R Q)
+    bytes text)
+    (first_of_all G R Q) c.put_last.result c.in-Ok.count (g.I.Input.left c.args.input) (g.O.Write.contents c.args.out.now)
     (g.O.Write.contents c.answer_input.new.out) (g.O.Write.contents c.put_last.new.out) c.in-Ok.ensures.ok c.put_last.ensures.err
 
 pub returns-in-Err-clause-err : goal.returns-in-Err-clause-err
 unfolding AnswersFirstProblems
 returns-in-Err-clause-err g c =
     let R = g.H.ProblemHandler.records c.args.lines.now.handler.now in
+    let G = c.args.lines.now.bound in
     let Q = g.H.ProblemHandler.rows c.args.lines.now.handler.now in
-    stopped R Q (λ bytes text. IsReplyToFirst (IsProblemReply R Q) bytes text) c.in-Err.stop (g.I.Input.left c.args.input)
+    stopped G R Q (λ bytes text. IsReplyToFirst (IsProblemReply G R Q) bytes text) c.in-Err.stop (g.I.Input.left c.args.input)
     (g.O.Write.contents c.args.out.now) (g.O.Write.contents c.answer_input.new.out) c.in-Err.ensures.err

@@ -5,7 +5,8 @@ use Rattle.problem_import.specs.inside.OpenProblems.{due}
 use Rattle.problem_import.proofs.importing.Imports.reply.Goals as goal
 
 pub returns-clause-imported : goal.returns-clause-imported
-returns-clause-imported c = c.in_ok-with_line_if.ensures.imported c.args.self.now.printing.keep c.in_ok-printed.ensures.imported
+returns-clause-imported c = c.in_ok-with_line_if.ensures.imported c.args.self.now.printing.keep c.args.self.now.printing.bound
+    c.in_ok-printed.ensures.imported
 
 pub returns-clause-clean : goal.returns-clause-clean
 returns-clause-clean c = clean_ends c.in_ok-kind.kind c.args.line.now _ c.in_ok-kind.ensures.other c.in_ok-kind.ensures.mendable

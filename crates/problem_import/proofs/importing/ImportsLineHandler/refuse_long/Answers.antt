@@ -3,14 +3,17 @@ use Rattle.problem_import.proofs.importing.ImportsLineHandler.refuse_long.Goals 
 
 pub returns-then-passes_long-clause-reply : goal.returns-then-passes_long-clause-reply
 returns-then-passes_long-clause-reply c =
-    long_reply c.args.self.now.printing.keep c.args.number c.output_of.result.text.items c.new-printed.result.text.items
-    c.new-printed.result.any c.output_of.result.refused (λ line. c.new-printed.ensures c.args.self.now.printing.keep line)
+    long_reply c.args.self.now.printing.keep c.args.self.now.printing.bound c.args.number c.output_of.result.text.items
+    c.new-printed.result.text.items
+    c.new-printed.result.any c.output_of.result.refused (λ line. c.new-printed.ensures c.args.self.now.printing.keep
+    c.args.self.now.printing.bound line)
     c.output_of.ensures.text c.output_of.ensures.refused
 
 pub returns-clause-reply : goal.returns-clause-reply
 returns-clause-reply c =
     let keep = c.args.self.now.printing.keep in
-    long_reply keep c.args.number c.output_of-2.result.text.items c.push_refusal.new.self.text.items
+    let given = c.args.self.now.printing.bound in
+    long_reply keep given c.args.number c.output_of-2.result.text.items c.push_refusal.new.self.text.items
     c.push_refusal.new.self.any c.output_of-2.result.refused
-    (λ line. c.in_ok-push_refusal.ensures.imported keep line (c.new-printed.ensures keep line))
+    (λ line. c.in_ok-push_refusal.ensures.imported keep given line (c.new-printed.ensures keep given line))
     c.output_of-2.ensures.text c.output_of-2.ensures.refused

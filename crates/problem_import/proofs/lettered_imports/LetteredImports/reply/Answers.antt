@@ -16,10 +16,13 @@ returns-clause-ended c =
     (length c.in_ok-printed.printed.text.items) (length c.in_ok-printed.printed.text.items) (due_le_one c.args.reading.now.open)
     c.in_ok-findings.ensures.kept (λ some. c.in_ok-printed.ensures.filled (rw c.as_slice.ensures.value some)) (λ some. some)
 
-pub findings-requires : goal.findings-requires
-findings-requires c =
+pub findings-requires-clause-mended : goal.findings-requires-clause-mended
+findings-requires-clause-mended c =
     record_anew c.in_ok-first.first c.kind_anew-kind.result c.args.line.now c.in_ok-first.ensures.record c.in_ok-first.ensures.mended
     c.kind_anew-kind.ensures.mendable
+
+pub findings-requires-clause-other : goal.findings-requires-clause-other
+findings-requires-clause-other c = λ is. c.in_ok-first.ensures.other (c.kind_anew-kind.ensures.other is)
 
 pub printed-requires : goal.printed-requires
 printed-requires c = rw c.as_slice.ensures.value c.in_ok-findings.ensures.own

@@ -3,6 +3,8 @@ use Rattle.problem_import.proofs.lettered_imports.LetteredImportsLineHandler.ref
 
 pub returns-clause-reply : goal.returns-clause-reply
 returns-clause-reply c =
-    lettered_long c.args.self.now.letters c.args.self.now.imports.printing.keep c.args.number c.output_of.result.text.items
+    lettered_long c.args.self.now.letters c.args.self.now.imports.printing.keep c.args.self.now.imports.printing.bound c.args.number
+    c.output_of.result.text.items
     c.in_ok-printed.printed.text.items c.in_ok-printed.printed.any c.output_of.result.refused
-    (c.in_ok-printed.ensures.imported c.args.self.now.imports.printing.keep) c.output_of.ensures.text c.output_of.ensures.refused
+    (c.in_ok-printed.ensures.imported c.args.self.now.imports.printing.keep c.args.self.now.imports.printing.bound)
+    c.output_of.ensures.text c.output_of.ensures.refused

@@ -3,5 +3,6 @@ use Rattle.problem_import.proofs.Imports.{record_next}
 use Rattle.problem_import.proofs.printing.Printed.push_record.Goals as goal
 
 pub returns-clause-imported : goal.returns-clause-imported
-returns-clause-imported c = λ keep line kind. record_next (IsMade keep line) c.args.self.now.text.items c.args.made.now c.push_line.new.text.items
+returns-clause-imported c = λ keep given line kind. record_next (IsMade keep given line) c.args.self.now.text.items c.args.made.now
+    c.push_line.new.text.items
     c.args.self.now.any c.requires kind c.in_ok-push_line.ensures

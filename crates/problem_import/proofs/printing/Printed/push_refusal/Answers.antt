@@ -3,6 +3,7 @@ use Rattle.problem_import.proofs.Imports.{refusal_next}
 use Rattle.problem_import.proofs.printing.Printed.push_refusal.Goals as goal
 
 pub returns-clause-imported : goal.returns-clause-imported
-returns-clause-imported c = λ keep line.
-    refusal_next (IsMade keep line) c.args.self.now.text.items c.push_refused_line.new.text.items c.args.number c.args.fault c.args.self.now.any
+returns-clause-imported c = λ keep given line.
+    refusal_next (IsMade keep given line) c.args.self.now.text.items c.push_refused_line.new.text.items c.args.number c.args.fault
+    c.args.self.now.any
     c.in_ok-push_refused_line.ensures

@@ -4,6 +4,6 @@ use Rattle.problem_import.proofs.printing.Printing.printed.Given as goal
 
 abbrev pub invariant-loop-finding : goal.invariant-loop-finding
 invariant-loop-finding l = record {
-  imported : AreImported (IsMade l.self.keep l.line) l.printed.text.items l.printed.any;
+  imported : AreImported (IsMade l.self.keep l.self.bound l.line) l.printed.text.items l.printed.any;
   filled : 0 < l.finding-index → 0 < length l.printed.text.items;
 }

@@ -1,24 +1,29 @@
 use Rattle.std.proofs.Common.{subst}
 use Rattle.problem_import.specs.Imports.{IsRecord}
+use Rattle.problem_import.specs.inside.Findings.{Asks}
 use Rattle.problem_import.proofs.ToldChanges.{made_plain, made_told, made_unchanged, made_untold}
 use Rattle.problem_import.proofs.printing.Printing.told.Goals as goal
 
-pub returns-then-not-self-clause-none : goal.returns-then-not-self-clause-none
-returns-then-not-self-clause-none c = made_plain c.args.self.now.keep c.args.line.now c.args.text.now c.args.changes.now c.if-not-self.true c.requires.own
+pub returns-then-not-self : goal.returns-then-not-self
+returns-then-not-self c =
+    made_plain c.args.self.now.keep c.args.self.now.bound c.args.line.now c.args.text.now c.args.moves c.args.changes.now c.if-not-self.true
+    c.requires.own c.requires.number c.requires.asks
 
-pub returns-then-is_line-clause-none : goal.returns-then-is_line-clause-none
-returns-then-is_line-clause-none c = made_unchanged c.args.self.now.keep c.args.line.now c.args.text.now (c.is_line.ensures.line c.if-is_line.true)
+pub returns-then-is_line : goal.returns-then-is_line
+returns-then-is_line c =
+    made_unchanged c.args.self.now.keep c.args.self.now.bound c.args.line.now c.args.text.now (c.is_line.ensures.line c.if-is_line.true)
 
-pub returns-in_default-clause-none : goal.returns-in_default-clause-none
-returns-in_default-clause-none c =
-    made_untold c.args.self.now.keep c.args.line.now c.args.text.now c.in_ok-told.told.items c.args.changes.now c.if-not-self.false c.requires.own
-    (c.is_line.ensures.changed c.if-is_line.false) c.in_ok-told.ensures
-    (λ is_record. absurd (c.in_default.not-None (c.in_ok-record_fault.ensures.none (rw c.as_slice.ensures.value is_record))))
+pub returns-in-Right : goal.returns-in-Right
+returns-in-Right c = (
+  subst IsRecord c.as_slice.ensures.value (c.in_ok-asking.ensures.record c.in-Right.is),
+  made_told c.args.self.now.keep c.args.self.now.bound c.args.line.now c.args.text.now c.in_ok-told.told.items c.args.moves c.args.changes.now
+      c.if-not-self.false c.requires.record c.requires.own c.requires.number
+      (subst (λ t. Asks c.args.moves t) c.as_slice.ensures.value (c.in_ok-asking.ensures.asks c.in-Right.is))
+      (c.is_line.ensures.changed c.if-is_line.false) c.in_ok-told.ensures,
+)
 
-pub returns-clause-record : goal.returns-clause-record
-returns-clause-record c = subst IsRecord c.as_slice.ensures.value (c.in_ok-record_fault.ensures.record c.in-None.is)
-
-pub returns-clause-told : goal.returns-clause-told
-returns-clause-told c =
-    made_told c.args.self.now.keep c.args.line.now c.args.text.now c.in_ok-told.told.items c.args.changes.now c.if-not-self.false
-    c.requires.record c.requires.own (c.is_line.ensures.changed c.if-is_line.false) c.in_ok-told.ensures
+pub returns-in-Refused : goal.returns-in-Refused
+returns-in-Refused c =
+    made_untold c.args.self.now.keep c.args.self.now.bound c.args.line.now c.args.text.now c.in_ok-told.told.items c.args.moves
+    c.args.changes.now c.if-not-self.false c.requires.own c.requires.number c.requires.asks (c.is_line.ensures.changed c.if-is_line.false)
+    c.in_ok-told.ensures (λ one. c.in_ok-asking.ensures.none _ c.in-Refused.is (rw c.as_slice.ensures.value one))

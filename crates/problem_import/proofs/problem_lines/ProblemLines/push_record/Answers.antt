@@ -4,7 +4,8 @@ use Rattle.problem_import.proofs.problem_lines.ProblemLines.push_record.Goals as
 
 pub returns-clause-answered : goal.returns-clause-answered
 returns-clause-answered g c = λ line lines.
-    record_answered (g.H.ProblemHandler.records c.args.self.now.handler.now) (g.H.ProblemHandler.rows c.args.self.now.handler.now) line lines
+    record_answered c.args.self.now.bound (g.H.ProblemHandler.records c.args.self.now.handler.now)
+    (g.H.ProblemHandler.rows c.args.self.now.handler.now) line lines
     c.args.made.now c.in_ok-output.output.text.items c.args.answers.now.text.items c.push.new.self.text.items c.args.number
     c.in_ok-output.output.refused c.args.answers.now.any c.push.new.self.any c.requires c.in_ok-output.ensures
     (c.in_ok-push.ensures.text ∙ ap (λ t. c.args.answers.now.text.items ++ t) c.as_slice.ensures.value) c.in_ok-push.ensures.any

@@ -1,0 +1,25 @@
+use Rattle.std.proofs.Common.{refl, subst}
+use Rattle.problem_import.specs.inside.Findings.{IsAskedOf}
+use Rattle.problem_import.proofs.Findings.{own_moved}
+use Rattle.problem_import.proofs.KnownNumbers.{asked_moved}
+use Rattle.problem_import.proofs.printing.Printing.push_found.Goals as goal
+
+pub push_text-requires-clause-own : goal.push_text-requires-clause-own
+push_text-requires-clause-own c =
+    own_moved c.args.changes.form c.with_moves.new.changes.form c.args.line.now c.args.text.now c.args.text.now c.in_ok-text.text.items
+    c.as_slice-text.result.now c.in_ok-text.ensures.form refl c.in_ok-text.ensures.fields c.as_slice-text.ensures.value c.requires.own
+
+pub push_text-requires-clause-number : goal.push_text-requires-clause-number
+push_text-requires-clause-number c =
+    c.in-Some.ensures.known c.with_moves.new.changes.form c.args.self.now.bound c.args.line.now
+    (asked_moved c.args.changes.form c.with_moves.new.changes.form c.args.line.now c.args.moves c.in_ok-text.ensures.form c.requires.number)
+
+pub push_unbound-requires-clause-own : goal.push_unbound-requires-clause-own
+push_unbound-requires-clause-own c =
+    own_moved c.args.changes.form c.with_moves.new.changes.form c.args.line.now c.args.text.now c.args.text.now c.in_ok-text.text.items
+    c.as_slice-text.result.now c.in_ok-text.ensures.form refl c.in_ok-text.ensures.fields c.as_slice-text.ensures.value c.requires.own
+
+pub push_unbound-requires-clause-number : goal.push_unbound-requires-clause-number
+push_unbound-requires-clause-number c =
+    subst (λ n. IsAskedOf c.with_moves.new.changes.form c.args.line.now n) c.in-None.ensures.unsaid
+    (asked_moved c.args.changes.form c.with_moves.new.changes.form c.args.line.now c.args.moves c.in_ok-text.ensures.form c.requires.number)

@@ -1,0 +1,11 @@
+use Rattle.problem_import.proofs.KnownNumbers.{number_any, number_own, number_said}
+use Rattle.problem_import.proofs.printing.moves_of.Goals as goal
+
+pub returns-in-Said-clause-known : goal.returns-in-Said-clause-known
+returns-in-Said-clause-known c = λ form given line asks. number_said form given line c.in-Said.moves (rw c.in-Said.is at asks)
+
+pub returns-in-Own-clause-known : goal.returns-in-Own-clause-known
+returns-in-Own-clause-known c = λ form given line asks. number_own form given line (rw c.in-Own.is at asks)
+
+pub returns-in-Any-clause-known : goal.returns-in-Any-clause-known
+returns-in-Any-clause-known c = λ form given line asks. number_any form given line (rw c.in-Any.is at asks)
