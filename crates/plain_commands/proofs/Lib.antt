@@ -1,3 +1,4 @@
 mod Shown
 mod Unopened
+mod Uncounted
 mod Endings

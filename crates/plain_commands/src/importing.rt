@@ -8,9 +8,9 @@ use byte_streams::{Input, Stop};
 use chess_moves::Rays;
 use chess_problems::Bound;
 use command_words::{Files, LineNumber};
-use file_answers::{FileAnswers, FileStart, Source, answer_files};
+use file_answers::{FileAnswers, FileStart, Source, answer_files, complain, holds_reads};
 use move_words::Letters;
-use problem_import::import_input_in;
+use problem_import::{ImportCounts, import_input_in};
 use std::alloc::Global;
 use std::io::Write;
 
@@ -30,7 +30,7 @@ impl<'a> FileAnswers for Imports<'a> {
     ghost use Rattle.file_answers.specs.FileAnswers.{unmarked};
     ghost use Rattle.plain_commands.specs.Imported.{import_replies, first_import_replies};
 
-    type Memory = ();
+    type Memory = ImportCounts;
 
     ghost replies = { λ imports. import_replies imports.letters imports.keep imports.bound };
 
@@ -45,7 +45,7 @@ impl<'a> FileAnswers for Imports<'a> {
         alloc: Global,
         _start: &FileStart<S>,
         input: I,
-        _memory: &mut (),
+        counts: &mut ImportCounts,
         out: &mut O,
     ) -> Result<usize, Stop> {
         import_input_in(
@@ -54,6 +54,7 @@ impl<'a> FileAnswers for Imports<'a> {
             &self.letters,
             self.keep,
             self.bound,
+            counts,
             input,
             out,
         )
@@ -63,7 +64,8 @@ impl<'a> FileAnswers for Imports<'a> {
 }
 
 /// Makes records of the problems of each file in order, those that say no number of moves with such a bound, if one is given, and opens a
-/// file only after those before were written; gives whether a problem was refused. A file that can't be read is named on `err`.
+/// file only after those before were written; gives whether a problem was refused. At the end `err` is told how many were, and how many
+/// records were printed; a file that can't be read is named there.
 fn import<S: Source, O: Write, E: Write>(
     alloc: Global,
     keep: bool,
@@ -79,6 +81,8 @@ fn import<S: Source, O: Write, E: Write>(
     ensures err { IfErr result (λ stop. StopsImporting (S.holds source.now) (S.refuses source.now) letters keep bound
         (map (λ s. s.now) names.now) stop (O.contents out.old) (O.contents out.new)) }
 {
+    // How many inputs there are of so many names.
+    holds_reads();
     let rays = Rays::new();
     let imports = Imports {
         rays: &rays,
@@ -90,7 +94,15 @@ fn import<S: Source, O: Write, E: Write>(
         names,
         from: LineNumber::first(),
     };
-    answer_files(alloc, &imports, &files, source, &mut (), out, err)
+    let mut counts = ImportCounts::new();
+    match answer_files(alloc, &imports, &files, source, &mut counts, out, err) {
+        Ok(refused) => {
+            let counts = counts.text(alloc)?;
+            complain(err, counts.as_str());
+            Ok(refused)
+        }
+        Err(stop) => Err(stop),
+    }
 }
 
 /// The letters of men that a word gives.

@@ -5,7 +5,9 @@ pub mod AnsweredProblems
 pub mod Imports
 pub mod LetteredImports
 pub mod Positions
+pub mod SaidBounds
 pub mod LinesTaken
+pub mod LinesCounted
 pub mod ToldChanges
 mod ClearClaims
 pub mod CappedValues

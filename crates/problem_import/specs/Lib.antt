@@ -1,4 +1,5 @@
 pub mod Changes
+pub mod ImportCounts
 pub mod Imports
 pub mod LetteredImports
 pub mod Letters

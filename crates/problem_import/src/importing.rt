@@ -11,6 +11,7 @@ ghost use Rattle.problem_import.specs.inside.OpenProblems.{due, has_tags};
 ghost use Rattle.problem_import.specs.inside.TagPairs.{is_tag_line};
 
 use crate::changes::{Changes, Form};
+use crate::import_counts::ImportCounts;
 use crate::import_faults::ImportFault;
 use crate::line_kinds::{LineKind, kind_of};
 use crate::printing::{Printed, Printing};
@@ -34,6 +35,8 @@ pub(crate) struct Imports<'a> {
     passes: Cell<bool>,
     /// The number of the last long line that was passed over, or 0.
     last_long: Cell<usize>,
+    /// How much is printed. It stands here since a long line that is refused counts.
+    pub(crate) counts: Cell<ImportCounts>,
 }
 
 pub(crate) fn one_if(any: bool) -> usize
@@ -104,6 +107,7 @@ impl<'a> Imports<'a> {
             },
             passes: Cell::new(false),
             last_long: Cell::new(0),
+            counts: Cell::new(ImportCounts::new()),
         }
     }
 }
@@ -122,6 +126,15 @@ impl Imports<'_> {
             self.last_long.set(number);
         }
         passes
+    }
+
+    /// Counts what is printed.
+    pub(crate) fn count(&self, alloc: Global, printed: &Printed) -> Result<(), NoMemory> {
+        let counts = self.counts.get();
+        let text = printed.text.as_slice();
+        self.counts
+            .set(counts.with_text(alloc, self.printing.rays, text)?);
+        Ok(())
     }
 
     /// What was found once a line is taken.
@@ -178,7 +191,9 @@ impl Imports<'_> {
     {
         let mut findings = Vec::new(alloc);
         reading.finish(alloc, Open::Nothing, &mut findings)?;
-        self.printing.printed(alloc, b"", findings.as_slice())
+        let printed = self.printing.printed(alloc, b"", findings.as_slice())?;
+        self.count(alloc, &printed)?;
+        Ok(printed)
     }
 }
 
@@ -212,6 +227,7 @@ impl LineHandler for Imports<'_> {
         reading: &mut Reading,
     ) -> Result<Output, NoMemory> {
         let printed = self.reply(alloc, number, line, reading)?;
+        self.count(alloc, &printed)?;
         Ok(output_of(printed))
     }
 
@@ -221,6 +237,7 @@ impl LineHandler for Imports<'_> {
             return Ok(output_of(printed));
         }
         printed.push_refusal(alloc, number, ImportFault::Record(EpdFault::TooLong))?;
+        self.count(alloc, &printed)?;
         Ok(output_of(printed))
     }
 
@@ -279,6 +296,30 @@ fn import_lines<I: Input + Drop, O: Write>(
     }
 }
 
+/// Imports an input as `import_input` does, and adds to counts what is printed.
+pub(crate) fn import_counted<I: Input + Drop, O: Write>(
+    alloc: Global,
+    rays: &Rays,
+    keep: bool,
+    bound: Option<Bound>,
+    counts: &mut ImportCounts,
+    input: I,
+    out: &mut O,
+) -> Result<usize, Stop>
+    ensures ok { IfOk result (λ count. (bytes : List ℕ) × (text : List ℕ) × MayBe (I.left input) bytes × IsImport keep bound bytes text count
+        × Appends (O.contents out.old) (O.contents out.new) text) }
+    ensures err { IfErr result (λ stop. (bytes : List ℕ) × (text : List ℕ) × MayBe (I.left input) bytes × IsImportOfFirst keep bound bytes text
+        × AppendsBy stop (O.contents out.old) (O.contents out.new) text) }
+    ensures unreadable { IfErr result (λ stop. stop ≡ Stop.Unreadable → I.breaks input) }
+{
+    let imports = Imports::new(rays, keep, bound);
+    imports.counts.set(*counts);
+    let mut reading = Reading::new();
+    let end = import_lines(alloc, &imports, input, &mut reading, out);
+    *counts = imports.counts.get();
+    end
+}
+
 /// Imports an input: what each line ends is printed before the next is waited for. With `keep` it is told in `c9` of each record what was
 /// changed to make it. A problem that says no number of moves, and is no record as it stands, is made one of such a bound, if one is given,
 /// and else refused. Gives at how many lines, the end of the input for one, a problem is refused.
@@ -298,9 +339,15 @@ pub fn import_input<I: Input + Drop, O: Write>(
         × AppendsBy stop (O.contents out.old) (O.contents out.new) text) }
     ensures unreadable { IfErr result (λ stop. stop ≡ Stop.Unreadable → I.breaks input) }
 {
-    let imports = Imports::new(rays, keep, bound);
-    let mut reading = Reading::new();
-    import_lines(alloc, &imports, input, &mut reading, out)
+    import_counted(
+        alloc,
+        rays,
+        keep,
+        bound,
+        &mut ImportCounts::new(),
+        input,
+        out,
+    )
 }
 
 /// A law: whatever was read, records and refusals are printed.
@@ -308,7 +355,7 @@ pub fn imports_are_records()
     ensures { ImportsAreRecords }
 {}
 
-/// A law: with `keep` each record that is printed has the position of a line, or is told to be of a game or for Popeye.
+/// A law: with `keep` each record that is printed has a line's position and number of moves, or is told to be of a game or for Popeye.
 pub fn imports_keep_positions()
     ensures { ImportsKeepPositions }
 {}

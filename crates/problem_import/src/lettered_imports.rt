@@ -8,8 +8,9 @@ ghost use Rattle.problem_import.specs.Imports.{AreImported, IsMade, IsRecord};
 ghost use Rattle.problem_import.specs.LetteredImports.{IsImportIn, IsImportOfFirstIn, IsLettered, IsLetteredOfFirst, LetteredAreRecords};
 ghost use Rattle.problem_import.specs.inside.OpenProblems.{due};
 
+use crate::import_counts::ImportCounts;
 use crate::import_faults::ImportFault;
-use crate::importing::{Imports, import_input, output_of, put_last};
+use crate::importing::{Imports, import_counted, output_of, put_last};
 use crate::line_kinds::{LineKind, kind_of};
 use crate::printing::Printed;
 use crate::reading::Reading;
@@ -75,6 +76,7 @@ impl LetteredImports<'_> {
             return Ok(printed);
         }
         printed.push_refusal(alloc, number, ImportFault::Record(EpdFault::TooLong))?;
+        self.imports.count(alloc, &printed)?;
         Ok(printed)
     }
 }
@@ -97,6 +99,7 @@ impl LineHandler for LetteredImports<'_> {
     ) -> Result<Output, NoMemory> {
         let read = line_read(alloc, &self.letters, line)?;
         let printed = self.reply(alloc, number, read.as_slice(), reading)?;
+        self.imports.count(alloc, &printed)?;
         Ok(output_of(printed))
     }
 
@@ -133,7 +136,8 @@ fn import_lettered<I: Input + Drop, O: Write>(
 }
 
 /// Imports an input as `import_input` does, of which men have such letters: in placements, in the moves that records claim and avoid, and in a
-/// game's first. Figurines mean the same in each language, and problems for Popeye have letters of their own.
+/// game's first. Figurines mean the same in each language, and problems for Popeye have letters of their own. What is printed is added to the
+/// counts; where it stops, they are of no use.
 ///
 /// Where the letters aren't English, every line is made anew: a placement's letter that is no man's is `?`, and a move that is one in English
 /// alone stands behind `?`.
@@ -143,6 +147,7 @@ pub fn import_input_in<I: Input + Drop, O: Write>(
     letters: &Letters,
     keep: bool,
     bound: Option<Bound>,
+    counts: &mut ImportCounts,
     input: I,
     out: &mut O,
 ) -> Result<usize, Stop>
@@ -153,14 +158,17 @@ pub fn import_input_in<I: Input + Drop, O: Write>(
     ensures unreadable { IfErr result (λ stop. stop ≡ Stop.Unreadable → I.breaks input) }
 {
     if letters.is_english() {
-        return import_input(alloc, rays, keep, bound, input, out);
+        return import_counted(alloc, rays, keep, bound, counts, input, out);
     }
     let imports = LetteredImports {
         imports: Imports::lettered(rays, *letters, keep, bound),
         letters: *letters,
     };
+    imports.imports.counts.set(*counts);
     let mut reading = Reading::lettered(*letters);
-    import_lettered(alloc, &imports, input, &mut reading, out)
+    let end = import_lettered(alloc, &imports, input, &mut reading, out);
+    *counts = imports.imports.counts.get();
+    end
 }
 
 /// A law: whatever was read by letters, records and refusals are printed.

@@ -2,8 +2,8 @@
 //! of Olive's; men may have the letters of another language.
 //!
 //! What a record is, is `chess_notation`'s business, and lines are `text_lines`'s. To read: `specs/Imports.antt` and `importing`, where
-//! the law of what is printed stands, over `printing` and `import_faults`; `lettered_imports`, the same by another language's letters;
-//! `reading`, which tells the forms apart; then each form: `mending` (over `fields`, `tokens`, `lengths`, `letters`, `alphabets`,
+//! the law of what is printed stands, over `printing`, `import_faults` and `import_counts`; `lettered_imports`, the same by another language's
+//! letters; `reading`, which tells the forms apart; then each form: `mending` (over `fields`, `tokens`, `lengths`, `letters`, `alphabets`,
 //! `figurines` and `changes`) and `moves`, `games` (and `tag_pairs`), `popeye` (over `popeye_words` and `diagrams`), and `olive`.
 #![tactic(auto)]
 
@@ -13,6 +13,7 @@ mod diagrams;
 mod fields;
 mod figurines;
 mod games;
+mod import_counts;
 mod import_faults;
 mod importing;
 mod lengths;
@@ -33,6 +34,7 @@ mod tag_pairs;
 mod texts;
 mod tokens;
 
+pub use import_counts::ImportCounts;
 pub use import_faults::ImportFault;
 pub use importing::{import_input, imports_are_records, imports_keep_positions};
 pub use lettered_imports::{import_input_in, lettered_are_records};
