@@ -140,7 +140,7 @@ fn run<S: Source, O: Write, E: Write>(
     let Some(request) = request else {
         complain(
             err,
-            "--flip goes with --board or --svg, and these not with each other; --json goes alone, but for files, numbers and --progress, and --import without --limit",
+            "--flip goes with --board or --svg, and these not with each other; --json goes alone, but for files, numbers and --progress, and verify --json and verify --import without --limit",
         );
         return Some(MISUSED);
     };
