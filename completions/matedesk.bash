@@ -17,7 +17,7 @@ _matedesk() {
     case $command in
     solve) options='--bound --memo --limit --workers --json --from --progress --record --fen -h --help' ;;
     verify) options='--bound --memo --limit --import --header --json --from --progress --record --fen -h --help' ;;
-    tree) options='--bound --moves --defences --set-play --tries --column --figurines --lines --from --progress --record --fen -h --help' ;;
+    tree) options='--bound --moves --defences --set-play --tries --column --figurines --lines --json --from --progress --record --fen -h --help' ;;
     sheet) options='--solutions --figurines --title --bound --memo -h --help' ;;
     import) options='--keep --bound --letters -h --help' ;;
     serve) options='--workers --bound --memo --progress -h --help' ;;

@@ -28,7 +28,7 @@ complete -c matedesk -n '__fish_seen_subcommand_from solve verify tree' -l from 
 complete -c matedesk -n '__fish_seen_subcommand_from solve verify tree serve' -l progress -d 'Tell how far it is'
 complete -c matedesk -n '__fish_seen_subcommand_from solve verify tree' -l record -d 'Records themselves in place of files'
 complete -c matedesk -n '__fish_seen_subcommand_from solve verify tree' -l fen -d 'FENs in place of files'
-complete -c matedesk -n '__fish_seen_subcommand_from solve verify moves' -l json -d 'Print JSON'
+complete -c matedesk -n '__fish_seen_subcommand_from solve verify tree moves' -l json -d 'Print JSON'
 complete -c matedesk -n '__fish_seen_subcommand_from verify' -l import -d 'Take problems as import does'
 complete -c matedesk -n '__fish_seen_subcommand_from verify' -l header -d 'Print a first row of names'
 complete -c matedesk -n '__fish_seen_subcommand_from tree' -l moves -x -a '(seq 1 15)' -d 'Moves of the attacker that are shown'

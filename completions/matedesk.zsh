@@ -64,6 +64,7 @@ _matedesk() {
                 '--column[print each tree on one line]' \
                 '--figurines[show pieces as figurines]' \
                 '--lines=[lines that a tree has at most]:lines: ' \
+                '--json[print JSON]' \
                 '--from=[line of the first file to begin with]:line: ' \
                 '--progress[tell how far it is]' \
                 '--record[records themselves in place of files]' \

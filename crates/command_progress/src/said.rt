@@ -130,7 +130,7 @@ fn said_by_object(line: &[u8]) -> Said {
     if behind(line, b",\"error\":\"").is_some() {
         return Said::Refused;
     }
-    if behind(line, b",\"verdict\":\"").is_some() {
+    if behind(line, b",\"verdict\":\"").is_some() || behind(line, b"},\"tree\":[").is_some() {
         return Said::Row;
     }
     match behind(line, b",\"dm\":") {

@@ -137,7 +137,7 @@ with_tree_options a =
     (flag_rule (codes "figurines"))) most_lines_rule
 
 unfoldable pub tree_app : App
-tree_app = with_lines_of_files (with_tree_options (new_app (codes "tree")))
+tree_app = with_lines_of_files (with_rule (with_tree_options (new_app (codes "tree"))) (flag_rule (codes "json")))
 
 -- with what a page may have beside its diagrams
 unfoldable pub with_sheet_flags : App → App

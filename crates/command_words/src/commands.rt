@@ -113,6 +113,7 @@ static TREE: Subcommand = Subcommand {
         Argument::Column,
         Argument::TreeFigurines,
         Argument::MostLines,
+        Argument::Json,
         Argument::From,
         Argument::Progress,
         Argument::Record,

@@ -186,9 +186,10 @@ as magazines print it. A reply is left out where a threat still mates in time af
 mates stand behind the replies that they answer, and threats behind moves that don't mate:
   1...d5, d6 2.Ng2#
 With --column as well the tree stands on one line, as in a solution column; with --figurines
-its pieces are figurines. With --set-play `set play` has before the keys what the attacker would answer were the
-defender to move first. With --tries `tries` has behind them each first move that exactly
-one reply refutes: 1.Qh3? Kd5!
+its pieces are figurines. With --set-play `set play` has before the keys what the attacker
+would answer were the defender to move first. With --tries `tries` has behind them each
+first move that exactly one reply refutes: 1.Qh3? Kd5! With --json there is one object for
+each line, as `solve --json` has it, with the lines of the tree as strings in `tree`.
 
 Example:
   $ cat problems.epd
@@ -254,7 +255,7 @@ pub const ABOUT_VERIFY_BOUND: &str =
 pub const ABOUT_IMPORTED: &str =
     "Takes problems in any form that `import` takes; without --bound one that says no number is refused";
 
-/// The option `--json` of `solve` and `verify` in one line.
+/// The option `--json` of `solve`, `verify` and `tree` in one line.
 pub const ABOUT_JSON: &str = "Prints an object in JSON for each line, in place of its text";
 
 /// The option `--json` of `moves` in one line.

@@ -151,6 +151,8 @@ pub enum Request<'m, 'a> {
     VerifyLimited(LimitedVerify<'m, 'a>),
     /// Tell the trees of the records of files, in order, in such a form; the bound is for records that say none.
     Tree(Bound, TreeForm, Files<'m, 'a>),
+    /// The same in JSON.
+    TreeJson(Bound, TreeForm, Files<'m, 'a>),
     /// Make a page of the records of files, in order, in such a form and with such a title. Solutions are found over a memo of such a size;
     /// the bound is for records that say none.
     Sheet(Bound, MemoSize, SheetForm, &'a str, &'m [&'a str]),
@@ -595,7 +597,12 @@ fn tree_in<'m, 'a>(matches: &'m ArgMatches<'a>) -> Option<Request<'m, 'a>>
     let from = from_in(matches)?;
     let form = tree_form_in(matches);
     let names = names_in(matches, "FILE")?;
-    Some(Request::Tree(bound, form, Files { names, from }))
+    let files = Files { names, from };
+    Some(if is_given(matches, "json") {
+        Request::TreeJson(bound, form, files)
+    } else {
+        Request::Tree(bound, form, files)
+    })
 }
 
 /// What a page has beside its diagrams.

@@ -1,3 +1,4 @@
 pub mod JsonFiles
 pub mod Solved
+pub mod Told
 pub mod Verified

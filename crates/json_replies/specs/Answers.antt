@@ -65,10 +65,13 @@ members_by keys operations =
 abbrev pub members : List (List ℕ) → List ℕ
 members operations = members_by (list_any are_keys operations) operations
 
--- the object of an answer: its fields are what stands before the fourth space
-unfoldable pub answer_object : List ℕ → ℕ → List ℕ → List ℕ
-answer_object front number answer =
-    opening front number ++ (codes ",\"fen\":" ++ string (before (char " ") 3 answer)) ++ members (operations_in answer) ++ codes "}}\n"
+-- the object of an answer up to its last operation: its fields are what stands before the fourth space
+unfoldable pub open_answer : List ℕ → ℕ → List ℕ → List ℕ
+open_answer front number answer =
+    opening front number ++ (codes ",\"fen\":" ++ string (before (char " ") 3 answer)) ++ members (operations_in answer)
+
+abbrev pub answer_object : List ℕ → ℕ → List ℕ → List ℕ
+answer_object front number answer = open_answer front number answer ++ codes "}}\n"
 
 -- the name of the fault for which a line is refused: what stands behind the colon
 abbrev pub error_in : List ℕ → List ℕ

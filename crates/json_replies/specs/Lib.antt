@@ -4,3 +4,4 @@ pub mod Moves
 pub mod Replies
 pub mod Rows
 pub mod Strings
+pub mod Trees

@@ -3,12 +3,14 @@ use Rattle.std.specs.Prelude.{◌≡◌, ℕ, List, [], ◌∷◌}
 use Rattle.text_lines.specs.Replies.{LineReplies}
 use Rattle.json_replies.specs.Answers.{answer_json}
 use Rattle.json_replies.specs.Rows.{row_json}
+use Rattle.json_replies.specs.Trees.{tree_json}
 use Rattle.json_replies.specs.declared.replies.Form.{Form}
-use Rattle.json_replies.specs.declared.replies.Form.TheVariants.{Answer, Row}
+use Rattle.json_replies.specs.declared.replies.Form.TheVariants.{Answer, Row, Tree}
 
 abbrev pub json_by : Form → List ℕ → ℕ → List ℕ → List ℕ
 json_by Answer front number reply = answer_json front number reply
 json_by Row front number reply = row_json front number reply
+json_by Tree front number reply = tree_json front number reply
 
 -- a reply that has such a form, in JSON, behind such a front; where nothing is replied, as to a blank line, that is nothing, too
 abbrev pub json_of : Form → List ℕ → ℕ → List ℕ → List ℕ

@@ -1,7 +1,7 @@
 //! Answers to records as objects of JSON.
 
 ghost use Rattle.std.specs.Prelude.{◌≡◌, ◌++◌, IfOk, OnOk, flat_map, map, true};
-ghost use Rattle.json_replies.specs.Answers.{answer_json as answer_json_of, answer_object as answer_object_of, error_in as error_said_in};
+ghost use Rattle.json_replies.specs.Answers.{answer_json as answer_json_of, answer_object as answer_object_of, error_in as error_said_in, open_answer as open_answer_of};
 ghost use Rattle.json_replies.specs.Answers.{front_of as front_of_file, mate_member, mate_value, members, members_by, named, opening as opening_of};
 ghost use Rattle.json_replies.specs.Answers.{is_refusal as is_refusal_text, other_member, refusal_object as refusal_object_of};
 
@@ -151,8 +151,26 @@ fn push_members(alloc: Global, out: &mut Vec<u8>, operations: &[&[u8]]) -> Resul
     push_members_by(alloc, out, have_keys(operations), operations)
 }
 
+/// The object of an answer, up to its last operation.
+#[tactic(auto, unfolding(crate::specs::Answers::open_answer))]
+pub(crate) fn open_answer(
+    alloc: Global,
+    front: &[u8],
+    number: usize,
+    answer: &[u8],
+) -> Result<Vec<u8>, AllocError>
+    ensures { IfOk result (λ text. text.items ≡ open_answer_of front.now number answer.now) }
+{
+    let (fen, rest) = cut(answer, b' ', 3);
+    let operations = operations_of(alloc, rest)?;
+    let mut out = opening(alloc, front, number)?;
+    out.extend_from_slice(b",\"fen\":")?;
+    push_string(&mut out, fen)?;
+    push_members(alloc, &mut out, operations.as_slice())?;
+    Ok(out)
+}
+
 /// The object of an answer.
-#[tactic(auto, unfolding(crate::specs::Answers::answer_object))]
 fn answer_object(
     alloc: Global,
     front: &[u8],
@@ -161,12 +179,7 @@ fn answer_object(
 ) -> Result<Vec<u8>, AllocError>
     ensures { IfOk result (λ text. text.items ≡ answer_object_of front.now number answer.now) }
 {
-    let (fen, rest) = cut(answer, b' ', 3);
-    let operations = operations_of(alloc, rest)?;
-    let mut out = opening(alloc, front, number)?;
-    out.extend_from_slice(b",\"fen\":")?;
-    push_string(&mut out, fen)?;
-    push_members(alloc, &mut out, operations.as_slice())?;
+    let mut out = open_answer(alloc, front, number, answer)?;
     out.extend_from_slice(b"}}\n")?;
     Ok(out)
 }
@@ -182,7 +195,7 @@ fn error_in(refusal: &[u8]) -> &[u8]
 
 /// The object of a refusal.
 #[tactic(auto, unfolding(crate::specs::Answers::refusal_object))]
-fn refusal_object(
+pub(crate) fn refusal_object(
     alloc: Global,
     front: &[u8],
     number: usize,
@@ -198,7 +211,7 @@ fn refusal_object(
 }
 
 /// Whether a reply begins with a number sign.
-fn is_refusal(reply: &[u8]) -> bool
+pub(crate) fn is_refusal(reply: &[u8]) -> bool
     ensures { result ≡ is_refusal_text reply.now }
 {
     matches!(reply, [b'#', ..])

@@ -5,6 +5,7 @@ ghost use Rattle.json_replies.specs.Replies.{json_of};
 
 use crate::answers::answer_json;
 use crate::rows::row_json;
+use crate::trees::tree_json;
 use byte_streams::NoMemory;
 use std::alloc::{AllocError, Global};
 use text_lines::{LineHandler, Output};
@@ -16,6 +17,8 @@ pub enum Form {
     Answer,
     /// A row of `verify`.
     Row,
+    /// An answer, its tree below it and an empty line, or a refusal, as `tree` writes them.
+    Tree,
 }
 
 /// A reply in JSON: nothing of nothing.
@@ -34,6 +37,7 @@ fn json_of(
     match form {
         Form::Answer => answer_json(alloc, front, number, reply),
         Form::Row => row_json(alloc, front, number, reply),
+        Form::Tree => tree_json(alloc, front, number, reply),
     }
 }
 

@@ -6,7 +6,7 @@ use Rattle.byte_streams.specs.declared.stops.Stop.{Stop}
 use Rattle.byte_streams.specs.declared.stops.Stop.TheVariants as stop
 use Rattle.clap.specs.Words.{Text}
 use Rattle.command_words.specs.Asked.{Asked, look, board, svg, play, moves, moves_json, perft, divide, lines, solve, solve_json, solve_on, solve_json_on}
-use Rattle.command_words.specs.Asked.{limited, limited_json, verify, verify_json, verify_imported, verify_limited, tree, sheet, imports, serve, replay}
+use Rattle.command_words.specs.Asked.{limited, limited_json, verify, verify_json, verify_imported, verify_limited, tree, tree_json, sheet, imports, serve, replay}
 use Rattle.command_words.specs.Asked.{explain, uci, asks_threads}
 use Rattle.plain_commands.specs.Command.{Ends, EndsByStatus, EndsInPart, Shown, ShownInPart, Stops}
 use Rattle.file_answers.specs.Sources.{held, held_back}
@@ -85,6 +85,7 @@ ends_unstarted holds refuses ends none unsolved (Some (verify bound memo header 
 ends_unstarted holds refuses ends none unsolved (Some (verify_json bound memo from names)) threads out = cc
 ends_unstarted holds refuses ends none unsolved (Some (verify_imported bound memo header from names)) threads out = cc
 ends_unstarted holds refuses ends none unsolved (Some (tree bound form from names)) threads out = cc
+ends_unstarted holds refuses ends none unsolved (Some (tree_json bound form from names)) threads out = cc
 ends_unstarted holds refuses ends none unsolved (Some (sheet bound memo form title names)) threads out = cc
 ends_unstarted holds refuses ends none unsolved (Some (imports keep bound letters names)) threads out = cc
 ends_unstarted holds refuses ends none unsolved (Some (replay name)) threads out = cc

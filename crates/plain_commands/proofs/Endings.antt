@@ -7,15 +7,16 @@ use Rattle.clap.specs.Words.{Text}
 use Rattle.byte_streams.specs.declared.stops.Stop.{Stop}
 use Rattle.byte_streams.specs.declared.stops.Stop.TheVariants as stop
 use Rattle.command_words.specs.Asked.{Asked, look, board, svg, play, moves, moves_json, perft, divide, lines, solve, solve_json, solve_on, solve_json_on}
-use Rattle.command_words.specs.Asked.{limited, limited_json, verify, verify_limited, verify_json, verify_imported, tree, sheet, imports, serve, replay}
+use Rattle.command_words.specs.Asked.{limited, limited_json, verify, verify_limited, verify_json, verify_imported, tree, tree_json, sheet, imports, serve, replay}
 use Rattle.command_words.specs.Asked.{explain, uci}
 use Rattle.file_answers.specs.Status.{status_of}
 use Rattle.file_solving.specs.Solved.{LimitedNone, SolvesNone}
-use Rattle.plain_commands.specs.Told.{TellsNone}
-use Rattle.json_replies.specs.declared.replies.Form.TheVariants.{Answer, Row}
+use Rattle.plain_commands.specs.Told.{TellsNone, tree_form_of}
+use Rattle.json_replies.specs.declared.replies.Form.TheVariants.{Answer, Row, Tree}
 use Rattle.mate_answers.specs.InputReplies.{IsLineReply}
 use Rattle.mate_answers.specs.LimitedReplies.{IsLimitedReply}
 use Rattle.mate_claims.specs.ClaimReplies.{IsClaimReply}
+use Rattle.mate_tree.specs.TreeReplies.{IsTreeReply}
 use Rattle.plain_commands.specs.Imported.{letters_in}
 use Rattle.plain_commands.specs.PositionLines.{command_of}
 use Rattle.plain_commands.proofs.Unopened.{imports_at_once, json_at_once, lines_at_once}
@@ -57,6 +58,8 @@ stops_unread none late untold holds refuses (Some (verify_limited seconds bound 
     record { gained = []; shows = inl refl; appends = Appends-kept old old new [] (Appends-nil old) kept }
 stops_unread none late untold holds refuses (Some (tree bound form from names)) old new kept =
     record { gained = []; shows = untold holds bound form from names; appends = Appends-kept old old new [] (Appends-nil old) kept }
+stops_unread none late untold holds refuses (Some (tree_json bound form from names)) old new kept =
+    json_at_once holds refuses Tree (IsTreeReply (tree_form_of form) bound) from names old new kept
 stops_unread none late untold holds refuses (Some (sheet bound memo form title names)) old new kept = kept
 stops_unread none late untold holds refuses (Some (imports keep bound letters names)) old new kept =
     imports_at_once holds refuses (letters_in letters) keep bound names old new kept
@@ -87,6 +90,7 @@ no_reader holds refuses (verify_json bound memo from names) old new stops = stop
 no_reader holds refuses (verify_imported bound memo header from names) old new stops = stops
 no_reader holds refuses (verify_limited seconds bound memo header from names) old new stops = stops
 no_reader holds refuses (tree bound form from names) old new stops = stops
+no_reader holds refuses (tree_json bound form from names) old new stops = stops
 no_reader holds refuses (sheet bound memo form title names) old new stops = stops
 no_reader holds refuses (imports keep bound letters names) old new stops = stops
 no_reader holds refuses (serve workers bound memo names) old new stops = stops

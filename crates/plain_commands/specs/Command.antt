@@ -11,12 +11,13 @@ use Rattle.chess_views.specs.Counts.{divided_text, perft_text}
 use Rattle.chess_views.specs.Listings.{moves_text}
 use Rattle.chess_views.specs.Looks.{look_board_text, look_text}
 use Rattle.command_words.specs.Asked.{Asked, asked, records_given, look, board, svg, play, moves, moves_json, perft, divide, lines, solve, solve_json}
-use Rattle.command_words.specs.Asked.{solve_on, solve_json_on, limited, limited_json, verify, verify_limited, verify_json, verify_imported, tree, sheet}
-use Rattle.command_words.specs.Asked.{imports, serve, replay, explain, uci}
+use Rattle.command_words.specs.Asked.{solve_on, solve_json_on, limited, limited_json, verify, verify_limited, verify_json, verify_imported, tree}
+use Rattle.command_words.specs.Asked.{tree_json, sheet, imports, serve, replay, explain, uci}
 use Rattle.move_words.specs.Languages.{letters_said}
 use Rattle.problem_sheets.specs.Diagrams.{svg_of}
 use Rattle.json_replies.specs.Moves.{moves_json as moves_object}
 use Rattle.json_commands.specs.Solved.{SolvesJson, SolvesLimitedJson, StopsLimitedJson, StopsSolvingJson}
+use Rattle.json_commands.specs.Told.{TellsJson, StopsTellingJson}
 use Rattle.json_commands.specs.Verified.{VerifiesJson, StopsVerifyingJson}
 use Rattle.import_claims.specs.VerifiedImports.{VerifiesImported, StopsVerifyingImported}
 use Rattle.plain_commands.specs.Explained.{ExplainsSome, ExplainsWords}
@@ -26,7 +27,7 @@ use Rattle.plain_commands.specs.PositionLines.{ShowsLines, StopsLines, command_o
 use Rattle.plain_commands.specs.Replayed.{ReplaysFile, StopsReplaying}
 use Rattle.file_solving.specs.Solved.{Solves, SolvesLimited, StopsLimited, StopsSolving}
 use Rattle.file_verifying.specs.Verified.{LimitedHeaded, StopsHeaded, StopsLimitedHeaded, VerifiesHeaded}
-use Rattle.plain_commands.specs.Told.{StopsTelling, Tells}
+use Rattle.plain_commands.specs.Told.{StopsTelling, Tells, tree_form_of}
 use Rattle.plain_commands.specs.Sheeted.{Sheets, StopsSheet}
 use Rattle.plain_commands.specs.Imported.{ImportsFiles, StopsImporting, letters_in}
 use Rattle.plain_commands.specs.Served.{HaveNoWindows, Serves}
@@ -54,6 +55,7 @@ Shows holds (verify_json bound memo from names) refused text = VerifiesJson hold
 Shows holds (verify_imported bound memo header from names) refused text = VerifiesImported holds bound header from names refused text
 Shows holds (verify_limited seconds bound memo header from names) refused text = LimitedHeaded holds bound header from names refused 0 text
 Shows holds (tree bound form from names) refused text = Tells holds bound form from names refused text
+Shows holds (tree_json bound form from names) refused text = TellsJson holds bound (tree_form_of form) from names refused text
 Shows holds (sheet bound memo form title names) refused text = Sheets holds bound form title names refused text
 Shows holds (imports keep bound letters names) refused text = ImportsFiles holds (letters_in letters) keep bound names refused text
 Shows holds (serve workers bound memo names) refused text = Serves holds bound names refused text
@@ -98,6 +100,7 @@ Stops holds refuses (verify_imported bound memo header from names) stop old new 
 Stops holds refuses (verify_limited seconds bound memo header from names) stop old new =
     StopsLimitedHeaded holds refuses bound header from names stop old new
 Stops holds refuses (tree bound form from names) stop old new = StopsTelling holds refuses bound form from names stop old new
+Stops holds refuses (tree_json bound form from names) stop old new = StopsTellingJson holds refuses bound (tree_form_of form) from names stop old new
 Stops holds refuses (sheet bound memo form title names) stop old new = StopsSheet holds refuses bound form title names stop old new
 Stops holds refuses (imports keep bound letters names) stop old new = StopsImporting holds refuses (letters_in letters) keep bound names
     stop old new

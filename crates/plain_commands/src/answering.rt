@@ -14,7 +14,7 @@ use crate::playing::play_given;
 use crate::position_answers::show_lines;
 use crate::replaying::replay;
 use crate::sheeting::{SheetAsked, sheet};
-use crate::telling::{tells_none, tree};
+use crate::telling::{tells_none, tree, tree_json};
 use byte_streams::{Stop, stop_of_output};
 use clap::Error;
 use clap::error::ErrorKind;
@@ -97,6 +97,9 @@ fn answer<S: Source, O: Write, E: Write>(
             verify_imported(alloc, *bound, *memo, *header, files, source, out, err)
         }
         Request::Tree(bound, form, files) => tree(alloc, *bound, *form, files, source, out, err),
+        Request::TreeJson(bound, form, files) => {
+            tree_json(alloc, *bound, *form, files, source, out, err)
+        }
         Request::Sheet(bound, size, form, title, names) => {
             let asked = SheetAsked {
                 bound: *bound,

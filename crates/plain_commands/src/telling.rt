@@ -1,7 +1,8 @@
-//! The command `tree`.
+//! The command `tree`, and the same with `--json`.
 
 ghost use Rattle.std.specs.Prelude.{◌≡◌, IfErr, IfOk, map};
 ghost use Rattle.file_answers.specs.Writing.{Gains};
+ghost use Rattle.json_commands.specs.Told.{StopsTellingJson, TellsJson};
 ghost use Rattle.plain_commands.specs.Told.{StopsTelling, Tells, TellsNone, tree_form_of};
 
 use byte_streams::{Input, Stop};
@@ -10,6 +11,7 @@ use chess_problems::Bound;
 use command_words::{Files, TreeForm};
 use file_answers::{FileAnswers, FileStart, Source, answer_files, write_lines_from};
 use file_solving::new_memo;
+use json_commands::tell_json;
 use mate_search::Memo;
 use mate_tree::{Form, TreeReplies};
 use std::alloc::Global;
@@ -99,6 +101,31 @@ pub fn tree<S: Source, O: Write, E: Write>(
         form,
     };
     answer_files(alloc, &answers, files, source, &mut memo, out, err)
+}
+
+/// The same in JSON.
+pub fn tree_json<S: Source, O: Write, E: Write>(
+    alloc: Global,
+    bound: Bound,
+    form: TreeForm,
+    files: &Files,
+    source: &S,
+    out: &mut O,
+    err: &mut E,
+) -> Result<bool, Stop>
+    ensures ok { IfOk result (λ refused. Gains (TellsJson (S.holds source.now) bound (tree_form_of form) files.now.from
+        (map (λ s. s.now) files.now.names.now) refused) (O.contents out.old) (O.contents out.new)) }
+    ensures err { IfErr result (λ stop. StopsTellingJson (S.holds source.now) (S.refuses source.now) bound (tree_form_of form) files.now.from
+        (map (λ s. s.now) files.now.names.now) stop (O.contents out.old) (O.contents out.new)) }
+{
+    let rays = Rays::new();
+    let mut memo = new_memo(alloc, ENTRIES)?;
+    let trees = TreeReplies {
+        rays: &rays,
+        default: bound,
+        form: form_of(&form),
+    };
+    tell_json(alloc, &trees, files, source, &mut memo, out, err)
 }
 
 /// What a `tree` that ends before it has opened a file has written. It does nothing: its contract is the law.

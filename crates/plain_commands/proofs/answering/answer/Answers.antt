@@ -90,6 +90,12 @@ returns-in-Tree-clause-ok g c = rw (c.in-Tree.is) c.tree.ensures.ok
 pub returns-in-Tree-clause-err : goal.returns-in-Tree-clause-err
 returns-in-Tree-clause-err g c = rw (c.in-Tree.is) c.tree.ensures.err
 
+pub returns-in-TreeJson-clause-ok : goal.returns-in-TreeJson-clause-ok
+returns-in-TreeJson-clause-ok g c = rw (c.in-TreeJson.is) c.tree_json.ensures.ok
+
+pub returns-in-TreeJson-clause-err : goal.returns-in-TreeJson-clause-err
+returns-in-TreeJson-clause-err g c = rw (c.in-TreeJson.is) c.tree_json.ensures.err
+
 pub returns-in-Sheet-clause-ok : goal.returns-in-Sheet-clause-ok
 returns-in-Sheet-clause-ok g c = rw (c.in-Sheet.is) c.sheet.ensures.ok
 
