@@ -1,6 +1,6 @@
 -- What the words of a command line ask for.
 use Rattle.std.specs.Prelude.{ℕ, ◌^◌, ◌==◌, ◌&&◌, ◌||◌, Bool, List, [], ◌∷◌, Option, None, Some, true, false, codes}
-use Rattle.std.specs.Prelude.{is_some, length, nat_lt, not, option_map, option_and_then, unwrap_or, if◌then◌else◌}
+use Rattle.std.specs.Prelude.{length, nat_lt, not, option_map, option_and_then, unwrap_or, if◌then◌else◌}
 use Rattle.std.specs.List.{list_all, list_any}
 use Rattle.std.specs.Option.{option_map_or}
 use Rattle.std.specs.Char.{digit_value}
@@ -46,6 +46,7 @@ pub data Asked : Type 0 where
   verify_json : ℕ → ℕ → ℕ → List Text → Asked
   verify_imported : Option ℕ → ℕ → Bool → ℕ → List Text → Asked
   verify_limited : ℕ → ℕ → ℕ → Bool → ℕ → List Text → Asked
+  verify_limited_json : ℕ → ℕ → ℕ → ℕ → List Text → Asked
   tree : ℕ → TreeForm → ℕ → List Text → Asked
   tree_json : ℕ → TreeForm → ℕ → List Text → Asked
   sheet : ℕ → ℕ → SheetForm → Text → List Text → Asked
@@ -188,6 +189,11 @@ abbrev pub verify_rows_at : Option ℕ → ℕ → ℕ → Bool → ℕ → List
 verify_rows_at None bound memo header from names = verify bound memo header from names
 verify_rows_at (Some seconds) bound memo header from names = verify_limited seconds bound memo header from names
 
+-- the same in JSON
+abbrev pub verify_json_at : Option ℕ → ℕ → ℕ → ℕ → List Text → Asked
+verify_json_at None bound memo from names = verify_json bound memo from names
+verify_json_at (Some seconds) bound memo from names = verify_limited_json seconds bound memo from names
+
 -- of problems that are imported, which have no limit
 abbrev pub verify_imported_at : Option ℕ → Option ℕ → ℕ → Bool → ℕ → List Text → Option Asked
 verify_imported_at None bound memo header from names = Some (verify_imported bound memo header from names)
@@ -201,8 +207,8 @@ verify_at rows memo from names =
     if not (is_given (codes "json") rows) then
     (if imported then verify_imported_at (limit_in rows) (bound_in rows) memo header from names
     else Some (verify_rows_at (limit_in rows) (unwrap_or (bound_in rows) default_bound) memo header from names))
-    else if header || (imported || is_some (limit_in rows)) then None
-    else Some (verify_json (unwrap_or (bound_in rows) default_bound) memo from names)
+    else if header || imported then None
+    else Some (verify_json_at (limit_in rows) (unwrap_or (bound_in rows) default_bound) memo from names)
 
 -- what the arguments of `verify` ask for
 unfoldable pub verify_in : List Row → Option Asked
@@ -303,6 +309,7 @@ is_threaded (solve_json_on workers bound memo from names) = true
 is_threaded (limited seconds bound memo from names) = true
 is_threaded (limited_json seconds bound memo from names) = true
 is_threaded (verify_limited seconds bound memo header from names) = true
+is_threaded (verify_limited_json seconds bound memo from names) = true
 is_threaded uci = true
 is_threaded _ = false
 

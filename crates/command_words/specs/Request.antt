@@ -1,12 +1,13 @@
 -- What a request asks for.
 use Rattle.std.specs.Prelude.{[], map, option_map, unwrap_or}
 use Rattle.command_words.specs.Asked.{Asked, look, board, svg, play, moves, moves_json, perft, divide, lines, solve, solve_json, solve_on, solve_json_on}
-use Rattle.command_words.specs.Asked.{limited, limited_json, verify, verify_limited, verify_json, verify_imported, tree, tree_json, sheet, imports, serve, replay}
-use Rattle.command_words.specs.Asked.{explain, uci}
+use Rattle.command_words.specs.Asked.{limited, limited_json, verify, verify_limited, verify_limited_json, verify_json, verify_imported, tree, tree_json, sheet, imports}
+use Rattle.command_words.specs.Asked.{serve, replay, explain, uci}
 use Rattle.command_words.specs.declared.request.Request.{Request}
 use Rattle.command_words.specs.declared.request.Request.TheVariants.{Look, Board, Svg, Play, Moves, MovesJson, Perft, Divide, Lines}
 use Rattle.command_words.specs.declared.request.Request.TheVariants.{Solve, SolveJson, SolveOn, SolveJsonOn, Limited, LimitedJson, Verify, VerifyLimited}
-use Rattle.command_words.specs.declared.request.Request.TheVariants.{VerifyJson, VerifyImported, Tree, TreeJson, Sheet, Import, Serve, Replay, Explain, Uci}
+use Rattle.command_words.specs.declared.request.Request.TheVariants.{VerifyLimitedJson, VerifyJson, VerifyImported, Tree, TreeJson, Sheet, Import}
+use Rattle.command_words.specs.declared.request.Request.TheVariants.{Serve, Replay, Explain, Uci}
 
 abbrev pub plan_of : Request → Asked
 plan_of (Look fen) = look fen.now
@@ -29,6 +30,8 @@ plan_of (VerifyJson bound memo files) = verify_json bound memo files.from (map (
 plan_of (VerifyImported bound memo header files) = verify_imported bound memo header files.from (map (λ s. s.now) files.names.now)
 plan_of (VerifyLimited asked) =
     verify_limited asked.seconds asked.bound asked.memo asked.header asked.files.from (map (λ s. s.now) asked.files.names.now)
+plan_of (VerifyLimitedJson asked) =
+    verify_limited_json asked.seconds asked.bound asked.memo asked.files.from (map (λ s. s.now) asked.files.names.now)
 plan_of (Tree bound form files) = tree bound form files.from (map (λ s. s.now) files.names.now)
 plan_of (TreeJson bound form files) = tree_json bound form files.from (map (λ s. s.now) files.names.now)
 plan_of (Sheet bound memo form title names) = sheet bound memo form title.now (map (λ s. s.now) names.now)

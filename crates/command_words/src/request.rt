@@ -8,7 +8,7 @@ ghost use Rattle.command_words.specs.Asked.{desk_asked_by, lines_asked_by, recor
 ghost use Rattle.command_words.specs.Asked.{asked_by, asked_exactly, bound_in, depth_in, form_in, from_in, is_given, limit_in, lines_in, look_in};
 ghost use Rattle.command_words.specs.Asked.{look_lines_in, memo_size_in, moves_in, number_or_zero, perft_in, perft_lines_in, play_in};
 ghost use Rattle.command_words.specs.Asked.{side_in, svg_at, workers_in, serve_in, solve_in, some_number, tree_form_in, tree_in, verify_in};
-ghost use Rattle.command_words.specs.Asked.{default_bound, moves_at, solve_as, solve_at, solve_json_at, verify_at, verify_rows_at};
+ghost use Rattle.command_words.specs.Asked.{default_bound, moves_at, solve_as, solve_at, solve_json_at, verify_at, verify_json_at, verify_rows_at};
 ghost use Rattle.command_words.specs.Asked.{sheet_form_in, sheet_in, import_in, asked_of, asks_display_exactly, is_display, may_display_exactly};
 ghost use Rattle.command_words.specs.Asked.{answers_records, progress_of, records_given_by, records_given_exactly, records_given_of};
 ghost use Rattle.command_words.specs.Request.{plan_of};
@@ -147,8 +147,10 @@ pub enum Request<'m, 'a> {
     VerifyJson(Bound, MemoSize, Files<'m, 'a>),
     /// The same of problems as they are imported; where a bound is given, it is for problems that say none, which are else refused.
     VerifyImported(Option<Bound>, MemoSize, bool, Files<'m, 'a>),
-    /// The same, where each record may take so many seconds.
+    /// As `Verify`, where each record may take so many seconds.
     VerifyLimited(LimitedVerify<'m, 'a>),
+    /// The same in JSON, which has no first row.
+    VerifyLimitedJson(LimitedVerify<'m, 'a>),
     /// Tell the trees of the records of files, in order, in such a form; the bound is for records that say none.
     Tree(Bound, TreeForm, Files<'m, 'a>),
     /// The same in JSON.
@@ -510,8 +512,31 @@ fn verify_rows_with<'m, 'a>(
     }
 }
 
-/// What `verify` is asked for; nothing where it is to be in JSON, and with names of fields, a limit or of imported problems, too, or of these
-/// with a limit.
+/// What `verify` is asked for in JSON.
+fn verify_json_with<'m, 'a>(
+    limit: Option<u32>,
+    bound: Bound,
+    memo: MemoSize,
+    from: LineNumber,
+    names: &'m [&'a str],
+) -> Request<'m, 'a>
+    ensures { plan_of result ≡ verify_json_at limit bound memo from (map (λ s. s.now) names.entry.now) }
+{
+    let files = Files { names, from };
+    match limit {
+        Some(seconds) => Request::VerifyLimitedJson(LimitedVerify {
+            seconds,
+            bound,
+            memo,
+            header: false,
+            files,
+        }),
+        None => Request::VerifyJson(bound, memo, files),
+    }
+}
+
+/// What `verify` is asked for; nothing where it is to be in JSON, and with names of fields or of imported problems, too, or of these with a
+/// limit.
 fn verify_with<'m, 'a>(
     matches: &'m ArgMatches<'a>,
     memo: MemoSize,
@@ -524,11 +549,11 @@ fn verify_with<'m, 'a>(
     let imported = is_given(matches, "import");
     let limit = limit_in(matches);
     if is_given(matches, "json") {
-        if header || imported || limit.is_some() {
+        if header || imported {
             return None;
         }
         let bound = bound_or_default(matches);
-        return Some(Request::VerifyJson(bound, memo, Files { names, from }));
+        return Some(verify_json_with(limit, bound, memo, from, names));
     }
     if imported {
         if limit.is_some() {

@@ -29,6 +29,12 @@ module _ (holds : List ℕ → Option (List ℕ)) (refuses : List ℕ → Type 0
   told_each marks count r is gains =
       subst (λ b. IfOk r (λ refused. Gains (AnswersTold holds (file_told form b replies marks) from names refused count) old new)) is gains
 
+  pub told_at_once : (marks : LineReplies) (count : ℕ) (refused : Bool) → several ≡ has_several names
+      → Gains (AnswersTold holds (file_told form several replies marks) from names refused count) old new
+      → Gains (AnswersTold holds (file_told form (has_several names) replies marks) from names refused count) old new
+  told_at_once marks count refused is gains =
+      subst (λ b. Gains (AnswersTold holds (file_told form b replies marks) from names refused count) old new) is gains
+
   pub stops_between : (s : Stop) → several ≡ has_several names
       → StopsAnswering holds refuses (file_replies form several replies) (first_file_replies form several replies) from names s old new
       → StopsJson holds refuses form replies from names s old new

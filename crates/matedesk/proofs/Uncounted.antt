@@ -6,17 +6,18 @@ use Rattle.byte_streams.specs.declared.stops.Stop.{Stop}
 use Rattle.byte_streams.specs.declared.stops.Stop.TheVariants as stop
 use Rattle.clap.specs.Words.{Text}
 use Rattle.command_words.specs.Asked.{Asked, look, board, svg, play, moves, moves_json, perft, divide, lines, solve, solve_json, solve_on, solve_json_on}
-use Rattle.command_words.specs.Asked.{limited, limited_json, verify, verify_json, verify_imported, verify_limited, tree, tree_json, sheet, imports, serve, replay}
-use Rattle.command_words.specs.Asked.{explain, uci, asks_threads}
+use Rattle.command_words.specs.Asked.{limited, limited_json, verify, verify_json, verify_imported, verify_limited, verify_limited_json, tree, tree_json, sheet}
+use Rattle.command_words.specs.Asked.{imports, serve, replay, explain, uci, asks_threads}
 use Rattle.plain_commands.specs.Command.{Ends, EndsByStatus, EndsInPart, Shown, ShownInPart, Stops}
 use Rattle.file_answers.specs.Sources.{held, held_back}
 use Rattle.file_answers.specs.Status.{status_of}
 use Rattle.file_answers.specs.Writing.{Gains}
 use Rattle.file_solving.specs.Solved.{LimitedNone, SolvesNone}
 use Rattle.json_commands.proofs.Unopened.{stops_at_once}
-use Rattle.json_replies.specs.declared.replies.Form.TheVariants.{Answer}
+use Rattle.json_replies.specs.declared.replies.Form.TheVariants.{Answer, Row}
 use Rattle.mate_answers.specs.InputReplies.{IsLineReply}
 use Rattle.mate_answers.specs.LimitedReplies.{IsLimitedReply}
+use Rattle.mate_claims.specs.LimitedClaims.{IsLimitedClaim}
 
 -- Nothing is written, and the status is that of no memory.
 pub ends_uncounted : (holds : Text → Option (List ℕ)) (refuses : Text → Type 0) → EndsByStatus holds refuses → LimitedNone
@@ -39,6 +40,13 @@ pub ends_unverified : (holds : Text → Option (List ℕ)) (refuses : Text → T
 ends_unverified holds refuses ends seconds bound memo header from names out =
     ends (verify_limited seconds bound memo header from names) (Err stop.NoMemory) 3 out out refl tt
     (record { gained = []; shows = inl refl; appends = Appends-nil out })
+
+pub ends_unverified_json : (holds : Text → Option (List ℕ)) (refuses : Text → Type 0) → EndsByStatus holds refuses
+    → (seconds bound memo from : ℕ) (names : List Text) (out : Option (List ℕ))
+    → Ends holds refuses (Some (verify_limited_json seconds bound memo from names)) 3 out out
+ends_unverified_json holds refuses ends seconds bound memo from names out =
+    ends (verify_limited_json seconds bound memo from names) (Err stop.NoMemory) 3 out out refl tt
+    (stops_at_once holds refuses Row (IsLimitedClaim [] bound) from names out out (Keeps-refl out))
 
 pub ends_unshared : (holds : Text → Option (List ℕ)) (refuses : Text → Type 0) → EndsByStatus holds refuses → SolvesNone
     → (workers bound memo from : ℕ) (names : List Text) (out : Option (List ℕ))
@@ -64,6 +72,8 @@ ends_unstarted holds refuses ends none unsolved (Some (limited_json seconds boun
     ends_uncounted_json holds refuses ends seconds bound memo from names out
 ends_unstarted holds refuses ends none unsolved (Some (verify_limited seconds bound memo header from names)) threads out =
     ends_unverified holds refuses ends seconds bound memo header from names out
+ends_unstarted holds refuses ends none unsolved (Some (verify_limited_json seconds bound memo from names)) threads out =
+    ends_unverified_json holds refuses ends seconds bound memo from names out
 ends_unstarted holds refuses ends none unsolved (Some (solve_on workers bound memo from names)) threads out =
     ends_unshared holds refuses ends unsolved workers bound memo from names out
 ends_unstarted holds refuses ends none unsolved (Some (solve_json_on workers bound memo from names)) threads out =

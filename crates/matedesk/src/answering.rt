@@ -6,6 +6,7 @@ ghost use Rattle.command_words.specs.Asked.{asked, asks_display, asks_threads, m
 ghost use Rattle.plain_commands.specs.Command.{EndsBy};
 
 use crate::json_solving::{solve_json_in_time, solve_json_on};
+use crate::json_verifying::verify_json_in_time;
 use crate::limited_verifying::verify_in_time;
 use crate::limiting::solve_in_time;
 use crate::serving::serve;
@@ -71,6 +72,9 @@ where
             solve_json_in_time(rt, alloc, asked, &given, out, err)
         }
         Some(Request::VerifyLimited(asked)) => verify_in_time(rt, alloc, asked, &given, out, err),
+        Some(Request::VerifyLimitedJson(asked)) => {
+            verify_json_in_time(rt, alloc, asked, &given, out, err)
+        }
         Some(Request::Uci) => talk(rt, alloc, &given, out, err),
         _ => unreachable!(),
     }

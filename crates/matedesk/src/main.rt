@@ -1,7 +1,8 @@
 //! The program `matedesk`: it answers the words that it was called with, from the files and to the outputs of the system.
 //!
 //! Read `answering` first, where the contract of `command` is the program's, then the commands that start threads: `serving`, `talking`,
-//! `sharing`, and `limiting` and `limited_verifying` over `counting` and `tick_limit`; `json_solving` does in JSON what `sharing` and `limiting` do.
+//! `sharing`, and `limiting` and `limited_verifying` over `counting` and `tick_limit`; `json_solving` and `json_verifying` do in JSON what these
+//! and `sharing` do.
 //! What a word means is the business of `command_words`, what all other commands answer that of `plain_commands`, and how it is told how far a
 //! command is that of `command_progress`.
 #![tactic(auto)]
@@ -9,6 +10,7 @@
 mod answering;
 mod counting;
 mod json_solving;
+mod json_verifying;
 mod limited_verifying;
 mod limiting;
 mod serving;

@@ -7,8 +7,8 @@ use Rattle.clap.specs.Words.{Text}
 use Rattle.byte_streams.specs.declared.stops.Stop.{Stop}
 use Rattle.byte_streams.specs.declared.stops.Stop.TheVariants as stop
 use Rattle.command_words.specs.Asked.{Asked, look, board, svg, play, moves, moves_json, perft, divide, lines, solve, solve_json, solve_on, solve_json_on}
-use Rattle.command_words.specs.Asked.{limited, limited_json, verify, verify_limited, verify_json, verify_imported, tree, tree_json, sheet, imports, serve, replay}
-use Rattle.command_words.specs.Asked.{explain, uci}
+use Rattle.command_words.specs.Asked.{limited, limited_json, verify, verify_limited, verify_limited_json, verify_json, verify_imported, tree, tree_json, sheet}
+use Rattle.command_words.specs.Asked.{imports, serve, replay, explain, uci}
 use Rattle.file_answers.specs.Status.{status_of}
 use Rattle.file_solving.specs.Solved.{LimitedNone, SolvesNone}
 use Rattle.plain_commands.specs.Told.{TellsNone, tree_form_of}
@@ -16,6 +16,7 @@ use Rattle.json_replies.specs.declared.replies.Form.TheVariants.{Answer, Row, Tr
 use Rattle.mate_answers.specs.InputReplies.{IsLineReply}
 use Rattle.mate_answers.specs.LimitedReplies.{IsLimitedReply}
 use Rattle.mate_claims.specs.ClaimReplies.{IsClaimReply}
+use Rattle.mate_claims.specs.LimitedClaims.{IsLimitedClaim}
 use Rattle.mate_tree.specs.TreeReplies.{IsTreeReply}
 use Rattle.plain_commands.specs.Imported.{letters_in}
 use Rattle.plain_commands.specs.PositionLines.{command_of}
@@ -56,6 +57,8 @@ stops_unread none late untold holds refuses (Some (verify_imported bound memo he
     record { gained = []; shows = inl refl; appends = Appends-kept old old new [] (Appends-nil old) kept }
 stops_unread none late untold holds refuses (Some (verify_limited seconds bound memo header from names)) old new kept =
     record { gained = []; shows = inl refl; appends = Appends-kept old old new [] (Appends-nil old) kept }
+stops_unread none late untold holds refuses (Some (verify_limited_json seconds bound memo from names)) old new kept =
+    json_at_once holds refuses Row (IsLimitedClaim [] bound) from names old new kept
 stops_unread none late untold holds refuses (Some (tree bound form from names)) old new kept =
     record { gained = []; shows = untold holds bound form from names; appends = Appends-kept old old new [] (Appends-nil old) kept }
 stops_unread none late untold holds refuses (Some (tree_json bound form from names)) old new kept =
@@ -89,6 +92,7 @@ no_reader holds refuses (verify bound memo header from names) old new stops = st
 no_reader holds refuses (verify_json bound memo from names) old new stops = stops
 no_reader holds refuses (verify_imported bound memo header from names) old new stops = stops
 no_reader holds refuses (verify_limited seconds bound memo header from names) old new stops = stops
+no_reader holds refuses (verify_limited_json seconds bound memo from names) old new stops = stops
 no_reader holds refuses (tree bound form from names) old new stops = stops
 no_reader holds refuses (tree_json bound form from names) old new stops = stops
 no_reader holds refuses (sheet bound memo form title names) old new stops = stops

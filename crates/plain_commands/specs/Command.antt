@@ -11,14 +11,14 @@ use Rattle.chess_views.specs.Counts.{divided_text, perft_text}
 use Rattle.chess_views.specs.Listings.{moves_text}
 use Rattle.chess_views.specs.Looks.{look_board_text, look_text}
 use Rattle.command_words.specs.Asked.{Asked, asked, records_given, look, board, svg, play, moves, moves_json, perft, divide, lines, solve, solve_json}
-use Rattle.command_words.specs.Asked.{solve_on, solve_json_on, limited, limited_json, verify, verify_limited, verify_json, verify_imported, tree}
-use Rattle.command_words.specs.Asked.{tree_json, sheet, imports, serve, replay, explain, uci}
+use Rattle.command_words.specs.Asked.{solve_on, solve_json_on, limited, limited_json, verify, verify_limited, verify_limited_json, verify_json}
+use Rattle.command_words.specs.Asked.{verify_imported, tree, tree_json, sheet, imports, serve, replay, explain, uci}
 use Rattle.move_words.specs.Languages.{letters_said}
 use Rattle.problem_sheets.specs.Diagrams.{svg_of}
 use Rattle.json_replies.specs.Moves.{moves_json as moves_object}
 use Rattle.json_commands.specs.Solved.{SolvesJson, SolvesLimitedJson, StopsLimitedJson, StopsSolvingJson}
 use Rattle.json_commands.specs.Told.{TellsJson, StopsTellingJson}
-use Rattle.json_commands.specs.Verified.{VerifiesJson, StopsVerifyingJson}
+use Rattle.json_commands.specs.Verified.{VerifiesJson, StopsVerifyingJson, VerifiesLimitedJson, StopsVerifyingLimitedJson}
 use Rattle.import_claims.specs.VerifiedImports.{VerifiesImported, StopsVerifyingImported}
 use Rattle.plain_commands.specs.Explained.{ExplainsSome, ExplainsWords}
 use Rattle.plain_commands.specs.FenCommands.{ShowsFen, columns_of}
@@ -54,6 +54,7 @@ Shows holds (verify bound memo header from names) refused text = VerifiesHeaded 
 Shows holds (verify_json bound memo from names) refused text = VerifiesJson holds bound from names refused text
 Shows holds (verify_imported bound memo header from names) refused text = VerifiesImported holds bound header from names refused text
 Shows holds (verify_limited seconds bound memo header from names) refused text = LimitedHeaded holds bound header from names refused 0 text
+Shows holds (verify_limited_json seconds bound memo from names) refused text = VerifiesLimitedJson holds bound from names refused 0 text
 Shows holds (tree bound form from names) refused text = Tells holds bound form from names refused text
 Shows holds (tree_json bound form from names) refused text = TellsJson holds bound (tree_form_of form) from names refused text
 Shows holds (sheet bound memo form title names) refused text = Sheets holds bound form title names refused text
@@ -76,6 +77,8 @@ ShownInPart holds (limited_json seconds bound memo from names) old new =
     (refused : Bool) × (undecided : ℕ) × (0 < undecided) × Gains (SolvesLimitedJson holds seconds bound from names refused undecided) old new
 ShownInPart holds (verify_limited seconds bound memo header from names) old new =
     (unsound : Bool) × (undecided : ℕ) × (0 < undecided) × Gains (LimitedHeaded holds bound header from names unsound undecided) old new
+ShownInPart holds (verify_limited_json seconds bound memo from names) old new =
+    (unsound : Bool) × (undecided : ℕ) × (0 < undecided) × Gains (VerifiesLimitedJson holds bound from names unsound undecided) old new
 ShownInPart holds asks old new = ⊥
 
 -- What the output gained where `serve` stops: nothing where memory gives out, no thread is to be had or a file can't be read, which
@@ -99,6 +102,8 @@ Stops holds refuses (verify_json bound memo from names) stop old new = StopsVeri
 Stops holds refuses (verify_imported bound memo header from names) stop old new = StopsVerifyingImported holds refuses bound header from names stop old new
 Stops holds refuses (verify_limited seconds bound memo header from names) stop old new =
     StopsLimitedHeaded holds refuses bound header from names stop old new
+Stops holds refuses (verify_limited_json seconds bound memo from names) stop old new =
+    StopsVerifyingLimitedJson holds refuses bound from names stop old new
 Stops holds refuses (tree bound form from names) stop old new = StopsTelling holds refuses bound form from names stop old new
 Stops holds refuses (tree_json bound form from names) stop old new = StopsTellingJson holds refuses bound (tree_form_of form) from names stop old new
 Stops holds refuses (sheet bound memo form title names) stop old new = StopsSheet holds refuses bound form title names stop old new

@@ -44,6 +44,7 @@ fn is_threaded(request: &Request) -> bool
             | Request::Limited(..)
             | Request::LimitedJson(..)
             | Request::VerifyLimited(..)
+            | Request::VerifyLimitedJson(..)
             | Request::Uci
     )
 }
@@ -118,6 +119,7 @@ fn answer<S: Source, O: Write, E: Write>(
         | Request::Limited(..)
         | Request::LimitedJson(..)
         | Request::VerifyLimited(..)
+        | Request::VerifyLimitedJson(..)
         | Request::Uci => unreachable!(),
         Request::Replay(name) => replay(alloc, name, source, out, err),
         Request::Explain(words) => explain_given(alloc, *words, out, err),
@@ -143,7 +145,7 @@ fn run<S: Source, O: Write, E: Write>(
     let Some(request) = request else {
         complain(
             err,
-            "--flip goes with --board or --svg, and these not with each other; --json goes alone, but for files, numbers and --progress, and verify --json and verify --import without --limit",
+            "--flip goes with --board or --svg, and these not with each other; --json goes alone, but for files, numbers and --progress, and verify --import without --limit",
         );
         return Some(MISUSED);
     };
