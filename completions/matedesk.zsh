@@ -63,6 +63,7 @@ _matedesk() {
                 '--tries[show the first moves that one reply alone refutes]' \
                 '--column[print each tree on one line]' \
                 '--figurines[show pieces as figurines]' \
+                '--letters=[letters of men]:letters:(cs da de en es et fi fr hu is it nl no pl pt ro ru sv)' \
                 '--lines=[lines that a tree has at most]:lines: ' \
                 '--json[print JSON]' \
                 '--from=[line of the first file to begin with]:line: ' \

@@ -47,8 +47,8 @@ pub data Asked : Type 0 where
   verify_imported : Option ℕ → ℕ → Bool → ℕ → List Text → Asked
   verify_limited : ℕ → ℕ → ℕ → Bool → ℕ → List Text → Asked
   verify_limited_json : ℕ → ℕ → ℕ → ℕ → List Text → Asked
-  tree : ℕ → TreeForm → ℕ → List Text → Asked
-  tree_json : ℕ → TreeForm → ℕ → List Text → Asked
+  tree : ℕ → TreeForm → Text → ℕ → List Text → Asked
+  tree_json : ℕ → TreeForm → Text → ℕ → List Text → Asked
   sheet : ℕ → ℕ → SheetForm → Text → List Text → Asked
   imports : Bool → Option ℕ → Text → List Text → Asked
   serve : ℕ → ℕ → ℕ → List Text → Asked
@@ -229,16 +229,17 @@ tree_form_in rows = record {
   lines = some_number (option_map_or number_or_zero (one_of (codes "N") rows) 0);
 }
 
--- what `tree` asks for, as text or in JSON
-abbrev pub tree_at : Bool → ℕ → TreeForm → ℕ → List Text → Asked
-tree_at false bound form from names = tree bound form from names
-tree_at true bound form from names = tree_json bound form from names
+-- what `tree` asks for, as text or in JSON, with what gives the letters of men
+abbrev pub tree_at : Bool → ℕ → TreeForm → Text → ℕ → List Text → Asked
+tree_at false bound form letters from names = tree bound form letters from names
+tree_at true bound form letters from names = tree_json bound form letters from names
 
 -- what the arguments of `tree` ask for
 unfoldable pub tree_in : List Row → Option Asked
 tree_in rows =
-    option_and_then (λ bound. option_and_then (λ from. option_map (λ names. tree_at (is_given (codes "json") rows) bound (tree_form_in rows) from names)
-    (all_of (codes "FILE") rows)) (from_in rows)) (bound_in rows)
+    option_and_then (λ bound. option_and_then (λ from. option_and_then (λ letters. option_map
+    (λ names. tree_at (is_given (codes "json") rows) bound (tree_form_in rows) letters from names) (all_of (codes "FILE") rows))
+    (first_of (codes "L") rows)) (from_in rows)) (bound_in rows)
 
 -- what a page has beside its diagrams
 unfoldable pub sheet_form_in : List Row → SheetForm

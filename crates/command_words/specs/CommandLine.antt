@@ -132,9 +132,9 @@ verify_app = with_lines_of_files
 -- with the options of `tree`: the bound, and what is shown
 unfoldable pub with_tree_options : App → App
 with_tree_options a =
-    with_rule (with_rule (with_rule (with_rule (with_rule (with_rule (with_rule (with_rule a bound_rule) shown_rule)
+    with_rule (with_rule (with_rule (with_rule (with_rule (with_rule (with_rule (with_rule (with_rule a bound_rule) shown_rule)
     (flag_rule (codes "defences"))) (flag_rule (codes "set-play"))) (flag_rule (codes "tries"))) (flag_rule (codes "column")))
-    (flag_rule (codes "figurines"))) most_lines_rule
+    (flag_rule (codes "figurines"))) letters_rule) most_lines_rule
 
 unfoldable pub tree_app : App
 tree_app = with_lines_of_files (with_rule (with_tree_options (new_app (codes "tree"))) (flag_rule (codes "json")))

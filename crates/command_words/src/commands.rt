@@ -112,6 +112,7 @@ static TREE: Subcommand = Subcommand {
         Argument::Tries,
         Argument::Column,
         Argument::TreeFigurines,
+        Argument::Letters,
         Argument::MostLines,
         Argument::Json,
         Argument::From,

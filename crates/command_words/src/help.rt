@@ -186,10 +186,12 @@ as magazines print it. A reply is left out where a threat still mates in time af
 mates stand behind the replies that they answer, and threats behind moves that don't mate:
   1...d5, d6 2.Ng2#
 With --column as well the tree stands on one line, as in a solution column; with --figurines
-its pieces are figurines. With --set-play `set play` has before the keys what the attacker
-would answer were the defender to move first. With --tries `tries` has behind them each
-first move that exactly one reply refutes: 1.Qh3? Kd5! With --json there is one object for
-each line, as `solve --json` has it, with the lines of the tree as strings in `tree`.
+its pieces are figurines, else with --letters KDTLSB, or `de`, they have those letters of
+king, queen, rook, bishop, knight and pawn. With --set-play `set play` has before the keys
+what the attacker would answer were the defender to move first. With --tries `tries` has
+behind them each first move that exactly one reply refutes: 1.Qh3? Kd5! With --json there is
+one object for each line, as `solve --json` has it, with the lines of the tree as strings in
+`tree`.
 
 Example:
   $ cat problems.epd
@@ -268,7 +270,7 @@ pub const ABOUT_COLUMN: &str = "Prints each tree on one line, as a solution colu
 /// The option `--figurines` of `tree` in one line.
 pub const ABOUT_TREE_FIGURINES: &str = "Shows pieces as figurines in the lines of the tree";
 
-/// The option `--letters` of `import` in one line.
+/// The option `--letters` of `tree` and `import` in one line.
 pub const ABOUT_LETTERS: &str =
     "The letters of men: six for king, queen, rook, bishop, knight, pawn, or a language, as `de`";
 

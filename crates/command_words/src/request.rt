@@ -151,10 +151,10 @@ pub enum Request<'m, 'a> {
     VerifyLimited(LimitedVerify<'m, 'a>),
     /// The same in JSON, which has no first row.
     VerifyLimitedJson(LimitedVerify<'m, 'a>),
-    /// Tell the trees of the records of files, in order, in such a form; the bound is for records that say none.
-    Tree(Bound, TreeForm, Files<'m, 'a>),
+    /// Tell the trees of the records of files, in order, in such a form; the bound is for records that say none. What the letters of men are.
+    Tree(Bound, TreeForm, &'a str, Files<'m, 'a>),
     /// The same in JSON.
-    TreeJson(Bound, TreeForm, Files<'m, 'a>),
+    TreeJson(Bound, TreeForm, &'a str, Files<'m, 'a>),
     /// Make a page of the records of files, in order, in such a form and with such a title. Solutions are found over a memo of such a size;
     /// the bound is for records that say none.
     Sheet(Bound, MemoSize, SheetForm, &'a str, &'m [&'a str]),
@@ -621,12 +621,13 @@ fn tree_in<'m, 'a>(matches: &'m ArgMatches<'a>) -> Option<Request<'m, 'a>>
     let bound = bound_in(matches)?;
     let from = from_in(matches)?;
     let form = tree_form_in(matches);
+    let letters = text_in(matches, "L")?;
     let names = names_in(matches, "FILE")?;
     let files = Files { names, from };
     Some(if is_given(matches, "json") {
-        Request::TreeJson(bound, form, files)
+        Request::TreeJson(bound, form, letters, files)
     } else {
-        Request::Tree(bound, form, files)
+        Request::Tree(bound, form, letters, files)
     })
 }
 

@@ -7,7 +7,9 @@ use Rattle.std.proofs.lemmas.Bool.Decides.{nat_tests}
 use Rattle.std.proofs.lemmas.List.{flat_map_more, take_all, take_more}
 use Rattle.std.proofs.lemmas.Grind.{flat_map-append}
 use Rattle.byte_streams.specs.declared.stops.Stop.{Stop}
-use Rattle.mate_tree.specs.Layouts.{figured, figurine, unindented}
+use Rattle.mate_tree.specs.Layouts.{figured, figurine, lettered, unindented}
+use Rattle.mate_tree.specs.declared.forms.Pieces.{Pieces}
+use Rattle.mate_tree.specs.declared.forms.Pieces.TheVariants as pieces
 use Rattle.mate_tree.specs.SetPlay.{headed}
 use Rattle.mate_tree.specs.inside.Sheets.{GoesBy, Room, SheetValue, Begins, Ends, Says, Takes, Writes, behind, ending, headed_on, is_closed}
 use Rattle.mate_tree.specs.inside.Sheets.{is_some_line, mark, name_lines, next, part, past, said, shown, stays_fresh}
@@ -56,9 +58,8 @@ takes_last {a} {b} {c} {s} {t} {u} {x} first second = takes_as (append-nil x) (t
 -- ---- parts of a line
 
 -- a room by its fields
-abbrev room_of : Option ℕ → Bool → Bool → Bool → Bool → Bool → Room
-room_of left cut column figurines begun fresh =
-    record { left = left; cut = cut; column = column; figurines = figurines; begun = begun; fresh = fresh }
+abbrev room_of : Option ℕ → Bool → Bool → Pieces → Bool → Bool → Room
+room_of left cut column shows begun fresh = record { left = left; cut = cut; column = column; pieces = shows; begun = begun; fresh = fresh }
 
 pub one_more : (n : ℕ) → (suc n == 0) ≡ false
 one_more n = grind (arith, nat_tests)
@@ -87,57 +88,60 @@ fresh_append true xs ys =
     length_none (unindented xs) (part (length (unindented xs) == 0) ys) ∙ ap (λ l. length l == 0) (unindented_append xs ys)
 fresh_append false xs ys = refl
 
-figured_append : (figurines : Bool) (xs ys : List ℕ) → figured figurines xs ++ figured figurines ys ≡ figured figurines (xs ++ ys)
-figured_append true xs ys = sym (flat_map-append figurine xs ys)
-figured_append false xs ys = refl
+figured_append : (shows : Pieces) (xs ys : List ℕ) → figured shows xs ++ figured shows ys ≡ figured shows (xs ++ ys)
+figured_append pieces.San xs ys = refl
+figured_append pieces.Figurines xs ys = sym (flat_map-append figurine xs ys)
+figured_append (pieces.Letters l) xs ys = sym (flat_map-append (lettered l) xs ys)
 
-shown_none_at : (left : Option ℕ) (cut column figurines begun fresh : Bool) → [] ≡ shown (room_of left cut column figurines begun fresh) []
-shown_none_at left true column figurines begun fresh = refl
-shown_none_at left false column true begun true = refl
-shown_none_at left false column true begun false = refl
-shown_none_at left false column false begun true = refl
-shown_none_at left false column false begun false = refl
+shown_none_at : (left : Option ℕ) (cut column : Bool) (shows : Pieces) (begun fresh : Bool) → [] ≡ shown (room_of left cut column shows begun fresh) []
+shown_none_at left true column shows begun fresh = refl
+shown_none_at left false column pieces.San begun true = refl
+shown_none_at left false column pieces.San begun false = refl
+shown_none_at left false column pieces.Figurines begun true = refl
+shown_none_at left false column pieces.Figurines begun false = refl
+shown_none_at left false column (pieces.Letters l) begun true = refl
+shown_none_at left false column (pieces.Letters l) begun false = refl
 
 shown_none : (r : Room) → [] ≡ shown r []
-shown_none r = shown_none_at r.left r.cut r.column r.figurines r.begun r.fresh
+shown_none r = shown_none_at r.left r.cut r.column r.pieces r.begun r.fresh
 
-past_none_at : (left : Option ℕ) (cut column figurines begun fresh : Bool)
-    → room_of left cut column figurines begun fresh ≡ past (room_of left cut column figurines begun fresh) []
-past_none_at left true column figurines begun fresh = refl
-past_none_at left false column figurines begun true = refl
-past_none_at left false column figurines begun false = refl
+past_none_at : (left : Option ℕ) (cut column : Bool) (shows : Pieces) (begun fresh : Bool)
+    → room_of left cut column shows begun fresh ≡ past (room_of left cut column shows begun fresh) []
+past_none_at left true column shows begun fresh = refl
+past_none_at left false column shows begun true = refl
+past_none_at left false column shows begun false = refl
 
 past_none : (r : Room) → r ≡ past r []
-past_none r = past_none_at r.left r.cut r.column r.figurines r.begun r.fresh
+past_none r = past_none_at r.left r.cut r.column r.pieces r.begun r.fresh
 
-shown_append_at : (left : Option ℕ) (cut column figurines begun fresh : Bool) (xs ys : List ℕ)
-    → shown (room_of left cut column figurines begun fresh) xs ++ shown (past (room_of left cut column figurines begun fresh) xs) ys
-    ≡ shown (room_of left cut column figurines begun fresh) (xs ++ ys)
-shown_append_at left true column figurines begun fresh xs ys = refl
-shown_append_at left false column figurines begun fresh xs ys =
-    figured_append figurines (part fresh xs) (part (stays_fresh fresh xs) ys) ∙ ap (figured figurines) (part_append fresh xs ys)
+shown_append_at : (left : Option ℕ) (cut column : Bool) (shows : Pieces) (begun fresh : Bool) (xs ys : List ℕ)
+    → shown (room_of left cut column shows begun fresh) xs ++ shown (past (room_of left cut column shows begun fresh) xs) ys
+    ≡ shown (room_of left cut column shows begun fresh) (xs ++ ys)
+shown_append_at left true column shows begun fresh xs ys = refl
+shown_append_at left false column shows begun fresh xs ys =
+    figured_append shows (part fresh xs) (part (stays_fresh fresh xs) ys) ∙ ap (figured shows) (part_append fresh xs ys)
 
 shown_append : (r : Room) (xs ys : List ℕ) → shown r xs ++ shown (past r xs) ys ≡ shown r (xs ++ ys)
-shown_append r xs ys = shown_append_at r.left r.cut r.column r.figurines r.begun r.fresh xs ys
+shown_append r xs ys = shown_append_at r.left r.cut r.column r.pieces r.begun r.fresh xs ys
 
-past_append_at : (left : Option ℕ) (cut column figurines begun fresh : Bool) (xs ys : List ℕ)
-    → past (past (room_of left cut column figurines begun fresh) xs) ys ≡ past (room_of left cut column figurines begun fresh) (xs ++ ys)
-past_append_at left true column figurines begun fresh xs ys = refl
-past_append_at left false column figurines begun fresh xs ys = ap (room_of left false column figurines begun) (fresh_append fresh xs ys)
+past_append_at : (left : Option ℕ) (cut column : Bool) (shows : Pieces) (begun fresh : Bool) (xs ys : List ℕ)
+    → past (past (room_of left cut column shows begun fresh) xs) ys ≡ past (room_of left cut column shows begun fresh) (xs ++ ys)
+past_append_at left true column shows begun fresh xs ys = refl
+past_append_at left false column shows begun fresh xs ys = ap (room_of left false column shows begun) (fresh_append fresh xs ys)
 
 past_append : (r : Room) (xs ys : List ℕ) → past (past r xs) ys ≡ past r (xs ++ ys)
-past_append r xs ys = past_append_at r.left r.cut r.column r.figurines r.begun r.fresh xs ys
+past_append r xs ys = past_append_at r.left r.cut r.column r.pieces r.begun r.fresh xs ys
 
-past_open_at : (left : Option ℕ) (cut column figurines begun before fresh : Bool) (text : List ℕ) → cut ≡ false → fresh ≡ stays_fresh before text
-    → room_of left cut column figurines begun fresh ≡ past (room_of left cut column figurines begun before) text
-past_open_at left true column figurines begun before fresh text cut stays = cc
-past_open_at left false column figurines begun before fresh text cut stays = ap (room_of left false column figurines begun) stays
+past_open_at : (left : Option ℕ) (cut column : Bool) (shows : Pieces) (begun before fresh : Bool) (text : List ℕ) → cut ≡ false → fresh ≡ stays_fresh before text
+    → room_of left cut column shows begun fresh ≡ past (room_of left cut column shows begun before) text
+past_open_at left true column shows begun before fresh text cut stays = cc
+past_open_at left false column shows begun before fresh text cut stays = ap (room_of left false column shows begun) stays
 
 past_open : (r : Room) (fresh : Bool) (text : List ℕ) → r.cut ≡ false → fresh ≡ stays_fresh r.fresh text → record r { fresh = fresh } ≡ past r text
-past_open r fresh text cut stays = past_open_at r.left r.cut r.column r.figurines r.begun r.fresh fresh text cut stays
+past_open r fresh text cut stays = past_open_at r.left r.cut r.column r.pieces r.begun r.fresh fresh text cut stays
 
-shown_open : (r : Room) (shows text : List ℕ) → r.cut ≡ false → shows ≡ part r.fresh text → figured r.figurines shows ≡ shown r text
-shown_open r shows text cut is = rw cut (ap (figured r.figurines) is)
+shown_open : (r : Room) (shows text : List ℕ) → r.cut ≡ false → shows ≡ part r.fresh text → figured r.pieces shows ≡ shown r text
+shown_open r shows text cut is = rw cut (ap (figured r.pieces) is)
 
 past_cut : (r : Room) (x : List ℕ) → r.cut ≡ true → past r x ≡ r
 past_cut r x cut = rw cut refl
@@ -164,14 +168,14 @@ says_more {a} {b} {c} {s} {t} {u} {x} {y} first second = record {
 -- A part is written, where what is shown of it is.
 pub says_part : {a b : Option (List ℕ)} {t v : SheetValue} {shows : List ℕ} (s : SheetValue) (text : List ℕ) (none : Bool) → s.room.cut ≡ false
     → shows ≡ part s.room.fresh text → none ≡ (length shows == 0) → v ≡ record s { room = record s.room { fresh = s.room.fresh && none } }
-    → Takes a v b t (figured v.room.figurines shows) → Says a s b t text
+    → Takes a v b t (figured v.room.pieces shows) → Says a s b t text
 says_part {a} {b} {t} {v} {shows} s text none cut is nothing passed takes =
     let fresh = s.room.fresh && none in
     let stays : fresh ≡ stays_fresh s.room.fresh text =
     ap (λ n. s.room.fresh && n) (nothing ∙ ap (λ l. length l == 0) is) in
-    let own = subst (λ w. Takes a w b t (figured w.room.figurines shows)) passed takes in
+    let own = subst (λ w. Takes a w b t (figured w.room.pieces shows)) passed takes in
     record {
-      goes = by_as s.stop t.stop a b s.pending t.pending (figured s.room.figurines shows) (shown s.room text)
+      goes = by_as s.stop t.stop a b s.pending t.pending (figured s.room.pieces shows) (shown s.room text)
           (t.room ≡ record s.room { fresh = fresh }) (t.room ≡ past s.room text)
           (shown_open s.room shows text cut is) (λ same. same ∙ past_open s.room fresh text cut stays) own.goes;
     }
@@ -183,13 +187,8 @@ says_cut a s text cut = record {
       (sym (shown_cut s.room text cut)) (λ same. sym (past_cut s.room text cut)) (by_none s.stop a s.pending (s.room ≡ s.room) refl);
 }
 
-pub figured_on : (figurines : Bool) (x : List ℕ) → figurines ≡ true → flat_map figurine x ≡ figured figurines x
-figured_on true x is = refl
-figured_on false x is = cc
-
-pub figured_off : (figurines : Bool) (x : List ℕ) → figurines ≡ false → x ≡ figured figurines x
-figured_off true x is = cc
-figured_off false x is = refl
+pub figured_by : (shows own : Pieces) (x : List ℕ) → own ≡ shows → figured own x ≡ figured shows x
+figured_by shows own x is = rw is refl
 
 -- A line is begun, where what stands before it is written, and it is counted.
 pub begins_by : {a b : Option (List ℕ)} {s t u : SheetValue} {text : List ℕ} → text ≡ mark s.room → Takes a s b t text

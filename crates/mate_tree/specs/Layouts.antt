@@ -1,8 +1,12 @@
--- How the lines of a tree are laid out: one below the other, or as a column, and with letters or with figurines (own to this project).
-use Rattle.std.specs.Prelude.{ℕ, ◌==◌, List, [], ◌∷◌, ◌++◌, codes, Bool, if◌then◌else◌}
+-- How the lines of a tree are laid out: one below the other, or as a column, and with letters or with figurines (own to
+-- this project).
+use Rattle.std.specs.Prelude.{ℕ, ◌==◌, List, [], ◌∷◌, ◌++◌, codes, Bool, Option, Some, None, if◌then◌else◌}
 use Rattle.std.specs.List.{flat_map}
 use Rattle.chess_board.specs.Characters.{char}
 use Rattle.mate_tree.specs.Lines.{line}
+use Rattle.mate_tree.specs.declared.forms.Pieces.{Pieces}
+use Rattle.mate_tree.specs.declared.forms.Pieces.TheVariants as pieces
+use Rattle.move_words.specs.declared.languages.Letters.{Letters}
 
 -- ---- a line
 
@@ -21,13 +25,33 @@ figurine b =
     else if b == char "N" then 226 ∷ 153 ∷ 152 ∷ []
     else b ∷ []
 
--- a text with letters, or with figurines
-abbrev pub figured : Bool → List ℕ → List ℕ
-figured figurines text = if figurines then flat_map figurine text else text
+-- what other letters have for a piece's; other bytes as they are
+abbrev pub letter_for : Letters → ℕ → ℕ
+letter_for l b =
+    if b == char "K" then l.king
+    else if b == char "Q" then l.queen
+    else if b == char "R" then l.rook
+    else if b == char "B" then l.bishop
+    else if b == char "N" then l.knight
+    else b
+
+abbrev pub any_byte : Option ℕ → List ℕ
+any_byte None = []
+any_byte (Some b) = b ∷ []
+
+-- A king may have two.
+abbrev pub lettered : Letters → ℕ → List ℕ
+lettered l b = letter_for l b ∷ (if b == char "K" then any_byte l.behind_king else [])
+
+-- a text with what stands for pieces
+abbrev pub figured : Pieces → List ℕ → List ℕ
+figured pieces.San text = text
+figured pieces.Figurines text = flat_map figurine text
+figured (pieces.Letters l) text = flat_map (lettered l) text
 
 -- a line of a tree as it is shown
-abbrev pub shown_line : Bool → Bool → List ℕ → List ℕ
-shown_line column figurines l = figured figurines (if column then unindented l else l)
+abbrev pub shown_line : Bool → Pieces → List ℕ → List ℕ
+shown_line column p l = figured p (if column then unindented l else l)
 
 -- a heading, which a colon ends in a column
 abbrev pub heading : Bool → List ℕ → List ℕ

@@ -30,7 +30,7 @@ limited (Some most) ls = take most ls ++ (if nat_lt most (length ls) then codes 
 
 -- each line that is printed, as it is shown
 abbrev pub shown_lines : Form → List (List ℕ) → List (List ℕ)
-shown_lines form ls = map (shown_line form.column form.figurines) (limited form.lines ls)
+shown_lines form ls = map (shown_line form.column form.pieces) (limited form.lines ls)
 
 -- Lines as they are printed: in a column, as one line, or one below the other.
 abbrev pub printed : Form → List (List ℕ) → List ℕ

@@ -3,6 +3,19 @@
 ghost use Rattle.std.specs.Prelude.{◌≡◌};
 ghost use Rattle.mate_tree.specs.Forms.{moves_shown};
 
+use move_words::Letters;
+
+/// What stands for pieces in the lines of a tree.
+#[derive(Clone, Copy, Debug, PartialEq, Eq)]
+pub enum Pieces {
+    /// The letters of SAN.
+    San,
+    /// White's figurines.
+    Figurines,
+    /// Such letters.
+    Letters(Letters),
+}
+
 /// What is shown of a tree, how much, and how.
 #[derive(Clone, Copy, Debug, PartialEq, Eq)]
 pub struct Form {
@@ -18,8 +31,8 @@ pub struct Form {
     pub lines: Option<u32>,
     /// Whether the lines stand behind each other, as one.
     pub column: bool,
-    /// Whether pieces are figurines in the lines, in place of letters.
-    pub figurines: bool,
+    /// What stands for pieces in the lines.
+    pub pieces: Pieces,
 }
 
 impl Form {

@@ -1,9 +1,11 @@
 //! How the lines of a tree are laid out.
 
-ghost use Rattle.std.specs.Prelude.{◌≡◌, codes};
-ghost use Rattle.mate_tree.specs.Layouts.{figurine as figurine_of, heading, unindented as unindented_of};
+ghost use Rattle.std.specs.Prelude.{◌≡◌, ◌==◌, [], codes, if◌then◌else◌};
+ghost use Rattle.chess_board.specs.Characters.{char};
+ghost use Rattle.mate_tree.specs.Layouts.{any_byte, figurine as figurine_of, heading, letter_for as letter_for_of, unindented as unindented_of};
 ghost use Rattle.mate_tree.specs.inside.Sheets.{line_end as line_end_of, part as part_of};
 
+use move_words::Letters;
 use std::slice::from_ref;
 
 /// A text without the spaces that it begins with.
@@ -41,6 +43,38 @@ pub(crate) fn figurine(byte: &u8) -> &[u8]
         b"\xe2\x99\x98"
     } else {
         from_ref(byte)
+    }
+}
+
+/// What such letters have for a piece's; other bytes as they are.
+pub(crate) fn letter_for(letters: &Letters, byte: u8) -> u8
+    ensures { result ≡ letter_for_of letters.now byte }
+{
+    if byte == b'K' {
+        letters.king
+    } else if byte == b'Q' {
+        letters.queen
+    } else if byte == b'R' {
+        letters.rook
+    } else if byte == b'B' {
+        letters.bishop
+    } else if byte == b'N' {
+        letters.knight
+    } else {
+        byte
+    }
+}
+
+/// What stands behind the first letter of a king in such letters, and behind other bytes nothing.
+pub(crate) fn behind_letter(letters: &Letters, byte: u8) -> &[u8]
+    ensures { result.now ≡ if byte == char "K" then any_byte letters.now.behind_king else [] }
+{
+    if byte != b'K' {
+        return b"";
+    }
+    match &letters.behind_king {
+        Some(more) => from_ref(more),
+        None => b"",
     }
 }
 

@@ -26,7 +26,7 @@ mod tries;
 mod variations;
 
 pub use columns::push_column;
-pub use forms::Form;
+pub use forms::{Form, Pieces};
 pub use laws::{
     defences_answered, each_has_line, leaves_mate, line_branches, parries_read, soonest_reads,
 };

@@ -2,16 +2,18 @@
 
 ghost use Rattle.std.specs.Prelude.{◌≡◌, ◌++◌, ◌&&◌, [], IfErr, None, OnOk, Some, codes, ⊤};
 ghost use Rattle.std.specs.List.{flat_map};
-ghost use Rattle.mate_tree.specs.Layouts.{figured, figurine as figurine_of};
+ghost use Rattle.mate_tree.specs.Layouts.{figured, figurine as figurine_of, lettered};
 ghost use Rattle.mate_tree.specs.inside.Sheets.{Begins, Ends, GoesBy, Says, Takes, Writes, closing, ending, gap, is_closed};
 ghost use Rattle.mate_tree.specs.inside.Sheets.{line_end as line_end_of, mark, name_lines, next, part as part_of, room_for};
 
-use crate::forms::Form;
-use crate::layouts::{figurine, line_end, part};
+use crate::forms::{Form, Pieces};
+use crate::layouts::{behind_letter, figurine, letter_for, line_end, part};
 use arrayvec::ArrayVec;
 use byte_streams::{Stop, put};
+use move_words::Letters;
 use std::io::Write;
 use std::marker::Model;
+use std::slice::from_ref;
 
 /// How many bytes wait to be written together, at most.
 const BUFFER: usize = 4096;
@@ -28,8 +30,8 @@ pub(crate) struct Sheet {
     cut: bool,
     /// Whether lines stand behind each other.
     column: bool,
-    /// Whether pieces are figurines, in place of letters.
-    figurines: bool,
+    /// What stands for pieces.
+    pieces: Pieces,
     /// Whether a line was begun.
     begun: bool,
     /// Whether nothing stands there yet of the last line of a column.
@@ -49,7 +51,7 @@ impl Model for Sheet {
         left = s.left;
         cut = s.cut;
         column = s.column;
-        figurines = s.figurines;
+        pieces = s.pieces;
         begun = s.begun;
         fresh = s.fresh;
       };
@@ -67,7 +69,7 @@ impl Sheet {
             left: form.lines,
             cut: false,
             column: form.column,
-            figurines: form.figurines,
+            pieces: form.pieces,
             begun: false,
             fresh: false,
             stop: None,
@@ -199,21 +201,39 @@ impl Sheet {
         }
     }
 
-    /// Whether pieces are figurines, in place of letters.
-    fn has_figurines(&self) -> bool
-        ensures { result ≡ self.now.room.figurines }
+    /// Adds a byte, a piece's letter as such letters have it.
+    fn add_letter<O: Write>(&mut self, out: &mut O, letters: &Letters, byte: u8)
+        ensures { Takes (O.contents out.old) self.old (O.contents out.new) self.new (lettered letters.now byte) }
     {
-        self.figurines
+        let first = letter_for(letters, byte);
+        self.add(out, from_ref(&first));
+        self.add(out, behind_letter(letters, byte));
     }
 
-    /// Adds a text with letters, or with figurines.
-    fn show<O: Write>(&mut self, out: &mut O, text: &[u8])
-        ensures { Takes (O.contents out.old) self.old (O.contents out.new) self.new (figured self.old.room.figurines text.now) }
+    /// Adds a text with such letters.
+    fn add_lettered<O: Write>(&mut self, out: &mut O, letters: &Letters, text: &[u8])
+        ensures { Takes (O.contents out.old) self.old (O.contents out.new) self.new (flat_map (lettered letters.now) text.now) }
     {
-        if self.has_figurines() {
-            self.add_figurines(out, text);
-        } else {
-            self.add(out, text);
+        for byte in text {
+            self.add_letter(out, letters, *byte);
+        }
+    }
+
+    /// What stands for pieces.
+    fn pieces(&self) -> Pieces
+        ensures { result ≡ self.now.room.pieces }
+    {
+        self.pieces
+    }
+
+    /// Adds a text with what stands for pieces.
+    fn show<O: Write>(&mut self, out: &mut O, text: &[u8])
+        ensures { Takes (O.contents out.old) self.old (O.contents out.new) self.new (figured self.old.room.pieces text.now) }
+    {
+        match self.pieces() {
+            Pieces::San => self.add(out, text),
+            Pieces::Figurines => self.add_figurines(out, text),
+            Pieces::Letters(letters) => self.add_lettered(out, &letters, text),
         }
     }
 

@@ -94,8 +94,8 @@ ends_unstarted holds refuses ends none unsolved (Some (solve_json bound memo fro
 ends_unstarted holds refuses ends none unsolved (Some (verify bound memo header from names)) threads out = cc
 ends_unstarted holds refuses ends none unsolved (Some (verify_json bound memo from names)) threads out = cc
 ends_unstarted holds refuses ends none unsolved (Some (verify_imported bound memo header from names)) threads out = cc
-ends_unstarted holds refuses ends none unsolved (Some (tree bound form from names)) threads out = cc
-ends_unstarted holds refuses ends none unsolved (Some (tree_json bound form from names)) threads out = cc
+ends_unstarted holds refuses ends none unsolved (Some (tree bound form letters from names)) threads out = cc
+ends_unstarted holds refuses ends none unsolved (Some (tree_json bound form letters from names)) threads out = cc
 ends_unstarted holds refuses ends none unsolved (Some (sheet bound memo form title names)) threads out = cc
 ends_unstarted holds refuses ends none unsolved (Some (imports keep bound letters names)) threads out = cc
 ends_unstarted holds refuses ends none unsolved (Some (replay name)) threads out = cc

@@ -7,13 +7,13 @@ use Rattle.byte_streams.specs.declared.stops.Stop.TheVariants as stop
 use Rattle.file_answers.proofs.Unopened.{answers_none, no_reply_on}
 use Rattle.plain_commands.specs.PositionLines.{StopsLines, first_position_replies}
 use Rattle.plain_commands.specs.declared.fen_commands.FenCommand.{FenCommand}
-use Rattle.command_words.specs.declared.request.TreeForm.{TreeForm}
 use Rattle.problem_import.specs.Imports.{IsImportOfFirst, none as nothing_imported}
 use Rattle.problem_import.specs.LetteredImports.{IsImportOfFirstIn, IsLetteredOfFirst, english, lettered}
 use Rattle.move_words.specs.Languages.{is_english}
 use Rattle.move_words.specs.declared.languages.Letters.{Letters}
 use Rattle.plain_commands.specs.Imported.{StopsImporting, first_import_replies}
 use Rattle.json_replies.specs.declared.replies.Form.{Form}
+use Rattle.mate_tree.specs.declared.forms.Form.{Form as TreeForm}
 use Rattle.json_commands.specs.JsonFiles.{StopsJson, first_file_replies, has_several as are_several}
 use Rattle.text_lines.specs.Replies.{LineReplies}
 use Rattle.plain_commands.specs.Told.{StopsTelling, TellsNone, first_tree_replies}

@@ -54,7 +54,9 @@ fn has_letters(request: &Request) -> bool
     ensures { result ≡ has_letters (plan_of request.now) }
 {
     match request {
-        Request::Import(_, _, letters, _) => Letters::said(letters).is_some(),
+        Request::Import(_, _, letters, _)
+        | Request::Tree(_, _, letters, _)
+        | Request::TreeJson(_, _, letters, _) => Letters::said(letters).is_some(),
         _ => true,
     }
 }
@@ -97,9 +99,11 @@ fn answer<S: Source, O: Write, E: Write>(
         Request::VerifyImported(bound, memo, header, files) => {
             verify_imported(alloc, *bound, *memo, *header, files, source, out, err)
         }
-        Request::Tree(bound, form, files) => tree(alloc, *bound, *form, files, source, out, err),
-        Request::TreeJson(bound, form, files) => {
-            tree_json(alloc, *bound, *form, files, source, out, err)
+        Request::Tree(bound, form, letters, files) => {
+            tree(alloc, *bound, *form, letters, files, source, out, err)
+        }
+        Request::TreeJson(bound, form, letters, files) => {
+            tree_json(alloc, *bound, *form, letters, files, source, out, err)
         }
         Request::Sheet(bound, size, form, title, names) => {
             let asked = SheetAsked {

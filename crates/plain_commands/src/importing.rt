@@ -4,6 +4,7 @@ ghost use Rattle.std.specs.Prelude.{◌≡◌, IfErr, IfOk, map};
 ghost use Rattle.file_answers.specs.Writing.{Gains};
 ghost use Rattle.plain_commands.specs.Imported.{ImportsFiles, StopsImporting, letters_in};
 
+use crate::letters::letters_in;
 use byte_streams::{Input, Stop};
 use chess_moves::Rays;
 use chess_problems::Bound;
@@ -102,16 +103,6 @@ fn import<S: Source, O: Write, E: Write>(
             Ok(refused)
         }
         Err(stop) => Err(stop),
-    }
-}
-
-/// The letters of men that a word gives.
-fn letters_in(word: &str) -> Letters
-    ensures { result ≡ letters_in word.now }
-{
-    match Letters::said(word) {
-        Some(letters) => letters,
-        None => Letters::ENGLISH,
     }
 }
 

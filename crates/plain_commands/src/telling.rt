@@ -3,8 +3,9 @@
 ghost use Rattle.std.specs.Prelude.{◌≡◌, IfErr, IfOk, map};
 ghost use Rattle.file_answers.specs.Writing.{Gains};
 ghost use Rattle.json_commands.specs.Told.{StopsTellingJson, TellsJson};
-ghost use Rattle.plain_commands.specs.Told.{StopsTelling, Tells, TellsNone, tree_form_of};
+ghost use Rattle.plain_commands.specs.Told.{StopsTelling, Tells, TellsNone, pieces_of as pieces_asked, tree_form_of};
 
+use crate::letters::letters_in;
 use byte_streams::{Input, Stop};
 use chess_moves::Rays;
 use chess_problems::Bound;
@@ -13,7 +14,8 @@ use file_answers::{FileAnswers, FileStart, Source, answer_files, write_lines_fro
 use file_solving::new_memo;
 use json_commands::tell_json;
 use mate_search::Memo;
-use mate_tree::{Form, TreeReplies};
+use mate_tree::{Form, Pieces, TreeReplies};
+use move_words::Letters;
 use std::alloc::Global;
 use std::io::Write;
 
@@ -25,12 +27,25 @@ const ENTRIES: usize = 65_536;
 struct TreeAnswers<'a> {
     rays: &'a Rays,
     bound: Bound,
-    form: TreeForm,
+    form: Form,
 }
 
-/// What is shown of a tree, as the words ask for it.
-fn form_of(form: &TreeForm) -> Form
-    ensures { result ≡ tree_form_of form.now }
+/// What stands for pieces: figurines, or such letters.
+fn pieces_of(figurines: bool, letters: Letters) -> Pieces
+    ensures { result ≡ pieces_asked figurines letters }
+{
+    if figurines {
+        Pieces::Figurines
+    } else if letters.is_english() {
+        Pieces::San
+    } else {
+        Pieces::Letters(letters)
+    }
+}
+
+/// What is shown of a tree, as the words ask for it, of which one gives the letters of men.
+fn form_of(form: &TreeForm, letters: &str) -> Form
+    ensures { result ≡ tree_form_of form.now letters.now }
 {
     Form {
         moves: form.moves,
@@ -38,7 +53,7 @@ fn form_of(form: &TreeForm) -> Form
         set_play: form.set_play,
         tries: form.tries,
         column: form.column,
-        figurines: form.figurines,
+        pieces: pieces_of(form.figurines, letters_in(letters)),
         lines: form.lines,
     }
 }
@@ -68,7 +83,7 @@ impl<'a> FileAnswers for TreeAnswers<'a> {
         let trees = TreeReplies {
             rays: self.rays,
             default: self.bound,
-            form: form_of(&self.form),
+            form: self.form,
         };
         write_lines_from(alloc, &trees, start, input, memo, out)
     }
@@ -83,14 +98,15 @@ pub fn tree<S: Source, O: Write, E: Write>(
     alloc: Global,
     bound: Bound,
     form: TreeForm,
+    letters: &str,
     files: &Files,
     source: &S,
     out: &mut O,
     err: &mut E,
 ) -> Result<bool, Stop>
-    ensures ok { IfOk result (λ refused. Gains (Tells (S.holds source.now) bound form files.now.from
+    ensures ok { IfOk result (λ refused. Gains (Tells (S.holds source.now) bound (tree_form_of form letters.now) files.now.from
         (map (λ s. s.now) files.now.names.now) refused) (O.contents out.old) (O.contents out.new)) }
-    ensures err { IfErr result (λ stop. StopsTelling (S.holds source.now) (S.refuses source.now) bound form files.now.from
+    ensures err { IfErr result (λ stop. StopsTelling (S.holds source.now) (S.refuses source.now) bound (tree_form_of form letters.now) files.now.from
         (map (λ s. s.now) files.now.names.now) stop (O.contents out.old) (O.contents out.new)) }
 {
     let rays = Rays::new();
@@ -98,7 +114,7 @@ pub fn tree<S: Source, O: Write, E: Write>(
     let answers = TreeAnswers {
         rays: &rays,
         bound,
-        form,
+        form: form_of(&form, letters),
     };
     answer_files(alloc, &answers, files, source, &mut memo, out, err)
 }
@@ -108,14 +124,15 @@ pub fn tree_json<S: Source, O: Write, E: Write>(
     alloc: Global,
     bound: Bound,
     form: TreeForm,
+    letters: &str,
     files: &Files,
     source: &S,
     out: &mut O,
     err: &mut E,
 ) -> Result<bool, Stop>
-    ensures ok { IfOk result (λ refused. Gains (TellsJson (S.holds source.now) bound (tree_form_of form) files.now.from
+    ensures ok { IfOk result (λ refused. Gains (TellsJson (S.holds source.now) bound (tree_form_of form letters.now) files.now.from
         (map (λ s. s.now) files.now.names.now) refused) (O.contents out.old) (O.contents out.new)) }
-    ensures err { IfErr result (λ stop. StopsTellingJson (S.holds source.now) (S.refuses source.now) bound (tree_form_of form) files.now.from
+    ensures err { IfErr result (λ stop. StopsTellingJson (S.holds source.now) (S.refuses source.now) bound (tree_form_of form letters.now) files.now.from
         (map (λ s. s.now) files.now.names.now) stop (O.contents out.old) (O.contents out.new)) }
 {
     let rays = Rays::new();
@@ -123,7 +140,7 @@ pub fn tree_json<S: Source, O: Write, E: Write>(
     let trees = TreeReplies {
         rays: &rays,
         default: bound,
-        form: form_of(&form),
+        form: form_of(&form, letters),
     };
     tell_json(alloc, &trees, files, source, &mut memo, out, err)
 }

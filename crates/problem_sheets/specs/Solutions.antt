@@ -7,6 +7,7 @@ use Rattle.chess_problems.specs.declared.outcomes.Outcome.{Outcome}
 use Rattle.chess_problems.specs.declared.outcomes.Outcome.TheVariants.{Mate, NoMate}
 use Rattle.mate_search.specs.inside.Truth.{truth}
 use Rattle.mate_tree.specs.declared.forms.Form.{Form}
+use Rattle.mate_tree.specs.declared.forms.Pieces.TheVariants.{San}
 use Rattle.mate_tree.specs.Layouts.{column_text}
 use Rattle.mate_tree.specs.Trees.{shown_lines, tree_lines}
 
@@ -33,7 +34,7 @@ solution_form = record {
   tries = false;
   lines = None;
   column = true;
-  figurines = false;
+  pieces = San;
 }
 
 -- a solution as a magazine's column has it

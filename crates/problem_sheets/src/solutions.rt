@@ -11,7 +11,7 @@ use chess_moves::Rays;
 use chess_notation::Record;
 use chess_problems::Outcome;
 use mate_search::{Memo, solve};
-use mate_tree::{Form, push_column};
+use mate_tree::{Form, Pieces, push_column};
 use std::alloc::{AllocError, Global};
 use std::slice::from_ref;
 
@@ -66,7 +66,7 @@ fn solution_form() -> Form
         tries: false,
         lines: None,
         column: true,
-        figurines: false,
+        pieces: Pieces::San,
     }
 }
 

@@ -5,6 +5,7 @@ use Rattle.std.specs.Io.KnownBytes.{Appends, Keeps}
 use Rattle.byte_streams.specs.declared.stops.Stop.{Stop}
 use Rattle.byte_streams.specs.Stops.{AppendsPart, is_of_output}
 use Rattle.mate_tree.specs.declared.forms.Form.{Form}
+use Rattle.mate_tree.specs.declared.forms.Pieces.{Pieces}
 use Rattle.mate_tree.specs.Layouts.{figured, unindented}
 use Rattle.mate_tree.specs.SetPlay.{headed}
 
@@ -14,7 +15,7 @@ pub record Room : Type 0 where
   pub left : Option ℕ
   pub cut : Bool
   pub column : Bool
-  pub figurines : Bool
+  pub pieces : Pieces
   pub begun : Bool
   pub fresh : Bool
 
@@ -24,7 +25,7 @@ room_for form = record {
   left = form.lines;
   cut = false;
   column = form.column;
-  figurines = form.figurines;
+  pieces = form.pieces;
   begun = false;
   fresh = false;
 }
@@ -93,7 +94,7 @@ stays_fresh fresh text = fresh && (length (part fresh text) == 0)
 
 -- a part of a line, unless a line was left out
 abbrev pub shown : Room → List ℕ → List ℕ
-shown r text = if r.cut then [] else figured r.figurines (part r.fresh text)
+shown r text = if r.cut then [] else figured r.pieces (part r.fresh text)
 
 -- the room behind it
 abbrev pub past : Room → List ℕ → Room

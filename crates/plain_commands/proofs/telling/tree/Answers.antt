@@ -1,5 +1,6 @@
 use Rattle.std.proofs.KnownBytes.{Keeps-refl}
 use Rattle.std.proofs.lemmas.Result.{err_from_is_err_and}
+use Rattle.plain_commands.specs.Told.{tree_form_of}
 use Rattle.plain_commands.proofs.Unopened.{tells_at_once}
 use Rattle.plain_commands.proofs.telling.tree.Goals as goal
 
@@ -7,4 +8,4 @@ pub returns-in_err-memo-clause-err : goal.returns-in_err-memo-clause-err
 returns-in_err-memo-clause-err g c =
     let (other, is, same) = err_from_is_err_and c.from_residual.result c.from_residual.ensures.1 in
     rw (is, same, c.in_err-memo.ensures.err) (tells_at_once (g.S.Source.holds c.args.source.now)
-    (g.S.Source.refuses c.args.source.now) c.args.bound c.args.form _ _ _ _ (Keeps-refl (g.O.Write.contents c.args.out.now)))
+    (g.S.Source.refuses c.args.source.now) c.args.bound (tree_form_of c.args.form c.args.letters.now) _ _ _ _ (Keeps-refl (g.O.Write.contents c.args.out.now)))

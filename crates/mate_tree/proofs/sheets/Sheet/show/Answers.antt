@@ -1,12 +1,18 @@
 use Rattle.std.proofs.Common.{◌∙◌, sym}
-use Rattle.mate_tree.proofs.WrittenLines.{figured_off, figured_on, takes_as}
+use Rattle.mate_tree.proofs.WrittenLines.{figured_by, takes_as}
+use Rattle.mate_tree.specs.declared.forms.Pieces.TheVariants as pieces
 use Rattle.mate_tree.proofs.sheets.Sheet.show.Goals as goal
 
-pub returns-then-has_figurines : goal.returns-then-has_figurines
-returns-then-has_figurines g c =
-    takes_as (figured_on c.args.self.now.room.figurines c.args.text.now (sym c.has_figurines.ensures ∙ c.if-has_figurines.true))
+pub returns-in-San : goal.returns-in-San
+returns-in-San g c =
+    takes_as (figured_by c.args.self.now.room.pieces pieces.San c.args.text.now (sym c.in-San.is ∙ c.pieces.ensures)) c.add.ensures
+
+pub returns-in-Figurines : goal.returns-in-Figurines
+returns-in-Figurines g c =
+    takes_as (figured_by c.args.self.now.room.pieces pieces.Figurines c.args.text.now (sym c.in-Figurines.is ∙ c.pieces.ensures))
     c.add_figurines.ensures
 
-pub returns-else-has_figurines : goal.returns-else-has_figurines
-returns-else-has_figurines g c =
-    takes_as (figured_off c.args.self.now.room.figurines c.args.text.now (sym c.has_figurines.ensures ∙ c.if-has_figurines.false)) c.add.ensures
+pub returns-in-Letters : goal.returns-in-Letters
+returns-in-Letters g c =
+    takes_as (figured_by c.args.self.now.room.pieces (pieces.Letters c.in-Letters.letters) c.args.text.now
+    (sym c.in-Letters.is ∙ c.pieces.ensures)) c.add_lettered.ensures
