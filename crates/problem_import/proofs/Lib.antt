@@ -7,7 +7,8 @@ pub mod LetteredImports
 pub mod Positions
 pub mod SaidBounds
 pub mod LinesTaken
-pub mod LinesCounted
+pub mod Counted
+pub mod LineRecords
 pub mod ToldChanges
 mod ClearClaims
 pub mod CappedValues

@@ -1,7 +1,7 @@
 -- Whether a line says its number of moves, by what is read with one default bound, or with two.
 use Rattle.std.proofs.Common.{◌≡◌, ◌≢◌, ℕ, List, inl, inr, sym, ◌∙◌, ap}
 use Rattle.chess_notation.specs.Records.{RecordValue, Reads, IsAskedBound, IsBoundOf}
-use Rattle.problem_import.specs.ImportCounts.{SaysBound}
+use Rattle.problem_import.specs.inside.Counted.{SaysBound}
 
 -- A line that asks for a bound by `dm` says the same record whichever the default one is.
 asked_by_line : (line : List ℕ) (default other : ℕ) (r : RecordValue) (reads : Reads line default r) → IsAskedBound reads.operations r.bound

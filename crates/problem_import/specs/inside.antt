@@ -5,3 +5,5 @@ pub mod OpenProblems
 pub mod TagPairs
 pub mod MendedMoves
 pub mod Answered
+pub mod Counted
+pub mod LineRecords

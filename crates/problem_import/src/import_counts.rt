@@ -1,17 +1,13 @@
 //! How many records are printed, and how many problems refused.
 
 ghost use Rattle.std.specs.Prelude.{◌≡◌, ◌++◌, IfOk, OnOk, string_bytes};
-ghost use Rattle.problem_import.specs.ImportCounts.{AreCounted, IsLineCounted, IsSaid, counts_text, no_counts, some_text};
-ghost use Rattle.problem_import.specs.ImportCounts.{is_refusal as is_refusal_of, is_unbound as is_unbound_of, with_record as with_record_of, with_refusal as with_refusal_of};
-ghost use Rattle.problem_import.specs.Imports.{one_if as one_if_any};
-ghost use Rattle.text_lines.specs.Lines.{lines_of};
+ghost use Rattle.problem_import.specs.ImportCounts.{counts_text, no_counts, some_text};
+ghost use Rattle.problem_import.specs.inside.Counted.{is_no_bound as is_no_bound_of, with_record as with_record_of, with_refusal as with_refusal_of};
 
+use crate::import_faults::ImportFault;
 use crate::importing::one_if;
 use byte_streams::NoMemory;
-use chess_moves::Rays;
-use chess_notation::{Bound, EpdFault, read_record, records_clear, says_one};
 use std::alloc::{AllocError, Global};
-use text_lines::first_line;
 
 /// How many records are printed, and how many problems are refused.
 #[derive(Clone, Copy, Debug, PartialEq, Eq)]
@@ -24,70 +20,11 @@ pub struct ImportCounts {
     pub unnumbered: usize,
 }
 
-/// A bound for which few records ask.
-fn long_bound() -> Bound
-    ensures { result ≡ 15 }
+/// Whether a problem is refused for want of a number of moves.
+fn is_no_bound(fault: ImportFault) -> bool
+    ensures { result ≡ is_no_bound_of fault }
 {
-    match Bound::new(15) {
-        Some(bound) => bound,
-        None => unreachable!(),
-    }
-}
-
-/// Another.
-fn short_bound() -> Bound
-    ensures { result ≡ 1 }
-{
-    match Bound::new(1) {
-        Some(bound) => bound,
-        None => unreachable!(),
-    }
-}
-
-/// Whether a line that is printed refuses a problem.
-fn is_refusal(line: &[u8]) -> bool
-    ensures { result ≡ is_refusal_of line.now }
-{
-    match line {
-        [b'#', ..] => true,
-        _ => false,
-    }
-}
-
-/// Whether it does so for want of a number of moves.
-fn is_unbound(line: &[u8]) -> bool
-    ensures { result ≡ is_unbound_of line.now }
-{
-    line.ends_with(b": NoBound")
-}
-
-/// Whether a line says its number of moves itself: it is read, and once more with another default bound where its own is that.
-fn says_bound(alloc: Global, rays: &Rays, line: &[u8]) -> Result<bool, NoMemory>
-    ensures { IfOk result (IsSaid line.now) }
-{
-    // That it says one record at most, and none where it has a fault, are these laws.
-    says_one();
-    records_clear();
-    let record = match read_record(alloc, rays, line, long_bound()) {
-        Ok(record) => record,
-        Err(fault) => {
-            if fault == EpdFault::NoMemory {
-                return Err(NoMemory);
-            }
-            return Ok(false);
-        }
-    };
-    if record.bound.get() != 15 {
-        return Ok(true);
-    }
-    let Ok(again) = read_record(alloc, rays, line, short_bound()) else {
-        return Err(NoMemory);
-    };
-    if again.bound.get() == 15 {
-        Ok(true)
-    } else {
-        Ok(false)
-    }
+    matches!(fault, ImportFault::NoBound)
 }
 
 impl ImportCounts {
@@ -104,7 +41,7 @@ impl ImportCounts {
     }
 
     /// With one record more, which says its number of moves or not.
-    fn with_record(self, says: bool) -> ImportCounts
+    pub(crate) fn with_record(self, says: bool) -> ImportCounts
         ensures { result ≡ with_record_of says self }
     {
         ImportCounts {
@@ -114,46 +51,15 @@ impl ImportCounts {
         }
     }
 
-    /// With one refusal more, for want of a number of moves or not.
-    fn with_refusal(self, wants: bool) -> ImportCounts
-        ensures { result ≡ with_refusal_of wants self }
+    /// With one problem more that is refused.
+    pub(crate) fn with_refusal(self, fault: ImportFault) -> ImportCounts
+        ensures { result ≡ with_refusal_of (is_no_bound_of fault) self }
     {
         ImportCounts {
             refused: self.refused.saturating_add(1),
-            unbound: self.unbound.saturating_add(one_if(wants)),
+            unbound: self.unbound.saturating_add(one_if(is_no_bound(fault))),
             ..self
         }
-    }
-
-    /// With one line more of what is printed.
-    fn with_line(self, alloc: Global, rays: &Rays, line: &[u8]) -> Result<ImportCounts, NoMemory>
-        ensures { IfOk result (IsLineCounted self line.now) }
-    {
-        if line.is_empty() {
-            return Ok(self);
-        }
-        if is_refusal(line) {
-            return Ok(self.with_refusal(is_unbound(line)));
-        }
-        Ok(self.with_record(says_bound(alloc, rays, line)?))
-    }
-
-    /// With the lines of a text that is printed: each that begins with `#` refuses a problem, each other is a record, but for empty ones.
-    pub fn with_text(
-        self,
-        alloc: Global,
-        rays: &Rays,
-        text: &[u8],
-    ) -> Result<ImportCounts, NoMemory>
-        ensures { IfOk result (AreCounted self (lines_of text.now)) }
-    {
-        let mut counts = self;
-        let mut rest = text;
-        while let Some((line, more)) = first_line(rest) {
-            counts = counts.with_line(alloc, rays, line)?;
-            rest = more;
-        }
-        counts.with_line(alloc, rays, rest)
     }
 
     /// Adds the counts, one behind the other.

@@ -13,7 +13,7 @@ ghost use Rattle.problem_import.specs.inside.TagPairs.{is_tag_line};
 use crate::changes::{Changes, Form};
 use crate::import_counts::ImportCounts;
 use crate::import_faults::ImportFault;
-use crate::line_kinds::{LineKind, kind_of};
+use crate::line_kinds::{LineKind, read_line};
 use crate::printing::{Printed, Printing};
 use crate::reading::{Finding, Open, Reading};
 use crate::texts::trimmed;
@@ -128,15 +128,6 @@ impl Imports<'_> {
         passes
     }
 
-    /// Counts what is printed.
-    pub(crate) fn count(&self, alloc: Global, printed: &Printed) -> Result<(), NoMemory> {
-        let counts = self.counts.get();
-        let text = printed.text.as_slice();
-        self.counts
-            .set(counts.with_text(alloc, self.printing.rays, text)?);
-        Ok(())
-    }
-
     /// What was found once a line is taken.
     pub(crate) fn findings(
         &self,
@@ -177,10 +168,14 @@ impl Imports<'_> {
         ensures begun { IfOk result (λ printed. is_tag_line line.now ≡ true → due reading.old.open ≡ 0
             → 0 < due reading.new.open + length printed.text.items) }
     {
-        let kind = kind_of(alloc, self.printing.rays, line)?;
-        let findings = self.findings(alloc, number, line, kind, reading)?;
-        let printed = self.printing.printed(alloc, line, findings.as_slice())?;
-        Ok(printed.with_line_if(kind, line)?)
+        let read = read_line(alloc, self.printing.rays, line)?;
+        let findings = self.findings(alloc, number, line, read.kind, reading)?;
+        let printed = self
+            .printing
+            .printed(alloc, line, findings.as_slice(), self.counts.get())?;
+        let printed = printed.with_line_if(read, line)?;
+        self.counts.set(printed.counts);
+        Ok(printed)
     }
 
     /// What is printed once the input has ended.
@@ -191,8 +186,10 @@ impl Imports<'_> {
     {
         let mut findings = Vec::new(alloc);
         reading.finish(alloc, Open::Nothing, &mut findings)?;
-        let printed = self.printing.printed(alloc, b"", findings.as_slice())?;
-        self.count(alloc, &printed)?;
+        let printed = self
+            .printing
+            .printed(alloc, b"", findings.as_slice(), self.counts.get())?;
+        self.counts.set(printed.counts);
         Ok(printed)
     }
 }
@@ -203,7 +200,7 @@ pub(crate) fn output_of(printed: Printed) -> Output
     ensures refused { result.refused ≡ one_if_any printed.any }
     ensures few { result.refused ≤ 1 }
 {
-    let Printed { text, any } = printed;
+    let Printed { text, any, .. } = printed;
     Output {
         text,
         refused: one_if(any),
@@ -227,17 +224,16 @@ impl LineHandler for Imports<'_> {
         reading: &mut Reading,
     ) -> Result<Output, NoMemory> {
         let printed = self.reply(alloc, number, line, reading)?;
-        self.count(alloc, &printed)?;
         Ok(output_of(printed))
     }
 
     fn refuse_long(&self, alloc: Global, number: usize) -> Result<Output, NoMemory> {
-        let mut printed = Printed::new(alloc);
+        let mut printed = Printed::new(alloc, self.counts.get());
         if self.passes_long(number) {
             return Ok(output_of(printed));
         }
         printed.push_refusal(alloc, number, ImportFault::Record(EpdFault::TooLong))?;
-        self.count(alloc, &printed)?;
+        self.counts.set(printed.counts);
         Ok(output_of(printed))
     }
 

@@ -11,7 +11,7 @@ ghost use Rattle.problem_import.specs.inside.OpenProblems.{due};
 use crate::import_counts::ImportCounts;
 use crate::import_faults::ImportFault;
 use crate::importing::{Imports, import_counted, output_of, put_last};
-use crate::line_kinds::{LineKind, kind_of};
+use crate::line_kinds::{LineKind, read_line};
 use crate::printing::Printed;
 use crate::reading::Reading;
 use byte_streams::{Input, NoMemory, Stop};
@@ -56,11 +56,13 @@ impl LetteredImports<'_> {
         ensures kept { IfOk result (λ printed. IsRecord line.now → 0 < length printed.text.items) }
         ensures ended { IfOk result (λ printed. due reading.old.open ≤ due reading.new.open + length printed.text.items) }
     {
-        let first = kind_of(alloc, self.imports.printing.rays, line)?;
-        let kind = kind_anew(first);
+        let first = read_line(alloc, self.imports.printing.rays, line)?;
+        let kind = kind_anew(first.kind);
         let findings = self.imports.findings(alloc, number, line, kind, reading)?;
         let printing = &self.imports.printing;
-        let printed = printing.printed(alloc, line, findings.as_slice())?;
+        let counts = self.imports.counts.get();
+        let printed = printing.printed(alloc, line, findings.as_slice(), counts)?;
+        self.imports.counts.set(printed.counts);
         Ok(printed)
     }
 }
@@ -71,12 +73,12 @@ impl LetteredImports<'_> {
         ensures imported { IfOk result (λ printed. (keep : Bool) (given : Option ℕ) (line : List ℕ)
             → AreImported (IsMade keep given line) printed.text.items printed.any) }
     {
-        let mut printed = Printed::new(alloc);
+        let mut printed = Printed::new(alloc, self.imports.counts.get());
         if self.imports.passes_long(number) {
             return Ok(printed);
         }
         printed.push_refusal(alloc, number, ImportFault::Record(EpdFault::TooLong))?;
-        self.imports.count(alloc, &printed)?;
+        self.imports.counts.set(printed.counts);
         Ok(printed)
     }
 }
@@ -99,7 +101,6 @@ impl LineHandler for LetteredImports<'_> {
     ) -> Result<Output, NoMemory> {
         let read = line_read(alloc, &self.letters, line)?;
         let printed = self.reply(alloc, number, read.as_slice(), reading)?;
-        self.imports.count(alloc, &printed)?;
         Ok(output_of(printed))
     }
 

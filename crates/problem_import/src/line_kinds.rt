@@ -1,20 +1,33 @@
 //! What a line is: a record in which there is nothing to mend, another record, or none.
 
-ghost use Rattle.std.specs.Prelude.{◌≡◌, IfErr, IfNone, IfOk, IfSome, None, Some, true};
+ghost use Rattle.std.specs.Prelude.{◌≡◌, ◌≢◌, Bool, IfErr, IfOk, IfSome, true};
 ghost use Rattle.std.specs.List.{list_all};
 ghost use Rattle.chess_notation.specs.Records.{RecordValue, Reads};
+ghost use Rattle.problem_import.specs.inside.Counted.{IsSaid};
 ghost use Rattle.problem_import.specs.Imports.{IsClean, IsRecord};
 ghost use Rattle.problem_import.specs.Mendable.{has_clear_claims, is_mendable as is_mendable_byte, is_settled};
 ghost use Rattle.problem_import.specs.inside.Findings.{Asks};
+ghost use Rattle.problem_import.specs.inside.LineRecords.{IsFoundIn, IsReadBy};
 ghost use Rattle.chess_notation.specs.declared.epd_faults.EpdFault.{EpdFault as EpdFaultValue};
 
 use crate::import_faults::ImportFault;
 use byte_streams::NoMemory;
 use chess_board::Position;
 use chess_moves::Rays;
-use chess_notation::{Bound, EpdFault, claimed_moves, claims_text, read_record, records_clear};
+use chess_notation::{
+    Bound, EpdFault, claimed_moves, claims_text, read_record, records_clear, says_one,
+};
 use std::alloc::Global;
 use stipulations::speaks_of_mate;
+
+/// A record that a line is.
+#[derive(Clone, Copy)]
+pub(crate) struct LineRecord {
+    position: Position,
+    bound: Bound,
+    /// Whether it says its number of moves itself.
+    says: bool,
+}
 
 /// What a line is.
 #[derive(Clone, Copy)]
@@ -27,11 +40,18 @@ pub(crate) enum LineKind {
     Other,
 }
 
+/// What a line is, and whether it says its number of moves itself, if it is a record.
+#[derive(Clone, Copy)]
+pub(crate) struct LineRead {
+    pub(crate) kind: LineKind,
+    pub(crate) says: bool,
+}
+
 /// What a line asks that is to be a record.
 #[derive(Clone, Copy)]
 pub(crate) enum RecordKind {
-    /// It is one, and asks what it is to ask.
-    Right,
+    /// It is one, and asks what it is to ask; and whether it says its number of moves itself.
+    Right(bool),
     /// It is one, and asks another number of moves.
     Other,
     /// It is none.
@@ -48,20 +68,34 @@ fn some_bound() -> Bound
     }
 }
 
-/// The bound of the record that a line is, or what a line that is none is refused by.
-fn record_bound(
+/// A bound for which few records ask.
+fn long_bound() -> Bound
+    ensures { result ≡ 15 }
+{
+    match Bound::new(15) {
+        Some(bound) => bound,
+        None => unreachable!(),
+    }
+}
+
+/// What a line says with such a default bound, or what a line that is no record is refused by.
+fn read_by(
     alloc: Global,
     rays: &Rays,
     line: &[u8],
-) -> Result<Result<Bound, EpdFault>, NoMemory>
-    ensures record { IfOk result (λ read. IfOk read (λ bound. IsRecord line.now)) }
-    ensures bound { IfOk result (λ read. IfOk read (λ bound. Asks (Some bound) line.now)) }
+    default: Bound,
+) -> Result<Result<LineRecord, EpdFault>, NoMemory>
+    ensures reads { IfOk result (λ read. IfOk read (λ found. IsReadBy line.now default found)) }
     ensures none { IfOk result (λ read. IfErr read (λ fault. ¬ (IsRecord line.now))) }
 {
     // That a line with a fault is no record is this law.
     records_clear();
-    match read_record(alloc, rays, line, some_bound()) {
-        Ok(record) => Ok(Ok(record.bound)),
+    match read_record(alloc, rays, line, default) {
+        Ok(record) => Ok(Ok(LineRecord {
+            position: record.position,
+            bound: record.bound,
+            says: true,
+        })),
         Err(fault) => {
             if fault == EpdFault::NoMemory {
                 return Err(NoMemory);
@@ -69,6 +103,38 @@ fn record_bound(
             Ok(Err(fault))
         }
     }
+}
+
+/// The record that a line is, or what a line that is none is refused by. It is read once more where it says no number of moves, as far as
+/// can be seen by a default bound.
+fn line_record(
+    alloc: Global,
+    rays: &Rays,
+    line: &[u8],
+) -> Result<Result<LineRecord, EpdFault>, NoMemory>
+    ensures found { IfOk result (λ read. IfOk read (λ found. IsFoundIn line.now found)) }
+    ensures none { IfOk result (λ read. IfErr read (λ fault. ¬ (IsRecord line.now))) }
+{
+    // That a line says one record at most is this law.
+    says_one();
+    let first = match read_by(alloc, rays, line, long_bound())? {
+        Ok(first) => first,
+        Err(fault) => return Ok(Err(fault)),
+    };
+    if first.bound.get() != 15 {
+        return Ok(Ok(first));
+    }
+    let again = match read_by(alloc, rays, line, some_bound())? {
+        Ok(again) => again,
+        Err(fault) => return Ok(Err(fault)),
+    };
+    if again.bound.get() == 15 {
+        return Ok(Ok(again));
+    }
+    Ok(Ok(LineRecord {
+        says: false,
+        ..again
+    }))
 }
 
 /// Whether a record of such a bound asks so many moves, where that is a number.
@@ -88,14 +154,15 @@ pub(crate) fn asking(
     line: &[u8],
     moves: Option<u8>,
 ) -> Result<RecordKind, NoMemory>
-    ensures record { IfOk result (λ asking. asking ≡ RecordKind.Right → IsRecord line.now) }
-    ensures asks { IfOk result (λ asking. asking ≡ RecordKind.Right → Asks moves line.now) }
+    ensures record { IfOk result (λ asking. (says : Bool) → asking ≡ RecordKind.Right says → IsRecord line.now) }
+    ensures said { IfOk result (λ asking. (says : Bool) → asking ≡ RecordKind.Right says → IsSaid line.now says) }
+    ensures asks { IfOk result (λ asking. (says : Bool) → asking ≡ RecordKind.Right says → Asks moves line.now) }
     ensures none { IfOk result (λ asking. (fault : EpdFaultValue) → asking ≡ RecordKind.Refused fault → ¬ (IsRecord line.now)) }
 {
-    match record_bound(alloc, rays, line)? {
-        Ok(bound) => {
-            if is_asked(bound, moves) {
-                Ok(RecordKind::Right)
+    match line_record(alloc, rays, line)? {
+        Ok(found) => {
+            if is_asked(found.bound, moves) {
+                Ok(RecordKind::Right(found.says))
             } else {
                 Ok(RecordKind::Other)
             }
@@ -104,20 +171,21 @@ pub(crate) fn asking(
     }
 }
 
-/// What such a line is refused by; nothing where it is a record that asks what it is to ask.
-pub(crate) fn asking_fault(
+/// What such a line is refused by; or it is a record that asks what it is to ask, and whether it says its number of moves itself.
+pub(crate) fn says_asked(
     alloc: Global,
     rays: &Rays,
     line: &[u8],
     moves: Option<u8>,
-) -> Result<Option<ImportFault>, NoMemory>
-    ensures record { IfOk result (λ fault. fault ≡ None → IsRecord line.now) }
-    ensures asks { IfOk result (λ fault. fault ≡ None → Asks moves line.now) }
+) -> Result<Result<bool, ImportFault>, NoMemory>
+    ensures record { IfOk result (λ asked. IfOk asked (λ says. IsRecord line.now)) }
+    ensures said { IfOk result (λ asked. IfOk asked (λ says. IsSaid line.now says)) }
+    ensures asks { IfOk result (λ asked. IfOk asked (λ says. Asks moves line.now)) }
 {
     match asking(alloc, rays, line, moves)? {
-        RecordKind::Right => Ok(None),
-        RecordKind::Other => Ok(Some(ImportFault::TwoBounds)),
-        RecordKind::Refused(fault) => Ok(Some(ImportFault::Record(fault))),
+        RecordKind::Right(says) => Ok(Ok(says)),
+        RecordKind::Other => Ok(Err(ImportFault::TwoBounds)),
+        RecordKind::Refused(fault) => Ok(Err(ImportFault::Record(fault))),
     }
 }
 
@@ -137,25 +205,6 @@ fn have_no_mendable(line: &[u8]) -> bool
         }
     }
     true
-}
-
-/// The position of the record that a line is, or none.
-fn position_in(alloc: Global, rays: &Rays, line: &[u8]) -> Result<Option<Position>, NoMemory>
-    ensures record { IfOk result (λ found. IfSome found (λ p. IsRecord line.now)) }
-    ensures position { IfOk result (λ found. IfSome found (λ p. (r : RecordValue) → Reads line.now 3 r → r.position ≡ p)) }
-    ensures none { IfOk result (λ found. IfNone found (¬ (IsRecord line.now))) }
-{
-    // That a line with a fault is no record is this law.
-    records_clear();
-    match read_record(alloc, rays, line, some_bound()) {
-        Ok(record) => Ok(Some(record.position)),
-        Err(fault) => {
-            if fault == EpdFault::NoMemory {
-                return Err(NoMemory);
-            }
-            Ok(None)
-        }
-    }
 }
 
 /// Whether each operand of `bm` says a number of moves, or names a legal move. Where there is none, no move is looked for.
@@ -179,22 +228,44 @@ fn have_clear_claims(
     }
 }
 
-/// What a line is.
-pub(crate) fn kind_of(alloc: Global, rays: &Rays, line: &[u8]) -> Result<LineKind, NoMemory>
-    ensures record { IfOk result (λ kind. kind ≡ LineKind.Clean → IsRecord line.now) }
-    ensures other { IfOk result (λ kind. kind ≡ LineKind.Other → ¬ (IsRecord line.now)) }
+/// What a line is that is a record of such a position.
+fn kind_of_record(
+    alloc: Global,
+    rays: &Rays,
+    line: &[u8],
+    position: &Position,
+) -> Result<LineKind, NoMemory>
+    requires position { (r : RecordValue) → Reads line.now 3 r → r.position ≡ position.now }
+    ensures other { IfOk result (λ kind. kind ≢ LineKind.Other) }
     ensures mendable { IfOk result (λ kind. kind ≡ LineKind.Mendable → ¬ (IsClean line.now)) }
-    ensures mended { IfOk result (λ kind. kind ≡ LineKind.Mendable → IsRecord line.now) }
 {
-    let Some(position) = position_in(alloc, rays, line)? else {
-        return Ok(LineKind::Other);
-    };
     if !have_no_mendable(line) || speaks_of_mate(line) {
         return Ok(LineKind::Mendable);
     }
-    if have_clear_claims(alloc, rays, line, &position)? {
+    if have_clear_claims(alloc, rays, line, position)? {
         Ok(LineKind::Clean)
     } else {
         Ok(LineKind::Mendable)
     }
+}
+
+/// What a line is.
+pub(crate) fn read_line(alloc: Global, rays: &Rays, line: &[u8]) -> Result<LineRead, NoMemory>
+    ensures record { IfOk result (λ read. read.kind ≡ LineKind.Clean → IsRecord line.now) }
+    ensures said { IfOk result (λ read. read.kind ≡ LineKind.Clean → IsSaid line.now read.says) }
+    ensures other { IfOk result (λ read. read.kind ≡ LineKind.Other → ¬ (IsRecord line.now)) }
+    ensures mendable { IfOk result (λ read. read.kind ≡ LineKind.Mendable → ¬ (IsClean line.now)) }
+    ensures mended { IfOk result (λ read. read.kind ≡ LineKind.Mendable → IsRecord line.now) }
+{
+    let Ok(found) = line_record(alloc, rays, line)? else {
+        return Ok(LineRead {
+            kind: LineKind::Other,
+            says: false,
+        });
+    };
+    let kind = kind_of_record(alloc, rays, line, &found.position)?;
+    Ok(LineRead {
+        kind,
+        says: found.says,
+    })
 }

@@ -4,7 +4,7 @@ ghost use Rattle.std.specs.Prelude.{IfOk};
 ghost use Rattle.problem_import.specs.Imports.{IsRecord};
 
 use crate::import_faults::ImportFault;
-use crate::line_kinds::asking_fault;
+use crate::line_kinds::says_asked;
 use crate::moves::with_moves;
 use crate::printing::moves_of;
 use crate::reading::Found;
@@ -24,9 +24,9 @@ fn checked(
 ) -> Result<Result<Vec<u8>, ImportFault>, NoMemory>
     ensures { IfOk result (λ made. IfOk made (λ text. IsRecord text.items)) }
 {
-    match asking_fault(alloc, rays, text.as_slice(), moves)? {
-        None => Ok(Ok(text)),
-        Some(fault) => Ok(Err(fault)),
+    match says_asked(alloc, rays, text.as_slice(), moves)? {
+        Ok(_) => Ok(Ok(text)),
+        Err(fault) => Ok(Err(fault)),
     }
 }
 
@@ -40,13 +40,13 @@ fn bounded(
     ensures { IfOk result (λ made. IfOk made (λ text. IsRecord text.items)) }
 {
     let mut text = text;
-    match (asking_fault(alloc, rays, text.as_slice(), None)?, bound) {
-        (None, Some(bound)) => {
+    match (says_asked(alloc, rays, text.as_slice(), None)?, bound) {
+        (Ok(_), Some(bound)) => {
             push_bound_operation(&mut text, bound.get())?;
             checked(alloc, rays, text, Some(bound.get()))
         }
-        (None, None) => Ok(Err(ImportFault::NoBound)),
-        (Some(fault), _) => Ok(Err(fault)),
+        (Ok(_), None) => Ok(Err(ImportFault::NoBound)),
+        (Err(fault), _) => Ok(Err(fault)),
     }
 }
 

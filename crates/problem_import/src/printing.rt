@@ -3,6 +3,8 @@
 ghost use Rattle.std.specs.Prelude.{◌≡◌, ◌<◌, ◌++◌, ◌∷◌, [], ℕ, Bool, List, Option, IfNone, IfOk, IfSome, decimal, length};
 ghost use Rattle.chess_board.specs.Characters.{char};
 ghost use Rattle.problem_import.specs.Changes.{telling};
+ghost use Rattle.problem_import.specs.inside.Counted.{AreCounted, IsSaid};
+ghost use Rattle.problem_import.specs.declared.import_counts.ImportCounts.{ImportCounts as ImportCountsValue};
 ghost use Rattle.problem_import.specs.Imports.{AreImported, EndsWithLine, IsMade, IsRecord, refused_line};
 ghost use Rattle.problem_import.specs.inside.FieldTexts.{GoesOn};
 ghost use Rattle.problem_import.specs.inside.Findings.{AreFoundOf, Asks, IsAskedOf, IsFoundOf, IsNumberOf, IsOwn, MayBeTold};
@@ -11,8 +13,9 @@ ghost use Rattle.problem_import.specs.inside.KeptChanges.{has_change};
 
 use crate::changes::Changes;
 use crate::fields::push_behind;
+use crate::import_counts::ImportCounts;
 use crate::import_faults::ImportFault;
-use crate::line_kinds::{LineKind, RecordKind, asking, asking_fault};
+use crate::line_kinds::{LineKind, LineRead, RecordKind, asking, says_asked};
 use crate::moves::with_moves;
 use crate::reading::{Finding, Found, Number};
 use crate::texts::push_bound_operation;
@@ -22,11 +25,12 @@ use chess_notation::Bound;
 use move_words::Letters;
 use std::alloc::{AllocError, Global};
 
-/// What is printed, and whether a problem is refused there.
+/// What is printed, whether a problem is refused there, and how much has been printed with it.
 #[derive(Drop)]
 pub(crate) struct Printed {
     pub(crate) text: Vec<u8>,
     pub(crate) any: bool,
+    pub(crate) counts: ImportCounts,
 }
 
 /// How what is printed goes on records: whether what was changed to make them is told, the bound of those that say none, and the letters of
@@ -87,42 +91,51 @@ fn push_refused_line(
 }
 
 impl Printed {
-    /// Nothing.
-    pub(crate) fn new(alloc: Global) -> Printed
-        ensures { (keep : Bool) (given : Option ℕ) (line : List ℕ) → AreImported (IsMade keep given line) result.text.items result.any }
+    /// Nothing, where so much has been printed.
+    pub(crate) fn new(alloc: Global, counts: ImportCounts) -> Printed
+        ensures imported { (keep : Bool) (given : Option ℕ) (line : List ℕ) → AreImported (IsMade keep given line) result.text.items result.any }
+        ensures counted { AreCounted counts result.text.items result.counts }
     {
         Printed {
             text: Vec::new(alloc),
             any: false,
+            counts,
         }
     }
 
-    /// Adds a record.
-    pub(crate) fn push_record(&mut self, made: &[u8]) -> Result<(), AllocError>
-        requires { IsRecord made.now }
+    /// Adds a record, which says its number of moves itself or doesn't.
+    pub(crate) fn push_record(&mut self, made: &[u8], says: bool) -> Result<(), AllocError>
+        requires record { IsRecord made.now }
+        requires said { IsSaid made.now says }
         ensures imported { IfOk result (λ _. (keep : Bool) (given : Option ℕ) (line : List ℕ) → IsMade keep given line made.now
             → AreImported (IsMade keep given line) self.old.text.items self.old.any
             → AreImported (IsMade keep given line) self.new.text.items self.new.any) }
+        ensures counted { IfOk result (λ _. (first : ImportCountsValue) → AreCounted first self.old.text.items self.old.counts
+            → AreCounted first self.new.text.items self.new.counts) }
         ensures text { IfOk result (λ _. self.new.text.items ≡ self.old.text.items ++ made.now ++ char "\n" ∷ []) }
     {
         push_line(&mut self.text, made)?;
+        self.counts = self.counts.with_record(says);
         Ok(())
     }
 
     /// The same with a line behind it, if that is clean.
-    pub(crate) fn with_line_if(self, kind: LineKind, line: &[u8]) -> Result<Printed, AllocError>
-        requires { kind ≡ LineKind.Clean → IsRecord line.now }
+    pub(crate) fn with_line_if(self, read: LineRead, line: &[u8]) -> Result<Printed, AllocError>
+        requires record { read.kind ≡ LineKind.Clean → IsRecord line.now }
+        requires said { read.kind ≡ LineKind.Clean → IsSaid line.now read.says }
         ensures imported { IfOk result (λ printed. (keep : Bool) (given : Option ℕ)
             → AreImported (IsMade keep given line.now) self.text.items self.any
             → AreImported (IsMade keep given line.now) printed.text.items printed.any) }
-        ensures clean { IfOk result (λ printed. kind ≡ LineKind.Clean → EndsWithLine line.now printed.text.items) }
+        ensures counted { IfOk result (λ printed. (first : ImportCountsValue) → AreCounted first self.text.items self.counts
+            → AreCounted first printed.text.items printed.counts) }
+        ensures clean { IfOk result (λ printed. read.kind ≡ LineKind.Clean → EndsWithLine line.now printed.text.items) }
         ensures filled { IfOk result (λ printed. 0 < length self.text.items → 0 < length printed.text.items) }
     {
         let mut printed = self;
-        let LineKind::Clean = kind else {
+        let LineKind::Clean = read.kind else {
             return Ok(printed);
         };
-        printed.push_record(line)?;
+        printed.push_record(line, read.says)?;
         Ok(printed)
     }
 
@@ -136,11 +149,14 @@ impl Printed {
         ensures imported { IfOk result (λ _. (keep : Bool) (given : Option ℕ) (line : List ℕ)
             → AreImported (IsMade keep given line) self.old.text.items self.old.any
             → AreImported (IsMade keep given line) self.new.text.items self.new.any) }
+        ensures counted { IfOk result (λ _. (first : ImportCountsValue) → AreCounted first self.old.text.items self.old.counts
+            → AreCounted first self.new.text.items self.new.counts) }
         ensures filled { IfOk result (λ _. 0 < length self.new.text.items) }
     {
         let text = &mut self.text;
         push_refused_line(text, number, number.to_string(alloc)?.as_bytes(), fault)?;
         self.any = true;
+        self.counts = self.counts.with_refusal(fault);
         Ok(())
     }
 }
@@ -148,8 +164,8 @@ impl Printed {
 /// Whether a record tells what was changed to make it.
 #[derive(Drop)]
 pub(crate) enum ToldRecord {
-    /// It does.
-    As(Vec<u8>),
+    /// It does, and says its number of moves itself or doesn't.
+    As(Vec<u8>, bool),
     /// It doesn't.
     Not,
     /// It would ask for another number of moves if it did.
@@ -194,13 +210,13 @@ impl Printing<'_> {
         }
         let told = telling_text(alloc, text, changes)?;
         match asking(alloc, self.rays, told.as_slice(), moves)? {
-            RecordKind::Right => Ok(ToldRecord::As(told)),
+            RecordKind::Right(says) => Ok(ToldRecord::As(told, says)),
             RecordKind::Other => Ok(ToldRecord::Two),
             RecordKind::Refused(_) => Ok(ToldRecord::Not),
         }
     }
 
-    /// Adds a record that was made.
+    /// Adds a record that was made, which says its number of moves itself or doesn't.
     fn push_made(
         &self,
         alloc: Global,
@@ -208,25 +224,29 @@ impl Printing<'_> {
         line: &[u8],
         number: usize,
         text: &[u8],
+        says: bool,
         moves: Option<u8>,
         changes: &Changes,
     ) -> Result<(), NoMemory>
         requires record { IsRecord text.now }
+        requires said { IsSaid text.now says }
         requires own { IsOwn changes.now.form line.now text.now }
         requires number { IsNumberOf changes.now.form self.now.bound line.now moves }
         requires asks { Asks moves text.now }
         ensures imported { IfOk result (λ _. AreImported (IsMade self.now.keep self.now.bound line.now) printed.old.text.items printed.old.any
             → AreImported (IsMade self.now.keep self.now.bound line.now) printed.new.text.items printed.new.any) }
+        ensures counted { IfOk result (λ _. (first : ImportCountsValue) → AreCounted first printed.old.text.items printed.old.counts
+            → AreCounted first printed.new.text.items printed.new.counts) }
         ensures filled { IfOk result (λ _. 0 < length printed.new.text.items) }
     {
         let told = self.told(alloc, line, text, moves, changes)?;
         match told {
-            ToldRecord::As(more) => {
-                printed.push_record(more.as_slice())?;
+            ToldRecord::As(more, says) => {
+                printed.push_record(more.as_slice(), says)?;
                 Ok(())
             }
             ToldRecord::Not => {
-                printed.push_record(text)?;
+                printed.push_record(text, says)?;
                 Ok(())
             }
             ToldRecord::Two => {
@@ -251,13 +271,17 @@ impl Printing<'_> {
         requires number { IsNumberOf changes.now.form self.now.bound line.now moves }
         ensures imported { IfOk result (λ _. AreImported (IsMade self.now.keep self.now.bound line.now) printed.old.text.items printed.old.any
             → AreImported (IsMade self.now.keep self.now.bound line.now) printed.new.text.items printed.new.any) }
+        ensures counted { IfOk result (λ _. (first : ImportCountsValue) → AreCounted first printed.old.text.items printed.old.counts
+            → AreCounted first printed.new.text.items printed.new.counts) }
         ensures filled { IfOk result (λ _. 0 < length printed.new.text.items) }
     {
-        let Some(fault) = asking_fault(alloc, self.rays, text, moves)? else {
-            return self.push_made(alloc, printed, line, number, text, moves, changes);
-        };
-        printed.push_refusal(alloc, number, fault)?;
-        Ok(())
+        match says_asked(alloc, self.rays, text, moves)? {
+            Ok(says) => { self.push_made(alloc, printed, line, number, text, says, moves, changes) }
+            Err(fault) => {
+                printed.push_refusal(alloc, number, fault)?;
+                Ok(())
+            }
+        }
     }
 
     /// Adds the record that a text is with the bound of those that say none, or why there is none.
@@ -274,10 +298,12 @@ impl Printing<'_> {
         requires number { IsAskedOf changes.now.form line.now Number.Unsaid }
         ensures imported { IfOk result (λ _. AreImported (IsMade self.now.keep self.now.bound line.now) printed.old.text.items printed.old.any
             → AreImported (IsMade self.now.keep self.now.bound line.now) printed.new.text.items printed.new.any) }
+        ensures counted { IfOk result (λ _. (first : ImportCountsValue) → AreCounted first printed.old.text.items printed.old.counts
+            → AreCounted first printed.new.text.items printed.new.counts) }
         ensures filled { IfOk result (λ _. 0 < length printed.new.text.items) }
     {
-        let fault = match (asking_fault(alloc, self.rays, text, None)?, self.bound) {
-            (None, Some(bound)) => {
+        let fault = match (says_asked(alloc, self.rays, text, None)?, self.bound) {
+            (Ok(_), Some(bound)) => {
                 let bounded = with_bound(alloc, text, bound)?;
                 let changes = changes.of_bound();
                 return self.push_text(
@@ -290,8 +316,8 @@ impl Printing<'_> {
                     &changes,
                 );
             }
-            (None, None) => ImportFault::NoBound,
-            (Some(fault), _) => fault,
+            (Ok(_), None) => ImportFault::NoBound,
+            (Err(fault), _) => fault,
         };
         printed.push_refusal(alloc, number, fault)?;
         Ok(())
@@ -312,6 +338,8 @@ impl Printing<'_> {
         requires number { IsAskedOf changes.form line.now moves }
         ensures imported { IfOk result (λ _. AreImported (IsMade self.now.keep self.now.bound line.now) printed.old.text.items printed.old.any
             → AreImported (IsMade self.now.keep self.now.bound line.now) printed.new.text.items printed.new.any) }
+        ensures counted { IfOk result (λ _. (first : ImportCountsValue) → AreCounted first printed.old.text.items printed.old.counts
+            → AreCounted first printed.new.text.items printed.new.counts) }
         ensures filled { IfOk result (λ _. 0 < length printed.new.text.items) }
     {
         let mut changes = changes;
@@ -334,6 +362,8 @@ impl Printing<'_> {
         requires { IsFoundOf line.now finding.now.found }
         ensures imported { IfOk result (λ _. AreImported (IsMade self.now.keep self.now.bound line.now) printed.old.text.items printed.old.any
             → AreImported (IsMade self.now.keep self.now.bound line.now) printed.new.text.items printed.new.any) }
+        ensures counted { IfOk result (λ _. (first : ImportCountsValue) → AreCounted first printed.old.text.items printed.old.counts
+            → AreCounted first printed.new.text.items printed.new.counts) }
         ensures filled { IfOk result (λ _. 0 < length printed.new.text.items) }
     {
         let number = finding.number;
@@ -349,18 +379,20 @@ impl Printing<'_> {
         }
     }
 
-    /// What is printed of what was found where a line was read, or none, which is empty.
+    /// What is printed of what was found where a line was read, or none, which is empty, and so much has been printed.
     pub(crate) fn printed(
         &self,
         alloc: Global,
         line: &[u8],
         findings: &[Finding],
+        counts: ImportCounts,
     ) -> Result<Printed, NoMemory>
         requires { AreFoundOf line.now findings.now }
+        ensures counted { IfOk result (λ printed. AreCounted counts printed.text.items printed.counts) }
         ensures imported { IfOk result (λ printed. AreImported (IsMade self.now.keep self.now.bound line.now) printed.text.items printed.any) }
         ensures filled { IfOk result (λ printed. 0 < length findings.now → 0 < length printed.text.items) }
     {
-        let mut printed = Printed::new(alloc);
+        let mut printed = Printed::new(alloc, counts);
         for finding in findings {
             self.push(alloc, &mut printed, line, finding)?;
         }

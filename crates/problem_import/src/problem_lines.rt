@@ -13,7 +13,7 @@ ghost use Rattle.problem_import.specs.inside.Answered.{IsFilled, IsFound};
 
 use crate::import_faults::ImportFault;
 use crate::importing::{Imports, one_if};
-use crate::line_kinds::{LineKind, kind_of};
+use crate::line_kinds::{LineKind, read_line};
 use crate::made_records::made_record;
 use crate::problem_handlers::ProblemHandler;
 use crate::reading::{Finding, Open, Reading};
@@ -211,7 +211,8 @@ impl<H: ProblemHandler> ProblemLines<'_, H> {
             number line.now
             answers.text.items (one_if_any answers.any)) }
     {
-        let kind = kind_of(alloc, self.imports.printing.rays, line)?;
+        let read = read_line(alloc, self.imports.printing.rays, line)?;
+        let kind = read.kind;
         let findings = self
             .imports
             .findings(alloc, number, line, kind, &mut memory.reading)?;

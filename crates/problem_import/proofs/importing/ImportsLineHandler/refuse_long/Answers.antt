@@ -5,7 +5,7 @@ pub returns-then-passes_long-clause-reply : goal.returns-then-passes_long-clause
 returns-then-passes_long-clause-reply c =
     long_reply c.args.self.now.printing.keep c.args.self.now.printing.bound c.args.number c.output_of.result.text.items
     c.new-printed.result.text.items
-    c.new-printed.result.any c.output_of.result.refused (λ line. c.new-printed.ensures c.args.self.now.printing.keep
+    c.new-printed.result.any c.output_of.result.refused (λ line. c.new-printed.ensures.imported c.args.self.now.printing.keep
     c.args.self.now.printing.bound line)
     c.output_of.ensures.text c.output_of.ensures.refused
 
@@ -15,5 +15,5 @@ returns-clause-reply c =
     let given = c.args.self.now.printing.bound in
     long_reply keep given c.args.number c.output_of-2.result.text.items c.push_refusal.new.self.text.items
     c.push_refusal.new.self.any c.output_of-2.result.refused
-    (λ line. c.in_ok-push_refusal.ensures.imported keep given line (c.new-printed.ensures keep given line))
+    (λ line. c.in_ok-push_refusal.ensures.imported keep given line (c.new-printed.ensures.imported keep given line))
     c.output_of-2.ensures.text c.output_of-2.ensures.refused

@@ -6,7 +6,7 @@ use Rattle.problem_import.proofs.lettered_imports.LetteredImports.reply.Goals as
 
 pub returns-clause-kept : goal.returns-clause-kept
 returns-clause-kept c =
-    kept_anew c.in_ok-first.first c.kind_anew-kind.result c.args.line.now (length c.in_ok-findings.findings.items)
+    kept_anew c.in_ok-first.first.kind c.kind_anew-kind.result c.args.line.now (length c.in_ok-findings.findings.items)
     (length c.in_ok-printed.printed.text.items) c.in_ok-first.ensures.other c.kind_anew-kind.ensures.clean c.kind_anew-kind.ensures.other
     c.in_ok-findings.ensures.found (λ some. c.in_ok-printed.ensures.filled (rw c.as_slice.ensures.value some))
 
@@ -18,7 +18,7 @@ returns-clause-ended c =
 
 pub findings-requires-clause-mended : goal.findings-requires-clause-mended
 findings-requires-clause-mended c =
-    record_anew c.in_ok-first.first c.kind_anew-kind.result c.args.line.now c.in_ok-first.ensures.record c.in_ok-first.ensures.mended
+    record_anew c.in_ok-first.first.kind c.kind_anew-kind.result c.args.line.now c.in_ok-first.ensures.record c.in_ok-first.ensures.mended
     c.kind_anew-kind.ensures.mendable
 
 pub findings-requires-clause-other : goal.findings-requires-clause-other

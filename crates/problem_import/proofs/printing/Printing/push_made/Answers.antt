@@ -4,7 +4,7 @@ use Rattle.problem_import.proofs.printing.Printing.push_made.Goals as goal
 pub returns-in_ok-push_record-in-As-clause-imported : goal.returns-in_ok-push_record-in-As-clause-imported
 returns-in_ok-push_record-in-As-clause-imported c =
     c.in_ok-push_record-in-As.ensures.imported c.args.self.now.keep c.args.self.now.bound c.args.line.now
-    (rw c.as_slice.ensures.value ((rw c.in-As.is at c.in_ok-told.ensures).1))
+    (rw c.as_slice.ensures.value ((rw c.in-As.is at c.in_ok-told.ensures).2))
 
 pub returns-in_ok-push_record-in-As-clause-filled : goal.returns-in_ok-push_record-in-As-clause-filled
 returns-in_ok-push_record-in-As-clause-filled c =

@@ -5,12 +5,12 @@ use Rattle.problem_import.proofs.printing.Printing.push_unbound.Goals as goal
 
 pub push_text-requires-clause-own : goal.push_text-requires-clause-own
 push_text-requires-clause-own c =
-    own_bounded c.args.changes.now.form c.of_bound-changes.result.form c.args.line.now c.args.text.now c.in_ok-bounded-in-None-Some.bounded.items
-    c.as_slice.result.now c.of_bound-changes.ensures (c.in_ok-asking_fault.ensures.record c.in-None-Some.is-0)
-    c.in_ok-bounded-in-None-Some.ensures
+    own_bounded c.args.changes.now.form c.of_bound-changes.result.form c.args.line.now c.args.text.now c.in_ok-bounded-in-Ok-Some.bounded.items
+    c.as_slice.result.now c.of_bound-changes.ensures (rw c.in-Ok-Some.is-0 at c.in_ok-says_asked.ensures.record)
+    c.in_ok-bounded-in-Ok-Some.ensures
     c.as_slice.ensures.value c.requires.own
 
 pub push_text-requires-clause-number : goal.push_text-requires-clause-number
 push_text-requires-clause-number c =
-    number_given c.args.changes.now.form c.of_bound-changes.result.form c.args.self.now.bound c.args.line.now c.in-None-Some.bound
-    (Some c.get.result) c.of_bound-changes.ensures c.in-None-Some.is-1 (ap (λ n. Some n) c.get.ensures.moves) c.requires.number
+    number_given c.args.changes.now.form c.of_bound-changes.result.form c.args.self.now.bound c.args.line.now c.in-Ok-Some.bound
+    (Some c.get.result) c.of_bound-changes.ensures c.in-Ok-Some.is-1 (ap (λ n. Some n) c.get.ensures.moves) c.requires.number
