@@ -48,15 +48,7 @@ fn verify_until_stopped<S: Source, O: Write, E: Write>(
         limit,
         solver: OneThread,
     };
-    verify_json_limited(
-        alloc,
-        &limited,
-        &asked.files,
-        source,
-        memory,
-        out,
-        err,
-    )
+    verify_json_limited(alloc, &limited, &asked.files, source, memory, out, err)
 }
 
 /// The same, with a thread that counts the seconds.
