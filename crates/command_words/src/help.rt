@@ -185,13 +185,12 @@ The tree goes down to mate, or to the attacker's D-th move. With --defences it i
 as magazines print it. A reply is left out where a threat still mates in time after it;
 mates stand behind the replies that they answer, and threats behind moves that don't mate:
   1...d5, d6 2.Ng2#
-With --column as well the tree stands on one line, as in a solution column; with --figurines
-its pieces are figurines, else with --letters KDTLSB, or `de`, they have those letters of
-king, queen, rook, bishop, knight and pawn. With --set-play `set play` has before the keys
-what the attacker would answer were the defender to move first. With --tries `tries` has
-behind them each first move that exactly one reply refutes: 1.Qh3? Kd5! With --json there is
-one object for each line, as `solve --json` has it, with the lines of the tree as strings in
-`tree`.
+With --column as well the tree stands on one line, as in a solution column. With --letters
+KDTLSB, or `de`, pieces have these letters in place of KQRBNP; with --figurines they are
+figurines. With --set-play `set play` has before the keys what the attacker would answer
+were the defender to move first. With --tries `tries` has behind them each first move that
+exactly one reply refutes: 1.Qh3? Kd5! With --json there is one object for each line, as
+`solve --json` has it, with the lines of the tree as strings in `tree`.
 
 Example:
   $ cat problems.epd

@@ -145,13 +145,14 @@ pub enum Request<'m, 'a> {
     Verify(Bound, MemoSize, bool, Files<'m, 'a>),
     /// The same in JSON.
     VerifyJson(Bound, MemoSize, Files<'m, 'a>),
-    /// The same of problems as they are imported; where a bound is given, it is for problems that say none, which are else refused.
+    /// As `Verify`, of problems as they are imported; where a bound is given, it is for problems that say none, which are else refused.
     VerifyImported(Option<Bound>, MemoSize, bool, Files<'m, 'a>),
     /// As `Verify`, where each record may take so many seconds.
     VerifyLimited(LimitedVerify<'m, 'a>),
     /// The same in JSON, which has no first row.
     VerifyLimitedJson(LimitedVerify<'m, 'a>),
-    /// Tell the trees of the records of files, in order, in such a form; the bound is for records that say none. What the letters of men are.
+    /// Tell the trees of the records of files, in order, in such a form; the bound is for records that say none. A word
+    /// gives the letters of men.
     Tree(Bound, TreeForm, &'a str, Files<'m, 'a>),
     /// The same in JSON.
     TreeJson(Bound, TreeForm, &'a str, Files<'m, 'a>),
@@ -159,7 +160,7 @@ pub enum Request<'m, 'a> {
     /// the bound is for records that say none.
     Sheet(Bound, MemoSize, SheetForm, &'a str, &'m [&'a str]),
     /// Make records of the problems of files, in order; whether what was changed is told in them. Where a bound is given, it is for problems
-    /// that say none, which are else refused. What the letters of men are.
+    /// that say none, which are else refused. A word gives the letters of men.
     Import(bool, Option<Bound>, &'a str, &'m [&'a str]),
     /// Answer the records of files by so many workers, each over a memo of such a size, all files at once; the bound is for records
     /// that say none.

@@ -1,5 +1,5 @@
--- How the lines of a tree are laid out: one below the other, or as a column, and with letters or with figurines (own to
--- this project).
+-- How the lines of a tree are laid out: one below the other, or as a column, and with the letters of SAN, other letters or
+-- figurines (own to this project).
 use Rattle.std.specs.Prelude.{ℕ, ◌==◌, List, [], ◌∷◌, ◌++◌, codes, Bool, Option, Some, None, if◌then◌else◌}
 use Rattle.std.specs.List.{flat_map}
 use Rattle.chess_board.specs.Characters.{char}
@@ -35,11 +35,12 @@ letter_for l b =
     else if b == char "N" then l.knight
     else b
 
+-- the byte, where there is one
 abbrev pub any_byte : Option ℕ → List ℕ
 any_byte None = []
 any_byte (Some b) = b ∷ []
 
--- A king may have two.
+-- The same as bytes: a king may have two letters.
 abbrev pub lettered : Letters → ℕ → List ℕ
 lettered l b = letter_for l b ∷ (if b == char "K" then any_byte l.behind_king else [])
 

@@ -1,10 +1,11 @@
 //! The tree of a problem's solution: its keys and what they threaten, every defence, or those that parry alone, every way for the attacker
 //! to go on, set play and tries.
 //!
-//! What is true of a position is `mate_search`'s business, and how a move is written `chess_notation`'s. Each definition stands in the
-//! file of `specs/` with the same name. To read: `forms`, `lines`, `continuations` and `defences`, the tree below a move;
-//! `passing` and `threats`; `parries` and `variations`, of which a magazine prints a solution; `keys`, `set_play`, `tries`; then `trees`,
-//! over `sheets` and `layouts`, and `tree_replies` and `columns`. `laws` says of the definitions what they are meant to say.
+//! What is true of a position is `mate_search`'s business, how a move is written `chess_notation`'s, and which letters men have in a language
+//! `move_words`'s. Each definition stands in the file of `specs/` with the same name. To read: `forms`, `lines`, `continuations` and
+//! `defences`, the tree below a move; `passing` and `threats`; `parries` and `variations`, of which a magazine prints a solution; `keys`,
+//! `set_play`, `tries`; then `trees`, over `sheets` and `layouts`, and `tree_replies` and `columns`. `laws` says of the definitions what they
+//! are meant to say.
 #![tactic(auto)]
 
 mod columns;

@@ -149,7 +149,7 @@ fn run<S: Source, O: Write, E: Write>(
     let Some(request) = request else {
         complain(
             err,
-            "--flip goes with --board or --svg, and these not with each other; --json goes alone, but for files, numbers and --progress, and verify --import without --limit",
+            "--flip goes with --board or --svg, and these not with each other; verify --json goes without --header and --import, verify --import without --limit, and moves --json without another form",
         );
         return Some(MISUSED);
     };

@@ -132,8 +132,8 @@ pub fn tree_json<S: Source, O: Write, E: Write>(
 ) -> Result<bool, Stop>
     ensures ok { IfOk result (λ refused. Gains (TellsJson (S.holds source.now) bound (tree_form_of form letters.now) files.now.from
         (map (λ s. s.now) files.now.names.now) refused) (O.contents out.old) (O.contents out.new)) }
-    ensures err { IfErr result (λ stop. StopsTellingJson (S.holds source.now) (S.refuses source.now) bound (tree_form_of form letters.now) files.now.from
-        (map (λ s. s.now) files.now.names.now) stop (O.contents out.old) (O.contents out.new)) }
+    ensures err { IfErr result (λ stop. StopsTellingJson (S.holds source.now) (S.refuses source.now) bound (tree_form_of form letters.now)
+        files.now.from (map (λ s. s.now) files.now.names.now) stop (O.contents out.old) (O.contents out.new)) }
 {
     let rays = Rays::new();
     let mut memo = new_memo(alloc, ENTRIES)?;

@@ -78,7 +78,8 @@ fn long_bound() -> Bound
     }
 }
 
-/// What a line says with such a default bound, or what a line that is no record is refused by.
+/// What a line says with such a default bound, or what a line that is no record is refused by. That it says its number of moves itself is put
+/// down until it is read once more.
 fn read_by(
     alloc: Global,
     rays: &Rays,
@@ -105,8 +106,8 @@ fn read_by(
     }
 }
 
-/// The record that a line is, or what a line that is none is refused by. It is read once more where it says no number of moves, as far as
-/// can be seen by a default bound.
+/// The record that a line is, or what a line that is none is refused by. The line is read once more, with another default bound, where its
+/// bound is the first one.
 fn line_record(
     alloc: Global,
     rays: &Rays,

@@ -4,7 +4,8 @@ use Rattle.chess_notation.specs.Records.{RecordValue, Reads}
 use Rattle.problem_import.specs.inside.Counted.{IsSaid}
 use Rattle.problem_import.specs.declared.line_kinds.LineRecord.{LineRecord}
 
--- The line says a record of such a position and such a bound, where that is its default one.
+-- With such a default bound the line says a record of such a position and such a bound. That it says its number of moves itself is put down
+-- until it is read once more.
 unfoldable pub IsReadBy : List ℕ → ℕ → LineRecord → Type 0
 IsReadBy line default found = (r : RecordValue) × Reads line default r × (r.position ≡ found.position) × (r.bound ≡ found.bound)
     × (found.says ≡ true)
