@@ -6,6 +6,7 @@ from moves import after, bare_text, legal_moves
 
 HEADINGS = {"set play", "tries"}
 FIGURINES = str.maketrans("KQRBN", "\u2654\u2655\u2656\u2657\u2658")
+RUSSIAN = str.maketrans({"K": "Kr", "Q": "F", "R": "L", "B": "S", "N": "K"})
 
 
 def in_column(lines):
@@ -15,6 +16,10 @@ def in_column(lines):
 
 def with_figurines(lines):
     return [line.translate(FIGURINES) for line in lines]
+
+
+def with_russian_letters(lines):
+    return [line.translate(RUSSIAN) for line in lines]
 
 
 def moved(position, move):
