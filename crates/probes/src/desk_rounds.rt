@@ -79,6 +79,38 @@ fn full_desk(alloc: Global, rays: &Rays, asked: Rounds) -> Result<Desk, &'static
     Ok(desk)
 }
 
+/// Solves a job, and finishes it.
+fn finish(desk: &mut Desk, job: Job, rays: &Rays, memo: &mut Memo) -> Result<(), &'static str> {
+    match desk.finish(job.solve(rays, memo)) {
+        Ok(()) => Ok(()),
+        Err(_) => Err("finish"),
+    }
+}
+
+/// Withdraws the record of a job, and hands the job back.
+fn withdraw(desk: &mut Desk, s: usize, n: usize, job: Job) -> Result<(), &'static str> {
+    if desk.withdraw(s, n as u64).is_err() {
+        return Err("withdraw");
+    }
+    match desk.hand_back(job) {
+        Ok(()) => Ok(()),
+        Err(_) => Err("hand back"),
+    }
+}
+
+/// The record that a submitter hands in next, by what it collects.
+fn collected(
+    alloc: Global,
+    desk: &mut Desk,
+    s: usize,
+    rays: &Rays,
+) -> Result<Record, &'static str> {
+    match desk.collect(s) {
+        Ok(Some(delivery)) => record_after(alloc, rays, delivery),
+        _ => Err("delivery"),
+    }
+}
+
 /// Makes one round, counted from 0. Since submitters take turns, the record is that of the submitter whose turn it is.
 fn make_round(
     alloc: Global,
@@ -89,20 +121,15 @@ fn make_round(
     memo: &mut Memo,
 ) -> Result<(), &'static str> {
     let s = round.checked_rem(asked.submitters).ok_or("submitters")?;
+    let n = round.checked_div(asked.submitters).ok_or("submitters")?;
     let job = desk.take().ok_or("job")?;
     if asked.are_solved {
-        desk.finish(job.solve(rays, memo)).ok().ok_or("finish")?;
+        finish(desk, job, rays, memo)?;
     } else {
-        let n = round.checked_div(asked.submitters).ok_or("submitters")?;
-        desk.withdraw(s, n as u64).ok().ok_or("withdraw")?;
-        desk.hand_back(job).ok().ok_or("hand back")?;
+        withdraw(desk, s, n, job)?;
     }
-    let found = desk.collect(s).ok().ok_or("submitter")?;
-    submit(
-        desk,
-        s,
-        record_after(alloc, rays, found.ok_or("delivery")?)?,
-    )
+    let record = collected(alloc, desk, s, rays)?;
+    submit(desk, s, record)
 }
 
 /// The text of the answer to a record.

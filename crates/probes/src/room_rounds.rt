@@ -128,38 +128,60 @@ fn close(ends: &mut Ends) -> Result<(), &'static str> {
     Err("owed")
 }
 
-/// Makes all the rounds that are asked for, and counts what was collected.
-fn make_rounds(alloc: Global, asked: Rounds) -> Result<usize, &'static str> {
-    let rays = Rays::new();
+/// The keeper of a new room, its last window and its last bench.
+fn ends_of(alloc: Global, asked: Rounds) -> Result<Ends, &'static str> {
     let default = Bound::new(3).ok_or("bound")?;
-    let mut memo = match Memo::new(alloc, 16) {
-        Ok(memo) => memo,
-        Err(fault) => return Err(fault.code()),
-    };
+    match open_room(alloc, asked.windows, asked.benches, asked.ring, default) {
+        Ok(room) => last_ends(room),
+        Err(fault) => Err(fault.code()),
+    }
+}
+
+fn last_ends(room: Room) -> Result<Ends, &'static str> {
     let Room {
         keeper,
         mut windows,
         mut benches,
-    } = match open_room(alloc, asked.windows, asked.benches, asked.ring, default) {
-        Ok(room) => room,
-        Err(fault) => return Err(fault.code()),
-    };
-    let mut ends = Ends {
-        keeper,
-        window: windows.pop().ok_or("window")?,
-        bench: benches.pop().ok_or("bench")?,
-    };
+    } = room;
+    match (windows.pop(), benches.pop()) {
+        (Some(window), Some(bench)) => Ok(Ends {
+            keeper,
+            window,
+            bench,
+        }),
+        _ => Err("no window, or no bench"),
+    }
+}
+
+/// Makes all the rounds that are asked for, sends the benches home, and counts what was collected.
+fn turn_rounds(
+    alloc: Global,
+    rays: &Rays,
+    memo: &mut Memo,
+    ends: &mut Ends,
+    asked: Rounds,
+) -> Result<usize, &'static str> {
     let mut collected: usize = 0;
     for _ in 0..asked.rounds {
         if asked.are_idle {
             ends.keeper.turn();
         } else {
-            let more = make_round(alloc, &rays, &mut memo, &mut ends, asked.ring)?;
+            let more = make_round(alloc, rays, memo, ends, asked.ring)?;
             collected = collected.wrapping_add(more);
         }
     }
-    close(&mut ends)?;
+    close(ends)?;
     Ok(collected)
+}
+
+fn make_rounds(alloc: Global, asked: Rounds) -> Result<usize, &'static str> {
+    let rays = Rays::new();
+    let mut memo = match Memo::new(alloc, 16) {
+        Ok(memo) => memo,
+        Err(fault) => return Err(fault.code()),
+    };
+    let mut ends = ends_of(alloc, asked)?;
+    turn_rounds(alloc, &rays, &mut memo, &mut ends, asked)
 }
 
 /// Makes the rounds that the words ask for.

@@ -4,10 +4,11 @@ use crate::memory::{Digest, command};
 use crate::problems::{HARD, IN_FOUR, IN_THREE, IN_TWO, KNOWN};
 use crate::rooms::through_room;
 use crate::scripts::{one_move_from_mate, push_short, script};
-use crate::variants::{Variants, pattern_of};
+use crate::stops::Stop;
+use crate::variants::{Men, Variants, pattern_of};
 use crate::walks::walked;
 use chess_moves::Rays;
-use std::alloc::Global;
+use std::alloc::{AllocError, Global};
 
 /// What the jobs are made with.
 #[derive(Drop)]
@@ -19,12 +20,7 @@ struct Shop<'a> {
 }
 
 /// Does a job, and gives the digest of all its results.
-pub(crate) fn do_job(
-    alloc: Global,
-    job: &str,
-    size: usize,
-    seed: u64,
-) -> Result<Digest, &'static str> {
+pub(crate) fn do_job(alloc: Global, job: &str, size: usize, seed: u64) -> Result<Digest, Stop> {
     let rays = Rays::new();
     let shop = Shop {
         alloc,
@@ -32,174 +28,223 @@ pub(crate) fn do_job(
         size,
         seed,
     };
+    let mut digest = Digest::new();
     match job {
-        "hard" => hard(&shop),
-        "collection" => collection(&shop),
-        "short" => short(&shop),
-        "trees" => trees(&shop),
-        "positions" => positions(&shop),
-        "desk" => desk(&shop),
-        "all" => all(&shop),
-        _ => Err("no such job"),
+        "hard" => hard(&shop, &mut digest)?,
+        "collection" => collection(&shop, &mut digest)?,
+        "short" => short(&shop, &mut digest)?,
+        "trees" => trees(&shop, &mut digest)?,
+        "positions" => positions(&shop, &mut digest)?,
+        "desk" => desk(&shop, &mut digest)?,
+        "all" => all(&shop, &mut digest)?,
+        _ => return Err(Stop("no such job")),
     }
+    Ok(digest)
 }
 
-/// Records near some problems, one man elsewhere in each, with what the problems' records say of them.
-fn near(shop: &Shop, problems: &[&str], count: usize, using: u64) -> Result<String, &'static str> {
+/// Appends a record near the problem of a line, one man elsewhere, with what the problem's record says of it.
+fn push_near(
+    shop: &Shop,
+    text: &mut String,
+    line: &str,
+    variants: &mut Variants,
+) -> Result<(), Stop> {
+    let pattern = pattern_of(shop.alloc, shop.rays, line)?;
+    variants.push(shop.alloc, text, &pattern.men, 1)?;
+    text.push_str(pattern.rest)?;
+    text.push('\n')?;
+    Ok(())
+}
+
+/// Appends records near some problems.
+fn push_all_near(
+    shop: &Shop,
+    text: &mut String,
+    problems: &[&str],
+    count: usize,
+    using: u64,
+) -> Result<(), Stop> {
     let mut variants = Variants::of(shop.alloc, shop.seed, using);
-    let mut text = String::new(shop.alloc);
     for number in 0..count {
-        let line = problems
-            .get(number.checked_rem(problems.len()).unwrap_or(0))
-            .ok_or("problems")?;
-        let pattern = pattern_of(shop.alloc, shop.rays, line)?;
-        variants.push(shop.alloc, &mut text, &pattern.men, 1)?;
-        text.push_str(pattern.rest).ok().ok_or("NoMemory")?;
-        text.push('\n').ok().ok_or("NoMemory")?;
+        let number = number.checked_rem(problems.len()).unwrap_or(0);
+        push_near(
+            shop,
+            text,
+            problems.get(number).ok_or("problems")?,
+            &mut variants,
+        )?;
     }
-    Ok(text)
+    Ok(())
 }
 
-/// Records near hard problems, asked within one move less than these and no more than `most`.
+/// Appends a record near the hard problem of a line, asked within one move less and no more than `most`.
+fn push_near_hard(
+    shop: &Shop,
+    text: &mut String,
+    line: &str,
+    most: u8,
+    variants: &mut Variants,
+) -> Result<(), Stop> {
+    let pattern = pattern_of(shop.alloc, shop.rays, line)?;
+    variants.push(shop.alloc, text, &pattern.men, 1)?;
+    push_asked(shop.alloc, text, pattern.bound.saturating_sub(1).min(most))?;
+    Ok(())
+}
+
+fn push_asked(alloc: Global, text: &mut String, bound: u8) -> Result<(), AllocError> {
+    text.push_str("w - - dm ")?;
+    text.push_str(bound.to_string(alloc)?.as_str())?;
+    text.push_str(";\n")
+}
+
+/// Appends records near hard problems.
 fn push_hard(
     shop: &Shop,
     text: &mut String,
     count: usize,
     most: u8,
     using: u64,
-) -> Result<(), &'static str> {
+) -> Result<(), Stop> {
     let mut variants = Variants::of(shop.alloc, shop.seed, using);
     for number in 0..count {
-        let line = HARD
-            .get(number.checked_rem(HARD.len()).unwrap_or(0))
-            .ok_or("problems")?;
-        let pattern = pattern_of(shop.alloc, shop.rays, line)?;
-        variants.push(shop.alloc, text, &pattern.men, 1)?;
-        text.push_str("w - - dm ").ok().ok_or("NoMemory")?;
-        let bound = pattern.bound.saturating_sub(1).min(most);
-        text.push_str(bound.to_string(shop.alloc).ok().ok_or("NoMemory")?.as_str())
-            .ok()
-            .ok_or("NoMemory")?;
-        text.push_str(";\n").ok().ok_or("NoMemory")?;
+        let number = number.checked_rem(HARD.len()).unwrap_or(0);
+        push_near_hard(
+            shop,
+            text,
+            HARD.get(number).ok_or("problems")?,
+            most,
+            &mut variants,
+        )?;
     }
     Ok(())
 }
 
 /// Hard problems, many of them without a mate.
-fn hard(shop: &Shop) -> Result<Digest, &'static str> {
-    let mut digest = Digest::new();
+fn hard(shop: &Shop, digest: &mut Digest) -> Result<(), Stop> {
     let mut text = String::new(shop.alloc);
     push_hard(shop, &mut text, shop.size.wrapping_mul(4), 5, 1)?;
     push_hard(shop, &mut text, shop.size.wrapping_mul(20), 4, 11)?;
-    command(shop.alloc, &["solve", "-"], text.as_str(), &mut digest)?;
-    Ok(digest)
+    command(shop.alloc, &["solve", "-"], text.as_str(), digest)
 }
 
 /// A collection held against what it claims.
-fn collection(shop: &Shop) -> Result<Digest, &'static str> {
-    let mut digest = Digest::new();
-    let mut text = near(shop, &IN_TWO, shop.size.wrapping_mul(100), 2)?;
-    let threes = near(shop, &IN_THREE, shop.size.wrapping_mul(32), 3)?;
-    let fours = near(shop, &IN_FOUR, shop.size.wrapping_mul(4), 4)?;
-    text.push_str(threes.as_str()).ok().ok_or("NoMemory")?;
-    text.push_str(fours.as_str()).ok().ok_or("NoMemory")?;
-    command(shop.alloc, &["verify", "-"], text.as_str(), &mut digest)?;
-    Ok(digest)
+fn collection(shop: &Shop, digest: &mut Digest) -> Result<(), Stop> {
+    let mut text = String::new(shop.alloc);
+    push_all_near(shop, &mut text, &IN_TWO, shop.size.wrapping_mul(100), 2)?;
+    push_all_near(shop, &mut text, &IN_THREE, shop.size.wrapping_mul(32), 3)?;
+    push_all_near(shop, &mut text, &IN_FOUR, shop.size.wrapping_mul(4), 4)?;
+    command(shop.alloc, &["verify", "-"], text.as_str(), digest)
 }
 
-/// Many short records: mates in one, and some in two.
-fn short(shop: &Shop) -> Result<Digest, &'static str> {
-    let mut digest = Digest::new();
+/// Appends many short records: mates in one, and some in two.
+fn push_many_short(
+    shop: &Shop,
+    text: &mut String,
+    mates: &[Men],
+    variants: &mut Variants,
+) -> Result<(), Stop> {
+    for number in 0..shop.size.wrapping_mul(1000) {
+        let bound = if variants.below(16) == 0 { 2 } else { 1 };
+        push_short(shop.alloc, text, mates, bound, number, variants)?;
+    }
+    Ok(())
+}
+
+/// Many short records.
+fn short(shop: &Shop, digest: &mut Digest) -> Result<(), Stop> {
     let mates = one_move_from_mate(shop.alloc, shop.rays)?;
     let mut variants = Variants::of(shop.alloc, shop.seed, 5);
     let mut text = String::new(shop.alloc);
-    for number in 0..shop.size.wrapping_mul(1000) {
-        let bound = if variants.below(16) == 0 { 2 } else { 1 };
-        push_short(
-            shop.alloc,
-            &mut text,
-            mates.as_slice(),
-            bound,
-            number,
-            &mut variants,
-        )?;
-    }
-    command(shop.alloc, &["solve", "-"], text.as_str(), &mut digest)?;
-    Ok(digest)
+    push_many_short(shop, &mut text, mates.as_slice(), &mut variants)?;
+    command(shop.alloc, &["solve", "-"], text.as_str(), digest)
 }
 
 /// Whole solutions, and pages of them.
-fn trees(shop: &Shop) -> Result<Digest, &'static str> {
-    let mut digest = Digest::new();
-    let mut text = near(shop, &IN_TWO, shop.size.wrapping_mul(16), 6)?;
-    let threes = near(shop, &IN_THREE, shop.size.wrapping_mul(4), 7)?;
-    text.push_str(threes.as_str()).ok().ok_or("NoMemory")?;
+fn trees(shop: &Shop, digest: &mut Digest) -> Result<(), Stop> {
+    let mut text = String::new(shop.alloc);
+    push_all_near(shop, &mut text, &IN_TWO, shop.size.wrapping_mul(16), 6)?;
+    push_all_near(shop, &mut text, &IN_THREE, shop.size.wrapping_mul(4), 7)?;
     let words = ["tree", "--set-play", "--tries", "-"];
-    command(shop.alloc, &words, text.as_str(), &mut digest)?;
-    let page = near(shop, &IN_TWO, shop.size.wrapping_mul(40), 8)?;
+    command(shop.alloc, &words, text.as_str(), digest)?;
+    pages(shop, digest)
+}
+
+fn pages(shop: &Shop, digest: &mut Digest) -> Result<(), Stop> {
+    let mut text = String::new(shop.alloc);
+    push_all_near(shop, &mut text, &IN_TWO, shop.size.wrapping_mul(40), 8)?;
     let words = ["sheet", "--solutions", "-"];
-    command(shop.alloc, &words, page.as_str(), &mut digest)?;
-    Ok(digest)
+    command(shop.alloc, &words, text.as_str(), digest)
 }
 
 /// Lists of moves, and counts of lines.
-fn positions(shop: &Shop) -> Result<Digest, &'static str> {
-    let mut digest = Digest::new();
+fn positions(shop: &Shop, digest: &mut Digest) -> Result<(), Stop> {
     let mut variants = Variants::of(shop.alloc, shop.seed, 9);
-    let listed = walked(
-        shop.alloc,
-        shop.rays,
-        &KNOWN,
-        shop.size.wrapping_mul(300),
+    let count = shop.size.wrapping_mul(300);
+    walk(
+        shop,
+        &["moves", "--lines", "-"],
+        count,
         &mut variants,
+        digest,
     )?;
-    let words = ["moves", "--lines", "-"];
-    command(shop.alloc, &words, listed.as_str(), &mut digest)?;
-    let counted = walked(shop.alloc, shop.rays, &KNOWN, shop.size, &mut variants)?;
     let words = ["perft", "--lines", "4", "-"];
-    command(shop.alloc, &words, counted.as_str(), &mut digest)?;
-    Ok(digest)
+    walk(shop, &words, shop.size, &mut variants, digest)
+}
+
+/// A command on so many positions that games reach.
+fn walk(
+    shop: &Shop,
+    words: &[&str],
+    count: usize,
+    variants: &mut Variants,
+    digest: &mut Digest,
+) -> Result<(), Stop> {
+    let text = walked(shop.alloc, shop.rays, &KNOWN, count, variants)?;
+    command(shop.alloc, words, text.as_str(), digest)
 }
 
 /// A script at a desk, and records through a room.
-fn desk(shop: &Shop) -> Result<Digest, &'static str> {
-    let mut digest = Digest::new();
+fn desk(shop: &Shop, digest: &mut Digest) -> Result<(), Stop> {
     let mates = one_move_from_mate(shop.alloc, shop.rays)?;
     let mut variants = Variants::of(shop.alloc, shop.seed, 10);
-    let steps = script(
-        shop.alloc,
-        mates.as_slice(),
-        shop.size.wrapping_mul(400),
-        &mut variants,
-    )?;
-    command(shop.alloc, &["replay", "-"], steps.as_str(), &mut digest)?;
-    let mut text = String::new(shop.alloc);
-    for number in 0..shop.size.wrapping_mul(400) {
-        push_short(
-            shop.alloc,
-            &mut text,
-            mates.as_slice(),
-            1,
-            number,
-            &mut variants,
-        )?;
-    }
-    through_room(shop.alloc, shop.rays, text.as_str(), &mut digest)?;
-    Ok(digest)
+    at_a_desk(shop, mates.as_slice(), &mut variants, digest)?;
+    in_a_room(shop, mates.as_slice(), &mut variants, digest)
 }
 
-/// All jobs but the hard one.
-fn all(shop: &Shop) -> Result<Digest, &'static str> {
-    let mut digest = Digest::new();
-    for found in [
-        collection(shop)?,
-        short(shop)?,
-        trees(shop)?,
-        positions(shop)?,
-        desk(shop)?,
-    ] {
-        digest.add(&found.hash.to_le_bytes());
-        digest.add(&found.bytes.to_le_bytes());
+fn at_a_desk(
+    shop: &Shop,
+    mates: &[Men],
+    variants: &mut Variants,
+    digest: &mut Digest,
+) -> Result<(), Stop> {
+    let steps = script(shop.alloc, mates, shop.size.wrapping_mul(400), variants)?;
+    command(shop.alloc, &["replay", "-"], steps.as_str(), digest)
+}
+
+fn in_a_room(
+    shop: &Shop,
+    mates: &[Men],
+    variants: &mut Variants,
+    digest: &mut Digest,
+) -> Result<(), Stop> {
+    let mut text = String::new(shop.alloc);
+    for number in 0..shop.size.wrapping_mul(400) {
+        push_short(shop.alloc, &mut text, mates, 1, number, variants)?;
     }
-    Ok(digest)
+    through_room(shop.alloc, shop.rays, text.as_str(), digest)
+}
+
+/// All jobs but the hard one, each with a digest of its own.
+fn all(shop: &Shop, digest: &mut Digest) -> Result<(), Stop> {
+    let mut found = [Digest::new(); 5];
+    collection(shop, &mut found[0])?;
+    short(shop, &mut found[1])?;
+    trees(shop, &mut found[2])?;
+    positions(shop, &mut found[3])?;
+    desk(shop, &mut found[4])?;
+    for one in &found {
+        digest.add(&one.hash.to_le_bytes());
+        digest.add(&one.bytes.to_le_bytes());
+    }
+    Ok(())
 }

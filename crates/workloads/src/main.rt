@@ -2,7 +2,7 @@
 //!
 //! Each job makes its input in memory and has the commands of `plain_commands` answer it, or works at a room by hand; what is printed is a
 //! digest of all results. To read: `jobs`, then how inputs are made, `variants` of `problems`, `walks`, `scripts`, by `chance`; `rooms`;
-//! `memory`, the file that a command reads and the digest that it writes to. SIZE multiplies what a job has to do.
+//! `memory`, the file that a command reads and the digest that it writes to; `stops`. SIZE multiplies what a job has to do.
 #![tactic(auto)]
 
 mod chance;
@@ -11,6 +11,7 @@ mod memory;
 mod problems;
 mod rooms;
 mod scripts;
+mod stops;
 mod variants;
 mod walks;
 
@@ -19,6 +20,7 @@ use std::alloc::Global;
 use std::env;
 use std::process::ExitCode;
 use std::rt::Env;
+use stops::Stop;
 
 /// The digest of what the words ask for.
 fn answer<R: Env + AllocGlobal>(rt: &R, alloc: Global) -> Result<Digest, &'static str> {
@@ -29,7 +31,10 @@ fn answer<R: Env + AllocGlobal>(rt: &R, alloc: Global) -> Result<Digest, &'stati
     };
     let size = size.parse::<u32>().ok().ok_or("size")? as usize;
     let seed = seed.parse::<u32>().ok().ok_or("seed")? as u64;
-    jobs::do_job(alloc, job.as_str(), size, seed)
+    match jobs::do_job(alloc, job.as_str(), size, seed) {
+        Ok(digest) => Ok(digest),
+        Err(Stop(name)) => Err(name),
+    }
 }
 
 // A text that can't be written changes no status.

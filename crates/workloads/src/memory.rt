@@ -2,6 +2,7 @@
 
 ghost use Rattle.std.specs.Prelude.{None, ⊤};
 
+use crate::stops::Stop;
 use file_answers::{Reading, Source, SourceFault, whole};
 use plain_commands::plain_command;
 use std::alloc::Global;
@@ -87,26 +88,40 @@ impl<'a> Source for OneFile<'a> {
     }
 }
 
+/// The words of a program, its name first.
+fn program_words(alloc: Global, words: &[&str]) -> Result<Vec<String>, Stop> {
+    let mut all = Vec::new(alloc);
+    push_word(alloc, &mut all, "matedesk")?;
+    for word in words {
+        push_word(alloc, &mut all, word)?;
+    }
+    Ok(all)
+}
+
+fn push_word(alloc: Global, words: &mut Vec<String>, word: &str) -> Result<(), Stop> {
+    match words.push(String::from_str(alloc, word)?) {
+        Ok(()) => Ok(()),
+        Err(_) => Err(Stop("NoMemory")),
+    }
+}
+
 /// Answers a command over a text, whose file is named last; takes what it writes, and its status, into the digest.
 pub(crate) fn command(
     alloc: Global,
     words: &[&str],
     text: &str,
     digest: &mut Digest,
-) -> Result<(), &'static str> {
-    let mut all = Vec::new(alloc);
-    all.push(String::from_str(alloc, "matedesk").ok().ok_or("NoMemory")?)
-        .ok()
-        .ok_or("NoMemory")?;
-    for word in words {
-        all.push(String::from_str(alloc, word).ok().ok_or("NoMemory")?)
-            .ok()
-            .ok_or("NoMemory")?;
-    }
+) -> Result<(), Stop> {
+    let words = program_words(alloc, words)?;
     let mut told = Digest::new();
-    let file = OneFile { text };
-    let status = plain_command(alloc, all.as_slice(), &file, digest, &mut told).ok_or("threads")?;
-    digest.add(&[status]);
+    let status = plain_command(
+        alloc,
+        words.as_slice(),
+        &OneFile { text },
+        digest,
+        &mut told,
+    );
+    digest.add(&[status.ok_or("threads")?]);
     digest.add(&told.hash.to_le_bytes());
     Ok(())
 }

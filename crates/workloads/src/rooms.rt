@@ -1,6 +1,7 @@
 //! Records through a room that is turned by hand: sixteen windows, a keeper, four benches.
 
 use crate::memory::Digest;
+use crate::stops::Stop;
 use chess_moves::Rays;
 use chess_problems::Bound;
 use desk_room::{Back, Bench, Keeper, Room, Taken, Window, open_room};
@@ -17,14 +18,13 @@ const RING: usize = 8;
 const TURNS: usize = 64;
 
 /// Has a bench solve the jobs that are ordered.
-fn work(rays: &Rays, memo: &mut Memo, bench: &mut Bench) -> Result<(), &'static str> {
+fn work(rays: &Rays, memo: &mut Memo, bench: &mut Bench) -> Result<(), Stop> {
     for _ in 0..RING {
-        match bench.take() {
-            Taken::Job(job) => bench
-                .back(Back::Solved(job.solve(rays, memo)))
-                .ok()
-                .ok_or("back")?,
-            _ => return Ok(()),
+        let Taken::Job(job) = bench.take() else {
+            return Ok(());
+        };
+        if bench.back(Back::Solved(job.solve(rays, memo))).is_err() {
+            return Err(Stop("back"));
         }
     }
     Ok(())
@@ -36,19 +36,33 @@ fn collect(
     rays: &Rays,
     window: &mut Window,
     digest: &mut Digest,
-) -> Result<usize, &'static str> {
+) -> Result<usize, Stop> {
     let mut collected: usize = 0;
     for _ in 0..RING {
         let Some(delivery) = window.collect() else {
             return Ok(collected);
         };
         collected = collected.wrapping_add(1);
-        if let Delivery::Answer(answer) = delivery {
-            let text = answer.text(alloc, rays).ok().ok_or("text")?;
-            digest.add(text.as_bytes());
-        }
+        add_delivery(alloc, rays, delivery, digest)?;
     }
     Ok(collected)
+}
+
+/// Takes the text of an answer in.
+fn add_delivery(
+    alloc: Global,
+    rays: &Rays,
+    delivery: Delivery,
+    digest: &mut Digest,
+) -> Result<(), Stop> {
+    let Delivery::Answer(answer) = delivery else {
+        return Ok(());
+    };
+    match answer.text(alloc, rays) {
+        Ok(text) => digest.add(text.as_bytes()),
+        Err(_) => return Err(Stop("text")),
+    }
+    Ok(())
 }
 
 /// The ends of a room, and what is solved with.
@@ -67,7 +81,7 @@ fn turn(
     ends: &mut Ends,
     sent: usize,
     digest: &mut Digest,
-) -> Result<(), &'static str> {
+) -> Result<(), Stop> {
     let mut collected: usize = 0;
     for _ in 0..TURNS {
         ends.keeper.turn();
@@ -82,7 +96,63 @@ fn turn(
             return Ok(());
         }
     }
-    Err("stuck")
+    Err(Stop("stuck"))
+}
+
+/// The ends of a new room.
+fn ends_of(alloc: Global) -> Result<Ends, Stop> {
+    let bound = Bound::new(3).ok_or("bound")?;
+    let memo = Memo::new(alloc, 4096).ok().ok_or("memo")?;
+    match open_room(alloc, WINDOWS, BENCHES, RING, bound) {
+        Ok(
+            Room {
+                keeper,
+                windows,
+                benches,
+            },
+        ) => Ok(Ends {
+            keeper,
+            windows,
+            benches,
+            memo,
+        }),
+        Err(_) => Err(Stop("room")),
+    }
+}
+
+/// Sends a line at the next window, by how many were sent.
+fn send(
+    alloc: Global,
+    rays: &Rays,
+    windows: &mut Vec<Window>,
+    sent: usize,
+    line: &str,
+) -> Result<(), Stop> {
+    let number = sent.checked_rem(WINDOWS).unwrap_or(0);
+    let window = windows.get_mut(number).ok_or("window")?;
+    match window.submit(alloc, rays, line.as_bytes()) {
+        Ok(()) => Ok(()),
+        Err(_) => Err(Stop("submit")),
+    }
+}
+
+fn send_all(
+    alloc: Global,
+    rays: &Rays,
+    ends: &mut Ends,
+    lines: &str,
+    digest: &mut Digest,
+) -> Result<(), Stop> {
+    let mut sent: usize = 0;
+    for line in lines.lines() {
+        send(alloc, rays, &mut ends.windows, sent, line)?;
+        sent = sent.wrapping_add(1);
+        if sent == WINDOWS * RING {
+            turn(alloc, rays, ends, sent, digest)?;
+            sent = 0;
+        }
+    }
+    turn(alloc, rays, ends, sent, digest)
 }
 
 /// Sends the lines through a room, a ring of them for each window at a time.
@@ -91,35 +161,7 @@ pub(crate) fn through_room(
     rays: &Rays,
     lines: &str,
     digest: &mut Digest,
-) -> Result<(), &'static str> {
-    let bound = Bound::new(3).ok_or("bound")?;
-    let Room {
-        keeper,
-        windows,
-        benches,
-    } = open_room(alloc, WINDOWS, BENCHES, RING, bound)
-        .ok()
-        .ok_or("room")?;
-    let memo = Memo::new(alloc, 4096).ok().ok_or("memo")?;
-    let mut ends = Ends {
-        keeper,
-        windows,
-        benches,
-        memo,
-    };
-    let mut sent: usize = 0;
-    for line in lines.lines() {
-        let number = sent.checked_rem(WINDOWS).unwrap_or(0);
-        let window = ends.windows.get_mut(number).ok_or("window")?;
-        window
-            .submit(alloc, rays, line.as_bytes())
-            .ok()
-            .ok_or("submit")?;
-        sent = sent.wrapping_add(1);
-        if sent == WINDOWS * RING {
-            turn(alloc, rays, &mut ends, sent, digest)?;
-            sent = 0;
-        }
-    }
-    turn(alloc, rays, &mut ends, sent, digest)
+) -> Result<(), Stop> {
+    let mut ends = ends_of(alloc)?;
+    send_all(alloc, rays, &mut ends, lines, digest)
 }

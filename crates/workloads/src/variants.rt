@@ -1,6 +1,7 @@
 //! Records near problems: some of a problem's men stand elsewhere, so that each record is another, and the like of a composed one.
 
 use crate::chance::Chance;
+use crate::stops::Stop;
 use chess_board::{Colour, Kind, Man, Position, Square, read_fields};
 use chess_moves::Rays;
 use chess_notation::read_record;
@@ -36,17 +37,17 @@ pub(crate) fn pattern_of<'a>(
     alloc: Global,
     rays: &Rays,
     line: &'a str,
-) -> Result<Pattern<'a>, &'static str> {
+) -> Result<Pattern<'a>, Stop> {
     let bound = Bound::new(3).ok_or("bound")?;
-    let record = read_record(alloc, rays, line.as_bytes(), bound)
-        .ok()
-        .ok_or("record")?;
     let (_, rest) = line.split_once(' ').ok_or("fields")?;
-    Ok(Pattern {
-        men: men_of(&record.position),
-        bound: record.bound.get(),
-        rest,
-    })
+    match read_record(alloc, rays, line.as_bytes(), bound) {
+        Ok(record) => Ok(Pattern {
+            men: men_of(&record.position),
+            bound: record.bound.get(),
+            rest,
+        }),
+        Err(_) => Err(Stop("record")),
+    }
 }
 
 /// Whether a man may be put elsewhere.
@@ -137,9 +138,33 @@ impl Variants {
     }
 
     /// Whether a text is a new one.
-    pub(crate) fn is_new(&mut self, alloc: Global, text: &str) -> Result<bool, &'static str> {
-        let text = String::from_str(alloc, text).ok().ok_or("NoMemory")?;
-        self.seen.insert(text).ok().ok_or("NoMemory")
+    pub(crate) fn is_new(&mut self, alloc: Global, text: &str) -> Result<bool, Stop> {
+        match self.seen.insert(String::from_str(alloc, text)?) {
+            Ok(is_new) => Ok(is_new),
+            Err(_) => Err(Stop("NoMemory")),
+        }
+    }
+
+    /// Appends the fields of a position where so many men stand elsewhere, if it is sound and a new one.
+    fn has_pushed(
+        &mut self,
+        alloc: Global,
+        text: &mut String,
+        men: &Men,
+        moved: usize,
+    ) -> Result<bool, Stop> {
+        let mut other = *men;
+        for _ in 0..moved {
+            move_one(&mut other, &mut self.chance);
+        }
+        let placement = placement_of(alloc, &other)?;
+        let is_sound = read_fields(placement.as_bytes(), b"w", b"-", b"-").is_ok();
+        if !is_sound || !self.is_new(alloc, placement.as_str())? {
+            return Ok(false);
+        }
+        text.push_str(placement.as_str())?;
+        text.push(' ')?;
+        Ok(true)
     }
 
     /// Appends the fields of a new sound position for White to move, up to its rights, where so many men stand elsewhere, or more
@@ -150,19 +175,12 @@ impl Variants {
         text: &mut String,
         men: &Men,
         moved: usize,
-    ) -> Result<(), &'static str> {
+    ) -> Result<(), Stop> {
         for tried in 0..TRIES {
-            let mut other = *men;
-            for _ in 0..moved.saturating_add(tried / 8) {
-                move_one(&mut other, &mut self.chance);
-            }
-            let placement = placement_of(alloc, &other).ok().ok_or("NoMemory")?;
-            let is_sound = read_fields(placement.as_bytes(), b"w", b"-", b"-").is_ok();
-            if is_sound && self.is_new(alloc, placement.as_str())? {
-                text.push_str(placement.as_str()).ok().ok_or("NoMemory")?;
-                return text.push(' ').ok().ok_or("NoMemory");
+            if self.has_pushed(alloc, text, men, moved.saturating_add(tried / 8))? {
+                return Ok(());
             }
         }
-        Err("no variant")
+        Err(Stop("no variant"))
     }
 }

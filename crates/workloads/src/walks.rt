@@ -1,5 +1,6 @@
 //! Positions that games reach: random legal moves from known positions.
 
+use crate::stops::Stop;
 use crate::variants::Variants;
 use chess_board::{Position, after, read_fen};
 use chess_moves::{Rays, is_legal, legal_moves};
@@ -47,20 +48,31 @@ pub(crate) fn walked(
     known: &[&str],
     count: usize,
     variants: &mut Variants,
-) -> Result<String, &'static str> {
+) -> Result<String, Stop> {
     let mut text = String::new(alloc);
     for number in 0..count {
-        let from = known
-            .get(number.checked_rem(known.len()).unwrap_or(0))
-            .ok_or("known")?;
-        let fen = read_fen(from.as_bytes()).ok().ok_or("fen")?;
-        let moves = variants.below(MORE_MOVES).wrapping_add(LEAST_MOVES);
-        let reached = end_of_walk(rays, &fen.position, moves, variants);
-        if variants.is_new(alloc, reached.text().as_str())? {
-            push_line(&mut text, &reached).ok().ok_or("NoMemory")?;
-        }
+        let number = number.checked_rem(known.len()).unwrap_or(0);
+        let from = known.get(number).ok_or("known")?;
+        push_walk(alloc, rays, &mut text, from, variants)?;
     }
     Ok(text)
+}
+
+/// Appends the position that a walk from a known one reaches, if it is a new one.
+fn push_walk(
+    alloc: Global,
+    rays: &Rays,
+    text: &mut String,
+    from: &str,
+    variants: &mut Variants,
+) -> Result<(), Stop> {
+    let fen = read_fen(from.as_bytes()).ok().ok_or("fen")?;
+    let moves = variants.below(MORE_MOVES).wrapping_add(LEAST_MOVES);
+    let reached = end_of_walk(rays, &fen.position, moves, variants);
+    if variants.is_new(alloc, reached.text().as_str())? {
+        push_line(text, &reached)?;
+    }
+    Ok(())
 }
 
 fn push_line(text: &mut String, position: &Position) -> Result<(), AllocError> {

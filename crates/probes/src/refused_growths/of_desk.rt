@@ -1,6 +1,6 @@
 //! Calls of `mate_desk`.
 
-use crate::refused_growths::marks::{Stop, default, mark};
+use crate::refused_growths::marks::{Stop, and_afterwards, default, mark};
 use chess_moves::Rays;
 use chess_notation::read_record;
 use mate_desk::{Desk, Reply, RunFault, Step, reply_text, run};
@@ -17,15 +17,19 @@ pub(crate) fn tell_new_desk(alloc: Global, rays: &Rays) -> Result<String, Stop> 
     mark(alloc);
     let desk = Desk::new(alloc, 2, 3, 5);
     mark(alloc);
-    let mut desk = match desk {
-        Ok(desk) => desk,
-        Err(fault) => return Ok(format!(in alloc; "{}", fault.code())?),
-    };
-    let record = match read_record(alloc, rays, B, default().ok_or("bound")?) {
-        Ok(record) => record,
+    match desk {
+        Ok(desk) => take_record(alloc, rays, desk),
+        Err(fault) => Ok(format!(in alloc; "{}", fault.code())?),
+    }
+}
+
+fn take_record(alloc: Global, rays: &Rays, mut desk: Desk) -> Result<String, Stop> {
+    let default = default().ok_or("bound")?;
+    let submitted = match read_record(alloc, rays, B, default) {
+        Ok(record) => desk.submit(1, record),
         Err(fault) => return Err(Stop(fault.code())),
     };
-    match desk.submit(1, record) {
+    match submitted {
         Ok(ticket) => Ok(format!(in alloc; "ticket {}", ticket.0)?),
         Err((refusal, _)) => Err(Stop(refusal.code())),
     }
@@ -91,9 +95,7 @@ pub(crate) fn tell_run(alloc: Global, rays: &Rays) -> Result<String, Stop> {
     let replies = run(alloc, rays, 1, 2, default, steps.as_slice(), &mut memo);
     mark(alloc);
     let again = run(alloc, rays, 1, 2, default, steps.as_slice(), &mut memo);
-    let replies = told(alloc, rays, replies)?;
-    let again = told(alloc, rays, again)?;
-    Ok(format!(in alloc; "{replies}\n{again}")?)
+    and_afterwards(alloc, told(alloc, rays, replies), told(alloc, rays, again))
 }
 
 /// The texts of replies between marks, or want of memory for one of them. Afterwards: all texts.

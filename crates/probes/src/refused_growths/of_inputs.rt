@@ -1,10 +1,12 @@
 //! Calls of `mate_answers` on an input of records.
 
-use crate::refused_growths::marks::{Stop, default, mark};
+use crate::refused_growths::marks::{Stop, and_afterwards, default, mark};
 use crate::refused_growths::of_search::memo_of;
 use chess_moves::Rays;
-use chess_notation::EpdFault;
-use mate_answers::{answer_input, fault_text, solve_input};
+use chess_notation::{EpdFault, NoMemory};
+use chess_problems::Bound;
+use mate_answers::{Output, answer_input, fault_text, solve_input};
+use mate_search::Memo;
 use std::alloc::Global;
 
 /// Of this input the second line is refused.
@@ -34,22 +36,32 @@ fn shown(alloc: Global, text: &[u8], refused: usize) -> Result<String, Stop> {
     in_one_line(alloc, said.as_str(), text)
 }
 
+/// What all replies came to.
+fn told_of(alloc: Global, output: Result<Output, NoMemory>) -> Result<String, Stop> {
+    match output {
+        Ok(output) => shown(alloc, output.text.as_slice(), output.refused),
+        Err(refused) => Ok(format!(in alloc; "{refused}")?),
+    }
+}
+
+fn solve_twice(
+    alloc: Global,
+    rays: &Rays,
+    default: Bound,
+    memo: &mut Memo,
+) -> Result<String, Stop> {
+    mark(alloc);
+    let output = solve_input(alloc, rays, INPUT, default, memo);
+    mark(alloc);
+    let again = solve_input(alloc, rays, INPUT, default, memo);
+    and_afterwards(alloc, told_of(alloc, output), told_of(alloc, again))
+}
+
 /// Afterwards: the output by the same memo once more.
 pub(crate) fn tell_solve_input(alloc: Global, rays: &Rays) -> Result<String, Stop> {
     let default = default().ok_or("bound")?;
     let mut memo = memo_of(alloc, 64)?;
-    mark(alloc);
-    let output = solve_input(alloc, rays, INPUT, default, &mut memo);
-    mark(alloc);
-    let Ok(again) = solve_input(alloc, rays, INPUT, default, &mut memo) else {
-        return Err(Stop("NoMemory"));
-    };
-    let again = shown(alloc, again.text.as_slice(), again.refused)?;
-    let first = match output {
-        Ok(output) => shown(alloc, output.text.as_slice(), output.refused)?,
-        Err(refused) => format!(in alloc; "{refused}")?,
-    };
-    Ok(format!(in alloc; "{first}\n{again}")?)
+    solve_twice(alloc, rays, default, &mut memo)
 }
 
 /// What was written where the answers end, or where they stop for want of memory.
@@ -65,19 +77,28 @@ fn told(
     }
 }
 
+fn answer_twice(
+    alloc: Global,
+    rays: &Rays,
+    memo: &mut Memo,
+    text: &mut Vec<u8>,
+    later: &mut Vec<u8>,
+) -> Result<String, Stop> {
+    let default = default().ok_or("bound")?;
+    mark(alloc);
+    let ended = answer_input(alloc, rays, INPUT, default, memo, text);
+    mark(alloc);
+    let again = answer_input(alloc, rays, INPUT, default, memo, later);
+    let first = told(alloc, ended, text.as_slice());
+    and_afterwards(alloc, first, told(alloc, again, later.as_slice()))
+}
+
 /// The replies go to a list that grows no more. Afterwards: the replies by the same memo once more.
 pub(crate) fn tell_answer_input(alloc: Global, rays: &Rays) -> Result<String, Stop> {
-    let default = default().ok_or("bound")?;
     let mut memo = memo_of(alloc, 64)?;
     let mut text = Vec::with_capacity(alloc, ROOM)?;
     let mut later = Vec::with_capacity(alloc, ROOM)?;
-    mark(alloc);
-    let ended = answer_input(alloc, rays, INPUT, default, &mut memo, &mut text);
-    mark(alloc);
-    let again = answer_input(alloc, rays, INPUT, default, &mut memo, &mut later);
-    let first = told(alloc, ended, text.as_slice())?;
-    let again = told(alloc, again, later.as_slice())?;
-    Ok(format!(in alloc; "{first}\n{again}")?)
+    answer_twice(alloc, rays, &mut memo, &mut text, &mut later)
 }
 
 /// The reply to a line that was refused.

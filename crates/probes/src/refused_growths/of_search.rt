@@ -1,13 +1,14 @@
 //! Calls of `mate_search` and `mate_jobs` on one record, and the text of an outcome.
 
-use crate::refused_growths::marks::{Stop, default, mark};
+use crate::refused_growths::marks::{Stop, and_afterwards, default, mark};
+use chess_board::Move;
 use chess_moves::Rays;
 use chess_notation::{NoMemory, Record, answer_text, read_record};
-use chess_problems::Outcome;
-use mate_jobs::{Answer, Job, Ticket};
-use mate_search::{Guide, Memo, Never, Solver, solve};
+use chess_problems::{Outcome, Problem};
+use mate_jobs::{Answer, Done, Job, Ticket};
+use mate_search::{Guide, Memo, Never, Solver, Stopped, solve};
 use parallel_search::{OnThreads, ThreadMemory};
-use std::alloc::Global;
+use std::alloc::{AllocError, Global};
 use std::thread::Threads;
 
 /// A mate in three, on the way to which positions are kept in a memo.
@@ -47,27 +48,41 @@ fn mate_of(alloc: Global, outcome: &Outcome) -> Result<String, Stop> {
         return Err(Stop("no mate"));
     };
     let mut text = format!(in alloc; "mate in {}", dm.get())?;
-    for key in keys.as_slice() {
-        text = format!(in alloc; "{text} {}", key.text().as_str())?;
-    }
-    text = format!(in alloc; "{text} by")?;
-    for played in pv.as_slice() {
-        text = format!(in alloc; "{text} {}", played.text().as_str())?;
-    }
+    push_moves(&mut text, keys.as_slice())?;
+    text.push_str(" by")?;
+    push_moves(&mut text, pv.as_slice())?;
     Ok(text)
+}
+
+fn push_moves(text: &mut String, moves: &[Move]) -> Result<(), AllocError> {
+    for m in moves {
+        text.push(' ')?;
+        text.push_str(m.text().as_str())?;
+    }
+    Ok(())
+}
+
+fn problem_of(alloc: Global, rays: &Rays) -> Result<Problem, Stop> {
+    Ok(record_of(alloc, rays, LINE)?.problem())
 }
 
 /// Afterwards: the outcome by the same memo once more.
 pub(crate) fn tell_solve(alloc: Global, rays: &Rays) -> Result<String, Stop> {
-    let problem = record_of(alloc, rays, LINE)?.problem();
+    let problem = problem_of(alloc, rays)?;
     let mut memo = memo_of(alloc, 64)?;
     mark(alloc);
     let outcome = solve(rays, &problem, &mut memo);
     mark(alloc);
     let again = solve(rays, &problem, &mut memo);
-    let found = mate_of(alloc, &outcome)?;
-    let again = mate_of(alloc, &again)?;
-    Ok(format!(in alloc; "{found}\n{again}")?)
+    and_afterwards(alloc, mate_of(alloc, &outcome), mate_of(alloc, &again))
+}
+
+/// The mate that a search found which may stop, and which nothing stopped.
+fn mate_found(alloc: Global, found: Result<Outcome, Stopped>) -> Result<String, Stop> {
+    match found {
+        Ok(outcome) => mate_of(alloc, &outcome),
+        Err(_) => Err(Stop("stopped")),
+    }
 }
 
 /// The same by three workers, who are made in the call. Afterwards: the outcome by their memos once more.
@@ -76,7 +91,7 @@ pub(crate) fn tell_on_threads<R: Threads + Sync>(
     alloc: Global,
     rays: &Rays,
 ) -> Result<String, Stop> {
-    let problem = record_of(alloc, rays, LINE)?.problem();
+    let problem = problem_of(alloc, rays)?;
     let memo = memo_of(alloc, 64)?;
     let solver = OnThreads { rt };
     let guide = Guide { rays, halt: &Never };
@@ -85,23 +100,26 @@ pub(crate) fn tell_on_threads<R: Threads + Sync>(
     let outcome = solver.solve(&guide, &problem, &mut memory);
     mark(alloc);
     let again = solver.solve(&guide, &problem, &mut memory);
-    let (Ok(outcome), Ok(again)) = (outcome, again) else {
-        return Err(Stop("stopped"));
-    };
-    let found = mate_of(alloc, &outcome)?;
-    let again = mate_of(alloc, &again)?;
-    Ok(format!(in alloc; "{found}\n{again}")?)
+    and_afterwards(alloc, mate_found(alloc, outcome), mate_found(alloc, again))
+}
+
+/// The ticket of what was solved.
+fn ticket_of(alloc: Global, done: &Done) -> Result<String, Stop> {
+    Ok(format!(in alloc; "ticket {}", done.ticket().0)?)
 }
 
 /// Afterwards: the ticket of what was solved.
 pub(crate) fn tell_job(alloc: Global, rays: &Rays) -> Result<String, Stop> {
-    let job = Job::new(Ticket(7), record_of(alloc, rays, LINE)?.problem());
+    let job = Job::new(Ticket(7), problem_of(alloc, rays)?);
     let mut memo = memo_of(alloc, 64)?;
     mark(alloc);
     let done = job.solve(rays, &mut memo);
     mark(alloc);
-    let found = mate_of(alloc, done.outcome())?;
-    Ok(format!(in alloc; "{found}\nticket {}", done.ticket().0)?)
+    and_afterwards(
+        alloc,
+        mate_of(alloc, done.outcome()),
+        ticket_of(alloc, &done),
+    )
 }
 
 fn answer_of(alloc: Global, rays: &Rays) -> Result<Answer, Stop> {
@@ -117,34 +135,58 @@ pub(crate) fn tell_answer(alloc: Global, rays: &Rays) -> Result<String, Stop> {
     mark(alloc);
     let text = answer.text(alloc, rays);
     mark(alloc);
-    let again = answer.text(alloc, rays).ok().ok_or("NoMemory")?;
+    let again = answer.text(alloc, rays);
+    and_afterwards(
+        alloc,
+        text_or_refusal(alloc, text),
+        text_or_refusal(alloc, again),
+    )
+}
+
+fn text_or_refusal(alloc: Global, text: Result<String, NoMemory>) -> Result<String, Stop> {
     match text {
-        Ok(text) => Ok(format!(in alloc; "{text}\n{again}")?),
-        Err(refused) => Ok(format!(in alloc; "{refused}\n{again}")?),
+        Ok(text) => Ok(text),
+        Err(refused) => Ok(format!(in alloc; "{refused}")?),
     }
 }
 
-/// What an answer text came to, behind those before it.
-fn told(alloc: Global, before: String, text: Result<String, NoMemory>) -> Result<String, Stop> {
-    match text {
-        Ok(text) => Ok(format!(in alloc; "{before}|{text}")?),
-        Err(refused) => Ok(format!(in alloc; "{before}|{refused}")?),
+/// What two answer texts came to.
+fn both(
+    alloc: Global,
+    one: Result<String, NoMemory>,
+    other: Result<String, NoMemory>,
+) -> Result<String, Stop> {
+    match (text_or_refusal(alloc, one), text_or_refusal(alloc, other)) {
+        (Ok(one), Ok(other)) => Ok(format!(in alloc; "|{one}|{other}")?),
+        (Err(stop), _) => Err(stop),
+        (_, Err(stop)) => Err(stop),
     }
+}
+
+/// The text of a record's outcome between marks, and once more.
+fn told_twice(
+    alloc: Global,
+    rays: &Rays,
+    record: &Record,
+    memo: &mut Memo,
+) -> (Result<String, NoMemory>, Result<String, NoMemory>) {
+    let outcome = solve(rays, &record.problem(), memo);
+    mark(alloc);
+    let text = answer_text(alloc, rays, record, &outcome);
+    mark(alloc);
+    (text, answer_text(alloc, rays, record, &outcome))
 }
 
 /// The texts of a mate and of no mate, each between marks, or want of memory for it. Afterwards: both texts.
 pub(crate) fn tell_answer_text(alloc: Global, rays: &Rays) -> Result<String, Stop> {
+    let mate = record_of(alloc, rays, LINE)?;
+    let none = record_of(alloc, rays, SHORTER)?;
     let mut memo = memo_of(alloc, 64)?;
-    let mut answer = String::new(alloc);
-    let mut later = String::new(alloc);
-    for line in [LINE, SHORTER] {
-        let record = record_of(alloc, rays, line)?;
-        let outcome = solve(rays, &record.problem(), &mut memo);
-        mark(alloc);
-        let text = answer_text(alloc, rays, &record, &outcome);
-        mark(alloc);
-        answer = told(alloc, answer, text)?;
-        later = told(alloc, later, answer_text(alloc, rays, &record, &outcome))?;
-    }
-    Ok(format!(in alloc; "{answer}\n{later}")?)
+    let (mate, mate_again) = told_twice(alloc, rays, &mate, &mut memo);
+    let (none, none_again) = told_twice(alloc, rays, &none, &mut memo);
+    and_afterwards(
+        alloc,
+        both(alloc, mate, none),
+        both(alloc, mate_again, none_again),
+    )
 }
