@@ -47,6 +47,10 @@ impl LineHandler for Lengths {
     ghost skips = { λ _ number line blank. (refl, ap (λ (b : Bool). if not b && nat_lt max_line (length line) then 1 else 0) (sym blank)) };
 
     ghost unmarked = { λ _ _ _ _. tt };
+
+    ghost passes = { λ _ _ _ _ _ _. tt };
+
+    ghost skips_behind = { λ _ _ _ _ _. tt };
 }
 
 /// How many lines of an input are too long for a record, blank ones aside.

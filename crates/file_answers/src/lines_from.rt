@@ -88,6 +88,10 @@ impl<H: LineHandler, S: Source> LineHandler for LinesFrom<'_, H, S> {
       passed = λ _. (refl, refl);
       answered = λ _. H.unmarked lines.handler.now number line blank;
     } };
+
+    ghost passes = { λ _ _ _ _ _ _. tt };
+
+    ghost skips_behind = { λ _ _ _ _ _. tt };
 }
 
 /// Answers an input line by line from that of a number on, as `text_lines` does. The lines before it keep their numbers, and are read no

@@ -84,6 +84,10 @@ impl<W: LineWriter, S: Source> LineWriter for WrittenFrom<'_, W, S> {
     ghost skips = { λ lines number line blank. record { passed = λ _. (refl, refl); answered = λ _. W.skips lines.writer.now number line blank } };
 
     ghost unmarked = { λ _ _ _ _. tt };
+
+    ghost passes = { λ _ _ _ _ _ _. tt };
+
+    ghost skips_behind = { λ _ _ _ _ _. tt };
 }
 
 /// Answers an input line by line from that of a number on, as `text_lines` does. The lines before it keep their numbers, and are read no

@@ -52,4 +52,8 @@ impl<W: LineWriter> LineHandler for Gathered<'_, W> {
     ghost skips = { λ gathered number line blank. W.skips gathered.writer.now number line blank };
 
     ghost unmarked = { λ gathered number line blank. W.unmarked gathered.writer.now number line blank };
+
+    ghost passes = { λ _ _ _ _ _ _. tt };
+
+    ghost skips_behind = { λ _ _ _ _ _. tt };
 }

@@ -90,4 +90,8 @@ impl<H: LineHandler> LineHandler for JsonReplies<'_, H> {
     ghost skips = { λ json number line blank. ([], H.skips json.handler.now number line blank, refl) };
 
     ghost unmarked = { λ json number line blank. ([], H.unmarked json.handler.now number line blank, refl) };
+
+    ghost passes = { λ _ _ _ _ _ _. tt };
+
+    ghost skips_behind = { λ _ _ _ _ _. tt };
 }

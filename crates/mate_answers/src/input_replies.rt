@@ -83,6 +83,10 @@ impl<S: Solver<Never>> LineHandler for Answers<'_, S> {
     ghost skips = { λ answers number line blank. skipped blank };
 
     ghost unmarked = { λ _ _ _ _. tt };
+
+    ghost passes = { λ _ _ _ _ _ _. tt };
+
+    ghost skips_behind = { λ _ _ _ _ _. tt };
 }
 
 /// Answers an input line by line: each line before the next is waited for. Gives how many lines are refused.

@@ -178,4 +178,8 @@ impl<T: TimeLimit, S: Solver<T>> LineHandler for Limited<'_, T, S> {
     ghost skips = { λ limited number line blank. decided [] 0 (skipped blank) };
 
     ghost unmarked = { λ limited number line blank. in_time [] 0 (skipped blank) };
+
+    ghost passes = { λ _ _ _ _ _ _. tt };
+
+    ghost skips_behind = { λ _ _ _ _ _. tt };
 }

@@ -128,4 +128,8 @@ impl LineHandler for ClaimRows<'_> {
     ghost skips = { λ rows number line blank. skipped blank };
 
     ghost unmarked = { λ _ _ _ _. tt };
+
+    ghost passes = { λ _ _ _ _ _ _. tt };
+
+    ghost skips_behind = { λ _ _ _ _ _. tt };
 }

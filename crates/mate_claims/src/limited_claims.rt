@@ -190,4 +190,8 @@ impl<T: TimeLimit, S: Solver<T>> LineHandler for LimitedClaims<'_, '_, T, S> {
     ghost skips = { λ claims number line blank. skipped blank };
 
     ghost unmarked = { λ claims number line blank. none_marked blank };
+
+    ghost passes = { λ _ _ _ _ _ _. tt };
+
+    ghost skips_behind = { λ _ _ _ _ _. tt };
 }

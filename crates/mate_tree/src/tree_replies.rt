@@ -144,4 +144,8 @@ impl LineWriter for TreeReplies<'_> {
     ghost skips = { λ trees number line blank. skipped blank };
 
     ghost unmarked = { λ _ _ _ _. tt };
+
+    ghost passes = { λ _ _ _ _ _ _. tt };
+
+    ghost skips_behind = { λ _ _ _ _ _. tt };
 }

@@ -66,6 +66,10 @@ impl<V: FenView> LineHandler for Positions<'_, V> {
     ghost skips = { λ positions number line blank. skipped blank };
 
     ghost unmarked = { λ _ _ _ _. tt };
+
+    ghost passes = { λ _ _ _ _ _ _. tt };
+
+    ghost skips_behind = { λ _ _ _ _ _. tt };
 }
 
 /// Answers an input of positions line by line by what is shown of each: each line before the next is waited for. Gives how many lines are

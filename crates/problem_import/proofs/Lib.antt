@@ -15,3 +15,4 @@ pub mod CappedValues
 pub mod TextParts
 pub mod SaidNumbers
 pub mod KnownNumbers
+pub mod TagFens

@@ -1,4 +1,5 @@
 pub mod FieldTexts
+pub mod GameFens
 pub mod Findings
 pub mod KeptChanges
 pub mod OpenProblems

@@ -1,10 +1,15 @@
 //! A game in PGN (Portable Game Notation Specification, section 8): its tag pairs, of which a record is made; the comments before its first
 //! move, which may say a number of moves; and that move, which is claimed. What stands behind it is passed over.
 
+ghost use Rattle.std.specs.Prelude.{◌≡◌, ◌⊎◌, ◌++◌, IfOk, codes, false};
+ghost use Rattle.problem_import.specs.inside.GameFens.{IsFenOf, IsNamed, behind_byte, fen_read, value_from};
+ghost use Rattle.problem_import.specs.inside.TagPairs.{EndsText};
+
 use crate::changes::Changes;
 use crate::import_faults::ImportFault;
 use crate::moves::is_position;
-use crate::texts::{is_same, is_word, push_bound_operation, push_byte, word_at};
+use crate::tag_pairs::begins_with;
+use crate::texts::{is_same, is_word, push_bound_operation, push_byte, without_first, word_at};
 use lettered_placements::line_read;
 use move_words::Letters;
 use std::alloc::{AllocError, Global};
@@ -100,7 +105,9 @@ pub(crate) fn push_id_operation(text: &mut Vec<u8>, id: &[u8]) -> Result<(), All
 }
 
 /// What stands up to the first byte of such a kind, and what stands behind it.
-fn cut_at(text: &[u8], byte: u8) -> (&[u8], &[u8]) {
+fn cut_at(text: &[u8], byte: u8) -> (&[u8], &[u8])
+    ensures { result.1.now ≡ behind_byte byte text.now }
+{
     for (index, other) in text.iter().enumerate() {
         if *other == byte {
             return (text.split_at(index).0, text.split_at(index + 1).1);
@@ -110,7 +117,10 @@ fn cut_at(text: &[u8], byte: u8) -> (&[u8], &[u8]) {
 }
 
 /// Takes the value of a tag pair, up to its last quotation mark but those behind a backslash; gives what stands behind.
-fn take_value<'t>(value: &mut Vec<u8>, text: &'t [u8]) -> Result<&'t [u8], AllocError> {
+fn take_value<'t>(value: &mut Vec<u8>, text: &'t [u8]) -> Result<&'t [u8], AllocError>
+    ensures value { IfOk result (λ _. value.new.items ≡ value.old.items ++ value_from false text.now) }
+    ensures rest { IfOk result (λ rest. EndsText rest.now text.now) }
+{
     let mut is_escaped = false;
     for (index, byte) in text.iter().enumerate() {
         if is_escaped {
@@ -166,7 +176,9 @@ fn value_read(
     letters: &Letters,
     name: &[u8],
     value: Vec<u8>,
-) -> Result<Vec<u8>, AllocError> {
+) -> Result<Vec<u8>, AllocError>
+    ensures { IfOk result (λ read. IsNamed name.now (codes "FEN") → read.items ≡ fen_read letters.now value.items) }
+{
     if letters.is_english() || !is_word(name, "FEN") {
         return Ok(value);
     }
@@ -196,18 +208,25 @@ impl Game {
         }
     }
 
-    /// Takes a tag's value, where it is one that counts.
-    fn take_tag(&mut self, name: &[u8], value: Vec<u8>) {
+    /// Takes what a tag's value asks, where it may.
+    fn take_number(&mut self, name: &[u8], value: &[u8])
+        ensures has { self.new.has_fen ≡ self.old.has_fen }
+        ensures fen { self.new.fen ≡ self.old.fen }
+    {
         if may_ask(name) {
-            self.asked = self.asked.and(moves_asked(value.as_slice()));
+            self.asked = self.asked.and(moves_asked(value));
         }
-        if is_word(name, "Stipulation") && is_said(value.as_slice()) {
-            self.stipulated = Some(moves_asked(value.as_slice()));
+        if is_word(name, "Stipulation") && is_said(value) {
+            self.stipulated = Some(moves_asked(value));
         }
-        if is_word(name, "FEN") {
-            self.has_fen = true;
-            self.fen = value;
-        } else if is_word(name, "White") {
+    }
+
+    /// Takes the value of a tag that is told in `id`.
+    fn take_told(&mut self, name: &[u8], value: Vec<u8>)
+        ensures has { self.new.has_fen ≡ self.old.has_fen }
+        ensures fen { self.new.fen ≡ self.old.fen }
+    {
+        if is_word(name, "White") {
             self.white = value;
         } else if is_word(name, "Black") {
             self.black = value;
@@ -222,18 +241,36 @@ impl Game {
         }
     }
 
+    /// Takes a tag's value, where it is one that counts.
+    fn take_tag(&mut self, name: &[u8], value: Vec<u8>)
+        ensures { (self.new.has_fen ≡ self.old.has_fen) × (self.new.fen ≡ self.old.fen)
+            ⊎ (IsNamed name.now (codes "FEN") × (self.new.fen ≡ value)) }
+    {
+        if is_word(name, "FEN") {
+            self.has_fen = true;
+            self.fen = value;
+            return;
+        }
+        self.take_number(name, value.as_slice());
+        self.take_told(name, value);
+    }
+
     /// Takes the tag pairs of a line; gives what stands behind the last.
     pub(crate) fn take_line<'t>(
         &mut self,
         alloc: Global,
         letters: &Letters,
         line: &'t [u8],
-    ) -> Result<&'t [u8], AllocError> {
+    ) -> Result<&'t [u8], AllocError>
+        ensures { IfOk result (λ _. (self.new.has_fen ≡ self.old.has_fen) × (self.new.fen ≡ self.old.fen)
+            ⊎ IsFenOf letters.now line.now self.new.fen.items) }
+    {
         let mut rest = line.trim_ascii_start();
         for _ in 0..line.len() {
-            let [b'[', more @ ..] = rest else {
+            if !begins_with(b'[', rest) {
                 break;
-            };
+            }
+            let more = without_first(rest, 1);
             let (name, _) = word_at(more);
             let (_, behind) = cut_at(more, b'"');
             let mut value = Vec::new(alloc);

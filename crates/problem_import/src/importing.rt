@@ -240,6 +240,10 @@ impl LineHandler for Imports<'_> {
     ghost skips = { λ _ number line blank. skipped blank };
 
     ghost unmarked = { λ _ _ _ _. tt };
+
+    ghost passes = { λ _ _ _ _ _ _. tt };
+
+    ghost skips_behind = { λ _ _ _ _ _. tt };
 }
 
 /// Writes what is printed once the input has ended; gives at how many lines, its end for one, a problem is refused.

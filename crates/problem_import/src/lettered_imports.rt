@@ -112,6 +112,10 @@ impl LineHandler for LetteredImports<'_> {
     ghost skips = { λ _ number line blank. skipped blank };
 
     ghost unmarked = { λ _ _ _ _. tt };
+
+    ghost passes = { λ _ _ _ _ _ _. tt };
+
+    ghost skips_behind = { λ _ _ _ _ _. tt };
 }
 
 /// Imports an input by letters, over what goes from line to line.

@@ -302,6 +302,10 @@ impl<H: ProblemHandler> LineHandler for ProblemLines<'_, H> {
     ghost skips = { λ _ number line blank. skipped blank };
 
     ghost unmarked = { λ _ _ _ _. tt };
+
+    ghost passes = { λ _ _ _ _ _ _. tt };
+
+    ghost skips_behind = { λ _ _ _ _ _. tt };
 }
 
 /// Answers the problems of an input: to what each line ends is replied before the next is waited for. Gives at how many lines, the end of

@@ -1,12 +1,13 @@
 //! Texts of bytes: what stands at their ends, and their words.
 
-ghost use Rattle.std.specs.Prelude.{◌≡◌, ◌++◌, ◌∷◌, IfOk, drop};
+ghost use Rattle.std.specs.Prelude.{◌≡◌, ◌↔◌, ◌++◌, ◌∷◌, IfOk, IsTrue, drop};
 ghost use Rattle.std.specs.Str.{bytes_eq};
 ghost use Rattle.chess_board.specs.Characters.{char};
 ghost use Rattle.chess_notation.specs.RecordFields.{is_number};
 ghost use Rattle.chess_notation.specs.Words.{after_spaces as text_after_spaces, after_word, behind, front_word as word_in_front};
 ghost use Rattle.chess_notation.specs.Words.{word_at as word_of_text};
 ghost use Rattle.problem_import.specs.Letters.{trimmed as trimmed_text};
+ghost use Rattle.problem_import.specs.inside.GameFens.{IsNamed};
 
 use chess_notation::are_digits as are_all_digits;
 use std::alloc::AllocError;
@@ -59,7 +60,9 @@ pub(crate) fn are_digits(text: &[u8]) -> bool
 }
 
 /// Whether the one text is the other, small and large letters alike.
-pub(crate) fn is_word(word: &[u8], other: &str) -> bool {
+pub(crate) fn is_word(word: &[u8], other: &str) -> bool
+    ensures { IsTrue result ↔ IsNamed word.now other.now }
+{
     word.eq_ignore_ascii_case(other.as_bytes())
 }
 

@@ -6,7 +6,7 @@ use Rattle.byte_streams.specs.declared.stops.Stop.TheVariants as stop
 use Rattle.byte_streams.specs.declared.inputs.InputFault.{InputFault}
 use Rattle.byte_streams.specs.declared.inputs.InputFault.TheVariants as fault
 use Rattle.byte_streams.specs.Stops.{AppendsPart, is_of_output, stop_of}
-use Rattle.text_lines.specs.Writers.{BreaksOff, PartReplied, Replied}
+use Rattle.text_lines.specs.Writers.{BreaksOff, Following, Follows, Knows, PartReplied, Replied}
 
 module _ (P : List ℕ → ℕ → Type 0) (old new : Option (List ℕ)) where
   -- ---- read as what another line may be answered
@@ -81,3 +81,10 @@ more_between P a b c first second all = subst P (omega (arith, first, second)) a
 -- what is said of a line is said of the same line
 pub said_of : (R : List ℕ → List ℕ → ℕ → Type 0) (line same text : List ℕ) (n : ℕ) → line ≡ same → R line text n → R same text n
 said_of R line same text n is says = subst (λ l. R l text n) is says
+
+module _ {M : Type 0} (knows : M → List (List ℕ) → Type 0) (follows : Following) (line same : List ℕ) where
+  pub known_of : (old new : M) (text : List ℕ) (n : ℕ) → line ≡ same → Knows knows follows line old new text n → Knows knows follows same old new text n
+  known_of old new text n is known = subst (λ l. Knows knows follows l old new text n) is known
+
+  pub follows_of : (old : M) (text : List ℕ) (n : ℕ) → line ≡ same → Follows knows follows line old text n → Follows knows follows same old text n
+  follows_of old text n is known = subst (λ l. Follows knows follows l old text n) is known

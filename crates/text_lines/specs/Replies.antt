@@ -1,11 +1,19 @@
 -- The replies to an input, line by line (own to this project).
-use Rattle.std.specs.Prelude.{◌≡◌, ℕ, ◌+◌, List, [], ◌∷◌, ◌++◌, length, take}
+use Rattle.std.specs.Prelude.{◌≡◌, ℕ, ◌+◌, ◌-◌, List, [], ◌∷◌, ◌++◌, length, take}
 use Rattle.text_lines.specs.Lines.{lines_of, without_cr}
 
 -- What lines may be answered: by a line's number in the input, from 1, and the line without its CR, the text of the reply, and how many
 -- refusals that is.
 abbrev pub LineReplies : Type 1
 LineReplies = ℕ → List ℕ → List ℕ → ℕ → Type 0
+
+-- What a line may be answered behind the lines before it, each without its CR.
+abbrev pub RepliesBehind : Type 1
+RepliesBehind = List (List ℕ) → LineReplies
+
+-- What these lines may be answered, each by those before it.
+abbrev pub behind : RepliesBehind → List (List ℕ) → LineReplies
+behind follows lines = λ number. follows (take (number - 1) lines) number
 
 -- What lines are answered, the first of them numbered so, and how many are refused.
 abbrev pub IsReplyFrom : LineReplies → ℕ → List (List ℕ) → List ℕ → ℕ → Type 0

@@ -1,5 +1,5 @@
 -- What an output gains by the reply to one line (own to this project).
-use Rattle.std.specs.Prelude.{ℕ, List, Option}
+use Rattle.std.specs.Prelude.{ℕ, List, [], ◌∷◌, ◌++◌, Option}
 use Rattle.std.specs.Io.KnownBytes.{Appends, Keeps}
 use Rattle.byte_streams.specs.declared.stops.Stop.{Stop}
 use Rattle.byte_streams.specs.declared.stops.Stop.TheVariants.{NoMemory, Unreadable, Unwritable, NoReader}
@@ -9,9 +9,22 @@ use Rattle.byte_streams.specs.Stops.{AppendsPart}
 abbrev pub Replied : (List ℕ → ℕ → Type 0) → (old new : Option (List ℕ)) → ℕ → Type 0
 Replied may old new refusals = (text : List ℕ) × may text refusals × Appends old new text
 
--- What a reply may be, and how many marks it has beside.
-abbrev pub Marked : (may marks : List ℕ → ℕ → Type 0) → ℕ → List ℕ → ℕ → Type 0
-Marked may marks count text refusals = may text refusals × marks text count
+-- What a reply may be, how many marks it has beside, and what it is by the lines before.
+abbrev pub Marked : (may marks follows : List ℕ → ℕ → Type 0) → ℕ → List ℕ → ℕ → Type 0
+Marked may marks follows count text refusals = may text refusals × marks text count × follows text refusals
+
+-- What a line may be answered, by the lines before it.
+abbrev pub Following : Type 1
+Following = List (List ℕ) → (line text : List ℕ) → ℕ → Type 0
+
+-- Whatever the lines before, the reply follows them, where what goes from line to line is known to be of them.
+abbrev pub Follows : {M : Type 0} → (M → List (List ℕ) → Type 0) → Following → (line : List ℕ) → M → List ℕ → ℕ → Type 0
+Follows knows follows line old text refusals = (before : List (List ℕ)) → knows old before → follows before line text refusals
+
+-- It does, and what goes from line to line is known to be of this line, too.
+abbrev pub Knows : {M : Type 0} → (M → List (List ℕ) → Type 0) → Following → (line : List ℕ) → (old new : M) → List ℕ → ℕ → Type 0
+Knows knows follows line old new text refusals =
+    (before : List (List ℕ)) → knows old before → follows before line text refusals × knows new (before ++ line ∷ [])
 
 -- a first part of such a reply
 abbrev pub PartReplied : (List ℕ → ℕ → Type 0) → (old new : Option (List ℕ)) → Type 0

@@ -1,12 +1,14 @@
 //! The replies to an input, line by line.
 
-ghost use Rattle.std.specs.Prelude.{◌≡◌, ◌<◌, ◌≤◌, ◌-◌, ℕ, List, [], IfErr, IfOk, length, true, false};
+ghost use Rattle.std.specs.Prelude.{◌≡◌, ◌<◌, ◌≤◌, ◌-◌, ◌⊎◌, ◌∷◌, ◌++◌, ℕ, List, [], IfErr, IfOk, length, true, false};
 ghost use Rattle.std.specs.Io.KnownBytes.{Appends};
 ghost use Rattle.byte_streams.specs.Inputs.{MayBe};
 ghost use Rattle.byte_streams.specs.Stops.{AppendsBy, AppendsPart, is_of_output};
 ghost use Rattle.chess_notation.specs.Records.{max_line};
 ghost use Rattle.chess_notation.specs.Words.{is_blank};
-ghost use Rattle.text_lines.specs.Replies.{IsReply, IsReplyToFirst, RepliesGoOn};
+ghost use Rattle.text_lines.specs.Lines.{texts_of};
+ghost use Rattle.text_lines.specs.Replies.{IsReply, IsReplyToFirst, RepliesGoOn, behind};
+ghost use Rattle.text_lines.specs.Writers.{Knows};
 
 use crate::writers::{LineWriter, write_replies};
 use byte_streams::{Input, NoMemory, Stop, put};
@@ -38,6 +40,12 @@ pub trait LineHandler {
     /// How many marks there were so far.
     ghost tally: { Self.Memory → ℕ } = { λ _. 0 };
 
+    /// What goes from line to line is known to be of these lines, each without its CR. Nothing is where no reply depends on the lines before.
+    ghost knows: { Self → Self.Memory → List (List ℕ) → Type 0 } = { λ _ _ _. Unit {0} };
+
+    /// What a line is answered behind the lines before it: its number, the line, the text, and how many refusals that is.
+    ghost follows: { Self → List (List ℕ) → ℕ → List ℕ → List ℕ → ℕ → Type 0 } = { λ _ _ _ _ _ _. Unit {0} };
+
     /// What of the memory stays as it is.
     ghost room: { Self.Memory → ℕ };
 
@@ -54,6 +62,8 @@ pub trait LineHandler {
         requires short { length line.now ≤ max_line }
         ensures reply { IfOk result (λ output. replies self.now number line.now output.text.items output.refused) }
         ensures marked { IfOk result (λ output. marks self.now number line.now output.text.items (tally memory.new - tally memory.old)) }
+        ensures behind { IfOk result (λ output. Knows (knows self.now) (λ before. follows self.now before number) line.now
+            memory.old memory.new output.text.items output.refused) }
         ensures grows { IfOk result (λ _. tally memory.old ≤ tally memory.new) }
         ensures few { IfOk result (λ output. output.refused ≤ 1) }
         ensures room { room memory.new ≡ room memory.old };
@@ -64,6 +74,8 @@ pub trait LineHandler {
             → replies self.now number line output.text.items output.refused) }
         ensures marked { IfOk result (λ output. (line : List ℕ) → is_blank line ≡ false → max_line < length line
             → marks self.now number line output.text.items 0) }
+        ensures behind { IfOk result (λ output. (line : List ℕ) → is_blank line ≡ false → max_line < length line
+            → (before : List (List ℕ)) → follows self.now before number line output.text.items output.refused) }
         ensures few { IfOk result (λ output. output.refused ≤ 1) };
 
     /// A blank line is answered with nothing.
@@ -71,6 +83,14 @@ pub trait LineHandler {
 
     /// That has no mark.
     ghost unmarked: { (handler : Self) (number : ℕ) (line : List ℕ) → is_blank line ≡ true → marks handler number line [] 0 };
+
+    /// A line that isn't taken, blank or too long, changes nothing of what is known.
+    ghost passes: { (handler : Self) (memory : Self.Memory) (before : List (List ℕ)) (line : List ℕ)
+        → (is_blank line ≡ true) ⊎ (max_line < length line) → knows handler memory before → knows handler memory (before ++ line ∷ []) };
+
+    /// A blank line is answered with nothing, whatever stands before it.
+    ghost skips_behind: { (handler : Self) (before : List (List ℕ)) (number : ℕ) (line : List ℕ)
+        → is_blank line ≡ true → follows handler before number line [] 0 };
 }
 
 /// A handler's replies, each of which is whole before it is written.
@@ -89,6 +109,10 @@ impl<H: LineHandler> LineWriter for Whole<'_, H> {
     ghost marks = { λ whole. H.marks whole.handler.now };
 
     ghost tally = { λ memory. H.tally memory };
+
+    ghost knows = { λ whole. H.knows whole.handler.now };
+
+    ghost follows = { λ whole. H.follows whole.handler.now };
 
     ghost room = { λ memory. H.room memory };
 
@@ -121,6 +145,10 @@ impl<H: LineHandler> LineWriter for Whole<'_, H> {
     ghost skips = { λ whole number line blank. H.skips whole.handler.now number line blank };
 
     ghost unmarked = { λ whole number line blank. H.unmarked whole.handler.now number line blank };
+
+    ghost passes = { λ whole memory before line is. H.passes whole.handler.now memory before line is };
+
+    ghost skips_behind = { λ whole before number line blank. H.skips_behind whole.handler.now before number line blank };
 }
 
 /// Writes a reply; gives how many lines it refuses.
@@ -154,9 +182,16 @@ pub fn answer_input<H: LineHandler, I: Input + Drop, O: Write>(
         × (IsReply (H.replies handler.now) bytes text refused
         × IsReply (H.marks handler.now) bytes text (H.tally memory.new - H.tally memory.old))
         × Appends (O.contents out.old) (O.contents out.new) text) }
+    ensures followed { IfOk result (λ refused. H.knows handler.now memory.old [] → (bytes : List ℕ) × (text : List ℕ)
+        × MayBe (I.left input) bytes
+        × (IsReply (behind (H.follows handler.now) (texts_of bytes)) bytes text refused × H.knows handler.now memory.new (texts_of bytes))
+        × Appends (O.contents out.old) (O.contents out.new) text) }
     ensures grows { IfOk result (λ _. H.tally memory.old ≤ H.tally memory.new) }
     ensures err { IfErr result (λ stop. (bytes : List ℕ) × (text : List ℕ) × MayBe (I.left input) bytes
         × IsReplyToFirst (H.replies handler.now) bytes text
+        × AppendsBy stop (O.contents out.old) (O.contents out.new) text) }
+    ensures broken { IfErr result (λ stop. H.knows handler.now memory.old [] → (bytes : List ℕ) × (text : List ℕ)
+        × MayBe (I.left input) bytes × IsReplyToFirst (behind (H.follows handler.now) (texts_of bytes)) bytes text
         × AppendsBy stop (O.contents out.old) (O.contents out.new) text) }
     ensures unreadable { IfErr result (λ stop. stop ≡ Stop.Unreadable → I.breaks input) }
     ensures room { H.room memory.new ≡ H.room memory.old }

@@ -1,14 +1,14 @@
 //! The lines of an input, answered on an output one by one.
 
-ghost use Rattle.std.specs.Prelude.{◌≡◌, ◌<◌, ◌≤◌, ◌-◌, ℕ, Bool, List, [], IfErr, IfOk, length, true, false};
+ghost use Rattle.std.specs.Prelude.{◌≡◌, ◌<◌, ◌≤◌, ◌-◌, ◌⊎◌, ◌∷◌, ◌++◌, ℕ, Bool, List, [], IfErr, IfOk, length, true, false};
 ghost use Rattle.std.specs.Io.KnownBytes.{Appends, Keeps};
 ghost use Rattle.byte_streams.specs.Inputs.{MayBe};
 ghost use Rattle.byte_streams.specs.Stops.{AppendsBy, AppendsPart, is_of_output};
 ghost use Rattle.chess_notation.specs.Records.{max_line};
 ghost use Rattle.chess_notation.specs.Words.{is_blank};
-ghost use Rattle.text_lines.specs.Lines.{without_cr as text_without_cr};
-ghost use Rattle.text_lines.specs.Replies.{IsReply, IsReplyToFirst};
-ghost use Rattle.text_lines.specs.Writers.{BreaksOff, Marked, Replied};
+ghost use Rattle.text_lines.specs.Lines.{texts_of, without_cr as text_without_cr};
+ghost use Rattle.text_lines.specs.Replies.{IsReply, IsReplyToFirst, behind};
+ghost use Rattle.text_lines.specs.Writers.{BreaksOff, Follows, Knows, Marked, Replied};
 ghost use Rattle.text_lines.specs.inside.InputLines.{IsKept, TakesLine, left_of};
 
 use crate::input_lines::{Kept, Lines, MAX_LINE, without_cr};
@@ -34,6 +34,12 @@ pub trait LineWriter {
     /// How many marks there were so far.
     ghost tally: { Self.Memory → ℕ } = { λ _. 0 };
 
+    /// What goes from line to line is known to be of these lines, each without its CR. Nothing is where no reply depends on the lines before.
+    ghost knows: { Self → Self.Memory → List (List ℕ) → Type 0 } = { λ _ _ _. Unit {0} };
+
+    /// What a line is answered behind the lines before it: its number, the line, the text, and how many refusals that is.
+    ghost follows: { Self → List (List ℕ) → ℕ → List ℕ → List ℕ → ℕ → Type 0 } = { λ _ _ _ _ _ _. Unit {0} };
+
     /// What of the memory stays as it is.
     ghost room: { Self.Memory → ℕ };
 
@@ -51,8 +57,11 @@ pub trait LineWriter {
         requires filled { is_blank line.now ≡ false }
         requires short { length line.now ≤ max_line }
         ensures reply { IfOk result (Replied (Marked (replies self.now number line.now) (marks self.now number line.now)
+            (Knows (knows self.now) (λ before. follows self.now before number) line.now memory.old memory.new)
             (tally memory.new - tally memory.old)) (O.contents out.old) (O.contents out.new)) }
-        ensures err { IfErr result (BreaksOff (replies self.now number line.now) (O.contents out.old) (O.contents out.new)) }
+        ensures err { IfErr result (BreaksOff (λ text refusals. replies self.now number line.now text refusals
+            × Follows (knows self.now) (λ before. follows self.now before number) line.now memory.old text refusals)
+            (O.contents out.old) (O.contents out.new)) }
         ensures few { IfOk result (λ refused. refused ≤ 1) }
         ensures grows { IfOk result (λ _. tally memory.old ≤ tally memory.new) }
         ensures room { room memory.new ≡ room memory.old };
@@ -66,9 +75,11 @@ pub trait LineWriter {
     ) -> Result<usize, Stop>
         ensures reply { IfOk result (Replied (Marked (λ text refusals. (line : List ℕ) → is_blank line ≡ false → max_line < length line
             → replies self.now number line text refusals) (λ text count. (line : List ℕ) → is_blank line ≡ false → max_line < length line
-            → marks self.now number line text count) 0) (O.contents out.old) (O.contents out.new)) }
+            → marks self.now number line text count) (λ text refusals. (line : List ℕ) → is_blank line ≡ false → max_line < length line
+            → (before : List (List ℕ)) → follows self.now before number line text refusals) 0) (O.contents out.old) (O.contents out.new)) }
         ensures err { IfErr result (BreaksOff (λ text refusals. (line : List ℕ) → is_blank line ≡ false → max_line < length line
-            → replies self.now number line text refusals) (O.contents out.old) (O.contents out.new)) }
+            → replies self.now number line text refusals × ((before : List (List ℕ)) → follows self.now before number line text refusals))
+            (O.contents out.old) (O.contents out.new)) }
         ensures few { IfOk result (λ refused. refused ≤ 1) };
 
     /// A blank line is answered with nothing.
@@ -76,6 +87,14 @@ pub trait LineWriter {
 
     /// That has no mark.
     ghost unmarked: { (writer : Self) (number : ℕ) (line : List ℕ) → is_blank line ≡ true → marks writer number line [] 0 };
+
+    /// A line that isn't taken, blank or too long, changes nothing of what is known.
+    ghost passes: { (writer : Self) (memory : Self.Memory) (before : List (List ℕ)) (line : List ℕ)
+        → (is_blank line ≡ true) ⊎ (max_line < length line) → knows writer memory before → knows writer memory (before ++ line ∷ []) };
+
+    /// A blank line is answered with nothing, whatever stands before it.
+    ghost skips_behind: { (writer : Self) (before : List (List ℕ)) (number : ℕ) (line : List ℕ)
+        → is_blank line ≡ true → follows writer before number line [] 0 };
 }
 
 /// Writes the reply to a line by what is kept of it: a line of which bytes are left out is blank or too long.
@@ -91,10 +110,13 @@ fn answer_kept<W: LineWriter, O: Write>(
     requires kept { (line : List ℕ) × IsKept kept.now line }
     ensures reply { IfOk result (Replied (Marked (λ text refusals. (line : List ℕ) → IsKept kept.now line
         → W.replies writer.now number (text_without_cr line) text refusals) (λ text count. (line : List ℕ) → IsKept kept.now line
-        → W.marks writer.now number (text_without_cr line) text count) (W.tally memory.new - W.tally memory.old))
-        (O.contents out.old) (O.contents out.new)) }
+        → W.marks writer.now number (text_without_cr line) text count) (λ text refusals. (line : List ℕ) → IsKept kept.now line
+        → Knows (W.knows writer.now) (λ before. W.follows writer.now before number) (text_without_cr line) memory.old memory.new
+        text refusals) (W.tally memory.new - W.tally memory.old)) (O.contents out.old) (O.contents out.new)) }
     ensures err { IfErr result (BreaksOff (λ text refusals. (line : List ℕ) → IsKept kept.now line
-        → W.replies writer.now number (text_without_cr line) text refusals) (O.contents out.old) (O.contents out.new)) }
+        → W.replies writer.now number (text_without_cr line) text refusals
+        × Follows (W.knows writer.now) (λ before. W.follows writer.now before number) (text_without_cr line) memory.old text refusals)
+        (O.contents out.old) (O.contents out.new)) }
     ensures few { IfOk result (λ refused. refused ≤ 1) }
     ensures grows { IfOk result (λ _. W.tally memory.old ≤ W.tally memory.new) }
     ensures room { W.room memory.new ≡ W.room memory.old }
@@ -129,13 +151,16 @@ fn answer_next<W: LineWriter, I: Input + Drop, O: Write>(
     ensures ok { IfOk result (λ answered. (line : List ℕ) × (here : List ℕ)
         × W.replies writer.now number (text_without_cr line) here answered.refused
         × W.marks writer.now number (text_without_cr line) here (W.tally memory.new - W.tally memory.old)
+        × Knows (W.knows writer.now) (λ before. W.follows writer.now before number) (text_without_cr line) memory.old memory.new
+        here answered.refused
         × TakesLine answered.is_last (left_of I.left lines.old) (left_of I.left lines.new) line
         × Appends (O.contents out.old) (O.contents out.new) here) }
     ensures few { IfOk result (λ answered. answered.refused ≤ 1) }
     ensures grows { IfOk result (λ _. W.tally memory.old ≤ W.tally memory.new) }
     ensures unanswered { IfErr result (λ stop. is_of_output stop ≡ false → Keeps (O.contents out.old) (O.contents out.new)) }
     ensures cut { IfErr result (λ stop. is_of_output stop ≡ true → (is_last : Bool) × (line : List ℕ) × (here : List ℕ) × (count : ℕ)
-        × W.replies writer.now number (text_without_cr line) here count
+        × (W.replies writer.now number (text_without_cr line) here count
+        × Follows (W.knows writer.now) (λ before. W.follows writer.now before number) (text_without_cr line) memory.old here count)
         × TakesLine is_last (left_of I.left lines.old) (left_of I.left lines.new) line
         × AppendsPart (O.contents out.old) (O.contents out.new) here) }
     ensures unreadable { IfErr result (λ stop. stop ≡ Stop.Unreadable → I.breaks lines.old.input) }
@@ -172,9 +197,16 @@ pub fn write_replies<W: LineWriter, I: Input + Drop, O: Write>(
         × (IsReply (W.replies writer.now) bytes text refused
         × IsReply (W.marks writer.now) bytes text (W.tally memory.new - W.tally memory.old))
         × Appends (O.contents out.old) (O.contents out.new) text) }
+    ensures followed { IfOk result (λ refused. W.knows writer.now memory.old [] → (bytes : List ℕ) × (text : List ℕ)
+        × MayBe (I.left input) bytes
+        × (IsReply (behind (W.follows writer.now) (texts_of bytes)) bytes text refused × W.knows writer.now memory.new (texts_of bytes))
+        × Appends (O.contents out.old) (O.contents out.new) text) }
     ensures grows { IfOk result (λ _. W.tally memory.old ≤ W.tally memory.new) }
     ensures err { IfErr result (λ stop. (bytes : List ℕ) × (text : List ℕ) × MayBe (I.left input) bytes
         × IsReplyToFirst (W.replies writer.now) bytes text
+        × AppendsBy stop (O.contents out.old) (O.contents out.new) text) }
+    ensures broken { IfErr result (λ stop. W.knows writer.now memory.old [] → (bytes : List ℕ) × (text : List ℕ)
+        × MayBe (I.left input) bytes × IsReplyToFirst (behind (W.follows writer.now) (texts_of bytes)) bytes text
         × AppendsBy stop (O.contents out.old) (O.contents out.new) text) }
     ensures unreadable { IfErr result (λ stop. stop ≡ Stop.Unreadable → I.breaks input) }
     ensures room { W.room memory.new ≡ W.room memory.old }

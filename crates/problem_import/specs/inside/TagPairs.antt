@@ -1,11 +1,15 @@
 -- Not for believing: which lines are tag pairs of a game (PGN Specification, 8.1.1). No contract of a public call rests on it.
-use Rattle.std.specs.Prelude.{ℕ, ◌==◌, List, [], ◌∷◌, drop}
+use Rattle.std.specs.Prelude.{◌≡◌, ℕ, ◌==◌, List, [], ◌∷◌, ◌++◌, drop}
 use Rattle.std.specs.Prelude.{Bool, false, ◌&&◌, ◌||◌, if◌then◌else◌}
 use Rattle.std.specs.List.{list_all}
 use Rattle.chess_board.specs.Characters.{char}
 use Rattle.chess_notation.specs.Operations.{is_opcode_byte, is_printable}
 use Rattle.chess_notation.specs.Words.{after_spaces}
 use Rattle.problem_import.specs.Letters.{trimmed}
+
+-- The one text stands at the end of the other.
+abbrev pub EndsText : (rest text : List ℕ) → Type 0
+EndsText rest text = (front : List ℕ) × (text ≡ front ++ rest)
 
 abbrev pub begins_with : ℕ → List ℕ → Bool
 begins_with byte [] = false

@@ -1,9 +1,9 @@
-use Rattle.std.proofs.Common.{◌≡◌, ◌≤◌, ◌<◌, List, ℕ, [], length, sym, ap, ◌∙◌, subst}
+use Rattle.std.proofs.Common.{◌≡◌, ◌≤◌, ◌<◌, List, ℕ, [], length, sym, ap, ◌∙◌, subst, inl, inr}
 use Rattle.std.proofs.KnownBytes.{Appends-nil}
 use Rattle.chess_notation.specs.Records.{max_line}
 use Rattle.text_lines.specs.Lines.{without_cr}
 use Rattle.text_lines.proofs.KeptLines.{kept_filled, kept_long, kept_short}
-use Rattle.text_lines.proofs.WrittenReplies.{breaks_as, none_more, replied_as, said_of}
+use Rattle.text_lines.proofs.WrittenReplies.{breaks_as, follows_of, known_of, none_more, replied_as, said_of}
 use Rattle.text_lines.proofs.writers.answer_kept.Goals as goal
 
 pub returns-then-is_blank-clause-reply : goal.returns-then-is_blank-clause-reply
@@ -13,6 +13,11 @@ returns-then-is_blank-clause-reply g c = (
     λ line is. g.met.W.LineWriter.skips c.args.writer.now c.args.number _ (sym (c.is_blank.ensures line is) ∙ c.if-is_blank.true),
     λ line is. none_more (g.W.LineWriter.marks c.args.writer.now c.args.number (without_cr line) []) _
         (g.met.W.LineWriter.unmarked c.args.writer.now c.args.number _ (sym (c.is_blank.ensures line is) ∙ c.if-is_blank.true)),
+    λ line is before known.
+        let blank = sym (c.is_blank.ensures line is) ∙ c.if-is_blank.true in (
+          g.met.W.LineWriter.skips_behind c.args.writer.now before c.args.number _ blank,
+          g.met.W.LineWriter.passes c.args.writer.now _ before _ (inl blank) known,
+        ),
   ),
   Appends-nil (g.O.Write.contents c.args.out.now),
 )
@@ -23,10 +28,14 @@ returns-then-line-gt-MAX_LINE-clause-reply g c =
     c.without_cr-line.ensures ∙ ap without_cr c.as_slice.ensures.value in
     let long = subst (λ (l : List ℕ). max_line < length l) kept c.if-line-gt-MAX_LINE.true in
     replied_as _ _ _ _ c.refuse_long.result
-    (λ text n (may, marks). (
+    (λ text n (may, marks, follows). (
       λ line is. may (without_cr line) (sym (c.is_blank.ensures line is) ∙ c.if-is_blank.false) (kept_long c.args.kept.now line is long),
       λ line is. none_more (g.W.LineWriter.marks c.args.writer.now c.args.number (without_cr line) text) _
           (marks (without_cr line) (sym (c.is_blank.ensures line is) ∙ c.if-is_blank.false) (kept_long c.args.kept.now line is long)),
+      λ line is before known. (
+        follows (without_cr line) (sym (c.is_blank.ensures line is) ∙ c.if-is_blank.false) (kept_long c.args.kept.now line is long) before,
+        g.met.W.LineWriter.passes c.args.writer.now _ before _ (inr (kept_long c.args.kept.now line is long)) known,
+      ),
     ))
     c.refuse_long.ensures.reply
 
@@ -36,7 +45,10 @@ returns-then-line-gt-MAX_LINE-clause-err g c =
     c.without_cr-line.ensures ∙ ap without_cr c.as_slice.ensures.value in
     let long = subst (λ (l : List ℕ). max_line < length l) kept c.if-line-gt-MAX_LINE.true in
     breaks_as _ _ _ _ c.refuse_long.result
-    (λ text n may line is. may (without_cr line) (sym (c.is_blank.ensures line is) ∙ c.if-is_blank.false) (kept_long c.args.kept.now line is long))
+    (λ text n may line is.
+    let (one, follows) =
+    may (without_cr line) (sym (c.is_blank.ensures line is) ∙ c.if-is_blank.false) (kept_long c.args.kept.now line is long) in
+    (one, λ before known. follows before))
     c.refuse_long.ensures.err
 
 pub write_reply-requires-clause-filled : goal.write_reply-requires-clause-filled
@@ -53,11 +65,13 @@ returns-clause-reply g c =
     c.without_cr-line.ensures ∙ ap without_cr c.as_slice.ensures.value in
     let short = subst (λ (l : List ℕ). length l ≤ max_line) kept c.if-line-gt-MAX_LINE.false in
     replied_as _ _ _ _ c.write_reply.result
-    (λ text n (may, marks). (
+    (λ text n (may, marks, knows). (
       λ line is. subst (λ l. g.W.LineWriter.replies c.args.writer.now c.args.number l text n)
           (kept ∙ ap without_cr (kept_short c.args.kept.now line is short)) may,
       λ line is. said_of (g.W.LineWriter.marks c.args.writer.now c.args.number) _ (without_cr line) text _
           (kept ∙ ap without_cr (kept_short c.args.kept.now line is short)) marks,
+      λ line is. known_of (g.W.LineWriter.knows c.args.writer.now) (λ before. g.W.LineWriter.follows c.args.writer.now before c.args.number)
+          _ (without_cr line) _ _ text n (kept ∙ ap without_cr (kept_short c.args.kept.now line is short)) knows,
     )) c.write_reply.ensures.reply
 
 pub returns-clause-err : goal.returns-clause-err
@@ -66,5 +80,9 @@ returns-clause-err g c =
     c.without_cr-line.ensures ∙ ap without_cr c.as_slice.ensures.value in
     let short = subst (λ (l : List ℕ). length l ≤ max_line) kept c.if-line-gt-MAX_LINE.false in
     breaks_as _ _ _ _ c.write_reply.result
-    (λ text n may line is. subst (λ l. g.W.LineWriter.replies c.args.writer.now c.args.number l text n)
-    (kept ∙ ap without_cr (kept_short c.args.kept.now line is short)) may) c.write_reply.ensures.err
+    (λ text n (may, follows) line is. (
+      subst (λ l. g.W.LineWriter.replies c.args.writer.now c.args.number l text n)
+          (kept ∙ ap without_cr (kept_short c.args.kept.now line is short)) may,
+      follows_of (g.W.LineWriter.knows c.args.writer.now) (λ before. g.W.LineWriter.follows c.args.writer.now before c.args.number)
+          _ (without_cr line) _ text n (kept ∙ ap without_cr (kept_short c.args.kept.now line is short)) follows,
+    )) c.write_reply.ensures.err

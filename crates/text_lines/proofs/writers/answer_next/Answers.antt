@@ -7,8 +7,8 @@ use Rattle.text_lines.proofs.writers.answer_next.Goals as goal
 pub returns-in-Ok-clause-ok : goal.returns-in-Ok-clause-ok
 returns-in-Ok-clause-ok g c =
     let (line, is, takes) = c.in_ok-taken.ensures.ok in
-    let (here, (may, marks), appends) = c.in-Ok.ensures.reply in
-    (line, here, may line is, marks line is, takes, appends)
+    let (here, (may, marks, knows), appends) = c.in-Ok.ensures.reply in
+    (line, here, may line is, marks line is, knows line is, takes, appends)
 
 pub returns-clause-unanswered : goal.returns-clause-unanswered
 returns-clause-unanswered g c = silent_keeps _ _ _ c.in-Err.stop c.in-Err.ensures.err

@@ -1,6 +1,7 @@
-use Rattle.std.proofs.Common.{◌≡◌, ◌+◌, ◌-◌, ◌<◌, ◌≤◌, ℕ, List, length}
+use Rattle.std.proofs.Common.{◌≡◌, ◌+◌, ◌-◌, ◌<◌, ◌≤◌, ℕ, List, [], length, map}
 use Rattle.std.specs.Io.KnownBytes.{Appends, Consumes}
-use Rattle.text_lines.specs.Replies.{IsReplyFrom}
+use Rattle.text_lines.specs.Lines.{without_cr}
+use Rattle.text_lines.specs.Replies.{IsReplyFrom, behind}
 use Rattle.text_lines.specs.inside.InputLines.{left_of}
 use Rattle.text_lines.proofs.LineReplies.{Opens}
 use Rattle.text_lines.proofs.writers.write_replies.Given as goal
@@ -12,6 +13,9 @@ invariant-loop-number g l = (seen : List ℕ) × (lines : List (List ℕ)) × (t
   opens : Opens seen lines;
   replies : IsReplyFrom (g.W.LineWriter.replies l.writer) 1 lines text l.refused;
   marks : IsReplyFrom (g.W.LineWriter.marks l.writer) 1 lines text (g.W.LineWriter.tally l.memory - g.W.LineWriter.tally l.initial.memory);
+  follows : g.W.LineWriter.knows l.writer l.initial.memory []
+      → IsReplyFrom (behind (g.W.LineWriter.follows l.writer) (map without_cr lines)) 1 lines text l.refused
+      × g.W.LineWriter.knows l.writer l.memory (map without_cr lines);
   grows : g.W.LineWriter.tally l.initial.memory ≤ g.W.LineWriter.tally l.memory;
   number : length lines + 1 ≡ l.number;
   appends : Appends (g.O.Write.contents l.initial.out) (g.O.Write.contents l.out) text;

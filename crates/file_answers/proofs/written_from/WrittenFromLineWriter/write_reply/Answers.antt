@@ -10,18 +10,20 @@ returns-then-passes-clause-reply g c = (
     passed_over (g.W.LineWriter.replies c.args.self.now.writer.now) c.args.self.now.start.now.from c.args.number c.args.line.now
         (is_before c.args.number c.args.self.now.start.now.from (sym c.passes.ensures ∙ c.if-passes.true)),
     tt,
+    λ before known. (tt, tt),
   ),
   Appends-nil (g.O.Write.contents c.args.out.now),
 )
 
 pub returns-in-Ok-clause-reply : goal.returns-in-Ok-clause-reply
 returns-in-Ok-clause-reply g c =
-    let (text, (may, marks), on) = c.in-Ok.ensures.reply in (
+    let (text, (may, marks, follows), on) = c.in-Ok.ensures.reply in (
       text,
       (
         answered_on (g.W.LineWriter.replies c.args.self.now.writer.now) c.args.self.now.start.now.from c.args.number c.args.line.now text _
             (is_behind c.args.number c.args.self.now.start.now.from (sym c.passes.ensures ∙ c.if-passes.false)) may,
         tt,
+        λ before known. (tt, tt),
       ),
       on,
     )
@@ -29,5 +31,8 @@ returns-in-Ok-clause-reply g c =
 pub returns-in-Err-clause-err : goal.returns-in-Err-clause-err
 returns-in-Err-clause-err g c =
     breaks_behind _ _ _ _ (Err c.in-Err.stop)
-    (λ text n may. answered_on (g.W.LineWriter.replies c.args.self.now.writer.now) c.args.self.now.start.now.from c.args.number c.args.line.now text n
-    (is_behind c.args.number c.args.self.now.start.now.from (sym c.passes.ensures ∙ c.if-passes.false)) may) c.in-Err.ensures.err
+    (λ text n (may, follows). (
+      answered_on (g.W.LineWriter.replies c.args.self.now.writer.now) c.args.self.now.start.now.from c.args.number c.args.line.now text n
+          (is_behind c.args.number c.args.self.now.start.now.from (sym c.passes.ensures ∙ c.if-passes.false)) may,
+      λ before known. tt,
+    )) c.in-Err.ensures.err

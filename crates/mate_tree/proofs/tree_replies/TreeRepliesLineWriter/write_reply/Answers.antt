@@ -1,4 +1,4 @@
-use Rattle.mate_tree.specs.TreeReplies.{IsTreeReply, answered, tree_reply}
+use Rattle.mate_tree.specs.TreeReplies.{answered, tree_reply}
 use Rattle.mate_tree.specs.inside.Replies.{IsJust, IsRefusal}
 use Rattle.mate_tree.proofs.RefusedLines.{breaks_read, few_refused, refused_breaks, refused_replied, reply_refused}
 use Rattle.mate_tree.proofs.tree_replies.TreeRepliesLineWriter.write_reply.Goals as goal
@@ -6,15 +6,16 @@ use Rattle.mate_tree.proofs.tree_replies.TreeRepliesLineWriter.write_reply.Goals
 pub returns-in-Ok-write_record-clause-reply : goal.returns-in-Ok-write_record-clause-reply
 returns-in-Ok-write_record-clause-reply g c = (
   tree_reply c.args.self.now.form c.in-Ok.record,
-  (answered c.in-Ok.record c.requires.filled c.in-Ok.ensures.reads, tt),
+  (answered c.in-Ok.record c.requires.filled c.in-Ok.ensures.reads, tt, λ before known. (tt, tt)),
   c.in-Ok-write_record.ensures.ok,
 )
 
 pub returns-in-Ok-clause-err : goal.returns-in-Ok-clause-err
 returns-in-Ok-clause-err g c =
     breaks_read (IsJust (tree_reply c.args.self.now.form c.in-Ok.record) 0)
-    (IsTreeReply c.args.self.now.form c.args.self.now.default c.args.number c.args.line.now) _ _ c.in-Err-write_record.stop
-    (λ text n (is, none). rw (is, none) (answered c.in-Ok.record c.requires.filled c.in-Ok.ensures.reads)) c.in-Err-write_record.ensures.err
+    _ _ _ c.in-Err-write_record.stop
+    (λ text n (is, none). (rw (is, none) (answered c.in-Ok.record c.requires.filled c.in-Ok.ensures.reads), λ before known. tt))
+    c.in-Err-write_record.ensures.err
 
 pub returns-clause-reply : goal.returns-clause-reply
 returns-clause-reply g c =
@@ -23,15 +24,19 @@ returns-clause-reply g c =
       reply_refused c.args.self.now.form c.args.self.now.default c.args.number c.args.line.now c.in-Err.fault
           c.requires.filled c.in-Err.ensures.refused text n is,
       tt,
+      λ before known. (tt, tt),
     ))
     c.write_refused.ensures.ok
 
 pub returns-clause-err : goal.returns-clause-err
 returns-clause-err g c =
     refused_breaks (IsRefusal c.args.number c.in-Err.fault)
-    (IsTreeReply c.args.self.now.form c.args.self.now.default c.args.number c.args.line.now) _ _ c.write_refused.result
-    (reply_refused c.args.self.now.form c.args.self.now.default c.args.number c.args.line.now c.in-Err.fault
-    c.requires.filled c.in-Err.ensures.refused)
+    _ _ _ c.write_refused.result
+    (λ text n is. (
+      reply_refused c.args.self.now.form c.args.self.now.default c.args.number c.args.line.now c.in-Err.fault
+          c.requires.filled c.in-Err.ensures.refused text n is,
+      λ before known. tt,
+    ))
     c.write_refused.ensures.err
 
 pub returns-clause-few : goal.returns-clause-few

@@ -5,11 +5,12 @@ use Rattle.text_lines.proofs.replies.WholeLineWriter.refuse_long.Goals as goal
 pub returns-in-Ok-clause-reply : goal.returns-in-Ok-clause-reply
 returns-in-Ok-clause-reply g c =
     whole_replied _ _ _ c.in-Ok.output.text.items c.in-Ok.output.refused c.put_reply.result
-    (c.in-Ok.ensures.reply, c.in-Ok.ensures.marked) c.put_reply.ensures.ok
+    (c.in-Ok.ensures.reply, c.in-Ok.ensures.marked, c.in-Ok.ensures.behind) c.put_reply.ensures.ok
 
 pub returns-in-Ok-clause-err : goal.returns-in-Ok-clause-err
 returns-in-Ok-clause-err g c =
-    whole_breaks _ _ _ c.in-Ok.output.text.items c.in-Ok.output.refused c.put_reply.result c.in-Ok.ensures.reply c.put_reply.ensures.err
+    whole_breaks _ _ _ c.in-Ok.output.text.items c.in-Ok.output.refused c.put_reply.result
+    (λ line filled long. (c.in-Ok.ensures.reply line filled long, c.in-Ok.ensures.behind line filled long)) c.put_reply.ensures.err
 
 pub returns-in-Ok-clause-few : goal.returns-in-Ok-clause-few
 returns-in-Ok-clause-few g c = whole_few _ c.in-Ok.output.refused c.put_reply.result c.in-Ok.ensures.few c.put_reply.ensures.ok
