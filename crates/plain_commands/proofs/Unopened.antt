@@ -9,6 +9,7 @@ use Rattle.plain_commands.specs.PositionLines.{StopsLines, first_position_replie
 use Rattle.plain_commands.specs.declared.fen_commands.FenCommand.{FenCommand}
 use Rattle.problem_import.specs.Imports.{IsImportOfFirst, none as nothing_imported}
 use Rattle.problem_import.specs.LetteredImports.{IsImportOfFirstIn, IsLetteredOfFirst, english, lettered}
+use Rattle.problem_import.specs.Sources.{AreSourced}
 use Rattle.move_words.specs.Languages.{is_english}
 use Rattle.move_words.specs.declared.languages.Letters.{Letters}
 use Rattle.plain_commands.specs.Imported.{StopsImporting, first_import_replies}
@@ -34,9 +35,11 @@ lines_at_once holds refuses command names old new kept =
 
 no_import_by : (letters : Letters) (keep are : Bool) (bound : Option ℕ) (input : List ℕ) → is_english letters ≡ are
     → IsImportOfFirstIn letters keep bound input []
-unfolding IsImportOfFirst IsLetteredOfFirst IsReplyToFirstBy
-no_import_by letters keep true bound input is = english is ([], [], false, (0, 0, (refl, refl)), nothing_imported, refl)
-no_import_by letters keep false bound input is = lettered is ([], [], false, (0, 0, (refl, refl)), nothing_imported, refl)
+unfolding AreSourced IsImportOfFirst IsLetteredOfFirst IsReplyToFirstBy
+no_import_by letters keep true bound input is =
+    english is ([], [], false, (0, 0, (refl, refl)), nothing_imported, refl) (false, nothing_imported)
+no_import_by letters keep false bound input is =
+    lettered is ([], [], false, (0, 0, (refl, refl)), nothing_imported, refl) (false, nothing_imported)
 
 pub no_import : (letters : Letters) (keep : Bool) (bound : Option ℕ) (from : ℕ) (name input : List ℕ)
     → first_import_replies letters keep bound from name input []

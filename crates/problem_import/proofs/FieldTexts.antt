@@ -125,7 +125,7 @@ spelled_line line tail some4 apart =
     spelled_behind (line_fields line) tail (some1, word_no_space line) (some2, word_no_space (behind line))
     (some3, word_no_space (behind (behind line))) (some4, word_no_space (behind (behind (behind line)))) apart
 
-fourth_some : (line : List ℕ) (f : Fields) → line_fields line ≡ f → f.target ≢ [] → fourth_word line ≢ []
+pub fourth_some : (line : List ℕ) (f : Fields) → line_fields line ≡ f → f.target ≢ [] → fourth_word line ≢ []
 unfolding line_fields
 fourth_some line f is some none = some (ap (λ g. g.target) (sym is) ∙ none)
 
@@ -185,3 +185,62 @@ pub reads_position : (made : List ℕ) (r : RecordValue) → Reads made 3 r → 
 reads_position made r reads =
     let P : Fields → Type 0 = λ f. SpellsSetup f r.position in
     subst P (sym (fields_are made reads.fields reads.tail reads.words)) reads.position
+
+-- ---- what stands apart behind a text with four words
+
+front_on : (a tail : List ℕ) → IsApart tail → front_word (a ++ tail) ≡ front_word a
+front_on [] [] apart = refl
+front_on [] (b ∷ tail) apart = rw apart refl
+front_on (b ∷ bs) tail apart = ap (λ w. if b == 32 then [] else b ∷ w) (front_on bs tail apart)
+
+rest_if : (space : Bool) (b : ℕ) (bs tail on : List ℕ) → on ≡ after_word bs ++ tail
+    → (if space then b ∷ (bs ++ tail) else on) ≡ (if space then b ∷ bs else after_word bs) ++ tail
+rest_if true b bs tail on is = refl
+rest_if false b bs tail on is = is
+
+rest_on : (a tail : List ℕ) → IsApart tail → after_word (a ++ tail) ≡ after_word a ++ tail
+rest_on [] [] apart = refl
+rest_on [] (b ∷ tail) apart = rw apart refl
+rest_on (b ∷ bs) tail apart = rest_if (b == 32) b bs tail (after_word (bs ++ tail)) (rest_on bs tail apart)
+
+spaces_if : (space : Bool) (b : ℕ) (bs tail : List ℕ) → (front_word (after_spaces bs) ≢ [] → after_spaces (bs ++ tail) ≡ after_spaces bs ++ tail)
+    → front_word (if space then after_spaces bs else b ∷ bs) ≢ []
+    → (if space then after_spaces (bs ++ tail) else b ∷ (bs ++ tail)) ≡ (if space then after_spaces bs else b ∷ bs) ++ tail
+spaces_if true b bs tail on some = on some
+spaces_if false b bs tail on some = refl
+
+spaces_on : (a tail : List ℕ) → front_word (after_spaces a) ≢ [] → after_spaces (a ++ tail) ≡ after_spaces a ++ tail
+spaces_on [] tail some = absurd (some refl)
+spaces_on (b ∷ bs) tail some = spaces_if (b == 32) b bs tail (spaces_on bs tail) some
+
+record IsOn (a b tail : List ℕ) : Type 0 where
+  pub word_is : word_at b ≡ word_at a
+  pub rest_is : behind b ≡ behind a ++ tail
+
+word_on : (a b tail : List ℕ) → b ≡ a ++ tail → IsApart tail → word_at a ≢ [] → IsOn a b tail
+unfolding word_at behind
+word_on a b tail is apart some =
+    let on : after_spaces b ≡ after_spaces a ++ tail = ap after_spaces is ∙ spaces_on a tail some in record {
+      word_is = ap front_word on ∙ front_on (after_spaces a) tail apart;
+      rest_is = ap after_word on ∙ rest_on (after_spaces a) tail apart;
+    }
+
+pub fields_on : (a b : List ℕ) → fourth_word a ≢ [] → GoesOn a b → line_fields b ≡ line_fields a
+unfolding GoesOn fourth_word line_fields
+fields_on a b some4 (tail, apart, is) =
+    let some3 : word_at (behind (behind a)) ≢ [] = word_before (behind (behind a)) some4 in
+    let some2 : word_at (behind a) ≢ [] = word_before (behind a) some3 in
+    let on1 = word_on a b tail is apart (word_before a some2) in
+    let on2 = word_on (behind a) (behind b) tail on1.rest_is apart some2 in
+    let on3 = word_on (behind (behind a)) (behind (behind b)) tail on2.rest_is apart some3 in
+    let on4 = word_on (behind (behind (behind a))) (behind (behind (behind b))) tail on3.rest_is apart some4 in
+    λ i. record { placement = on1.word_is i; side = on2.word_is i; castling = on3.word_is i; target = on4.word_is i }
+
+pub goes_on_on : (a b c : List ℕ) → GoesOn a b → GoesOn b c → GoesOn a c
+unfolding GoesOn
+goes_on_on a b c (tail, apart, is) (more, apart', is') =
+    (tail ++ more, apart_append tail more apart apart', is' ∙ ap (λ t. t ++ more) is ∙ append_assoc a tail more)
+
+pub word_longer : (old one new word rest : List ℕ) → one ≡ old ++ 32 ∷ word → new ≡ one ++ rest → GoesOn old new
+unfolding GoesOn
+word_longer old one new word rest is on = (32 ∷ (word ++ rest), refl, on ∙ ap (λ t. t ++ rest) is ∙ append_assoc old (32 ∷ word) rest)

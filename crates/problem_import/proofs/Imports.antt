@@ -1,11 +1,10 @@
 -- What is printed are records and refusals, one behind the other.
-use Rattle.std.proofs.Common.{◌≡◌, ◌≢◌, ◌⊎◌, inl, inr, ℕ, ◌+◌, ◌<◌, length, take, Bool, true, false, ◌||◌, Option, None, Some, Result}
-use Rattle.std.proofs.Common.{Ok, Err, IfOk, IfErr, List, [], ◌∷◌, ◌++◌, refl, sym, ap, ◌∙◌, subst, append_assoc, arith, length-append}
+use Rattle.std.proofs.Common.{◌≡◌, ◌≢◌, ◌⊎◌, inl, inr, ℕ, ◌+◌, ◌<◌, length, Bool, true, false, ◌||◌, Option, None, Some}
+use Rattle.std.proofs.Common.{List, [], ◌∷◌, ◌++◌, refl, sym, ap, ◌∙◌, subst, append_assoc, arith, length-append}
 use Rattle.std.specs.Prelude.{Contains, IfNone, map, replicate}
-use Rattle.std.proofs.KnownBytes.{Appends-nil, Appends-trans}
+use Rattle.std.proofs.KnownBytes.{Appends-trans}
 use Rattle.std.proofs.Math.Seq.{take-length}
 use Rattle.std.specs.Io.KnownBytes.{Appends}
-use Rattle.byte_streams.specs.Inputs.{MayBe}
 use Rattle.byte_streams.specs.Stops.{AppendsBy, AppendsPart}
 use Rattle.byte_streams.specs.declared.stops.Stop.{Stop}
 use Rattle.byte_streams.specs.declared.stops.Stop.TheVariants as stop
@@ -21,10 +20,10 @@ use Rattle.problem_import.specs.declared.import_faults.ImportFault.{ImportFault}
 use Rattle.problem_import.specs.declared.line_kinds.LineKind.{LineKind}
 use Rattle.problem_import.specs.declared.line_kinds.LineKind.TheVariants as kinds
 use Rattle.text_lines.specs.Lines.{lines_of, without_cr}
-use Rattle.text_lines.specs.Replies.{IsReply, IsReplyFrom, IsReplyToFirst}
+use Rattle.text_lines.specs.Replies.{IsReply, IsReplyFrom, IsReplyToFirst, LineReplies}
 use Rattle.problem_import.specs.Imports.{AreImported, EndsWithLine, ImportsAreRecords, IsClean, IsImport, IsImportOfFirst, IsImportReply}
 use Rattle.problem_import.specs.Changes.{telling}
-use Rattle.problem_import.specs.Imports.{HasPositionOf, ImportsKeepPositions, IsKept, IsMade, IsOfLine, IsPlaced, IsRecord, IsToldOther}
+use Rattle.problem_import.specs.Imports.{ImportsKeepPositions, IsKept, IsMade, IsOfLine, IsPlaced, IsRecord, IsToldOther}
 use Rattle.problem_import.specs.Imports.{KeepsProblem}
 use Rattle.problem_import.specs.Imports.{none, one_if, plain, printed, read, refused, refused_line, skipped, told, unchanged, untold}
 use Rattle.problem_import.specs.declared.changes.Change.{Change}
@@ -294,60 +293,21 @@ appends_more stop.Unreadable a b c text here before on = Appends-trans a b c tex
 appends_more stop.Unwritable a b c text here before on = part_more a b c text here before on
 appends_more stop.NoReader a b c text here before on = part_more a b c text here before on
 
-abbrev Whole : Bool → Option ℕ → ℕ → (known old new : Option (List ℕ)) → Type 0
-Whole keep given total known old new = (bytes : List ℕ) × (text : List ℕ) × MayBe known bytes × IsImport keep given bytes text total
-    × Appends old new text
-
-abbrev Part : Bool → Option ℕ → Stop → (known old new : Option (List ℕ)) → Type 0
-Part keep given s known old new = (bytes : List ℕ) × (text : List ℕ) × MayBe known bytes × IsImportOfFirst keep given bytes text
-    × AppendsBy s old new text
-
-abbrev Lines : Bool → Option ℕ → ℕ → (known old new : Option (List ℕ)) → Type 0
-Lines keep given count known old new = (bytes : List ℕ) × (text : List ℕ) × MayBe known bytes
-    × IsReply (IsImportReply keep given) bytes text count
-    × Appends old new text
-
-ended : (keep : Bool) (given : Option ℕ) (count total : ℕ) (known old middle new : Option (List ℕ)) → Lines keep given count known old middle
-    → (last : List ℕ) × (any : Bool) × AreImported (IsMade keep given []) last any × (total ≡ count + one_if any)
-    × Appends middle new last → Whole keep given total known old new
+-- What some lines are answered, and what their end ends, is what the input is imported as.
+pub import_of : (keep : Bool) (given : Option ℕ) (input replies last : List ℕ) (refusals total : ℕ) (any : Bool)
+    → IsReply (IsImportReply keep given) input replies refusals → AreImported (IsMade keep given []) last any → total ≡ refusals + one_if any
+    → IsImport keep given input (replies ++ last) total
 unfolding IsImport
-ended keep given count total known old middle new (bytes, text, may, replies, before) (last, any, on, is, behind) =
-    (bytes, text ++ last, may, (text, count, last, any, replies, on, refl, is), Appends-trans old middle new text last before behind)
+import_of keep given input replies last refusals total any are on is = (replies, refusals, last, any, are, on, refl, is)
 
-ended_by : (keep : Bool) (given : Option ℕ) (s : Stop) (count : ℕ) (known old middle new : Option (List ℕ))
-    → Lines keep given count known old middle
-    → (last : List ℕ) × (any : Bool) × AreImported (IsMade keep given []) last any × AppendsBy s middle new last
-    → Part keep given s known old new
-unfolding IsImportOfFirst IsReply IsReplyToFirst
-ended_by keep given s count known old middle new (bytes, text, may, replies, before) (last, any, on, behind) =
-    let Q : List (List ℕ) → Type 0 = λ ls. IsReplyFrom (IsImportReply keep given) 1 ls text count in
-    let all : (n : ℕ) × (c : ℕ) × IsReplyFrom (IsImportReply keep given) 1 (take n (lines_of bytes)) text c =
-    (length (lines_of bytes), count, subst Q (sym (take-length (lines_of bytes))) replies) in
-    (bytes, text ++ last, may, (text, last, any, all, on, refl), appends_more s old middle new text last before behind)
+-- All of them are some of the first.
+pub all_first : (may : LineReplies) (input replies : List ℕ) (refusals : ℕ) → IsReply may input replies refusals → IsReplyToFirst may input replies
+unfolding IsReply IsReplyToFirst
+all_first may input replies refusals are =
+    let Q : List (List ℕ) → Type 0 = λ ls. IsReplyFrom may 1 ls replies refusals in
+    (length (lines_of input), refusals, subst Q (sym (take-length (lines_of input))) are)
 
-pub stopped : (keep : Bool) (given : Option ℕ) (s : Stop) (known old new : Option (List ℕ)) → (bytes : List ℕ) × (text : List ℕ)
-    × MayBe known bytes
-    × IsReplyToFirst (IsImportReply keep given) bytes text × AppendsBy s old new text
-    → Part keep given s known old new
+pub first_of : (keep : Bool) (given : Option ℕ) (input replies last : List ℕ) (any : Bool) → IsReplyToFirst (IsImportReply keep given) input replies
+    → AreImported (IsMade keep given []) last any → IsImportOfFirst keep given input (replies ++ last)
 unfolding IsImportOfFirst
-stopped keep given s known old new (bytes, text, may, replies, behind) =
-    (bytes, text, may, (text, [], false, replies, none, sym (append-nil text)), behind)
-
-pub nothing_last : (keep : Bool) (given : Option ℕ) (old : Option (List ℕ)) → (last : List ℕ) × (any : Bool)
-    × AreImported (IsMade keep given []) last any × Appends old old last
-nothing_last keep given old = ([], false, none, Appends-nil old)
-
-pub ended_if : (keep : Bool) (given : Option ℕ) (r : Result ℕ Stop) (count : ℕ) (known old middle new : Option (List ℕ))
-    → Lines keep given count known old middle
-    → IfOk r (λ total. (last : List ℕ) × (any : Bool) × AreImported (IsMade keep given []) last any × (total ≡ count + one_if any)
-    × Appends middle new last)
-    → IfOk r (λ total. Whole keep given total known old new)
-ended_if keep given (Ok total) count known old middle new lines last = ended keep given count total known old middle new lines last
-ended_if keep given (Err s) count known old middle new lines last = tt
-
-pub stopped_if : (keep : Bool) (given : Option ℕ) (r : Result ℕ Stop) (count : ℕ) (known old middle new : Option (List ℕ))
-    → Lines keep given count known old middle
-    → IfErr r (λ s. (last : List ℕ) × (any : Bool) × AreImported (IsMade keep given []) last any × AppendsBy s middle new last)
-    → IfErr r (λ s. Part keep given s known old new)
-stopped_if keep given (Ok total) count known old middle new lines last = tt
-stopped_if keep given (Err s) count known old middle new lines last = ended_by keep given s count known old middle new lines last
+first_of keep given input replies last any are on = (replies, last, any, are, on, refl)

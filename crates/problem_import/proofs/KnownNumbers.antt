@@ -1,8 +1,7 @@
 -- How many moves a record is to ask that was found, and does.
-use Rattle.std.proofs.Common.{◌≡◌, ◌≢◌, ◌⊎◌, inl, inr, ℕ, List, Option, None, Some, Bool, true, false, refl, ap, sym, subst, ◌∙◌}
+use Rattle.std.proofs.Common.{◌≡◌, inl, inr, ℕ, List, Option, None, Some, refl, sym, subst, ◌∙◌}
 use Rattle.std.specs.Prelude.{IfSome}
-use Rattle.chess_notation.specs.Records.{RecordValue, Reads}
-use Rattle.problem_import.specs.Imports.{HasNumberOf, IsNumber, IsRecord}
+use Rattle.problem_import.specs.Imports.{HasNumberOf, IsNumber}
 use Rattle.problem_import.specs.Letters.{IsTextOf}
 use Rattle.problem_import.specs.Numbers.{said}
 use Rattle.problem_import.specs.declared.changes.Form.{Form}
@@ -11,7 +10,6 @@ use Rattle.problem_import.specs.declared.reading.Number.{Number}
 use Rattle.problem_import.specs.declared.reading.Number.TheVariants.{Said, Own, Unsaid, Any}
 use Rattle.problem_import.specs.inside.Findings.{Asks, IsAsked, IsAskedOf, IsNumberOf}
 use Rattle.stipulations.specs.declared.asked.Asked.{Asked}
-use Rattle.stipulations.specs.declared.asked.Asked.TheVariants.{Nothing, Moves, Two}
 
 pub asked_of_line : (form : Form) (whole line : List ℕ) (asks : Asked) (number : Number) → IsTextOf whole line → asks ≡ said line
     → IsAsked whole asks number → IsAskedOf form whole number

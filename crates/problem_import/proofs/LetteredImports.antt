@@ -4,9 +4,7 @@ use Rattle.std.proofs.Common.{Ok, Err, IfOk, IfErr, List, [], ◌∷◌, ◌++�
 use Rattle.std.specs.Prelude.{◌-◌}
 use Rattle.std.specs.Char.{is_ascii_whitespace}
 use Rattle.std.specs.List.{prefix_len}
-use Rattle.std.proofs.KnownBytes.{Appends-trans}
-use Rattle.std.proofs.Math.Seq.{take-length}
-use Rattle.std.proofs.lemmas.List.{append-nil, length-map, length-take, take-append-drop}
+use Rattle.std.proofs.lemmas.List.{length-map, length-take, take-append-drop}
 use Rattle.std.proofs.lemmas.List.Elements.{Contains-append_left, Contains-append_right, Contains-push}
 use Rattle.std.specs.Io.KnownBytes.{Appends}
 use Rattle.byte_streams.specs.Inputs.{MayBe}
@@ -15,16 +13,17 @@ use Rattle.byte_streams.specs.declared.stops.Stop.{Stop}
 use Rattle.chess_notation.specs.Records.{max_line}
 use Rattle.chess_notation.specs.Words.{is_blank}
 use Rattle.lettered_placements.specs.Readings.{after_white, letter_read, line_read, placement_length, text_read}
-use Rattle.move_words.specs.Languages.{is_english}
+use Rattle.move_words.specs.Languages.{english as of_english, is_english}
 use Rattle.move_words.specs.declared.languages.Letters.{Letters}
-use Rattle.text_lines.specs.Lines.{lines_of, without_cr}
+use Rattle.text_lines.specs.Lines.{lines_of, texts_of, without_cr}
 use Rattle.text_lines.specs.Replies.{IsReply, IsReplyFrom, IsReplyToFirst}
 use Rattle.problem_import.specs.declared.line_kinds.LineKind.{LineKind}
 use Rattle.problem_import.specs.declared.line_kinds.LineKind.TheVariants as kinds
 use Rattle.problem_import.specs.Imports.{AreImported, IsImport, IsImportOfFirst, IsKept, IsMade, IsRecord, none, one_if}
 use Rattle.problem_import.specs.LetteredImports.{IsImportIn, IsImportOfFirstIn, IsLettered, IsLetteredOfFirst, IsLetteredReply, LetteredAreRecords}
 use Rattle.problem_import.specs.LetteredImports.{english, lettered, read, skipped}
-use Rattle.problem_import.proofs.Imports.{appends_more, either, imported_append, imported_for, made_kept, no_empty_record, none_of, some_if, some_text}
+use Rattle.problem_import.specs.Sources.{AreSourced}
+use Rattle.problem_import.proofs.Imports.{either, imported_append, imported_for, made_kept, no_empty_record, none_of, some_if, some_text}
 
 -- ---- a line has as many bytes once it is read
 
@@ -79,97 +78,58 @@ lettered_long letters keep given number out text any count on same is line fille
 
 -- ---- where it ends or stops
 
-abbrev Whole : Letters → Bool → Option ℕ → ℕ → (known old new : Option (List ℕ)) → Type 0
-Whole letters keep given total known old new = (bytes : List ℕ) × (text : List ℕ) × MayBe known bytes
-    × IsLettered letters keep given bytes text total
-    × Appends old new text
-
-abbrev Part : Letters → Bool → Option ℕ → Stop → (known old new : Option (List ℕ)) → Type 0
-Part letters keep given s known old new = (bytes : List ℕ) × (text : List ℕ) × MayBe known bytes
-    × IsLetteredOfFirst letters keep given bytes text
-    × AppendsBy s old new text
-
-abbrev Lines : Letters → Bool → Option ℕ → ℕ → (known old new : Option (List ℕ)) → Type 0
-Lines letters keep given count known old new = (bytes : List ℕ) × (text : List ℕ) × MayBe known bytes
-    × IsReply (IsLetteredReply letters keep given) bytes text count × Appends old new text
-
-ended : (letters : Letters) (keep : Bool) (given : Option ℕ) (count total : ℕ) (known old middle new : Option (List ℕ))
-    → Lines letters keep given count known old middle
-    → (last : List ℕ) × (any : Bool) × AreImported (IsMade keep given []) last any × (total ≡ count + one_if any)
-    × Appends middle new last → Whole letters keep given total known old new
+pub lettered_of : (letters : Letters) (keep : Bool) (given : Option ℕ) (input replies last : List ℕ) (refusals total : ℕ) (any : Bool)
+    → IsReply (IsLetteredReply letters keep given) input replies refusals → AreImported (IsMade keep given []) last any
+    → total ≡ refusals + one_if any → IsLettered letters keep given input (replies ++ last) total
 unfolding IsLettered
-ended letters keep given count total known old middle new (bytes, text, may, replies, before) (last, any, on, is, behind) =
-    (bytes, text ++ last, may, (text, count, last, any, replies, on, refl, is), Appends-trans old middle new text last before behind)
+lettered_of letters keep given input replies last refusals total any are on is = (replies, refusals, last, any, are, on, refl, is)
 
-ended_by : (letters : Letters) (keep : Bool) (given : Option ℕ) (s : Stop) (count : ℕ) (known old middle new : Option (List ℕ))
-    → Lines letters keep given count known old middle
-    → (last : List ℕ) × (any : Bool) × AreImported (IsMade keep given []) last any × AppendsBy s middle new last
-    → Part letters keep given s known old new
-unfolding IsLetteredOfFirst IsReply IsReplyToFirst
-ended_by letters keep given s count known old middle new (bytes, text, may, replies, before) (last, any, on, behind) =
-    let Q : List (List ℕ) → Type 0 = λ ls. IsReplyFrom (IsLetteredReply letters keep given) 1 ls text count in
-    let all : (n : ℕ) × (c : ℕ) × IsReplyFrom (IsLetteredReply letters keep given) 1 (take n (lines_of bytes)) text c =
-    (length (lines_of bytes), count, subst Q (sym (take-length (lines_of bytes))) replies) in
-    (bytes, text ++ last, may, (text, last, any, all, on, refl), appends_more s old middle new text last before behind)
-
-pub stopped : (letters : Letters) (keep : Bool) (given : Option ℕ) (s : Stop) (known old new : Option (List ℕ)) → (bytes : List ℕ)
-    × (text : List ℕ) × MayBe known bytes
-    × IsReplyToFirst (IsLetteredReply letters keep given) bytes text × AppendsBy s old new text
-    → Part letters keep given s known old new
+pub lettered_first_of : (letters : Letters) (keep : Bool) (given : Option ℕ) (input replies last : List ℕ) (any : Bool)
+    → IsReplyToFirst (IsLetteredReply letters keep given) input replies → AreImported (IsMade keep given []) last any
+    → IsLetteredOfFirst letters keep given input (replies ++ last)
 unfolding IsLetteredOfFirst
-stopped letters keep given s known old new (bytes, text, may, replies, behind) =
-    (bytes, text, may, (text, [], false, replies, none, sym (append-nil text)), behind)
-
-pub ended_if : (letters : Letters) (keep : Bool) (given : Option ℕ) (r : Result ℕ Stop) (count : ℕ) (known old middle new : Option (List ℕ))
-    → Lines letters keep given count known old middle
-    → IfOk r (λ total. (last : List ℕ) × (any : Bool) × AreImported (IsMade keep given []) last any × (total ≡ count + one_if any)
-    × Appends middle new last)
-    → IfOk r (λ total. Whole letters keep given total known old new)
-ended_if letters keep given (Ok total) count known old middle new lines last = ended letters keep given count total known old middle new
-    lines last
-ended_if letters keep given (Err s) count known old middle new lines last = tt
-
-pub stopped_if : (letters : Letters) (keep : Bool) (given : Option ℕ) (r : Result ℕ Stop) (count : ℕ) (known old middle new : Option (List ℕ))
-    → Lines letters keep given count known old middle
-    → IfErr r (λ s. (last : List ℕ) × (any : Bool) × AreImported (IsMade keep given []) last any × AppendsBy s middle new last)
-    → IfErr r (λ s. Part letters keep given s known old new)
-stopped_if letters keep given (Ok total) count known old middle new lines last = tt
-stopped_if letters keep given (Err s) count known old middle new lines last = ended_by letters keep given s count known old middle new
-    lines last
+lettered_first_of letters keep given input replies last any are on = (replies, last, any, are, on, refl)
 
 -- ---- English letters, and others
 
+abbrev Lines : Letters → List ℕ → List (List ℕ)
+Lines letters input = map (line_read letters) (texts_of input)
+
 pub english_ok : (letters : Letters) (keep : Bool) (given : Option ℕ) (r : Result ℕ Stop) (known old new : Option (List ℕ))
     → is_english letters ≡ true
-    → IfOk r (λ count. (bytes : List ℕ) × (text : List ℕ) × MayBe known bytes × IsImport keep given bytes text count × Appends old new text)
+    → IfOk r (λ count. (bytes : List ℕ) × (text : List ℕ) × MayBe known bytes
+    × (IsImport keep given bytes text count × AreSourced of_english given (texts_of bytes) text) × Appends old new text)
     → IfOk r (λ count. (bytes : List ℕ) × (text : List ℕ) × MayBe known bytes × IsImportIn letters keep given bytes text count
     × Appends old new text)
-english_ok letters keep given (Ok count) known old new is (bytes, text, may, on, behind) = (bytes, text, may, english is on, behind)
+english_ok letters keep given (Ok count) known old new is (bytes, text, may, (on, from), behind) = (bytes, text, may, english is on from, behind)
 english_ok letters keep given (Err s) known old new is on = tt
 
 pub english_err : (letters : Letters) (keep : Bool) (given : Option ℕ) (r : Result ℕ Stop) (known old new : Option (List ℕ))
     → is_english letters ≡ true
-    → IfErr r (λ s. (bytes : List ℕ) × (text : List ℕ) × MayBe known bytes × IsImportOfFirst keep given bytes text × AppendsBy s old new text)
+    → IfErr r (λ s. (bytes : List ℕ) × (text : List ℕ) × MayBe known bytes
+    × (IsImportOfFirst keep given bytes text × AreSourced of_english given (texts_of bytes) text) × AppendsBy s old new text)
     → IfErr r (λ s. (bytes : List ℕ) × (text : List ℕ) × MayBe known bytes × IsImportOfFirstIn letters keep given bytes text
     × AppendsBy s old new text)
 english_err letters keep given (Ok count) known old new is on = tt
-english_err letters keep given (Err s) known old new is (bytes, text, may, on, behind) = (bytes, text, may, english is on, behind)
+english_err letters keep given (Err s) known old new is (bytes, text, may, (on, from), behind) = (bytes, text, may, english is on from, behind)
 
 pub lettered_ok : (letters : Letters) (keep : Bool) (given : Option ℕ) (r : Result ℕ Stop) (known old new : Option (List ℕ))
     → is_english letters ≡ false
-    → IfOk r (λ count. Whole letters keep given count known old new)
+    → IfOk r (λ count. (bytes : List ℕ) × (text : List ℕ) × MayBe known bytes
+    × (IsLettered letters keep given bytes text count × AreSourced letters given (Lines letters bytes) text) × Appends old new text)
     → IfOk r (λ count. (bytes : List ℕ) × (text : List ℕ) × MayBe known bytes × IsImportIn letters keep given bytes text count
     × Appends old new text)
-lettered_ok letters keep given (Ok count) known old new is (bytes, text, may, on, behind) = (bytes, text, may, lettered is on, behind)
+lettered_ok letters keep given (Ok count) known old new is (bytes, text, may, (on, from), behind) = (bytes, text, may, lettered is on from, behind)
 lettered_ok letters keep given (Err s) known old new is on = tt
 
 pub lettered_err : (letters : Letters) (keep : Bool) (given : Option ℕ) (r : Result ℕ Stop) (known old new : Option (List ℕ))
     → is_english letters ≡ false
-    → IfErr r (λ s. Part letters keep given s known old new)
+    → IfErr r (λ s. (bytes : List ℕ) × (text : List ℕ) × MayBe known bytes
+    × (IsLetteredOfFirst letters keep given bytes text × AreSourced letters given (Lines letters bytes) text) × AppendsBy s old new text)
     → IfErr r (λ s. (bytes : List ℕ) × (text : List ℕ) × MayBe known bytes × IsImportOfFirstIn letters keep given bytes text
     × AppendsBy s old new text)
 lettered_err letters keep given (Ok count) known old new is on = tt
-lettered_err letters keep given (Err s) known old new is (bytes, text, may, on, behind) = (bytes, text, may, lettered is on, behind)
+lettered_err letters keep given (Err s) known old new is (bytes, text, may, (on, from), behind) = (bytes, text, may, lettered is on from, behind)
 
 -- ---- the law
 

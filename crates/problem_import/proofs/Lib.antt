@@ -16,3 +16,6 @@ pub mod TextParts
 pub mod SaidNumbers
 pub mod KnownNumbers
 pub mod TagFens
+pub mod GameNumbers
+pub mod Sources
+pub mod ImportedInputs

@@ -1,5 +1,5 @@
 -- What a line is read as, with one default bound or two.
-use Rattle.std.proofs.Common.{◌≡◌, ◌≢◌, ℕ, List, Bool, true, false, sym, ◌∙◌, ap, subst}
+use Rattle.std.proofs.Common.{◌≡◌, ◌≢◌, ℕ, List, false, sym, ◌∙◌, ap, subst}
 use Rattle.chess_notation.specs.RecordLaws.{SaysOne}
 use Rattle.chess_notation.specs.Records.{RecordValue, Reads}
 use Rattle.problem_import.specs.inside.Counted.{IsSaid, SaysBound}

@@ -49,7 +49,7 @@ pub own_bounded : (before form : Form) (line text bounded made : List ℕ) → f
 own_bounded before form line text bounded made is one on same own =
     subst (λ m. IsOwn form line m) (sym same) (subst (λ f. IsOwn f line bounded) (sym is) (own_on before line text bounded one on own))
 
-telling_on : (made : List ℕ) (has : Change → Bool) → GoesOn made (made ++ telling has)
+pub telling_on : (made : List ℕ) (has : Change → Bool) → GoesOn made (made ++ telling has)
 unfolding GoesOn telling
 telling_on made has = (telling has, refl, refl)
 

@@ -5,8 +5,8 @@ use Rattle.std.proofs.lemmas.List.{append-nil}
 use Rattle.std.specs.Prelude.{codes}
 use Rattle.chess_notation.specs.Words.{word_at}
 use Rattle.move_words.specs.declared.languages.Letters.{Letters}
-use Rattle.problem_import.specs.inside.GameFens.{HasFen, IsNamed, behind_byte, value_from}
-use Rattle.problem_import.specs.inside.GameFens.{IsFenOf, fen_read}
+use Rattle.problem_import.specs.Sources.{IsNamed, behind_byte, value_from}
+use Rattle.problem_import.specs.Sources.{IsFenOf, fen_read}
 use Rattle.problem_import.specs.inside.TagPairs.{EndsText, begins_with}
 
 pub ends_drop : (text rest : List ℕ) (n : ℕ) → rest ≡ drop n text → EndsText rest text

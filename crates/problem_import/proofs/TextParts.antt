@@ -1,5 +1,5 @@
 -- A text cut outside its strings, part by part.
-use Rattle.std.proofs.Common.{◌≡◌, ℕ, suc, ◌+◌, ◌<◌, ◌≤◌, add-one, List, [], ◌∷◌, ◌++◌, Bool, true, false, Option, None, if◌then◌else◌}
+use Rattle.std.proofs.Common.{◌≡◌, ℕ, suc, ◌+◌, ◌<◌, ◌≤◌, add-one, List, [], ◌∷◌, ◌++◌, Bool, true, false, Option, if◌then◌else◌}
 use Rattle.std.proofs.Common.{◌==◌, arith, eqb-true, suc-ne-zero, length, length-drop, refl, ap, sym, ◌∙◌, take, drop, drop-cons, get_or}
 use Rattle.std.proofs.lemmas.List.{append-nil, drop_all, take_all, take_more}
 use Rattle.problem_import.specs.Numbers.{byte_onto, ends_part, mark_behind, parts_from, parts_of}

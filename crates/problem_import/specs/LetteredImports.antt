@@ -2,11 +2,12 @@
 use Rattle.std.specs.Prelude.{◌≡◌, ◌≢◌, ℕ, ◌+◌, List, [], ◌++◌, Bool, true, false, Option, map}
 use Rattle.chess_notation.specs.Words.{is_blank}
 use Rattle.lettered_placements.specs.Readings.{line_read}
-use Rattle.move_words.specs.Languages.{is_english}
+use Rattle.move_words.specs.Languages.{english as of_english, is_english}
 use Rattle.move_words.specs.declared.languages.Letters.{Letters}
-use Rattle.text_lines.specs.Lines.{lines_of, without_cr}
+use Rattle.text_lines.specs.Lines.{lines_of, texts_of, without_cr}
 use Rattle.text_lines.specs.Replies.{IsReply, IsReplyToFirst}
 use Rattle.problem_import.specs.Imports.{AreImported, IsImport, IsImportOfFirst, IsKept, IsMade, IsRecord, one_if}
+use Rattle.problem_import.specs.Sources.{AreSourced}
 
 -- What is printed once a line is read by such letters, and how many refusals it counts for: nothing of a blank one; else what it ends, and
 -- what is made of the line as they say it. No record is lost.
@@ -27,12 +28,16 @@ IsLetteredOfFirst letters keep given input text = (replies : List ℕ) × (last 
 
 -- What an input is imported as: where men have their English letters, what it is without a word of letters.
 pub data IsImportIn (letters : Letters) (keep : Bool) (given : Option ℕ) (input text : List ℕ) (count : ℕ) : Type 0 where
-  english : is_english letters ≡ true → IsImport keep given input text count → IsImportIn letters keep given input text count
-  lettered : is_english letters ≡ false → IsLettered letters keep given input text count → IsImportIn letters keep given input text count
+  english : is_english letters ≡ true → IsImport keep given input text count → AreSourced of_english given (texts_of input) text
+      → IsImportIn letters keep given input text count
+  lettered : is_english letters ≡ false → IsLettered letters keep given input text count
+      → AreSourced letters given (map (line_read letters) (texts_of input)) text → IsImportIn letters keep given input text count
 
 pub data IsImportOfFirstIn (letters : Letters) (keep : Bool) (given : Option ℕ) (input text : List ℕ) : Type 0 where
-  english : is_english letters ≡ true → IsImportOfFirst keep given input text → IsImportOfFirstIn letters keep given input text
-  lettered : is_english letters ≡ false → IsLetteredOfFirst letters keep given input text → IsImportOfFirstIn letters keep given input text
+  english : is_english letters ≡ true → IsImportOfFirst keep given input text → AreSourced of_english given (texts_of input) text
+      → IsImportOfFirstIn letters keep given input text
+  lettered : is_english letters ≡ false → IsLetteredOfFirst letters keep given input text
+      → AreSourced letters given (map (line_read letters) (texts_of input)) text → IsImportOfFirstIn letters keep given input text
 
 -- Whatever was read, what is printed are records and refusals, and no refusal where none is counted. With `keep` each record that is no
 -- line, as the letters say it, is told.

@@ -6,4 +6,5 @@ pub mod Letters
 pub mod Mendable
 pub mod Numbers
 pub mod Problems
+pub mod Sources
 pub mod inside

@@ -1,7 +1,7 @@
 pub mod FieldTexts
-pub mod GameFens
 pub mod Findings
 pub mod KeptChanges
+pub mod KnownSources
 pub mod OpenProblems
 pub mod TagPairs
 pub mod MendedMoves

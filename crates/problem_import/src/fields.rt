@@ -1,7 +1,7 @@
 //! The four fields with which a text begins, and what stands behind them.
 
-ghost use Rattle.std.specs.Prelude.{◌≡◌, IfOk};
-ghost use Rattle.chess_notation.specs.RecordFields.{behind_fields, line_fields};
+ghost use Rattle.std.specs.Prelude.{◌≡◌, ◌≢◌, [], IfOk, IsTrue};
+ghost use Rattle.chess_notation.specs.RecordFields.{behind_fields, fourth_word, line_fields};
 ghost use Rattle.problem_import.specs.Numbers.{behind_number as behind_number_of};
 ghost use Rattle.problem_import.specs.inside.FieldTexts.{GoesOn, IsBehindFields};
 
@@ -37,6 +37,17 @@ pub(crate) fn field_words(text: &[u8]) -> FieldWords<'_>
         target,
         behind,
     }
+}
+
+/// Whether a text has four words.
+pub(crate) fn has_fields(text: &[u8]) -> bool
+    ensures { IsTrue result → fourth_word text.now ≢ [] }
+{
+    let fields = field_words(text);
+    if fields.target.is_empty() {
+        return false;
+    }
+    true
 }
 
 /// What stands behind a counter, if one is there.

@@ -1,15 +1,23 @@
 //! A game in PGN (Portable Game Notation Specification, section 8): its tag pairs, of which a record is made; the comments before its first
 //! move, which may say a number of moves; and that move, which is claimed. What stands behind it is passed over.
 
-ghost use Rattle.std.specs.Prelude.{◌≡◌, ◌⊎◌, ◌++◌, IfOk, codes, false};
-ghost use Rattle.problem_import.specs.inside.GameFens.{IsFenOf, IsNamed, behind_byte, fen_read, value_from};
-ghost use Rattle.problem_import.specs.inside.TagPairs.{EndsText};
+ghost use Rattle.std.specs.Prelude.{◌≡◌, ◌⊎◌, ◌++◌, ℕ, IfNone, IfOk, IfSome, IsTrue, None, Some, codes, false, true};
+ghost use Rattle.chess_board.specs.Characters.{char};
+ghost use Rattle.chess_notation.specs.RecordFields.{line_fields};
+ghost use Rattle.problem_import.specs.Sources.{IsFenOf, IsNamed, MaySay, SaysMoves, before_byte, behind_byte, fen_read, value_from};
+ghost use Rattle.stipulations.specs.Stipulations.{asked as asked_of};
+ghost use Rattle.problem_import.specs.inside.FieldTexts.{GoesOn};
+ghost use Rattle.problem_import.specs.inside.KnownSources.{AsksMore, CommentSays, KeepsAsked, KeepsFen, TagSays};
+ghost use Rattle.problem_import.specs.inside.TagPairs.{EndsText, begins_with as begins_with_byte};
 
 use crate::changes::Changes;
+use crate::fields::has_fields;
 use crate::import_faults::ImportFault;
 use crate::moves::is_position;
 use crate::tag_pairs::begins_with;
-use crate::texts::{is_same, is_word, push_bound_operation, push_byte, without_first, word_at};
+use crate::texts::{
+    is_same, is_word, push_bound_operation, push_byte, trimmed, without_first, word_at,
+};
 use lettered_placements::line_read;
 use move_words::Letters;
 use std::alloc::{AllocError, Global};
@@ -35,7 +43,7 @@ pub(crate) struct Game {
     /// What its tag `Stipulation` asks, if it has one, and what the others and the comments do.
     stipulated: Option<Asked>,
     asked: Asked,
-    /// The position, and behind it the claim.
+    /// The position without white space at its ends, and behind it the claim.
     fen: Vec<u8>,
     white: Vec<u8>,
     black: Vec<u8>,
@@ -63,7 +71,9 @@ fn is_said(value: &[u8]) -> bool {
 }
 
 /// Whether the value of a tag may say a number of moves.
-fn may_ask(name: &[u8]) -> bool {
+fn may_ask(name: &[u8]) -> bool
+    ensures { IsTrue result → MaySay name.now }
+{
     is_word(name, "Event")
         || is_word(name, "White")
         || is_word(name, "Black")
@@ -95,18 +105,22 @@ pub(crate) fn push_id(
 }
 
 /// Adds an operation `id`, unless there is nothing in it.
-pub(crate) fn push_id_operation(text: &mut Vec<u8>, id: &[u8]) -> Result<(), AllocError> {
+pub(crate) fn push_id_operation(text: &mut Vec<u8>, id: &[u8]) -> Result<(), AllocError>
+    ensures { IfOk result (λ _. GoesOn text.old.items text.new.items) }
+{
     if id.is_empty() {
         return Ok(());
     }
     text.extend_from_slice(b" id \"")?;
     text.extend_from_slice(id)?;
-    text.extend_from_slice(b"\";")
+    text.extend_from_slice(b"\";")?;
+    Ok(())
 }
 
 /// What stands up to the first byte of such a kind, and what stands behind it.
 fn cut_at(text: &[u8], byte: u8) -> (&[u8], &[u8])
-    ensures { result.1.now ≡ behind_byte byte text.now }
+    ensures before { result.0.now ≡ before_byte byte text.now }
+    ensures rest { result.1.now ≡ behind_byte byte text.now }
 {
     for (index, other) in text.iter().enumerate() {
         if *other == byte {
@@ -138,7 +152,9 @@ fn take_value<'t>(value: &mut Vec<u8>, text: &'t [u8]) -> Result<&'t [u8], Alloc
 }
 
 /// A word of movetext, up to a space, a comment or a mark as `$1`, and what stands behind.
-fn move_word(text: &[u8]) -> (&[u8], &[u8]) {
+fn move_word(text: &[u8]) -> (&[u8], &[u8])
+    ensures { EndsText result.1.now text.now }
+{
     for (index, byte) in text.iter().enumerate() {
         if matches!(*byte, b' ' | b'{' | b';') || (index > 0 && *byte == b'$') {
             return text.split_at(index);
@@ -154,7 +170,7 @@ fn is_blamed(behind: &[u8]) -> bool {
 }
 
 /// Whether a word of movetext claims a key: it has the form of castling, or a letter and behind it a rank; and it isn't blamed.
-fn is_key(word: &[u8]) -> bool {
+pub(crate) fn is_key(word: &[u8]) -> bool {
     let mut is_move = matches!(word, [_, b'-', b'O' | b'0', ..]);
     for byte in word {
         if matches!(*byte, b'?' | b'"') {
@@ -170,24 +186,40 @@ fn is_key(word: &[u8]) -> bool {
     }
 }
 
-/// The value of a tag: that of `FEN` with English letters.
+/// The value of a tag: that of `FEN` with English letters, and without white space at its ends.
 fn value_read(
     alloc: Global,
     letters: &Letters,
     name: &[u8],
     value: Vec<u8>,
 ) -> Result<Vec<u8>, AllocError>
-    ensures { IfOk result (λ read. IsNamed name.now (codes "FEN") → read.items ≡ fen_read letters.now value.items) }
+    ensures fen { IfOk result (λ read. IsNamed name.now (codes "FEN") → read.items ≡ fen_read letters.now value.items) }
+    ensures other { IfOk result (λ read. ¬ (IsNamed name.now (codes "FEN")) → read.items ≡ value.items) }
 {
-    if letters.is_english() || !is_word(name, "FEN") {
+    if !is_word(name, "FEN") {
         return Ok(value);
     }
-    line_read(alloc, letters, value.as_slice())
+    if letters.is_english() {
+        return Vec::from_slice(alloc, trimmed(value.as_slice()));
+    }
+    let read = line_read(alloc, letters, value.as_slice())?;
+    Vec::from_slice(alloc, trimmed(read.as_slice()))
+}
+
+/// What stands before a key that is claimed.
+fn claim_opcode(is_blacks: bool) -> &'static str
+    ensures { begins_with_byte (char " ") result.now ≡ true }
+{
+    if is_blacks { " bm 1..." } else { " bm " }
 }
 
 impl Game {
     /// Without a tag pair.
-    pub(crate) fn new(alloc: Global, number: usize, changes: Changes) -> Game {
+    pub(crate) fn new(alloc: Global, number: usize, changes: Changes) -> Game
+        ensures fen { result.has_fen ≡ false }
+        ensures asked { result.asked ≡ Asked.Nothing }
+        ensures stipulated { result.stipulated ≡ None }
+    {
         Game {
             number,
             changes,
@@ -208,23 +240,36 @@ impl Game {
         }
     }
 
+    /// Takes what a tag's value asks beside the others, where it may.
+    fn take_asked(&mut self, name: &[u8], value: &[u8])
+        ensures has { self.new.has_fen ≡ self.old.has_fen }
+        ensures fen { self.new.fen ≡ self.old.fen }
+        ensures asks { AsksMore (TagSays name.now value.now) self.old self.new }
+    {
+        if !may_ask(name) {
+            return;
+        }
+        self.asked = self.asked.and(moves_asked(value));
+    }
+
     /// Takes what a tag's value asks, where it may.
     fn take_number(&mut self, name: &[u8], value: &[u8])
         ensures has { self.new.has_fen ≡ self.old.has_fen }
         ensures fen { self.new.fen ≡ self.old.fen }
+        ensures asks { AsksMore (TagSays name.now value.now) self.old self.new }
     {
-        if may_ask(name) {
-            self.asked = self.asked.and(moves_asked(value));
+        self.take_asked(name, value);
+        if !is_word(name, "Stipulation") || !is_said(value) {
+            return;
         }
-        if is_word(name, "Stipulation") && is_said(value) {
-            self.stipulated = Some(moves_asked(value));
-        }
+        self.stipulated = Some(moves_asked(value));
     }
 
     /// Takes the value of a tag that is told in `id`.
     fn take_told(&mut self, name: &[u8], value: Vec<u8>)
         ensures has { self.new.has_fen ≡ self.old.has_fen }
         ensures fen { self.new.fen ≡ self.old.fen }
+        ensures asks { KeepsAsked self.old self.new }
     {
         if is_word(name, "White") {
             self.white = value;
@@ -243,8 +288,9 @@ impl Game {
 
     /// Takes a tag's value, where it is one that counts.
     fn take_tag(&mut self, name: &[u8], value: Vec<u8>)
-        ensures { (self.new.has_fen ≡ self.old.has_fen) × (self.new.fen ≡ self.old.fen)
+        ensures fen { (self.new.has_fen ≡ self.old.has_fen) × (self.new.fen ≡ self.old.fen)
             ⊎ (IsNamed name.now (codes "FEN") × (self.new.fen ≡ value)) }
+        ensures asks { AsksMore (TagSays name.now value.items) self.old self.new }
     {
         if is_word(name, "FEN") {
             self.has_fen = true;
@@ -262,8 +308,10 @@ impl Game {
         letters: &Letters,
         line: &'t [u8],
     ) -> Result<&'t [u8], AllocError>
-        ensures { IfOk result (λ _. (self.new.has_fen ≡ self.old.has_fen) × (self.new.fen ≡ self.old.fen)
+        ensures fen { IfOk result (λ _. (self.new.has_fen ≡ self.old.has_fen) × (self.new.fen ≡ self.old.fen)
             ⊎ IsFenOf letters.now line.now self.new.fen.items) }
+        ensures asks { IfOk result (λ _. AsksMore (SaysMoves line.now) self.old self.new) }
+        ensures rest { IfOk result (λ rest. EndsText rest.now line.now) }
     {
         let mut rest = line.trim_ascii_start();
         for _ in 0..line.len() {
@@ -282,77 +330,127 @@ impl Game {
     }
 
     /// Claims a key behind the position, if that is one and no operation stands there.
-    fn claim(&mut self, key: &[u8]) -> Result<(), AllocError> {
+    fn claim(&mut self, key: &[u8]) -> Result<(), AllocError>
+        ensures fen { IfOk result (λ _. KeepsFen self.old self.new) }
+        ensures asks { IfOk result (λ _. KeepsAsked self.old self.new) }
+    {
         if !is_position(self.fen.as_slice()) {
             return Ok(());
         }
         self.changes.moves = true;
-        let opcode = if self.is_blacks { " bm 1..." } else { " bm " };
-        self.fen.extend_from_slice(opcode.as_bytes())?;
+        self.fen
+            .extend_from_slice(claim_opcode(self.is_blacks).as_bytes())?;
         self.fen.extend_from_slice(key)?;
-        push_byte(&mut self.fen, b';')
+        push_byte(&mut self.fen, b';')?;
+        Ok(())
     }
 
     /// Takes a comment up to its end, or the line's: one with which movetext begins may ask for a number of moves.
-    fn take_comment<'t>(&mut self, text: &'t [u8]) -> &'t [u8] {
+    fn take_comment<'t>(&mut self, text: &'t [u8]) -> &'t [u8]
+        ensures fen { KeepsFen self.old self.new }
+        ensures asks { AsksMore (CommentSays text.now) self.old self.new }
+        ensures rest { EndsText result.now text.now }
+    {
         let (comment, behind) = cut_at(text, b'}');
         self.in_comment = comment.len() == text.len();
-        if !self.is_begun {
-            self.asked = self.asked.and(moves_asked(comment));
+        if self.is_begun {
+            return behind;
         }
+        self.asked = self.asked.and(moves_asked(comment));
         behind
     }
 
+    /// Takes the comment that is open, if one is; gives what stands behind.
+    fn after_comment<'t>(&mut self, text: &'t [u8]) -> &'t [u8]
+        ensures fen { KeepsFen self.old self.new }
+        ensures asks { AsksMore (CommentSays text.now) self.old self.new }
+        ensures rest { EndsText result.now text.now }
+    {
+        if !self.in_comment {
+            return text;
+        }
+        self.take_comment(text)
+    }
+
+    /// Takes a byte of a number, its dots, or a mark as `$1`, if one stands there; gives what stands behind.
+    fn take_mark<'t>(&mut self, text: &'t [u8]) -> Option<&'t [u8]>
+        ensures fen { KeepsFen self.old self.new }
+        ensures asks { KeepsAsked self.old self.new }
+        ensures rest { IfSome result (λ rest. EndsText rest.now text.now) }
+    {
+        if begins_with(b'$', text) && text.len() > 1 {
+            return Some(move_word(text).1);
+        }
+        if text.starts_with(b"..") {
+            self.is_blacks = true;
+            return Some(without_first(text, 2));
+        }
+        if matches!(text, [b'0'..=b'9' | b'.', ..]) && !text.starts_with(b"0-0") {
+            return Some(without_first(text, 1));
+        }
+        None
+    }
+
     /// Takes movetext from a word on: that is the first move, or says that there is none.
-    fn take_word(&mut self, text: &[u8]) -> Result<(), AllocError> {
+    fn take_word(&mut self, text: &[u8]) -> Result<(), AllocError>
+        ensures fen { IfOk result (λ _. KeepsFen self.old self.new) }
+        ensures asks { IfOk result (λ _. KeepsAsked self.old self.new) }
+    {
         let (word, behind) = move_word(text);
         self.is_over = true;
         if is_key(word) && !is_blamed(behind) {
-            return self.claim(word);
+            self.claim(word)?;
         }
         Ok(())
     }
 
-    /// Takes a line of movetext, up to the first move, with which nothing more is looked for: behind comments, numbers, and marks as `$1`.
-    pub(crate) fn take_moves(&mut self, line: &[u8]) -> Result<(), AllocError> {
-        let was_in_comment = self.in_comment;
+    /// Takes movetext up to the first move: comments, numbers, and marks as `$1`; gives what stands from that on, or nothing.
+    fn find_move<'t>(&mut self, line: &'t [u8]) -> &'t [u8]
+        ensures fen { KeepsFen self.old self.new }
+        ensures asks { AsksMore (SaysMoves line.now) self.old self.new }
+    {
         let mut found: &[u8] = &[];
         let mut rest = line;
         for _ in 0..line.len() {
-            if self.in_comment {
-                rest = self.take_comment(rest);
+            let text = self.after_comment(rest).trim_ascii_start();
+            if text.is_empty() || begins_with(b';', text) {
+                break;
             }
-            let text = rest.trim_ascii_start();
-            match text {
-                [] | [b';', ..] => break,
-                [b'{', more @ ..] => {
-                    self.in_comment = true;
-                    rest = more;
-                    continue;
-                }
-                [b'$', _, more @ ..] => rest = move_word(more).1,
-                [b'.', b'.', more @ ..] => {
-                    self.is_blacks = true;
-                    rest = more;
-                }
-                [b'0'..=b'9' | b'.', more @ ..] if !text.starts_with(b"0-0") => rest = more,
-                _ => {
-                    found = text;
-                    break;
-                }
+            if begins_with(b'{', text) {
+                self.in_comment = true;
+                rest = without_first(text, 1);
+                continue;
             }
+            let Some(behind) = self.take_mark(text) else {
+                found = text;
+                break;
+            };
+            rest = behind;
             self.is_begun = true;
         }
+        found
+    }
+
+    /// Takes a line of movetext, up to the first move, with which nothing more is looked for.
+    pub(crate) fn take_moves(&mut self, line: &[u8]) -> Result<(), AllocError>
+        ensures fen { IfOk result (λ _. KeepsFen self.old self.new) }
+        ensures asks { IfOk result (λ _. AsksMore (SaysMoves line.now) self.old self.new) }
+    {
+        let was_in_comment = self.in_comment;
+        let found = self.find_move(line);
         self.is_begun = true;
         if found.is_empty() {
             return Ok(());
         }
         self.in_comment = was_in_comment;
-        self.take_word(found)
+        self.take_word(found)?;
+        Ok(())
     }
 
     /// What is asked: what `Stipulation` does, if it is there, else what the other tags and the comments do.
-    fn asks(&self) -> Asked {
+    pub(crate) fn asks(&self) -> Asked
+        ensures { (n : ℕ) → result ≡ Asked.Moves n → (self.now.asked ≡ Asked.Moves n) ⊎ (self.now.stipulated ≡ Some (Asked.Moves n)) }
+    {
         match self.stipulated {
             Some(asked) => asked,
             None => self.asked,
@@ -360,7 +458,9 @@ impl Game {
     }
 
     /// Why nothing can be made of them, if nothing can.
-    pub(crate) fn first_fault(&self) -> Option<ImportFault> {
+    pub(crate) fn first_fault(&self) -> Option<ImportFault>
+        ensures { IfNone result (self.now.has_fen ≡ true) }
+    {
         if !self.has_fen {
             return Some(ImportFault::NoFen);
         }
@@ -373,13 +473,15 @@ impl Game {
         }
     }
 
-    /// Whether they say a number of moves.
-    pub(crate) fn is_bound(&self) -> bool {
-        !matches!(self.asks(), Asked::Nothing)
-    }
-
-    /// What is made of the tag pairs, read as a record.
-    pub(crate) fn text(&mut self, alloc: Global) -> Result<Vec<u8>, AllocError> {
+    /// What is made of the tag pairs, read as a record: of a position that has too few fields, no more than that, so that what stands behind
+    /// it isn't taken for one.
+    pub(crate) fn text(&mut self, alloc: Global) -> Result<Vec<u8>, AllocError>
+        ensures { IfOk result (λ text. line_fields text.items ≡ line_fields self.old.fen.items) }
+    {
+        let mut text = Vec::from_slice(alloc, self.fen.as_slice())?;
+        if !has_fields(text.as_slice()) {
+            return Ok(text);
+        }
         let mut id = Vec::new(alloc);
         for value in [
             &self.white,
@@ -391,7 +493,6 @@ impl Game {
         ] {
             push_id(&mut id, value.as_slice(), &mut self.changes)?;
         }
-        let mut text = Vec::from_slice(alloc, self.fen.as_slice().trim_ascii())?;
         if let Asked::Moves(moves) = self.asks() {
             self.changes.bound = true;
             push_bound_operation(&mut text, moves)?;

@@ -1,12 +1,17 @@
 //! Inputs of collections, imported line by line.
 
-ghost use Rattle.std.specs.Prelude.{◌≡◌, ◌≢◌, ◌≤◌, ◌<◌, ◌+◌, ℕ, Bool, List, [], false, true, IfErr, IfOk, length};
+ghost use Rattle.std.specs.Prelude.{◌≡◌, ◌≢◌, ◌≤◌, ◌<◌, ◌+◌, ℕ, Bool, List, [], false, true, Contains, IfErr, IfOk, length};
+ghost use Rattle.move_words.specs.Languages.{english};
+ghost use Rattle.move_words.specs.declared.languages.Letters.{Letters as LettersValue};
+ghost use Rattle.text_lines.specs.Lines.{texts_of};
 ghost use Rattle.std.specs.Io.KnownBytes.{Appends};
 ghost use Rattle.byte_streams.specs.Inputs.{MayBe};
 ghost use Rattle.byte_streams.specs.Stops.{AppendsBy};
 ghost use Rattle.problem_import.specs.Imports.{AreImported, EndsWithLine, ImportsAreRecords, ImportsKeepPositions, IsClean};
 ghost use Rattle.problem_import.specs.Imports.{IsImport, IsImportOfFirst, IsMade, IsRecord, one_if as one_if_any};
+ghost use Rattle.problem_import.specs.Sources.{AreSourced};
 ghost use Rattle.problem_import.specs.inside.Findings.{AreFoundOf};
+ghost use Rattle.problem_import.specs.inside.KnownSources.{AreFrom, EndsFrom, IsKept, IsKnown, IsKnownOf, IsMadeFrom};
 ghost use Rattle.problem_import.specs.inside.OpenProblems.{due, has_tags};
 ghost use Rattle.problem_import.specs.inside.TagPairs.{is_tag_line};
 
@@ -61,6 +66,8 @@ fn take(
     ensures kept { IfOk result (λ _. due reading.old.open + length findings.old.items ≤ due reading.new.open + length findings.new.items) }
     ensures more { IfOk result (λ _. kind ≡ LineKind.Other → is_tag_line line.now ≡ true → has_tags reading.old.open ≡ false
         → due reading.old.open + length findings.old.items < due reading.new.open + length findings.new.items) }
+    ensures from { IfOk result (λ _. (letters : LettersValue) (lines : List (List ℕ)) → Contains lines line.now
+        → IsKept letters lines reading.old reading.new findings.old.items findings.new.items) }
 {
     match kind {
         LineKind::Clean => {
@@ -84,6 +91,7 @@ impl<'a> Imports<'a> {
     pub(crate) fn new(rays: &'a Rays, keep: bool, bound: Option<Bound>) -> Imports<'a>
         ensures keep { result.printing.keep ≡ keep }
         ensures bound { result.printing.bound ≡ bound }
+        ensures letters { result.printing.letters ≡ english }
     {
         Imports::lettered(rays, Letters::ENGLISH, keep, bound)
     }
@@ -97,6 +105,7 @@ impl<'a> Imports<'a> {
     ) -> Imports<'a>
         ensures keep { result.printing.keep ≡ keep }
         ensures bound { result.printing.bound ≡ bound }
+        ensures letters { result.printing.letters ≡ letters }
     {
         Imports {
             printing: Printing {
@@ -144,6 +153,9 @@ impl Imports<'_> {
         ensures kept { IfOk result (λ findings. due reading.old.open ≤ due reading.new.open + length findings.items) }
         ensures more { IfOk result (λ findings. kind ≡ LineKind.Other → is_tag_line line.now ≡ true → has_tags reading.old.open ≡ false
             → due reading.old.open < due reading.new.open + length findings.items) }
+        ensures from { IfOk result (λ findings. (letters : LettersValue) (lines : List (List ℕ)) → Contains lines line.now
+            → IsKnown letters lines reading.old.letters reading.old.open
+            → IsKnown letters lines reading.new.letters reading.new.open × AreFrom letters lines findings.items) }
     {
         let mut findings = Vec::new(alloc);
         reading.note_long(alloc, self.last_long.get(), &mut findings)?;
@@ -167,6 +179,9 @@ impl Imports<'_> {
         ensures ended { IfOk result (λ printed. due reading.old.open ≤ due reading.new.open + length printed.text.items) }
         ensures begun { IfOk result (λ printed. is_tag_line line.now ≡ true → due reading.old.open ≡ 0
             → 0 < due reading.new.open + length printed.text.items) }
+        ensures from { IfOk result (λ printed. (letters : LettersValue) (lines : List (List ℕ)) → Contains lines line.now
+            → IsKnown letters lines reading.old.letters reading.old.open
+            → IsKnown letters lines reading.new.letters reading.new.open × AreImported (IsMadeFrom letters self.now.printing.bound lines) printed.text.items printed.any) }
     {
         let read = read_line(alloc, self.printing.rays, line)?;
         let findings = self.findings(alloc, number, line, read.kind, reading)?;
@@ -183,6 +198,7 @@ impl Imports<'_> {
         ensures imported { IfOk result (λ printed. AreImported (IsMade self.now.printing.keep self.now.printing.bound [])
             printed.text.items printed.any) }
         ensures ended { IfOk result (λ printed. due reading.old.open ≤ length printed.text.items) }
+        ensures from { IfOk result (λ printed. EndsFrom self.now.printing.bound reading.old printed.text.items printed.any) }
     {
         let mut findings = Vec::new(alloc);
         reading.finish(alloc, Open::Nothing, &mut findings)?;
@@ -208,11 +224,19 @@ pub(crate) fn output_of(printed: Printed) -> Output
 }
 
 impl LineHandler for Imports<'_> {
-    ghost use Rattle.problem_import.specs.Imports.{IsImportReply, skipped};
+    ghost use Rattle.std.specs.Prelude.{◌∷◌, [], false};
+    ghost use Rattle.std.proofs.lemmas.List.Elements.{Contains-append_left};
+    ghost use Rattle.problem_import.specs.Imports.{IsImportReply, none as nothing, skipped};
+    ghost use Rattle.problem_import.specs.inside.KnownSources.{IsKnownOf, Sourced};
 
     type Memory = Reading;
 
     ghost replies = { λ imports. IsImportReply imports.printing.keep imports.printing.bound };
+
+    ghost knows = { λ imports reading before. IsKnownOf imports.printing.letters (λ line. line) before reading };
+
+    ghost follows = { λ imports. Sourced (IsImportReply imports.printing.keep imports.printing.bound) imports.printing.letters
+        imports.printing.bound (λ line. line) };
 
     ghost room = { λ _. 0 };
 
@@ -241,9 +265,9 @@ impl LineHandler for Imports<'_> {
 
     ghost unmarked = { λ _ _ _ _. tt };
 
-    ghost passes = { λ _ _ _ _ _ _. tt };
+    ghost passes = { λ _ _ before line _ known lines among. known lines (λ own is. among own (Contains-append_left before (line ∷ []) own is)) };
 
-    ghost skips_behind = { λ _ _ _ _ _. tt };
+    ghost skips_behind = { λ _ _ number line blank. (skipped blank, (false, λ lines among. nothing)) };
 }
 
 /// Writes what is printed once the input has ended; gives at how many lines, its end for one, a problem is refused.
@@ -256,9 +280,11 @@ pub(crate) fn put_last<O: Write>(
 ) -> Result<usize, Stop>
     ensures ok { IfOk result (λ total. (last : List ℕ) × (any : Bool)
         × AreImported (IsMade imports.now.printing.keep imports.now.printing.bound []) last any
+        × EndsFrom imports.now.printing.bound reading.old last any
         × (total ≡ count + one_if_any any) × Appends (O.contents out.old) (O.contents out.new) last) }
     ensures err { IfErr result (λ stop. (last : List ℕ) × (any : Bool)
         × AreImported (IsMade imports.now.printing.keep imports.now.printing.bound []) last any
+        × EndsFrom imports.now.printing.bound reading.old last any
         × AppendsBy stop (O.contents out.old) (O.contents out.new) last) }
     ensures readable { IfErr result (λ stop. stop ≢ Stop.Unreadable) }
 {
@@ -282,11 +308,14 @@ fn import_lines<I: Input + Drop, O: Write>(
     reading: &mut Reading,
     out: &mut O,
 ) -> Result<usize, Stop>
+    requires { IsKnownOf imports.now.printing.letters (λ line. line) [] reading.now }
     ensures ok { IfOk result (λ count. (bytes : List ℕ) × (text : List ℕ) × MayBe (I.left input) bytes
-        × IsImport imports.now.printing.keep imports.now.printing.bound bytes text count
+        × (IsImport imports.now.printing.keep imports.now.printing.bound bytes text count
+        × AreSourced imports.now.printing.letters imports.now.printing.bound (texts_of bytes) text)
         × Appends (O.contents out.old) (O.contents out.new) text) }
     ensures err { IfErr result (λ stop. (bytes : List ℕ) × (text : List ℕ) × MayBe (I.left input) bytes
-        × IsImportOfFirst imports.now.printing.keep imports.now.printing.bound bytes text
+        × (IsImportOfFirst imports.now.printing.keep imports.now.printing.bound bytes text
+        × AreSourced imports.now.printing.letters imports.now.printing.bound (texts_of bytes) text)
         × AppendsBy stop (O.contents out.old) (O.contents out.new) text) }
     ensures unreadable { IfErr result (λ stop. stop ≡ Stop.Unreadable → I.breaks input) }
 {
@@ -306,9 +335,11 @@ pub(crate) fn import_counted<I: Input + Drop, O: Write>(
     input: I,
     out: &mut O,
 ) -> Result<usize, Stop>
-    ensures ok { IfOk result (λ count. (bytes : List ℕ) × (text : List ℕ) × MayBe (I.left input) bytes × IsImport keep bound bytes text count
+    ensures ok { IfOk result (λ count. (bytes : List ℕ) × (text : List ℕ) × MayBe (I.left input) bytes
+        × (IsImport keep bound bytes text count × AreSourced english bound (texts_of bytes) text)
         × Appends (O.contents out.old) (O.contents out.new) text) }
-    ensures err { IfErr result (λ stop. (bytes : List ℕ) × (text : List ℕ) × MayBe (I.left input) bytes × IsImportOfFirst keep bound bytes text
+    ensures err { IfErr result (λ stop. (bytes : List ℕ) × (text : List ℕ) × MayBe (I.left input) bytes
+        × (IsImportOfFirst keep bound bytes text × AreSourced english bound (texts_of bytes) text)
         × AppendsBy stop (O.contents out.old) (O.contents out.new) text) }
     ensures unreadable { IfErr result (λ stop. stop ≡ Stop.Unreadable → I.breaks input) }
 {
@@ -337,6 +368,8 @@ pub fn import_input<I: Input + Drop, O: Write>(
         × Appends (O.contents out.old) (O.contents out.new) text) }
     ensures err { IfErr result (λ stop. (bytes : List ℕ) × (text : List ℕ) × MayBe (I.left input) bytes × IsImportOfFirst keep bound bytes text
         × AppendsBy stop (O.contents out.old) (O.contents out.new) text) }
+    ensures sourced { IfOk result (λ _. (bytes : List ℕ) × (text : List ℕ) × MayBe (I.left input) bytes
+        × AreSourced english bound (texts_of bytes) text × Appends (O.contents out.old) (O.contents out.new) text) }
     ensures unreadable { IfErr result (λ stop. stop ≡ Stop.Unreadable → I.breaks input) }
 {
     import_counted(

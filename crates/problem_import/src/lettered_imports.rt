@@ -1,11 +1,16 @@
 //! Inputs of collections whose men have the letters of a language, imported line by line.
 
-ghost use Rattle.std.specs.Prelude.{◌≡◌, ◌≢◌, ◌≤◌, ◌<◌, ◌+◌, List, ℕ, Bool, Option, IfErr, IfOk, length};
+ghost use Rattle.std.specs.Prelude.{◌≡◌, ◌≢◌, ◌≤◌, ◌<◌, ◌+◌, List, [], ℕ, Bool, Option, Contains, IfErr, IfOk, length, map};
+ghost use Rattle.lettered_placements.specs.Readings.{line_read as line_read_by};
+ghost use Rattle.move_words.specs.declared.languages.Letters.{Letters as LettersValue};
+ghost use Rattle.text_lines.specs.Lines.{texts_of};
 ghost use Rattle.std.specs.Io.KnownBytes.{Appends};
 ghost use Rattle.byte_streams.specs.Inputs.{MayBe};
 ghost use Rattle.byte_streams.specs.Stops.{AppendsBy};
 ghost use Rattle.problem_import.specs.Imports.{AreImported, IsMade, IsRecord};
 ghost use Rattle.problem_import.specs.LetteredImports.{IsImportIn, IsImportOfFirstIn, IsLettered, IsLetteredOfFirst, LetteredAreRecords};
+ghost use Rattle.problem_import.specs.Sources.{AreSourced};
+ghost use Rattle.problem_import.specs.inside.KnownSources.{IsKnown, IsKnownOf, IsMadeFrom};
 ghost use Rattle.problem_import.specs.inside.OpenProblems.{due};
 
 use crate::import_counts::ImportCounts;
@@ -55,6 +60,9 @@ impl LetteredImports<'_> {
             (IsMade self.now.imports.printing.keep self.now.imports.printing.bound line.now) printed.text.items printed.any) }
         ensures kept { IfOk result (λ printed. IsRecord line.now → 0 < length printed.text.items) }
         ensures ended { IfOk result (λ printed. due reading.old.open ≤ due reading.new.open + length printed.text.items) }
+        ensures from { IfOk result (λ printed. (letters : LettersValue) (lines : List (List ℕ)) → Contains lines line.now
+            → IsKnown letters lines reading.old.letters reading.old.open
+            → IsKnown letters lines reading.new.letters reading.new.open × AreImported (IsMadeFrom letters self.now.imports.printing.bound lines) printed.text.items printed.any) }
     {
         let first = read_line(alloc, self.imports.printing.rays, line)?;
         let kind = kind_anew(first.kind);
@@ -72,6 +80,8 @@ impl LetteredImports<'_> {
     fn long_reply(&self, alloc: Global, number: usize) -> Result<Printed, NoMemory>
         ensures imported { IfOk result (λ printed. (keep : Bool) (given : Option ℕ) (line : List ℕ)
             → AreImported (IsMade keep given line) printed.text.items printed.any) }
+        ensures from { IfOk result (λ printed. (letters : LettersValue) (given : Option ℕ) (lines : List (List ℕ))
+            → AreImported (IsMadeFrom letters given lines) printed.text.items printed.any) }
     {
         let mut printed = Printed::new(alloc, self.imports.counts.get());
         if self.imports.passes_long(number) {
@@ -84,11 +94,21 @@ impl LetteredImports<'_> {
 }
 
 impl LineHandler for LetteredImports<'_> {
+    ghost use Rattle.std.specs.Prelude.{◌∷◌, [], false};
+    ghost use Rattle.std.proofs.lemmas.List.Elements.{Contains-append_left};
+    ghost use Rattle.lettered_placements.specs.Readings.{line_read};
+    ghost use Rattle.problem_import.specs.Imports.{none as nothing};
     ghost use Rattle.problem_import.specs.LetteredImports.{IsLetteredReply, skipped};
+    ghost use Rattle.problem_import.specs.inside.KnownSources.{IsKnownOf, Sourced};
 
     type Memory = Reading;
 
     ghost replies = { λ imports. IsLetteredReply imports.letters imports.imports.printing.keep imports.imports.printing.bound };
+
+    ghost knows = { λ imports reading before. IsKnownOf imports.letters (line_read imports.letters) before reading };
+
+    ghost follows = { λ imports. Sourced (IsLetteredReply imports.letters imports.imports.printing.keep imports.imports.printing.bound)
+        imports.letters imports.imports.printing.bound (line_read imports.letters) };
 
     ghost room = { λ _. 0 };
 
@@ -113,9 +133,9 @@ impl LineHandler for LetteredImports<'_> {
 
     ghost unmarked = { λ _ _ _ _. tt };
 
-    ghost passes = { λ _ _ _ _ _ _. tt };
+    ghost passes = { λ _ _ before line _ known lines among. known lines (λ own is. among own (Contains-append_left before (line ∷ []) own is)) };
 
-    ghost skips_behind = { λ _ _ _ _ _. tt };
+    ghost skips_behind = { λ _ _ number line blank. (skipped blank, (false, λ lines among. nothing)) };
 }
 
 /// Imports an input by letters, over what goes from line to line.
@@ -126,11 +146,14 @@ fn import_lettered<I: Input + Drop, O: Write>(
     reading: &mut Reading,
     out: &mut O,
 ) -> Result<usize, Stop>
+    requires { IsKnownOf imports.now.letters (line_read_by imports.now.letters) [] reading.now }
     ensures ok { IfOk result (λ count. (bytes : List ℕ) × (text : List ℕ) × MayBe (I.left input) bytes
-        × IsLettered imports.now.letters imports.now.imports.printing.keep imports.now.imports.printing.bound bytes text count
+        × (IsLettered imports.now.letters imports.now.imports.printing.keep imports.now.imports.printing.bound bytes text count
+        × AreSourced imports.now.letters imports.now.imports.printing.bound (map (line_read_by imports.now.letters) (texts_of bytes)) text)
         × Appends (O.contents out.old) (O.contents out.new) text) }
     ensures err { IfErr result (λ stop. (bytes : List ℕ) × (text : List ℕ) × MayBe (I.left input) bytes
-        × IsLetteredOfFirst imports.now.letters imports.now.imports.printing.keep imports.now.imports.printing.bound bytes text
+        × (IsLetteredOfFirst imports.now.letters imports.now.imports.printing.keep imports.now.imports.printing.bound bytes text
+        × AreSourced imports.now.letters imports.now.imports.printing.bound (map (line_read_by imports.now.letters) (texts_of bytes)) text)
         × AppendsBy stop (O.contents out.old) (O.contents out.new) text) }
     ensures unreadable { IfErr result (λ stop. stop ≡ Stop.Unreadable → I.breaks input) }
 {

@@ -1,11 +1,11 @@
 //! The moves that a record claims and avoids, mended: each that is named otherwise than in SAN.
 
-ghost use Rattle.std.specs.Prelude.{◌≡◌, IfOk, IfSome};
-ghost use Rattle.chess_notation.specs.RecordFields.{line_fields};
+ghost use Rattle.std.specs.Prelude.{◌≡◌, ◌≢◌, [], IfOk, IfSome, IsTrue};
+ghost use Rattle.chess_notation.specs.RecordFields.{fourth_word, line_fields};
 ghost use Rattle.problem_import.specs.inside.MendedMoves.{IsMeant};
 
 use crate::changes::Changes;
-use crate::fields::{behind_counters, field_words, push_counters};
+use crate::fields::{behind_counters, field_words, has_fields, push_counters};
 use crate::texts::{is_same, push_byte, push_word, trimmed, word_at};
 use crate::tokens::{Kind, segment_at, token_at};
 use arrayvec::ArrayString;
@@ -144,7 +144,12 @@ impl Moves<'_> {
 }
 
 /// Whether a text is a position, and counters if they are there, and no operation stands behind.
-pub(crate) fn is_position(text: &[u8]) -> bool {
+pub(crate) fn is_position(text: &[u8]) -> bool
+    ensures { IsTrue result → fourth_word text.now ≢ [] }
+{
+    if !has_fields(text) {
+        return false;
+    }
     let fields = field_words(text);
     fields.position().is_some() && trimmed(behind_counters(fields.behind)).is_empty()
 }

@@ -1,6 +1,8 @@
 //! A problem in a file of Olive's (`.olv`, the YAML of YACPDB): between two lines `---`, keys with colons, lists in brackets or behind hyphens,
 //! and men with Popeye's letters.
 
+ghost use Rattle.std.specs.Prelude.{◌≡◌, IsTrue, codes};
+
 use crate::changes::Changes;
 use crate::diagrams::Diagram;
 use crate::games::{push_id, push_id_operation};
@@ -48,7 +50,9 @@ pub(crate) struct OliveProblem {
 }
 
 /// Whether a line stands before a problem.
-pub(crate) fn is_border(line: &[u8]) -> bool {
+pub(crate) fn is_border(line: &[u8]) -> bool
+    ensures { IsTrue result → line.now ≡ codes "---" }
+{
     is_same(line, "---")
 }
 

@@ -1,5 +1,8 @@
 //! The words of Popeye's input. A first part of a word, of four letters or more, stands for it.
 
+ghost use Rattle.std.specs.Prelude.{◌≡◌, IfSome, IsTrue, codes};
+ghost use Rattle.problem_import.specs.Sources.{StandsFor};
+
 /// What Popeye is told to do.
 #[derive(Clone, Copy)]
 pub(crate) enum Command {
@@ -15,7 +18,9 @@ pub(crate) enum Command {
 }
 
 /// Whether a word stands for a name, in small letters or large.
-fn stands_for(word: &[u8], name: &str) -> bool {
+fn stands_for(word: &[u8], name: &str) -> bool
+    ensures { IsTrue result → StandsFor word.now name.now }
+{
     let name = name.as_bytes();
     let length = word.len();
     length >= 4 && length <= name.len() && word.eq_ignore_ascii_case(name.split_at(length).0)
@@ -32,7 +37,9 @@ fn stands_for_one(word: &[u8], names: &[&str]) -> bool {
 }
 
 /// The command that a word stands for.
-pub(crate) fn command_of(word: &[u8]) -> Option<Command> {
+pub(crate) fn command_of(word: &[u8]) -> Option<Command>
+    ensures { IfSome result (λ command. command ≡ Command.Begin → StandsFor word.now (codes "BeginProblem")) }
+{
     if stands_for(word, "BeginProblem") {
         Some(Command::Begin)
     } else if stands_for_one(word, &["Author", "Origin", "Title"]) {

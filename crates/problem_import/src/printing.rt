@@ -1,6 +1,7 @@
 //! What is printed: records by the grammar, and refusals.
 
-ghost use Rattle.std.specs.Prelude.{◌≡◌, ◌<◌, ◌++◌, ◌∷◌, [], ℕ, Bool, List, Option, IfNone, IfOk, IfSome, decimal, length};
+ghost use Rattle.std.specs.Prelude.{◌≡◌, ◌<◌, ◌++◌, ◌∷◌, [], ℕ, Bool, List, Option, Contains, IfNone, IfOk, IfSome, decimal, length};
+ghost use Rattle.move_words.specs.declared.languages.Letters.{Letters as LettersValue};
 ghost use Rattle.chess_board.specs.Characters.{char};
 ghost use Rattle.problem_import.specs.Changes.{telling};
 ghost use Rattle.problem_import.specs.inside.Counted.{AreCounted, IsSaid};
@@ -10,6 +11,8 @@ ghost use Rattle.problem_import.specs.inside.FieldTexts.{GoesOn};
 ghost use Rattle.problem_import.specs.inside.Findings.{AreFoundOf, Asks, IsAskedOf, IsFoundOf, IsNumberOf, IsOwn, MayBeTold};
 ghost use Rattle.problem_import.specs.declared.changes.Form.{Form as FormValue};
 ghost use Rattle.problem_import.specs.inside.KeptChanges.{has_change};
+ghost use Rattle.problem_import.specs.inside.KnownSources.{AreFrom, IsCountFrom, IsFoundFrom, IsFrom, IsMadeFrom, IsNumberFrom};
+ghost use Rattle.problem_import.specs.inside.KnownSources.{PrintsFrom, TellsOf};
 
 use crate::changes::Changes;
 use crate::fields::push_behind;
@@ -95,6 +98,7 @@ impl Printed {
     pub(crate) fn new(alloc: Global, counts: ImportCounts) -> Printed
         ensures imported { (keep : Bool) (given : Option ℕ) (line : List ℕ) → AreImported (IsMade keep given line) result.text.items result.any }
         ensures counted { AreCounted counts result.text.items result.counts }
+        ensures from { (letters : LettersValue) (given : Option ℕ) (lines : List (List ℕ)) → AreImported (IsMadeFrom letters given lines) result.text.items result.any }
     {
         Printed {
             text: Vec::new(alloc),
@@ -113,6 +117,8 @@ impl Printed {
         ensures counted { IfOk result (λ _. (first : ImportCountsValue) → AreCounted first self.old.text.items self.old.counts
             → AreCounted first self.new.text.items self.new.counts) }
         ensures text { IfOk result (λ _. self.new.text.items ≡ self.old.text.items ++ made.now ++ char "\n" ∷ []) }
+        ensures from { IfOk result (λ _. (letters : LettersValue) (given : Option ℕ) (lines : List (List ℕ)) → IsMadeFrom letters given lines made.now
+            → PrintsFrom letters given lines self.old.text.items self.old.any self.new.text.items self.new.any) }
     {
         push_line(&mut self.text, made)?;
         self.counts = self.counts.with_record(says);
@@ -130,6 +136,8 @@ impl Printed {
             → AreCounted first printed.text.items printed.counts) }
         ensures clean { IfOk result (λ printed. read.kind ≡ LineKind.Clean → EndsWithLine line.now printed.text.items) }
         ensures filled { IfOk result (λ printed. 0 < length self.text.items → 0 < length printed.text.items) }
+        ensures from { IfOk result (λ printed. (letters : LettersValue) (given : Option ℕ) (lines : List (List ℕ)) → Contains lines line.now
+            → PrintsFrom letters given lines self.text.items self.any printed.text.items printed.any) }
     {
         let mut printed = self;
         let LineKind::Clean = read.kind else {
@@ -152,6 +160,8 @@ impl Printed {
         ensures counted { IfOk result (λ _. (first : ImportCountsValue) → AreCounted first self.old.text.items self.old.counts
             → AreCounted first self.new.text.items self.new.counts) }
         ensures filled { IfOk result (λ _. 0 < length self.new.text.items) }
+        ensures from { IfOk result (λ _. (letters : LettersValue) (given : Option ℕ) (lines : List (List ℕ))
+            → PrintsFrom letters given lines self.old.text.items self.old.any self.new.text.items self.new.any) }
     {
         let text = &mut self.text;
         push_refused_line(text, number, number.to_string(alloc)?.as_bytes(), fault)?;
@@ -177,6 +187,8 @@ pub(crate) fn moves_of(number: Number) -> Option<Option<u8>>
     ensures known { IfSome result (λ moves. (form : FormValue) (given : Option ℕ) (line : List ℕ) → IsAskedOf form line number
         → IsNumberOf form given line moves) }
     ensures unsaid { IfNone result (number ≡ Number.Unsaid) }
+    ensures from { IfSome result (λ moves. (given : Option ℕ) (lines : List (List ℕ)) → IsNumberFrom lines number
+        → IsCountFrom given lines moves) }
 {
     match number {
         Number::Said(moves) => Some(Some(moves)),
@@ -200,7 +212,8 @@ impl Printing<'_> {
         requires own { IsOwn changes.now.form line.now text.now }
         requires number { IsNumberOf changes.now.form self.now.bound line.now moves }
         requires asks { Asks moves text.now }
-        ensures { IfOk result (λ told. MayBeTold self.now.keep self.now.bound line.now text.now told) }
+        ensures made { IfOk result (λ told. MayBeTold self.now.keep self.now.bound line.now text.now told) }
+        ensures tells { IfOk result (λ told. TellsOf text.now moves told) }
     {
         if !self.keep {
             return Ok(ToldRecord::Not);
@@ -238,6 +251,8 @@ impl Printing<'_> {
         ensures counted { IfOk result (λ _. (first : ImportCountsValue) → AreCounted first printed.old.text.items printed.old.counts
             → AreCounted first printed.new.text.items printed.new.counts) }
         ensures filled { IfOk result (λ _. 0 < length printed.new.text.items) }
+        ensures from { IfOk result (λ _. (letters : LettersValue) (lines : List (List ℕ)) → IsFrom letters lines text.now → IsCountFrom self.now.bound lines moves
+            → PrintsFrom letters self.now.bound lines printed.old.text.items printed.old.any printed.new.text.items printed.new.any) }
     {
         let told = self.told(alloc, line, text, moves, changes)?;
         match told {
@@ -274,6 +289,8 @@ impl Printing<'_> {
         ensures counted { IfOk result (λ _. (first : ImportCountsValue) → AreCounted first printed.old.text.items printed.old.counts
             → AreCounted first printed.new.text.items printed.new.counts) }
         ensures filled { IfOk result (λ _. 0 < length printed.new.text.items) }
+        ensures from { IfOk result (λ _. (letters : LettersValue) (lines : List (List ℕ)) → IsFrom letters lines text.now → IsCountFrom self.now.bound lines moves
+            → PrintsFrom letters self.now.bound lines printed.old.text.items printed.old.any printed.new.text.items printed.new.any) }
     {
         match says_asked(alloc, self.rays, text, moves)? {
             Ok(says) => { self.push_made(alloc, printed, line, number, text, says, moves, changes) }
@@ -301,6 +318,8 @@ impl Printing<'_> {
         ensures counted { IfOk result (λ _. (first : ImportCountsValue) → AreCounted first printed.old.text.items printed.old.counts
             → AreCounted first printed.new.text.items printed.new.counts) }
         ensures filled { IfOk result (λ _. 0 < length printed.new.text.items) }
+        ensures from { IfOk result (λ _. (letters : LettersValue) (lines : List (List ℕ)) → IsFrom letters lines text.now
+            → PrintsFrom letters self.now.bound lines printed.old.text.items printed.old.any printed.new.text.items printed.new.any) }
     {
         let fault = match (says_asked(alloc, self.rays, text, None)?, self.bound) {
             (Ok(_), Some(bound)) => {
@@ -341,6 +360,8 @@ impl Printing<'_> {
         ensures counted { IfOk result (λ _. (first : ImportCountsValue) → AreCounted first printed.old.text.items printed.old.counts
             → AreCounted first printed.new.text.items printed.new.counts) }
         ensures filled { IfOk result (λ _. 0 < length printed.new.text.items) }
+        ensures from { IfOk result (λ _. (letters : LettersValue) (lines : List (List ℕ)) → IsFrom letters lines text.now → IsNumberFrom lines moves
+            → PrintsFrom letters self.now.bound lines printed.old.text.items printed.old.any printed.new.text.items printed.new.any) }
     {
         let mut changes = changes;
         let text = with_moves(alloc, self.rays, &self.letters, text, &mut changes)?;
@@ -365,6 +386,8 @@ impl Printing<'_> {
         ensures counted { IfOk result (λ _. (first : ImportCountsValue) → AreCounted first printed.old.text.items printed.old.counts
             → AreCounted first printed.new.text.items printed.new.counts) }
         ensures filled { IfOk result (λ _. 0 < length printed.new.text.items) }
+        ensures from { IfOk result (λ _. (letters : LettersValue) (lines : List (List ℕ)) → IsFoundFrom letters lines finding.now.found
+            → PrintsFrom letters self.now.bound lines printed.old.text.items printed.old.any printed.new.text.items printed.new.any) }
     {
         let number = finding.number;
         match &finding.found {
@@ -391,6 +414,8 @@ impl Printing<'_> {
         ensures counted { IfOk result (λ printed. AreCounted counts printed.text.items printed.counts) }
         ensures imported { IfOk result (λ printed. AreImported (IsMade self.now.keep self.now.bound line.now) printed.text.items printed.any) }
         ensures filled { IfOk result (λ printed. 0 < length findings.now → 0 < length printed.text.items) }
+        ensures from { IfOk result (λ printed. (letters : LettersValue) (lines : List (List ℕ)) → AreFrom letters lines findings.now
+            → AreImported (IsMadeFrom letters self.now.bound lines) printed.text.items printed.any) }
     {
         let mut printed = Printed::new(alloc, counts);
         for finding in findings {

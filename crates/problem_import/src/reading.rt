@@ -1,9 +1,14 @@
 //! The forms told apart, line by line, and what the lines so far have said of problems that are open.
 
-ghost use Rattle.std.specs.Prelude.{◌≡◌, ◌≤◌, ◌<◌, ◌+◌, ℕ, List, IfOk, IfSome, length, false, true};
+ghost use Rattle.std.specs.Prelude.{◌≡◌, ◌≤◌, ◌<◌, ◌+◌, ℕ, List, [], Contains, IfOk, IfSome, length, false, true};
+ghost use Rattle.move_words.specs.Languages.{english};
+ghost use Rattle.move_words.specs.declared.languages.Letters.{Letters as LettersValue};
 ghost use Rattle.problem_import.specs.Imports.{IsRecord};
 ghost use Rattle.problem_import.specs.Letters.{IsTextOf};
 ghost use Rattle.problem_import.specs.inside.Findings.{AreFoundOf, IsAsked, IsFoundOf, IsRecordIf};
+ghost use Rattle.problem_import.specs.Sources.{HasOther, HasRecord, IsSaidIn, IsTextIn};
+ghost use Rattle.problem_import.specs.inside.KnownSources.{AreFrom, IsEndIn, IsFoundFrom, IsKept, IsKnown, IsNumberFrom, IsOpenFrom};
+ghost use Rattle.problem_import.specs.inside.KnownSources.{Keeps, KeepsBy, KeepsByEnd};
 ghost use Rattle.problem_import.specs.inside.OpenProblems.{due, goes_on as does_go_on, has_tags};
 ghost use Rattle.problem_import.specs.inside.TagPairs.{is_tag_line, is_tag_pair as is_tag_pair_text};
 
@@ -30,7 +35,7 @@ pub(crate) enum Number {
     Own,
     /// As many as are given, if any are: its line says none, and is no record.
     Unsaid,
-    /// As many as it asks: no line says them.
+    /// As many as it asks.
     Any,
 }
 
@@ -64,6 +69,8 @@ pub(crate) fn push_finding(findings: &mut Vec<Finding>, finding: Finding) -> Res
     ensures length { IfOk result (λ _. length findings.new.items ≡ length findings.old.items + 1) }
     ensures own { IfOk result (λ _. (line : List ℕ) → AreFoundOf line findings.old.items → IsFoundOf line finding.found
         → AreFoundOf line findings.new.items) }
+    ensures from { IfOk result (λ _. (letters : LettersValue) (lines : List (List ℕ)) → AreFrom letters lines findings.old.items
+        → IsFoundFrom letters lines finding.found → AreFrom letters lines findings.new.items) }
 {
     findings.push(finding)?;
     Ok(())
@@ -97,12 +104,16 @@ fn is_remark(text: &[u8]) -> bool {
 
 impl Reading {
     /// Before the first line.
-    pub(crate) fn new() -> Reading {
+    pub(crate) fn new() -> Reading
+        ensures from { (lines : List (List ℕ)) → IsKnown english lines result.letters result.open }
+    {
         Reading::lettered(Letters::ENGLISH)
     }
 
     /// Before the first line, where men have such letters.
-    pub(crate) fn lettered(letters: Letters) -> Reading {
+    pub(crate) fn lettered(letters: Letters) -> Reading
+        ensures from { (lines : List (List ℕ)) → IsKnown letters lines result.letters result.open }
+    {
         Reading {
             open: Open::Nothing,
             last: 0,
@@ -125,6 +136,8 @@ impl Reading {
         ensures found { IfOk result (λ _. length findings.new.items ≡ due self.old.open + length findings.old.items) }
         ensures own { IfOk result (λ _. (line : List ℕ) → AreFoundOf line findings.old.items → AreFoundOf line findings.new.items) }
         ensures next { self.new.open ≡ next }
+        ensures from { IfOk result (λ _. (letters : LettersValue) (lines : List (List ℕ)) → IsOpenFrom letters lines next
+            → IsKept letters lines self.old self.new findings.old.items findings.new.items) }
     {
         let open = std::mem::replace(&mut self.open, next);
         match open {
@@ -137,7 +150,9 @@ impl Reading {
 
     /// Passes over a line of movetext.
     fn pass(&mut self, line: &[u8])
-        ensures { due self.new.open ≡ due self.old.open }
+        ensures due { due self.new.open ≡ due self.old.open }
+        ensures from { (letters : LettersValue) (lines : List (List ℕ)) → IsKnown letters lines self.old.letters self.old.open
+            → IsKnown letters lines self.new.letters self.new.open }
     {
         let Open::Movetext(movetext) = &mut self.open else {
             return;
@@ -167,6 +182,7 @@ impl Reading {
         ensures own { IfOk result (λ _. (line : List ℕ) → AreFoundOf line findings.old.items → AreFoundOf line findings.new.items) }
         ensures tags { IfOk result (λ _. does_go_on self.old.open self.old.last number ≡ false
             → does_go_on self.new.open self.new.last number ≡ false) }
+        ensures from { IfOk result (λ _. Keeps self.old self.new findings.old.items findings.new.items) }
     {
         let has_begun = match &self.open {
             Open::Game(game) => game.is_begun,
@@ -190,6 +206,7 @@ impl Reading {
         ensures kept { IfOk result (λ _. due self.old.open + length findings.old.items ≤ due self.new.open + length findings.new.items) }
         ensures own { IfOk result (λ _. (line : List ℕ) → AreFoundOf line findings.old.items → AreFoundOf line findings.new.items) }
         ensures tags { IfOk result (λ _. has_tags self.old.open ≡ false → has_tags self.new.open ≡ false) }
+        ensures from { IfOk result (λ _. Keeps self.old self.new findings.old.items findings.new.items) }
     {
         if number <= self.last || !self.passes() {
             return Ok(());
@@ -229,6 +246,7 @@ impl Reading {
         ensures own { IfOk result (λ _. (line : List ℕ) → AreFoundOf line findings.old.items → AreFoundOf line findings.new.items) }
         ensures more { IfOk result (λ _. does_go_on self.old.open self.old.last number ≡ false
             → due self.old.open + length findings.old.items < due self.new.open + length findings.new.items) }
+        ensures from { IfOk result (λ _. Keeps self.old self.new findings.old.items findings.new.items) }
     {
         if self.goes_on(number) {
             return Ok(());
@@ -251,12 +269,15 @@ impl Reading {
         ensures own { IfOk result (λ _. (line : List ℕ) → AreFoundOf line findings.old.items → AreFoundOf line findings.new.items) }
         ensures more { IfOk result (λ _. does_go_on self.old.open self.old.last number ≡ false
             → due self.old.open + length findings.old.items < due self.new.open + length findings.new.items) }
+        ensures rest { IfOk result (λ rest. (lines : List (List ℕ)) → IsTextIn lines line.now → IsEndIn lines rest.now) }
+        ensures from { IfOk result (λ _. KeepsBy line.now self.old self.new findings.old.items findings.new.items) }
     {
         self.open_game(alloc, number, changes, findings)?;
         match &mut self.open {
             Open::Game(game) => {
                 game.changes = game.changes.and(changes);
-                game.take_line(alloc, &self.letters, line)
+                let rest = game.take_line(alloc, &self.letters, line)?;
+                Ok(rest)
             }
             _ => Ok(&[]),
         }
@@ -273,6 +294,7 @@ impl Reading {
     ) -> Result<(), AllocError>
         ensures kept { IfOk result (λ _. due self.old.open + length findings.old.items ≤ due self.new.open + length findings.new.items) }
         ensures own { IfOk result (λ _. (line : List ℕ) → AreFoundOf line findings.old.items → AreFoundOf line findings.new.items) }
+        ensures from { IfOk result (λ _. Keeps self.old self.new findings.old.items findings.new.items) }
     {
         let Open::Popeye(problem) = &mut self.open else {
             return Ok(());
@@ -302,6 +324,7 @@ impl Reading {
     ) -> Result<(), AllocError>
         ensures kept { IfOk result (λ _. due self.old.open + length findings.old.items ≤ due self.new.open + length findings.new.items) }
         ensures own { IfOk result (λ _. (line : List ℕ) → AreFoundOf line findings.old.items → AreFoundOf line findings.new.items) }
+        ensures from { IfOk result (λ _. Keeps self.old self.new findings.old.items findings.new.items) }
     {
         let Open::Olive(problem) = &mut self.open else {
             return Ok(());
@@ -324,6 +347,7 @@ impl Reading {
     ) -> Result<(), AllocError>
         ensures kept { IfOk result (λ _. due self.old.open + length findings.old.items ≤ due self.new.open + length findings.new.items) }
         ensures own { IfOk result (λ _. (line : List ℕ) → AreFoundOf line findings.old.items → AreFoundOf line findings.new.items) }
+        ensures from { IfOk result (λ _. KeepsByEnd line.now self.old self.new findings.old.items findings.new.items) }
     {
         let Open::Game(game) = &mut self.open else {
             return Ok(());
@@ -348,6 +372,7 @@ impl Reading {
     ) -> Result<(), AllocError>
         ensures kept { IfOk result (λ _. due self.old.open + length findings.old.items ≤ due self.new.open + length findings.new.items) }
         ensures own { IfOk result (λ _. (line : List ℕ) → AreFoundOf line findings.old.items → AreFoundOf line findings.new.items) }
+        ensures from { IfOk result (λ _. KeepsByEnd line.now self.old self.new findings.old.items findings.new.items) }
     {
         self.take_moves(alloc, line, findings)?;
         self.pass(line);
@@ -368,6 +393,8 @@ impl Reading {
         ensures own { IfOk result (λ _. (whole : List ℕ) → IsTextOf whole line.now → IsRecordIf is_record whole
             → AreFoundOf whole findings.old.items → AreFoundOf whole findings.new.items) }
         ensures ended { IfOk result (λ _. self.new.open ≡ Open.Nothing) }
+        ensures from { IfOk result (λ _. (letters : LettersValue) (lines : List (List ℕ)) → IsTextIn lines line.now
+            → (is_record ≡ true → HasRecord lines) → IsKept letters lines self.old self.new findings.old.items findings.new.items) }
     {
         self.finish(alloc, Open::Nothing, findings)?;
         let found = found_line(alloc, line, is_record, changes)?;
@@ -386,6 +413,8 @@ impl Reading {
     ) -> Result<(), AllocError>
         ensures more { IfOk result (λ _. due self.old.open + length findings.old.items < due self.new.open + length findings.new.items) }
         ensures own { IfOk result (λ _. (line : List ℕ) → AreFoundOf line findings.old.items → AreFoundOf line findings.new.items) }
+        ensures from { IfOk result (λ _. (letters : LettersValue) (lines : List (List ℕ)) → HasOther lines
+            → IsKept letters lines self.old self.new findings.old.items findings.new.items) }
     {
         let problem = PopeyeProblem::new(alloc, number, Changes::none(Form::Popeye));
         self.finish(alloc, Open::Popeye(problem), findings)?;
@@ -402,6 +431,8 @@ impl Reading {
     ) -> Result<(), AllocError>
         ensures more { IfOk result (λ _. due self.old.open + length findings.old.items < due self.new.open + length findings.new.items) }
         ensures own { IfOk result (λ _. (line : List ℕ) → AreFoundOf line findings.old.items → AreFoundOf line findings.new.items) }
+        ensures from { IfOk result (λ _. (letters : LettersValue) (lines : List (List ℕ)) → HasOther lines
+            → IsKept letters lines self.old self.new findings.old.items findings.new.items) }
     {
         let problem = OliveProblem::new(alloc, number, Changes::none(Form::Popeye));
         self.finish(alloc, Open::Olive(problem), findings)?;
@@ -425,6 +456,7 @@ impl Reading {
         ensures kept { IfOk result (λ _. due self.old.open + length findings.old.items ≤ due self.new.open + length findings.new.items) }
         ensures own { IfOk result (λ _. (whole : List ℕ) → IsTextOf whole line.now → ¬ (IsRecord whole)
             → AreFoundOf whole findings.old.items → AreFoundOf whole findings.new.items) }
+        ensures from { IfOk result (λ _. KeepsBy line.now self.old self.new findings.old.items findings.new.items) }
     {
         if is_border(line) {
             self.begin_olive(alloc, number, findings)?;
@@ -464,6 +496,7 @@ impl Reading {
         ensures own { IfOk result (λ _. (line : List ℕ) → AreFoundOf line findings.old.items → AreFoundOf line findings.new.items) }
         ensures more { IfOk result (λ _. does_go_on self.old.open self.old.last number ≡ false
             → due self.old.open + length findings.old.items < due self.new.open + length findings.new.items) }
+        ensures from { IfOk result (λ _. KeepsBy line.now self.old self.new findings.old.items findings.new.items) }
     {
         let rest = self.take_tags(alloc, number, line, changes, findings)?;
         if rest.is_empty() {
@@ -487,6 +520,7 @@ impl Reading {
             → AreFoundOf whole findings.old.items → AreFoundOf whole findings.new.items) }
         ensures more { IfOk result (λ _. is_tag_pair_text line.now ≡ true → does_go_on self.old.open self.old.last number ≡ false
             → due self.old.open + length findings.old.items < due self.new.open + length findings.new.items) }
+        ensures from { IfOk result (λ _. KeepsBy line.now self.old self.new findings.old.items findings.new.items) }
     {
         if begins_with(b'[', line) && (is_tag_pair(line) || !self.is_olives()) {
             return self.take_game(alloc, number, line, changes, findings);
@@ -512,6 +546,7 @@ impl Reading {
             → AreFoundOf line findings.old.items → AreFoundOf line findings.new.items) }
         ensures more { IfOk result (λ _. is_tag_pair_text text.now ≡ true → does_go_on self.old.open self.old.last number ≡ false
             → due self.old.open + length findings.old.items < due self.new.open + length findings.new.items) }
+        ensures from { IfOk result (λ _. KeepsBy text.now self.old self.new findings.old.items findings.new.items) }
     {
         if self.in_comment() && !is_tag_pair(text) {
             return self.take_movetext(alloc, text, findings);
@@ -533,6 +568,8 @@ impl Reading {
             → AreFoundOf line.now findings.new.items) }
         ensures more { IfOk result (λ _. is_tag_line line.now ≡ true → does_go_on self.old.open self.old.last number ≡ false
             → due self.old.open + length findings.old.items < due self.new.open + length findings.new.items) }
+        ensures from { IfOk result (λ _. (letters : LettersValue) (lines : List (List ℕ)) → Contains lines line.now
+            → IsKept letters lines self.old self.new findings.old.items findings.new.items) }
     {
         let mut changes = Changes::none(Form::Line);
         let text = ascii_text(alloc, &self.letters, line, &mut changes)?;
@@ -548,7 +585,8 @@ impl Reading {
 
 /// How many moves a record is to ask that is made of a line which says none, and may be a record as it stands.
 fn number_unsaid(is_record: bool) -> Number
-    ensures { (line : List ℕ) → IsRecordIf is_record line → IsAsked line Asked.Nothing result }
+    ensures from { (lines : List (List ℕ)) → (is_record ≡ true → HasRecord lines) → IsNumberFrom lines result }
+    ensures own { (line : List ℕ) → IsRecordIf is_record line → IsAsked line Asked.Nothing result }
 {
     if is_record {
         Number::Own
@@ -559,7 +597,9 @@ fn number_unsaid(is_record: bool) -> Number
 
 /// How many moves a record is to ask that is made of a line which says this, and may be a record as it stands; nothing where it says two.
 fn number_of(said: Asked, is_record: bool) -> Option<Number>
-    ensures { IfSome result (λ number. (line : List ℕ) → IsRecordIf is_record line → IsAsked line said number) }
+    ensures from { IfSome result (λ number. (lines : List (List ℕ)) → ((n : ℕ) → said ≡ Asked.Moves n → IsSaidIn lines n)
+        → (is_record ≡ true → HasRecord lines) → IsNumberFrom lines number) }
+    ensures own { IfSome result (λ number. (line : List ℕ) → IsRecordIf is_record line → IsAsked line said number) }
 {
     match said {
         Asked::Moves(moves) => Some(Number::Said(moves)),
@@ -575,7 +615,9 @@ fn found_line(
     is_record: bool,
     changes: Changes,
 ) -> Result<Found, AllocError>
-    ensures { IfOk result (λ found. (whole : List ℕ) → IsTextOf whole line.now → IsRecordIf is_record whole → IsFoundOf whole found) }
+    ensures own { IfOk result (λ found. (whole : List ℕ) → IsTextOf whole line.now → IsRecordIf is_record whole → IsFoundOf whole found) }
+    ensures from { IfOk result (λ found. (letters : LettersValue) (lines : List (List ℕ)) → IsTextIn lines line.now
+        → (is_record ≡ true → HasRecord lines) → IsFoundFrom letters lines found) }
 {
     let mut changes = changes;
     let mended = mended_line(alloc, line, &mut changes)?;
@@ -585,24 +627,27 @@ fn found_line(
     }
 }
 
-/// How many moves a record is to ask that is made of a game.
-fn number_by_tags(is_bound: bool) -> Number {
-    if is_bound {
-        Number::Any
-    } else {
-        Number::Unsaid
+/// How many moves a record is to ask that is made of a game which asks this.
+fn number_by_tags(asked: Asked) -> Number
+    ensures { (lines : List (List ℕ)) → ((n : ℕ) → asked ≡ Asked.Moves n → IsSaidIn lines n) → IsNumberFrom lines result }
+{
+    match asked {
+        Asked::Moves(moves) => Number::Said(moves),
+        Asked::Nothing | Asked::Two => Number::Unsaid,
     }
 }
 
 /// What the tag pairs of a game say.
 fn found_game(alloc: Global, game: &mut Game) -> Result<Found, AllocError>
-    ensures { IfOk result (λ found. (line : List ℕ) → IsFoundOf line found) }
+    ensures own { IfOk result (λ found. (line : List ℕ) → IsFoundOf line found) }
+    ensures from { IfOk result (λ found. (letters : LettersValue) (lines : List (List ℕ)) → IsOpenFrom letters lines (Open.Game game.old)
+        → IsFoundFrom letters lines found) }
 {
     if let Some(fault) = game.first_fault() {
         return Ok(Found::Fault(fault));
     }
+    let number = number_by_tags(game.asks());
     let text = game.text(alloc)?;
-    let number = number_by_tags(game.is_bound());
     Ok(Found::Text(text, game.changes.of(Form::Game), number))
 }
 
@@ -610,6 +655,8 @@ fn found_game(alloc: Global, game: &mut Game) -> Result<Found, AllocError>
 fn finish_game(alloc: Global, game: Game, findings: &mut Vec<Finding>) -> Result<(), AllocError>
     ensures length { IfOk result (λ _. length findings.new.items ≡ length findings.old.items + 1) }
     ensures own { IfOk result (λ _. (line : List ℕ) → AreFoundOf line findings.old.items → AreFoundOf line findings.new.items) }
+    ensures from { IfOk result (λ _. (letters : LettersValue) (lines : List (List ℕ)) → IsOpenFrom letters lines (Open.Game game)
+        → AreFrom letters lines findings.old.items → AreFrom letters lines findings.new.items) }
 {
     let mut game = game;
     let found = found_game(alloc, &mut game)?;
@@ -625,7 +672,8 @@ fn finish_game(alloc: Global, game: Game, findings: &mut Vec<Finding>) -> Result
 
 /// What a problem for Popeye says.
 fn found_popeye(alloc: Global, problem: &PopeyeProblem) -> Result<Found, AllocError>
-    ensures { IfOk result (λ found. (line : List ℕ) → IsFoundOf line found) }
+    ensures own { IfOk result (λ found. (line : List ℕ) → IsFoundOf line found) }
+    ensures from { IfOk result (λ found. (letters : LettersValue) (lines : List (List ℕ)) → HasOther lines → IsFoundFrom letters lines found) }
 {
     if let Some(fault) = problem.first_fault() {
         return Ok(Found::Fault(fault));
@@ -642,6 +690,8 @@ fn finish_popeye(
 ) -> Result<(), AllocError>
     ensures length { IfOk result (λ _. length findings.new.items ≡ length findings.old.items + 1) }
     ensures own { IfOk result (λ _. (line : List ℕ) → AreFoundOf line findings.old.items → AreFoundOf line findings.new.items) }
+    ensures from { IfOk result (λ _. (letters : LettersValue) (lines : List (List ℕ)) → HasOther lines
+        → AreFrom letters lines findings.old.items → AreFrom letters lines findings.new.items) }
 {
     let found = found_popeye(alloc, problem)?;
     push_finding(
@@ -656,7 +706,8 @@ fn finish_popeye(
 
 /// What a problem of Olive's says.
 fn found_olive(alloc: Global, problem: &mut OliveProblem) -> Result<Found, AllocError>
-    ensures { IfOk result (λ found. (line : List ℕ) → IsFoundOf line found) }
+    ensures own { IfOk result (λ found. (line : List ℕ) → IsFoundOf line found) }
+    ensures from { IfOk result (λ found. (letters : LettersValue) (lines : List (List ℕ)) → HasOther lines → IsFoundFrom letters lines found) }
 {
     if let Some(fault) = problem.first_fault() {
         return Ok(Found::Fault(fault));
@@ -673,6 +724,8 @@ fn finish_olive(
 ) -> Result<(), AllocError>
     ensures length { IfOk result (λ _. length findings.new.items ≡ length findings.old.items + 1) }
     ensures own { IfOk result (λ _. (line : List ℕ) → AreFoundOf line findings.old.items → AreFoundOf line findings.new.items) }
+    ensures from { IfOk result (λ _. (letters : LettersValue) (lines : List (List ℕ)) → HasOther lines
+        → AreFrom letters lines findings.old.items → AreFrom letters lines findings.new.items) }
 {
     let mut problem = problem;
     let found = found_olive(alloc, &mut problem)?;

@@ -1,13 +1,14 @@
 //! Texts of bytes: what stands at their ends, and their words.
 
-ghost use Rattle.std.specs.Prelude.{◌≡◌, ◌↔◌, ◌++◌, ◌∷◌, IfOk, IsTrue, drop};
+ghost use Rattle.std.specs.Prelude.{◌≡◌, ◌↔◌, ◌++◌, ◌∷◌, ℕ, List, [], IfOk, IsTrue, drop};
 ghost use Rattle.std.specs.Str.{bytes_eq};
 ghost use Rattle.chess_board.specs.Characters.{char};
 ghost use Rattle.chess_notation.specs.RecordFields.{is_number};
 ghost use Rattle.chess_notation.specs.Words.{after_spaces as text_after_spaces, after_word, behind, front_word as word_in_front};
 ghost use Rattle.chess_notation.specs.Words.{word_at as word_of_text};
 ghost use Rattle.problem_import.specs.Letters.{trimmed as trimmed_text};
-ghost use Rattle.problem_import.specs.inside.GameFens.{IsNamed};
+ghost use Rattle.problem_import.specs.inside.FieldTexts.{GoesOn};
+ghost use Rattle.problem_import.specs.Sources.{IsNamed};
 
 use chess_notation::are_digits as are_all_digits;
 use std::alloc::AllocError;
@@ -81,7 +82,9 @@ pub(crate) fn is_same(text: &[u8], other: &str) -> bool
 }
 
 /// Adds a byte.
-pub(crate) fn push_byte(text: &mut Vec<u8>, byte: u8) -> Result<(), AllocError> {
+pub(crate) fn push_byte(text: &mut Vec<u8>, byte: u8) -> Result<(), AllocError>
+    ensures { IfOk result (λ _. text.new.items ≡ text.old.items ++ byte ∷ []) }
+{
     text.push(byte)?;
     Ok(())
 }
@@ -96,7 +99,9 @@ pub(crate) fn push_word(text: &mut Vec<u8>, word: &[u8]) -> Result<(), AllocErro
 }
 
 /// Adds a number of moves, in one digit or two.
-fn push_moves(text: &mut Vec<u8>, moves: u8) -> Result<(), AllocError> {
+fn push_moves(text: &mut Vec<u8>, moves: u8) -> Result<(), AllocError>
+    ensures { IfOk result (λ _. (digits : List ℕ) × (text.new.items ≡ text.old.items ++ digits)) }
+{
     if moves > 9 {
         text.push(b'0' + moves / 10 % 10)?;
     }
@@ -104,8 +109,11 @@ fn push_moves(text: &mut Vec<u8>, moves: u8) -> Result<(), AllocError> {
 }
 
 /// Adds an operation `dm` of so many moves.
-pub(crate) fn push_bound_operation(text: &mut Vec<u8>, moves: u8) -> Result<(), AllocError> {
+pub(crate) fn push_bound_operation(text: &mut Vec<u8>, moves: u8) -> Result<(), AllocError>
+    ensures { IfOk result (λ _. GoesOn text.old.items text.new.items) }
+{
     text.extend_from_slice(b" dm ")?;
     push_moves(text, moves)?;
-    push_byte(text, b';')
+    push_byte(text, b';')?;
+    Ok(())
 }

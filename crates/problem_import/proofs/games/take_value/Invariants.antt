@@ -1,5 +1,5 @@
 use Rattle.std.proofs.Common.{◌≡◌, ◌++◌, drop, false}
-use Rattle.problem_import.specs.inside.GameFens.{value_from}
+use Rattle.problem_import.specs.Sources.{value_from}
 use Rattle.problem_import.proofs.games.take_value.Given as goal
 
 abbrev pub invariant-loop-index : goal.invariant-loop-index

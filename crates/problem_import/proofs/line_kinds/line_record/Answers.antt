@@ -1,4 +1,4 @@
-use Rattle.std.proofs.Common.{◌≡◌, ◌∙◌, ap, refl, subst, sym}
+use Rattle.std.proofs.Common.{◌≡◌, ◌∙◌, refl, subst, sym}
 use Rattle.problem_import.specs.inside.LineRecords.{IsReadBy}
 use Rattle.problem_import.proofs.LineRecords.{found_said, found_unsaid}
 use Rattle.problem_import.proofs.line_kinds.line_record.Goals as goal

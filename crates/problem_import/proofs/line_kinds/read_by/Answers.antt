@@ -1,4 +1,4 @@
-use Rattle.std.proofs.Common.{rules, refl, ap, ◌∙◌, sym}
+use Rattle.std.proofs.Common.{rules, refl, ap, sym}
 use Rattle.problem_import.specs.inside.LineRecords.{IsReadBy}
 use Rattle.problem_import.proofs.Imports.{refused_line_fault}
 use Rattle.problem_import.proofs.line_kinds.read_by.Goals as goal

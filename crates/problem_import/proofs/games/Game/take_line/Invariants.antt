@@ -1,5 +1,6 @@
 use Rattle.std.proofs.Common.{◌≡◌, ◌⊎◌}
-use Rattle.problem_import.specs.inside.GameFens.{IsFenOf}
+use Rattle.problem_import.specs.Sources.{IsFenOf, SaysMoves}
+use Rattle.problem_import.specs.inside.KnownSources.{AsksMore}
 use Rattle.problem_import.specs.inside.TagPairs.{EndsText}
 use Rattle.problem_import.proofs.games.Game.take_line.Given as goal
 
@@ -8,4 +9,5 @@ abbrev pub invariant-loop : goal.invariant-loop
 invariant-loop l = record {
   ends : EndsText l.rest l.line;
   fen : ((l.self.has_fen ≡ l.initial.self.has_fen) × (l.self.fen ≡ l.initial.self.fen)) ⊎ IsFenOf l.letters l.line l.self.fen.items;
+  asks : AsksMore (SaysMoves l.line) l.initial.self l.self;
 }

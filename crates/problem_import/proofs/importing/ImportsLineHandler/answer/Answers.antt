@@ -1,3 +1,7 @@
+use Rattle.std.proofs.Common.{ℕ, List, [], ◌∷◌, ◌++◌, sym, subst}
+use Rattle.std.proofs.lemmas.List.Elements.{Contains-append_left, Contains-push}
+use Rattle.problem_import.specs.Imports.{AreImported}
+use Rattle.problem_import.specs.inside.KnownSources.{IsKnown, IsMadeFrom, Within}
 use Rattle.problem_import.proofs.Imports.{read_reply}
 use Rattle.problem_import.proofs.importing.ImportsLineHandler.answer.Goals as goal
 
@@ -8,3 +12,21 @@ returns-clause-reply c =
     c.in_ok-printed.printed.any c.output_of.result.refused
     c.requires.filled c.in_ok-printed.ensures.imported c.in_ok-printed.ensures.clean c.in_ok-printed.ensures.kept
     c.output_of.ensures.text c.output_of.ensures.refused
+
+pub returns-clause-behind : goal.returns-clause-behind
+returns-clause-behind c = λ before known.
+    let letters = c.args.self.now.printing.letters in
+    let given = c.args.self.now.printing.bound in
+    let line = c.args.line.now in
+    let any = c.in_ok-printed.printed.any in
+    let own : (lines : List (List ℕ)) → Within (λ l. l) (before ++ line ∷ []) lines
+    → IsKnown letters lines c.reply.new.reading.letters c.reply.new.reading.open
+    × AreImported (IsMadeFrom letters given lines) c.in_ok-printed.printed.text.items any =
+    λ lines among. c.in_ok-printed.ensures.from letters lines (among line (Contains-push before line))
+    (known lines (λ l is. among l (Contains-append_left before (line ∷ []) l is))) in (
+      (
+        returns-clause-reply c,
+        (any, λ lines among. subst (λ t. AreImported (IsMadeFrom letters given lines) t any) (sym c.output_of.ensures.text) ((own lines among).1)),
+      ),
+      λ lines among. (own lines among).0,
+    )

@@ -1,3 +1,6 @@
+use Rattle.std.proofs.Common.{sym, subst}
+use Rattle.problem_import.specs.Imports.{AreImported}
+use Rattle.problem_import.specs.inside.KnownSources.{IsMadeFrom}
 use Rattle.problem_import.proofs.Imports.{long_reply}
 use Rattle.problem_import.proofs.importing.ImportsLineHandler.refuse_long.Goals as goal
 
@@ -17,3 +20,29 @@ returns-clause-reply c =
     c.push_refusal.new.self.any c.output_of-2.result.refused
     (λ line. c.in_ok-push_refusal.ensures.imported keep given line (c.new-printed.ensures.imported keep given line))
     c.output_of-2.ensures.text c.output_of-2.ensures.refused
+
+pub returns-then-passes_long-clause-behind : goal.returns-then-passes_long-clause-behind
+returns-then-passes_long-clause-behind c = λ line filled long before.
+    let letters = c.args.self.now.printing.letters in
+    let given = c.args.self.now.printing.bound in
+    let any = c.new-printed.result.any in (
+      returns-then-passes_long-clause-reply c line filled long,
+      (
+        any,
+        λ lines among. subst (λ t. AreImported (IsMadeFrom letters given lines) t any) (sym c.output_of.ensures.text)
+            (c.new-printed.ensures.from letters given lines),
+      ),
+    )
+
+pub returns-clause-behind : goal.returns-clause-behind
+returns-clause-behind c = λ line filled long before.
+    let letters = c.args.self.now.printing.letters in
+    let given = c.args.self.now.printing.bound in
+    let any = c.push_refusal.new.self.any in (
+      returns-clause-reply c line filled long,
+      (
+        any,
+        λ lines among. subst (λ t. AreImported (IsMadeFrom letters given lines) t any) (sym c.output_of-2.ensures.text)
+            (c.in_ok-push_refusal.ensures.from letters given lines (c.new-printed.ensures.from letters given lines)),
+      ),
+    )

@@ -26,3 +26,8 @@ findings-requires-clause-other c = λ is. c.in_ok-first.ensures.other (c.kind_an
 
 pub printed-requires : goal.printed-requires
 printed-requires c = rw c.as_slice.ensures.value c.in_ok-findings.ensures.own
+
+pub returns-clause-from : goal.returns-clause-from
+returns-clause-from c = λ letters lines among known.
+    let (now, found) = c.in_ok-findings.ensures.from letters lines among known in
+    (now, c.in_ok-printed.ensures.from letters lines (rw c.as_slice.ensures.value found))

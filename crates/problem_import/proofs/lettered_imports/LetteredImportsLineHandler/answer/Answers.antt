@@ -1,4 +1,9 @@
-use Rattle.std.proofs.Common.{◌∙◌}
+use Rattle.std.proofs.Common.{ℕ, List, [], ◌∷◌, ◌++◌, ◌∙◌, ◌≡◌, sym, subst}
+use Rattle.std.proofs.lemmas.List.Elements.{Contains-append_left, Contains-push}
+use Rattle.std.specs.Prelude.{Contains}
+use Rattle.lettered_placements.specs.Readings.{line_read}
+use Rattle.problem_import.specs.Imports.{AreImported}
+use Rattle.problem_import.specs.inside.KnownSources.{IsKnown, IsMadeFrom, Within}
 use Rattle.problem_import.proofs.LetteredImports.{lettered_reply}
 use Rattle.problem_import.proofs.lettered_imports.LetteredImportsLineHandler.answer.Goals as goal
 
@@ -9,3 +14,23 @@ returns-clause-reply c =
     c.output_of.result.text.items c.in_ok-printed.printed.text.items c.in_ok-printed.printed.any c.output_of.result.refused
     c.requires.filled (c.as_slice.ensures.value ∙ c.in_ok-read.ensures) c.in_ok-printed.ensures.imported c.in_ok-printed.ensures.kept
     c.output_of.ensures.text c.output_of.ensures.refused
+
+pub returns-clause-behind : goal.returns-clause-behind
+returns-clause-behind c = λ before known.
+    let letters = c.args.self.now.letters in
+    let given = c.args.self.now.imports.printing.bound in
+    let line = c.args.line.now in
+    let read = c.as_slice.result.now in
+    let is_read : line_read letters line ≡ read = sym (c.as_slice.ensures.value ∙ c.in_ok-read.ensures) in
+    let any = c.in_ok-printed.printed.any in
+    let own : (lines : List (List ℕ)) → Within (line_read letters) (before ++ line ∷ []) lines
+    → IsKnown letters lines c.reply.new.reading.letters c.reply.new.reading.open
+    × AreImported (IsMadeFrom letters given lines) c.in_ok-printed.printed.text.items any =
+    λ lines among. c.in_ok-printed.ensures.from letters lines (subst (λ l. Contains lines l) is_read (among line (Contains-push before line)))
+    (known lines (λ l is. among l (Contains-append_left before (line ∷ []) l is))) in (
+      (
+        returns-clause-reply c,
+        (any, λ lines among. subst (λ t. AreImported (IsMadeFrom letters given lines) t any) (sym c.output_of.ensures.text) ((own lines among).1)),
+      ),
+      λ lines among. (own lines among).0,
+    )

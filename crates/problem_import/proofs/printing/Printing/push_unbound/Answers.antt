@@ -1,5 +1,7 @@
 use Rattle.std.proofs.Common.{Some, ap}
 use Rattle.problem_import.proofs.KnownNumbers.{number_given}
+use Rattle.problem_import.proofs.FieldTexts.{fields_go_on}
+use Rattle.problem_import.proofs.Sources.{count_given, from_moved, then_ok}
 use Rattle.problem_import.proofs.Positions.{own_bounded}
 use Rattle.problem_import.proofs.printing.Printing.push_unbound.Goals as goal
 
@@ -14,3 +16,11 @@ pub push_text-requires-clause-number : goal.push_text-requires-clause-number
 push_text-requires-clause-number c =
     number_given c.args.changes.now.form c.of_bound-changes.result.form c.args.self.now.bound c.args.line.now c.in-Ok-Some.bound
     (Some c.get.result) c.of_bound-changes.ensures c.in-Ok-Some.is-1 (ap (λ n. Some n) c.get.ensures.moves) c.requires.number
+
+pub returns-in-Ok-Some-clause-from : goal.returns-in-Ok-Some-clause-from
+returns-in-Ok-Some-clause-from c = then_ok c.push_text.result _ _ (λ printed letters lines from.
+    printed letters lines (rw c.as_slice.ensures.value (from_moved letters lines c.args.text.now c.in_ok-bounded-in-Ok-Some.bounded.items
+    (fields_go_on c.args.text.now c.in_ok-bounded-in-Ok-Some.bounded.items (rw c.in-Ok-Some.is-0 at c.in_ok-says_asked.ensures.record)
+    c.in_ok-bounded-in-Ok-Some.ensures) from))
+    (count_given c.args.self.now.bound lines (Some c.get.result) c.in-Ok-Some.bound c.in-Ok-Some.is-1 (ap (λ n. Some n) c.get.ensures.moves)))
+    c.push_text.ensures.from

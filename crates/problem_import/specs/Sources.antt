@@ -1,0 +1,113 @@
+-- Where the position comes from of a record that `import` prints (own to this project; a tag FEN: PGN Specification, 8.1.1 and 9.7.2).
+use Rattle.std.specs.Prelude.{◌≡◌, ◌⊎◌, ◌≤◌, ◌==◌, ℕ, List, [], ◌∷◌, ◌++◌, map, take, length, codes, Contains}
+use Rattle.std.specs.Prelude.{Bool, true, false, if◌then◌else◌, Option, Some}
+use Rattle.std.specs.Char.{to_ascii_lowercase}
+use Rattle.chess_board.specs.Characters.{char}
+use Rattle.chess_board.specs.Fens.{SpellsSetup}
+use Rattle.chess_notation.specs.RecordFields.{line_fields}
+use Rattle.chess_notation.specs.Records.{RecordValue, Reads}
+use Rattle.chess_notation.specs.Words.{word_at}
+use Rattle.lettered_placements.specs.Readings.{line_read}
+use Rattle.move_words.specs.Languages.{is_english}
+use Rattle.move_words.specs.declared.languages.Letters.{Letters}
+use Rattle.problem_import.specs.Imports.{AreImported, IsRecord}
+use Rattle.problem_import.specs.Letters.{IsTextOf, trimmed}
+use Rattle.problem_import.specs.Numbers.{said}
+use Rattle.stipulations.specs.Stipulations.{asked}
+use Rattle.stipulations.specs.declared.asked.Asked.TheVariants.{Moves}
+
+-- The words are the same, whatever the size of their letters.
+abbrev pub IsNamed : (word name : List ℕ) → Type 0
+IsNamed word name = map to_ascii_lowercase word ≡ map to_ascii_lowercase name
+
+-- what stands behind the first byte of such a kind
+abbrev pub behind_byte : ℕ → List ℕ → List ℕ
+behind_byte byte [] = []
+behind_byte byte (b ∷ bs) = if b == byte then bs else behind_byte byte bs
+
+-- A value up to the next quotation mark. A backslash is none of it, and what stands behind one is, whatever it is.
+abbrev pub value_from : (is_escaped : Bool) → List ℕ → List ℕ
+value_from is_escaped [] = []
+value_from true (b ∷ bs) = b ∷ value_from false bs
+value_from false (b ∷ bs) = if b == char "\\" then value_from true bs else (if b == char "\"" then [] else b ∷ value_from false bs)
+
+-- The text has a tag of such a name: it stands behind a bracket, and this is the value behind it.
+abbrev pub HasTag : (IsName : List ℕ → Type 0) → (text value : List ℕ) → Type 0
+HasTag IsName text value = (front pair : List ℕ) × (text ≡ front ++ char "[" ∷ pair) × IsName (word_at pair)
+    × (value ≡ value_from false (behind_byte (char "\"") pair))
+
+abbrev pub IsFenName : List ℕ → Type 0
+IsFenName name = IsNamed name (codes "FEN")
+
+-- The tag may say a number of moves.
+pub data MaySay (name : List ℕ) : Type 0 where
+  stipulation : IsNamed name (codes "Stipulation") → MaySay name
+  event : IsNamed name (codes "Event") → MaySay name
+  white : IsNamed name (codes "White") → MaySay name
+  black : IsNamed name (codes "Black") → MaySay name
+  annotator : IsNamed name (codes "Annotator") → MaySay name
+
+-- a value with English letters, without white space at its ends
+abbrev pub fen_read : Letters → List ℕ → List ℕ
+fen_read letters value = trimmed (if is_english letters then value else line_read letters value)
+
+-- It is the value of a tag FEN in the text, as these letters say it.
+abbrev pub IsFenOf : Letters → (text fen : List ℕ) → Type 0
+IsFenOf letters text fen = (value : List ℕ) × HasTag IsFenName text value × (fen ≡ fen_read letters value)
+
+-- what stands before the first byte of such a kind
+abbrev pub before_byte : ℕ → List ℕ → List ℕ
+before_byte byte [] = []
+before_byte byte (b ∷ bs) = if b == byte then [] else b ∷ before_byte byte bs
+
+-- The comment stands in the text, up to the brace that ends it or the text's end.
+abbrev pub HasComment : (text comment : List ℕ) → Type 0
+HasComment text comment = (front more : List ℕ) × (text ≡ front ++ more) × (comment ≡ before_byte (char "}") more)
+
+-- The text of a game says so many moves, in a tag that may or in a comment.
+abbrev pub SaysMoves : (text : List ℕ) → ℕ → Type 0
+SaysMoves text n = (value : List ℕ) × (HasTag MaySay text value ⊎ HasComment text value) × (asked value ≡ Moves n)
+
+-- One of the lines says the text.
+abbrev pub IsTextIn : (lines : List (List ℕ)) → (text : List ℕ) → Type 0
+IsTextIn lines text = (line : List ℕ) × Contains lines line × IsTextOf line text
+
+-- The word is the name in small letters or large, or four letters of its front or more.
+abbrev pub StandsFor : (word name : List ℕ) → Type 0
+StandsFor word name = (4 ≤ length word) × IsNamed word (take (length word) name)
+
+-- With the text a problem for Popeye begins, or one of Olive's.
+abbrev pub BeginsOther : List ℕ → Type 0
+BeginsOther text = (text ≡ codes "---") ⊎ StandsFor (word_at text) (codes "BeginProblem")
+
+abbrev pub HasOther : List (List ℕ) → Type 0
+HasOther lines = (text : List ℕ) × IsTextIn lines text × BeginsOther text
+
+-- One of the lines says it, or has it in a tag FEN.
+abbrev pub IsSource : Letters → (lines : List (List ℕ)) → (source : List ℕ) → Type 0
+IsSource letters lines source = (text : List ℕ) × IsTextIn lines text × ((source ≡ text) ⊎ IsFenOf letters text source)
+
+-- One of the lines says so many moves, as a line or as one of a game.
+abbrev pub IsSaidIn : (lines : List (List ℕ)) → ℕ → Type 0
+IsSaidIn lines n = (text : List ℕ) × IsTextIn lines text × ((said text ≡ Moves n) ⊎ SaysMoves text n)
+
+-- One of the lines is a record as it stands.
+abbrev pub HasRecord : List (List ℕ) → Type 0
+HasRecord lines = (line : List ℕ) × Contains lines line × IsRecord line
+
+-- So many moves may be asked of a problem that the lines have: as many as one says, or as are given; as many as a record that asks for none, if
+-- one is among them.
+pub data MayAsk (given : Option ℕ) (lines : List (List ℕ)) (n : ℕ) : Type 0 where
+  is_said : IsSaidIn lines n → MayAsk given lines n
+  is_given : given ≡ Some n → MayAsk given lines n
+  is_own : HasRecord lines → n ≡ 3 → MayAsk given lines n
+
+-- The record has a position that one of the lines spells, or a tag FEN in one, and asks for so many moves, unless it is one of the lines; or a
+-- problem for Popeye or of Olive's begins in one.
+abbrev pub IsSourced : Letters → (given : Option ℕ) → (lines : List (List ℕ)) → (made : List ℕ) → Type 0
+IsSourced letters given lines made = HasOther lines ⊎ (Contains lines made ⊎ ((source : List ℕ) × IsSource letters lines source
+    × ((r : RecordValue) → Reads made 3 r → SpellsSetup (line_fields source) r.position × MayAsk given lines r.bound)))
+
+-- Each record that is printed has and does.
+unfoldable pub AreSourced : Letters → (given : Option ℕ) → (lines : List (List ℕ)) → (text : List ℕ) → Type 0
+AreSourced letters given lines text = (any : Bool) × AreImported (IsSourced letters given lines) text any

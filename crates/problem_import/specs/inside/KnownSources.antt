@@ -1,0 +1,141 @@
+-- Not for believing: where what is found and what is open comes from. No contract of a public call rests on it.
+use Rattle.std.specs.Prelude.{◌≡◌, ◌⊎◌, ℕ, List, [], ◌∷◌, ◌++◌, All, Contains, Bool, true, Option, Some, None}
+use Rattle.chess_notation.specs.RecordFields.{line_fields}
+use Rattle.chess_notation.specs.Records.{RecordValue, Reads}
+use Rattle.move_words.specs.declared.languages.Letters.{Letters}
+use Rattle.chess_board.specs.Characters.{char}
+use Rattle.stipulations.specs.Stipulations.{asked}
+use Rattle.stipulations.specs.declared.asked.Asked.TheVariants.{Moves}
+use Rattle.text_lines.specs.Replies.{LineReplies, RepliesBehind}
+use Rattle.problem_import.specs.Imports.{AreImported}
+use Rattle.problem_import.specs.Sources.{HasOther, HasRecord, IsSaidIn, IsSource, IsTextIn, MayAsk, MaySay, before_byte}
+use Rattle.problem_import.specs.declared.games.Game.{Game}
+use Rattle.problem_import.specs.declared.printing.ToldRecord.{ToldRecord}
+use Rattle.problem_import.specs.declared.printing.ToldRecord.TheVariants as told
+use Rattle.problem_import.specs.declared.reading.Finding.{Finding}
+use Rattle.problem_import.specs.declared.reading.Found.{Found}
+use Rattle.problem_import.specs.declared.reading.Found.TheVariants.{Text, Fault}
+use Rattle.problem_import.specs.declared.reading.Number.{Number}
+use Rattle.problem_import.specs.declared.reading.Number.TheVariants as number
+use Rattle.problem_import.specs.declared.reading.Open.{Open}
+use Rattle.problem_import.specs.declared.reading.Open.TheVariants as opens
+use Rattle.problem_import.specs.declared.reading.Reading.{Reading}
+use Rattle.problem_import.specs.inside.Findings.{Asks}
+use Rattle.problem_import.specs.inside.TagPairs.{EndsText}
+
+-- The text stands at the end of what one of the lines says.
+abbrev pub IsEndIn : (lines : List (List ℕ)) → (rest : List ℕ) → Type 0
+IsEndIn lines rest = (text : List ℕ) × IsTextIn lines text × EndsText rest text
+
+-- The text has the first four words of what one of the lines says, or of a tag FEN; or a problem for Popeye or of Olive's begins in one.
+unfoldable pub IsFrom : Letters → (lines : List (List ℕ)) → (made : List ℕ) → Type 0
+IsFrom letters lines made = HasOther lines ⊎ ((source : List ℕ) × IsSource letters lines source × (line_fields made ≡ line_fields source))
+
+-- A record is to ask so many as one of the lines says; as many as it does itself, where one is a record; any, where a problem for Popeye or of
+-- Olive's begins in one.
+abbrev pub IsNumberFrom : (lines : List (List ℕ)) → Number → Type 0
+IsNumberFrom lines (number.Said n) = IsSaidIn lines n
+IsNumberFrom lines number.Own = HasRecord lines
+IsNumberFrom lines number.Unsaid = Unit {0}
+IsNumberFrom lines number.Any = HasOther lines
+
+-- So many may be asked, where that is a number.
+unfoldable pub IsCountFrom : (given : Option ℕ) → (lines : List (List ℕ)) → Option ℕ → Type 0
+IsCountFrom given lines None = HasOther lines
+IsCountFrom given lines (Some n) = MayAsk given lines n
+
+abbrev pub IsFoundFrom : Letters → (lines : List (List ℕ)) → Found → Type 0
+IsFoundFrom letters lines (Text made changes moves) = IsFrom letters lines made.items × IsNumberFrom lines moves
+IsFoundFrom letters lines (Fault fault) = Unit {0}
+
+unfoldable pub AreFrom : Letters → (lines : List (List ℕ)) → List Finding → Type 0
+AreFrom letters lines findings = All (λ finding. IsFoundFrom letters lines finding.found) findings
+
+-- A game has a position or doesn't, as it did, and one with the same fields.
+abbrev pub KeepsFen : (old new : Game) → Type 0
+KeepsFen old new = (new.has_fen ≡ old.has_fen) × (line_fields new.fen.items ≡ line_fields old.fen.items)
+
+-- It asks what it did.
+abbrev pub KeepsAsked : (old new : Game) → Type 0
+KeepsAsked old new = (new.asked ≡ old.asked) × (new.stipulated ≡ old.stipulated)
+
+-- A tag of such a name and value says so many moves.
+abbrev pub TagSays : (name value : List ℕ) → ℕ → Type 0
+TagSays name value n = MaySay name × (asked value ≡ Moves n)
+
+-- What stands up to the next brace says so many.
+abbrev pub CommentSays : (text : List ℕ) → ℕ → Type 0
+CommentSays text n = asked (before_byte (char "}") text) ≡ Moves n
+
+-- It asks what it did, or so many moves as are said there.
+abbrev pub AsksMore : (Says : ℕ → Type 0) → (old new : Game) → Type 0
+AsksMore Says old new = ((n : ℕ) → new.asked ≡ Moves n → (old.asked ≡ Moves n) ⊎ Says n)
+    × ((n : ℕ) → new.stipulated ≡ Some (Moves n) → (old.stipulated ≡ Some (Moves n)) ⊎ Says n)
+
+-- The position of a game, and the number of moves that it asks, are of the lines.
+pub record IsGameFrom (letters : Letters) (lines : List (List ℕ)) (game : Game) : Type 0 where
+  pub fen : game.has_fen ≡ true → IsFrom letters lines game.fen.items
+  pub asked : (n : ℕ) → game.asked ≡ Moves n → IsSaidIn lines n
+  pub stipulated : (n : ℕ) → game.stipulated ≡ Some (Moves n) → IsSaidIn lines n
+
+abbrev pub IsOpenFrom : Letters → (lines : List (List ℕ)) → Open → Type 0
+IsOpenFrom letters lines opens.Nothing = Unit {0}
+IsOpenFrom letters lines (opens.Game game) = IsGameFrom letters lines game
+IsOpenFrom letters lines (opens.Movetext movetext) = Unit {0}
+IsOpenFrom letters lines (opens.Popeye problem) = HasOther lines
+IsOpenFrom letters lines (opens.Olive problem) = HasOther lines
+
+-- What is open is of the lines, and read by the letters.
+unfoldable pub IsKnown : Letters → (lines : List (List ℕ)) → (read_by : Letters) → Open → Type 0
+IsKnown letters lines read_by opened = (read_by ≡ letters) × IsOpenFrom letters lines opened
+
+-- What is open, and what was found, is of the lines still.
+abbrev pub IsKept : Letters → (lines : List (List ℕ)) → (old new : Reading) → (before after : List Finding) → Type 0
+IsKept letters lines old new before after = IsKnown letters lines old.letters old.open → AreFrom letters lines before
+    → IsKnown letters lines new.letters new.open × AreFrom letters lines after
+
+-- It is so, whatever the lines.
+abbrev pub Keeps : (old new : Reading) → (before after : List Finding) → Type 0
+Keeps old new before after = (letters : Letters) (lines : List (List ℕ)) → IsKept letters lines old new before after
+
+-- It is so where one of the lines says the text.
+abbrev pub KeepsBy : (text : List ℕ) → (old new : Reading) → (before after : List Finding) → Type 0
+KeepsBy text old new before after = (letters : Letters) (lines : List (List ℕ)) → IsTextIn lines text → IsKept letters lines old new before after
+
+-- It is so where the text stands at the end of what one of the lines says.
+abbrev pub KeepsByEnd : (rest : List ℕ) → (old new : Reading) → (before after : List Finding) → Type 0
+KeepsByEnd rest old new before after = (letters : Letters) (lines : List (List ℕ)) → IsEndIn lines rest → IsKept letters lines old new before after
+
+-- A text that is printed is of the lines, and may ask what it does; or it is one of them.
+unfoldable pub IsMadeFrom : Letters → (given : Option ℕ) → (lines : List (List ℕ)) → (made : List ℕ) → Type 0
+IsMadeFrom letters given lines made = Contains lines made
+    ⊎ (IsFrom letters lines made × (HasOther lines ⊎ ((r : RecordValue) → Reads made 3 r → MayAsk given lines r.bound)))
+
+-- Records that are printed of what is of the lines are.
+abbrev pub PrintsFrom : Letters → (given : Option ℕ) → (lines : List (List ℕ)) → (before : List ℕ) → Bool → (after : List ℕ) → Bool → Type 0
+PrintsFrom letters given lines before any after any' =
+    AreImported (IsMadeFrom letters given lines) before any → AreImported (IsMadeFrom letters given lines) after any'
+
+-- The text that tells what was changed has the fields of the text, and asks as many.
+abbrev pub TellsOf : (text : List ℕ) → Option ℕ → ToldRecord → Type 0
+TellsOf text moves (told.As more says) = (line_fields more.items ≡ line_fields text) × Asks moves more.items
+TellsOf text moves told.Not = Unit {0}
+TellsOf text moves told.Two = Unit {0}
+
+-- Where what is open is of the lines, so is what is printed.
+abbrev pub EndsFrom : (given : Option ℕ) → Reading → (text : List ℕ) → Bool → Type 0
+EndsFrom given reading text any = (letters : Letters) (lines : List (List ℕ)) → IsKnown letters lines reading.letters reading.open
+    → AreImported (IsMadeFrom letters given lines) text any
+
+-- Each of these lines stands among others as it is read: as it stands, or by letters.
+abbrev pub Within : (List ℕ → List ℕ) → (some all : List (List ℕ)) → Type 0
+Within read some all = (line : List ℕ) → Contains some line → Contains all (read line)
+
+-- What is open is of lines among which these stand.
+abbrev pub IsKnownOf : Letters → (List ℕ → List ℕ) → (before : List (List ℕ)) → Reading → Type 0
+IsKnownOf letters read before reading = (lines : List (List ℕ)) → Within read before lines → IsKnown letters lines reading.letters reading.open
+
+-- What a line may be answered, and that the records are of the lines up to it.
+abbrev pub Sourced : LineReplies → Letters → (given : Option ℕ) → (List ℕ → List ℕ) → RepliesBehind
+Sourced may letters given read before number line text refused = may number line text refused × ((any : Bool)
+    × ((lines : List (List ℕ)) → Within read (before ++ line ∷ []) lines → AreImported (IsMadeFrom letters given lines) text any))
