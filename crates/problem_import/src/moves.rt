@@ -4,7 +4,7 @@ ghost use Rattle.std.specs.Prelude.{◌≡◌, ◌≢◌, [], IfOk, IfSome, IsTr
 ghost use Rattle.chess_notation.specs.RecordFields.{fourth_word, line_fields};
 ghost use Rattle.problem_import.specs.inside.MendedMoves.{IsMeant};
 
-use crate::changes::Changes;
+use crate::changes::{Changes, Form};
 use crate::fields::{behind_counters, field_words, has_fields, push_counters};
 use crate::texts::{is_same, push_byte, push_word, trimmed, word_at};
 use crate::tokens::{Kind, segment_at, token_at};
@@ -190,7 +190,7 @@ fn mended(
 }
 
 /// A text in which each move that it claims or avoids is named in SAN, as far as one legal move can be meant; a move's number and `ep` are
-/// left out. Where there is nothing to mend, it is the text.
+/// left out. Where there is nothing to mend, it is the text. The letters of men are these, but in a problem of Olive's.
 pub(crate) fn with_moves(
     alloc: Global,
     rays: &Rays,
@@ -201,6 +201,11 @@ pub(crate) fn with_moves(
     ensures fields { IfOk result (λ made. line_fields made.items ≡ line_fields text.now) }
     ensures form { changes.new.form ≡ changes.old.form }
 {
+    // Men of Popeye's and Olive's have been given the letters of SAN.
+    let letters = match changes.form {
+        Form::Popeye => &Letters::ENGLISH,
+        Form::Line | Form::Game => letters,
+    };
     match mended(alloc, rays, letters, text)? {
         Some(mended) => {
             changes.moves = true;

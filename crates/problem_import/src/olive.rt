@@ -5,11 +5,11 @@ ghost use Rattle.std.specs.Prelude.{◌≡◌, IsTrue, codes};
 
 use crate::changes::Changes;
 use crate::diagrams::Diagram;
-use crate::games::{push_id, push_id_operation};
+use crate::games::{is_key, push_id, push_id_operation};
 use crate::import_faults::ImportFault;
 use crate::lengths::stipulation_digits;
 use crate::popeye_words::is_harmless_option;
-use crate::texts::{are_digits, is_same, trimmed, word_at};
+use crate::texts::{are_digits, is_same, push_byte, trimmed, word_at};
 use std::alloc::{AllocError, Global};
 
 /// What a key says, and the lines behind it.
@@ -46,6 +46,8 @@ pub(crate) struct OliveProblem {
     authors: Vec<u8>,
     source: Vec<u8>,
     date: Vec<u8>,
+    /// The keys that its solution names, each behind a space.
+    keys: Vec<u8>,
     diagram: Diagram,
 }
 
@@ -106,6 +108,50 @@ fn key_at(line: &[u8]) -> (Option<&[u8]>, &[u8]) {
     }
 }
 
+/// Whether what stands behind a move marks it as a key: `!`, behind a sign of check or none.
+fn marks_key(behind: &[u8]) -> bool {
+    for byte in behind {
+        match byte {
+            b'!' => return true,
+            b' ' | b'+' | b'#' => {}
+            _ => return false,
+        }
+    }
+    false
+}
+
+/// The key that a word of a solution names, `1.Qd1` or `1.Qd1!`, where the word or what stands behind it marks it as one.
+fn key_named<'t>(word: &'t [u8], behind: &[u8]) -> Option<&'t [u8]> {
+    let (key, is_marked) = match word {
+        [b'1', b'.', key @ .., b'!'] => (key, true),
+        [b'1', b'.', key @ ..] => (key, marks_key(behind)),
+        _ => return None,
+    };
+    if is_marked && is_key(key) {
+        Some(key)
+    } else {
+        None
+    }
+}
+
+/// What SAN has for a byte of a move: another letter for a knight, and another sign for a capture.
+fn in_san(byte: u8) -> u8 {
+    match byte {
+        b'S' => b'N',
+        b'*' => b'x',
+        _ => byte,
+    }
+}
+
+/// Adds a key behind a space.
+fn push_key(keys: &mut Vec<u8>, key: &[u8]) -> Result<(), AllocError> {
+    push_byte(keys, b' ')?;
+    for byte in key {
+        push_byte(keys, in_san(*byte))?;
+    }
+    Ok(())
+}
+
 /// What a key says of what stands behind it, where such a thing was said before.
 fn section_of(key: &[u8], before: Section) -> Section {
     let is_of_men = matches!(
@@ -144,6 +190,7 @@ impl OliveProblem {
             authors: Vec::new(alloc),
             source: Vec::new(alloc),
             date: Vec::new(alloc),
+            keys: Vec::new(alloc),
             diagram: Diagram::new(),
         }
     }
@@ -203,6 +250,22 @@ impl OliveProblem {
         }
     }
 
+    /// Takes a line of the solution: the keys that it names.
+    fn take_solution(&mut self, line: &[u8]) -> Result<(), AllocError> {
+        let mut rest = line;
+        for _ in 0..line.len() {
+            let (word, behind) = item_at(rest);
+            if word.is_empty() {
+                break;
+            }
+            if let Some(key) = key_named(word, behind) {
+                push_key(&mut self.keys, key)?;
+            }
+            rest = behind;
+        }
+        Ok(())
+    }
+
     /// Takes a value, or more of one.
     fn take_value(&mut self, value: &[u8]) -> Result<(), AllocError> {
         match self.section {
@@ -210,6 +273,7 @@ impl OliveProblem {
             Section::Source => push_id(&mut self.source, bare(value), &mut self.changes),
             Section::Date => push_id(&mut self.date, bare(value), &mut self.changes),
             Section::Stipulation => self.take_stipulation(value),
+            Section::Solution => self.take_solution(value),
             _ => {
                 self.take_items(value);
                 Ok(())
@@ -246,6 +310,12 @@ impl OliveProblem {
         }
         let mut text = Vec::new(alloc);
         self.diagram.push_problem(&mut text, self.bound.as_slice())?;
+        if !self.keys.is_empty() {
+            self.changes.moves = true;
+            text.extend_from_slice(b" bm")?;
+            text.extend_from_slice(self.keys.as_slice())?;
+            push_byte(&mut text, b';')?;
+        }
         push_id_operation(&mut text, id.as_slice())?;
         Ok(text)
     }
