@@ -18,7 +18,7 @@ _matedesk() {
     solve) options='--bound --memo --limit --workers --json --from --progress --record --fen -h --help' ;;
     verify) options='--bound --memo --limit --import --header --json --from --progress --record --fen -h --help' ;;
     tree) options='--bound --moves --defences --set-play --tries --column --figurines --letters --lines --json --from --progress --record --fen -h --help' ;;
-    sheet) options='--solutions --figurines --title --bound --memo -h --help' ;;
+    sheet) options='--solutions --figurines --letters --title --bound --memo -h --help' ;;
     import) options='--keep --bound --letters -h --help' ;;
     serve) options='--workers --bound --memo --progress -h --help' ;;
     look) options='--board --flip --svg --lines -h --help' ;;
@@ -30,7 +30,7 @@ _matedesk() {
     esac
     case $command,$before,$word in
     solve,--bound,* | verify,--bound,* | tree,--bound,* | tree,--moves,* | sheet,--bound,* | serve,--bound,*) mapfile -t COMPREPLY < <(compgen -W "$(echo {1..15})" -- "$word") ;;
-    tree,--letters,* | import,--letters,*) mapfile -t COMPREPLY < <(compgen -W 'cs da de en es et fi fr hu is it nl no pl pt ro ru sv' -- "$word") ;;
+    tree,--letters,* | sheet,--letters,* | import,--letters,*) mapfile -t COMPREPLY < <(compgen -W 'cs da de en es et fi fr hu is it nl no pl pt ro ru sv' -- "$word") ;;
     solve,--workers,* | serve,--workers,*) mapfile -t COMPREPLY < <(compgen -W "$(echo {1..16})" -- "$word") ;;
     solve,--memo,* | solve,--limit,* | verify,--memo,* | verify,--limit,* | tree,--lines,* | sheet,--memo,* | sheet,--title,* | serve,--memo,* | *,--from,*) ;;
     'perft --lines,--lines,' | 'perft --lines,--lines,'[!-]*) mapfile -t COMPREPLY < <(compgen -W "$(echo {0..6})" -- "$word") ;;

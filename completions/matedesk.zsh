@@ -76,6 +76,7 @@ _matedesk() {
             _arguments $help \
                 '--solutions[solve the problems]' \
                 '--figurines[show pieces as figurines in solutions]' \
+                '--letters=[letters of men in solutions]:letters:(cs da de en es et fi fr hu is it nl no pl pt ro ru sv)' \
                 '--title[what the page is called]:title: ' \
                 '--bound=[moves within which a record without dm asks for mate]:bound:(1 2 3 4 5 6 7 8 9 10 11 12 13 14 15)' \
                 '--memo=[positions that are remembered]:positions: ' \

@@ -49,7 +49,7 @@ pub data Asked : Type 0 where
   verify_limited_json : ℕ → ℕ → ℕ → ℕ → List Text → Asked
   tree : ℕ → TreeForm → Text → ℕ → List Text → Asked
   tree_json : ℕ → TreeForm → Text → ℕ → List Text → Asked
-  sheet : ℕ → ℕ → SheetForm → Text → List Text → Asked
+  sheet : ℕ → ℕ → SheetForm → Text → Text → List Text → Asked
   imports : Bool → Option ℕ → Text → List Text → Asked
   serve : ℕ → ℕ → ℕ → List Text → Asked
   replay : Text → Asked
@@ -248,9 +248,9 @@ sheet_form_in rows = record { solutions = is_given (codes "solutions") rows; fig
 -- what the arguments of `sheet` ask for
 unfoldable pub sheet_in : List Row → Option Asked
 sheet_in rows =
-    option_and_then (λ bound. option_and_then
-    (λ memo. option_and_then (λ title. option_map (λ names. sheet bound memo (sheet_form_in rows) title names)
-    (all_of (codes "FILE") rows)) (first_of (codes "T") rows)) (memo_size_in rows)) (bound_in rows)
+    option_and_then (λ bound. option_and_then (λ memo. option_and_then
+    (λ letters. option_and_then (λ title. option_map (λ names. sheet bound memo (sheet_form_in rows) letters title names)
+    (all_of (codes "FILE") rows)) (first_of (codes "T") rows)) (first_of (codes "L") rows)) (memo_size_in rows)) (bound_in rows)
 
 -- what the arguments of `import` ask for: whether what was changed is told, the bound of problems that say none, if one is given, the letters
 -- of men, and files

@@ -143,9 +143,9 @@ tree_app = with_lines_of_files (with_rule (with_tree_options (new_app (codes "tr
 unfoldable pub with_sheet_flags : App → App
 with_sheet_flags a = with_rule (with_rule a (flag_rule (codes "solutions"))) (flag_rule (codes "figurines"))
 
--- with the options of `sheet`: these, and the title
+-- with the options of `sheet`: these, the letters of men, and the title
 unfoldable pub with_sheet_options : App → App
-with_sheet_options a = with_rule (with_sheet_flags a) title_rule
+with_sheet_options a = with_rule (with_rule (with_sheet_flags a) letters_rule) title_rule
 
 unfoldable pub sheet_app : App
 sheet_app = with_rule (with_solving_options (with_sheet_options (new_app (codes "sheet"))) (codes "65536")) files_rule

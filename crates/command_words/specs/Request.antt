@@ -34,7 +34,7 @@ plan_of (VerifyLimitedJson asked) =
     verify_limited_json asked.seconds asked.bound asked.memo asked.files.from (map (λ s. s.now) asked.files.names.now)
 plan_of (Tree bound form letters files) = tree bound form letters.now files.from (map (λ s. s.now) files.names.now)
 plan_of (TreeJson bound form letters files) = tree_json bound form letters.now files.from (map (λ s. s.now) files.names.now)
-plan_of (Sheet bound memo form title names) = sheet bound memo form title.now (map (λ s. s.now) names.now)
+plan_of (Sheet bound memo form letters title names) = sheet bound memo form letters.now title.now (map (λ s. s.now) names.now)
 plan_of (Import keep bound letters names) = imports keep bound letters.now (map (λ s. s.now) names.now)
 plan_of (Serve workers bound memo names) = serve workers bound memo (map (λ s. s.now) names.now)
 plan_of (Replay name) = replay name.now

@@ -196,7 +196,7 @@ static VERIFY_BOUND: Row = Row {
     ..OPEN_BOUND
 };
 
-/// The letters of men, where problems are imported.
+/// The letters of men, where problems are imported or their solutions are told.
 static LETTERS: Row = Row {
     id: "L",
     long: "letters",

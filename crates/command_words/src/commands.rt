@@ -235,6 +235,7 @@ static SHEET: Subcommand = Subcommand {
     arguments: &[
         Argument::Solutions,
         Argument::Figurines,
+        Argument::Letters,
         Argument::Title,
         Argument::Bound,
         Argument::Memo,

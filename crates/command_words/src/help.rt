@@ -229,7 +229,8 @@ number, a diagram, `#N` (the bound), how many men each side has (7+5) and what `
 record, which a click copies. At its end stand the lines that are refused, by FILE:K CODE,
 and with --solutions, before them, each problem's solution as `tree --defences --column`
 tells it, behind what isn't sound (`short`, `cooked`), or that there is no mate within its
-bound. Nothing is solved without it.
+bound. Nothing is solved without it. With --letters KDTLSB, or `de`, pieces have these letters
+there in place of KQRBNP; with --figurines they are figurines.
 
 The page is made whole before any of it is written: where a file can't be read, nothing is.
 
@@ -241,7 +242,7 @@ The FILE `-` is standard input; a file by that name is `./-`.
 Status:
   0  every line was a record or blank
   1  a line was refused; the page has all others
-  2  no FILE, an unknown option, or a number outside its range
+  2  no FILE, an unknown option, a number outside its range, or no letters of men
   3  no memory
   4  a file can't be read, or the output can't be written";
 
@@ -269,7 +270,7 @@ pub const ABOUT_COLUMN: &str = "Prints each tree on one line, as a solution colu
 /// The option `--figurines` of `tree` in one line.
 pub const ABOUT_TREE_FIGURINES: &str = "Shows pieces as figurines in the lines of the tree";
 
-/// The option `--letters` of `tree` and `import` in one line.
+/// The option `--letters` of `tree`, `sheet` and `import` in one line.
 pub const ABOUT_LETTERS: &str =
     "The letters of men: six for king, queen, rook, bishop, knight, pawn, or a language, as `de`";
 

@@ -156,9 +156,9 @@ pub enum Request<'m, 'a> {
     Tree(Bound, TreeForm, &'a str, Files<'m, 'a>),
     /// The same in JSON.
     TreeJson(Bound, TreeForm, &'a str, Files<'m, 'a>),
-    /// Make a page of the records of files, in order, in such a form and with such a title. Solutions are found over a memo of such a size;
-    /// the bound is for records that say none.
-    Sheet(Bound, MemoSize, SheetForm, &'a str, &'m [&'a str]),
+    /// Make a page of the records of files, in order, in such a form, and with such a title, the second word. Solutions are found over a memo
+    /// of such a size, and the first word gives the letters of men in them; the bound is for records that say none.
+    Sheet(Bound, MemoSize, SheetForm, &'a str, &'a str, &'m [&'a str]),
     /// Make records of the problems of files, in order; whether what was changed is told in them. Where a bound is given, it is for problems
     /// that say none, which are else refused. A word gives the letters of men.
     Import(bool, Option<Bound>, &'a str, &'m [&'a str]),
@@ -650,10 +650,11 @@ fn sheet_in<'m, 'a>(matches: &'m ArgMatches<'a>) -> Option<Request<'m, 'a>>
 {
     let bound = bound_in(matches)?;
     let memo = memo_size_in(matches)?;
-    let title = text_in(matches, "T")?;
     let form = sheet_form_in(matches);
+    let letters = text_in(matches, "L")?;
+    let title = text_in(matches, "T")?;
     let names = names_in(matches, "FILE")?;
-    Some(Request::Sheet(bound, memo, form, title, names))
+    Some(Request::Sheet(bound, memo, form, letters, title, names))
 }
 
 /// What the arguments of `import` ask for.

@@ -96,7 +96,7 @@ ends_unstarted holds refuses ends none unsolved (Some (verify_json bound memo fr
 ends_unstarted holds refuses ends none unsolved (Some (verify_imported bound memo header from names)) threads out = cc
 ends_unstarted holds refuses ends none unsolved (Some (tree bound form letters from names)) threads out = cc
 ends_unstarted holds refuses ends none unsolved (Some (tree_json bound form letters from names)) threads out = cc
-ends_unstarted holds refuses ends none unsolved (Some (sheet bound memo form title names)) threads out = cc
+ends_unstarted holds refuses ends none unsolved (Some (sheet bound memo form letters title names)) threads out = cc
 ends_unstarted holds refuses ends none unsolved (Some (imports keep bound letters names)) threads out = cc
 ends_unstarted holds refuses ends none unsolved (Some (replay name)) threads out = cc
 ends_unstarted holds refuses ends none unsolved (Some (explain words)) threads out = cc

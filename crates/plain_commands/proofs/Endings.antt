@@ -63,7 +63,7 @@ stops_unread none late untold holds refuses (Some (tree bound form letters from 
     record { gained = []; shows = untold holds bound (tree_form_of form letters) from names; appends = Appends-kept old old new [] (Appends-nil old) kept }
 stops_unread none late untold holds refuses (Some (tree_json bound form letters from names)) old new kept =
     json_at_once holds refuses Tree (IsTreeReply (tree_form_of form letters) bound) from names old new kept
-stops_unread none late untold holds refuses (Some (sheet bound memo form title names)) old new kept = kept
+stops_unread none late untold holds refuses (Some (sheet bound memo form letters title names)) old new kept = kept
 stops_unread none late untold holds refuses (Some (imports keep bound letters names)) old new kept =
     imports_at_once holds refuses (letters_in letters) keep bound names old new kept
 stops_unread none late untold holds refuses (Some (serve workers bound memo names)) old new kept = kept
@@ -95,7 +95,7 @@ no_reader holds refuses (verify_limited seconds bound memo header from names) ol
 no_reader holds refuses (verify_limited_json seconds bound memo from names) old new stops = stops
 no_reader holds refuses (tree bound form letters from names) old new stops = stops
 no_reader holds refuses (tree_json bound form letters from names) old new stops = stops
-no_reader holds refuses (sheet bound memo form title names) old new stops = stops
+no_reader holds refuses (sheet bound memo form letters title names) old new stops = stops
 no_reader holds refuses (imports keep bound letters names) old new stops = stops
 no_reader holds refuses (serve workers bound memo names) old new stops = stops
 no_reader holds refuses (replay name) old new stops = stops

@@ -28,7 +28,7 @@ use Rattle.plain_commands.specs.Replayed.{ReplaysFile, StopsReplaying}
 use Rattle.file_solving.specs.Solved.{Solves, SolvesLimited, StopsLimited, StopsSolving}
 use Rattle.file_verifying.specs.Verified.{LimitedHeaded, StopsHeaded, StopsLimitedHeaded, VerifiesHeaded}
 use Rattle.plain_commands.specs.Told.{StopsTelling, Tells, tree_form_of}
-use Rattle.plain_commands.specs.Sheeted.{Sheets, StopsSheet}
+use Rattle.plain_commands.specs.Sheeted.{Sheets, StopsSheet, page_form_of}
 use Rattle.plain_commands.specs.Imported.{ImportsFiles, StopsImporting, letters_in}
 use Rattle.plain_commands.specs.Served.{HaveNoWindows, Serves}
 
@@ -57,7 +57,7 @@ Shows holds (verify_limited seconds bound memo header from names) refused text =
 Shows holds (verify_limited_json seconds bound memo from names) refused text = VerifiesLimitedJson holds bound from names refused 0 text
 Shows holds (tree bound form letters from names) refused text = Tells holds bound (tree_form_of form letters) from names refused text
 Shows holds (tree_json bound form letters from names) refused text = TellsJson holds bound (tree_form_of form letters) from names refused text
-Shows holds (sheet bound memo form title names) refused text = Sheets holds bound form title names refused text
+Shows holds (sheet bound memo form letters title names) refused text = Sheets holds bound (page_form_of form letters) title names refused text
 Shows holds (imports keep bound letters names) refused text = ImportsFiles holds (letters_in letters) keep bound names refused text
 Shows holds (serve workers bound memo names) refused text = Serves holds bound names refused text
 Shows holds (replay name) refused text = ReplaysFile (holds name) refused text
@@ -108,7 +108,8 @@ Stops holds refuses (tree bound form letters from names) stop old new =
     StopsTelling holds refuses bound (tree_form_of form letters) from names stop old new
 Stops holds refuses (tree_json bound form letters from names) stop old new =
     StopsTellingJson holds refuses bound (tree_form_of form letters) from names stop old new
-Stops holds refuses (sheet bound memo form title names) stop old new = StopsSheet holds refuses bound form title names stop old new
+Stops holds refuses (sheet bound memo form letters title names) stop old new =
+    StopsSheet holds refuses bound (page_form_of form letters) title names stop old new
 Stops holds refuses (imports keep bound letters names) stop old new = StopsImporting holds refuses (letters_in letters) keep bound names
     stop old new
 Stops holds refuses (serve workers bound memo names) stop old new = StopsServing holds refuses bound names stop old new
@@ -122,11 +123,13 @@ abbrev pub StopsBy : (Text → Option (List ℕ)) → (Text → Type 0) → Opti
 StopsBy holds refuses None stop old new = Keeps old new
 StopsBy holds refuses (Some asks) stop old new = Stops holds refuses asks stop old new
 
--- Problems are asked to be imported, or trees to be told, with letters of men that these words give, or something else is asked for.
+-- Problems are asked to be imported, trees to be told, or a page to be made, with letters of men that these words give, or something
+-- else is asked for.
 abbrev pub has_letters : Asked → Bool
 has_letters (imports keep bound letters names) = is_some (letters_said letters)
 has_letters (tree bound form letters from names) = is_some (letters_said letters)
 has_letters (tree_json bound form letters from names) = is_some (letters_said letters)
+has_letters (sheet bound memo form letters title names) = is_some (letters_said letters)
 has_letters _ = true
 
 -- The words ask for nothing, for `serve` with more files than there are windows for, or for letters of men that there are none of.
@@ -136,6 +139,7 @@ AsksInVain (Some (serve workers bound memo names)) = HaveNoWindows names
 AsksInVain (Some (imports keep bound letters names)) = letters_said letters ≡ None
 AsksInVain (Some (tree bound form letters from names)) = letters_said letters ≡ None
 AsksInVain (Some (tree_json bound form letters from names)) = letters_said letters ≡ None
+AsksInVain (Some (sheet bound memo form letters title names)) = letters_said letters ≡ None
 AsksInVain (Some asks) = ⊥
 
 -- How the program ends, by what the words ask for, what names hold, and which names may be refused. Help and the version are

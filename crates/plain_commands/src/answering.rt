@@ -56,7 +56,8 @@ fn has_letters(request: &Request) -> bool
     match request {
         Request::Import(_, _, letters, _)
         | Request::Tree(_, _, letters, _)
-        | Request::TreeJson(_, _, letters, _) => Letters::said(letters).is_some(),
+        | Request::TreeJson(_, _, letters, _)
+        | Request::Sheet(_, _, _, letters, _, _) => Letters::said(letters).is_some(),
         _ => true,
     }
 }
@@ -105,11 +106,12 @@ fn answer<S: Source, O: Write, E: Write>(
         Request::TreeJson(bound, form, letters, files) => {
             tree_json(alloc, *bound, *form, letters, files, source, out, err)
         }
-        Request::Sheet(bound, size, form, title, names) => {
+        Request::Sheet(bound, size, form, letters, title, names) => {
             let asked = SheetAsked {
                 bound: *bound,
                 size: *size,
                 form: *form,
+                letters,
                 title,
             };
             sheet(alloc, &asked, names, source, out, err)

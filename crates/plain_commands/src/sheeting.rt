@@ -5,6 +5,7 @@ ghost use Rattle.file_answers.specs.Sources.{SomeRefused};
 ghost use Rattle.file_answers.specs.Writing.{Gains};
 ghost use Rattle.plain_commands.specs.Sheeted.{Sheets, StopsSheet, page_form_of};
 
+use crate::letters::{letters_in, pieces_of};
 use byte_streams::{Stop, put};
 use chess_moves::Rays;
 use chess_problems::Bound;
@@ -15,13 +16,14 @@ use problem_sheets::{Form, add_files, page_text};
 use std::alloc::Global;
 use std::io::Write;
 
-/// What a page is to be: the bound of records that say none, the size of the memo for solutions, what stands beside the diagrams, and
-/// the title.
+/// What a page is to be: the bound of records that say none, the size of the memo for solutions, what stands beside the diagrams, the word
+/// that gives the letters of men in solutions, and the title.
 #[derive(Clone, Copy)]
 pub struct SheetAsked<'a> {
     pub bound: Bound,
     pub size: MemoSize,
     pub form: SheetForm,
+    pub letters: &'a str,
     pub title: &'a str,
 }
 
@@ -32,13 +34,13 @@ struct Page {
     refused: bool,
 }
 
-/// What a page has, as the words ask for it.
-fn form_of(form: &SheetForm) -> Form
-    ensures { result ≡ page_form_of form.now }
+/// What a page has, as the words ask for it, of which one gives the letters of men.
+fn form_of(form: &SheetForm, letters: &str) -> Form
+    ensures { result ≡ page_form_of form.now letters.now }
 {
     Form {
         solutions: form.solutions,
-        figurines: form.figurines,
+        pieces: pieces_of(form.figurines, letters_in(letters)),
     }
 }
 
@@ -62,8 +64,8 @@ fn page_of<S: Source, E: Write>(
     source: &S,
     err: &mut E,
 ) -> Result<Page, Stop>
-    ensures ok { IfOk result (λ page. Sheets (S.holds source.now) asked.now.bound asked.now.form asked.now.title.now
-        (map (λ s. s.now) names.now) page.refused page.text.items) }
+    ensures ok { IfOk result (λ page. Sheets (S.holds source.now) asked.now.bound (page_form_of asked.now.form asked.now.letters.now)
+        asked.now.title.now (map (λ s. s.now) names.now) page.refused page.text.items) }
     ensures err { IfErr result (λ stop. (stop ≡ Stop.NoMemory)
         ⊎ ((stop ≡ Stop.Unreadable) × SomeRefused (S.refuses source.now) (map (λ s. s.now) names.now))) }
 {
@@ -71,7 +73,7 @@ fn page_of<S: Source, E: Write>(
     let rays = Rays::new();
     let contents = add_files(alloc, &rays, asked.bound, names, files.as_slice())?;
     let mut memo = new_memo(alloc, entries_of(asked))?;
-    let form = form_of(&asked.form);
+    let form = form_of(&asked.form, asked.letters);
     let text = page_text(alloc, &rays, &form, asked.title, &contents, &mut memo)?;
     Ok(Page {
         text,
@@ -89,10 +91,11 @@ pub fn sheet<S: Source, O: Write, E: Write>(
     out: &mut O,
     err: &mut E,
 ) -> Result<bool, Stop>
-    ensures ok { IfOk result (λ refused. Gains (Sheets (S.holds source.now) asked.now.bound asked.now.form asked.now.title.now
-        (map (λ s. s.now) names.now) refused) (O.contents out.old) (O.contents out.new)) }
-    ensures err { IfErr result (λ stop. StopsSheet (S.holds source.now) (S.refuses source.now) asked.now.bound asked.now.form
-        asked.now.title.now (map (λ s. s.now) names.now) stop (O.contents out.old) (O.contents out.new)) }
+    ensures ok { IfOk result (λ refused. Gains (Sheets (S.holds source.now) asked.now.bound (page_form_of asked.now.form asked.now.letters.now)
+        asked.now.title.now (map (λ s. s.now) names.now) refused) (O.contents out.old) (O.contents out.new)) }
+    ensures err { IfErr result (λ stop. StopsSheet (S.holds source.now) (S.refuses source.now) asked.now.bound
+        (page_form_of asked.now.form asked.now.letters.now) asked.now.title.now (map (λ s. s.now) names.now) stop
+        (O.contents out.old) (O.contents out.new)) }
 {
     let page = page_of(alloc, asked, names, source, err)?;
     put(out, page.text.as_slice())?;

@@ -3,9 +3,9 @@
 ghost use Rattle.std.specs.Prelude.{◌≡◌, IfErr, IfOk, map};
 ghost use Rattle.file_answers.specs.Writing.{Gains};
 ghost use Rattle.json_commands.specs.Told.{StopsTellingJson, TellsJson};
-ghost use Rattle.plain_commands.specs.Told.{StopsTelling, Tells, TellsNone, pieces_of as pieces_asked, tree_form_of};
+ghost use Rattle.plain_commands.specs.Told.{StopsTelling, Tells, TellsNone, tree_form_of};
 
-use crate::letters::letters_in;
+use crate::letters::{letters_in, pieces_of};
 use byte_streams::{Input, Stop};
 use chess_moves::Rays;
 use chess_problems::Bound;
@@ -14,8 +14,7 @@ use file_answers::{FileAnswers, FileStart, Source, answer_files, write_lines_fro
 use file_solving::new_memo;
 use json_commands::tell_json;
 use mate_search::Memo;
-use mate_tree::{Form, Pieces, TreeReplies};
-use move_words::Letters;
+use mate_tree::{Form, TreeReplies};
 use std::alloc::Global;
 use std::io::Write;
 
@@ -28,19 +27,6 @@ struct TreeAnswers<'a> {
     rays: &'a Rays,
     bound: Bound,
     form: Form,
-}
-
-/// What stands for pieces: figurines, or such letters.
-fn pieces_of(figurines: bool, letters: Letters) -> Pieces
-    ensures { result ≡ pieces_asked figurines letters }
-{
-    if figurines {
-        Pieces::Figurines
-    } else if letters.is_english() {
-        Pieces::San
-    } else {
-        Pieces::Letters(letters)
-    }
 }
 
 /// What is shown of a tree, as the words ask for it, of which one gives the letters of men.

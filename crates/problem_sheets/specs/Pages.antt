@@ -35,7 +35,7 @@ unfoldable pub framed_text : List ℕ → List ℕ
 framed_text solutions = codes "<div>\n" ++ solutions ++ codes "</div>\n"
 
 abbrev pub solutions_text : Form → ContentsValue → List ℕ
-solutions_text form c = if form.solutions then section_text (codes "Solutions") (framed_text (solutions_from form.figurines 1 c.records)) else []
+solutions_text form c = if form.solutions then section_text (codes "Solutions") (framed_text (solutions_from form.pieces 1 c.records)) else []
 
 -- the whole page
 unfoldable pub page_text : Form → List ℕ → ContentsValue → List ℕ

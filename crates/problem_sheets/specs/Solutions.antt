@@ -1,5 +1,5 @@
 -- The solutions on the last pages.
-use Rattle.std.specs.Prelude.{ℕ, ◌+◌, ◌==◌, List, [], ◌∷◌, ◌++◌, codes, length, decimal, nat_lt, None, Bool, true, false, if◌then◌else◌}
+use Rattle.std.specs.Prelude.{ℕ, ◌+◌, ◌==◌, List, [], ◌∷◌, ◌++◌, codes, length, decimal, nat_lt, None, true, false, if◌then◌else◌}
 use Rattle.std.specs.List.{flat_map}
 use Rattle.chess_board.specs.Characters.{char}
 use Rattle.chess_notation.specs.Records.{RecordValue, problem_of}
@@ -7,7 +7,8 @@ use Rattle.chess_problems.specs.declared.outcomes.Outcome.{Outcome}
 use Rattle.chess_problems.specs.declared.outcomes.Outcome.TheVariants.{Mate, NoMate}
 use Rattle.mate_search.specs.inside.Truth.{truth}
 use Rattle.mate_tree.specs.declared.forms.Form.{Form}
-use Rattle.mate_tree.specs.declared.forms.Pieces.TheVariants.{San}
+use Rattle.mate_tree.specs.declared.forms.Pieces.{Pieces}
+use Rattle.mate_tree.specs.declared.forms.Pieces.TheVariants.{San, Figurines}
 use Rattle.mate_tree.specs.Layouts.{column_text}
 use Rattle.mate_tree.specs.Trees.{shown_lines, tree_lines}
 
@@ -22,24 +23,31 @@ figurine b =
     else b ∷ []
 
 -- moves with letters, or with figurines
-abbrev pub moves_text : Bool → List ℕ → List ℕ
-moves_text figurines text = if figurines then flat_map figurine text else text
+abbrev pub moves_text : Pieces → List ℕ → List ℕ
+moves_text Figurines text = flat_map figurine text
+moves_text _ text = text
+
+-- the letters of a column; where figurines are to stand for pieces, those of SAN, whose place they take
+abbrev pub column_pieces : Pieces → Pieces
+column_pieces Figurines = San
+column_pieces letters = letters
 
 -- what is shown of a solution: the defences that parry alone, in a column
-abbrev pub solution_form : Form
-solution_form = record {
+abbrev pub solution_form : Pieces → Form
+solution_form pieces = record {
   moves = None;
   defences = true;
   set_play = false;
   tries = false;
   lines = None;
   column = true;
-  pieces = San;
+  pieces = column_pieces pieces;
 }
 
 -- a solution as a magazine's column has it
-abbrev pub solved_text : Bool → RecordValue → Outcome → List ℕ
-solved_text figurines r o = moves_text figurines (column_text (shown_lines solution_form (tree_lines solution_form (problem_of r) o)))
+abbrev pub solved_text : Pieces → RecordValue → Outcome → List ℕ
+solved_text pieces r o =
+    let form = solution_form pieces in moves_text pieces (column_text (shown_lines form (tree_lines form (problem_of r) o)))
 
 -- a mate in fewer moves than are asked for
 unfoldable pub lengths_text : ℕ → ℕ → List ℕ
@@ -58,14 +66,13 @@ flags_text bound (Mate dm keys pv) = short_text bound dm ++ cooked_text (length 
 flags_text bound NoMate = codes " <i>no mate in " ++ decimal bound ++ codes "</i>"
 
 -- the problem's number, what is not sound of it, and its solution, by what there is to say of it
-abbrev pub told_text : Bool → ℕ → RecordValue → Outcome → List ℕ
-told_text figurines n r o =
-    codes "<p><b>" ++ decimal n ++ codes "</b>" ++ flags_text r.bound o ++ solved_text figurines r o ++ codes "</p>\n"
+abbrev pub told_text : Pieces → ℕ → RecordValue → Outcome → List ℕ
+told_text pieces n r o = codes "<p><b>" ++ decimal n ++ codes "</b>" ++ flags_text r.bound o ++ solved_text pieces r o ++ codes "</p>\n"
 
 -- the same by what is true of it
-unfoldable pub solution_text : Bool → ℕ → RecordValue → List ℕ
-solution_text figurines n r = told_text figurines n r (truth (problem_of r))
+unfoldable pub solution_text : Pieces → ℕ → RecordValue → List ℕ
+solution_text pieces n r = told_text pieces n r (truth (problem_of r))
 
-unfoldable pub solutions_from : Bool → ℕ → List RecordValue → List ℕ
-solutions_from figurines n [] = []
-solutions_from figurines n (r ∷ rs) = solution_text figurines n r ++ solutions_from figurines (n + 1) rs
+unfoldable pub solutions_from : Pieces → ℕ → List RecordValue → List ℕ
+solutions_from pieces n [] = []
+solutions_from pieces n (r ∷ rs) = solution_text pieces n r ++ solutions_from pieces (n + 1) rs

@@ -14,6 +14,7 @@ use byte_streams::NoMemory;
 use chess_board::Colour;
 use chess_moves::Rays;
 use mate_search::Memo;
+use mate_tree::Pieces;
 use std::alloc::{AllocError, Global};
 
 /// What a page has beside its diagrams.
@@ -21,8 +22,8 @@ use std::alloc::{AllocError, Global};
 pub struct Form {
     /// Whether the problems are solved, and their solutions told on the last pages.
     pub solutions: bool,
-    /// Whether pieces are told by figurines there, in place of letters.
-    pub figurines: bool,
+    /// What stands for pieces there.
+    pub pieces: Pieces,
 }
 
 /// Adds what each page begins with.
@@ -117,7 +118,7 @@ fn push_solutions_if_asked(
     }
     let notation = Notation {
         rays,
-        figurines: form.figurines,
+        pieces: form.pieces,
     };
     let mut solutions = Vec::new(alloc);
     push_solutions(

@@ -2,7 +2,7 @@
 
 ghost use Rattle.std.specs.Prelude.{◌≡◌, ◌++◌, IfOk, codes, decimal};
 ghost use Rattle.chess_problems.specs.Outcomes.{IsPlayable};
-ghost use Rattle.problem_sheets.specs.Solutions.{cooked_text, figurine, flags_text, lengths_text, moves_text, short_text};
+ghost use Rattle.problem_sheets.specs.Solutions.{column_pieces, cooked_text, figurine, flags_text, lengths_text, moves_text, short_text};
 ghost use Rattle.problem_sheets.specs.Solutions.{solution_form as solution_form_of, solution_text, solutions_from, solved_text};
 
 use crate::diagrams::push_number;
@@ -19,8 +19,8 @@ use std::slice::from_ref;
 #[derive(Clone, Copy)]
 pub(crate) struct Notation<'a> {
     pub rays: &'a Rays,
-    /// Whether pieces are figurines, in place of letters.
-    pub figurines: bool,
+    /// What stands for pieces.
+    pub pieces: Pieces,
 }
 
 /// What stands for a character, a figurine for a piece's letter.
@@ -43,10 +43,10 @@ fn figurine(byte: &u8) -> &[u8]
 }
 
 /// Adds moves, with letters or with figurines.
-fn push_moves(text: &mut Vec<u8>, figurines: bool, moves: &[u8]) -> Result<(), AllocError>
-    ensures { IfOk result (λ _. text.new.items ≡ text.old.items ++ moves_text figurines moves.now) }
+fn push_moves(text: &mut Vec<u8>, pieces: Pieces, moves: &[u8]) -> Result<(), AllocError>
+    ensures { IfOk result (λ _. text.new.items ≡ text.old.items ++ moves_text pieces moves.now) }
 {
-    if !figurines {
+    if !matches!(pieces, Pieces::Figurines) {
         return text.extend_from_slice(moves);
     }
     for byte in moves {
@@ -55,9 +55,19 @@ fn push_moves(text: &mut Vec<u8>, figurines: bool, moves: &[u8]) -> Result<(), A
     Ok(())
 }
 
+/// The letters of a column; where figurines are to stand for pieces, those of SAN, whose place they take.
+fn column_pieces(pieces: Pieces) -> Pieces
+    ensures { result ≡ column_pieces pieces }
+{
+    match pieces {
+        Pieces::San | Pieces::Figurines => Pieces::San,
+        Pieces::Letters(letters) => Pieces::Letters(letters),
+    }
+}
+
 /// What is shown of a solution: the defences that parry alone, in a column.
-fn solution_form() -> Form
-    ensures { result ≡ solution_form_of }
+fn solution_form(pieces: Pieces) -> Form
+    ensures { result ≡ solution_form_of pieces }
 {
     Form {
         moves: None,
@@ -66,7 +76,7 @@ fn solution_form() -> Form
         tries: false,
         lines: None,
         column: true,
-        pieces: Pieces::San,
+        pieces: column_pieces(pieces),
     }
 }
 
@@ -80,19 +90,19 @@ fn push_solved(
     memo: &mut Memo,
 ) -> Result<(), NoMemory>
     requires { IsPlayable «record».now.position outcome.now }
-    ensures text { IfOk result (λ _. text.new.items ≡ text.old.items ++ solved_text notation.now.figurines «record».now outcome.now) }
+    ensures text { IfOk result (λ _. text.new.items ≡ text.old.items ++ solved_text notation.now.pieces «record».now outcome.now) }
     ensures room { memo.new.room ≡ memo.old.room }
 {
     let mut moves = Vec::new(alloc);
     push_column(
         notation.rays,
-        solution_form(),
+        solution_form(notation.pieces),
         record,
         outcome,
         memo,
         &mut moves,
     )?;
-    push_moves(text, notation.figurines, moves.as_slice())?;
+    push_moves(text, notation.pieces, moves.as_slice())?;
     Ok(())
 }
 
@@ -167,7 +177,7 @@ fn push_solution(
     record: &Record,
     memo: &mut Memo,
 ) -> Result<(), NoMemory>
-    ensures text { IfOk result (λ _. text.new.items ≡ text.old.items ++ solution_text notation.now.figurines number «record».now) }
+    ensures text { IfOk result (λ _. text.new.items ≡ text.old.items ++ solution_text notation.now.pieces number «record».now) }
     ensures room { memo.new.room ≡ memo.old.room }
 {
     let outcome = solve(notation.rays, &record.problem(), memo);
@@ -189,7 +199,7 @@ pub(crate) fn push_solutions(
     records: &[Record],
     memo: &mut Memo,
 ) -> Result<(), NoMemory>
-    ensures text { IfOk result (λ _. text.new.items ≡ text.old.items ++ solutions_from notation.now.figurines 1 records.now) }
+    ensures text { IfOk result (λ _. text.new.items ≡ text.old.items ++ solutions_from notation.now.pieces 1 records.now) }
     ensures room { memo.new.room ≡ memo.old.room }
 {
     for (index, record) in records.iter().enumerate() {
