@@ -1,5 +1,10 @@
 //! What the thread that searches does.
 
+ghost use Rattle.std.specs.Prelude.{◌≡◌, ◌++◌, Ok, Option, IfOk};
+ghost use Rattle.chess_board.specs.Moves.{Move as MoveValue};
+ghost use Rattle.chess_problems.specs.Problems.{ProblemValue};
+ghost use Rattle.uci_engine.specs.SearchLines.{AreKeyLines, EndsWith, IsMateLine, first_of as first_of_keys, none_end};
+
 use crate::events::{Event, send};
 use crate::signals::Signals;
 use crate::texts::{Progress, push_best, push_length, push_mate, push_none, push_refusal};
@@ -61,9 +66,21 @@ fn first_move(rays: &Rays, problem: &Problem) -> Option<Move> {
     None
 }
 
+/// The first of some keys.
+fn first_of(keys: &MoveList) -> Option<Move>
+    ensures { result ≡ first_of_keys keys.now.items }
+{
+    match keys.as_slice() {
+        [first, ..] => Some(*first),
+        [] => None,
+    }
+}
+
 impl Searcher<'_> {
     /// How far a search has come.
-    fn progress(&self, moves: u64) -> Progress {
+    fn progress(&self, moves: u64) -> Progress
+        ensures { result.moves ≡ moves }
+    {
         Progress {
             moves,
             costs: self.signals.costs(),
@@ -71,17 +88,16 @@ impl Searcher<'_> {
     }
 
     /// Adds the last lines where no mate was found in so many moves.
-    fn push_last(
-        &self,
-        text: &mut Vec<u8>,
-        problem: &Problem,
-        moves: u64,
-    ) -> Result<(), AllocError> {
-        let best = first_move(self.rays, problem);
-        if best.is_some() {
-            push_none(text, moves)?;
-        }
-        push_best(text, best)
+    fn push_last(&self, text: &mut Vec<u8>, problem: &Problem, moves: u64) -> Result<(), AllocError>
+        ensures { IfOk result (λ _. (best : Option MoveValue) × (text.new.items ≡ text.old.items ++ none_end moves best)) }
+    {
+        let Some(best) = first_move(self.rays, problem) else {
+            push_best(text, None)?;
+            return Ok(());
+        };
+        push_none(text, moves)?;
+        push_best(text, Some(best))?;
+        Ok(())
     }
 
     /// Adds the line of one more key, unless it is to stop.
@@ -93,22 +109,25 @@ impl Searcher<'_> {
         rank: u64,
         memo: &mut Memo,
         watch: &Watch,
-    ) -> Result<(), AllocError> {
+    ) -> Result<(), AllocError>
+        ensures { IfOk result (λ _. AreKeyLines problem.now text.old.items → AreKeyLines problem.now text.new.items) }
+    {
         let keys = [key];
         let Some(alone) = only_these(self.rays, &problem.position, problem.bound, &keys) else {
             return Ok(());
         };
-        match solve_until(self.rays, &alone, memo, watch) {
-            Ok(Outcome::Mate { pv, .. }) => {
-                let progress = self.progress(u64::from(problem.bound.get()));
-                push_mate(text, &progress, rank, pv.as_slice())
-            }
-            _ => Ok(()),
-        }
+        let Ok(Outcome::Mate { pv, .. }) = solve_until(self.rays, &alone, memo, watch) else {
+            return Ok(());
+        };
+        let progress = self.progress(u64::from(problem.bound.get()));
+        push_mate(text, &progress, rank, pv.as_slice())?;
+        Ok(())
     }
 
     /// The line of the first key.
-    fn first_line(&self, problem: &Problem, pv: &[Move]) -> Result<Vec<u8>, AllocError> {
+    fn first_line(&self, problem: &Problem, pv: &[Move]) -> Result<Vec<u8>, AllocError>
+        ensures { IfOk result (λ text. IsMateLine problem.now.bound 1 pv.now text.items) }
+    {
         let mut text = Vec::new(self.alloc);
         let progress = self.progress(u64::from(problem.bound.get()));
         push_mate(&mut text, &progress, 1, pv)?;
@@ -123,7 +142,9 @@ impl Searcher<'_> {
         job: &Job,
         memo: &mut Memo,
         watch: &Watch,
-    ) -> Result<Vec<u8>, AllocError> {
+    ) -> Result<Vec<u8>, AllocError>
+        ensures { IfOk result (λ text. AreKeyLines problem.now text.items) }
+    {
         let mut text = Vec::new(self.alloc);
         let mut rank = 1u64;
         for key in keys.as_slice() {
@@ -148,11 +169,14 @@ impl Searcher<'_> {
         job: &Job,
         memo: &mut Memo,
         last: &mut Vec<u8>,
-    ) -> Result<(), AllocError> {
+    ) -> Result<(), AllocError>
+        ensures { IfOk result (λ _. EndsWith asked.now last.old.items last.new.items) }
+    {
         let watch = Watch::new(self.signals, job.number, job.most_nodes);
         let most = asked.bound.get();
         if first_move(self.rays, asked).is_none() {
-            return self.push_last(last, asked, 0);
+            self.push_last(last, asked, 0)?;
+            return Ok(());
         }
         for before in 0..most {
             let Some(bound) = Bound::new(before + 1) else {
@@ -165,17 +189,22 @@ impl Searcher<'_> {
                     self.say(rt, first);
                     let more = self.more_lines(&problem, &keys, job, memo, &watch)?;
                     self.say(rt, more);
-                    return push_best(last, keys.as_slice().first().copied());
+                    push_best(last, first_of(&keys))?;
+                    return Ok(());
                 }
                 Ok(Outcome::NoMate) => {
                     let mut text = Vec::new(self.alloc);
                     push_length(&mut text, &self.progress(u64::from(before + 1)))?;
                     self.say(rt, text);
                 }
-                Err(Stopped) => return self.push_last(last, asked, u64::from(before)),
+                Err(Stopped) => {
+                    self.push_last(last, asked, u64::from(before))?;
+                    return Ok(());
+                }
             }
         }
-        self.push_last(last, asked, u64::from(most))
+        self.push_last(last, asked, u64::from(most))?;
+        Ok(())
     }
 
     /// Searches, or tells why there is no position; adds the last lines to a text.
@@ -185,14 +214,20 @@ impl Searcher<'_> {
         job: &Job,
         memo: &mut Memo,
         last: &mut Vec<u8>,
-    ) -> Result<(), AllocError> {
+    ) -> Result<(), AllocError>
+        ensures { IfOk result (λ _. (problem : ProblemValue) → job.now.problem ≡ Ok problem → EndsWith problem last.old.items last.new.items) }
+    {
         match &job.problem {
-            Ok(problem) => self.search(rt, problem, job, memo, last),
+            Ok(problem) => {
+                self.search(rt, problem, job, memo, last)?;
+                Ok(())
+            }
             Err(fault) => {
                 let mut why = Vec::new(self.alloc);
                 push_refusal(&mut why, *fault)?;
                 self.say(rt, why);
-                push_best(last, None)
+                push_best(last, None)?;
+                Ok(())
             }
         }
     }

@@ -1,5 +1,9 @@
 //! The lines that an engine writes.
 
+ghost use Rattle.std.specs.Prelude.{◌≡◌, ◌++◌, ℕ, List, IfOk, codes, decimal};
+ghost use Rattle.chess_board.specs.Moves.{move_text};
+ghost use Rattle.uci_engine.specs.SearchLines.{IsCosts, IsMateLine, best_text, moves_text, none_text};
+
 use crate::reader::MAX_LINE;
 use chess_board::{FenFault, Move};
 use itoa::Buffer;
@@ -7,21 +11,30 @@ use std::alloc::AllocError;
 use uci_commands::{PositionFault, Spin};
 
 /// Adds words to a text.
-pub(crate) fn push(text: &mut Vec<u8>, words: &str) -> Result<(), AllocError> {
-    text.extend_from_slice(words.as_bytes())
+pub(crate) fn push(text: &mut Vec<u8>, words: &str) -> Result<(), AllocError>
+    ensures { IfOk result (λ _. text.new.items ≡ text.old.items ++ words.now) }
+{
+    text.extend_from_slice(words.as_bytes())?;
+    Ok(())
 }
 
 /// Adds words and a number to a text.
-pub(crate) fn push_count(text: &mut Vec<u8>, words: &str, count: u64) -> Result<(), AllocError> {
+pub(crate) fn push_count(text: &mut Vec<u8>, words: &str, count: u64) -> Result<(), AllocError>
+    ensures { IfOk result (λ _. text.new.items ≡ text.old.items ++ words.now ++ decimal count) }
+{
     push(text, words)?;
     let mut digits = Buffer::new();
-    push(text, digits.format(count))
+    push(text, digits.format(count))?;
+    Ok(())
 }
 
 /// Adds words and a move by its coordinates to a text.
-fn push_move(text: &mut Vec<u8>, words: &str, m: Move) -> Result<(), AllocError> {
+fn push_move(text: &mut Vec<u8>, words: &str, m: Move) -> Result<(), AllocError>
+    ensures { IfOk result (λ _. text.new.items ≡ text.old.items ++ words.now ++ move_text m) }
+{
     push(text, words)?;
-    push(text, m.text().as_str())
+    push(text, m.text().as_str())?;
+    Ok(())
 }
 
 /// Adds the line of an option: its range, and its value where none is set.
@@ -82,18 +95,24 @@ pub(crate) struct Progress {
 }
 
 /// Adds what `info` begins with. A mate in n moves is 2n - 1 halfmoves deep.
-fn push_depth(text: &mut Vec<u8>, progress: &Progress) -> Result<(), AllocError> {
+fn push_depth(text: &mut Vec<u8>, progress: &Progress) -> Result<(), AllocError>
+    ensures { IfOk result (λ _. (depth : ℕ) × (text.new.items ≡ text.old.items ++ codes "info depth " ++ decimal depth)) }
+{
     let depth = progress.moves.saturating_mul(2).saturating_sub(1);
-    push_count(text, "info depth ", depth)
+    push_count(text, "info depth ", depth)?;
+    Ok(())
 }
 
 /// Adds what it cost.
-fn push_costs(text: &mut Vec<u8>, costs: &Costs) -> Result<(), AllocError> {
+fn push_costs(text: &mut Vec<u8>, costs: &Costs) -> Result<(), AllocError>
+    ensures { IfOk result (λ _. (told : List ℕ) × IsCosts told × (text.new.items ≡ text.old.items ++ told)) }
+{
     let Costs { nodes, time } = *costs;
     let rate = nodes.saturating_mul(1000) / time.max(1);
     push_count(text, " nodes ", nodes)?;
     push_count(text, " time ", time)?;
-    push_count(text, " nps ", rate)
+    push_count(text, " nps ", rate)?;
+    Ok(())
 }
 
 /// Adds the line of a search that goes on.
@@ -110,38 +129,57 @@ pub(crate) fn push_length(text: &mut Vec<u8>, progress: &Progress) -> Result<(),
     push(text, "\n")
 }
 
+/// Adds moves by their coordinates, each behind a space.
+fn push_moves(text: &mut Vec<u8>, moves: &[Move]) -> Result<(), AllocError>
+    ensures { IfOk result (λ _. text.new.items ≡ text.old.items ++ moves_text moves.now) }
+{
+    for m in moves {
+        push_move(text, " ", *m)?;
+    }
+    Ok(())
+}
+
 /// Adds the line of a mate, the so-many-th of those that are shown.
 pub(crate) fn push_mate(
     text: &mut Vec<u8>,
     progress: &Progress,
     rank: u64,
     pv: &[Move],
-) -> Result<(), AllocError> {
+) -> Result<(), AllocError>
+    ensures { IfOk result (λ _. (line : List ℕ) × IsMateLine progress.now.moves rank pv.now line × (text.new.items ≡ text.old.items ++ line)) }
+{
     push_depth(text, progress)?;
     push_count(text, " multipv ", rank)?;
     push_count(text, " score mate ", progress.moves)?;
     push_costs(text, &progress.costs)?;
     push(text, " pv")?;
-    for m in pv {
-        push_move(text, " ", *m)?;
-    }
-    push(text, "\n")
+    push_moves(text, pv)?;
+    push(text, "\n")?;
+    Ok(())
 }
 
 /// Adds the line that says what to play.
-pub(crate) fn push_best(text: &mut Vec<u8>, best: Option<Move>) -> Result<(), AllocError> {
-    match best {
-        Some(m) => push_move(text, "bestmove ", m)?,
-        None => push(text, "bestmove 0000")?,
-    }
-    push(text, "\n")
+pub(crate) fn push_best(text: &mut Vec<u8>, best: Option<Move>) -> Result<(), AllocError>
+    ensures { IfOk result (λ _. text.new.items ≡ text.old.items ++ best_text best) }
+{
+    let Some(m) = best else {
+        push(text, "bestmove 0000\n")?;
+        return Ok(());
+    };
+    push_move(text, "bestmove ", m)?;
+    push(text, "\n")?;
+    Ok(())
 }
 
 /// Adds the line that says that there is no mate in so many moves.
-pub(crate) fn push_none(text: &mut Vec<u8>, moves: u64) -> Result<(), AllocError> {
+pub(crate) fn push_none(text: &mut Vec<u8>, moves: u64) -> Result<(), AllocError>
+    ensures { IfOk result (λ _. text.new.items ≡ text.old.items ++ none_text moves) }
+{
     if moves == 0 {
-        return push(text, "info string not decided\n");
+        push(text, "info string not decided\n")?;
+        return Ok(());
     }
     push_count(text, "info string no mate in ", moves)?;
-    push(text, "\n")
+    push(text, "\n")?;
+    Ok(())
 }

@@ -1,0 +1,2 @@
+pub mod SearchLines
+pub mod WrittenLines
