@@ -312,6 +312,7 @@ stand in one file in any mixture:
     its id, and the first move the claim `bm`; the number of moves is said by Stipulation, else
     by White, Black, Event, Annotator, or a comment before the first move
   - Popeye's input, from BeginProblem to EndProblem, with stipulation `#N` or `N#`
+  - files of Olive's (`.olv`): the keys that have a `!` there are the claim `bm`
 Men may have other letters: --letters KDTLSB, or `de`, names those for king, queen, rook,
 bishop, knight and pawn, in positions and in moves.
 What can't be read is printed as `# line K: CODE`, by the line where it begins; `matedesk

@@ -43,17 +43,3 @@ says_trimmed line ascii text is same = (ascii, is, same)
 
 pub record_says : (line text : List ℕ) → IsRecord line → text ≡ trimmed line → IsTextOf line text
 record_says line text (r, reads) same = says_trimmed line line text (printable_ascii line line reads.printable refl) same
-
--- ---- a byte more
-
-pub front_more : (line rest more : List ℕ) (b p : ℕ) (text old new : List ℕ) → rest ≡ b ∷ more → plain_byte b ≡ Some p → new ≡ old ++ p ∷ []
-    → old ++ plain_front rest ≡ text ++ plain_front line → new ++ plain_front more ≡ text ++ plain_front line
-front_more line rest more b p text old new is one grown before =
-    let here : plain_front rest ≡ p ∷ plain_front more = ap plain_front is ∙ ap (λ o. plain_before o (plain_front more)) one in
-    ap (λ t. t ++ plain_front more) grown ∙ append_assoc old (p ∷ []) (plain_front more) ∙ ap (λ t. old ++ t) (sym here) ∙ before
-
-pub front_ends : (line rest more : List ℕ) (b : ℕ) (text new : List ℕ) → rest ≡ b ∷ more → plain_byte b ≡ None
-    → new ++ plain_front rest ≡ text ++ plain_front line → new ≡ text ++ plain_front line
-front_ends line rest more b text new is none before =
-    let here : plain_front rest ≡ [] = ap plain_front is ∙ ap (λ o. plain_before o (plain_front more)) none in
-    sym (append-nil new) ∙ ap (λ t. new ++ t) (sym here) ∙ before

@@ -87,7 +87,7 @@ pub fen_then : (a b c : Game) → KeepsFen a b → KeepsFen b c → KeepsFen a c
 fen_then a b c (one, same) (other, is) = (other ∙ one, is ∙ same)
 
 pub said_at_end : (lines : List (List ℕ)) (rest : List ℕ) (n : ℕ) → IsEndIn lines rest → SaysMoves rest n → IsSaidIn lines n
-said_at_end lines rest n (text, in_lines, ends) says = (text, in_lines, inr (says_longer rest text n ends says))
+said_at_end lines rest n (text, in_lines, ends) says = inl (text, in_lines, inr (says_longer rest text n ends says))
 
 -- ---- tags
 

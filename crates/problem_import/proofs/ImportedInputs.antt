@@ -29,10 +29,6 @@ abbrev pub First : LineReplies → Letters → Option ℕ → (List ℕ → List
 First may letters given f s known old new = (bytes : List ℕ) × (text : List ℕ) × MayBe known bytes
     × IsReplyToFirst (behind (Sourced may letters given f) (texts_of bytes)) bytes text × AppendsBy s old new text
 
--- What is printed at the end.
-abbrev pub Last : Bool → Option ℕ → Reading → (last : List ℕ) → Bool → Type 0
-Last keep given reading last any = AreImported (IsMade keep given []) last any × EndsFrom given reading last any
-
 pub nothing_last : (keep : Bool) (given : Option ℕ) (reading : Reading) (old : Option (List ℕ)) → (last : List ℕ) × (any : Bool)
     × AreImported (IsMade keep given []) last any × EndsFrom given reading last any × Appends old old last
 nothing_last keep given reading old = ([], false, none, (λ letters lines known. none), Appends-nil old)

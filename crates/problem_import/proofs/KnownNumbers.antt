@@ -7,7 +7,7 @@ use Rattle.problem_import.specs.Numbers.{said}
 use Rattle.problem_import.specs.declared.changes.Form.{Form}
 use Rattle.problem_import.specs.declared.changes.Form.TheVariants.{Line, Game, Popeye}
 use Rattle.problem_import.specs.declared.reading.Number.{Number}
-use Rattle.problem_import.specs.declared.reading.Number.TheVariants.{Said, Own, Unsaid, Any}
+use Rattle.problem_import.specs.declared.reading.Number.TheVariants.{Said, Own, Unsaid}
 use Rattle.problem_import.specs.inside.Findings.{Asks, IsAsked, IsAskedOf, IsNumberOf}
 use Rattle.stipulations.specs.declared.asked.Asked.{Asked}
 
@@ -41,10 +41,6 @@ unfolding IsAskedOf IsNumberOf
 number_own form given line asks is =
     let (text, says, fits) = asks is in
     (text, says, 3, refl, subst (λ a. IsNumber given line a 3) (sym fits.0) (inl (fits.1, refl)))
-
-pub number_any : (form : Form) (given : Option ℕ) (line : List ℕ) → IsAskedOf form line Any → IsNumberOf form given line None
-unfolding IsAskedOf IsNumberOf
-number_any form given line asks is = let (text, says, never) = asks is in absurd never
 
 pub number_given : (before form : Form) (given : Option ℕ) (line : List ℕ) (n : ℕ) (moves : Option ℕ) → form ≡ before → given ≡ Some n
     → moves ≡ Some n → IsAskedOf before line Unsaid → IsNumberOf form given line moves

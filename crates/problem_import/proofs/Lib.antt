@@ -19,3 +19,5 @@ pub mod TagFens
 pub mod GameNumbers
 pub mod Sources
 pub mod ImportedInputs
+pub mod ReadProblems
+pub mod ReadItems

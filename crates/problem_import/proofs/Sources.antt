@@ -8,46 +8,57 @@ use Rattle.std.proofs.lemmas.List.{append-nil, map-append, length-append}
 use Rattle.std.proofs.lemmas.List.Elements.{All-get_or, All-nil, All-push, Contains-append_left}
 use Rattle.chess_board.specs.Fens.{SpellsSetup}
 use Rattle.chess_notation.specs.RecordFields.{line_fields}
+use Rattle.chess_notation.specs.Words.{words_in}
 use Rattle.move_words.specs.declared.languages.Letters.{Letters}
 use Rattle.text_lines.specs.Lines.{lines_of, texts_of, without_cr}
 use Rattle.text_lines.specs.Replies.{IsReply, IsReplyFrom, IsReplyToFirst, LineReplies, behind}
 use Rattle.problem_import.specs.Imports.{AreImported, none}
-use Rattle.problem_import.specs.Sources.{is_given, is_own, is_said}
-use Rattle.problem_import.specs.Sources.{AreSourced, HasOther, HasRecord, IsFenOf, IsSaidIn, IsSourced, IsTextIn, MayAsk, SaysMoves}
+use Rattle.problem_import.specs.PopeyeProblems.{said_onto}
+use Rattle.problem_import.specs.Sources.{is_given, is_own, is_said, of_line, of_text}
+use Rattle.problem_import.specs.Sources.{AreSetIn, AreSourced, HasRecord, IsFenOf, IsPlacedIn, IsSaidIn, IsSourced, IsTextIn}
+use Rattle.problem_import.specs.Sources.{MayAsk, SaysMoves}
 use Rattle.stipulations.specs.declared.asked.Asked.{Asked}
-use Rattle.stipulations.specs.declared.asked.Asked.TheVariants.{Moves, Nothing}
+use Rattle.stipulations.specs.declared.asked.Asked.TheVariants.{Moves}
 use Rattle.problem_import.specs.declared.games.Game.{Game}
 use Rattle.problem_import.specs.declared.reading.Finding.{Finding}
 use Rattle.problem_import.specs.declared.reading.Open.{Open}
 use Rattle.problem_import.specs.declared.reading.Open.TheVariants as opens
 use Rattle.problem_import.specs.inside.Findings.{Asks}
 use Rattle.problem_import.specs.inside.KnownSources.{AreFrom, AsksMore, IsCountFrom, IsEndIn, IsFoundFrom, IsFrom, IsGameFrom, IsKnown, IsMadeFrom}
-use Rattle.problem_import.specs.inside.KnownSources.{IsOpenFrom, KeepsFen, Sourced, Within}
+use Rattle.chess_board.specs.declared.men.Man.{Man}
+use Rattle.problem_import.specs.OliveProblems.{Said, line_onto}
+use Rattle.problem_import.specs.declared.olive.OliveProblem.{OliveProblem}
+use Rattle.problem_import.specs.declared.popeye.PopeyeProblem.{PopeyeProblem}
+use Rattle.problem_import.specs.inside.KnownSources.{IsOliveFrom, IsOpenFrom, IsPartIn, IsPopeyeFrom, KeepsFen, Sourced, Within}
+use Rattle.problem_import.specs.inside.ReadProblems.{AreRead, IsRead, KeepsItems, KeepsSaid, SetsUp}
 use Rattle.problem_import.proofs.FieldTexts.{reads_position}
 use Rattle.problem_import.proofs.GameNumbers.{either_way, said_at_end}
 use Rattle.problem_import.proofs.Imports.{imported_append, imported_for}
+use Rattle.problem_import.proofs.ReadItems.{are_kept}
+use Rattle.problem_import.proofs.ReadProblems.{read_kept, sets_moved}
 
 -- ---- texts
 
 pub from_moved : (letters : Letters) (lines : List (List ℕ)) (old new : List ℕ) → line_fields new ≡ line_fields old → IsFrom letters lines old
     → IsFrom letters lines new
 unfolding IsFrom
-from_moved letters lines old new same (inl other) = inl other
-from_moved letters lines old new same (inr (source, of, is)) = inr (source, of, same ∙ is)
+from_moved letters lines old new same (inl (source, of, is)) = inl (source, of, same ∙ is)
+from_moved letters lines old new same (inr (man_on, asks, are, sets)) = inr (man_on, asks, are, sets_moved man_on old new same sets)
 
 pub from_text : (letters : Letters) (lines : List (List ℕ)) (text made : List ℕ) → IsTextIn lines text → line_fields made ≡ line_fields text
     → IsFrom letters lines made
 unfolding IsFrom
-from_text letters lines text made says same = inr (text, (text, says, inl refl), same)
+from_text letters lines text made says same = inl (text, (text, says, inl refl), same)
 
 pub from_fen : (letters : Letters) (lines : List (List ℕ)) (text fen : List ℕ) → IsTextIn lines text → IsFenOf letters text fen
     → IsFrom letters lines fen
 unfolding IsFrom
-from_fen letters lines text fen says is = inr (fen, (text, says, inr is), refl)
+from_fen letters lines text fen says is = inl (fen, (text, says, inr is), refl)
 
-pub from_other : (letters : Letters) (lines : List (List ℕ)) (made : List ℕ) → HasOther lines → IsFrom letters lines made
+pub from_set : (letters : Letters) (lines : List (List ℕ)) (man_on : ℕ → Option Man) (asks : Asked) (made : List ℕ)
+    → AreSetIn lines man_on asks → SetsUp man_on made → IsFrom letters lines made
 unfolding IsFrom
-from_other letters lines made other = inl other
+from_set letters lines man_on asks made are sets = inr (man_on, asks, are, sets)
 
 -- ---- findings
 
@@ -87,6 +98,28 @@ pub known_letters : (letters : Letters) (lines : List (List ℕ)) (has : Letters
 unfolding IsKnown
 known_letters letters lines has opened (same, of) = same
 
+-- A problem for Popeye that took a line is of that, too.
+pub popeye_taken : (lines : List (List ℕ)) (line : List ℕ) (old mid new : PopeyeProblem) → IsPartIn lines line → mid.fault ≡ old.fault
+    → mid.diagram ≡ old.diagram → mid.bound ≡ old.bound → mid.expected ≡ old.expected → mid.colour ≡ old.colour
+    → ((words : List (List ℕ)) → IsRead words mid → IsRead (said_onto (words_in line) words) new) → IsPopeyeFrom lines old
+    → IsPopeyeFrom lines new
+unfolding KeepsSaid
+popeye_taken lines line old mid new (text, says, part) fault men bound expected colour takes (words, are, read) = (
+  said_onto (words_in line) words,
+  of_line text line words says part are,
+  takes words (read_kept words old mid (λ free. (sym fault ∙ free, men, bound, expected, colour)) read),
+)
+
+-- So is one of Olive's.
+pub olive_taken : (lines : List (List ℕ)) (line : List ℕ) (old mid new : OliveProblem) → IsTextIn lines line → mid.fault ≡ old.fault
+    → mid.diagram ≡ old.diagram → mid.bound ≡ old.bound → mid.section ≡ old.section
+    → ((said : List Said) → AreRead said mid → AreRead said new ⊎ AreRead (line_onto line said) new) → IsOliveFrom lines old
+    → IsOliveFrom lines new
+unfolding KeepsItems
+olive_taken lines line old mid new says fault men bound section takes (said, are, read) =
+    either_way (λ it. (said, are, it)) (λ it. (line_onto line said, of_text line said says are, it))
+    (takes said (are_kept said old mid (λ free. (sym fault ∙ free, men, bound, section)) read))
+
 -- A game that keeps its position keeps where that comes from; what it asks more is said there.
 pub game_moved : (letters : Letters) (lines : List (List ℕ)) (rest : List ℕ) (old new : Game) → IsEndIn lines rest → KeepsFen old new
     → AsksMore (SaysMoves rest) old new → IsGameFrom letters lines old → IsGameFrom letters lines new
@@ -110,16 +143,8 @@ pub game_taken : (letters : Letters) (lines : List (List ℕ)) (by : Letters) (t
     → IsGameFrom letters lines old → IsGameFrom letters lines new
 game_taken letters lines by text old new is says fen (more, others) of = record {
   fen = fen_taken letters lines by text old new is says fen of.fen;
-  asked = λ n asks. either_way (of.asked n) (λ it. (text, says, inr it)) (more n asks);
-  stipulated = λ n asks. either_way (of.stipulated n) (λ it. (text, says, inr it)) (others n asks);
-}
-
-pub game_new : (letters : Letters) (lines : List (List ℕ)) (game : Game) → game.has_fen ≡ false → game.asked ≡ Nothing → game.stipulated ≡ None
-    → IsGameFrom letters lines game
-game_new letters lines game no_fen no_number none_said = record {
-  fen = λ is. let no : false ≡ true = sym no_fen ∙ is in cc;
-  asked = λ n is. let no : Nothing ≡ Moves n = sym no_number ∙ is in cc;
-  stipulated = λ n is. let no : None ≡ Some (Moves n) = sym none_said ∙ is in cc;
+  asked = λ n asks. either_way (of.asked n) (λ it. inl (text, says, inr it)) (more n asks);
+  stipulated = λ n asks. either_way (of.stipulated n) (λ it. inl (text, says, inr it)) (others n asks);
 }
 
 -- A game that asks so many has it said, in whatever tag.
@@ -141,8 +166,8 @@ made_line letters given lines line among = inl among
 pub made_of : (letters : Letters) (given : Option ℕ) (lines : List (List ℕ)) (made : List ℕ) (moves : Option ℕ) → IsFrom letters lines made
     → IsCountFrom given lines moves → Asks moves made → IsMadeFrom letters given lines made
 unfolding IsMadeFrom IsCountFrom
-made_of letters given lines made None from other asks = inr (from, inl other)
-made_of letters given lines made (Some n) from may asks = inr (from, inr (λ r reads. subst (MayAsk given lines) (sym (asks r reads)) may))
+made_of letters given lines made None from never asks = absurd never
+made_of letters given lines made (Some n) from may asks = inr (from, λ r reads. subst (MayAsk given lines) (sym (asks r reads)) may)
 
 pub count_said : (given : Option ℕ) (lines : List (List ℕ)) (n : ℕ) → IsSaidIn lines n → IsCountFrom given lines (Some n)
 unfolding IsCountFrom
@@ -152,28 +177,24 @@ pub count_own : (given : Option ℕ) (lines : List (List ℕ)) → HasRecord lin
 unfolding IsCountFrom
 count_own given lines one = is_own one refl
 
-pub count_any : (given : Option ℕ) (lines : List (List ℕ)) → HasOther lines → IsCountFrom given lines None
-unfolding IsCountFrom
-count_any given lines other = other
-
 pub count_given : (given : Option ℕ) (lines : List (List ℕ)) (moves : Option ℕ) (n : ℕ) → given ≡ Some n → moves ≡ Some n
     → IsCountFrom given lines moves
 unfolding IsCountFrom
 count_given given lines moves n is same = subst (IsCountFrom given lines) (sym same) (is_given is)
 
-asks_one : (letters : Letters) (given : Option ℕ) (lines : List (List ℕ)) (made : List ℕ) → IsFrom letters lines made
-    → HasOther lines ⊎ ((r : RecordValue) → Reads made 3 r → MayAsk given lines r.bound) → IsSourced letters given lines made
-unfolding IsFrom
-asks_one letters given lines made (inl other) asks = inl other
-asks_one letters given lines made (inr from) (inl other) = inl other
-asks_one letters given lines made (inr (source, of, is)) (inr asks) =
-    inr (inr (source, of, λ r reads. (subst (λ f. SpellsSetup f r.position) is (reads_position made r reads), asks r reads)))
+placed_one : (letters : Letters) (lines : List (List ℕ)) (made : List ℕ) → IsFrom letters lines made → (r : RecordValue) → Reads made 3 r
+    → IsPlacedIn letters lines r.position
+unfolding IsFrom SetsUp
+placed_one letters lines made (inl (source, of, is)) r reads =
+    inl (source, of, subst (λ f. SpellsSetup f r.position) is (reads_position made r reads))
+placed_one letters lines made (inr (man_on, asks, are, sets)) r reads =
+    inr (man_on, asks, are, sets r.position (reads_position made r reads) reads.sound)
 
 sourced_one : (letters : Letters) (given : Option ℕ) (lines : List (List ℕ)) (made : List ℕ) → IsMadeFrom letters given lines made
     → IsSourced letters given lines made
 unfolding IsMadeFrom
-sourced_one letters given lines made (inl among) = inr (inl among)
-sourced_one letters given lines made (inr (from, asks)) = asks_one letters given lines made from asks
+sourced_one letters given lines made (inl among) = inl among
+sourced_one letters given lines made (inr (from, asks)) = inr (λ r reads. (placed_one letters lines made from r reads, asks r reads))
 
 pub are_sourced : (letters : Letters) (given : Option ℕ) (lines : List (List ℕ)) (text : List ℕ) (any : Bool)
     → AreImported (IsMadeFrom letters given lines) text any → AreSourced letters given lines text

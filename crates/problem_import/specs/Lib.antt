@@ -5,6 +5,9 @@ pub mod LetteredImports
 pub mod Letters
 pub mod Mendable
 pub mod Numbers
+pub mod OliveProblems
+pub mod PopeyeProblems
 pub mod Problems
+pub mod SetUps
 pub mod Sources
 pub mod inside

@@ -1,18 +1,26 @@
 -- Where the position comes from of a record that `import` prints (own to this project; a tag FEN: PGN Specification, 8.1.1 and 9.7.2).
-use Rattle.std.specs.Prelude.{◌≡◌, ◌⊎◌, ◌≤◌, ◌==◌, ℕ, List, [], ◌∷◌, ◌++◌, map, take, length, codes, Contains}
+use Rattle.std.specs.Prelude.{◌≡◌, ◌⊎◌, ◌==◌, ℕ, List, [], ◌∷◌, ◌++◌, map, codes, Contains}
 use Rattle.std.specs.Prelude.{Bool, true, false, if◌then◌else◌, Option, Some}
 use Rattle.std.specs.Char.{to_ascii_lowercase}
 use Rattle.chess_board.specs.Characters.{char}
 use Rattle.chess_board.specs.Fens.{SpellsSetup}
+use Rattle.chess_board.specs.declared.men.Man.{Man}
 use Rattle.chess_notation.specs.RecordFields.{line_fields}
 use Rattle.chess_notation.specs.Records.{RecordValue, Reads}
-use Rattle.chess_notation.specs.Words.{word_at}
+use Rattle.chess_board.specs.Positions.{Setup}
+use Rattle.chess_notation.specs.Words.{behind, word_at, words_in}
 use Rattle.lettered_placements.specs.Readings.{line_read}
 use Rattle.move_words.specs.Languages.{is_english}
 use Rattle.move_words.specs.declared.languages.Letters.{Letters}
 use Rattle.problem_import.specs.Imports.{AreImported, IsRecord}
 use Rattle.problem_import.specs.Letters.{IsTextOf, trimmed}
 use Rattle.problem_import.specs.Numbers.{said}
+use Rattle.problem_import.specs.OliveProblems as olive
+use Rattle.problem_import.specs.OliveProblems.{Said, line_onto}
+use Rattle.problem_import.specs.PopeyeProblems as popeye
+use Rattle.problem_import.specs.PopeyeProblems.{said_onto}
+use Rattle.problem_import.specs.SetUps.{IsSetBy}
+use Rattle.stipulations.specs.declared.asked.Asked.{Asked}
 use Rattle.stipulations.specs.Stipulations.{asked}
 use Rattle.stipulations.specs.declared.asked.Asked.TheVariants.{Moves}
 
@@ -72,24 +80,41 @@ SaysMoves text n = (value : List ℕ) × (HasTag MaySay text value ⊎ HasCommen
 abbrev pub IsTextIn : (lines : List (List ℕ)) → (text : List ℕ) → Type 0
 IsTextIn lines text = (line : List ℕ) × Contains lines line × IsTextOf line text
 
--- The word is the name in small letters or large, or four letters of its front or more.
-abbrev pub StandsFor : (word name : List ℕ) → Type 0
-StandsFor word name = (4 ≤ length word) × IsNamed word (take (length word) name)
+-- The words of a problem for Popeye, those of some of the lines: of each but what follows a name or a remark, and of one with which the problem
+-- begins but its first.
+pub data AreWordsIn (lines : List (List ℕ)) : (words : List (List ℕ)) → Type 0 where
+  no_words : AreWordsIn lines []
+  of_line : (text rest : List ℕ) (said : List (List ℕ)) → IsTextIn lines text → (rest ≡ text) ⊎ (rest ≡ behind text) → AreWordsIn lines said
+      → AreWordsIn lines (said_onto (words_in rest) said)
 
--- With the text a problem for Popeye begins, or one of Olive's.
-abbrev pub BeginsOther : List ℕ → Type 0
-BeginsOther text = (text ≡ codes "---") ⊎ StandsFor (word_at text) (codes "BeginProblem")
+-- What a problem of Olive's says: what some of the lines do.
+pub data AreItemsIn (lines : List (List ℕ)) : (said : List Said) → Type 0 where
+  no_items : AreItemsIn lines []
+  of_text : (text : List ℕ) (said : List Said) → IsTextIn lines text → AreItemsIn lines said → AreItemsIn lines (line_onto text said)
 
-abbrev pub HasOther : List (List ℕ) → Type 0
-HasOther lines = (text : List ℕ) × IsTextIn lines text × BeginsOther text
+-- The lines set up such men, and ask so many moves, as a problem for Popeye or as one of Olive's.
+pub data AreSetIn (lines : List (List ℕ)) : (man_on : ℕ → Option Man) → Asked → Type 0 where
+  popeyes : (words : List (List ℕ)) → AreWordsIn lines words → AreSetIn lines (popeye.man_on words) (popeye.asked_in words)
+  olives : (said : List Said) → AreItemsIn lines said → AreSetIn lines (olive.man_on said) (olive.asked_in said)
+
+-- They set up the position.
+abbrev pub IsSetIn : (lines : List (List ℕ)) → Setup → Type 0
+IsSetIn lines p = (man_on : ℕ → Option Man) × (asks : Asked) × AreSetIn lines man_on asks × IsSetBy man_on p
+
+abbrev pub IsAskedIn : (lines : List (List ℕ)) → ℕ → Type 0
+IsAskedIn lines n = (man_on : ℕ → Option Man) × (asks : Asked) × AreSetIn lines man_on asks × (asks ≡ Moves n)
 
 -- One of the lines says it, or has it in a tag FEN.
 abbrev pub IsSource : Letters → (lines : List (List ℕ)) → (source : List ℕ) → Type 0
 IsSource letters lines source = (text : List ℕ) × IsTextIn lines text × ((source ≡ text) ⊎ IsFenOf letters text source)
 
 -- One of the lines says so many moves, as a line or as one of a game.
+abbrev pub HasSaid : (lines : List (List ℕ)) → ℕ → Type 0
+HasSaid lines n = (text : List ℕ) × IsTextIn lines text × ((said text ≡ Moves n) ⊎ SaysMoves text n)
+
+-- So many moves are said.
 abbrev pub IsSaidIn : (lines : List (List ℕ)) → ℕ → Type 0
-IsSaidIn lines n = (text : List ℕ) × IsTextIn lines text × ((said text ≡ Moves n) ⊎ SaysMoves text n)
+IsSaidIn lines n = HasSaid lines n ⊎ IsAskedIn lines n
 
 -- One of the lines is a record as it stands.
 abbrev pub HasRecord : List (List ℕ) → Type 0
@@ -102,11 +127,14 @@ pub data MayAsk (given : Option ℕ) (lines : List (List ℕ)) (n : ℕ) : Type 
   is_given : given ≡ Some n → MayAsk given lines n
   is_own : HasRecord lines → n ≡ 3 → MayAsk given lines n
 
--- The record has a position that one of the lines spells, or a tag FEN in one, and asks for so many moves, unless it is one of the lines; or a
--- problem for Popeye or of Olive's begins in one.
+-- The position is spelt by one of the lines, or by a tag FEN in one, or set up man by man.
+abbrev pub IsPlacedIn : Letters → (lines : List (List ℕ)) → Setup → Type 0
+IsPlacedIn letters lines p = ((source : List ℕ) × IsSource letters lines source × SpellsSetup (line_fields source) p) ⊎ IsSetIn lines p
+
+-- The record has a position that the lines have, and asks for so many moves as may be asked, unless it is one of the lines.
 abbrev pub IsSourced : Letters → (given : Option ℕ) → (lines : List (List ℕ)) → (made : List ℕ) → Type 0
-IsSourced letters given lines made = HasOther lines ⊎ (Contains lines made ⊎ ((source : List ℕ) × IsSource letters lines source
-    × ((r : RecordValue) → Reads made 3 r → SpellsSetup (line_fields source) r.position × MayAsk given lines r.bound)))
+IsSourced letters given lines made = Contains lines made
+    ⊎ ((r : RecordValue) → Reads made 3 r → IsPlacedIn letters lines r.position × MayAsk given lines r.bound)
 
 -- Each record that is printed has and does.
 unfoldable pub AreSourced : Letters → (given : Option ℕ) → (lines : List (List ℕ)) → (text : List ℕ) → Type 0

@@ -8,3 +8,4 @@ pub mod MendedMoves
 pub mod Answered
 pub mod Counted
 pub mod LineRecords
+pub mod ReadProblems

@@ -1,11 +1,13 @@
 //! Numbers of moves, as collections write them.
 
-ghost use Rattle.std.specs.Prelude.{◌≡◌, drop, if◌then◌else◌, min};
+ghost use Rattle.std.specs.Prelude.{◌≡◌, IfSome, drop, if◌then◌else◌, min};
 ghost use Rattle.chess_board.specs.Fields.{digits_value};
 ghost use Rattle.chess_notation.specs.Claims.{is_length as is_length_word};
 ghost use Rattle.problem_import.specs.Numbers.{bound_of_word as bound_of_text};
+ghost use Rattle.stipulations.specs.Stipulations.{asked};
 
 use crate::texts::{are_digits, is_word, trimmed, without_first, word_at};
+use stipulations::{Asked, moves_asked};
 
 /// Whether a word is `#N`.
 pub(crate) fn is_length(word: &[u8]) -> bool
@@ -55,11 +57,24 @@ pub(crate) fn bound_of_word(word: &[u8]) -> u8
     capped_value(without_sign(word))
 }
 
-/// The digits of a word `#N` or `N#`.
-pub(crate) fn stipulation_digits(word: &[u8]) -> Option<&[u8]> {
+/// Whether a word is `#N` or `N#`.
+fn is_signed(word: &[u8]) -> bool {
     match word {
-        [digits @ .., b'#'] if are_digits(digits) => Some(digits),
-        _ => length_digits(word),
+        [digits @ .., b'#'] if are_digits(digits) => true,
+        _ => is_length(word),
+    }
+}
+
+/// The number of moves of a word `#N` or `N#`, of one digit or two.
+pub(crate) fn moves_signed(word: &[u8]) -> Option<u8>
+    ensures { IfSome result (λ moves. asked word.now ≡ Asked.Moves moves) }
+{
+    if !is_signed(word) {
+        return None;
+    }
+    match moves_asked(word) {
+        Asked::Moves(moves) => Some(moves),
+        Asked::Nothing | Asked::Two => None,
     }
 }
 

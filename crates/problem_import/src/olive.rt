@@ -1,15 +1,23 @@
 //! A problem in a file of Olive's (`.olv`, the YAML of YACPDB): between two lines `---`, keys with colons, lists in brackets or behind hyphens,
 //! and men with Popeye's letters.
 
-ghost use Rattle.std.specs.Prelude.{◌≡◌, IsTrue, codes};
+ghost use Rattle.std.specs.Prelude.{◌≡◌, ◌⊎◌, [], List, IfOk, map};
+ghost use Rattle.chess_notation.specs.Words.{words_in};
+ghost use Rattle.problem_import.specs.OliveProblems.{Said, asked_in, has_colon as has_a_colon, items_onto, key_onto, line_onto, man_on};
+ghost use Rattle.problem_import.specs.OliveProblems.{is_of_men as is_section_of_men, keeps_keys as does_keep_keys, section_of as section_of_key, value_of};
+ghost use Rattle.problem_import.specs.OliveProblems.{without_mark as byte_without_mark};
+ghost use Rattle.problem_import.specs.inside.ReadProblems.{AreRead, IsNoted, KeepsItems, SetsUp, TakesItem};
+ghost use Rattle.stipulations.specs.declared.asked.Asked.TheVariants.{Moves};
 
 use crate::changes::Changes;
-use crate::diagrams::Diagram;
+use crate::diagrams::{BAD_PLACEMENT, Diagram};
 use crate::games::{is_key, push_id, push_id_operation};
 use crate::import_faults::ImportFault;
-use crate::lengths::stipulation_digits;
+use crate::lengths::moves_signed;
 use crate::popeye_words::is_harmless_option;
-use crate::texts::{are_digits, is_same, push_byte, trimmed, word_at};
+use crate::texts::{are_digits, is_same, push_byte, word_at};
+use chess_board::Colour;
+use chess_notation::is_blank;
 use std::alloc::{AllocError, Global};
 
 /// What a key says, and the lines behind it.
@@ -42,7 +50,7 @@ pub(crate) struct OliveProblem {
     section: Section,
     /// The first thing for which it can't be read.
     fault: Option<ImportFault>,
-    bound: Vec<u8>,
+    bound: Option<u8>,
     authors: Vec<u8>,
     source: Vec<u8>,
     date: Vec<u8>,
@@ -52,9 +60,7 @@ pub(crate) struct OliveProblem {
 }
 
 /// Whether a line stands before a problem.
-pub(crate) fn is_border(line: &[u8]) -> bool
-    ensures { IsTrue result → line.now ≡ codes "---" }
-{
+pub(crate) fn is_border(line: &[u8]) -> bool {
     is_same(line, "---")
 }
 
@@ -98,13 +104,34 @@ fn item_at(text: &[u8]) -> (&[u8], &[u8]) {
     (text, &[])
 }
 
-/// The key that a line begins with, if it does with one, and its value; else the whole line, without the hyphen of a list's item.
-fn key_at(line: &[u8]) -> (Option<&[u8]>, &[u8]) {
-    let (word, behind) = word_at(line);
+/// A byte, or a space for a mark.
+fn without_mark(byte: u8) -> u8
+    ensures { result ≡ byte_without_mark byte }
+{
+    match byte {
+        b',' | b'[' | b']' | b'"' | b'\'' => b' ',
+        _ => byte,
+    }
+}
+
+/// A text with spaces for marks.
+fn without_marks(alloc: Global, text: &[u8]) -> Result<Vec<u8>, AllocError>
+    ensures { IfOk result (λ plain. plain.items ≡ map byte_without_mark text.now) }
+{
+    let mut plain = Vec::new(alloc);
+    for byte in text {
+        plain.push(without_mark(*byte))?;
+    }
+    Ok(plain)
+}
+
+/// Whether a word is a key with its colon.
+fn has_colon(word: &[u8]) -> bool
+    ensures { result ≡ has_a_colon word.now }
+{
     match word {
-        [key @ .., b':'] => (Some(key), behind),
-        [b'-'] => (None, behind),
-        _ => (None, line),
+        [.., last] => *last == b':',
+        [] => false,
     }
 }
 
@@ -152,41 +179,73 @@ fn push_key(keys: &mut Vec<u8>, key: &[u8]) -> Result<(), AllocError> {
     Ok(())
 }
 
-/// What a key says of what stands behind it, where such a thing was said before.
-fn section_of(key: &[u8], before: Section) -> Section {
-    let is_of_men = matches!(
-        before,
+fn is_of_men(section: Section) -> bool
+    ensures { result ≡ is_section_of_men section }
+{
+    matches!(
+        section,
         Section::Men | Section::White | Section::Black | Section::Neutral
-    );
-    match key {
-        b"white" if is_of_men => Section::White,
-        b"black" if is_of_men => Section::Black,
-        b"neutral" if is_of_men => Section::Neutral,
-        b"authors" | b"author" => Section::Authors,
-        b"source" => Section::Source,
-        b"date" => Section::Date,
-        b"algebraic" => Section::Men,
-        b"stipulation" => Section::Stipulation,
-        b"options" => Section::Options,
-        b"conditions" => Section::Conditions,
-        b"twins" => Section::Twins,
-        b"solution" => Section::Solution,
-        b"keywords" => Section::Other,
-        _ if matches!(before, Section::Solution | Section::Twins) => before,
-        _ => Section::Other,
+    )
+}
+
+/// Whether any other key is one of the section's.
+fn keeps_keys(section: Section) -> bool
+    ensures { result ≡ does_keep_keys section }
+{
+    matches!(section, Section::Twins | Section::Solution)
+}
+
+/// What stands behind a key, where such a section was before.
+#[tactic(auto, unfolding(crate::specs::OliveProblems::section_of))]
+fn section_of(key: &[u8], before: Section) -> Section
+    ensures { result ≡ section_of_key key.now before }
+{
+    let is_man = is_of_men(before);
+    if is_man && is_same(key, "white") {
+        Section::White
+    } else if is_man && is_same(key, "black") {
+        Section::Black
+    } else if is_man && is_same(key, "neutral") {
+        Section::Neutral
+    } else if is_same(key, "authors") || is_same(key, "author") {
+        Section::Authors
+    } else if is_same(key, "source") {
+        Section::Source
+    } else if is_same(key, "date") {
+        Section::Date
+    } else if is_same(key, "algebraic") {
+        Section::Men
+    } else if is_same(key, "stipulation") {
+        Section::Stipulation
+    } else if is_same(key, "options") {
+        Section::Options
+    } else if is_same(key, "conditions") {
+        Section::Conditions
+    } else if is_same(key, "twins") {
+        Section::Twins
+    } else if is_same(key, "solution") {
+        Section::Solution
+    } else if is_same(key, "keywords") {
+        Section::Other
+    } else if keeps_keys(before) {
+        before
+    } else {
+        Section::Other
     }
 }
 
 impl OliveProblem {
     /// Behind its first line.
-    pub(crate) fn new(alloc: Global, number: usize, changes: Changes) -> OliveProblem {
+    pub(crate) fn new(alloc: Global, number: usize, changes: Changes) -> OliveProblem
+        ensures { AreRead [] result }
+    {
         OliveProblem {
             number,
             changes,
             is_ended: false,
             section: Section::Other,
             fault: None,
-            bound: Vec::new(alloc),
+            bound: None,
             authors: Vec::new(alloc),
             source: Vec::new(alloc),
             date: Vec::new(alloc),
@@ -196,39 +255,51 @@ impl OliveProblem {
     }
 
     /// Keeps a fault, unless there is an earlier one.
-    fn note(&mut self, fault: ImportFault) {
+    fn note(&mut self, fault: ImportFault)
+        ensures { IsNoted self.new.fault }
+    {
         if self.fault.is_none() {
             self.fault = Some(fault);
         }
     }
 
     /// Takes what is to be mated in.
-    fn take_stipulation(&mut self, value: &[u8]) -> Result<(), AllocError> {
-        let value = bare(value);
-        if value.is_empty() {
-            return Ok(());
-        }
-        match stipulation_digits(value) {
-            Some(digits) if self.bound.is_empty() => self.bound.extend_from_slice(digits),
-            _ => {
-                self.note(ImportFault::BadStipulation);
-                Ok(())
-            }
+    fn take_stipulation(&mut self, word: &[u8])
+        requires { self.now.section ≡ Section.Stipulation }
+        ensures { TakesItem word.now self.old self.new }
+    {
+        match moves_signed(word) {
+            Some(moves) if self.bound.is_none() => self.bound = Some(moves),
+            _ => self.note(ImportFault::BadStipulation),
         }
     }
 
-    /// Takes a man on a square.
-    fn take_man(&mut self, word: &[u8], is_white: bool) {
-        if let Err(fault) = self.diagram.put_word(word, is_white) {
+    /// Takes a man of White's on a square.
+    fn take_white(&mut self, word: &[u8])
+        requires { self.now.section ≡ Section.White }
+        ensures { TakesItem word.now self.old self.new }
+    {
+        if let Err(fault) = self.diagram.put_word(word, Colour::White) {
             self.note(fault);
         }
     }
 
-    /// Takes an item of a list.
-    fn take_item(&mut self, word: &[u8]) {
+    /// Takes a man of Black's on a square.
+    fn take_black(&mut self, word: &[u8])
+        requires { self.now.section ≡ Section.Black }
+        ensures { TakesItem word.now self.old self.new }
+    {
+        if let Err(fault) = self.diagram.put_word(word, Colour::Black) {
+            self.note(fault);
+        }
+    }
+
+    /// Takes an item that is neither a man nor what is asked.
+    #[tactic(auto, unfolding(crate::specs::inside::ReadProblems::KeepsItems))]
+    fn take_other(&mut self, word: &[u8])
+        ensures { KeepsItems self.old self.new }
+    {
         match self.section {
-            Section::White => self.take_man(word, true),
-            Section::Black => self.take_man(word, false),
             Section::Neutral => self.note(ImportFault::FairyPiece),
             Section::Options if is_harmless_option(word) || are_digits(word) => {}
             Section::Options | Section::Conditions => self.note(ImportFault::FairyCondition),
@@ -237,21 +308,36 @@ impl OliveProblem {
         }
     }
 
-    /// Takes the items of a line.
-    fn take_items(&mut self, value: &[u8]) {
-        let mut rest = value;
-        for _ in 0..value.len() {
-            let (word, behind) = item_at(rest);
-            if word.is_empty() {
-                break;
-            }
+    /// Takes an item.
+    fn take_item(&mut self, word: &[u8])
+        ensures { TakesItem word.now self.old self.new }
+    {
+        match self.section {
+            Section::White => self.take_white(word),
+            Section::Black => self.take_black(word),
+            Section::Stipulation => self.take_stipulation(word),
+            _ => self.take_other(word),
+        }
+    }
+
+    /// Takes the items of a text without marks.
+    #[tactic(auto, using(chess_notation::proofs::WordLists::behind_shorter))]
+    fn take_items(&mut self, text: &[u8])
+        ensures { (said : List Said) → AreRead said self.old → AreRead (items_onto (words_in text.now) said) self.new }
+    {
+        let mut rest = text;
+        while !is_blank(rest) {
+            let (word, behind) = word_at(rest);
             self.take_item(word);
             rest = behind;
         }
     }
 
     /// Takes a line of the solution: the keys that it names.
-    fn take_solution(&mut self, line: &[u8]) -> Result<(), AllocError> {
+    #[tactic(auto, unfolding(crate::specs::inside::ReadProblems::KeepsItems))]
+    fn take_solution(&mut self, line: &[u8]) -> Result<(), AllocError>
+        ensures { IfOk result (λ _. KeepsItems self.old self.new) }
+    {
         let mut rest = line;
         for _ in 0..line.len() {
             let (word, behind) = item_at(rest);
@@ -266,57 +352,98 @@ impl OliveProblem {
         Ok(())
     }
 
-    /// Takes a value, or more of one.
-    fn take_value(&mut self, value: &[u8]) -> Result<(), AllocError> {
+    /// Takes a value that is no list of items.
+    #[tactic(auto, unfolding(crate::specs::inside::ReadProblems::KeepsItems))]
+    fn take_text(&mut self, value: &[u8]) -> Result<(), AllocError>
+        ensures { IfOk result (λ _. KeepsItems self.old self.new) }
+    {
         match self.section {
-            Section::Authors => push_id(&mut self.authors, bare(value), &mut self.changes),
-            Section::Source => push_id(&mut self.source, bare(value), &mut self.changes),
-            Section::Date => push_id(&mut self.date, bare(value), &mut self.changes),
-            Section::Stipulation => self.take_stipulation(value),
-            Section::Solution => self.take_solution(value),
-            _ => {
-                self.take_items(value);
+            Section::Authors => {
+                push_id(&mut self.authors, bare(value), &mut self.changes)?;
                 Ok(())
             }
+            Section::Source => {
+                push_id(&mut self.source, bare(value), &mut self.changes)?;
+                Ok(())
+            }
+            Section::Date => {
+                push_id(&mut self.date, bare(value), &mut self.changes)?;
+                Ok(())
+            }
+            Section::Solution => {
+                self.take_solution(value)?;
+                Ok(())
+            }
+            _ => Ok(()),
         }
     }
 
-    /// Takes a line.
-    pub(crate) fn take_line(&mut self, line: &[u8]) -> Result<(), AllocError> {
-        if is_same(line, "...") && self.section != Section::Solution {
+    /// Takes the key that a line begins with, if it does with one; gives its value.
+    fn take_key<'t>(&mut self, line: &'t [u8]) -> &'t [u8]
+        ensures value { result.now ≡ value_of line.now }
+        ensures read { (said : List Said) → AreRead said self.old → AreRead (key_onto line.now said) self.new }
+    {
+        let (word, behind) = word_at(line);
+        if has_colon(word) {
+            let key = word.split_at(word.len() - 1).0;
+            self.section = section_of(key, self.section);
+            return behind;
+        }
+        if is_same(word, "-") { behind } else { line }
+    }
+
+    /// Takes a line, unless it ends the problem.
+    pub(crate) fn take_line(&mut self, alloc: Global, line: &[u8]) -> Result<(), AllocError>
+        ensures { IfOk result (λ _. (said : List Said) → AreRead said self.old → AreRead said self.new ⊎ AreRead (line_onto line.now said) self.new) }
+    {
+        if is_same(line, "...") && !matches!(self.section, Section::Solution) {
             self.is_ended = true;
             return Ok(());
         }
-        let (key, value) = key_at(trimmed(line));
-        if let Some(key) = key {
-            self.section = section_of(key, self.section);
-        }
-        self.take_value(value)
+        let value = self.take_key(line);
+        self.take_text(value)?;
+        let items = without_marks(alloc, value)?;
+        self.take_items(items.as_slice());
+        Ok(())
     }
 
-    /// Why it can't be read, if it can't.
-    pub(crate) fn first_fault(&self) -> Option<ImportFault> {
-        match self.fault {
-            None if self.bound.is_empty() => Some(ImportFault::BadStipulation),
-            fault => fault,
-        }
-    }
-
-    /// What is made of the problem, read as a record: White moves, and castling is allowed where king and rook stand at home.
-    pub(crate) fn text(&mut self, alloc: Global) -> Result<Vec<u8>, AllocError> {
+    /// What is made of the problem: White moves, and castling is allowed where king and rook stand at home.
+    fn text(&self, alloc: Global, moves: u8, changes: &mut Changes) -> Result<Vec<u8>, AllocError> {
         let mut id = Vec::new(alloc);
         for value in [&self.authors, &self.source, &self.date] {
-            push_id(&mut id, value.as_slice(), &mut self.changes)?;
+            push_id(&mut id, value.as_slice(), changes)?;
         }
         let mut text = Vec::new(alloc);
-        self.diagram.push_problem(&mut text, self.bound.as_slice())?;
+        self.diagram.push_problem(&mut text, moves)?;
         if !self.keys.is_empty() {
-            self.changes.moves = true;
+            changes.moves = true;
             text.extend_from_slice(b" bm")?;
             text.extend_from_slice(self.keys.as_slice())?;
             push_byte(&mut text, b';')?;
         }
         push_id_operation(&mut text, id.as_slice())?;
         Ok(text)
+    }
+
+    /// The same, read as a record, and how many moves it asks; or why it can't be read.
+    pub(crate) fn made(
+        &self,
+        alloc: Global,
+        changes: &mut Changes,
+    ) -> Result<Result<(Vec<u8>, u8), ImportFault>, AllocError>
+        ensures { IfOk result (λ made. IfOk made (λ it. (said : List Said) → AreRead said self.now
+            → SetsUp (man_on said) it.0.items × (asked_in said ≡ Moves it.1))) }
+    {
+        if let Some(fault) = self.fault {
+            return Ok(Err(fault));
+        }
+        let Some(moves) = self.bound else {
+            return Ok(Err(ImportFault::BadStipulation));
+        };
+        let text = self.text(alloc, moves, changes)?;
+        if !self.diagram.is_said_by(text.as_slice()) {
+            return Ok(Err(BAD_PLACEMENT));
+        }
+        Ok(Ok((text, moves)))
     }
 }

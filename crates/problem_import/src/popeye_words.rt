@@ -1,7 +1,11 @@
 //! The words of Popeye's input. A first part of a word, of four letters or more, stands for it.
 
-ghost use Rattle.std.specs.Prelude.{◌≡◌, IfSome, IsTrue, codes};
-ghost use Rattle.problem_import.specs.Sources.{StandsFor};
+ghost use Rattle.std.specs.Prelude.{◌≡◌, Some};
+ghost use Rattle.problem_import.specs.PopeyeProblems.{colour_named, command_of as command_of_word, ends_line as does_end_line};
+ghost use Rattle.problem_import.specs.PopeyeProblems.{is_end_word as is_word_of_end, is_remark_word as is_word_of_remark};
+ghost use Rattle.problem_import.specs.PopeyeProblems.{is_text_word as is_word_of_text, stands_for as does_stand_for};
+
+use chess_board::Colour;
 
 /// What Popeye is told to do.
 #[derive(Clone, Copy)]
@@ -18,8 +22,9 @@ pub(crate) enum Command {
 }
 
 /// Whether a word stands for a name, in small letters or large.
+#[tactic(auto, unfolding(crate::specs::PopeyeProblems::stands_for))]
 fn stands_for(word: &[u8], name: &str) -> bool
-    ensures { IsTrue result → StandsFor word.now name.now }
+    ensures { result ≡ does_stand_for word.now name.now }
 {
     let name = name.as_bytes();
     let length = word.len();
@@ -36,15 +41,37 @@ fn stands_for_one(word: &[u8], names: &[&str]) -> bool {
     false
 }
 
+/// Whether a word stands before a name.
+fn is_text_word(word: &[u8]) -> bool
+    ensures { result ≡ is_word_of_text word.now }
+{
+    stands_for(word, "Author") || stands_for(word, "Origin") || stands_for(word, "Title")
+}
+
+/// Whether a word stands before a remark.
+fn is_remark_word(word: &[u8]) -> bool
+    ensures { result ≡ is_word_of_remark word.now }
+{
+    stands_for(word, "Remark") || stands_for(word, "Award")
+}
+
+/// Whether a word ends a problem.
+fn is_end_word(word: &[u8]) -> bool
+    ensures { result ≡ is_word_of_end word.now }
+{
+    stands_for(word, "EndProblem") || stands_for(word, "NextProblem")
+}
+
 /// The command that a word stands for.
+#[tactic(auto, unfolding(crate::specs::PopeyeProblems::command_of))]
 pub(crate) fn command_of(word: &[u8]) -> Option<Command>
-    ensures { IfSome result (λ command. command ≡ Command.Begin → StandsFor word.now (codes "BeginProblem")) }
+    ensures { result ≡ command_of_word word.now }
 {
     if stands_for(word, "BeginProblem") {
         Some(Command::Begin)
-    } else if stands_for_one(word, &["Author", "Origin", "Title"]) {
+    } else if is_text_word(word) {
         Some(Command::Text)
-    } else if stands_for_one(word, &["Remark", "Award"]) {
+    } else if is_remark_word(word) {
         Some(Command::Remark)
     } else if stands_for(word, "Stipulation") {
         Some(Command::Stipulation)
@@ -56,11 +83,18 @@ pub(crate) fn command_of(word: &[u8]) -> Option<Command>
         Some(Command::Options)
     } else if stands_for(word, "Condition") {
         Some(Command::Conditions)
-    } else if stands_for_one(word, &["EndProblem", "NextProblem"]) {
+    } else if is_end_word(word) {
         Some(Command::End)
     } else {
         None
     }
+}
+
+/// Whether what stands behind a command on its line says nothing: a name, a remark, and what follows a problem's end.
+pub(crate) fn ends_line(command: Command) -> bool
+    ensures { result ≡ does_end_line (Some command) }
+{
+    matches!(command, Command::Text | Command::Remark | Command::End)
 }
 
 /// Whether a word begins the next problem, too.
@@ -91,12 +125,14 @@ pub(crate) fn is_harmless_option(word: &[u8]) -> bool {
     ) || word.eq_ignore_ascii_case(b"Try")
 }
 
-/// The colour that a word stands for: whether it is White.
-pub(crate) fn is_white_word(word: &[u8]) -> Option<bool> {
+/// The colour that a word stands for.
+pub(crate) fn colour_of(word: &[u8]) -> Option<Colour>
+    ensures { result ≡ colour_named word.now }
+{
     if stands_for(word, "White") {
-        Some(true)
+        Some(Colour::White)
     } else if stands_for(word, "Black") {
-        Some(false)
+        Some(Colour::Black)
     } else {
         None
     }

@@ -182,7 +182,7 @@ pub(crate) enum ToldRecord {
     Two,
 }
 
-/// How many moves a record is to ask, where its line says them or is asked none, or any; nothing where its line says none.
+/// How many moves a record is to ask, where its lines say them or it is a record as it stands; nothing else.
 pub(crate) fn moves_of(number: Number) -> Option<Option<u8>>
     ensures known { IfSome result (λ moves. (form : FormValue) (given : Option ℕ) (line : List ℕ) → IsAskedOf form line number
         → IsNumberOf form given line moves) }
@@ -193,7 +193,6 @@ pub(crate) fn moves_of(number: Number) -> Option<Option<u8>>
     match number {
         Number::Said(moves) => Some(Some(moves)),
         Number::Own => Some(Some(3)),
-        Number::Any => Some(None),
         Number::Unsaid => None,
     }
 }

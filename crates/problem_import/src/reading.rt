@@ -6,9 +6,9 @@ ghost use Rattle.move_words.specs.declared.languages.Letters.{Letters as Letters
 ghost use Rattle.problem_import.specs.Imports.{IsRecord};
 ghost use Rattle.problem_import.specs.Letters.{IsTextOf};
 ghost use Rattle.problem_import.specs.inside.Findings.{AreFoundOf, IsAsked, IsFoundOf, IsRecordIf};
-ghost use Rattle.problem_import.specs.Sources.{HasOther, HasRecord, IsSaidIn, IsTextIn};
+ghost use Rattle.problem_import.specs.Sources.{HasRecord, IsSaidIn, IsTextIn};
 ghost use Rattle.problem_import.specs.inside.KnownSources.{AreFrom, IsEndIn, IsFoundFrom, IsKept, IsKnown, IsNumberFrom, IsOpenFrom};
-ghost use Rattle.problem_import.specs.inside.KnownSources.{Keeps, KeepsBy, KeepsByEnd};
+ghost use Rattle.problem_import.specs.inside.KnownSources.{Keeps, KeepsBy, KeepsByEnd, KeepsByPart};
 ghost use Rattle.problem_import.specs.inside.OpenProblems.{due, goes_on as does_go_on, has_tags};
 ghost use Rattle.problem_import.specs.inside.TagPairs.{is_tag_line, is_tag_pair as is_tag_pair_text};
 
@@ -35,8 +35,6 @@ pub(crate) enum Number {
     Own,
     /// As many as are given, if any are: its line says none, and is no record.
     Unsaid,
-    /// As many as it asks.
-    Any,
 }
 
 /// What was found of a problem: what its record is to be, or why there is none.
@@ -143,7 +141,7 @@ impl Reading {
         match open {
             Open::Game(game) => finish_game(alloc, game, findings),
             Open::Popeye(problem) => finish_popeye(alloc, &problem, findings),
-            Open::Olive(problem) => finish_olive(alloc, problem, findings),
+            Open::Olive(problem) => finish_olive(alloc, &problem, findings),
             Open::Nothing | Open::Movetext(_) => Ok(()),
         }
     }
@@ -294,7 +292,7 @@ impl Reading {
     ) -> Result<(), AllocError>
         ensures kept { IfOk result (λ _. due self.old.open + length findings.old.items ≤ due self.new.open + length findings.new.items) }
         ensures own { IfOk result (λ _. (line : List ℕ) → AreFoundOf line findings.old.items → AreFoundOf line findings.new.items) }
-        ensures from { IfOk result (λ _. Keeps self.old self.new findings.old.items findings.new.items) }
+        ensures from { IfOk result (λ _. KeepsByPart line.now self.old self.new findings.old.items findings.new.items) }
     {
         let Open::Popeye(problem) = &mut self.open else {
             return Ok(());
@@ -324,13 +322,13 @@ impl Reading {
     ) -> Result<(), AllocError>
         ensures kept { IfOk result (λ _. due self.old.open + length findings.old.items ≤ due self.new.open + length findings.new.items) }
         ensures own { IfOk result (λ _. (line : List ℕ) → AreFoundOf line findings.old.items → AreFoundOf line findings.new.items) }
-        ensures from { IfOk result (λ _. Keeps self.old self.new findings.old.items findings.new.items) }
+        ensures from { IfOk result (λ _. KeepsBy line.now self.old self.new findings.old.items findings.new.items) }
     {
         let Open::Olive(problem) = &mut self.open else {
             return Ok(());
         };
         problem.changes = problem.changes.and(changes);
-        problem.take_line(line)?;
+        problem.take_line(alloc, line)?;
         if !problem.is_ended {
             return Ok(());
         }
@@ -413,8 +411,7 @@ impl Reading {
     ) -> Result<(), AllocError>
         ensures more { IfOk result (λ _. due self.old.open + length findings.old.items < due self.new.open + length findings.new.items) }
         ensures own { IfOk result (λ _. (line : List ℕ) → AreFoundOf line findings.old.items → AreFoundOf line findings.new.items) }
-        ensures from { IfOk result (λ _. (letters : LettersValue) (lines : List (List ℕ)) → HasOther lines
-            → IsKept letters lines self.old self.new findings.old.items findings.new.items) }
+        ensures from { IfOk result (λ _. KeepsByPart behind.now self.old self.new findings.old.items findings.new.items) }
     {
         let problem = PopeyeProblem::new(alloc, number, Changes::none(Form::Popeye));
         self.finish(alloc, Open::Popeye(problem), findings)?;
@@ -431,8 +428,7 @@ impl Reading {
     ) -> Result<(), AllocError>
         ensures more { IfOk result (λ _. due self.old.open + length findings.old.items < due self.new.open + length findings.new.items) }
         ensures own { IfOk result (λ _. (line : List ℕ) → AreFoundOf line findings.old.items → AreFoundOf line findings.new.items) }
-        ensures from { IfOk result (λ _. (letters : LettersValue) (lines : List (List ℕ)) → HasOther lines
-            → IsKept letters lines self.old self.new findings.old.items findings.new.items) }
+        ensures from { IfOk result (λ _. Keeps self.old self.new findings.old.items findings.new.items) }
     {
         let problem = OliveProblem::new(alloc, number, Changes::none(Form::Popeye));
         self.finish(alloc, Open::Olive(problem), findings)?;
@@ -673,13 +669,17 @@ fn finish_game(alloc: Global, game: Game, findings: &mut Vec<Finding>) -> Result
 /// What a problem for Popeye says.
 fn found_popeye(alloc: Global, problem: &PopeyeProblem) -> Result<Found, AllocError>
     ensures own { IfOk result (λ found. (line : List ℕ) → IsFoundOf line found) }
-    ensures from { IfOk result (λ found. (letters : LettersValue) (lines : List (List ℕ)) → HasOther lines → IsFoundFrom letters lines found) }
+    ensures from { IfOk result (λ found. (letters : LettersValue) (lines : List (List ℕ))
+        → IsOpenFrom letters lines (Open.Popeye problem.now) → IsFoundFrom letters lines found) }
 {
-    if let Some(fault) = problem.first_fault() {
-        return Ok(Found::Fault(fault));
+    let made = problem.made(alloc)?;
+    match made {
+        Ok((text, moves)) => {
+            let changes = problem.changes.of(Form::Popeye);
+            Ok(Found::Text(text, changes, Number::Said(moves)))
+        }
+        Err(fault) => Ok(Found::Fault(fault)),
     }
-    let text = problem.text(alloc)?;
-    Ok(Found::Text(text, problem.changes.of(Form::Popeye), Number::Any))
 }
 
 /// Adds what a problem for Popeye says.
@@ -690,7 +690,7 @@ fn finish_popeye(
 ) -> Result<(), AllocError>
     ensures length { IfOk result (λ _. length findings.new.items ≡ length findings.old.items + 1) }
     ensures own { IfOk result (λ _. (line : List ℕ) → AreFoundOf line findings.old.items → AreFoundOf line findings.new.items) }
-    ensures from { IfOk result (λ _. (letters : LettersValue) (lines : List (List ℕ)) → HasOther lines
+    ensures from { IfOk result (λ _. (letters : LettersValue) (lines : List (List ℕ)) → IsOpenFrom letters lines (Open.Popeye problem.now)
         → AreFrom letters lines findings.old.items → AreFrom letters lines findings.new.items) }
 {
     let found = found_popeye(alloc, problem)?;
@@ -705,30 +705,34 @@ fn finish_popeye(
 }
 
 /// What a problem of Olive's says.
-fn found_olive(alloc: Global, problem: &mut OliveProblem) -> Result<Found, AllocError>
+fn found_olive(alloc: Global, problem: &OliveProblem) -> Result<Found, AllocError>
     ensures own { IfOk result (λ found. (line : List ℕ) → IsFoundOf line found) }
-    ensures from { IfOk result (λ found. (letters : LettersValue) (lines : List (List ℕ)) → HasOther lines → IsFoundFrom letters lines found) }
+    ensures from { IfOk result (λ found. (letters : LettersValue) (lines : List (List ℕ))
+        → IsOpenFrom letters lines (Open.Olive problem.now) → IsFoundFrom letters lines found) }
 {
-    if let Some(fault) = problem.first_fault() {
-        return Ok(Found::Fault(fault));
+    let mut changes = problem.changes;
+    let made = problem.made(alloc, &mut changes)?;
+    match made {
+        Ok((text, moves)) => {
+            let changes = changes.of(Form::Popeye);
+            Ok(Found::Text(text, changes, Number::Said(moves)))
+        }
+        Err(fault) => Ok(Found::Fault(fault)),
     }
-    let text = problem.text(alloc)?;
-    Ok(Found::Text(text, problem.changes.of(Form::Popeye), Number::Any))
 }
 
 /// Adds what a problem of Olive's says.
 fn finish_olive(
     alloc: Global,
-    problem: OliveProblem,
+    problem: &OliveProblem,
     findings: &mut Vec<Finding>,
 ) -> Result<(), AllocError>
     ensures length { IfOk result (λ _. length findings.new.items ≡ length findings.old.items + 1) }
     ensures own { IfOk result (λ _. (line : List ℕ) → AreFoundOf line findings.old.items → AreFoundOf line findings.new.items) }
-    ensures from { IfOk result (λ _. (letters : LettersValue) (lines : List (List ℕ)) → HasOther lines
+    ensures from { IfOk result (λ _. (letters : LettersValue) (lines : List (List ℕ)) → IsOpenFrom letters lines (Open.Olive problem.now)
         → AreFrom letters lines findings.old.items → AreFrom letters lines findings.new.items) }
 {
-    let mut problem = problem;
-    let found = found_olive(alloc, &mut problem)?;
+    let found = found_olive(alloc, problem)?;
     push_finding(
         findings,
         Finding {

@@ -27,7 +27,6 @@ abbrev pub IsAsked : (line : List ℕ) → Asked → Number → Type 0
 IsAsked line asked (number.Said n) = asked ≡ asks.Moves n
 IsAsked line asked number.Own = (asked ≡ asks.Nothing) × IsRecord line
 IsAsked line asked number.Unsaid = (asked ≡ asks.Nothing) × (¬ (IsRecord line))
-IsAsked line asked number.Any = ⊥
 
 -- So many as what the line says does, unless it was made of a game or of a problem for Popeye.
 unfoldable pub IsAskedOf : Form → (line : List ℕ) → Number → Type 0

@@ -2,13 +2,16 @@
 use Rattle.std.specs.Prelude.{◌≡◌, ◌⊎◌, ℕ, List, [], ◌∷◌, ◌++◌, All, Contains, Bool, true, Option, Some, None}
 use Rattle.chess_notation.specs.RecordFields.{line_fields}
 use Rattle.chess_notation.specs.Records.{RecordValue, Reads}
+use Rattle.chess_notation.specs.Words.{behind}
 use Rattle.move_words.specs.declared.languages.Letters.{Letters}
 use Rattle.chess_board.specs.Characters.{char}
 use Rattle.stipulations.specs.Stipulations.{asked}
+use Rattle.stipulations.specs.declared.asked.Asked.{Asked}
 use Rattle.stipulations.specs.declared.asked.Asked.TheVariants.{Moves}
+use Rattle.chess_board.specs.declared.men.Man.{Man}
 use Rattle.text_lines.specs.Replies.{LineReplies, RepliesBehind}
 use Rattle.problem_import.specs.Imports.{AreImported}
-use Rattle.problem_import.specs.Sources.{HasOther, HasRecord, IsSaidIn, IsSource, IsTextIn, MayAsk, MaySay, before_byte}
+use Rattle.problem_import.specs.Sources.{AreItemsIn, AreSetIn, AreWordsIn, HasRecord, IsSaidIn, IsSource, IsTextIn, MayAsk, MaySay, before_byte}
 use Rattle.problem_import.specs.declared.games.Game.{Game}
 use Rattle.problem_import.specs.declared.printing.ToldRecord.{ToldRecord}
 use Rattle.problem_import.specs.declared.printing.ToldRecord.TheVariants as told
@@ -20,28 +23,34 @@ use Rattle.problem_import.specs.declared.reading.Number.TheVariants as number
 use Rattle.problem_import.specs.declared.reading.Open.{Open}
 use Rattle.problem_import.specs.declared.reading.Open.TheVariants as opens
 use Rattle.problem_import.specs.declared.reading.Reading.{Reading}
+use Rattle.problem_import.specs.OliveProblems.{Said}
+use Rattle.problem_import.specs.declared.olive.OliveProblem.{OliveProblem}
+use Rattle.problem_import.specs.declared.popeye.PopeyeProblem.{PopeyeProblem}
 use Rattle.problem_import.specs.inside.Findings.{Asks}
+use Rattle.problem_import.specs.inside.ReadProblems.{AreRead, IsRead, SetsUp}
 use Rattle.problem_import.specs.inside.TagPairs.{EndsText}
 
 -- The text stands at the end of what one of the lines says.
 abbrev pub IsEndIn : (lines : List (List ℕ)) → (rest : List ℕ) → Type 0
 IsEndIn lines rest = (text : List ℕ) × IsTextIn lines text × EndsText rest text
 
--- The text has the first four words of what one of the lines says, or of a tag FEN; or a problem for Popeye or of Olive's begins in one.
-unfoldable pub IsFrom : Letters → (lines : List (List ℕ)) → (made : List ℕ) → Type 0
-IsFrom letters lines made = HasOther lines ⊎ ((source : List ℕ) × IsSource letters lines source × (line_fields made ≡ line_fields source))
+-- The lines set up each sound position that the text says.
+abbrev pub IsSetFrom : (lines : List (List ℕ)) → (made : List ℕ) → Type 0
+IsSetFrom lines made = (man_on : ℕ → Option Man) × (asks : Asked) × AreSetIn lines man_on asks × SetsUp man_on made
 
--- A record is to ask so many as one of the lines says; as many as it does itself, where one is a record; any, where a problem for Popeye or of
--- Olive's begins in one.
+-- The text has the first four words of what one of the lines says, or of a tag FEN; or the lines set it up.
+unfoldable pub IsFrom : Letters → (lines : List (List ℕ)) → (made : List ℕ) → Type 0
+IsFrom letters lines made = ((source : List ℕ) × IsSource letters lines source × (line_fields made ≡ line_fields source)) ⊎ IsSetFrom lines made
+
+-- A record is to ask so many as the lines say; as many as it does itself, where one is a record.
 abbrev pub IsNumberFrom : (lines : List (List ℕ)) → Number → Type 0
 IsNumberFrom lines (number.Said n) = IsSaidIn lines n
 IsNumberFrom lines number.Own = HasRecord lines
 IsNumberFrom lines number.Unsaid = Unit {0}
-IsNumberFrom lines number.Any = HasOther lines
 
--- So many may be asked, where that is a number.
+-- So many may be asked.
 unfoldable pub IsCountFrom : (given : Option ℕ) → (lines : List (List ℕ)) → Option ℕ → Type 0
-IsCountFrom given lines None = HasOther lines
+IsCountFrom given lines None = ⊥
 IsCountFrom given lines (Some n) = MayAsk given lines n
 
 abbrev pub IsFoundFrom : Letters → (lines : List (List ℕ)) → Found → Type 0
@@ -78,12 +87,19 @@ pub record IsGameFrom (letters : Letters) (lines : List (List ℕ)) (game : Game
   pub asked : (n : ℕ) → game.asked ≡ Moves n → IsSaidIn lines n
   pub stipulated : (n : ℕ) → game.stipulated ≡ Some (Moves n) → IsSaidIn lines n
 
+-- Words of the lines were read.
+abbrev pub IsPopeyeFrom : (lines : List (List ℕ)) → PopeyeProblem → Type 0
+IsPopeyeFrom lines problem = (words : List (List ℕ)) × AreWordsIn lines words × IsRead words problem
+
+abbrev pub IsOliveFrom : (lines : List (List ℕ)) → OliveProblem → Type 0
+IsOliveFrom lines problem = (said : List Said) × AreItemsIn lines said × AreRead said problem
+
 abbrev pub IsOpenFrom : Letters → (lines : List (List ℕ)) → Open → Type 0
 IsOpenFrom letters lines opens.Nothing = Unit {0}
 IsOpenFrom letters lines (opens.Game game) = IsGameFrom letters lines game
 IsOpenFrom letters lines (opens.Movetext movetext) = Unit {0}
-IsOpenFrom letters lines (opens.Popeye problem) = HasOther lines
-IsOpenFrom letters lines (opens.Olive problem) = HasOther lines
+IsOpenFrom letters lines (opens.Popeye problem) = IsPopeyeFrom lines problem
+IsOpenFrom letters lines (opens.Olive problem) = IsOliveFrom lines problem
 
 -- What is open is of the lines, and read by the letters.
 unfoldable pub IsKnown : Letters → (lines : List (List ℕ)) → (read_by : Letters) → Open → Type 0
@@ -106,10 +122,19 @@ KeepsBy text old new before after = (letters : Letters) (lines : List (List ℕ)
 abbrev pub KeepsByEnd : (rest : List ℕ) → (old new : Reading) → (before after : List Finding) → Type 0
 KeepsByEnd rest old new before after = (letters : Letters) (lines : List (List ℕ)) → IsEndIn lines rest → IsKept letters lines old new before after
 
+-- The text is what one of the lines says, or that behind its first word.
+abbrev pub IsPartIn : (lines : List (List ℕ)) → (rest : List ℕ) → Type 0
+IsPartIn lines rest = (text : List ℕ) × IsTextIn lines text × ((rest ≡ text) ⊎ (rest ≡ behind text))
+
+-- It is so where the text is such a part.
+abbrev pub KeepsByPart : (rest : List ℕ) → (old new : Reading) → (before after : List Finding) → Type 0
+KeepsByPart rest old new before after = (letters : Letters) (lines : List (List ℕ)) → IsPartIn lines rest
+    → IsKept letters lines old new before after
+
 -- A text that is printed is of the lines, and may ask what it does; or it is one of them.
 unfoldable pub IsMadeFrom : Letters → (given : Option ℕ) → (lines : List (List ℕ)) → (made : List ℕ) → Type 0
 IsMadeFrom letters given lines made = Contains lines made
-    ⊎ (IsFrom letters lines made × (HasOther lines ⊎ ((r : RecordValue) → Reads made 3 r → MayAsk given lines r.bound)))
+    ⊎ (IsFrom letters lines made × ((r : RecordValue) → Reads made 3 r → MayAsk given lines r.bound))
 
 -- Records that are printed of what is of the lines are.
 abbrev pub PrintsFrom : Letters → (given : Option ℕ) → (lines : List (List ℕ)) → (before : List ℕ) → Bool → (after : List ℕ) → Bool → Type 0

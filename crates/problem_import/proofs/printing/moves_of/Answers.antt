@@ -1,5 +1,5 @@
-use Rattle.problem_import.proofs.KnownNumbers.{number_any, number_own, number_said}
-use Rattle.problem_import.proofs.Sources.{count_any, count_own, count_said}
+use Rattle.problem_import.proofs.KnownNumbers.{number_own, number_said}
+use Rattle.problem_import.proofs.Sources.{count_own, count_said}
 use Rattle.problem_import.proofs.printing.moves_of.Goals as goal
 
 pub returns-in-Said-clause-known : goal.returns-in-Said-clause-known
@@ -8,14 +8,8 @@ returns-in-Said-clause-known c = λ form given line asks. number_said form given
 pub returns-in-Own-clause-known : goal.returns-in-Own-clause-known
 returns-in-Own-clause-known c = λ form given line asks. number_own form given line (rw c.in-Own.is at asks)
 
-pub returns-in-Any-clause-known : goal.returns-in-Any-clause-known
-returns-in-Any-clause-known c = λ form given line asks. number_any form given line (rw c.in-Any.is at asks)
-
 pub returns-in-Said-clause-from : goal.returns-in-Said-clause-from
 returns-in-Said-clause-from c = λ given lines from. count_said given lines c.in-Said.moves (rw c.in-Said.is at from)
 
 pub returns-in-Own-clause-from : goal.returns-in-Own-clause-from
 returns-in-Own-clause-from c = λ given lines from. count_own given lines (rw c.in-Own.is at from)
-
-pub returns-in-Any-clause-from : goal.returns-in-Any-clause-from
-returns-in-Any-clause-from c = λ given lines from. count_any given lines (rw c.in-Any.is at from)

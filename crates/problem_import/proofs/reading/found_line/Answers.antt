@@ -14,5 +14,5 @@ returns-in-Some-clause-own c = λ whole says is. (
 pub returns-in-Some-clause-from : goal.returns-in-Some-clause-from
 returns-in-Some-clause-from c = λ letters lines says is. (
   from_text letters lines c.args.line.now c.in_ok-mended.mended.text.items says c.in_ok-mended.ensures.fields,
-  c.in-Some.ensures.from lines (λ n asks. (c.args.line.now, says, inl (sym c.in_ok-mended.ensures.said ∙ asks))) is,
+  c.in-Some.ensures.from lines (λ n asks. inl (c.args.line.now, says, inl (sym c.in_ok-mended.ensures.said ∙ asks))) is,
 )

@@ -1,13 +1,20 @@
+use Rattle.std.proofs.Common.{inr}
+use Rattle.problem_import.specs.PopeyeProblems.{asked_in, man_on}
+use Rattle.problem_import.specs.Sources.{popeyes}
 use Rattle.problem_import.proofs.Findings.{own_of_popeye}
 use Rattle.problem_import.proofs.KnownNumbers.{asked_of_popeye}
-use Rattle.problem_import.proofs.Sources.{from_other}
+use Rattle.problem_import.proofs.Sources.{from_set}
 use Rattle.problem_import.proofs.reading.found_popeye.Goals as goal
 
-pub returns-clause-own : goal.returns-clause-own
-returns-clause-own c = λ line. (
-  own_of_popeye c.of.result.form line c.in_ok-text.text.items c.of.ensures,
-  asked_of_popeye c.of.result.form line _ c.of.ensures,
+pub returns-in-Ok-clause-own : goal.returns-in-Ok-clause-own
+returns-in-Ok-clause-own c = λ line. (
+  own_of_popeye c.of-changes.result.form line c.in-Ok.text.items c.of-changes.ensures,
+  asked_of_popeye c.of-changes.result.form line _ c.of-changes.ensures,
 )
 
-pub returns-clause-from : goal.returns-clause-from
-returns-clause-from c = λ letters lines other. (from_other letters lines c.in_ok-text.text.items other, other)
+pub returns-in-Ok-clause-from : goal.returns-in-Ok-clause-from
+returns-in-Ok-clause-from c = λ letters lines (words, are, read).
+    let (sets, asks) = (rw c.in-Ok.is at c.in_ok-made.ensures) words read in (
+      from_set letters lines (man_on words) (asked_in words) c.in-Ok.text.items (popeyes words are) sets,
+      inr (man_on words, asked_in words, popeyes words are, asks),
+    )
