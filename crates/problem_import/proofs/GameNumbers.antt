@@ -9,7 +9,7 @@ use Rattle.stipulations.specs.Stipulations.{asked, both}
 use Rattle.stipulations.specs.declared.asked.Asked.{Asked}
 use Rattle.stipulations.specs.declared.asked.Asked.TheVariants.{Nothing, Moves, Two}
 use Rattle.problem_import.specs.Sources.{annotator, black, event, stipulation, white}
-use Rattle.problem_import.specs.Sources.{HasComment, HasTag, IsNamed, IsSaidIn, MaySay, SaysMoves, before_byte, behind_byte, value_from}
+use Rattle.problem_import.specs.Sources.{GameSays, HasComment, HasTag, IsNamed, MaySay, SaysMoves, before_byte, behind_byte, value_from}
 use Rattle.problem_import.specs.declared.games.Game.{Game}
 use Rattle.problem_import.specs.inside.KnownSources.{AsksMore, CommentSays, IsEndIn, KeepsAsked, KeepsFen, TagSays}
 use Rattle.problem_import.specs.inside.TagPairs.{EndsText}
@@ -86,8 +86,8 @@ asks_on text rest a b c ends before more =
 pub fen_then : (a b c : Game) → KeepsFen a b → KeepsFen b c → KeepsFen a c
 fen_then a b c (one, same) (other, is) = (other ∙ one, is ∙ same)
 
-pub said_at_end : (lines : List (List ℕ)) (rest : List ℕ) (n : ℕ) → IsEndIn lines rest → SaysMoves rest n → IsSaidIn lines n
-said_at_end lines rest n (text, in_lines, ends) says = inl (text, in_lines, inr (says_longer rest text n ends says))
+pub said_at_end : (lines : List (List ℕ)) (rest : List ℕ) (n : ℕ) → IsEndIn lines rest → SaysMoves rest n → GameSays lines n
+said_at_end lines rest n (text, in_lines, ends) says = (text, in_lines, says_longer rest text n ends says)
 
 -- ---- tags
 

@@ -1,7 +1,6 @@
 -- Where what is found, open and printed comes from.
 use Rattle.std.proofs.Common.{◌≡◌, ◌⊎◌, inl, inr, ℕ, ◌+◌, length, take, drop, Bool, true, false, ◌||◌, List, [], ◌∷◌, ◌++◌}
 use Rattle.std.proofs.Common.{Result, Ok, Err, IfOk, Option, None, Some}
-use Rattle.chess_notation.specs.Records.{RecordValue, Reads}
 use Rattle.std.proofs.Common.{refl, sym, ap, ◌∙◌, subst, append_assoc, arith, get_or, ◌<◌, take-append-drop}
 use Rattle.std.specs.Prelude.{Contains, map, ◌-◌}
 use Rattle.std.proofs.lemmas.List.{append-nil, map-append, length-append}
@@ -12,19 +11,23 @@ use Rattle.chess_notation.specs.Words.{words_in}
 use Rattle.move_words.specs.declared.languages.Letters.{Letters}
 use Rattle.text_lines.specs.Lines.{lines_of, texts_of, without_cr}
 use Rattle.text_lines.specs.Replies.{IsReply, IsReplyFrom, IsReplyToFirst, LineReplies, behind}
-use Rattle.problem_import.specs.Imports.{AreImported, none}
+use Rattle.problem_import.specs.Imports.{AreImported, IsNumber, none}
+use Rattle.problem_import.specs.Letters.{IsTextOf}
+use Rattle.problem_import.specs.Numbers.{said}
 use Rattle.problem_import.specs.PopeyeProblems.{said_onto}
-use Rattle.problem_import.specs.Sources.{is_given, is_own, is_said, of_line, of_text}
-use Rattle.problem_import.specs.Sources.{AreSetIn, AreSourced, HasRecord, IsFenOf, IsPlacedIn, IsSaidIn, IsSourced, IsTextIn}
-use Rattle.problem_import.specs.Sources.{MayAsk, SaysMoves}
+use Rattle.problem_import.specs.Sources.{of_game, of_line, of_text, of_words, set_up}
+use Rattle.problem_import.specs.Sources.{AreSetIn, AreSourced, GameSays, IsFenOf, IsProblemIn, IsSourced, IsTextIn}
+use Rattle.problem_import.specs.Sources.{SaysMoves}
 use Rattle.stipulations.specs.declared.asked.Asked.{Asked}
 use Rattle.stipulations.specs.declared.asked.Asked.TheVariants.{Moves}
 use Rattle.problem_import.specs.declared.games.Game.{Game}
 use Rattle.problem_import.specs.declared.reading.Finding.{Finding}
 use Rattle.problem_import.specs.declared.reading.Open.{Open}
 use Rattle.problem_import.specs.declared.reading.Open.TheVariants as opens
-use Rattle.problem_import.specs.inside.Findings.{Asks}
-use Rattle.problem_import.specs.inside.KnownSources.{AreFrom, AsksMore, IsCountFrom, IsEndIn, IsFoundFrom, IsFrom, IsGameFrom, IsKnown, IsMadeFrom}
+use Rattle.problem_import.specs.inside.Findings.{Asks, IsAsked}
+use Rattle.problem_import.specs.declared.reading.Number.{Number}
+use Rattle.problem_import.specs.declared.reading.Number.TheVariants as numbers
+use Rattle.problem_import.specs.inside.KnownSources.{AreFrom, AsksMore, HasFen, IsCountFrom, IsEndIn, IsFoundBy, IsFoundFrom, IsFrom, IsGameFrom, IsKnown, IsMadeFrom}
 use Rattle.chess_board.specs.declared.men.Man.{Man}
 use Rattle.problem_import.specs.OliveProblems.{Said, line_onto}
 use Rattle.problem_import.specs.declared.olive.OliveProblem.{OliveProblem}
@@ -35,30 +38,74 @@ use Rattle.problem_import.proofs.FieldTexts.{reads_position}
 use Rattle.problem_import.proofs.GameNumbers.{either_way, said_at_end}
 use Rattle.problem_import.proofs.Imports.{imported_append, imported_for}
 use Rattle.problem_import.proofs.ReadItems.{are_kept}
-use Rattle.problem_import.proofs.ReadProblems.{read_kept, sets_moved}
+use Rattle.problem_import.proofs.ReadProblems.{read_kept}
 
 -- ---- texts
 
-pub from_moved : (letters : Letters) (lines : List (List ℕ)) (old new : List ℕ) → line_fields new ≡ line_fields old → IsFrom letters lines old
-    → IsFrom letters lines new
+pub from_moved : (letters : Letters) (given : Option ℕ) (lines : List (List ℕ)) (old new : List ℕ) (n : ℕ) → line_fields new ≡ line_fields old
+    → IsFrom letters given lines old n → IsFrom letters given lines new n
 unfolding IsFrom
-from_moved letters lines old new same (inl (source, of, is)) = inl (source, of, same ∙ is)
-from_moved letters lines old new same (inr (man_on, asks, are, sets)) = inr (man_on, asks, are, sets_moved man_on old new same sets)
+from_moved letters given lines old new n same from p spells = from p (subst (λ f. SpellsSetup f p) same spells)
 
-pub from_text : (letters : Letters) (lines : List (List ℕ)) (text made : List ℕ) → IsTextIn lines text → line_fields made ≡ line_fields text
-    → IsFrom letters lines made
-unfolding IsFrom
-from_text letters lines text made says same = inl (text, (text, says, inl refl), same)
+pub found_moved : (letters : Letters) (given : Option ℕ) (lines : List (List ℕ)) (old new : List ℕ) (number : Number)
+    → line_fields new ≡ line_fields old → IsFoundBy letters given lines old number → IsFoundBy letters given lines new number
+found_moved letters given lines old new (numbers.Said n) same from = from_moved letters given lines old new n same from
+found_moved letters given lines old new numbers.Own same from = from_moved letters given lines old new 3 same from
+found_moved letters given lines old new numbers.Unsaid same from = λ n is. from_moved letters given lines old new n same (from n is)
 
-pub from_fen : (letters : Letters) (lines : List (List ℕ)) (text fen : List ℕ) → IsTextIn lines text → IsFenOf letters text fen
-    → IsFrom letters lines fen
-unfolding IsFrom
-from_fen letters lines text fen says is = inl (fen, (text, says, inr is), refl)
+pub count_moved : (letters : Letters) (given : Option ℕ) (lines : List (List ℕ)) (old new : List ℕ) (moves : Option ℕ)
+    → line_fields new ≡ line_fields old → IsCountFrom letters given lines old moves → IsCountFrom letters given lines new moves
+unfolding IsCountFrom
+count_moved letters given lines old new None same from = from
+count_moved letters given lines old new (Some n) same from = from_moved letters given lines old new n same from
 
-pub from_set : (letters : Letters) (lines : List (List ℕ)) (man_on : ℕ → Option Man) (asks : Asked) (made : List ℕ)
-    → AreSetIn lines man_on asks → SetsUp man_on made → IsFrom letters lines made
+from_line : (letters : Letters) (given : Option ℕ) (lines : List (List ℕ)) (line text made : List ℕ) (n : ℕ) → Contains lines line
+    → IsTextOf line text → line_fields made ≡ line_fields text → IsNumber given line (said text) n → IsFrom letters given lines made n
 unfolding IsFrom
-from_set letters lines man_on asks made are sets = inr (man_on, asks, are, sets)
+from_line letters given lines line text made n among says same asks p spells sound =
+    of_line line text among says (subst (λ f. SpellsSetup f p) same spells) asks
+
+-- A text that is made of a line is of that, where it is to ask what the line says.
+pub found_line : (letters : Letters) (given : Option ℕ) (lines : List (List ℕ)) (line text made : List ℕ) (number : Number)
+    → Contains lines line → IsTextOf line text → line_fields made ≡ line_fields text → IsAsked line (said text) number
+    → IsFoundBy letters given lines made number
+found_line letters given lines line text made (numbers.Said n) among says same asks =
+    from_line letters given lines line text made n among says same (subst (λ a. IsNumber given line a n) (sym asks) refl)
+found_line letters given lines line text made numbers.Own among says same asks =
+    from_line letters given lines line text made 3 among says same
+    (subst (λ a. IsNumber given line a 3) (sym asks.0) (inl (asks.1, refl)))
+found_line letters given lines line text made numbers.Unsaid among says same asks = λ n is.
+    from_line letters given lines line text made n among says same
+    (subst (λ a. IsNumber given line a n) (sym asks.0) (inr (asks.1, is)))
+
+pub fen_moved : (letters : Letters) (lines : List (List ℕ)) (old new : List ℕ) → line_fields new ≡ line_fields old → HasFen letters lines old
+    → HasFen letters lines new
+unfolding HasFen
+fen_moved letters lines old new same (text, fen, says, of, is) = (text, fen, says, of, same ∙ is)
+
+pub fen_has : (letters : Letters) (lines : List (List ℕ)) (text fen : List ℕ) → IsTextIn lines text → IsFenOf letters text fen
+    → HasFen letters lines fen
+unfolding HasFen
+fen_has letters lines text fen says is = (text, fen, says, is, refl)
+
+from_game : (letters : Letters) (given : Option ℕ) (lines : List (List ℕ)) (made : List ℕ) (n : ℕ) → HasFen letters lines made
+    → GameSays lines n ⊎ (given ≡ Some n) → IsFrom letters given lines made n
+unfolding IsFrom HasFen
+from_game letters given lines made n (text, fen, says, of, is) asks p spells sound =
+    of_game text fen says of (subst (λ f. SpellsSetup f p) is spells) asks
+
+pub game_said : (letters : Letters) (given : Option ℕ) (lines : List (List ℕ)) (made : List ℕ) (n : ℕ) → HasFen letters lines made
+    → GameSays lines n → IsFoundBy letters given lines made (numbers.Said n)
+game_said letters given lines made n has says = from_game letters given lines made n has (inl says)
+
+pub game_unsaid : (letters : Letters) (given : Option ℕ) (lines : List (List ℕ)) (made : List ℕ) → HasFen letters lines made
+    → IsFoundBy letters given lines made numbers.Unsaid
+game_unsaid letters given lines made has = λ n is. from_game letters given lines made n has (inr is)
+
+pub from_set : (letters : Letters) (given : Option ℕ) (lines : List (List ℕ)) (man_on : ℕ → Option Man) (asks : Asked) (made : List ℕ) (n : ℕ)
+    → AreSetIn lines man_on asks → SetsUp man_on made → asks ≡ Moves n → IsFoundBy letters given lines made (numbers.Said n)
+unfolding IsFrom SetsUp
+from_set letters given lines man_on asks made n are sets is p spells sound = set_up man_on asks are (sets p spells sound) is
 
 -- ---- findings
 
@@ -106,7 +153,7 @@ pub popeye_taken : (lines : List (List ℕ)) (line : List ℕ) (old mid new : Po
 unfolding KeepsSaid
 popeye_taken lines line old mid new (text, says, part) fault men bound expected colour takes (words, are, read) = (
   said_onto (words_in line) words,
-  of_line text line words says part are,
+  of_words text line words says part are,
   takes words (read_kept words old mid (λ free. (sym fault ∙ free, men, bound, expected, colour)) read),
 )
 
@@ -124,18 +171,18 @@ olive_taken lines line old mid new says fault men bound section takes (said, are
 pub game_moved : (letters : Letters) (lines : List (List ℕ)) (rest : List ℕ) (old new : Game) → IsEndIn lines rest → KeepsFen old new
     → AsksMore (SaysMoves rest) old new → IsGameFrom letters lines old → IsGameFrom letters lines new
 game_moved letters lines rest old new ends (has, same) (more, others) of = record {
-  fen = λ is. from_moved letters lines old.fen.items new.fen.items same (of.fen (sym has ∙ is));
+  fen = λ is. fen_moved letters lines old.fen.items new.fen.items same (of.fen (sym has ∙ is));
   asked = λ n is. either_way (of.asked n) (said_at_end lines rest n ends) (more n is);
   stipulated = λ n is. either_way (of.stipulated n) (said_at_end lines rest n ends) (others n is);
 }
 
 fen_taken : (letters : Letters) (lines : List (List ℕ)) (by : Letters) (text : List ℕ) (old new : Game) → by ≡ letters → IsTextIn lines text
     → ((new.has_fen ≡ old.has_fen) × (new.fen ≡ old.fen)) ⊎ IsFenOf by text new.fen.items
-    → (old.has_fen ≡ true → IsFrom letters lines old.fen.items) → new.has_fen ≡ true → IsFrom letters lines new.fen.items
+    → (old.has_fen ≡ true → HasFen letters lines old.fen.items) → new.has_fen ≡ true → HasFen letters lines new.fen.items
 fen_taken letters lines by text old new is says (inl (has, same)) of on =
-    from_moved letters lines old.fen.items new.fen.items (ap (λ v. line_fields v.items) same) (of (sym has ∙ on))
+    fen_moved letters lines old.fen.items new.fen.items (ap (λ v. line_fields v.items) same) (of (sym has ∙ on))
 fen_taken letters lines by text old new is says (inr fen) of on =
-    from_fen letters lines text new.fen.items says (subst (λ l. IsFenOf l text new.fen.items) is fen)
+    fen_has letters lines text new.fen.items says (subst (λ l. IsFenOf l text new.fen.items) is fen)
 
 -- So does one that took a line.
 pub game_taken : (letters : Letters) (lines : List (List ℕ)) (by : Letters) (text : List ℕ) (old new : Game) → by ≡ letters → IsTextIn lines text
@@ -143,13 +190,13 @@ pub game_taken : (letters : Letters) (lines : List (List ℕ)) (by : Letters) (t
     → IsGameFrom letters lines old → IsGameFrom letters lines new
 game_taken letters lines by text old new is says fen (more, others) of = record {
   fen = fen_taken letters lines by text old new is says fen of.fen;
-  asked = λ n asks. either_way (of.asked n) (λ it. inl (text, says, inr it)) (more n asks);
-  stipulated = λ n asks. either_way (of.stipulated n) (λ it. inl (text, says, inr it)) (others n asks);
+  asked = λ n asks. either_way (of.asked n) (λ it. (text, says, it)) (more n asks);
+  stipulated = λ n asks. either_way (of.stipulated n) (λ it. (text, says, it)) (others n asks);
 }
 
 -- A game that asks so many has it said, in whatever tag.
 pub game_asks : (letters : Letters) (lines : List (List ℕ)) (game : Game) (asks : Asked) → ((n : ℕ) → asks ≡ Moves n
-    → (game.asked ≡ Moves n) ⊎ (game.stipulated ≡ Some (Moves n))) → IsGameFrom letters lines game → (n : ℕ) → asks ≡ Moves n → IsSaidIn lines n
+    → (game.asked ≡ Moves n) ⊎ (game.stipulated ≡ Some (Moves n))) → IsGameFrom letters lines game → (n : ℕ) → asks ≡ Moves n → GameSays lines n
 game_asks letters lines game asks each of n is = either_way (of.asked n) (of.stipulated n) (each n is)
 
 pub then_ok : {A E : Type 0} (r : Result A E) (P Q : Type 0) → (P → Q) → IfOk r (λ _. P) → IfOk r (λ _. Q)
@@ -163,38 +210,27 @@ pub made_line : (letters : Letters) (given : Option ℕ) (lines : List (List ℕ
 unfolding IsMadeFrom
 made_line letters given lines line among = inl among
 
-pub made_of : (letters : Letters) (given : Option ℕ) (lines : List (List ℕ)) (made : List ℕ) (moves : Option ℕ) → IsFrom letters lines made
-    → IsCountFrom given lines moves → Asks moves made → IsMadeFrom letters given lines made
-unfolding IsMadeFrom IsCountFrom
-made_of letters given lines made None from never asks = absurd never
-made_of letters given lines made (Some n) from may asks = inr (from, λ r reads. subst (MayAsk given lines) (sym (asks r reads)) may)
+pub made_of : (letters : Letters) (given : Option ℕ) (lines : List (List ℕ)) (made : List ℕ) (moves : Option ℕ)
+    → IsCountFrom letters given lines made moves → Asks moves made → IsMadeFrom letters given lines made
+unfolding IsMadeFrom IsCountFrom IsFrom
+made_of letters given lines made None never asks = absurd never
+made_of letters given lines made (Some n) from asks = inr (λ r reads.
+    subst (IsProblemIn letters given lines r.position) (sym (asks r reads)) (from r.position (reads_position made r reads) reads.sound))
 
-pub count_said : (given : Option ℕ) (lines : List (List ℕ)) (n : ℕ) → IsSaidIn lines n → IsCountFrom given lines (Some n)
+pub count_said : (letters : Letters) (given : Option ℕ) (lines : List (List ℕ)) (made : List ℕ) (n : ℕ) → IsFrom letters given lines made n
+    → IsCountFrom letters given lines made (Some n)
 unfolding IsCountFrom
-count_said given lines n says = is_said says
+count_said letters given lines made n from = from
 
-pub count_own : (given : Option ℕ) (lines : List (List ℕ)) → HasRecord lines → IsCountFrom given lines (Some 3)
-unfolding IsCountFrom
-count_own given lines one = is_own one refl
-
-pub count_given : (given : Option ℕ) (lines : List (List ℕ)) (moves : Option ℕ) (n : ℕ) → given ≡ Some n → moves ≡ Some n
-    → IsCountFrom given lines moves
-unfolding IsCountFrom
-count_given given lines moves n is same = subst (IsCountFrom given lines) (sym same) (is_given is)
-
-placed_one : (letters : Letters) (lines : List (List ℕ)) (made : List ℕ) → IsFrom letters lines made → (r : RecordValue) → Reads made 3 r
-    → IsPlacedIn letters lines r.position
-unfolding IsFrom SetsUp
-placed_one letters lines made (inl (source, of, is)) r reads =
-    inl (source, of, subst (λ f. SpellsSetup f r.position) is (reads_position made r reads))
-placed_one letters lines made (inr (man_on, asks, are, sets)) r reads =
-    inr (man_on, asks, are, sets r.position (reads_position made r reads) reads.sound)
+pub count_given : (letters : Letters) (given : Option ℕ) (lines : List (List ℕ)) (made : List ℕ) (moves : Option ℕ) (n : ℕ) → given ≡ Some n
+    → moves ≡ Some n → IsFoundBy letters given lines made numbers.Unsaid → IsCountFrom letters given lines made moves
+count_given letters given lines made moves n is same from =
+    subst (IsCountFrom letters given lines made) (sym same) (count_said letters given lines made n (from n is))
 
 sourced_one : (letters : Letters) (given : Option ℕ) (lines : List (List ℕ)) (made : List ℕ) → IsMadeFrom letters given lines made
     → IsSourced letters given lines made
 unfolding IsMadeFrom
-sourced_one letters given lines made (inl among) = inl among
-sourced_one letters given lines made (inr (from, asks)) = inr (λ r reads. (placed_one letters lines made from r reads, asks r reads))
+sourced_one letters given lines made from = from
 
 pub are_sourced : (letters : Letters) (given : Option ℕ) (lines : List (List ℕ)) (text : List ℕ) (any : Bool)
     → AreImported (IsMadeFrom letters given lines) text any → AreSourced letters given lines text

@@ -12,7 +12,7 @@ use Rattle.chess_notation.specs.Words.{behind, word_at, words_in}
 use Rattle.lettered_placements.specs.Readings.{line_read}
 use Rattle.move_words.specs.Languages.{is_english}
 use Rattle.move_words.specs.declared.languages.Letters.{Letters}
-use Rattle.problem_import.specs.Imports.{AreImported, IsRecord}
+use Rattle.problem_import.specs.Imports.{AreImported, IsNumber}
 use Rattle.problem_import.specs.Letters.{IsTextOf, trimmed}
 use Rattle.problem_import.specs.Numbers.{said}
 use Rattle.problem_import.specs.OliveProblems as olive
@@ -68,7 +68,7 @@ abbrev pub before_byte : ℕ → List ℕ → List ℕ
 before_byte byte [] = []
 before_byte byte (b ∷ bs) = if b == byte then [] else b ∷ before_byte byte bs
 
--- The comment stands in the text, up to the brace that ends it or the text's end.
+-- Such a part stands in the text, as a comment does: up to the next brace that ends one, or the text's end.
 abbrev pub HasComment : (text comment : List ℕ) → Type 0
 HasComment text comment = (front more : List ℕ) × (text ≡ front ++ more) × (comment ≡ before_byte (char "}") more)
 
@@ -84,7 +84,7 @@ IsTextIn lines text = (line : List ℕ) × Contains lines line × IsTextOf line 
 -- begins but its first.
 pub data AreWordsIn (lines : List (List ℕ)) : (words : List (List ℕ)) → Type 0 where
   no_words : AreWordsIn lines []
-  of_line : (text rest : List ℕ) (said : List (List ℕ)) → IsTextIn lines text → (rest ≡ text) ⊎ (rest ≡ behind text) → AreWordsIn lines said
+  of_words : (text rest : List ℕ) (said : List (List ℕ)) → IsTextIn lines text → (rest ≡ text) ⊎ (rest ≡ behind text) → AreWordsIn lines said
       → AreWordsIn lines (said_onto (words_in rest) said)
 
 -- What a problem of Olive's says: what some of the lines do.
@@ -97,44 +97,24 @@ pub data AreSetIn (lines : List (List ℕ)) : (man_on : ℕ → Option Man) → 
   popeyes : (words : List (List ℕ)) → AreWordsIn lines words → AreSetIn lines (popeye.man_on words) (popeye.asked_in words)
   olives : (said : List Said) → AreItemsIn lines said → AreSetIn lines (olive.man_on said) (olive.asked_in said)
 
--- They set up the position.
-abbrev pub IsSetIn : (lines : List (List ℕ)) → Setup → Type 0
-IsSetIn lines p = (man_on : ℕ → Option Man) × (asks : Asked) × AreSetIn lines man_on asks × IsSetBy man_on p
+-- One of the lines says so many moves as one of a game.
+abbrev pub GameSays : (lines : List (List ℕ)) → ℕ → Type 0
+GameSays lines n = (text : List ℕ) × IsTextIn lines text × SaysMoves text n
 
-abbrev pub IsAskedIn : (lines : List (List ℕ)) → ℕ → Type 0
-IsAskedIn lines n = (man_on : ℕ → Option Man) × (asks : Asked) × AreSetIn lines man_on asks × (asks ≡ Moves n)
+-- A problem that the lines have, by its position and its number of moves: of a line, the position that its first four words spell and the number
+-- that it says; of a game, a tag FEN, and a number that is said there or given; or men that are set up one by one, and what is asked of them.
+pub data IsProblemIn (letters : Letters) (given : Option ℕ) (lines : List (List ℕ)) (p : Setup) (n : ℕ) : Type 0 where
+  of_line : (line text : List ℕ) → Contains lines line → IsTextOf line text → SpellsSetup (line_fields text) p → IsNumber given line (said text) n
+      → IsProblemIn letters given lines p n
+  of_game : (text fen : List ℕ) → IsTextIn lines text → IsFenOf letters text fen → SpellsSetup (line_fields fen) p
+      → GameSays lines n ⊎ (given ≡ Some n) → IsProblemIn letters given lines p n
+  set_up : (man_on : ℕ → Option Man) (asks : Asked) → AreSetIn lines man_on asks → IsSetBy man_on p → asks ≡ Moves n
+      → IsProblemIn letters given lines p n
 
--- One of the lines says it, or has it in a tag FEN.
-abbrev pub IsSource : Letters → (lines : List (List ℕ)) → (source : List ℕ) → Type 0
-IsSource letters lines source = (text : List ℕ) × IsTextIn lines text × ((source ≡ text) ⊎ IsFenOf letters text source)
-
--- One of the lines says so many moves, as a line or as one of a game.
-abbrev pub HasSaid : (lines : List (List ℕ)) → ℕ → Type 0
-HasSaid lines n = (text : List ℕ) × IsTextIn lines text × ((said text ≡ Moves n) ⊎ SaysMoves text n)
-
--- So many moves are said.
-abbrev pub IsSaidIn : (lines : List (List ℕ)) → ℕ → Type 0
-IsSaidIn lines n = HasSaid lines n ⊎ IsAskedIn lines n
-
--- One of the lines is a record as it stands.
-abbrev pub HasRecord : List (List ℕ) → Type 0
-HasRecord lines = (line : List ℕ) × Contains lines line × IsRecord line
-
--- So many moves may be asked of a problem that the lines have: as many as one says, or as are given; as many as a record that asks for none, if
--- one is among them.
-pub data MayAsk (given : Option ℕ) (lines : List (List ℕ)) (n : ℕ) : Type 0 where
-  is_said : IsSaidIn lines n → MayAsk given lines n
-  is_given : given ≡ Some n → MayAsk given lines n
-  is_own : HasRecord lines → n ≡ 3 → MayAsk given lines n
-
--- The position is spelt by one of the lines, or by a tag FEN in one, or set up man by man.
-abbrev pub IsPlacedIn : Letters → (lines : List (List ℕ)) → Setup → Type 0
-IsPlacedIn letters lines p = ((source : List ℕ) × IsSource letters lines source × SpellsSetup (line_fields source) p) ⊎ IsSetIn lines p
-
--- The record has a position that the lines have, and asks for so many moves as may be asked, unless it is one of the lines.
+-- The record is one of the lines, or one of a problem that they have.
 abbrev pub IsSourced : Letters → (given : Option ℕ) → (lines : List (List ℕ)) → (made : List ℕ) → Type 0
 IsSourced letters given lines made = Contains lines made
-    ⊎ ((r : RecordValue) → Reads made 3 r → IsPlacedIn letters lines r.position × MayAsk given lines r.bound)
+    ⊎ ((r : RecordValue) → Reads made 3 r → IsProblemIn letters given lines r.position r.bound)
 
 -- Each record that is printed has and does.
 unfoldable pub AreSourced : Letters → (given : Option ℕ) → (lines : List (List ℕ)) → (text : List ℕ) → Type 0

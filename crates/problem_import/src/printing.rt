@@ -11,7 +11,7 @@ ghost use Rattle.problem_import.specs.inside.FieldTexts.{GoesOn};
 ghost use Rattle.problem_import.specs.inside.Findings.{AreFoundOf, Asks, IsAskedOf, IsFoundOf, IsNumberOf, IsOwn, MayBeTold};
 ghost use Rattle.problem_import.specs.declared.changes.Form.{Form as FormValue};
 ghost use Rattle.problem_import.specs.inside.KeptChanges.{has_change};
-ghost use Rattle.problem_import.specs.inside.KnownSources.{AreFrom, IsCountFrom, IsFoundFrom, IsFrom, IsMadeFrom, IsNumberFrom};
+ghost use Rattle.problem_import.specs.inside.KnownSources.{AreFrom, IsCountFrom, IsFoundBy, IsFoundFrom, IsMadeFrom};
 ghost use Rattle.problem_import.specs.inside.KnownSources.{PrintsFrom, TellsOf};
 
 use crate::changes::Changes;
@@ -187,8 +187,8 @@ pub(crate) fn moves_of(number: Number) -> Option<Option<u8>>
     ensures known { IfSome result (λ moves. (form : FormValue) (given : Option ℕ) (line : List ℕ) → IsAskedOf form line number
         → IsNumberOf form given line moves) }
     ensures unsaid { IfNone result (number ≡ Number.Unsaid) }
-    ensures from { IfSome result (λ moves. (given : Option ℕ) (lines : List (List ℕ)) → IsNumberFrom lines number
-        → IsCountFrom given lines moves) }
+    ensures from { IfSome result (λ moves. (letters : LettersValue) (given : Option ℕ) (lines : List (List ℕ)) (made : List ℕ)
+        → IsFoundBy letters given lines made number → IsCountFrom letters given lines made moves) }
 {
     match number {
         Number::Said(moves) => Some(Some(moves)),
@@ -250,7 +250,7 @@ impl Printing<'_> {
         ensures counted { IfOk result (λ _. (first : ImportCountsValue) → AreCounted first printed.old.text.items printed.old.counts
             → AreCounted first printed.new.text.items printed.new.counts) }
         ensures filled { IfOk result (λ _. 0 < length printed.new.text.items) }
-        ensures from { IfOk result (λ _. (letters : LettersValue) (lines : List (List ℕ)) → IsFrom letters lines text.now → IsCountFrom self.now.bound lines moves
+        ensures from { IfOk result (λ _. (letters : LettersValue) (lines : List (List ℕ)) → IsCountFrom letters self.now.bound lines text.now moves
             → PrintsFrom letters self.now.bound lines printed.old.text.items printed.old.any printed.new.text.items printed.new.any) }
     {
         let told = self.told(alloc, line, text, moves, changes)?;
@@ -288,7 +288,7 @@ impl Printing<'_> {
         ensures counted { IfOk result (λ _. (first : ImportCountsValue) → AreCounted first printed.old.text.items printed.old.counts
             → AreCounted first printed.new.text.items printed.new.counts) }
         ensures filled { IfOk result (λ _. 0 < length printed.new.text.items) }
-        ensures from { IfOk result (λ _. (letters : LettersValue) (lines : List (List ℕ)) → IsFrom letters lines text.now → IsCountFrom self.now.bound lines moves
+        ensures from { IfOk result (λ _. (letters : LettersValue) (lines : List (List ℕ)) → IsCountFrom letters self.now.bound lines text.now moves
             → PrintsFrom letters self.now.bound lines printed.old.text.items printed.old.any printed.new.text.items printed.new.any) }
     {
         match says_asked(alloc, self.rays, text, moves)? {
@@ -317,7 +317,7 @@ impl Printing<'_> {
         ensures counted { IfOk result (λ _. (first : ImportCountsValue) → AreCounted first printed.old.text.items printed.old.counts
             → AreCounted first printed.new.text.items printed.new.counts) }
         ensures filled { IfOk result (λ _. 0 < length printed.new.text.items) }
-        ensures from { IfOk result (λ _. (letters : LettersValue) (lines : List (List ℕ)) → IsFrom letters lines text.now
+        ensures from { IfOk result (λ _. (letters : LettersValue) (lines : List (List ℕ)) → IsFoundBy letters self.now.bound lines text.now Number.Unsaid
             → PrintsFrom letters self.now.bound lines printed.old.text.items printed.old.any printed.new.text.items printed.new.any) }
     {
         let fault = match (says_asked(alloc, self.rays, text, None)?, self.bound) {
@@ -359,7 +359,7 @@ impl Printing<'_> {
         ensures counted { IfOk result (λ _. (first : ImportCountsValue) → AreCounted first printed.old.text.items printed.old.counts
             → AreCounted first printed.new.text.items printed.new.counts) }
         ensures filled { IfOk result (λ _. 0 < length printed.new.text.items) }
-        ensures from { IfOk result (λ _. (letters : LettersValue) (lines : List (List ℕ)) → IsFrom letters lines text.now → IsNumberFrom lines moves
+        ensures from { IfOk result (λ _. (letters : LettersValue) (lines : List (List ℕ)) → IsFoundBy letters self.now.bound lines text.now moves
             → PrintsFrom letters self.now.bound lines printed.old.text.items printed.old.any printed.new.text.items printed.new.any) }
     {
         let mut changes = changes;

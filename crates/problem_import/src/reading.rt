@@ -1,13 +1,14 @@
 //! The forms told apart, line by line, and what the lines so far have said of problems that are open.
 
-ghost use Rattle.std.specs.Prelude.{◌≡◌, ◌≤◌, ◌<◌, ◌+◌, ℕ, List, [], Contains, IfOk, IfSome, length, false, true};
+ghost use Rattle.std.specs.Prelude.{◌≡◌, ◌≤◌, ◌<◌, ◌+◌, ℕ, List, [], Contains, IfOk, IfSome, Option, length, false, true};
 ghost use Rattle.move_words.specs.Languages.{english};
 ghost use Rattle.move_words.specs.declared.languages.Letters.{Letters as LettersValue};
 ghost use Rattle.problem_import.specs.Imports.{IsRecord};
 ghost use Rattle.problem_import.specs.Letters.{IsTextOf};
 ghost use Rattle.problem_import.specs.inside.Findings.{AreFoundOf, IsAsked, IsFoundOf, IsRecordIf};
-ghost use Rattle.problem_import.specs.Sources.{HasRecord, IsSaidIn, IsTextIn};
-ghost use Rattle.problem_import.specs.inside.KnownSources.{AreFrom, IsEndIn, IsFoundFrom, IsKept, IsKnown, IsNumberFrom, IsOpenFrom};
+ghost use Rattle.problem_import.specs.Sources.{GameSays};
+ghost use Rattle.problem_import.specs.inside.KnownSources.{AreFrom, HasFen, IsEndIn, IsFoundBy, IsFoundFrom, IsKept, IsKnown, IsOpenFrom};
+ghost use Rattle.problem_import.specs.inside.KnownSources.{IsUnreadIn};
 ghost use Rattle.problem_import.specs.inside.KnownSources.{Keeps, KeepsBy, KeepsByEnd, KeepsByPart};
 ghost use Rattle.problem_import.specs.inside.OpenProblems.{due, goes_on as does_go_on, has_tags};
 ghost use Rattle.problem_import.specs.inside.TagPairs.{is_tag_line, is_tag_pair as is_tag_pair_text};
@@ -267,7 +268,7 @@ impl Reading {
         ensures own { IfOk result (λ _. (line : List ℕ) → AreFoundOf line findings.old.items → AreFoundOf line findings.new.items) }
         ensures more { IfOk result (λ _. does_go_on self.old.open self.old.last number ≡ false
             → due self.old.open + length findings.old.items < due self.new.open + length findings.new.items) }
-        ensures rest { IfOk result (λ rest. (lines : List (List ℕ)) → IsTextIn lines line.now → IsEndIn lines rest.now) }
+        ensures rest { IfOk result (λ rest. (lines : List (List ℕ)) → IsUnreadIn lines line.now → IsEndIn lines rest.now) }
         ensures from { IfOk result (λ _. KeepsBy line.now self.old self.new findings.old.items findings.new.items) }
     {
         self.open_game(alloc, number, changes, findings)?;
@@ -391,8 +392,9 @@ impl Reading {
         ensures own { IfOk result (λ _. (whole : List ℕ) → IsTextOf whole line.now → IsRecordIf is_record whole
             → AreFoundOf whole findings.old.items → AreFoundOf whole findings.new.items) }
         ensures ended { IfOk result (λ _. self.new.open ≡ Open.Nothing) }
-        ensures from { IfOk result (λ _. (letters : LettersValue) (lines : List (List ℕ)) → IsTextIn lines line.now
-            → (is_record ≡ true → HasRecord lines) → IsKept letters lines self.old self.new findings.old.items findings.new.items) }
+        ensures from { IfOk result (λ _. (letters : LettersValue) (lines : List (List ℕ)) (whole : List ℕ) → Contains lines whole
+            → IsTextOf whole line.now → IsRecordIf is_record whole
+            → IsKept letters lines self.old self.new findings.old.items findings.new.items) }
     {
         self.finish(alloc, Open::Nothing, findings)?;
         let found = found_line(alloc, line, is_record, changes)?;
@@ -435,6 +437,11 @@ impl Reading {
         Ok(())
     }
 
+    /// Whether a problem for Popeye is open.
+    fn is_popeyes(&self) -> bool {
+        matches!(&self.open, Open::Popeye(_))
+    }
+
     /// Whether a problem of Olive's is open.
     fn is_olives(&self) -> bool {
         matches!(&self.open, Open::Olive(_))
@@ -467,7 +474,7 @@ impl Reading {
             self.take_olive(alloc, line, changes, findings)?;
             return Ok(());
         }
-        if matches!(&self.open, Open::Popeye(_)) {
+        if self.is_popeyes() {
             self.take_popeye(alloc, number, line, changes, findings)?;
             return Ok(());
         }
@@ -564,7 +571,7 @@ impl Reading {
             → AreFoundOf line.now findings.new.items) }
         ensures more { IfOk result (λ _. is_tag_line line.now ≡ true → does_go_on self.old.open self.old.last number ≡ false
             → due self.old.open + length findings.old.items < due self.new.open + length findings.new.items) }
-        ensures from { IfOk result (λ _. (letters : LettersValue) (lines : List (List ℕ)) → Contains lines line.now
+        ensures from { IfOk result (λ _. (letters : LettersValue) (lines : List (List ℕ)) → Contains lines line.now → ¬ (IsRecord line.now)
             → IsKept letters lines self.old self.new findings.old.items findings.new.items) }
     {
         let mut changes = Changes::none(Form::Line);
@@ -581,8 +588,7 @@ impl Reading {
 
 /// How many moves a record is to ask that is made of a line which says none, and may be a record as it stands.
 fn number_unsaid(is_record: bool) -> Number
-    ensures from { (lines : List (List ℕ)) → (is_record ≡ true → HasRecord lines) → IsNumberFrom lines result }
-    ensures own { (line : List ℕ) → IsRecordIf is_record line → IsAsked line Asked.Nothing result }
+    ensures { (line : List ℕ) → IsRecordIf is_record line → IsAsked line Asked.Nothing result }
 {
     if is_record {
         Number::Own
@@ -593,9 +599,7 @@ fn number_unsaid(is_record: bool) -> Number
 
 /// How many moves a record is to ask that is made of a line which says this, and may be a record as it stands; nothing where it says two.
 fn number_of(said: Asked, is_record: bool) -> Option<Number>
-    ensures from { IfSome result (λ number. (lines : List (List ℕ)) → ((n : ℕ) → said ≡ Asked.Moves n → IsSaidIn lines n)
-        → (is_record ≡ true → HasRecord lines) → IsNumberFrom lines number) }
-    ensures own { IfSome result (λ number. (line : List ℕ) → IsRecordIf is_record line → IsAsked line said number) }
+    ensures { IfSome result (λ number. (line : List ℕ) → IsRecordIf is_record line → IsAsked line said number) }
 {
     match said {
         Asked::Moves(moves) => Some(Number::Said(moves)),
@@ -612,8 +616,8 @@ fn found_line(
     changes: Changes,
 ) -> Result<Found, AllocError>
     ensures own { IfOk result (λ found. (whole : List ℕ) → IsTextOf whole line.now → IsRecordIf is_record whole → IsFoundOf whole found) }
-    ensures from { IfOk result (λ found. (letters : LettersValue) (lines : List (List ℕ)) → IsTextIn lines line.now
-        → (is_record ≡ true → HasRecord lines) → IsFoundFrom letters lines found) }
+    ensures from { IfOk result (λ found. (letters : LettersValue) (lines : List (List ℕ)) (whole : List ℕ) → Contains lines whole
+        → IsTextOf whole line.now → IsRecordIf is_record whole → IsFoundFrom letters lines found) }
 {
     let mut changes = changes;
     let mended = mended_line(alloc, line, &mut changes)?;
@@ -625,7 +629,8 @@ fn found_line(
 
 /// How many moves a record is to ask that is made of a game which asks this.
 fn number_by_tags(asked: Asked) -> Number
-    ensures { (lines : List (List ℕ)) → ((n : ℕ) → asked ≡ Asked.Moves n → IsSaidIn lines n) → IsNumberFrom lines result }
+    ensures { (letters : LettersValue) (given : Option ℕ) (lines : List (List ℕ)) (made : List ℕ) → HasFen letters lines made
+        → ((n : ℕ) → asked ≡ Asked.Moves n → GameSays lines n) → IsFoundBy letters given lines made result }
 {
     match asked {
         Asked::Moves(moves) => Number::Said(moves),

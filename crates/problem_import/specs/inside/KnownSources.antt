@@ -1,17 +1,18 @@
 -- Not for believing: where what is found and what is open comes from. No contract of a public call rests on it.
 use Rattle.std.specs.Prelude.{◌≡◌, ◌⊎◌, ℕ, List, [], ◌∷◌, ◌++◌, All, Contains, Bool, true, Option, Some, None}
 use Rattle.chess_notation.specs.RecordFields.{line_fields}
-use Rattle.chess_notation.specs.Records.{RecordValue, Reads}
 use Rattle.chess_notation.specs.Words.{behind}
 use Rattle.move_words.specs.declared.languages.Letters.{Letters}
 use Rattle.chess_board.specs.Characters.{char}
 use Rattle.stipulations.specs.Stipulations.{asked}
-use Rattle.stipulations.specs.declared.asked.Asked.{Asked}
+use Rattle.chess_board.specs.Fens.{SpellsSetup}
+use Rattle.chess_board.specs.Positions.{Setup}
+use Rattle.chess_board.specs.Soundness.{IsSound}
 use Rattle.stipulations.specs.declared.asked.Asked.TheVariants.{Moves}
-use Rattle.chess_board.specs.declared.men.Man.{Man}
 use Rattle.text_lines.specs.Replies.{LineReplies, RepliesBehind}
-use Rattle.problem_import.specs.Imports.{AreImported}
-use Rattle.problem_import.specs.Sources.{AreItemsIn, AreSetIn, AreWordsIn, HasRecord, IsSaidIn, IsSource, IsTextIn, MayAsk, MaySay, before_byte}
+use Rattle.problem_import.specs.Imports.{AreImported, IsRecord}
+use Rattle.problem_import.specs.Letters.{IsTextOf}
+use Rattle.problem_import.specs.Sources.{AreItemsIn, AreWordsIn, GameSays, IsFenOf, IsProblemIn, IsSourced, IsTextIn, MaySay, before_byte}
 use Rattle.problem_import.specs.declared.games.Game.{Game}
 use Rattle.problem_import.specs.declared.printing.ToldRecord.{ToldRecord}
 use Rattle.problem_import.specs.declared.printing.ToldRecord.TheVariants as told
@@ -27,38 +28,37 @@ use Rattle.problem_import.specs.OliveProblems.{Said}
 use Rattle.problem_import.specs.declared.olive.OliveProblem.{OliveProblem}
 use Rattle.problem_import.specs.declared.popeye.PopeyeProblem.{PopeyeProblem}
 use Rattle.problem_import.specs.inside.Findings.{Asks}
-use Rattle.problem_import.specs.inside.ReadProblems.{AreRead, IsRead, SetsUp}
+use Rattle.problem_import.specs.inside.ReadProblems.{AreRead, IsRead}
 use Rattle.problem_import.specs.inside.TagPairs.{EndsText}
 
 -- The text stands at the end of what one of the lines says.
 abbrev pub IsEndIn : (lines : List (List ℕ)) → (rest : List ℕ) → Type 0
 IsEndIn lines rest = (text : List ℕ) × IsTextIn lines text × EndsText rest text
 
--- The lines set up each sound position that the text says.
-abbrev pub IsSetFrom : (lines : List (List ℕ)) → (made : List ℕ) → Type 0
-IsSetFrom lines made = (man_on : ℕ → Option Man) × (asks : Asked) × AreSetIn lines man_on asks × SetsUp man_on made
+-- Each sound position that the text says is one of a problem that the lines have, where it asks so many moves.
+unfoldable pub IsFrom : Letters → (given : Option ℕ) → (lines : List (List ℕ)) → (made : List ℕ) → ℕ → Type 0
+IsFrom letters given lines made n = (p : Setup) → SpellsSetup (line_fields made) p → IsSound p → IsProblemIn letters given lines p n
 
--- The text has the first four words of what one of the lines says, or of a tag FEN; or the lines set it up.
-unfoldable pub IsFrom : Letters → (lines : List (List ℕ)) → (made : List ℕ) → Type 0
-IsFrom letters lines made = ((source : List ℕ) × IsSource letters lines source × (line_fields made ≡ line_fields source)) ⊎ IsSetFrom lines made
+-- It is so of the number that a record is to ask.
+abbrev pub IsFoundBy : Letters → (given : Option ℕ) → (lines : List (List ℕ)) → (made : List ℕ) → Number → Type 0
+IsFoundBy letters given lines made (number.Said n) = IsFrom letters given lines made n
+IsFoundBy letters given lines made number.Own = IsFrom letters given lines made 3
+IsFoundBy letters given lines made number.Unsaid = (n : ℕ) → given ≡ Some n → IsFrom letters given lines made n
 
--- A record is to ask so many as the lines say; as many as it does itself, where one is a record.
-abbrev pub IsNumberFrom : (lines : List (List ℕ)) → Number → Type 0
-IsNumberFrom lines (number.Said n) = IsSaidIn lines n
-IsNumberFrom lines number.Own = HasRecord lines
-IsNumberFrom lines number.Unsaid = Unit {0}
-
--- So many may be asked.
-unfoldable pub IsCountFrom : (given : Option ℕ) → (lines : List (List ℕ)) → Option ℕ → Type 0
-IsCountFrom given lines None = ⊥
-IsCountFrom given lines (Some n) = MayAsk given lines n
+unfoldable pub IsCountFrom : Letters → (given : Option ℕ) → (lines : List (List ℕ)) → (made : List ℕ) → Option ℕ → Type 0
+IsCountFrom letters given lines made None = ⊥
+IsCountFrom letters given lines made (Some n) = IsFrom letters given lines made n
 
 abbrev pub IsFoundFrom : Letters → (lines : List (List ℕ)) → Found → Type 0
-IsFoundFrom letters lines (Text made changes moves) = IsFrom letters lines made.items × IsNumberFrom lines moves
+IsFoundFrom letters lines (Text made changes moves) = (given : Option ℕ) → IsFoundBy letters given lines made.items moves
 IsFoundFrom letters lines (Fault fault) = Unit {0}
 
 unfoldable pub AreFrom : Letters → (lines : List (List ℕ)) → List Finding → Type 0
 AreFrom letters lines findings = All (λ finding. IsFoundFrom letters lines finding.found) findings
+
+-- The text has the first four words of a tag FEN in one of the lines.
+unfoldable pub HasFen : Letters → (lines : List (List ℕ)) → (made : List ℕ) → Type 0
+HasFen letters lines made = (text : List ℕ) × (fen : List ℕ) × IsTextIn lines text × IsFenOf letters text fen × (line_fields made ≡ line_fields fen)
 
 -- A game has a position or doesn't, as it did, and one with the same fields.
 abbrev pub KeepsFen : (old new : Game) → Type 0
@@ -83,9 +83,9 @@ AsksMore Says old new = ((n : ℕ) → new.asked ≡ Moves n → (old.asked ≡ 
 
 -- The position of a game, and the number of moves that it asks, are of the lines.
 pub record IsGameFrom (letters : Letters) (lines : List (List ℕ)) (game : Game) : Type 0 where
-  pub fen : game.has_fen ≡ true → IsFrom letters lines game.fen.items
-  pub asked : (n : ℕ) → game.asked ≡ Moves n → IsSaidIn lines n
-  pub stipulated : (n : ℕ) → game.stipulated ≡ Some (Moves n) → IsSaidIn lines n
+  pub fen : game.has_fen ≡ true → HasFen letters lines game.fen.items
+  pub asked : (n : ℕ) → game.asked ≡ Moves n → GameSays lines n
+  pub stipulated : (n : ℕ) → game.stipulated ≡ Some (Moves n) → GameSays lines n
 
 -- Words of the lines were read.
 abbrev pub IsPopeyeFrom : (lines : List (List ℕ)) → PopeyeProblem → Type 0
@@ -114,9 +114,13 @@ IsKept letters lines old new before after = IsKnown letters lines old.letters ol
 abbrev pub Keeps : (old new : Reading) → (before after : List Finding) → Type 0
 Keeps old new before after = (letters : Letters) (lines : List (List ℕ)) → IsKept letters lines old new before after
 
--- It is so where one of the lines says the text.
+-- One of the lines says the text, and is no record as it stands.
+abbrev pub IsUnreadIn : (lines : List (List ℕ)) → (text : List ℕ) → Type 0
+IsUnreadIn lines text = (line : List ℕ) × Contains lines line × IsTextOf line text × (¬ (IsRecord line))
+
+-- It is so where that is.
 abbrev pub KeepsBy : (text : List ℕ) → (old new : Reading) → (before after : List Finding) → Type 0
-KeepsBy text old new before after = (letters : Letters) (lines : List (List ℕ)) → IsTextIn lines text → IsKept letters lines old new before after
+KeepsBy text old new before after = (letters : Letters) (lines : List (List ℕ)) → IsUnreadIn lines text → IsKept letters lines old new before after
 
 -- It is so where the text stands at the end of what one of the lines says.
 abbrev pub KeepsByEnd : (rest : List ℕ) → (old new : Reading) → (before after : List Finding) → Type 0
@@ -131,10 +135,9 @@ abbrev pub KeepsByPart : (rest : List ℕ) → (old new : Reading) → (before a
 KeepsByPart rest old new before after = (letters : Letters) (lines : List (List ℕ)) → IsPartIn lines rest
     → IsKept letters lines old new before after
 
--- A text that is printed is of the lines, and may ask what it does; or it is one of them.
+-- A text that is printed is one of the lines, or of a problem that they have.
 unfoldable pub IsMadeFrom : Letters → (given : Option ℕ) → (lines : List (List ℕ)) → (made : List ℕ) → Type 0
-IsMadeFrom letters given lines made = Contains lines made
-    ⊎ (IsFrom letters lines made × ((r : RecordValue) → Reads made 3 r → MayAsk given lines r.bound))
+IsMadeFrom letters given lines made = IsSourced letters given lines made
 
 -- Records that are printed of what is of the lines are.
 abbrev pub PrintsFrom : Letters → (given : Option ℕ) → (lines : List (List ℕ)) → (before : List ℕ) → Bool → (after : List ℕ) → Bool → Type 0

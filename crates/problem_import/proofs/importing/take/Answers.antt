@@ -14,4 +14,8 @@ pub returns-in_ok-take_record-in-Mendable-clause-from : goal.returns-in_ok-take_
 returns-in_ok-take_record-in-Mendable-clause-from c = λ letters lines among known before.
     let is = c.requires.mended c.in-Mendable.is in
     c.in_ok-take_record-in-Mendable.ensures.from letters lines
-    (c.args.line.now, among, record_says c.args.line.now c.trimmed.result.now is c.trimmed.ensures) (λ _. (c.args.line.now, among, is)) known before
+    c.args.line.now among (record_says c.args.line.now c.trimmed.result.now is c.trimmed.ensures) is known before
+
+pub returns-in_ok-take_line-in-Other-clause-from : goal.returns-in_ok-take_line-in-Other-clause-from
+returns-in_ok-take_line-in-Other-clause-from c = λ letters lines among known before.
+    c.in_ok-take_line-in-Other.ensures.from letters lines among (c.requires.other c.in-Other.is) known before

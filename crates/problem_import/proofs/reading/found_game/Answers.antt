@@ -1,7 +1,7 @@
 use Rattle.problem_import.proofs.Findings.{own_of_game}
 use Rattle.problem_import.proofs.KnownNumbers.{asked_of_game}
 use Rattle.problem_import.proofs.Imports.{where_none}
-use Rattle.problem_import.proofs.Sources.{from_moved, game_asks}
+use Rattle.problem_import.proofs.Sources.{fen_moved, game_asks}
 use Rattle.problem_import.proofs.reading.found_game.Goals as goal
 
 pub returns-clause-own : goal.returns-clause-own
@@ -11,8 +11,8 @@ returns-clause-own c = λ line. (
 )
 
 pub returns-clause-from : goal.returns-clause-from
-returns-clause-from c = λ letters lines of. (
-  from_moved letters lines c.args.game.now.fen.items c.in_ok-text.text.items c.in_ok-text.ensures
-      (of.fen (where_none _ c.first_fault.result c.in_default.not-Some c.first_fault.ensures)),
-  c.number_by_tags-number.ensures lines (game_asks letters lines c.args.game.now c.asks.result c.asks.ensures of),
-)
+returns-clause-from c = λ letters lines of given.
+    c.number_by_tags-number.ensures letters given lines c.in_ok-text.text.items
+    (fen_moved letters lines c.args.game.now.fen.items c.in_ok-text.text.items c.in_ok-text.ensures
+    (of.fen (where_none _ c.first_fault.result c.in_default.not-Some c.first_fault.ensures)))
+    (game_asks letters lines c.args.game.now c.asks.result c.asks.ensures of)

@@ -1,4 +1,3 @@
-use Rattle.std.proofs.Common.{inr}
 use Rattle.problem_import.specs.OliveProblems.{asked_in, man_on}
 use Rattle.problem_import.specs.Sources.{olives}
 use Rattle.problem_import.proofs.Findings.{own_of_popeye}
@@ -14,7 +13,5 @@ returns-in-Ok-clause-own c = λ line. (
 
 pub returns-in-Ok-clause-from : goal.returns-in-Ok-clause-from
 returns-in-Ok-clause-from c = λ letters lines (said, are, read).
-    let (sets, asks) = (rw c.in-Ok.is at c.in_ok-made.ensures) said read in (
-      from_set letters lines (man_on said) (asked_in said) c.in-Ok.text.items (olives said are) sets,
-      inr (man_on said, asked_in said, olives said are, asks),
-    )
+    let (sets, asks) = (rw c.in-Ok.is at c.in_ok-made.ensures) said read in
+    (λ given. from_set letters given lines (man_on said) (asked_in said) c.in-Ok.text.items _ (olives said are) sets asks)

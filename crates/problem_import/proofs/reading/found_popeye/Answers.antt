@@ -1,4 +1,3 @@
-use Rattle.std.proofs.Common.{inr}
 use Rattle.problem_import.specs.PopeyeProblems.{asked_in, man_on}
 use Rattle.problem_import.specs.Sources.{popeyes}
 use Rattle.problem_import.proofs.Findings.{own_of_popeye}
@@ -14,7 +13,5 @@ returns-in-Ok-clause-own c = λ line. (
 
 pub returns-in-Ok-clause-from : goal.returns-in-Ok-clause-from
 returns-in-Ok-clause-from c = λ letters lines (words, are, read).
-    let (sets, asks) = (rw c.in-Ok.is at c.in_ok-made.ensures) words read in (
-      from_set letters lines (man_on words) (asked_in words) c.in-Ok.text.items (popeyes words are) sets,
-      inr (man_on words, asked_in words, popeyes words are, asks),
-    )
+    let (sets, asks) = (rw c.in-Ok.is at c.in_ok-made.ensures) words read in
+    (λ given. from_set letters given lines (man_on words) (asked_in words) c.in-Ok.text.items _ (popeyes words are) sets asks)

@@ -1,8 +1,9 @@
 use Rattle.std.proofs.Common.{refl, subst}
 use Rattle.problem_import.specs.inside.Findings.{IsAskedOf}
+use Rattle.problem_import.specs.inside.KnownSources.{IsFoundBy}
 use Rattle.problem_import.proofs.Findings.{own_moved}
 use Rattle.problem_import.proofs.KnownNumbers.{asked_moved}
-use Rattle.problem_import.proofs.Sources.{from_moved, then_ok}
+use Rattle.problem_import.proofs.Sources.{found_moved, then_ok}
 use Rattle.problem_import.proofs.printing.Printing.push_found.Goals as goal
 
 pub push_text-requires-clause-own : goal.push_text-requires-clause-own
@@ -26,12 +27,14 @@ push_unbound-requires-clause-number c =
     (asked_moved c.args.changes.form c.with_moves.new.changes.form c.args.line.now c.args.moves c.in_ok-text.ensures.form c.requires.number)
 
 pub returns-in-Some-clause-from : goal.returns-in-Some-clause-from
-returns-in-Some-clause-from c = then_ok c.push_text.result _ _ (λ printed letters lines from number.
-    printed letters lines (rw c.as_slice-text.ensures.value
-    (from_moved letters lines c.args.text.now c.in_ok-text.text.items c.in_ok-text.ensures.fields from))
-    (c.in-Some.ensures.from c.args.self.now.bound lines number)) c.push_text.ensures.from
+returns-in-Some-clause-from c = then_ok c.push_text.result _ _ (λ printed letters lines from.
+    printed letters lines (rw c.as_slice-text.ensures.value (c.in-Some.ensures.from letters c.args.self.now.bound lines c.in_ok-text.text.items
+    (found_moved letters c.args.self.now.bound lines c.args.text.now c.in_ok-text.text.items c.args.moves c.in_ok-text.ensures.fields from))))
+    c.push_text.ensures.from
 
 pub returns-clause-from : goal.returns-clause-from
-returns-clause-from c = then_ok c.push_unbound.result _ _ (λ printed letters lines from number.
-    printed letters lines (rw c.as_slice-text.ensures.value
-    (from_moved letters lines c.args.text.now c.in_ok-text.text.items c.in_ok-text.ensures.fields from))) c.push_unbound.ensures.from
+returns-clause-from c = then_ok c.push_unbound.result _ _ (λ printed letters lines from.
+    printed letters lines (rw c.as_slice-text.ensures.value (subst (IsFoundBy letters c.args.self.now.bound lines c.in_ok-text.text.items)
+    c.in-None.ensures.unsaid
+    (found_moved letters c.args.self.now.bound lines c.args.text.now c.in_ok-text.text.items c.args.moves c.in_ok-text.ensures.fields from))))
+    c.push_unbound.ensures.from

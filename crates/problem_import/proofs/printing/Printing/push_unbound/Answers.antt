@@ -1,7 +1,8 @@
 use Rattle.std.proofs.Common.{Some, ap}
+use Rattle.problem_import.specs.declared.reading.Number.TheVariants.{Unsaid}
 use Rattle.problem_import.proofs.KnownNumbers.{number_given}
 use Rattle.problem_import.proofs.FieldTexts.{fields_go_on}
-use Rattle.problem_import.proofs.Sources.{count_given, from_moved, then_ok}
+use Rattle.problem_import.proofs.Sources.{count_given, found_moved, then_ok}
 use Rattle.problem_import.proofs.Positions.{own_bounded}
 use Rattle.problem_import.proofs.printing.Printing.push_unbound.Goals as goal
 
@@ -19,8 +20,9 @@ push_text-requires-clause-number c =
 
 pub returns-in-Ok-Some-clause-from : goal.returns-in-Ok-Some-clause-from
 returns-in-Ok-Some-clause-from c = then_ok c.push_text.result _ _ (λ printed letters lines from.
-    printed letters lines (rw c.as_slice.ensures.value (from_moved letters lines c.args.text.now c.in_ok-bounded-in-Ok-Some.bounded.items
+    printed letters lines (rw c.as_slice.ensures.value (count_given letters c.args.self.now.bound lines c.in_ok-bounded-in-Ok-Some.bounded.items
+    (Some c.get.result) c.in-Ok-Some.bound c.in-Ok-Some.is-1 (ap (λ n. Some n) c.get.ensures.moves)
+    (found_moved letters c.args.self.now.bound lines c.args.text.now c.in_ok-bounded-in-Ok-Some.bounded.items Unsaid
     (fields_go_on c.args.text.now c.in_ok-bounded-in-Ok-Some.bounded.items (rw c.in-Ok-Some.is-0 at c.in_ok-says_asked.ensures.record)
-    c.in_ok-bounded-in-Ok-Some.ensures) from))
-    (count_given c.args.self.now.bound lines (Some c.get.result) c.in-Ok-Some.bound c.in-Ok-Some.is-1 (ap (λ n. Some n) c.get.ensures.moves)))
+    c.in_ok-bounded-in-Ok-Some.ensures) from))))
     c.push_text.ensures.from
