@@ -7,7 +7,8 @@ use Rattle.chess_problems.specs.declared.outcomes.Outcome.{Outcome}
 use Rattle.chess_problems.specs.declared.outcomes.Outcome.TheVariants.{NoMate}
 use Rattle.mate_search.specs.inside.Truth.{truth}
 use Rattle.uci_commands.specs.MoveSearches.{all_but}
-use Rattle.uci_engine.specs.SearchLines.{AreKeyLines, EndsWith, HasNone, IsMateLine, best_text, first_key, line_of, mates, more, none_end, not_found, within}
+use Rattle.uci_engine.specs.SearchLines.{AreKeyLines, EndsWith, HasNone, IsLengthLine, IsMateLine, IsSaid, IsShortest, best_text, first_key}
+use Rattle.uci_engine.specs.SearchLines.{line_of, mates, more, none_end, not_found, of_first, of_keys, of_length, within}
 
 pub none_first : (q : ProblemValue) → HasNone q 0
 none_first q k some few = absurd (omega (arith, some, few))
@@ -59,3 +60,31 @@ ends_with q asked n bound o best old last new few before next is true_of some fi
       mates (n + 1) (omega (arith, few)) (subst (HasNone q) (sym less) before) (λ no. some (of ∙ no)),
       goes ∙ ap (λ t. t ++ best_text best) same ∙ ap (λ b. old ++ best_text b) (first ∙ ap first_key of),
     )
+
+-- ---- what is written while it goes on
+
+shortest : (q asked : ProblemValue) (n bound : ℕ) (o : Outcome) → HasNone q n → bound ≡ n + 1 → asked ≡ within q bound → o ≡ truth asked
+    → o ≢ NoMate → IsShortest q (n + 1)
+shortest q asked n bound o before next is true_of some =
+    let of : o ≡ truth (within q (n + 1)) = true_of ∙ ap truth is ∙ ap (λ b. truth (within q b)) next in
+    let less : (n + 1) - 1 ≡ n = omega (arith) in (subst (HasNone q) (sym less) before, λ no. some (of ∙ no))
+
+pub said_first : (q asked : ProblemValue) (n bound : ℕ) (o : Outcome) (pv : List Move) (text : List ℕ) → HasNone q n → bound ≡ n + 1
+    → asked ≡ within q bound → o ≡ truth asked → o ≢ NoMate → line_of o ≡ pv → IsMateLine asked.bound 1 pv text → IsSaid q text
+said_first q asked n bound o pv text before next is true_of some play line =
+    let same : asked ≡ within q (n + 1) = is ∙ ap (within q) next in
+    of_first (n + 1) text (shortest q asked n bound o before next is true_of some)
+    (subst (λ b. IsMateLine b 1 (line_of (truth (within q (n + 1)))) text) (ap (λ (p : ProblemValue). p.bound) same)
+    (subst (λ l. IsMateLine asked.bound 1 l text) (sym play ∙ ap line_of (true_of ∙ ap truth same)) line))
+
+pub said_keys : (q asked : ProblemValue) (n bound : ℕ) (o : Outcome) (text : List ℕ) → HasNone q n → bound ≡ n + 1 → asked ≡ within q bound
+    → o ≡ truth asked → o ≢ NoMate → AreKeyLines asked text → IsSaid q text
+said_keys q asked n bound o text before next is true_of some lines =
+    of_keys (n + 1) text (shortest q asked n bound o before next is true_of some) (subst (λ p. AreKeyLines p text) (is ∙ ap (within q) next) lines)
+
+pub none_of : (q asked : ProblemValue) (n bound : ℕ) (o : Outcome) → bound ≡ n + 1 → asked ≡ within q bound → o ≡ truth asked → o ≡ NoMate
+    → truth (within q (n + 1)) ≡ NoMate
+none_of q asked n bound o next is true_of none = sym (true_of ∙ ap truth is ∙ ap (λ b. truth (within q b)) next) ∙ none
+
+pub said_length : (q : ProblemValue) (n : ℕ) (text : List ℕ) → HasNone q n → truth (within q (n + 1)) ≡ NoMate → IsLengthLine (n + 1) text → IsSaid q text
+said_length q n text before here line = of_length (n + 1) text (none_more q n before here) line

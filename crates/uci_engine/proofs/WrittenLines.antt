@@ -2,7 +2,7 @@
 use Rattle.std.proofs.Common.{◌≡◌, ◌==◌, Bool, true, false, eqb-true, if◌then◌else◌, ℕ, List, ◌++◌, refl, ap, ◌∙◌, append_assoc}
 use Rattle.std.specs.Prelude.{codes, decimal}
 use Rattle.chess_board.specs.Moves.{Move}
-use Rattle.uci_engine.specs.SearchLines.{IsCosts, IsMateLine, moves_text, none_text}
+use Rattle.uci_engine.specs.SearchLines.{IsCosts, IsLengthLine, IsMateLine, depth_of, moves_text, none_text}
 
 pub first : (old new a d : List ℕ) → new ≡ old ++ a ++ d → new ≡ old ++ (a ++ d)
 first old new a d is = is ∙ append_assoc old a d
@@ -27,25 +27,35 @@ costs_of old one two new nodes time rate e1 e2 e3 =
           (on_count old one two x1 (codes " time ") (decimal time) (first old one (codes " nodes ") (decimal nodes) e1) e2) e3,
     )
 
-pub mate_of : (old t1 t2 t3 t4 t5 t6 new : List ℕ) (depth moves rank : ℕ) (pv : List Move) → t1 ≡ old ++ codes "info depth " ++ decimal depth
+pub length_of : (old t1 t2 new : List ℕ) (moves : ℕ) → t1 ≡ old ++ codes "info depth " ++ decimal (depth_of moves)
+    → (told : List ℕ) × IsCosts told × (t2 ≡ t1 ++ told) → new ≡ t2 ++ codes "\n"
+    → (line : List ℕ) × IsLengthLine moves line × (new ≡ old ++ line)
+unfolding IsLengthLine
+length_of old t1 t2 new moves e1 (costs, are, e2) e3 =
+    let x1 : List ℕ = codes "info depth " ++ decimal (depth_of moves) in
+    let s1 : t1 ≡ old ++ x1 = first old t1 (codes "info depth ") (decimal (depth_of moves)) e1 in
+    let s2 : t2 ≡ old ++ (x1 ++ costs) = on old t1 t2 x1 costs s1 e2 in
+    ((x1 ++ costs) ++ codes "\n", (costs, are, refl), on old t2 new (x1 ++ costs) (codes "\n") s2 e3)
+
+pub mate_of : (old t1 t2 t3 t4 t5 t6 new : List ℕ) (moves rank : ℕ) (pv : List Move) → t1 ≡ old ++ codes "info depth " ++ decimal (depth_of moves)
     → t2 ≡ t1 ++ codes " multipv " ++ decimal rank → t3 ≡ t2 ++ codes " score mate " ++ decimal moves
     → (told : List ℕ) × IsCosts told × (t4 ≡ t3 ++ told) → t5 ≡ t4 ++ codes " pv" → t6 ≡ t5 ++ moves_text pv → new ≡ t6 ++ codes "\n"
     → (line : List ℕ) × IsMateLine moves rank pv line × (new ≡ old ++ line)
 unfolding IsMateLine
-mate_of old t1 t2 t3 t4 t5 t6 new depth moves rank pv e1 e2 e3 (costs, are, e4) e5 e6 e7 =
-    let x1 : List ℕ = codes "info depth " ++ decimal depth in
+mate_of old t1 t2 t3 t4 t5 t6 new moves rank pv e1 e2 e3 (costs, are, e4) e5 e6 e7 =
+    let x1 : List ℕ = codes "info depth " ++ decimal (depth_of moves) in
     let x2 : List ℕ = x1 ++ codes " multipv " ++ decimal rank in
     let x3 : List ℕ = x2 ++ codes " score mate " ++ decimal moves in
     let x4 : List ℕ = x3 ++ costs in
     let x5 : List ℕ = x4 ++ codes " pv" in
     let x6 : List ℕ = x5 ++ moves_text pv in
-    let s1 : t1 ≡ old ++ x1 = first old t1 (codes "info depth ") (decimal depth) e1 in
+    let s1 : t1 ≡ old ++ x1 = first old t1 (codes "info depth ") (decimal (depth_of moves)) e1 in
     let s2 : t2 ≡ old ++ x2 = on_count old t1 t2 x1 (codes " multipv ") (decimal rank) s1 e2 in
     let s3 : t3 ≡ old ++ x3 = on_count old t2 t3 x2 (codes " score mate ") (decimal moves) s2 e3 in
     let s4 : t4 ≡ old ++ x4 = on old t3 t4 x3 costs s3 e4 in
     let s5 : t5 ≡ old ++ x5 = on old t4 t5 x4 (codes " pv") s4 e5 in
     let s6 : t6 ≡ old ++ x6 = on old t5 t6 x5 (moves_text pv) s5 e6 in
-    (x6 ++ codes "\n", (depth, costs, are, refl), on old t6 new x6 (codes "\n") s6 e7)
+    (x6 ++ codes "\n", (costs, are, refl), on old t6 new x6 (codes "\n") s6 e7)
 
 none_if : (is : Bool) (n : ℕ) → (n == 0) ≡ is → (n ≡ 0 → ⊥) → (if is then codes "info string not decided\n" else codes "info string no mate in " ++ decimal n ++ codes "\n")
     ≡ codes "info string no mate in " ++ decimal n ++ codes "\n"

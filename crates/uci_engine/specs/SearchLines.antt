@@ -1,5 +1,5 @@
 -- What an engine writes of a search (UCI, April 2006: `info`, `bestmove`). No contract of a public call rests on it yet.
-use Rattle.std.specs.Prelude.{◌≡◌, ◌≢◌, ◌-◌, ◌<◌, ◌≤◌, ℕ, List, [], ◌∷◌, ◌++◌, ◌==◌, codes, decimal, Option, Some, None, if◌then◌else◌}
+use Rattle.std.specs.Prelude.{◌≡◌, ◌≢◌, ◌-◌, ◌<◌, ◌≤◌, ℕ, ◌*◌, List, [], ◌∷◌, ◌++◌, ◌==◌, codes, decimal, Option, Some, None, if◌then◌else◌}
 use Rattle.chess_board.specs.Characters.{char}
 use Rattle.chess_board.specs.Moves.{Move, move_text}
 use Rattle.chess_problems.specs.Problems.{ProblemValue}
@@ -18,10 +18,18 @@ unfoldable pub IsCosts : List ℕ → Type 0
 IsCosts text = (nodes time rate : ℕ)
     × (text ≡ codes " nodes " ++ decimal nodes ++ codes " time " ++ decimal time ++ codes " nps " ++ decimal rate)
 
+-- how deep a mate in so many moves is, in halfmoves
+abbrev pub depth_of : ℕ → ℕ
+depth_of moves = 2 * moves - 1
+
 -- The line of a mate in so many moves, the so-many-th of those that are shown, by this line of play.
 unfoldable pub IsMateLine : (moves rank : ℕ) → List Move → List ℕ → Type 0
-IsMateLine moves rank pv text = (depth : ℕ) × (costs : List ℕ) × IsCosts costs × (text ≡ codes "info depth " ++ decimal depth
+IsMateLine moves rank pv text = (costs : List ℕ) × IsCosts costs × (text ≡ codes "info depth " ++ decimal (depth_of moves)
     ++ codes " multipv " ++ decimal rank ++ codes " score mate " ++ decimal moves ++ costs ++ codes " pv" ++ moves_text pv ++ char "\n" ∷ [])
+
+-- The line of a length that was searched without a mate.
+unfoldable pub IsLengthLine : (moves : ℕ) → List ℕ → Type 0
+IsLengthLine moves text = (costs : List ℕ) × IsCosts costs × (text ≡ codes "info depth " ++ decimal (depth_of moves) ++ costs ++ char "\n" ∷ [])
 
 -- the line that says what to play, where there is a move
 abbrev pub best_text : Option Move → List ℕ
@@ -73,3 +81,13 @@ pub data AreKeyLines (q : ProblemValue) : List ℕ → Type 0 where
   more : (rank : ℕ) (key : Move) (text line : List ℕ) → AreKeyLines q text
       → IsMateLine q.bound rank (line_of (truth (record { position = q.position; bound = q.bound; avoid = all_but q.position (key ∷ []) }))) line
       → AreKeyLines q (text ++ line)
+
+-- A mate in so many moves, and none in fewer.
+abbrev pub IsShortest : ProblemValue → ℕ → Type 0
+IsShortest q n = HasNone q (n - 1) × (truth (within q n) ≢ NoMate)
+
+-- What may be written while a search goes on: how deep there is no mate; the line of the shortest; those of its other keys.
+pub data IsSaid (q : ProblemValue) : List ℕ → Type 0 where
+  of_length : (n : ℕ) (text : List ℕ) → HasNone q n → IsLengthLine n text → IsSaid q text
+  of_first : (n : ℕ) (text : List ℕ) → IsShortest q n → IsMateLine n 1 (line_of (truth (within q n))) text → IsSaid q text
+  of_keys : (n : ℕ) (text : List ℕ) → IsShortest q n → AreKeyLines (within q n) text → IsSaid q text

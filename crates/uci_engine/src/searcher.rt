@@ -3,7 +3,7 @@
 ghost use Rattle.std.specs.Prelude.{◌≡◌, ◌++◌, Ok, Option, IfOk};
 ghost use Rattle.chess_board.specs.Moves.{Move as MoveValue};
 ghost use Rattle.chess_problems.specs.Problems.{ProblemValue};
-ghost use Rattle.uci_engine.specs.SearchLines.{AreKeyLines, EndsWith, IsMateLine, first_of as first_of_keys, none_end};
+ghost use Rattle.uci_engine.specs.SearchLines.{AreKeyLines, EndsWith, IsLengthLine, IsMateLine, IsSaid, first_of as first_of_keys, none_end};
 
 use crate::events::{Event, send};
 use crate::signals::Signals;
@@ -161,6 +161,22 @@ impl Searcher<'_> {
         let _ = send(rt, self.events, Event::Said(text));
     }
 
+    /// The same, of lines of a search for such a problem.
+    fn say_of<R: Wait>(&self, rt: &R, _asked: &Problem, text: Vec<u8>)
+        requires { IsSaid _asked.now text.items }
+    {
+        self.say(rt, text);
+    }
+
+    /// The line of a length in which there is no mate.
+    fn length_line(&self, moves: u8) -> Result<Vec<u8>, AllocError>
+        ensures { IfOk result (λ text. IsLengthLine moves text.items) }
+    {
+        let mut text = Vec::new(self.alloc);
+        push_length(&mut text, &self.progress(u64::from(moves)))?;
+        Ok(text)
+    }
+
     /// Searches for a mate in one move, two and so on, sends a line for each, and adds the last lines to a text.
     fn search<R: Wait>(
         &self,
@@ -186,16 +202,15 @@ impl Searcher<'_> {
             match solve_until(self.rays, &problem, memo, &watch) {
                 Ok(Outcome::Mate { keys, pv, .. }) => {
                     let first = self.first_line(&problem, pv.as_slice())?;
-                    self.say(rt, first);
+                    self.say_of(rt, asked, first);
                     let more = self.more_lines(&problem, &keys, job, memo, &watch)?;
-                    self.say(rt, more);
+                    self.say_of(rt, asked, more);
                     push_best(last, first_of(&keys))?;
                     return Ok(());
                 }
                 Ok(Outcome::NoMate) => {
-                    let mut text = Vec::new(self.alloc);
-                    push_length(&mut text, &self.progress(u64::from(before + 1)))?;
-                    self.say(rt, text);
+                    let length = self.length_line(before + 1)?;
+                    self.say_of(rt, asked, length);
                 }
                 Err(Stopped) => {
                     self.push_last(last, asked, u64::from(before))?;

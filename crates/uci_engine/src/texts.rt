@@ -1,8 +1,8 @@
 //! The lines that an engine writes.
 
-ghost use Rattle.std.specs.Prelude.{◌≡◌, ◌++◌, ℕ, List, IfOk, codes, decimal};
+ghost use Rattle.std.specs.Prelude.{◌≡◌, ◌++◌, ◌≤◌, ℕ, List, IfOk, codes, decimal};
 ghost use Rattle.chess_board.specs.Moves.{move_text};
-ghost use Rattle.uci_engine.specs.SearchLines.{IsCosts, IsMateLine, best_text, moves_text, none_text};
+ghost use Rattle.uci_engine.specs.SearchLines.{IsCosts, IsLengthLine, IsMateLine, best_text, depth_of, moves_text, none_text};
 
 use crate::reader::MAX_LINE;
 use chess_board::{FenFault, Move};
@@ -96,9 +96,10 @@ pub(crate) struct Progress {
 
 /// Adds what `info` begins with. A mate in n moves is 2n - 1 halfmoves deep.
 fn push_depth(text: &mut Vec<u8>, progress: &Progress) -> Result<(), AllocError>
-    ensures { IfOk result (λ _. (depth : ℕ) × (text.new.items ≡ text.old.items ++ codes "info depth " ++ decimal depth)) }
+    requires { progress.now.moves ≤ 255 }
+    ensures { IfOk result (λ _. text.new.items ≡ text.old.items ++ codes "info depth " ++ decimal (depth_of progress.now.moves)) }
 {
-    let depth = progress.moves.saturating_mul(2).saturating_sub(1);
+    let depth = (2 * progress.moves).saturating_sub(1);
     push_count(text, "info depth ", depth)?;
     Ok(())
 }
@@ -123,10 +124,14 @@ pub(crate) fn push_going(text: &mut Vec<u8>, costs: &Costs) -> Result<(), AllocE
 }
 
 /// Adds the line of a length in which there is no mate.
-pub(crate) fn push_length(text: &mut Vec<u8>, progress: &Progress) -> Result<(), AllocError> {
+pub(crate) fn push_length(text: &mut Vec<u8>, progress: &Progress) -> Result<(), AllocError>
+    requires { progress.now.moves ≤ 255 }
+    ensures { IfOk result (λ _. (line : List ℕ) × IsLengthLine progress.now.moves line × (text.new.items ≡ text.old.items ++ line)) }
+{
     push_depth(text, progress)?;
     push_costs(text, &progress.costs)?;
-    push(text, "\n")
+    push(text, "\n")?;
+    Ok(())
 }
 
 /// Adds moves by their coordinates, each behind a space.
@@ -146,6 +151,7 @@ pub(crate) fn push_mate(
     rank: u64,
     pv: &[Move],
 ) -> Result<(), AllocError>
+    requires { progress.now.moves ≤ 255 }
     ensures { IfOk result (λ _. (line : List ℕ) × IsMateLine progress.now.moves rank pv.now line × (text.new.items ≡ text.old.items ++ line)) }
 {
     push_depth(text, progress)?;
