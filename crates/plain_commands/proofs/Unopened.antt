@@ -1,5 +1,5 @@
 -- What is written before a file is opened: nothing.
-use Rattle.std.proofs.Common.{◌≡◌, ℕ, Bool, true, false, List, [], Option, refl}
+use Rattle.std.proofs.Common.{◌≡◌, ℕ, Bool, true, false, List, [], ◌∷◌, ◌++◌, Option, refl}
 use Rattle.std.proofs.KnownBytes.{Appends-kept, Appends-nil}
 use Rattle.std.specs.Io.KnownBytes.{Keeps}
 use Rattle.text_lines.specs.Replies.{IsReplyToFirst as IsReplyToFirstBy}
@@ -9,7 +9,7 @@ use Rattle.plain_commands.specs.PositionLines.{StopsLines, first_position_replie
 use Rattle.plain_commands.specs.declared.fen_commands.FenCommand.{FenCommand}
 use Rattle.problem_import.specs.Imports.{IsImportOfFirst, none as nothing_imported}
 use Rattle.problem_import.specs.LetteredImports.{IsImportOfFirstIn, IsLetteredOfFirst, english, lettered}
-use Rattle.problem_import.specs.Sources.{AreSourced}
+use Rattle.problem_import.specs.Sources.{AreSourced, AreSourcedFrom, at_end, at_line}
 use Rattle.move_words.specs.Languages.{is_english}
 use Rattle.move_words.specs.declared.languages.Letters.{Letters}
 use Rattle.plain_commands.specs.Imported.{StopsImporting, first_import_replies}
@@ -33,13 +33,18 @@ lines_at_once holds refuses command names old new kept =
       appends = Appends-kept old old new [] (Appends-nil old) kept;
     }
 
+no_sources : (letters : Letters) (bound : Option ℕ) (before lines : List (List ℕ)) → AreSourcedFrom letters bound before lines []
+no_sources letters bound before [] = at_end before [] false nothing_imported
+no_sources letters bound before (line ∷ lines) =
+    at_line before lines line [] [] false nothing_imported (no_sources letters bound (before ++ line ∷ []) lines)
+
 no_import_by : (letters : Letters) (keep are : Bool) (bound : Option ℕ) (input : List ℕ) → is_english letters ≡ are
     → IsImportOfFirstIn letters keep bound input []
 unfolding AreSourced IsImportOfFirst IsLetteredOfFirst IsReplyToFirstBy
 no_import_by letters keep true bound input is =
-    english is ([], [], false, (0, 0, (refl, refl)), nothing_imported, refl) (false, nothing_imported)
+    english is ([], [], false, (0, 0, (refl, refl)), nothing_imported, refl) (no_sources _ bound [] _)
 no_import_by letters keep false bound input is =
-    lettered is ([], [], false, (0, 0, (refl, refl)), nothing_imported, refl) (false, nothing_imported)
+    lettered is ([], [], false, (0, 0, (refl, refl)), nothing_imported, refl) (no_sources letters bound [] _)
 
 pub no_import : (letters : Letters) (keep : Bool) (bound : Option ℕ) (from : ℕ) (name input : List ℕ)
     → first_import_replies letters keep bound from name input []

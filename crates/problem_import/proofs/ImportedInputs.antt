@@ -1,7 +1,8 @@
 -- Where an input ends or stops, what was printed is what it is imported as, and each record is of its lines.
-use Rattle.std.proofs.Common.{◌≡◌, ℕ, ◌+◌, Bool, false, Option, Result, Ok, Err, IfOk, IfErr, List, [], ◌++◌, refl, sym, subst, ap, ◌∙◌, arith}
+use Rattle.std.proofs.Common.{◌≡◌, ℕ, ◌+◌, Bool, false, Option, Result, Ok, Err, IfOk, IfErr, List, [], ◌∷◌, ◌++◌, refl, subst, ap, ◌∙◌, arith}
 use Rattle.std.proofs.KnownBytes.{Appends-nil, Appends-trans}
-use Rattle.std.proofs.lemmas.List.{append-nil}
+use Rattle.std.proofs.lemmas.List.{append-nil, map-append}
+use Rattle.std.proofs.lemmas.List.Elements.{Contains-append_left}
 use Rattle.std.proofs.lemmas.List.{get_or-map, length-map}
 use Rattle.std.specs.Prelude.{map}
 use Rattle.lettered_placements.specs.Readings.{line_read}
@@ -17,7 +18,7 @@ use Rattle.problem_import.specs.Sources.{AreSourced}
 use Rattle.problem_import.specs.declared.reading.Reading.{Reading}
 use Rattle.problem_import.specs.inside.KnownSources.{EndsFrom, IsKnownOf, Sourced, Within}
 use Rattle.problem_import.proofs.Imports.{all_first, appends_more}
-use Rattle.problem_import.proofs.Sources.{first_from, whole_from, with_last}
+use Rattle.problem_import.proofs.Sources.{IsByLine, first_from, whole_from}
 
 -- What the lines of an input were answered, and what is known of them then.
 abbrev pub Answered : LineReplies → Letters → Option ℕ → (List ℕ → List ℕ) → Reading → ℕ → (known old new : Option (List ℕ)) → Type 0
@@ -33,10 +34,6 @@ pub nothing_last : (keep : Bool) (given : Option ℕ) (reading : Reading) (old :
     × AreImported (IsMade keep given []) last any × EndsFrom given reading last any × Appends old old last
 nothing_last keep given reading old = ([], false, none, (λ letters lines known. none), Appends-nil old)
 
--- The lines as they are read.
-abbrev pub Reads : (List ℕ → List ℕ) → (List (List ℕ) → List (List ℕ)) → Type 0
-Reads f g = (lines : List (List ℕ)) → Within f lines (g lines)
-
 abbrev Wholly : (keep : Bool) (given : Option ℕ) → LineReplies → (List ℕ → List ℕ → ℕ → Type 0) → Type 0
 Wholly keep given may W = (input replies last : List ℕ) (refusals total : ℕ) (any : Bool) → IsReply may input replies refusals
     → AreImported (IsMade keep given []) last any → total ≡ refusals + one_if any → W input (replies ++ last) total
@@ -45,7 +42,7 @@ abbrev Firstly : (keep : Bool) (given : Option ℕ) → LineReplies → (List �
 Firstly keep given may W = (input replies last : List ℕ) (any : Bool) → IsReplyToFirst may input replies
     → AreImported (IsMade keep given []) last any → W input (replies ++ last)
 
-pub ended_if : (keep : Bool) (given : Option ℕ) (may : LineReplies) (letters : Letters) (f : List ℕ → List ℕ) (g : List (List ℕ) → List (List ℕ)) → Reads f g
+pub ended_if : (keep : Bool) (given : Option ℕ) (may : LineReplies) (letters : Letters) (f : List ℕ → List ℕ) (g : List (List ℕ) → List (List ℕ)) → IsByLine f g
     → (W : List ℕ → List ℕ → ℕ → Type 0) → Wholly keep given may W
     → (reading : Reading) (r : Result ℕ Stop) (count : ℕ) (known old middle new : Option (List ℕ))
     → Answered may letters given f reading count known old middle
@@ -55,19 +52,21 @@ pub ended_if : (keep : Bool) (given : Option ℕ) (may : LineReplies) (letters :
     × (W bytes text total × AreSourced letters given (g (texts_of bytes)) text) × Appends old new text)
 ended_if keep given may letters f g reads W make reading (Ok total) count known old middle new (bytes, text, maybe, (replies, are_known), before)
     (last, any, on, from, is, behind) =
-    let (are, printed) = whole_from may letters given f (g (texts_of bytes)) bytes text count (reads (texts_of bytes)) replies in (
+    let all : List (List ℕ) = g (texts_of bytes) in
+    let (are, printed) = whole_from may letters given f g reads bytes text count replies in (
       bytes,
       text ++ last,
       maybe,
       (
         make bytes text last count total any are on is,
-        with_last letters given (g (texts_of bytes)) text last (text ++ last) any refl printed (from letters (g (texts_of bytes)) (are_known (g (texts_of bytes)) (reads (texts_of bytes)))),
+        printed last any (from letters (all ++ [] ∷ []) (are_known (all ++ [] ∷ [])
+            (λ line among. Contains-append_left all ([] ∷ []) (f line) (reads.within (texts_of bytes) line among)))),
       ),
       Appends-trans old middle new text last before behind,
     )
 ended_if keep given may letters f g reads W make reading (Err s) count known old middle new answered last = tt
 
-pub stopped_if : (keep : Bool) (given : Option ℕ) (may : LineReplies) (letters : Letters) (f : List ℕ → List ℕ) (g : List (List ℕ) → List (List ℕ)) → Reads f g
+pub stopped_if : (keep : Bool) (given : Option ℕ) (may : LineReplies) (letters : Letters) (f : List ℕ → List ℕ) (g : List (List ℕ) → List (List ℕ)) → IsByLine f g
     → (W : List ℕ → List ℕ → Type 0) → Firstly keep given may W
     → (reading : Reading) (r : Result ℕ Stop) (count : ℕ) (known old middle new : Option (List ℕ))
     → Answered may letters given f reading count known old middle
@@ -78,39 +77,53 @@ pub stopped_if : (keep : Bool) (given : Option ℕ) (may : LineReplies) (letters
 stopped_if keep given may letters f g reads W make reading (Ok total) count known old middle new answered last = tt
 stopped_if keep given may letters f g reads W make reading (Err s) count known old middle new (bytes, text, maybe, (replies, are_known), before)
     (last, any, on, from, behind) =
-    let (are, printed) = whole_from may letters given f (g (texts_of bytes)) bytes text count (reads (texts_of bytes)) replies in (
+    let all : List (List ℕ) = g (texts_of bytes) in
+    let (are, printed) = whole_from may letters given f g reads bytes text count replies in (
       bytes,
       text ++ last,
       maybe,
       (
         make bytes text last any (all_first may bytes text count are) on,
-        with_last letters given (g (texts_of bytes)) text last (text ++ last) any refl printed (from letters (g (texts_of bytes)) (are_known (g (texts_of bytes)) (reads (texts_of bytes)))),
+        printed last any (from letters (all ++ [] ∷ []) (are_known (all ++ [] ∷ [])
+            (λ line among. Contains-append_left all ([] ∷ []) (f line) (reads.within (texts_of bytes) line among)))),
       ),
       appends_more s old middle new text last before behind,
     )
 
-pub stopped : (keep : Bool) (given : Option ℕ) (may : LineReplies) (letters : Letters) (f : List ℕ → List ℕ) (g : List (List ℕ) → List (List ℕ)) → Reads f g
+pub stopped : (keep : Bool) (given : Option ℕ) (may : LineReplies) (letters : Letters) (f : List ℕ → List ℕ) (g : List (List ℕ) → List (List ℕ)) → IsByLine f g
     → (W : List ℕ → List ℕ → Type 0) → Firstly keep given may W → (s : Stop) (known old new : Option (List ℕ))
     → First may letters given f s known old new
     → (bytes : List ℕ) × (text : List ℕ) × MayBe known bytes
     × (W bytes text × AreSourced letters given (g (texts_of bytes)) text) × AppendsBy s old new text
 stopped keep given may letters f g reads W make s known old new (bytes, text, maybe, replies, behind) =
-    let (are, printed) = first_from may letters given f (g (texts_of bytes)) bytes text (reads (texts_of bytes)) replies in
+    let (are, printed) = first_from may letters given f g reads bytes text replies in
     let is : text ++ [] ≡ text = append-nil text in (
       bytes,
       text,
       maybe,
       (
         subst (W bytes) is (make bytes text [] false are none),
-        with_last letters given (g (texts_of bytes)) text [] text false (sym is) printed none,
+        subst (AreSourced letters given (g (texts_of bytes))) is printed,
       ),
       behind,
     )
 
-pub reads_itself : Reads (λ line. line) (λ lines. lines)
-reads_itself lines line among = among
+pub reads_itself : IsByLine (λ line. line) (λ lines. lines)
+reads_itself = record {
+  none = refl;
+  one = λ line lines. refl;
+  push = λ lines line. refl;
+  within = λ lines line among. among;
+}
 
-pub reads_by : (letters : Letters) → Reads (line_read letters) (map (line_read letters))
-reads_by letters lines line (k, within, is) =
-    let f : List ℕ → List ℕ = line_read letters in
+within_by : (f : List ℕ → List ℕ) (lines : List (List ℕ)) → Within f lines (map f lines)
+within_by f lines line (k, within, is) =
     (k, omega (arith, within, length-map lines f), get_or-map f lines k line (f line) within ∙ ap f is)
+
+pub reads_by : (letters : Letters) → IsByLine (line_read letters) (map (line_read letters))
+reads_by letters = record {
+  none = refl;
+  one = λ line lines. refl;
+  push = λ lines line. map-append (line_read letters) lines (line ∷ []);
+  within = within_by (line_read letters);
+}

@@ -1,10 +1,10 @@
 -- Where what is found, open and printed comes from.
-use Rattle.std.proofs.Common.{◌≡◌, ◌⊎◌, inl, inr, ℕ, ◌+◌, length, take, drop, Bool, true, false, ◌||◌, List, [], ◌∷◌, ◌++◌}
+use Rattle.std.proofs.Common.{◌≡◌, ◌⊎◌, inl, inr, ℕ, ◌+◌, length, take, drop, Bool, true, false, List, [], ◌∷◌, ◌++◌}
 use Rattle.std.proofs.Common.{Result, Ok, Err, IfOk, Option, None, Some}
 use Rattle.std.proofs.Common.{refl, sym, ap, ◌∙◌, subst, append_assoc, arith, get_or, ◌<◌, take-append-drop}
 use Rattle.std.specs.Prelude.{Contains, map, ◌-◌}
 use Rattle.std.proofs.lemmas.List.{append-nil, map-append, length-append}
-use Rattle.std.proofs.lemmas.List.Elements.{All-get_or, All-nil, All-push, Contains-append_left}
+use Rattle.std.proofs.lemmas.List.Elements.{All-get_or, All-nil, All-push, Contains-push, Contains-push_cases}
 use Rattle.chess_board.specs.Fens.{SpellsSetup}
 use Rattle.chess_notation.specs.RecordFields.{line_fields}
 use Rattle.chess_notation.specs.Words.{words_in}
@@ -15,8 +15,8 @@ use Rattle.problem_import.specs.Imports.{AreImported, IsNumber, none}
 use Rattle.problem_import.specs.Letters.{IsTextOf}
 use Rattle.problem_import.specs.Numbers.{said}
 use Rattle.problem_import.specs.PopeyeProblems.{said_onto}
-use Rattle.problem_import.specs.Sources.{of_game, of_line, of_text, of_words, set_up}
-use Rattle.problem_import.specs.Sources.{AreSetIn, AreSourced, GameSays, IsFenOf, IsProblemIn, IsSourced, IsTextIn}
+use Rattle.problem_import.specs.Sources.{at_end, at_line, no_items, no_words, of_game, of_line, of_text, of_words, set_up}
+use Rattle.problem_import.specs.Sources.{AreItemsIn, AreSetIn, AreSourced, AreSourcedFrom, AreWordsIn, GameSays, IsLast, IsFenOf, IsProblemIn, IsSourced, IsTextIn}
 use Rattle.problem_import.specs.Sources.{SaysMoves}
 use Rattle.stipulations.specs.declared.asked.Asked.{Asked}
 use Rattle.stipulations.specs.declared.asked.Asked.TheVariants.{Moves}
@@ -36,7 +36,7 @@ use Rattle.problem_import.specs.inside.KnownSources.{IsOliveFrom, IsOpenFrom, Is
 use Rattle.problem_import.specs.inside.ReadProblems.{AreRead, IsRead, KeepsItems, KeepsSaid, SetsUp}
 use Rattle.problem_import.proofs.FieldTexts.{reads_position}
 use Rattle.problem_import.proofs.GameNumbers.{either_way, said_at_end}
-use Rattle.problem_import.proofs.Imports.{imported_append, imported_for}
+use Rattle.problem_import.proofs.Imports.{imported_for}
 use Rattle.problem_import.proofs.ReadItems.{are_kept}
 use Rattle.problem_import.proofs.ReadProblems.{read_kept}
 
@@ -59,7 +59,7 @@ unfolding IsCountFrom
 count_moved letters given lines old new None same from = from
 count_moved letters given lines old new (Some n) same from = from_moved letters given lines old new n same from
 
-from_line : (letters : Letters) (given : Option ℕ) (lines : List (List ℕ)) (line text made : List ℕ) (n : ℕ) → Contains lines line
+from_line : (letters : Letters) (given : Option ℕ) (lines : List (List ℕ)) (line text made : List ℕ) (n : ℕ) → IsLast lines line
     → IsTextOf line text → line_fields made ≡ line_fields text → IsNumber given line (said text) n → IsFrom letters given lines made n
 unfolding IsFrom
 from_line letters given lines line text made n among says same asks p spells sound =
@@ -67,7 +67,7 @@ from_line letters given lines line text made n among says same asks p spells sou
 
 -- A text that is made of a line is of that, where it is to ask what the line says.
 pub found_line : (letters : Letters) (given : Option ℕ) (lines : List (List ℕ)) (line text made : List ℕ) (number : Number)
-    → Contains lines line → IsTextOf line text → line_fields made ≡ line_fields text → IsAsked line (said text) number
+    → IsLast lines line → IsTextOf line text → line_fields made ≡ line_fields text → IsAsked line (said text) number
     → IsFoundBy letters given lines made number
 found_line letters given lines line text made (numbers.Said n) among says same asks =
     from_line letters given lines line text made n among says same (subst (λ a. IsNumber given line a n) (sym asks) refl)
@@ -145,6 +145,61 @@ pub known_letters : (letters : Letters) (lines : List (List ℕ)) (has : Letters
 unfolding IsKnown
 known_letters letters lines has opened (same, of) = same
 
+-- ---- more lines
+
+pub last_in : (lines : List (List ℕ)) (line : List ℕ) → IsLast lines line → Contains lines line
+last_in lines line (before, is) = subst (λ ls. Contains ls line) (sym is) (Contains-push before line)
+
+abbrev HasAll : (some all : List (List ℕ)) → Type 0
+HasAll some all = (line : List ℕ) → Contains some line → Contains all line
+
+text_more : (a b : List (List ℕ)) (text : List ℕ) → HasAll a b → IsTextIn a text → IsTextIn b text
+text_more a b text each (line, among, says) = (line, each line among, says)
+
+fen_more : (letters : Letters) (a b : List (List ℕ)) (made : List ℕ) → HasAll a b → HasFen letters a made → HasFen letters b made
+unfolding HasFen
+fen_more letters a b made each (text, fen, says, of, is) = (text, fen, text_more a b text each says, of, is)
+
+says_more : (a b : List (List ℕ)) (n : ℕ) → HasAll a b → GameSays a n → GameSays b n
+says_more a b n each (text, says, moves) = (text, text_more a b text each says, moves)
+
+words_more : (a b : List (List ℕ)) (words : List (List ℕ)) → HasAll a b → AreWordsIn a words → AreWordsIn b words
+words_more a b words each no_words = no_words
+words_more a b words each (of_words text rest said says part are) =
+    of_words text rest said (text_more a b text each says) part (words_more a b said each are)
+
+items_more : (a b : List (List ℕ)) (said : List Said) → HasAll a b → AreItemsIn a said → AreItemsIn b said
+items_more a b said each no_items = no_items
+items_more a b said each (of_text text before says are) = of_text text before (text_more a b text each says) (items_more a b before each are)
+
+open_more : (letters : Letters) (a b : List (List ℕ)) (opened : Open) → HasAll a b → IsOpenFrom letters a opened → IsOpenFrom letters b opened
+open_more letters a b opens.Nothing each of = tt
+open_more letters a b (opens.Game game) each of = record {
+  fen = λ is. fen_more letters a b game.fen.items each (of.fen is);
+  asked = λ n is. says_more a b n each (of.asked n is);
+  stipulated = λ n is. says_more a b n each (of.stipulated n is);
+}
+open_more letters a b (opens.Movetext movetext) each of = tt
+open_more letters a b (opens.Popeye problem) each (words, are, read) = (words, words_more a b words each are, read)
+open_more letters a b (opens.Olive problem) each (said, are, read) = (said, items_more a b said each are, read)
+
+known_more : (letters : Letters) (a b : List (List ℕ)) (has : Letters) (opened : Open) → HasAll a b → IsKnown letters a has opened
+    → IsKnown letters b has opened
+unfolding IsKnown
+known_more letters a b has opened each (same, of) = (same, open_more letters a b opened each of)
+
+same_or : (lines : List (List ℕ)) (line other : List ℕ) → Contains lines line → Contains lines other ⊎ (line ≡ other) → Contains lines other
+same_or lines line other among (inl is) = is
+same_or lines line other among (inr is) = subst (Contains lines) is among
+
+-- What is known where the line stands once more behind the lines, is known of these.
+pub known_once : (letters : Letters) (lines : List (List ℕ)) (line : List ℕ) (has : Letters) (opened : Open) → Contains lines line
+    → IsKnown letters (lines ++ line ∷ []) has opened → IsKnown letters lines has opened
+known_once letters lines line has opened among known =
+    known_more letters (lines ++ line ∷ []) lines has opened (λ l is. same_or lines line l among (Contains-push_cases lines line l is)) known
+
+-- ---- what is open, and a line
+
 -- A problem for Popeye that took a line is of that, too.
 pub popeye_taken : (lines : List (List ℕ)) (line : List ℕ) (old mid new : PopeyeProblem) → IsPartIn lines line → mid.fault ≡ old.fault
     → mid.diagram ≡ old.diagram → mid.bound ≡ old.bound → mid.expected ≡ old.expected → mid.colour ≡ old.colour
@@ -205,10 +260,10 @@ then_ok (Err e) P Q next is = tt
 
 -- ---- what is printed
 
-pub made_line : (letters : Letters) (given : Option ℕ) (lines : List (List ℕ)) (line : List ℕ) → Contains lines line
+pub made_line : (letters : Letters) (given : Option ℕ) (lines : List (List ℕ)) (line : List ℕ) → IsLast lines line
     → IsMadeFrom letters given lines line
 unfolding IsMadeFrom
-made_line letters given lines line among = inl among
+made_line letters given lines line last = inl last
 
 pub made_of : (letters : Letters) (given : Option ℕ) (lines : List (List ℕ)) (made : List ℕ) (moves : Option ℕ)
     → IsCountFrom letters given lines made moves → Asks moves made → IsMadeFrom letters given lines made
@@ -232,72 +287,99 @@ sourced_one : (letters : Letters) (given : Option ℕ) (lines : List (List ℕ))
 unfolding IsMadeFrom
 sourced_one letters given lines made from = from
 
-pub are_sourced : (letters : Letters) (given : Option ℕ) (lines : List (List ℕ)) (text : List ℕ) (any : Bool)
-    → AreImported (IsMadeFrom letters given lines) text any → AreSourced letters given lines text
-unfolding AreSourced
-are_sourced letters given lines text any on = (
-  any,
-  imported_for (IsMadeFrom letters given lines) (IsSourced letters given lines) (λ line _. sourced_one letters given lines line) text any on,
-)
+are_sourced : (letters : Letters) (given : Option ℕ) (lines : List (List ℕ)) (text : List ℕ) (any : Bool)
+    → AreImported (IsMadeFrom letters given lines) text any → AreImported (IsSourced letters given lines) text any
+are_sourced letters given lines text any =
+    imported_for (IsMadeFrom letters given lines) (IsSourced letters given lines) (λ line _. sourced_one letters given lines line) text any
 
-abbrev Printed : Letters → Option ℕ → List (List ℕ) → List ℕ → Type 0
-Printed letters given lines text = (any : Bool) × AreImported (IsMadeFrom letters given lines) text any
-
-printed_append : (letters : Letters) (given : Option ℕ) (lines : List (List ℕ)) (a b text : List ℕ) → text ≡ a ++ b → Printed letters given lines a
-    → Printed letters given lines b → Printed letters given lines text
-printed_append letters given lines a b text is (x, one) (y, more) =
-    (x || y, subst (λ t. AreImported (IsMadeFrom letters given lines) t (x || y)) (sym is) (imported_append (IsMadeFrom letters given lines) a b x y one more))
+-- How lines are read: one by one, as a function reads each.
+pub record IsByLine (f : List ℕ → List ℕ) (g : List (List ℕ) → List (List ℕ)) : Type 0 where
+  pub none : g [] ≡ []
+  pub one : (line : List ℕ) (lines : List (List ℕ)) → g (line ∷ lines) ≡ f line ∷ g lines
+  pub push : (lines : List (List ℕ)) (line : List ℕ) → g (lines ++ line ∷ []) ≡ g lines ++ f line ∷ []
+  pub within : (lines : List (List ℕ)) → Within f lines (g lines)
 
 taken_front : (front more : List (List ℕ)) → take (length front) (front ++ more) ≡ front
 taken_front [] more = refl
 taken_front (x ∷ xs) more = ap (λ t. x ∷ t) (taken_front xs more)
 
-replies_from : (may : LineReplies) (letters : Letters) (given : Option ℕ) (f : List ℕ → List ℕ) (sources all : List (List ℕ)) → Within f all sources
-    → (front : List (List ℕ)) (number before : ℕ) (lines more : List (List ℕ)) (text : List ℕ) (count : ℕ) → before ≡ length front
+replies_from : (may : LineReplies) (letters : Letters) (given : Option ℕ) (f : List ℕ → List ℕ) (g : List (List ℕ) → List (List ℕ)) → IsByLine f g
+    → (all front : List (List ℕ)) (number before : ℕ) (lines more : List (List ℕ)) (text : List ℕ) (count : ℕ) → before ≡ length front
     → number ≡ before + 1 → all ≡ front ++ (map without_cr lines ++ more)
     → IsReplyFrom (behind (Sourced may letters given f) all) number lines text count
-    → IsReplyFrom may number lines text count × Printed letters given sources text
-replies_from may letters given f sources all within front number before [] more text count long next whole (is, nobody) =
-    ((is, nobody), rw is (false, none))
-replies_from may letters given f sources all within front number before (line ∷ lines) more text count long next whole
+    → IsReplyFrom may number lines text count × ((rest : List ℕ) → AreSourcedFrom letters given (g (front ++ map without_cr lines)) (g more) rest
+    → AreSourcedFrom letters given (g front) (g (map without_cr lines ++ more)) (text ++ rest))
+replies_from may letters given f g by all front number before [] more text count long next whole (is, nobody) = (
+  (is, nobody),
+  λ rest on. subst (λ t. AreSourcedFrom letters given (g front) (g more) (t ++ rest)) (sym is)
+      (subst (λ ls. AreSourcedFrom letters given (g ls) (g more) rest) (append-nil front) on),
+)
+replies_from may letters given f g by all front number before (line ∷ lines) more text count long next whole
     (here, few, after, others, one, on, is, sum) =
     let own : List ℕ = without_cr line in
-    let rest : List (List ℕ) = map without_cr lines ++ more in
+    let ls : List (List ℕ) = map without_cr lines in
     let counted : number - 1 ≡ length front = omega (arith, long, next) in
     let taken : take (number - 1) all ≡ front =
-    ap (λ n. take n all) counted ∙ ap (λ ls. take (length front) ls) whole ∙ taken_front front (own ∷ rest) in
-    let up_to : all ≡ (front ++ own ∷ []) ++ rest = whole ∙ sym (append_assoc front (own ∷ []) rest) in
+    ap (λ n. take n all) counted ∙ ap (λ l. take (length front) l) whole ∙ taken_front front (own ∷ (ls ++ more)) in
+    let up_to : all ≡ (front ++ own ∷ []) ++ (ls ++ more) = whole ∙ sym (append_assoc front (own ∷ []) (ls ++ more)) in
     let (any, printed) = one.1 in
-    let here_from : AreImported (IsMadeFrom letters given sources) here any = printed sources (λ l among. within l
-    (subst (λ ls. Contains ls l) (sym up_to) (Contains-append_left (front ++ own ∷ []) rest l
-    (subst (λ ls. Contains (ls ++ own ∷ []) l) taken among)))) in
-    let (others_may, others_from) = replies_from may letters given f sources all within (front ++ own ∷ []) (number + 1) number lines more after others
+    let here_from : AreImported (IsMadeFrom letters given (g front ++ f own ∷ [])) here any = printed (g front ++ f own ∷ [])
+    (λ l among. subst (λ all_of. Contains all_of (f l)) (by.push front own) (by.within (front ++ own ∷ []) l
+    (subst (λ of. Contains (of ++ own ∷ []) l) taken among))) (g front, refl) in
+    let (others_may, others_from) = replies_from may letters given f g by all (front ++ own ∷ []) (number + 1) number lines more after others
     (omega (arith, long, next, length-append front (own ∷ []))) refl up_to on in (
       (here, few, after, others, one.0, others_may, is, sum),
-      printed_append letters given sources here after text is (any, here_from) others_from,
+      λ rest sourced.
+          let next_front : (front ++ own ∷ []) ++ ls ≡ front ++ own ∷ ls = append_assoc front (own ∷ []) ls in
+          let behind_here = subst (λ b. AreSourcedFrom letters given b (g (ls ++ more)) (after ++ rest)) (by.push front own)
+          (others_from rest (subst (λ b. AreSourcedFrom letters given (g b) (g more) rest) (sym next_front) sourced)) in
+          subst (λ b. AreSourcedFrom letters given (g front) b (text ++ rest)) (sym (by.one own (ls ++ more)))
+          (subst (AreSourcedFrom letters given (g front) (f own ∷ g (ls ++ more)))
+          (sym (append_assoc here after rest) ∙ ap (λ t. t ++ rest) (sym is))
+          (at_line (g front) (g (ls ++ more)) (f own) here (after ++ rest) any
+          (are_sourced letters given (g front ++ f own ∷ []) here any here_from) behind_here)),
     )
 
-pub whole_from : (may : LineReplies) (letters : Letters) (given : Option ℕ) (f : List ℕ → List ℕ) (sources : List (List ℕ)) (input text : List ℕ) (count : ℕ)
-    → Within f (texts_of input) sources → IsReply (behind (Sourced may letters given f) (texts_of input)) input text count
-    → IsReply may input text count × Printed letters given sources text
+-- Nothing more may be printed.
+silent : (letters : Letters) (given : Option ℕ) (before lines : List (List ℕ)) → AreSourcedFrom letters given before lines []
+silent letters given before [] = at_end before [] false none
+silent letters given before (line ∷ lines) = at_line before lines line [] [] false none (silent letters given (before ++ line ∷ []) lines)
+
+from_none : (letters : Letters) (given : Option ℕ) (g : List (List ℕ) → List (List ℕ)) (lines : List (List ℕ)) (text : List ℕ) → g [] ≡ []
+    → AreSourcedFrom letters given (g []) lines text → AreSourced letters given lines text
+unfolding AreSourced
+from_none letters given g lines text is = subst (λ b. AreSourcedFrom letters given b lines text) is
+
+-- All lines were answered, and then the end.
+pub whole_from : (may : LineReplies) (letters : Letters) (given : Option ℕ) (f : List ℕ → List ℕ) (g : List (List ℕ) → List (List ℕ)) → IsByLine f g
+    → (input text : List ℕ) (count : ℕ) → IsReply (behind (Sourced may letters given f) (texts_of input)) input text count
+    → IsReply may input text count × ((last : List ℕ) (any : Bool)
+    → AreImported (IsMadeFrom letters given (g (texts_of input) ++ [] ∷ [])) last any
+    → AreSourced letters given (g (texts_of input)) (text ++ last))
 unfolding IsReply
-whole_from may letters given f sources input text count within replies =
-    replies_from may letters given f sources (texts_of input) within [] 1 0 (lines_of input) [] text count refl refl (sym (append-nil (texts_of input)))
-    replies
+whole_from may letters given f g by input text count replies =
+    let all : List (List ℕ) = texts_of input in
+    let (are, from) = replies_from may letters given f g by all [] 1 0 (lines_of input) [] text count refl refl (sym (append-nil all)) replies in (
+      are,
+      λ last any on. from_none letters given g (g all) (text ++ last) by.none
+          (subst (λ ls. AreSourcedFrom letters given (g []) (g ls) (text ++ last)) (append-nil all)
+          (from last (subst (λ ls. AreSourcedFrom letters given (g all) ls last) (sym by.none)
+          (at_end (g all) last any (are_sourced letters given (g all ++ [] ∷ []) last any on))))),
+    )
 
-pub first_from : (may : LineReplies) (letters : Letters) (given : Option ℕ) (f : List ℕ → List ℕ) (sources : List (List ℕ)) (input text : List ℕ)
-    → Within f (texts_of input) sources → IsReplyToFirst (behind (Sourced may letters given f) (texts_of input)) input text
-    → IsReplyToFirst may input text × Printed letters given sources text
+-- Some of the first were.
+pub first_from : (may : LineReplies) (letters : Letters) (given : Option ℕ) (f : List ℕ → List ℕ) (g : List (List ℕ) → List (List ℕ)) → IsByLine f g
+    → (input text : List ℕ) → IsReplyToFirst (behind (Sourced may letters given f) (texts_of input)) input text
+    → IsReplyToFirst may input text × AreSourced letters given (g (texts_of input)) (text ++ [])
 unfolding IsReplyToFirst
-first_from may letters given f sources input text within (n, count, replies) =
+first_from may letters given f g by input text (n, count, replies) =
     let lines : List (List ℕ) = lines_of input in
-    let whole : texts_of input ≡ map without_cr (take n lines) ++ map without_cr (drop n lines) =
+    let more : List (List ℕ) = map without_cr (drop n lines) in
+    let whole : texts_of input ≡ map without_cr (take n lines) ++ more =
     ap (map without_cr) (sym (take-append-drop n lines)) ∙ map-append without_cr (take n lines) (drop n lines) in
-    let (are, from) = replies_from may letters given f sources (texts_of input) within [] 1 0 (take n lines) (map without_cr (drop n lines)) text count
-    refl refl whole replies in
-    ((n, count, are), from)
-
-pub with_last : (letters : Letters) (given : Option ℕ) (lines : List (List ℕ)) (text last whole : List ℕ) (any : Bool) → whole ≡ text ++ last
-    → Printed letters given lines text → AreImported (IsMadeFrom letters given lines) last any → AreSourced letters given lines whole
-with_last letters given lines text last whole any is one more =
-    let all = printed_append letters given lines text last whole is one (any, more) in are_sourced letters given lines whole all.0 all.1
+    let (are, from) = replies_from may letters given f g by (texts_of input) [] 1 0 (take n lines) more text count refl refl whole replies in (
+      (n, count, are),
+      from_none letters given g (g (texts_of input)) (text ++ []) by.none
+          (subst (λ ls. AreSourcedFrom letters given (g []) (g ls) (text ++ [])) (sym whole)
+          (from [] (silent letters given (g (map without_cr (take n lines))) (g more)))),
+    )

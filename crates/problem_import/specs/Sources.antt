@@ -101,21 +101,33 @@ pub data AreSetIn (lines : List (List ℕ)) : (man_on : ℕ → Option Man) → 
 abbrev pub GameSays : (lines : List (List ℕ)) → ℕ → Type 0
 GameSays lines n = (text : List ℕ) × IsTextIn lines text × SaysMoves text n
 
--- A problem that the lines have, by its position and its number of moves: of a line, the position that its first four words spell and the number
+-- The line is the last of them.
+abbrev pub IsLast : (lines : List (List ℕ)) → (line : List ℕ) → Type 0
+IsLast lines line = (before : List (List ℕ)) × (lines ≡ before ++ line ∷ [])
+
+-- A problem that the lines have, by its position and its number of moves: of the last, the position that its first four words spell and the number
 -- that it says; of a game, a tag FEN, and a number that is said there or given; or men that are set up one by one, and what is asked of them.
 pub data IsProblemIn (letters : Letters) (given : Option ℕ) (lines : List (List ℕ)) (p : Setup) (n : ℕ) : Type 0 where
-  of_line : (line text : List ℕ) → Contains lines line → IsTextOf line text → SpellsSetup (line_fields text) p → IsNumber given line (said text) n
+  of_line : (line text : List ℕ) → IsLast lines line → IsTextOf line text → SpellsSetup (line_fields text) p → IsNumber given line (said text) n
       → IsProblemIn letters given lines p n
   of_game : (text fen : List ℕ) → IsTextIn lines text → IsFenOf letters text fen → SpellsSetup (line_fields fen) p
       → GameSays lines n ⊎ (given ≡ Some n) → IsProblemIn letters given lines p n
   set_up : (man_on : ℕ → Option Man) (asks : Asked) → AreSetIn lines man_on asks → IsSetBy man_on p → asks ≡ Moves n
       → IsProblemIn letters given lines p n
 
--- The record is one of the lines, or one of a problem that they have.
+-- The record is the last of the lines, or one of a problem that they have.
 abbrev pub IsSourced : Letters → (given : Option ℕ) → (lines : List (List ℕ)) → (made : List ℕ) → Type 0
-IsSourced letters given lines made = Contains lines made
+IsSourced letters given lines made = IsLast lines made
     ⊎ ((r : RecordValue) → Reads made 3 r → IsProblemIn letters given lines r.position r.bound)
 
--- Each record that is printed has and does.
+-- Lines are read one after the other, behind such. What is printed at each is of those up to it; at the end, as at an empty line, of all.
+pub data AreSourcedFrom (letters : Letters) (given : Option ℕ) : (before lines : List (List ℕ)) → (text : List ℕ) → Type 0 where
+  at_end : (before : List (List ℕ)) (text : List ℕ) (any : Bool) → AreImported (IsSourced letters given (before ++ [] ∷ [])) text any
+      → AreSourcedFrom letters given before [] text
+  at_line : (before lines : List (List ℕ)) (line text more : List ℕ) (any : Bool)
+      → AreImported (IsSourced letters given (before ++ line ∷ [])) text any → AreSourcedFrom letters given (before ++ line ∷ []) lines more
+      → AreSourcedFrom letters given before (line ∷ lines) (text ++ more)
+
+-- The lines are read so from the first on.
 unfoldable pub AreSourced : Letters → (given : Option ℕ) → (lines : List (List ℕ)) → (text : List ℕ) → Type 0
-AreSourced letters given lines text = (any : Bool) × AreImported (IsSourced letters given lines) text any
+AreSourced letters given lines text = AreSourcedFrom letters given [] lines text

@@ -1,6 +1,6 @@
 //! Inputs of collections, imported line by line.
 
-ghost use Rattle.std.specs.Prelude.{◌≡◌, ◌≢◌, ◌≤◌, ◌<◌, ◌+◌, ℕ, Bool, List, [], false, true, Contains, IfErr, IfOk, length};
+ghost use Rattle.std.specs.Prelude.{◌≡◌, ◌≢◌, ◌≤◌, ◌<◌, ◌+◌, ℕ, Bool, List, [], false, true, IfErr, IfOk, length};
 ghost use Rattle.move_words.specs.Languages.{english};
 ghost use Rattle.move_words.specs.declared.languages.Letters.{Letters as LettersValue};
 ghost use Rattle.text_lines.specs.Lines.{texts_of};
@@ -9,7 +9,7 @@ ghost use Rattle.byte_streams.specs.Inputs.{MayBe};
 ghost use Rattle.byte_streams.specs.Stops.{AppendsBy};
 ghost use Rattle.problem_import.specs.Imports.{AreImported, EndsWithLine, ImportsAreRecords, ImportsKeepPositions, IsClean};
 ghost use Rattle.problem_import.specs.Imports.{IsImport, IsImportOfFirst, IsMade, IsRecord, one_if as one_if_any};
-ghost use Rattle.problem_import.specs.Sources.{AreSourced};
+ghost use Rattle.problem_import.specs.Sources.{AreSourced, IsLast};
 ghost use Rattle.problem_import.specs.inside.Findings.{AreFoundOf};
 ghost use Rattle.problem_import.specs.inside.KnownSources.{AreFrom, EndsFrom, IsKept, IsKnown, IsKnownOf, IsMadeFrom};
 ghost use Rattle.problem_import.specs.inside.OpenProblems.{due, has_tags};
@@ -66,7 +66,7 @@ fn take(
     ensures kept { IfOk result (λ _. due reading.old.open + length findings.old.items ≤ due reading.new.open + length findings.new.items) }
     ensures more { IfOk result (λ _. kind ≡ LineKind.Other → is_tag_line line.now ≡ true → has_tags reading.old.open ≡ false
         → due reading.old.open + length findings.old.items < due reading.new.open + length findings.new.items) }
-    ensures from { IfOk result (λ _. (letters : LettersValue) (lines : List (List ℕ)) → Contains lines line.now
+    ensures from { IfOk result (λ _. (letters : LettersValue) (lines : List (List ℕ)) → IsLast lines line.now
         → IsKept letters lines reading.old reading.new findings.old.items findings.new.items) }
 {
     match kind {
@@ -153,7 +153,7 @@ impl Imports<'_> {
         ensures kept { IfOk result (λ findings. due reading.old.open ≤ due reading.new.open + length findings.items) }
         ensures more { IfOk result (λ findings. kind ≡ LineKind.Other → is_tag_line line.now ≡ true → has_tags reading.old.open ≡ false
             → due reading.old.open < due reading.new.open + length findings.items) }
-        ensures from { IfOk result (λ findings. (letters : LettersValue) (lines : List (List ℕ)) → Contains lines line.now
+        ensures from { IfOk result (λ findings. (letters : LettersValue) (lines : List (List ℕ)) → IsLast lines line.now
             → IsKnown letters lines reading.old.letters reading.old.open
             → IsKnown letters lines reading.new.letters reading.new.open × AreFrom letters lines findings.items) }
     {
@@ -179,7 +179,7 @@ impl Imports<'_> {
         ensures ended { IfOk result (λ printed. due reading.old.open ≤ due reading.new.open + length printed.text.items) }
         ensures begun { IfOk result (λ printed. is_tag_line line.now ≡ true → due reading.old.open ≡ 0
             → 0 < due reading.new.open + length printed.text.items) }
-        ensures from { IfOk result (λ printed. (letters : LettersValue) (lines : List (List ℕ)) → Contains lines line.now
+        ensures from { IfOk result (λ printed. (letters : LettersValue) (lines : List (List ℕ)) → IsLast lines line.now
             → IsKnown letters lines reading.old.letters reading.old.open
             → IsKnown letters lines reading.new.letters reading.new.open × AreImported (IsMadeFrom letters self.now.printing.bound lines) printed.text.items printed.any) }
     {
@@ -267,7 +267,7 @@ impl LineHandler for Imports<'_> {
 
     ghost passes = { λ _ _ before line _ known lines among. known lines (λ own is. among own (Contains-append_left before (line ∷ []) own is)) };
 
-    ghost skips_behind = { λ _ _ number line blank. (skipped blank, (false, λ lines among. nothing)) };
+    ghost skips_behind = { λ _ _ number line blank. (skipped blank, (false, λ lines among last. nothing)) };
 }
 
 /// Writes what is printed once the input has ended; gives at how many lines, its end for one, a problem is refused.

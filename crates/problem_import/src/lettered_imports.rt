@@ -1,6 +1,6 @@
 //! Inputs of collections whose men have the letters of a language, imported line by line.
 
-ghost use Rattle.std.specs.Prelude.{◌≡◌, ◌≢◌, ◌≤◌, ◌<◌, ◌+◌, List, [], ℕ, Bool, Option, Contains, IfErr, IfOk, length, map};
+ghost use Rattle.std.specs.Prelude.{◌≡◌, ◌≢◌, ◌≤◌, ◌<◌, ◌+◌, List, [], ℕ, Bool, Option, IfErr, IfOk, length, map};
 ghost use Rattle.lettered_placements.specs.Readings.{line_read as line_read_by};
 ghost use Rattle.move_words.specs.declared.languages.Letters.{Letters as LettersValue};
 ghost use Rattle.text_lines.specs.Lines.{texts_of};
@@ -9,7 +9,7 @@ ghost use Rattle.byte_streams.specs.Inputs.{MayBe};
 ghost use Rattle.byte_streams.specs.Stops.{AppendsBy};
 ghost use Rattle.problem_import.specs.Imports.{AreImported, IsMade, IsRecord};
 ghost use Rattle.problem_import.specs.LetteredImports.{IsImportIn, IsImportOfFirstIn, IsLettered, IsLetteredOfFirst, LetteredAreRecords};
-ghost use Rattle.problem_import.specs.Sources.{AreSourced};
+ghost use Rattle.problem_import.specs.Sources.{AreSourced, IsLast};
 ghost use Rattle.problem_import.specs.inside.KnownSources.{IsKnown, IsKnownOf, IsMadeFrom};
 ghost use Rattle.problem_import.specs.inside.OpenProblems.{due};
 
@@ -60,7 +60,7 @@ impl LetteredImports<'_> {
             (IsMade self.now.imports.printing.keep self.now.imports.printing.bound line.now) printed.text.items printed.any) }
         ensures kept { IfOk result (λ printed. IsRecord line.now → 0 < length printed.text.items) }
         ensures ended { IfOk result (λ printed. due reading.old.open ≤ due reading.new.open + length printed.text.items) }
-        ensures from { IfOk result (λ printed. (letters : LettersValue) (lines : List (List ℕ)) → Contains lines line.now
+        ensures from { IfOk result (λ printed. (letters : LettersValue) (lines : List (List ℕ)) → IsLast lines line.now
             → IsKnown letters lines reading.old.letters reading.old.open
             → IsKnown letters lines reading.new.letters reading.new.open × AreImported (IsMadeFrom letters self.now.imports.printing.bound lines) printed.text.items printed.any) }
     {
@@ -135,7 +135,7 @@ impl LineHandler for LetteredImports<'_> {
 
     ghost passes = { λ _ _ before line _ known lines among. known lines (λ own is. among own (Contains-append_left before (line ∷ []) own is)) };
 
-    ghost skips_behind = { λ _ _ number line blank. (skipped blank, (false, λ lines among. nothing)) };
+    ghost skips_behind = { λ _ _ number line blank. (skipped blank, (false, λ lines among last. nothing)) };
 }
 
 /// Imports an input by letters, over what goes from line to line.

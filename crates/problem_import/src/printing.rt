@@ -1,12 +1,13 @@
 //! What is printed: records by the grammar, and refusals.
 
-ghost use Rattle.std.specs.Prelude.{◌≡◌, ◌<◌, ◌++◌, ◌∷◌, [], ℕ, Bool, List, Option, Contains, IfNone, IfOk, IfSome, decimal, length};
+ghost use Rattle.std.specs.Prelude.{◌≡◌, ◌<◌, ◌++◌, ◌∷◌, [], ℕ, Bool, List, Option, IfNone, IfOk, IfSome, decimal, length};
 ghost use Rattle.move_words.specs.declared.languages.Letters.{Letters as LettersValue};
 ghost use Rattle.chess_board.specs.Characters.{char};
 ghost use Rattle.problem_import.specs.Changes.{telling};
 ghost use Rattle.problem_import.specs.inside.Counted.{AreCounted, IsSaid};
 ghost use Rattle.problem_import.specs.declared.import_counts.ImportCounts.{ImportCounts as ImportCountsValue};
 ghost use Rattle.problem_import.specs.Imports.{AreImported, EndsWithLine, IsMade, IsRecord, refused_line};
+ghost use Rattle.problem_import.specs.Sources.{IsLast};
 ghost use Rattle.problem_import.specs.inside.FieldTexts.{GoesOn};
 ghost use Rattle.problem_import.specs.inside.Findings.{AreFoundOf, Asks, IsAskedOf, IsFoundOf, IsNumberOf, IsOwn, MayBeTold};
 ghost use Rattle.problem_import.specs.declared.changes.Form.{Form as FormValue};
@@ -136,7 +137,7 @@ impl Printed {
             → AreCounted first printed.text.items printed.counts) }
         ensures clean { IfOk result (λ printed. read.kind ≡ LineKind.Clean → EndsWithLine line.now printed.text.items) }
         ensures filled { IfOk result (λ printed. 0 < length self.text.items → 0 < length printed.text.items) }
-        ensures from { IfOk result (λ printed. (letters : LettersValue) (given : Option ℕ) (lines : List (List ℕ)) → Contains lines line.now
+        ensures from { IfOk result (λ printed. (letters : LettersValue) (given : Option ℕ) (lines : List (List ℕ)) → IsLast lines line.now
             → PrintsFrom letters given lines self.text.items self.any printed.text.items printed.any) }
     {
         let mut printed = self;

@@ -1,12 +1,12 @@
 //! The forms told apart, line by line, and what the lines so far have said of problems that are open.
 
-ghost use Rattle.std.specs.Prelude.{◌≡◌, ◌≤◌, ◌<◌, ◌+◌, ℕ, List, [], Contains, IfOk, IfSome, Option, length, false, true};
+ghost use Rattle.std.specs.Prelude.{◌≡◌, ◌≤◌, ◌<◌, ◌+◌, ℕ, List, [], IfOk, IfSome, Option, length, false, true};
 ghost use Rattle.move_words.specs.Languages.{english};
 ghost use Rattle.move_words.specs.declared.languages.Letters.{Letters as LettersValue};
 ghost use Rattle.problem_import.specs.Imports.{IsRecord};
 ghost use Rattle.problem_import.specs.Letters.{IsTextOf};
 ghost use Rattle.problem_import.specs.inside.Findings.{AreFoundOf, IsAsked, IsFoundOf, IsRecordIf};
-ghost use Rattle.problem_import.specs.Sources.{GameSays};
+ghost use Rattle.problem_import.specs.Sources.{GameSays, IsLast};
 ghost use Rattle.problem_import.specs.inside.KnownSources.{AreFrom, HasFen, IsEndIn, IsFoundBy, IsFoundFrom, IsKept, IsKnown, IsOpenFrom};
 ghost use Rattle.problem_import.specs.inside.KnownSources.{IsUnreadIn};
 ghost use Rattle.problem_import.specs.inside.KnownSources.{Keeps, KeepsBy, KeepsByEnd, KeepsByPart};
@@ -392,7 +392,7 @@ impl Reading {
         ensures own { IfOk result (λ _. (whole : List ℕ) → IsTextOf whole line.now → IsRecordIf is_record whole
             → AreFoundOf whole findings.old.items → AreFoundOf whole findings.new.items) }
         ensures ended { IfOk result (λ _. self.new.open ≡ Open.Nothing) }
-        ensures from { IfOk result (λ _. (letters : LettersValue) (lines : List (List ℕ)) (whole : List ℕ) → Contains lines whole
+        ensures from { IfOk result (λ _. (letters : LettersValue) (lines : List (List ℕ)) (whole : List ℕ) → IsLast lines whole
             → IsTextOf whole line.now → IsRecordIf is_record whole
             → IsKept letters lines self.old self.new findings.old.items findings.new.items) }
     {
@@ -571,7 +571,7 @@ impl Reading {
             → AreFoundOf line.now findings.new.items) }
         ensures more { IfOk result (λ _. is_tag_line line.now ≡ true → does_go_on self.old.open self.old.last number ≡ false
             → due self.old.open + length findings.old.items < due self.new.open + length findings.new.items) }
-        ensures from { IfOk result (λ _. (letters : LettersValue) (lines : List (List ℕ)) → Contains lines line.now → ¬ (IsRecord line.now)
+        ensures from { IfOk result (λ _. (letters : LettersValue) (lines : List (List ℕ)) → IsLast lines line.now → ¬ (IsRecord line.now)
             → IsKept letters lines self.old self.new findings.old.items findings.new.items) }
     {
         let mut changes = Changes::none(Form::Line);
@@ -616,7 +616,7 @@ fn found_line(
     changes: Changes,
 ) -> Result<Found, AllocError>
     ensures own { IfOk result (λ found. (whole : List ℕ) → IsTextOf whole line.now → IsRecordIf is_record whole → IsFoundOf whole found) }
-    ensures from { IfOk result (λ found. (letters : LettersValue) (lines : List (List ℕ)) (whole : List ℕ) → Contains lines whole
+    ensures from { IfOk result (λ found. (letters : LettersValue) (lines : List (List ℕ)) (whole : List ℕ) → IsLast lines whole
         → IsTextOf whole line.now → IsRecordIf is_record whole → IsFoundFrom letters lines found) }
 {
     let mut changes = changes;

@@ -12,7 +12,7 @@ use Rattle.stipulations.specs.declared.asked.Asked.TheVariants.{Moves}
 use Rattle.text_lines.specs.Replies.{LineReplies, RepliesBehind}
 use Rattle.problem_import.specs.Imports.{AreImported, IsRecord}
 use Rattle.problem_import.specs.Letters.{IsTextOf}
-use Rattle.problem_import.specs.Sources.{AreItemsIn, AreWordsIn, GameSays, IsFenOf, IsProblemIn, IsSourced, IsTextIn, MaySay, before_byte}
+use Rattle.problem_import.specs.Sources.{AreItemsIn, AreWordsIn, GameSays, IsFenOf, IsLast, IsProblemIn, IsSourced, IsTextIn, MaySay, before_byte}
 use Rattle.problem_import.specs.declared.games.Game.{Game}
 use Rattle.problem_import.specs.declared.printing.ToldRecord.{ToldRecord}
 use Rattle.problem_import.specs.declared.printing.ToldRecord.TheVariants as told
@@ -114,9 +114,9 @@ IsKept letters lines old new before after = IsKnown letters lines old.letters ol
 abbrev pub Keeps : (old new : Reading) → (before after : List Finding) → Type 0
 Keeps old new before after = (letters : Letters) (lines : List (List ℕ)) → IsKept letters lines old new before after
 
--- One of the lines says the text, and is no record as it stands.
+-- The last of the lines says the text, and is no record as it stands.
 abbrev pub IsUnreadIn : (lines : List (List ℕ)) → (text : List ℕ) → Type 0
-IsUnreadIn lines text = (line : List ℕ) × Contains lines line × IsTextOf line text × (¬ (IsRecord line))
+IsUnreadIn lines text = (line : List ℕ) × IsLast lines line × IsTextOf line text × (¬ (IsRecord line))
 
 -- It is so where that is.
 abbrev pub KeepsBy : (text : List ℕ) → (old new : Reading) → (before after : List Finding) → Type 0
@@ -166,4 +166,5 @@ IsKnownOf letters read before reading = (lines : List (List ℕ)) → Within rea
 -- What a line may be answered, and that the records are of the lines up to it.
 abbrev pub Sourced : LineReplies → Letters → (given : Option ℕ) → (List ℕ → List ℕ) → RepliesBehind
 Sourced may letters given read before number line text refused = may number line text refused × ((any : Bool)
-    × ((lines : List (List ℕ)) → Within read (before ++ line ∷ []) lines → AreImported (IsMadeFrom letters given lines) text any))
+    × ((lines : List (List ℕ)) → Within read (before ++ line ∷ []) lines → IsLast lines (read line)
+    → AreImported (IsMadeFrom letters given lines) text any))

@@ -29,7 +29,7 @@ returns-then-passes_long-clause-behind c = λ line filled long before.
       returns-then-passes_long-clause-reply c line filled long,
       (
         any,
-        λ lines among. subst (λ t. AreImported (IsMadeFrom letters given lines) t any) (sym c.output_of.ensures.text)
+        λ lines among last. subst (λ t. AreImported (IsMadeFrom letters given lines) t any) (sym c.output_of.ensures.text)
             (c.new-printed.ensures.from letters given lines),
       ),
     )
@@ -42,7 +42,7 @@ returns-clause-behind c = λ line filled long before.
       returns-clause-reply c line filled long,
       (
         any,
-        λ lines among. subst (λ t. AreImported (IsMadeFrom letters given lines) t any) (sym c.output_of-2.ensures.text)
+        λ lines among last. subst (λ t. AreImported (IsMadeFrom letters given lines) t any) (sym c.output_of-2.ensures.text)
             (c.in_ok-push_refusal.ensures.from letters given lines (c.new-printed.ensures.from letters given lines)),
       ),
     )

@@ -1,10 +1,12 @@
-use Rattle.std.proofs.Common.{ℕ, List, [], ◌∷◌, ◌++◌, ◌∙◌, ◌≡◌, sym, subst}
+use Rattle.std.proofs.Common.{refl, ℕ, List, [], ◌∷◌, ◌++◌, ◌∙◌, ◌≡◌, sym, subst}
 use Rattle.std.proofs.lemmas.List.Elements.{Contains-append_left, Contains-push}
 use Rattle.std.specs.Prelude.{Contains}
 use Rattle.lettered_placements.specs.Readings.{line_read}
 use Rattle.problem_import.specs.Imports.{AreImported}
 use Rattle.problem_import.specs.inside.KnownSources.{IsKnown, IsMadeFrom, Within}
+use Rattle.problem_import.specs.Sources.{IsLast}
 use Rattle.problem_import.proofs.LetteredImports.{lettered_reply}
+use Rattle.problem_import.proofs.Sources.{known_once}
 use Rattle.problem_import.proofs.lettered_imports.LetteredImportsLineHandler.answer.Goals as goal
 
 pub returns-clause-reply : goal.returns-clause-reply
@@ -23,14 +25,20 @@ returns-clause-behind c = λ before known.
     let read = c.as_slice.result.now in
     let is_read : line_read letters line ≡ read = sym (c.as_slice.ensures.value ∙ c.in_ok-read.ensures) in
     let any = c.in_ok-printed.printed.any in
-    let own : (lines : List (List ℕ)) → Within (line_read letters) (before ++ line ∷ []) lines
+    let own : (lines : List (List ℕ)) → Within (line_read letters) before lines → IsLast lines read
     → IsKnown letters lines c.reply.new.reading.letters c.reply.new.reading.open
     × AreImported (IsMadeFrom letters given lines) c.in_ok-printed.printed.text.items any =
-    λ lines among. c.in_ok-printed.ensures.from letters lines (subst (λ l. Contains lines l) is_read (among line (Contains-push before line)))
-    (known lines (λ l is. among l (Contains-append_left before (line ∷ []) l is))) in (
+    λ lines among last. c.in_ok-printed.ensures.from letters lines last (known lines among) in (
       (
         returns-clause-reply c,
-        (any, λ lines among. subst (λ t. AreImported (IsMadeFrom letters given lines) t any) (sym c.output_of.ensures.text) ((own lines among).1)),
+        (
+          any,
+          λ lines among last. subst (λ t. AreImported (IsMadeFrom letters given lines) t any) (sym c.output_of.ensures.text)
+              ((own lines (λ l is. among l (Contains-append_left before (line ∷ []) l is)) (subst (IsLast lines) is_read last)).1),
+        ),
       ),
-      λ lines among. (own lines among).0,
+      λ lines among. known_once letters lines read c.reply.new.reading.letters c.reply.new.reading.open
+          (subst (λ l. Contains lines l) is_read (among line (Contains-push before line)))
+          ((own (lines ++ read ∷ []) (λ l is. Contains-append_left lines (read ∷ []) (line_read letters l)
+          (among l (Contains-append_left before (line ∷ []) l is))) (lines, refl)).0),
     )

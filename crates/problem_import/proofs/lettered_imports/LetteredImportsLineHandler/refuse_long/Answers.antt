@@ -20,7 +20,7 @@ returns-clause-behind c = λ line filled long before.
       returns-clause-reply c line filled long,
       (
         any,
-        λ lines among. subst (λ t. AreImported (IsMadeFrom letters given lines) t any) (sym c.output_of.ensures.text)
+        λ lines among last. subst (λ t. AreImported (IsMadeFrom letters given lines) t any) (sym c.output_of.ensures.text)
             (c.in_ok-printed.ensures.from letters given lines),
       ),
     )
