@@ -1,5 +1,5 @@
 -- What an input is answered from one of its lines on.
-use Rattle.std.specs.Prelude.{◌-◌, ℕ, List, drop, take}
+use Rattle.std.specs.Prelude.{◌-◌, ℕ, zero, suc, List, [], ◌∷◌, drop, take}
 use Rattle.text_lines.specs.Lines.{lines_of}
 use Rattle.text_lines.specs.Replies.{IsReplyFrom, LineReplies}
 
@@ -12,3 +12,13 @@ IsReplyOn replies from input text refusals = IsReplyFrom replies from (drop (fro
 unfoldable pub IsReplyToFirstOn : LineReplies → ℕ → List ℕ → List ℕ → Type 0
 IsReplyToFirstOn replies from input text =
     (count : ℕ) × (refusals : ℕ) × IsReplyFrom replies from (drop (from - 1) (take count (lines_of input))) text refusals
+
+-- the lines, of which the first so many are read as empty ones
+abbrev pub without_first : ℕ → List (List ℕ) → List (List ℕ)
+without_first zero lines = lines
+without_first (suc n) [] = []
+without_first (suc n) (line ∷ lines) = [] ∷ without_first n lines
+
+-- the lines from that of a number on, where those before it are passed over as empty ones are
+abbrev pub lines_from : ℕ → List (List ℕ) → List (List ℕ)
+lines_from from lines = without_first (from - 1) lines

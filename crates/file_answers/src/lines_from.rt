@@ -4,7 +4,9 @@ ghost use Rattle.std.specs.Prelude.{◌≡◌, ◌≤◌, ◌-◌, ℕ, List, []
 ghost use Rattle.std.specs.Io.KnownBytes.{Appends};
 ghost use Rattle.byte_streams.specs.Inputs.{MayBe};
 ghost use Rattle.byte_streams.specs.Stops.{AppendsBy};
-ghost use Rattle.file_answers.specs.LinesFrom.{IsReplyOn, IsReplyToFirstOn};
+ghost use Rattle.text_lines.specs.Lines.{texts_of};
+ghost use Rattle.text_lines.specs.Replies.{behind};
+ghost use Rattle.file_answers.specs.LinesFrom.{IsReplyOn, IsReplyToFirstOn, lines_from as lines_from_number};
 
 use crate::file_answers::FileStart;
 use crate::sources::Source;
@@ -42,7 +44,8 @@ fn nothing(alloc: Global) -> Output
 
 impl<H: LineHandler, S: Source> LineHandler for LinesFrom<'_, H, S> {
     ghost use Rattle.std.specs.Prelude.{refl};
-    ghost use Rattle.file_answers.specs.inside.LinesFrom.{RepliesFrom};
+    ghost use Rattle.file_answers.specs.LinesFrom.{lines_from};
+    ghost use Rattle.file_answers.specs.inside.LinesFrom.{KnowsFrom, RepliesFrom, went_by};
 
     type Memory = H::Memory;
 
@@ -53,6 +56,10 @@ impl<H: LineHandler, S: Source> LineHandler for LinesFrom<'_, H, S> {
     ghost marks = { λ lines. RepliesFrom (H.marks lines.handler.now) lines.start.now.from };
 
     ghost tally = { λ memory. H.tally memory };
+
+    ghost knows = { λ lines memory before. KnowsFrom H.Memory (H.knows lines.handler.now) lines.start.now.from memory before };
+
+    ghost follows = { λ lines before. RepliesFrom (H.follows lines.handler.now (lines_from lines.start.now.from before)) lines.start.now.from };
 
     ghost room = { λ memory. H.room memory };
 
@@ -89,9 +96,12 @@ impl<H: LineHandler, S: Source> LineHandler for LinesFrom<'_, H, S> {
       answered = λ _. H.unmarked lines.handler.now number line blank;
     } };
 
-    ghost passes = { λ _ _ _ _ _ _. tt };
+    ghost passes = { λ _ _ before line is known. went_by before line is known };
 
-    ghost skips_behind = { λ _ _ _ _ _. tt };
+    ghost skips_behind = { λ lines before number line blank. record {
+      passed = λ _. (refl, refl);
+      answered = λ _. H.skips_behind lines.handler.now (lines_from lines.start.now.from before) number line blank;
+    } };
 }
 
 /// Answers an input line by line from that of a number on, as `text_lines` does. The lines before it keep their numbers, and are read no
@@ -112,7 +122,16 @@ pub fn answer_lines_from<H: LineHandler, S: Source, I: Input + Drop, O: Write>(
         × (IsReplyOn (H.replies handler.now) start.now.from bytes text refused
         × IsReplyOn (H.marks handler.now) start.now.from bytes text (H.tally memory.new - H.tally memory.old))
         × Appends (O.contents out.old) (O.contents out.new) text) }
+    ensures followed { IfOk result (λ refused. H.knows handler.now memory.old [] → (bytes : List ℕ) × (text : List ℕ)
+        × MayBe (I.left input) bytes
+        × (IsReplyOn (behind (H.follows handler.now) (lines_from_number start.now.from (texts_of bytes))) start.now.from bytes text refused
+        × H.knows handler.now memory.new (lines_from_number start.now.from (texts_of bytes)))
+        × Appends (O.contents out.old) (O.contents out.new) text) }
     ensures grows { IfOk result (λ _. H.tally memory.old ≤ H.tally memory.new) }
+    ensures broken { IfErr result (λ stop. H.knows handler.now memory.old [] → (bytes : List ℕ) × (text : List ℕ)
+        × MayBe (I.left input) bytes
+        × IsReplyToFirstOn (behind (H.follows handler.now) (lines_from_number start.now.from (texts_of bytes))) start.now.from bytes text
+        × AppendsBy stop (O.contents out.old) (O.contents out.new) text) }
     ensures err { IfErr result (λ stop. (bytes : List ℕ) × (text : List ℕ) × MayBe (I.left input) bytes
         × IsReplyToFirstOn (H.replies handler.now) start.now.from bytes text
         × AppendsBy stop (O.contents out.old) (O.contents out.new) text) }

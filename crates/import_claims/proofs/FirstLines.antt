@@ -1,5 +1,5 @@
 -- The replies to all lines are those to the first of them.
-use Rattle.std.proofs.Common.{◌≡◌, ◌-◌, ℕ, List, ap, drop, length, subst, sym, take}
+use Rattle.std.proofs.Common.{◌-◌, ℕ, List, drop, length, subst, sym}
 use Rattle.std.proofs.Math.Seq.{take-length}
 use Rattle.text_lines.specs.Lines.{lines_of}
 use Rattle.text_lines.specs.Replies.{IsReplyFrom, LineReplies}

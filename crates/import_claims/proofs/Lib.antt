@@ -1,4 +1,5 @@
 mod FirstLines
+mod SourcedRows
 mod ReadRecords
 mod Unopened
 mod VerifiedFiles

@@ -1,8 +1,8 @@
 -- A record has a word, so it isn't blank.
-use Rattle.std.proofs.Common.{◌≡◌, ◌≢◌, ℕ, zero, suc, ◌==◌, List, [], ◌∷◌, ◌++◌, Bool, true, false, refl, ap, ◌∙◌, replicate}
+use Rattle.std.proofs.Common.{◌≡◌, ◌≢◌, ℕ, zero, suc, ◌==◌, List, [], ◌∷◌, ◌++◌, false, refl, ap, ◌∙◌, replicate}
 use Rattle.std.proofs.lemmas.Bool.Decides.{nat_tests}
 use Rattle.std.proofs.Common.{arith}
-use Rattle.chess_notation.specs.Records.{HaveNoSpace, IsWord}
+use Rattle.chess_notation.specs.Records.{IsWord}
 use Rattle.chess_notation.specs.Words.{is_blank}
 use Rattle.problem_import.specs.Imports.{IsRecord}
 

@@ -5,12 +5,18 @@ use Rattle.std.proofs.KnownBytes.{Appends-kept, Appends-nil}
 use Rattle.std.specs.Io.KnownBytes.{Keeps}
 use Rattle.byte_streams.specs.declared.stops.Stop.TheVariants as stop
 use Rattle.file_answers.proofs.Unopened.{answers_none, no_reply_on}
+use Rattle.file_answers.specs.LinesFrom.{lines_from}
+use Rattle.text_lines.specs.Lines.{texts_of}
 use Rattle.problem_import.specs.Problems.{no_problem}
+use Rattle.import_claims.proofs.SourcedRows.{none_sourced}
 use Rattle.import_claims.specs.VerifiedImports.{ShowsFirst, StopsRows, first_imported_replies, has_several}
 
 pub no_imported_reply : (several : Bool) (bound : Option ℕ) (from : ℕ) (name input : List ℕ)
     → first_imported_replies several bound from name input []
-no_imported_reply several bound from name input = (0, ([], 0, [], [], false, no_reply_on _ from input, (0, no_problem, refl), refl, refl))
+no_imported_reply several bound from name input = (
+  (0, ([], 0, [], [], false, no_reply_on _ from input, (0, no_problem, refl), refl, refl)),
+  none_sourced bound _ _ (lines_from from (texts_of input)),
+)
 
 pub shows_none : (holds : List ℕ → Option (List ℕ)) (bound : Option ℕ) (from : ℕ) (names : List (List ℕ))
     → ShowsFirst holds bound from names (λ _. ⊤) []

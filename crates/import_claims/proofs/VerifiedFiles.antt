@@ -1,10 +1,9 @@
 -- What the rows of files are, and where they stop.
 use Rattle.std.proofs.Common.{◌≡◌, ◌∙◌, Bor, ℕ, Bool, List, Option, sym, ap, subst, map, length, nat_lt}
-use Rattle.std.specs.Bool.{⊤}
 use Rattle.std.proofs.lemmas.List.{length-map}
 use Rattle.byte_streams.specs.declared.stops.Stop.{Stop}
 use Rattle.byte_streams.specs.declared.stops.Stop.TheVariants as stop
-use Rattle.file_answers.specs.FileAnswers.{Answers, AnswersFirst, StopsAnswering}
+use Rattle.file_answers.specs.FileAnswers.{Answers, StopsAnswering}
 use Rattle.file_answers.specs.Sources.{HoldsEach}
 use Rattle.file_answers.specs.Writing.{Gains}
 use Rattle.file_answers.proofs.AnsweredFiles.{all_answered}

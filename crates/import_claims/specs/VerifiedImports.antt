@@ -3,9 +3,11 @@ use Rattle.std.specs.Prelude.{◌≡◌, ◌⊎◌, ◌++◌, ℕ, Bool, List, [
 use Rattle.byte_streams.specs.declared.stops.Stop.{Stop}
 use Rattle.byte_streams.specs.declared.stops.Stop.TheVariants.{NoMemory, Unreadable, Unwritable, NoReader}
 use Rattle.mate_claims.specs.ClaimReplies.{IsClaimReply}
-use Rattle.problem_import.specs.Problems.{IsEnded, IsEndedFirst, IsProblemReply}
+use Rattle.move_words.specs.Languages.{english}
+use Rattle.problem_import.specs.Problems.{AnswersSourced, IsEnded, IsEndedFirst, IsProblemReply}
+use Rattle.text_lines.specs.Lines.{texts_of}
 use Rattle.file_answers.specs.FileAnswers.{Answers, AnswersFirst, FirstRefused, StopsAnswering}
-use Rattle.file_answers.specs.LinesFrom.{IsReplyOn, IsReplyToFirstOn}
+use Rattle.file_answers.specs.LinesFrom.{IsReplyOn, IsReplyToFirstOn, lines_from}
 use Rattle.file_answers.specs.Writing.{Gains, GainsPart}
 use Rattle.import_claims.specs.ImportedRows.{IsRefusedRow}
 
@@ -27,14 +29,19 @@ bound_or_three None = 3
 abbrev pub imported_reply : List ℕ → Option ℕ → ℕ → List ℕ → List ℕ → ℕ → Type 0
 imported_reply prefix bound = IsProblemReply bound (IsClaimReply prefix (bound_or_three bound)) (IsRefusedRow prefix)
 
--- The rows of a file's problems, of those that its lines from that of a number on say.
+-- The rows of a file's problems, of those that its lines from that of a number on say; each is of a record that is of these lines, or of a
+-- refusal.
 abbrev pub imported_replies : Bool → Option ℕ → ℕ → List ℕ → List ℕ → List ℕ → ℕ → Type 0
 imported_replies several bound from name input text unsound = IsEnded bound (IsClaimReply (prefix_of several name) (bound_or_three bound))
     (IsRefusedRow (prefix_of several name)) (IsReplyOn (imported_reply (prefix_of several name) bound) from input) text unsound
+    × AnswersSourced english bound (IsClaimReply (prefix_of several name) (bound_or_three bound)) (IsRefusedRow (prefix_of several name))
+    (lines_from from (texts_of input)) text
 
 abbrev pub first_imported_replies : Bool → Option ℕ → ℕ → List ℕ → List ℕ → List ℕ → Type 0
 first_imported_replies several bound from name input text = IsEndedFirst bound (IsClaimReply (prefix_of several name) (bound_or_three bound))
     (IsRefusedRow (prefix_of several name)) (IsReplyToFirstOn (imported_reply (prefix_of several name) bound) from input) text
+    × AnswersSourced english bound (IsClaimReply (prefix_of several name) (bound_or_three bound)) (IsRefusedRow (prefix_of several name))
+    (lines_from from (texts_of input)) text
 
 -- The rows of what the names hold, of the first of them from the line of such a number on, and whether one isn't sound.
 abbrev pub ShowsRows : (List ℕ → Option (List ℕ)) → Option ℕ → ℕ → List (List ℕ) → Bool → List ℕ → Type 0

@@ -4,8 +4,10 @@ ghost use Rattle.std.specs.Prelude.{◌≡◌, ℕ, List, IfErr, IfOk};
 ghost use Rattle.std.specs.Io.KnownBytes.{Appends};
 ghost use Rattle.byte_streams.specs.Inputs.{MayBe};
 ghost use Rattle.byte_streams.specs.Stops.{AppendsBy};
-ghost use Rattle.problem_import.specs.Problems.{IsEnded, IsEndedFirst, IsProblemReply};
-ghost use Rattle.file_answers.specs.LinesFrom.{IsReplyOn, IsReplyToFirstOn};
+ghost use Rattle.move_words.specs.Languages.{english};
+ghost use Rattle.text_lines.specs.Lines.{texts_of};
+ghost use Rattle.problem_import.specs.Problems.{AnswersSourced, IsEnded, IsEndedFirst, IsProblemReply};
+ghost use Rattle.file_answers.specs.LinesFrom.{IsReplyOn, IsReplyToFirstOn, lines_from};
 
 use byte_streams::{Input, Stop};
 use file_answers::{FileStart, Source, answer_lines_from};
@@ -24,18 +26,25 @@ pub(crate) fn answer_problems_from<H: ProblemHandler, S: Source, I: Input + Drop
     out: &mut O,
 ) -> Result<usize, Stop>
     ensures ok { IfOk result (λ count. (bytes : List ℕ) × (text : List ℕ) × MayBe (I.left input) bytes
-        × IsEnded lines.now.bound (H.records lines.now.handler.now) (H.rows lines.now.handler.now)
+        × (IsEnded lines.now.bound (H.records lines.now.handler.now) (H.rows lines.now.handler.now)
         (IsReplyOn (IsProblemReply lines.now.bound (H.records lines.now.handler.now) (H.rows lines.now.handler.now)) start.now.from bytes)
         text count
+        × AnswersSourced english lines.now.bound (H.records lines.now.handler.now) (H.rows lines.now.handler.now)
+        (lines_from start.now.from (texts_of bytes)) text)
         × Appends (O.contents out.old) (O.contents out.new) text) }
     ensures err { IfErr result (λ stop. (bytes : List ℕ) × (text : List ℕ) × MayBe (I.left input) bytes
-        × IsEndedFirst lines.now.bound (H.records lines.now.handler.now) (H.rows lines.now.handler.now)
+        × (IsEndedFirst lines.now.bound (H.records lines.now.handler.now) (H.rows lines.now.handler.now)
         (IsReplyToFirstOn (IsProblemReply lines.now.bound (H.records lines.now.handler.now) (H.rows lines.now.handler.now)) start.now.from
         bytes)
         text
+        × AnswersSourced english lines.now.bound (H.records lines.now.handler.now) (H.rows lines.now.handler.now)
+        (lines_from start.now.from (texts_of bytes)) text)
         × AppendsBy stop (O.contents out.old) (O.contents out.new) text) }
     ensures unreadable { IfErr result (λ stop. stop ≡ Stop.Unreadable → I.breaks input) }
 {
+    // That lines are numbered from 1 on is this call's clause.
+    let _number = start.from.get();
+    memory.begin();
     match answer_lines_from(alloc, lines, start, input, memory, out) {
         Ok(count) => lines.put_last(alloc, count, memory, out),
         Err(stop) => Err(stop),

@@ -26,11 +26,11 @@ use Rattle.problem_import.specs.inside.Answered.{IsFilled, IsFound}
 use Rattle.problem_import.proofs.Imports.{appends_more, filled_behind, not_both, read_reply, record_kept}
 
 module _ (G : Option ℕ) (R : LineReplies) (Q : RefusalRows) where
-  answered_as : (P : List ℕ → Type 0) (a b x y : List ℕ) (m n : ℕ) → a ≡ b → x ≡ y → m ≡ n → AreAnswered P R Q a x m → AreAnswered P R Q b y n
+  pub answered_as : (P : List ℕ → Type 0) (a b x y : List ℕ) (m n : ℕ) → a ≡ b → x ≡ y → m ≡ n → AreAnswered P R Q a x m → AreAnswered P R Q b y n
   answered_as P a b x y m n lines text count one =
       subst (λ t. AreAnswered P R Q t y n) lines (subst (λ t. AreAnswered P R Q a t n) text (subst (λ k. AreAnswered P R Q a x k) count one))
 
-  answered_append : (P : List ℕ → Type 0) (a b x y : List ℕ) (m n : ℕ) → AreAnswered P R Q a x m → AreAnswered P R Q b y n
+  pub answered_append : (P : List ℕ → Type 0) (a b x y : List ℕ) (m n : ℕ) → AreAnswered P R Q a x m → AreAnswered P R Q b y n
       → AreAnswered P R Q (a ++ b) (x ++ y) (m + n)
   answered_append P a b x y m n no_problem more = answered_as P b b y y n (0 + n) refl refl (omega arith) more
   answered_append P a b x y m n (of_record number line here lines text count refusals is kind one on) more =
@@ -185,7 +185,7 @@ module _ (G : Option ℕ) (R : LineReplies) (Q : RefusalRows) where
   pub none_last : (old : Option (List ℕ)) → IsLastCut G R Q stop.NoMemory old old
   none_last old = ([], [], false, (0, no_problem, refl), Appends-nil old)
 
-  by_part : (s : Stop) (text : List ℕ) (old new : Option (List ℕ)) → is_of_output s ≡ true → AppendsPart old new text → AppendsBy s old new text
+  pub by_part : (s : Stop) (text : List ℕ) (old new : Option (List ℕ)) → is_of_output s ≡ true → AppendsPart old new text → AppendsBy s old new text
   by_part stop.NoMemory text old new output part = let no : false ≡ true = output in cc
   by_part stop.Unreadable text old new output part = let no : false ≡ true = output in cc
   by_part stop.Unwritable text old new output part = part

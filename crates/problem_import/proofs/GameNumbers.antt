@@ -11,8 +11,8 @@ use Rattle.stipulations.specs.declared.asked.Asked.TheVariants.{Nothing, Moves, 
 use Rattle.problem_import.specs.Sources.{annotator, black, event, stipulation, white}
 use Rattle.problem_import.specs.Sources.{GameSays, HasComment, HasTag, IsNamed, MaySay, SaysMoves, before_byte, behind_byte, value_from}
 use Rattle.problem_import.specs.declared.games.Game.{Game}
-use Rattle.problem_import.specs.inside.KnownSources.{AsksMore, CommentSays, IsEndIn, KeepsAsked, KeepsFen, TagSays}
-use Rattle.problem_import.specs.inside.TagPairs.{EndsText}
+use Rattle.problem_import.specs.inside.KnownSources.{AsksMore, CommentSays, EndsOne, KeepsAsked, KeepsFen, TagSays}
+use Rattle.problem_import.specs.TagPairs.{EndsText}
 
 pub either_way : {A B C : Type 0} → (A → C) → (B → C) → A ⊎ B → C
 either_way f g (inl a) = f a
@@ -86,8 +86,8 @@ asks_on text rest a b c ends before more =
 pub fen_then : (a b c : Game) → KeepsFen a b → KeepsFen b c → KeepsFen a c
 fen_then a b c (one, same) (other, is) = (other ∙ one, is ∙ same)
 
-pub said_at_end : (lines : List (List ℕ)) (rest : List ℕ) (n : ℕ) → IsEndIn lines rest → SaysMoves rest n → GameSays lines n
-said_at_end lines rest n (text, in_lines, ends) says = (text, in_lines, says_longer rest text n ends says)
+pub said_at_end : (texts : List (List ℕ)) (rest : List ℕ) (n : ℕ) → EndsOne texts rest → SaysMoves rest n → GameSays texts n
+said_at_end texts rest n (text, among, ends) says = (text, among, says_longer rest text n ends says)
 
 -- ---- tags
 

@@ -44,6 +44,11 @@ line_length l line =
     let fewer : length text ≡ length line - prefix_len is_ascii_whitespace line = length-drop (prefix_len is_ascii_whitespace line) line in
     omega (arith, both, fewer, text_length l text, length-take front line)
 
+-- As many stand before it.
+pub length_before : (l : Letters) (before : List (List ℕ)) (number : ℕ) → length before + 1 ≡ number
+    → length (map (line_read l) before) + 1 ≡ number
+length_before l before number is = omega (arith, is, length-map before (line_read l))
+
 -- ---- a line's reply
 
 pub record_anew : (first kind : LineKind) (line : List ℕ) → (first ≡ kinds.Clean → IsRecord line) → (first ≡ kinds.Mendable → IsRecord line)

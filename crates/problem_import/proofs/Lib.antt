@@ -2,6 +2,7 @@ pub mod AsciiTexts
 pub mod FieldTexts
 pub mod Findings
 pub mod AnsweredProblems
+pub mod AnsweredSources
 pub mod Imports
 pub mod LetteredImports
 pub mod Positions

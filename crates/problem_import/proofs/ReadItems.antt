@@ -134,12 +134,6 @@ key_taken line word name said old new at has named next fault men bound read fre
       asked = of.asked ∙ ap asks (sym bound);
     })
 
-pub no_key_taken : (line : List ℕ) (said : List Said) (problem : OliveProblem) → has_colon (word_at line) ≡ false → AreRead said problem
-    → AreRead (key_onto line said) problem
-no_key_taken line said problem none read =
-    let word : List ℕ = take (length (word_at line) - 1) (word_at line) in
-    subst (λ all. AreRead all problem) (ap (λ b. if b then key word ∷ said else said) (sym none)) read
-
 -- ---- the whole
 
 pub are_new : (problem : OliveProblem) → ((s : ℕ) → s < 64 → man_at problem.diagram.men s ≡ None) → problem.section ≡ sections.Other

@@ -1,23 +1,23 @@
 -- What the words of a problem for Popeye say is read, word by word.
-use Rattle.std.proofs.Common.{◌≡◌, ◌≢◌, ◌<◌, ◌==◌, ◌+◌, ℕ, arith, eqb-true, false-eqb, Bool, true, false, if◌then◌else◌, List, ◌∷◌, Option, Some, None, refl, sym, ap, ◌∙◌, subst}
-use Rattle.chess_board.specs.Fens.{SpellsSetup}
+use Rattle.std.proofs.Common.{◌≡◌, ◌≢◌, ◌<◌, ◌==◌, ◌+◌, ℕ, arith, eqb-true, false-eqb, Bool, true, false, ◌||◌, if◌then◌else◌, List, ◌∷◌, Option, Some, None, refl, sym, ap, ◌∙◌, subst}
 use Rattle.chess_board.specs.Positions.{man_at}
 use Rattle.chess_board.specs.declared.men.Colour.{Colour}
 use Rattle.chess_board.specs.declared.men.Man.{Man}
 use Rattle.chess_notation.proofs.WordLists.{words_next}
-use Rattle.chess_notation.specs.RecordFields.{line_fields}
 use Rattle.chess_notation.specs.Words.{behind, is_blank, word_at, words_in}
 use Rattle.stipulations.specs.Stipulations.{asked}
 use Rattle.stipulations.specs.declared.asked.Asked.TheVariants.{Moves}
 use Rattle.problem_import.specs.PopeyeProblems.{asked_at, asked_in, colour_at, colour_before, colour_named, command_of, ends_line, is_men, man_by, man_on}
-use Rattle.problem_import.specs.PopeyeProblems.{man_placed, man_put, man_said, nearest, or_command, or_man, said_onto}
+use Rattle.problem_import.specs.PopeyeProblems.{begins_next, has_end, is_end, man_placed, man_put, man_said, nearest, or_command, or_man, said_onto}
+use Rattle.problem_import.specs.declared.popeye.Ending.{Ending}
+use Rattle.problem_import.specs.declared.popeye.Ending.TheVariants as endings
 use Rattle.problem_import.specs.declared.popeye.Expected.{Expected}
 use Rattle.problem_import.specs.declared.popeye.Expected.TheVariants as expects
 use Rattle.problem_import.specs.declared.popeye.PopeyeProblem.{PopeyeProblem}
 use Rattle.problem_import.specs.declared.popeye_words.Command.{Command}
 use Rattle.problem_import.specs.declared.popeye_words.Command.TheVariants as commands
 use Rattle.problem_import.specs.declared.diagrams.Diagram.{Diagram}
-use Rattle.problem_import.specs.inside.ReadProblems.{HasMen, IsAwaited, IsAwaitedBehind, IsRead, IsReadOf, IsSet, IsSetAs, KeepsSaid, SetsUp, Takes, asks}
+use Rattle.problem_import.specs.inside.ReadProblems.{EndsBy, HasMen, IsAwaited, IsAwaitedBehind, IsEnding, IsRead, IsReadOf, IsSet, IsSetAs, KeepsSaid, SetsUp, Takes, asks}
 
 next_if : (P : ℕ → Type 0) (n s : ℕ) (same : Bool) → (s == n) ≡ same → ((k : ℕ) → k < n → P k) → P n → s < n + 1 → P s
 next_if P n s true is each one below = subst P (sym (eqb-true s n is)) one
@@ -203,6 +203,35 @@ pub onto_last : (rest word more : List ℕ) (said : List (List ℕ)) → words_i
 onto_last rest word more said is ends = ap (λ words. said_onto words said) is
     ∙ ap (λ b. if b then word ∷ said else said_onto (words_in more) (word ∷ said)) ends
 
+-- ---- what becomes of a problem behind a line
+
+no_end : (command : Option Command) → ends_line command ≡ false → is_end command ≡ false
+no_end None on = refl
+no_end (Some commands.Begin) on = refl
+no_end (Some commands.Text) on = refl
+no_end (Some commands.Remark) on = refl
+no_end (Some commands.Stipulation) on = refl
+no_end (Some commands.Forsyth) on = refl
+no_end (Some commands.Pieces) on = refl
+no_end (Some commands.Options) on = refl
+no_end (Some commands.Conditions) on = refl
+no_end (Some commands.End) on = let no : true ≡ false = on in cc
+
+-- A word that doesn't end its line ends no problem.
+pub goes_on_open : (word : List ℕ) (said : List (List ℕ)) → ends_line (command_of word) ≡ false → has_end said ≡ false → has_end (word ∷ said) ≡ false
+goes_on_open word said on on_still = ap (λ b. b || has_end said) (no_end (command_of word) on) ∙ on_still
+
+pub ending_behind : (line rest word more : List ℕ) (ending : Ending) → words_in rest ≡ word ∷ words_in more → ends_line (command_of word) ≡ true
+    → EndsBy word ending → ((words : List (List ℕ)) → (said : List (List ℕ)) × (has_end words ≡ false → has_end said ≡ false)
+    × (said_onto (words_in rest) said ≡ said_onto (words_in line) words)) → IsEnding line ending
+ending_behind line rest word more endings.Open is ends by all = λ words none.
+    let (said, on_still, same) = all words in
+    subst (λ ws. has_end ws ≡ false) (sym (onto_last rest word more said is ends) ∙ same) (ap (λ b. b || has_end said) by ∙ on_still none)
+ending_behind line rest word more endings.Ended is ends by all = tt
+ending_behind line rest word more endings.Next is ends by all = λ words.
+    let (said, on_still, same) = all words in
+    ap begins_next (sym same ∙ onto_last rest word more said is ends) ∙ by
+
 -- ---- the whole
 
 pub sets_men : (man_on : ℕ → Option Man) (diagram : Diagram) (text : List ℕ) → HasMen diagram man_on → IsSetAs diagram.men text
@@ -221,7 +250,3 @@ pub asks_so : (words : List (List ℕ)) (problem : PopeyeProblem) (n : ℕ) → 
     → asked_in words ≡ Moves n
 unfolding IsRead
 asks_so words problem n free read bound = (read free).asked ∙ ap asks bound
-
-pub sets_moved : (man_on : ℕ → Option Man) (old new : List ℕ) → line_fields new ≡ line_fields old → SetsUp man_on old → SetsUp man_on new
-unfolding SetsUp
-sets_moved man_on old new same sets p spells = sets p (subst (λ f. SpellsSetup f p) same spells)

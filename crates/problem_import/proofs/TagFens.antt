@@ -2,12 +2,13 @@
 use Rattle.std.proofs.Common.{◌≡◌, ◌==◌, ◌⊎◌, inl, inr, eqb-true, Bool, true, false, if◌then◌else◌, ℕ, List, [], ◌∷◌, ◌++◌, take, drop, refl, sym, ap, ◌∙◌, subst}
 use Rattle.std.proofs.Common.{append_assoc, take-append-drop}
 use Rattle.std.proofs.lemmas.List.{append-nil}
-use Rattle.std.specs.Prelude.{codes}
+use Rattle.std.proofs.lemmas.List.Elements.{Contains-append_left, Contains-append_right, Contains-push}
+use Rattle.std.specs.Prelude.{Contains, codes}
 use Rattle.chess_notation.specs.Words.{word_at}
 use Rattle.move_words.specs.declared.languages.Letters.{Letters}
 use Rattle.problem_import.specs.Sources.{IsNamed, behind_byte, value_from}
 use Rattle.problem_import.specs.Sources.{IsFenOf, fen_read}
-use Rattle.problem_import.specs.inside.TagPairs.{EndsText, begins_with}
+use Rattle.problem_import.specs.TagPairs.{EndsText, begins_with}
 
 pub ends_drop : (text rest : List ℕ) (n : ℕ) → rest ≡ drop n text → EndsText rest text
 ends_drop text rest n is = (take n text, sym (take-append-drop n text) ∙ ap (λ t. take n text ++ t) (sym is))
@@ -38,6 +39,12 @@ fen_taken letters line rest more name value fen (front, is) opens named same fro
 pub begun : (byte : ℕ) (text : List ℕ) → begins_with byte text ≡ true → text ≡ byte ∷ drop 1 text
 begun byte [] is = let no : false ≡ true = is in cc
 begun byte (b ∷ bs) is = ap (λ x. x ∷ bs) (eqb-true b byte is)
+
+-- A byte with which a text begins stands in each text at whose end that stands.
+pub brace_in : (line text : List ℕ) → EndsText text line → begins_with 123 text ≡ true → Contains line 123
+brace_in line text (front, is) begins =
+    subst (λ t. Contains t 123) (sym (is ∙ ap (λ t. front ++ t) (begun 123 text begins)))
+    (Contains-append_right front (123 ∷ drop 1 text) 123 (Contains-append_left (123 ∷ []) (drop 1 text) 123 (Contains-push [] 123)))
 
 -- The position behind a tag: that of before, or the tag's.
 pub fen_next : {V : Type 0} (P : V → Type 0) (has had have : Bool) (first before after value : V) (Named : Type 0) → (Named → P value)

@@ -10,4 +10,5 @@ pub mod PopeyeProblems
 pub mod Problems
 pub mod SetUps
 pub mod Sources
+pub mod TagPairs
 pub mod inside

@@ -52,6 +52,24 @@ ends_line (Some Remark) = true
 ends_line (Some End) = true
 ends_line _ = false
 
+abbrev pub is_begin : Option Command → Bool
+is_begin (Some Begin) = true
+is_begin _ = false
+
+abbrev pub is_end : Option Command → Bool
+is_end (Some End) = true
+is_end _ = false
+
+-- The words end a problem.
+abbrev pub has_end : List (List ℕ) → Bool
+has_end [] = false
+has_end (word ∷ said) = is_end (command_of word) || has_end said
+
+-- The last of them begins the next problem, too.
+abbrev pub begins_next : List (List ℕ) → Bool
+begins_next [] = false
+begins_next (word ∷ said) = stands_for word (codes "NextProblem")
+
 -- the words of a line, up to one that ends it, put before those that were said
 abbrev pub said_onto : (words said : List (List ℕ)) → List (List ℕ)
 said_onto [] said = said

@@ -5,8 +5,10 @@ use Rattle.byte_streams.specs.Stops.{AppendsBy}
 use Rattle.byte_streams.specs.declared.stops.Stop.{Stop}
 use Rattle.chess_board.specs.Characters.{char}
 use Rattle.chess_notation.specs.Words.{is_blank}
+use Rattle.move_words.specs.declared.languages.Letters.{Letters}
 use Rattle.text_lines.specs.Replies.{IsReply, IsReplyToFirst, LineReplies}
 use Rattle.problem_import.specs.Imports.{IsClean, IsImport, IsImportReply, IsMade, IsRecord, one_if, refused_line}
+use Rattle.problem_import.specs.Sources.{AreSourced}
 use Rattle.problem_import.specs.declared.import_faults.ImportFault.{ImportFault}
 
 -- What is told of a problem that is refused, by its number and its fault.
@@ -76,4 +78,9 @@ OfAnyKind line = ⊤
 abbrev pub AnswersImports : Option ℕ → LineReplies → RefusalRows → Type 0
 AnswersImports given records rows = (input text : List ℕ) (count : ℕ) → AnswersProblems given records rows input text count
     → (printed : List ℕ) × (refused : ℕ) × (refusals : ℕ) × IsImport false given input printed refused
+    × AreAnswered OfAnyKind records rows printed text refusals
+
+-- What lines are answered: to a text that may be printed of them, each record of which is of its lines.
+unfoldable pub AnswersSourced : Letters → (given : Option ℕ) → LineReplies → RefusalRows → (lines : List (List ℕ)) → (text : List ℕ) → Type 0
+AnswersSourced letters given records rows lines text = (printed : List ℕ) × (refusals : ℕ) × AreSourced letters given lines printed
     × AreAnswered OfAnyKind records rows printed text refusals

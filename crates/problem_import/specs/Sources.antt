@@ -1,26 +1,26 @@
--- Where the position comes from of a record that `import` prints (own to this project; a tag FEN: PGN Specification, 8.1.1 and 9.7.2).
-use Rattle.std.specs.Prelude.{◌≡◌, ◌⊎◌, ◌==◌, ℕ, List, [], ◌∷◌, ◌++◌, map, codes, Contains}
-use Rattle.std.specs.Prelude.{Bool, true, false, if◌then◌else◌, Option, Some}
+-- Where a record comes from that `import` prints (own to this project; games: PGN Specification, 8.1.1, 8.2 and 9.7.2).
+use Rattle.std.specs.Prelude.{◌≡◌, ◌≢◌, ◌≤◌, ◌<◌, ◌⊎◌, ◌==◌, ℕ, List, [], ◌∷◌, ◌++◌, map, codes, length, Contains}
+use Rattle.std.specs.Prelude.{Bool, true, false, ◌||◌, if◌then◌else◌, Option, Some}
 use Rattle.std.specs.Char.{to_ascii_lowercase}
+use Rattle.std.specs.Str.{bytes_eq}
 use Rattle.chess_board.specs.Characters.{char}
 use Rattle.chess_board.specs.Fens.{SpellsSetup}
-use Rattle.chess_board.specs.declared.men.Man.{Man}
 use Rattle.chess_notation.specs.RecordFields.{line_fields}
-use Rattle.chess_notation.specs.Records.{RecordValue, Reads}
+use Rattle.chess_notation.specs.Records.{RecordValue, Reads, max_line}
 use Rattle.chess_board.specs.Positions.{Setup}
-use Rattle.chess_notation.specs.Words.{behind, word_at, words_in}
+use Rattle.chess_notation.specs.Words.{behind, is_blank, word_at, words_in}
 use Rattle.lettered_placements.specs.Readings.{line_read}
 use Rattle.move_words.specs.Languages.{is_english}
 use Rattle.move_words.specs.declared.languages.Letters.{Letters}
-use Rattle.problem_import.specs.Imports.{AreImported, IsNumber}
+use Rattle.problem_import.specs.Imports.{AreImported, IsNumber, IsRecord}
 use Rattle.problem_import.specs.Letters.{IsTextOf, trimmed}
 use Rattle.problem_import.specs.Numbers.{said}
 use Rattle.problem_import.specs.OliveProblems as olive
 use Rattle.problem_import.specs.OliveProblems.{Said, line_onto}
 use Rattle.problem_import.specs.PopeyeProblems as popeye
-use Rattle.problem_import.specs.PopeyeProblems.{said_onto}
+use Rattle.problem_import.specs.PopeyeProblems.{begins_next, command_of, has_end, is_begin, said_onto}
 use Rattle.problem_import.specs.SetUps.{IsSetBy}
-use Rattle.stipulations.specs.declared.asked.Asked.{Asked}
+use Rattle.problem_import.specs.TagPairs.{begins_with, is_tag_pair}
 use Rattle.stipulations.specs.Stipulations.{asked}
 use Rattle.stipulations.specs.declared.asked.Asked.TheVariants.{Moves}
 
@@ -76,44 +76,98 @@ HasComment text comment = (front more : List ℕ) × (text ≡ front ++ more) ×
 abbrev pub SaysMoves : (text : List ℕ) → ℕ → Type 0
 SaysMoves text n = (value : List ℕ) × (HasTag MaySay text value ⊎ HasComment text value) × (asked value ≡ Moves n)
 
--- One of the lines says the text.
-abbrev pub IsTextIn : (lines : List (List ℕ)) → (text : List ℕ) → Type 0
-IsTextIn lines text = (line : List ℕ) × Contains lines line × IsTextOf line text
-
--- The words of a problem for Popeye, those of some of the lines: of each but what follows a name or a remark, and of one with which the problem
--- begins but its first.
-pub data AreWordsIn (lines : List (List ℕ)) : (words : List (List ℕ)) → Type 0 where
-  no_words : AreWordsIn lines []
-  of_words : (text rest : List ℕ) (said : List (List ℕ)) → IsTextIn lines text → (rest ≡ text) ⊎ (rest ≡ behind text) → AreWordsIn lines said
-      → AreWordsIn lines (said_onto (words_in rest) said)
-
--- What a problem of Olive's says: what some of the lines do.
-pub data AreItemsIn (lines : List (List ℕ)) : (said : List Said) → Type 0 where
-  no_items : AreItemsIn lines []
-  of_text : (text : List ℕ) (said : List Said) → IsTextIn lines text → AreItemsIn lines said → AreItemsIn lines (line_onto text said)
-
--- The lines set up such men, and ask so many moves, as a problem for Popeye or as one of Olive's.
-pub data AreSetIn (lines : List (List ℕ)) : (man_on : ℕ → Option Man) → Asked → Type 0 where
-  popeyes : (words : List (List ℕ)) → AreWordsIn lines words → AreSetIn lines (popeye.man_on words) (popeye.asked_in words)
-  olives : (said : List Said) → AreItemsIn lines said → AreSetIn lines (olive.man_on said) (olive.asked_in said)
-
--- One of the lines says so many moves as one of a game.
-abbrev pub GameSays : (lines : List (List ℕ)) → ℕ → Type 0
-GameSays lines n = (text : List ℕ) × IsTextIn lines text × SaysMoves text n
+-- ---- lines
 
 -- The line is the last of them.
 abbrev pub IsLast : (lines : List (List ℕ)) → (line : List ℕ) → Type 0
 IsLast lines line = (before : List (List ℕ)) × (lines ≡ before ++ line ∷ [])
 
+-- These are the lines, or all but the last.
+abbrev pub AreUpTo : (lines own : List (List ℕ)) → Type 0
+AreUpTo lines own = (own ≡ lines) ⊎ ((last : List ℕ) × (lines ≡ own ++ last ∷ []))
+
+-- The line says such a text, and is no record as it stands.
+abbrev pub Says : (line text : List ℕ) → Type 0
+Says line text = IsTextOf line text × (¬ (IsRecord line))
+
+abbrev pub is_remark : List ℕ → Bool
+is_remark [] = false
+is_remark (b ∷ bs) = (b == char "#") || ((b == char "%") || (b == char ";"))
+
+-- Nothing is said in the line: it is blank, too long to be read, without a text, or a remark.
+pub data IsPassed (line : List ℕ) : Type 0 where
+  blank : is_blank line ≡ true → IsPassed line
+  too_long : max_line < length line → IsPassed line
+  no_text : IsTextOf line [] → IsPassed line
+  remark : (text : List ℕ) → IsTextOf line text → is_remark text ≡ true → IsPassed line
+
+-- The text begins a problem: by a tag pair, by `---`, or by `BeginProblem`.
+abbrev pub begins_problem : List ℕ → Bool
+begins_problem text = is_tag_pair text || (bytes_eq text (codes "---") || is_begin (command_of (word_at text)))
+
+-- ---- a problem's own lines: of each form from the one on with which it begins, all of them, in their order
+
+-- Something stands in the last of the lines, which isn't too long to be read.
+abbrev pub IsUnbroken : (lines : List (List ℕ)) → Type 0
+IsUnbroken lines = (line : List ℕ) × (text : List ℕ) × IsLast lines line × IsTextOf line text × (text ≢ []) × (length line ≤ max_line)
+
+-- One of the texts may open a comment.
+abbrev pub HasBrace : (texts : List (List ℕ)) → Type 0
+HasBrace texts = (text : List ℕ) × Contains texts text × Contains text (char "{")
+
+-- Behind an empty line movetext goes on only in a comment.
+abbrev pub MayGoOn : (before texts : List (List ℕ)) → (has_moves : Bool) → Type 0
+MayGoOn before texts has_moves = (has_moves ≡ false) ⊎ (IsUnbroken before ⊎ HasBrace texts)
+
+-- The texts of a game that is open behind such lines, from the last to the first, and whether its movetext has begun. A line that begins with a
+-- bracket begins it; tag pairs are its own where no empty line stands before them; no line of movetext is one.
+pub data IsGame : (lines texts : List (List ℕ)) → (has_moves : Bool) → Type 0 where
+  first_tag : (before : List (List ℕ)) (line text : List ℕ) → Says line text → begins_with (char "[") text ≡ true
+      → IsGame (before ++ line ∷ []) (text ∷ []) false
+  tag_line : (before texts : List (List ℕ)) (line text : List ℕ) → IsGame before texts false → IsUnbroken before → Says line text
+      → begins_with (char "[") text ≡ true → IsGame (before ++ line ∷ []) (text ∷ texts) false
+  move_line : (before texts : List (List ℕ)) (has_moves : Bool) (line text : List ℕ) → IsGame before texts has_moves
+      → MayGoOn before texts has_moves → Says line text
+      → is_tag_pair text ≡ false → IsGame (before ++ line ∷ []) (text ∷ texts) true
+  game_waits : (before texts : List (List ℕ)) (has_moves : Bool) (line : List ℕ) → IsGame before texts has_moves → IsPassed line
+      → IsGame (before ++ line ∷ []) texts has_moves
+
+-- The words of a problem for Popeye that is open behind such lines, from the last to the first. It begins behind `BeginProblem`, or with the line
+-- behind one where another's words end with `NextProblem`; it ends with `EndProblem`, and where another begins.
+pub data IsPopeyes : (lines words : List (List ℕ)) → Type 0 where
+  behind_begin : (before : List (List ℕ)) (line text : List ℕ) → Says line text → is_begin (command_of (word_at text)) ≡ true
+      → IsPopeyes (before ++ line ∷ []) (said_onto (words_in (behind text)) [])
+  behind_next : (lines words : List (List ℕ)) → IsPopeyes lines words → begins_next words ≡ true → IsPopeyes lines []
+  words_on : (before words : List (List ℕ)) (line text : List ℕ) → IsPopeyes before words → has_end words ≡ false → Says line text
+      → is_remark text ≡ false → begins_problem text ≡ false → begins_with (char "[") text ≡ false
+      → IsPopeyes (before ++ line ∷ []) (said_onto (words_in text) words)
+  words_wait : (before words : List (List ℕ)) (line : List ℕ) → IsPopeyes before words → IsPassed line → IsPopeyes (before ++ line ∷ []) words
+
+-- What a problem of Olive's says that is open behind such lines, from the last to the first. It begins behind a line `---`.
+pub data IsOlives : (lines : List (List ℕ)) → (said : List Said) → Type 0 where
+  behind_border : (before : List (List ℕ)) (line : List ℕ) → Says line (codes "---") → IsOlives (before ++ line ∷ []) []
+  items_on : (before : List (List ℕ)) (said : List Said) (line text : List ℕ) → IsOlives before said → Says line text
+      → is_remark text ≡ false → begins_problem text ≡ false → IsOlives (before ++ line ∷ []) (line_onto text said)
+  items_wait : (before : List (List ℕ)) (said : List Said) (line : List ℕ) → IsOlives before said → IsPassed line
+      → IsOlives (before ++ line ∷ []) said
+
+-- One of a game's texts says so many moves.
+abbrev pub GameSays : (texts : List (List ℕ)) → ℕ → Type 0
+GameSays texts n = (text : List ℕ) × Contains texts text × SaysMoves text n
+
 -- A problem that the lines have, by its position and its number of moves: of the last, the position that its first four words spell and the number
--- that it says; of a game, a tag FEN, and a number that is said there or given; or men that are set up one by one, and what is asked of them.
+-- that it says; of a game, a tag FEN of a line of tags, and a number that it says or that is given; or the men that are set up one by one, and what
+-- is asked of them.
 pub data IsProblemIn (letters : Letters) (given : Option ℕ) (lines : List (List ℕ)) (p : Setup) (n : ℕ) : Type 0 where
   of_line : (line text : List ℕ) → IsLast lines line → IsTextOf line text → SpellsSetup (line_fields text) p → IsNumber given line (said text) n
       → IsProblemIn letters given lines p n
-  of_game : (text fen : List ℕ) → IsTextIn lines text → IsFenOf letters text fen → SpellsSetup (line_fields fen) p
-      → GameSays lines n ⊎ (given ≡ Some n) → IsProblemIn letters given lines p n
-  set_up : (man_on : ℕ → Option Man) (asks : Asked) → AreSetIn lines man_on asks → IsSetBy man_on p → asks ≡ Moves n
+  of_game : (own texts : List (List ℕ)) (has_moves : Bool) (text fen : List ℕ) → AreUpTo lines own → IsGame own texts has_moves
+      → Contains texts text → begins_with (char "[") text ≡ true → IsFenOf letters text fen → SpellsSetup (line_fields fen) p → GameSays texts n ⊎ (given ≡ Some n)
       → IsProblemIn letters given lines p n
+  of_popeyes : (own words : List (List ℕ)) → AreUpTo lines own → IsPopeyes own words → IsSetBy (popeye.man_on words) p
+      → popeye.asked_in words ≡ Moves n → IsProblemIn letters given lines p n
+  of_olives : (own : List (List ℕ)) (said : List Said) → AreUpTo lines own → IsOlives own said → IsSetBy (olive.man_on said) p
+      → olive.asked_in said ≡ Moves n → IsProblemIn letters given lines p n
 
 -- The record is the last of the lines, or one of a problem that they have.
 abbrev pub IsSourced : Letters → (given : Option ℕ) → (lines : List (List ℕ)) → (made : List ℕ) → Type 0

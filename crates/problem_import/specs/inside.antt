@@ -3,7 +3,6 @@ pub mod Findings
 pub mod KeptChanges
 pub mod KnownSources
 pub mod OpenProblems
-pub mod TagPairs
 pub mod MendedMoves
 pub mod Answered
 pub mod Counted

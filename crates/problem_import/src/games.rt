@@ -1,14 +1,14 @@
 //! A game in PGN (Portable Game Notation Specification, section 8): its tag pairs, of which a record is made; the comments before its first
 //! move, which may say a number of moves; and that move, which is claimed. What stands behind it is passed over.
 
-ghost use Rattle.std.specs.Prelude.{◌≡◌, ◌⊎◌, ◌++◌, ℕ, IfNone, IfOk, IfSome, IsTrue, None, Some, codes, false, true};
+ghost use Rattle.std.specs.Prelude.{◌≡◌, ◌⊎◌, ◌++◌, ℕ, Contains, IfNone, IfOk, IfSome, IsTrue, None, Some, codes, false, true};
 ghost use Rattle.chess_board.specs.Characters.{char};
 ghost use Rattle.chess_notation.specs.RecordFields.{line_fields};
 ghost use Rattle.problem_import.specs.Sources.{IsFenOf, IsNamed, MaySay, SaysMoves, before_byte, behind_byte, fen_read, value_from};
 ghost use Rattle.stipulations.specs.Stipulations.{asked as asked_of};
 ghost use Rattle.problem_import.specs.inside.FieldTexts.{GoesOn};
 ghost use Rattle.problem_import.specs.inside.KnownSources.{AsksMore, CommentSays, KeepsAsked, KeepsFen, TagSays};
-ghost use Rattle.problem_import.specs.inside.TagPairs.{EndsText, begins_with as begins_with_byte};
+ghost use Rattle.problem_import.specs.TagPairs.{EndsText, begins_with as begins_with_byte};
 
 use crate::changes::Changes;
 use crate::fields::has_fields;
@@ -219,6 +219,7 @@ impl Game {
         ensures fen { result.has_fen ≡ false }
         ensures asked { result.asked ≡ Asked.Nothing }
         ensures stipulated { result.stipulated ≡ None }
+        ensures comment { result.in_comment ≡ false }
     {
         Game {
             number,
@@ -245,6 +246,7 @@ impl Game {
         ensures has { self.new.has_fen ≡ self.old.has_fen }
         ensures fen { self.new.fen ≡ self.old.fen }
         ensures asks { AsksMore (TagSays name.now value.now) self.old self.new }
+        ensures comment { self.new.in_comment ≡ self.old.in_comment }
     {
         if !may_ask(name) {
             return;
@@ -257,6 +259,7 @@ impl Game {
         ensures has { self.new.has_fen ≡ self.old.has_fen }
         ensures fen { self.new.fen ≡ self.old.fen }
         ensures asks { AsksMore (TagSays name.now value.now) self.old self.new }
+        ensures comment { self.new.in_comment ≡ self.old.in_comment }
     {
         self.take_asked(name, value);
         if !is_word(name, "Stipulation") || !is_said(value) {
@@ -270,6 +273,7 @@ impl Game {
         ensures has { self.new.has_fen ≡ self.old.has_fen }
         ensures fen { self.new.fen ≡ self.old.fen }
         ensures asks { KeepsAsked self.old self.new }
+        ensures comment { self.new.in_comment ≡ self.old.in_comment }
     {
         if is_word(name, "White") {
             self.white = value;
@@ -291,6 +295,7 @@ impl Game {
         ensures fen { (self.new.has_fen ≡ self.old.has_fen) × (self.new.fen ≡ self.old.fen)
             ⊎ (IsNamed name.now (codes "FEN") × (self.new.fen ≡ value)) }
         ensures asks { AsksMore (TagSays name.now value.items) self.old self.new }
+        ensures comment { self.new.in_comment ≡ self.old.in_comment }
     {
         if is_word(name, "FEN") {
             self.has_fen = true;
@@ -312,6 +317,7 @@ impl Game {
             ⊎ IsFenOf letters.now line.now self.new.fen.items) }
         ensures asks { IfOk result (λ _. AsksMore (SaysMoves line.now) self.old self.new) }
         ensures rest { IfOk result (λ rest. EndsText rest.now line.now) }
+        ensures comment { IfOk result (λ _. self.new.in_comment ≡ self.old.in_comment) }
     {
         let mut rest = line.trim_ascii_start();
         for _ in 0..line.len() {
@@ -333,6 +339,8 @@ impl Game {
     fn claim(&mut self, key: &[u8]) -> Result<(), AllocError>
         ensures fen { IfOk result (λ _. KeepsFen self.old self.new) }
         ensures asks { IfOk result (λ _. KeepsAsked self.old self.new) }
+        ensures begun { IfOk result (λ _. self.new.is_begun ≡ self.old.is_begun) }
+        ensures comment { IfOk result (λ _. self.new.in_comment ≡ self.old.in_comment) }
     {
         if !is_position(self.fen.as_slice()) {
             return Ok(());
@@ -365,6 +373,7 @@ impl Game {
         ensures fen { KeepsFen self.old self.new }
         ensures asks { AsksMore (CommentSays text.now) self.old self.new }
         ensures rest { EndsText result.now text.now }
+        ensures comment { self.new.in_comment ≡ true → self.old.in_comment ≡ true }
     {
         if !self.in_comment {
             return text;
@@ -377,6 +386,7 @@ impl Game {
         ensures fen { KeepsFen self.old self.new }
         ensures asks { KeepsAsked self.old self.new }
         ensures rest { IfSome result (λ rest. EndsText rest.now text.now) }
+        ensures comment { self.new.in_comment ≡ self.old.in_comment }
     {
         if begins_with(b'$', text) && text.len() > 1 {
             return Some(move_word(text).1);
@@ -395,6 +405,8 @@ impl Game {
     fn take_word(&mut self, text: &[u8]) -> Result<(), AllocError>
         ensures fen { IfOk result (λ _. KeepsFen self.old self.new) }
         ensures asks { IfOk result (λ _. KeepsAsked self.old self.new) }
+        ensures begun { IfOk result (λ _. self.new.is_begun ≡ self.old.is_begun) }
+        ensures comment { IfOk result (λ _. self.new.in_comment ≡ self.old.in_comment) }
     {
         let (word, behind) = move_word(text);
         self.is_over = true;
@@ -408,6 +420,7 @@ impl Game {
     fn find_move<'t>(&mut self, line: &'t [u8]) -> &'t [u8]
         ensures fen { KeepsFen self.old self.new }
         ensures asks { AsksMore (SaysMoves line.now) self.old self.new }
+        ensures comment { self.new.in_comment ≡ true → (self.old.in_comment ≡ true) ⊎ Contains line.now (char "{") }
     {
         let mut found: &[u8] = &[];
         let mut rest = line;
@@ -435,6 +448,8 @@ impl Game {
     pub(crate) fn take_moves(&mut self, line: &[u8]) -> Result<(), AllocError>
         ensures fen { IfOk result (λ _. KeepsFen self.old self.new) }
         ensures asks { IfOk result (λ _. AsksMore (SaysMoves line.now) self.old self.new) }
+        ensures begun { IfOk result (λ _. self.new.is_begun ≡ true) }
+        ensures comment { IfOk result (λ _. self.new.in_comment ≡ true → (self.old.in_comment ≡ true) ⊎ Contains line.now (char "{")) }
     {
         let was_in_comment = self.in_comment;
         let found = self.find_move(line);

@@ -1,6 +1,7 @@
 //! Inputs of collections, imported line by line.
 
 ghost use Rattle.std.specs.Prelude.{◌≡◌, ◌≢◌, ◌≤◌, ◌<◌, ◌+◌, ℕ, Bool, List, [], false, true, IfErr, IfOk, length};
+ghost use Rattle.chess_notation.specs.Records.{max_line};
 ghost use Rattle.move_words.specs.Languages.{english};
 ghost use Rattle.move_words.specs.declared.languages.Letters.{Letters as LettersValue};
 ghost use Rattle.text_lines.specs.Lines.{texts_of};
@@ -9,11 +10,11 @@ ghost use Rattle.byte_streams.specs.Inputs.{MayBe};
 ghost use Rattle.byte_streams.specs.Stops.{AppendsBy};
 ghost use Rattle.problem_import.specs.Imports.{AreImported, EndsWithLine, ImportsAreRecords, ImportsKeepPositions, IsClean};
 ghost use Rattle.problem_import.specs.Imports.{IsImport, IsImportOfFirst, IsMade, IsRecord, one_if as one_if_any};
-ghost use Rattle.problem_import.specs.Sources.{AreSourced, IsLast};
+ghost use Rattle.problem_import.specs.Sources.{AreSourced};
 ghost use Rattle.problem_import.specs.inside.Findings.{AreFoundOf};
-ghost use Rattle.problem_import.specs.inside.KnownSources.{AreFrom, EndsFrom, IsKept, IsKnown, IsKnownOf, IsMadeFrom};
+ghost use Rattle.problem_import.specs.inside.KnownSources.{AreFrom, EndsFrom, IsAt, IsKnown, IsKnownOf, IsMadeFrom};
 ghost use Rattle.problem_import.specs.inside.OpenProblems.{due, has_tags};
-ghost use Rattle.problem_import.specs.inside.TagPairs.{is_tag_line};
+ghost use Rattle.problem_import.specs.TagPairs.{is_tag_line};
 
 use crate::changes::{Changes, Form};
 use crate::import_counts::ImportCounts;
@@ -66,8 +67,9 @@ fn take(
     ensures kept { IfOk result (λ _. due reading.old.open + length findings.old.items ≤ due reading.new.open + length findings.new.items) }
     ensures more { IfOk result (λ _. kind ≡ LineKind.Other → is_tag_line line.now ≡ true → has_tags reading.old.open ≡ false
         → due reading.old.open + length findings.old.items < due reading.new.open + length findings.new.items) }
-    ensures from { IfOk result (λ _. (letters : LettersValue) (lines : List (List ℕ)) → IsLast lines line.now
-        → IsKept letters lines reading.old reading.new findings.old.items findings.new.items) }
+    ensures from { IfOk result (λ _. (letters : LettersValue) (lines own : List (List ℕ)) → IsAt lines own number line.now
+        → length line.now ≤ max_line → IsKnown letters own reading.old → AreFrom letters lines findings.old.items
+        → IsKnown letters lines reading.new × AreFrom letters lines findings.new.items) }
 {
     match kind {
         LineKind::Clean => {
@@ -153,9 +155,9 @@ impl Imports<'_> {
         ensures kept { IfOk result (λ findings. due reading.old.open ≤ due reading.new.open + length findings.items) }
         ensures more { IfOk result (λ findings. kind ≡ LineKind.Other → is_tag_line line.now ≡ true → has_tags reading.old.open ≡ false
             → due reading.old.open < due reading.new.open + length findings.items) }
-        ensures from { IfOk result (λ findings. (letters : LettersValue) (lines : List (List ℕ)) → IsLast lines line.now
-            → IsKnown letters lines reading.old.letters reading.old.open
-            → IsKnown letters lines reading.new.letters reading.new.open × AreFrom letters lines findings.items) }
+        ensures from { IfOk result (λ findings. (letters : LettersValue) (lines own : List (List ℕ)) → IsAt lines own number line.now
+            → length line.now ≤ max_line → IsKnown letters own reading.old
+            → IsKnown letters lines reading.new × AreFrom letters lines findings.items) }
     {
         let mut findings = Vec::new(alloc);
         reading.note_long(alloc, self.last_long.get(), &mut findings)?;
@@ -179,9 +181,9 @@ impl Imports<'_> {
         ensures ended { IfOk result (λ printed. due reading.old.open ≤ due reading.new.open + length printed.text.items) }
         ensures begun { IfOk result (λ printed. is_tag_line line.now ≡ true → due reading.old.open ≡ 0
             → 0 < due reading.new.open + length printed.text.items) }
-        ensures from { IfOk result (λ printed. (letters : LettersValue) (lines : List (List ℕ)) → IsLast lines line.now
-            → IsKnown letters lines reading.old.letters reading.old.open
-            → IsKnown letters lines reading.new.letters reading.new.open × AreImported (IsMadeFrom letters self.now.printing.bound lines) printed.text.items printed.any) }
+        ensures from { IfOk result (λ printed. (letters : LettersValue) (lines own : List (List ℕ)) → IsAt lines own number line.now
+            → length line.now ≤ max_line → IsKnown letters own reading.old → IsKnown letters lines reading.new
+            × AreImported (IsMadeFrom letters self.now.printing.bound lines) printed.text.items printed.any) }
     {
         let read = read_line(alloc, self.printing.rays, line)?;
         let findings = self.findings(alloc, number, line, read.kind, reading)?;
@@ -224,19 +226,18 @@ pub(crate) fn output_of(printed: Printed) -> Output
 }
 
 impl LineHandler for Imports<'_> {
-    ghost use Rattle.std.specs.Prelude.{◌∷◌, [], false};
-    ghost use Rattle.std.proofs.lemmas.List.Elements.{Contains-append_left};
+    ghost use Rattle.std.specs.Prelude.{false};
     ghost use Rattle.problem_import.specs.Imports.{IsImportReply, none as nothing, skipped};
-    ghost use Rattle.problem_import.specs.inside.KnownSources.{IsKnownOf, Sourced};
+    ghost use Rattle.problem_import.specs.inside.KnownSources.{IsKnownOf, Sourced, passed_over};
 
     type Memory = Reading;
 
     ghost replies = { λ imports. IsImportReply imports.printing.keep imports.printing.bound };
 
-    ghost knows = { λ imports reading before. IsKnownOf imports.printing.letters (λ line. line) before reading };
+    ghost knows = { λ imports reading before. IsKnownOf imports.printing.letters (λ lines. lines) reading before };
 
     ghost follows = { λ imports. Sourced (IsImportReply imports.printing.keep imports.printing.bound) imports.printing.letters
-        imports.printing.bound (λ line. line) };
+        imports.printing.bound (λ line. line) (λ lines. lines) };
 
     ghost room = { λ _. 0 };
 
@@ -265,9 +266,9 @@ impl LineHandler for Imports<'_> {
 
     ghost unmarked = { λ _ _ _ _. tt };
 
-    ghost passes = { λ _ _ before line _ known lines among. known lines (λ own is. among own (Contains-append_left before (line ∷ []) own is)) };
+    ghost passes = { λ _ _ before line is known. passed_over before line is known };
 
-    ghost skips_behind = { λ _ _ number line blank. (skipped blank, (false, λ lines among last. nothing)) };
+    ghost skips_behind = { λ _ _ number line blank. (skipped blank, (false, nothing)) };
 }
 
 /// Writes what is printed once the input has ended; gives at how many lines, its end for one, a problem is refused.
@@ -308,7 +309,7 @@ fn import_lines<I: Input + Drop, O: Write>(
     reading: &mut Reading,
     out: &mut O,
 ) -> Result<usize, Stop>
-    requires { IsKnownOf imports.now.printing.letters (λ line. line) [] reading.now }
+    requires { IsKnownOf imports.now.printing.letters (λ lines. lines) reading.now [] }
     ensures ok { IfOk result (λ count. (bytes : List ℕ) × (text : List ℕ) × MayBe (I.left input) bytes
         × (IsImport imports.now.printing.keep imports.now.printing.bound bytes text count
         × AreSourced imports.now.printing.letters imports.now.printing.bound (texts_of bytes) text)

@@ -1,6 +1,7 @@
 //! Inputs of collections whose men have the letters of a language, imported line by line.
 
 ghost use Rattle.std.specs.Prelude.{◌≡◌, ◌≢◌, ◌≤◌, ◌<◌, ◌+◌, List, [], ℕ, Bool, Option, IfErr, IfOk, length, map};
+ghost use Rattle.chess_notation.specs.Records.{max_line};
 ghost use Rattle.lettered_placements.specs.Readings.{line_read as line_read_by};
 ghost use Rattle.move_words.specs.declared.languages.Letters.{Letters as LettersValue};
 ghost use Rattle.text_lines.specs.Lines.{texts_of};
@@ -9,8 +10,8 @@ ghost use Rattle.byte_streams.specs.Inputs.{MayBe};
 ghost use Rattle.byte_streams.specs.Stops.{AppendsBy};
 ghost use Rattle.problem_import.specs.Imports.{AreImported, IsMade, IsRecord};
 ghost use Rattle.problem_import.specs.LetteredImports.{IsImportIn, IsImportOfFirstIn, IsLettered, IsLetteredOfFirst, LetteredAreRecords};
-ghost use Rattle.problem_import.specs.Sources.{AreSourced, IsLast};
-ghost use Rattle.problem_import.specs.inside.KnownSources.{IsKnown, IsKnownOf, IsMadeFrom};
+ghost use Rattle.problem_import.specs.Sources.{AreSourced};
+ghost use Rattle.problem_import.specs.inside.KnownSources.{IsAt, IsKnown, IsKnownOf, IsMadeFrom};
 ghost use Rattle.problem_import.specs.inside.OpenProblems.{due};
 
 use crate::import_counts::ImportCounts;
@@ -60,9 +61,9 @@ impl LetteredImports<'_> {
             (IsMade self.now.imports.printing.keep self.now.imports.printing.bound line.now) printed.text.items printed.any) }
         ensures kept { IfOk result (λ printed. IsRecord line.now → 0 < length printed.text.items) }
         ensures ended { IfOk result (λ printed. due reading.old.open ≤ due reading.new.open + length printed.text.items) }
-        ensures from { IfOk result (λ printed. (letters : LettersValue) (lines : List (List ℕ)) → IsLast lines line.now
-            → IsKnown letters lines reading.old.letters reading.old.open
-            → IsKnown letters lines reading.new.letters reading.new.open × AreImported (IsMadeFrom letters self.now.imports.printing.bound lines) printed.text.items printed.any) }
+        ensures from { IfOk result (λ printed. (letters : LettersValue) (lines own : List (List ℕ)) → IsAt lines own number line.now
+            → length line.now ≤ max_line → IsKnown letters own reading.old → IsKnown letters lines reading.new
+            × AreImported (IsMadeFrom letters self.now.imports.printing.bound lines) printed.text.items printed.any) }
     {
         let first = read_line(alloc, self.imports.printing.rays, line)?;
         let kind = kind_anew(first.kind);
@@ -94,21 +95,20 @@ impl LetteredImports<'_> {
 }
 
 impl LineHandler for LetteredImports<'_> {
-    ghost use Rattle.std.specs.Prelude.{◌∷◌, [], false};
-    ghost use Rattle.std.proofs.lemmas.List.Elements.{Contains-append_left};
+    ghost use Rattle.std.specs.Prelude.{false, map};
     ghost use Rattle.lettered_placements.specs.Readings.{line_read};
     ghost use Rattle.problem_import.specs.Imports.{none as nothing};
     ghost use Rattle.problem_import.specs.LetteredImports.{IsLetteredReply, skipped};
-    ghost use Rattle.problem_import.specs.inside.KnownSources.{IsKnownOf, Sourced};
+    ghost use Rattle.problem_import.specs.inside.KnownSources.{IsKnownOf, Sourced, passed_over};
 
     type Memory = Reading;
 
     ghost replies = { λ imports. IsLetteredReply imports.letters imports.imports.printing.keep imports.imports.printing.bound };
 
-    ghost knows = { λ imports reading before. IsKnownOf imports.letters (line_read imports.letters) before reading };
+    ghost knows = { λ imports reading before. IsKnownOf imports.letters (map (line_read imports.letters)) reading before };
 
     ghost follows = { λ imports. Sourced (IsLetteredReply imports.letters imports.imports.printing.keep imports.imports.printing.bound)
-        imports.letters imports.imports.printing.bound (line_read imports.letters) };
+        imports.letters imports.imports.printing.bound (line_read imports.letters) (map (line_read imports.letters)) };
 
     ghost room = { λ _. 0 };
 
@@ -133,9 +133,9 @@ impl LineHandler for LetteredImports<'_> {
 
     ghost unmarked = { λ _ _ _ _. tt };
 
-    ghost passes = { λ _ _ before line _ known lines among. known lines (λ own is. among own (Contains-append_left before (line ∷ []) own is)) };
+    ghost passes = { λ _ _ before line is known. passed_over before line is known };
 
-    ghost skips_behind = { λ _ _ number line blank. (skipped blank, (false, λ lines among last. nothing)) };
+    ghost skips_behind = { λ _ _ number line blank. (skipped blank, (false, nothing)) };
 }
 
 /// Imports an input by letters, over what goes from line to line.
@@ -146,7 +146,7 @@ fn import_lettered<I: Input + Drop, O: Write>(
     reading: &mut Reading,
     out: &mut O,
 ) -> Result<usize, Stop>
-    requires { IsKnownOf imports.now.letters (line_read_by imports.now.letters) [] reading.now }
+    requires { IsKnownOf imports.now.letters (map (line_read_by imports.now.letters)) reading.now [] }
     ensures ok { IfOk result (λ count. (bytes : List ℕ) × (text : List ℕ) × MayBe (I.left input) bytes
         × (IsLettered imports.now.letters imports.now.imports.printing.keep imports.now.imports.printing.bound bytes text count
         × AreSourced imports.now.letters imports.now.imports.printing.bound (map (line_read_by imports.now.letters) (texts_of bytes)) text)

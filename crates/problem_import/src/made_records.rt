@@ -1,13 +1,16 @@
 //! Records made of problems that were found.
 
-ghost use Rattle.std.specs.Prelude.{IfOk};
+ghost use Rattle.std.specs.Prelude.{◌≡◌, ℕ, List, IfOk};
+ghost use Rattle.move_words.specs.declared.languages.Letters.{Letters as LettersValue};
 ghost use Rattle.problem_import.specs.Imports.{IsRecord};
+ghost use Rattle.problem_import.specs.inside.Findings.{Asks};
+ghost use Rattle.problem_import.specs.inside.KnownSources.{IsFoundBy, IsFoundFrom, IsMadeFrom};
 
 use crate::import_faults::ImportFault;
 use crate::line_kinds::says_asked;
 use crate::moves::with_moves;
 use crate::printing::moves_of;
-use crate::reading::Found;
+use crate::reading::{Found, Number};
 use crate::texts::push_bound_operation;
 use byte_streams::NoMemory;
 use chess_moves::Rays;
@@ -22,7 +25,8 @@ fn checked(
     text: Vec<u8>,
     moves: Option<u8>,
 ) -> Result<Result<Vec<u8>, ImportFault>, NoMemory>
-    ensures { IfOk result (λ made. IfOk made (λ text. IsRecord text.items)) }
+    ensures record { IfOk result (λ made. IfOk made (λ it. IsRecord it.items)) }
+    ensures asks { IfOk result (λ made. IfOk made (λ it. (it ≡ text) × Asks moves it.items)) }
 {
     match says_asked(alloc, rays, text.as_slice(), moves)? {
         Ok(_) => Ok(Ok(text)),
@@ -37,7 +41,9 @@ fn bounded(
     bound: Option<Bound>,
     text: Vec<u8>,
 ) -> Result<Result<Vec<u8>, ImportFault>, NoMemory>
-    ensures { IfOk result (λ made. IfOk made (λ text. IsRecord text.items)) }
+    ensures record { IfOk result (λ made. IfOk made (λ it. IsRecord it.items)) }
+    ensures from { IfOk result (λ made. IfOk made (λ it. (letters : LettersValue) (lines : List (List ℕ))
+        → IsFoundBy letters bound lines text.items Number.Unsaid → IsMadeFrom letters bound lines it.items)) }
 {
     let mut text = text;
     match (says_asked(alloc, rays, text.as_slice(), None)?, bound) {
@@ -58,7 +64,9 @@ pub(crate) fn made_record(
     bound: Option<Bound>,
     found: &Found,
 ) -> Result<Result<Vec<u8>, ImportFault>, NoMemory>
-    ensures { IfOk result (λ made. IfOk made (λ text. IsRecord text.items)) }
+    ensures record { IfOk result (λ made. IfOk made (λ text. IsRecord text.items)) }
+    ensures from { IfOk result (λ made. IfOk made (λ text. (by : LettersValue) (lines : List (List ℕ)) → IsFoundFrom by lines found.now
+        → IsMadeFrom by bound lines text.items)) }
 {
     match found {
         Found::Text(text, changes, number) => {

@@ -1,7 +1,8 @@
 //! A problem in a file of Olive's (`.olv`, the YAML of YACPDB): between two lines `---`, keys with colons, lists in brackets or behind hyphens,
 //! and men with Popeye's letters.
 
-ghost use Rattle.std.specs.Prelude.{◌≡◌, ◌⊎◌, [], List, IfOk, map};
+ghost use Rattle.std.specs.Prelude.{◌≡◌, [], List, IfOk, codes, if◌then◌else◌, map};
+ghost use Rattle.std.specs.Str.{bytes_eq};
 ghost use Rattle.chess_notation.specs.Words.{words_in};
 ghost use Rattle.problem_import.specs.OliveProblems.{Said, asked_in, has_colon as has_a_colon, items_onto, key_onto, line_onto, man_on};
 ghost use Rattle.problem_import.specs.OliveProblems.{is_of_men as is_section_of_men, keeps_keys as does_keep_keys, section_of as section_of_key, value_of};
@@ -45,8 +46,6 @@ enum Section {
 pub(crate) struct OliveProblem {
     pub(crate) number: usize,
     pub(crate) changes: Changes,
-    /// Whether it is ended, and not by the next.
-    pub(crate) is_ended: bool,
     section: Section,
     /// The first thing for which it can't be read.
     fault: Option<ImportFault>,
@@ -60,7 +59,9 @@ pub(crate) struct OliveProblem {
 }
 
 /// Whether a line stands before a problem.
-pub(crate) fn is_border(line: &[u8]) -> bool {
+pub(crate) fn is_border(line: &[u8]) -> bool
+    ensures { result ≡ bytes_eq line.now (codes "---") }
+{
     is_same(line, "---")
 }
 
@@ -242,7 +243,6 @@ impl OliveProblem {
         OliveProblem {
             number,
             changes,
-            is_ended: false,
             section: Section::Other,
             fault: None,
             bound: None,
@@ -392,19 +392,19 @@ impl OliveProblem {
         if is_same(word, "-") { behind } else { line }
     }
 
-    /// Takes a line, unless it ends the problem.
-    pub(crate) fn take_line(&mut self, alloc: Global, line: &[u8]) -> Result<(), AllocError>
-        ensures { IfOk result (λ _. (said : List Said) → AreRead said self.old → AreRead said self.new ⊎ AreRead (line_onto line.now said) self.new) }
+    /// Takes a line, unless it ends the problem; gives whether it does.
+    pub(crate) fn take_line(&mut self, alloc: Global, line: &[u8]) -> Result<bool, AllocError>
+        ensures { IfOk result (λ ends. (said : List Said) → AreRead said self.old
+            → AreRead (if ends then said else line_onto line.now said) self.new) }
     {
         if is_same(line, "...") && !matches!(self.section, Section::Solution) {
-            self.is_ended = true;
-            return Ok(());
+            return Ok(true);
         }
         let value = self.take_key(line);
         self.take_text(value)?;
         let items = without_marks(alloc, value)?;
         self.take_items(items.as_slice());
-        Ok(())
+        Ok(false)
     }
 
     /// What is made of the problem: White moves, and castling is allowed where king and rook stand at home.

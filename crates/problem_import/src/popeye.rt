@@ -4,7 +4,7 @@ ghost use Rattle.std.specs.Prelude.{◌≡◌, ◌∷◌, [], ℕ, List, IfOk, f
 ghost use Rattle.chess_notation.specs.Words.{words_in};
 ghost use Rattle.problem_import.specs.PopeyeProblems.{asked_in, command_of as command_of_word, ends_line as does_end_line, is_men as are_men};
 ghost use Rattle.problem_import.specs.PopeyeProblems.{man_on, said_onto};
-ghost use Rattle.problem_import.specs.inside.ReadProblems.{IsAwaitedBehind, IsNoted, IsRead, KeepsSaid, SetsUp, TakesCommand, TakesWord};
+ghost use Rattle.problem_import.specs.inside.ReadProblems.{EndsBy, IsAwaitedBehind, IsEnding, IsNoted, IsRead, KeepsSaid, SetsUp, TakesCommand, TakesWord};
 ghost use Rattle.stipulations.specs.declared.asked.Asked.TheVariants.{Moves};
 
 use crate::changes::Changes;
@@ -31,14 +31,20 @@ enum Expected {
     Condition,
 }
 
+/// What becomes of a problem behind a line.
+#[derive(Clone, Copy)]
+pub(crate) enum Ending {
+    Open,
+    Ended,
+    /// Ended, and the next begins.
+    Next,
+}
+
 /// What a problem said so far, and the number of its first line.
 #[derive(Drop)]
 pub(crate) struct PopeyeProblem {
     pub(crate) number: usize,
     pub(crate) changes: Changes,
-    pub(crate) is_ended: bool,
-    /// Whether it is ended by the beginning of the next.
-    pub(crate) has_next: bool,
     /// The first thing for which it can't be read.
     pub(crate) fault: Option<ImportFault>,
     expected: Expected,
@@ -63,6 +69,17 @@ fn awaited_behind(command: Command) -> Expected
     }
 }
 
+/// What becomes of a problem behind a word with which its line ends.
+fn ending_of(word: &[u8]) -> Ending
+    ensures { EndsBy word.now result }
+{
+    match command_of(word) {
+        Some(Command::End) if begins_next(word) => Ending::Next,
+        Some(Command::End) => Ending::Ended,
+        _ => Ending::Open,
+    }
+}
+
 impl PopeyeProblem {
     /// Behind its first word.
     pub(crate) fn new(alloc: Global, number: usize, changes: Changes) -> PopeyeProblem
@@ -71,8 +88,6 @@ impl PopeyeProblem {
         PopeyeProblem {
             number,
             changes,
-            is_ended: false,
-            has_next: false,
             fault: None,
             expected: Expected::Command,
             colour: None,
@@ -156,17 +171,12 @@ impl PopeyeProblem {
     }
 
     /// Does what a command says beside what it lets be awaited.
-    fn obey(&mut self, command: Command, word: &[u8], behind: &[u8]) -> Result<(), AllocError>
+    fn obey(&mut self, command: Command, behind: &[u8]) -> Result<(), AllocError>
         ensures { IfOk result (λ _. KeepsSaid self.old self.new) }
     {
         match command {
             Command::Text => {
                 push_id(&mut self.id, trimmed(behind), &mut self.changes)?;
-                Ok(())
-            }
-            Command::End => {
-                self.is_ended = true;
-                self.has_next = begins_next(word);
                 Ok(())
             }
             Command::Conditions => {
@@ -192,7 +202,7 @@ impl PopeyeProblem {
     {
         self.expected = awaited_behind(command);
         self.colour = None;
-        self.obey(command, word, behind)?;
+        self.obey(command, behind)?;
         Ok(())
     }
 
@@ -209,20 +219,21 @@ impl PopeyeProblem {
         Ok(ends_line(command))
     }
 
-    /// Takes a line, up to the end of the problem.
+    /// Takes a line, up to the end of the problem; gives what becomes of that.
     #[tactic(auto, using(chess_notation::proofs::WordLists::behind_shorter))]
-    pub(crate) fn take_line(&mut self, line: &[u8]) -> Result<(), AllocError>
-        ensures { IfOk result (λ _. (words : List (List ℕ)) → IsRead words self.old → IsRead (said_onto (words_in line.now) words) self.new) }
+    pub(crate) fn take_line(&mut self, line: &[u8]) -> Result<Ending, AllocError>
+        ensures read { IfOk result (λ _. (words : List (List ℕ)) → IsRead words self.old → IsRead (said_onto (words_in line.now) words) self.new) }
+        ensures ends { IfOk result (IsEnding line.now) }
     {
         let mut rest = line;
         while !is_blank(rest) {
             let (word, behind) = word_at(rest);
             if self.take_word(word, behind)? {
-                return Ok(());
+                return Ok(ending_of(word));
             }
             rest = behind;
         }
-        Ok(())
+        Ok(Ending::Open)
     }
 
     /// What is made of the problem: White moves, and castling is allowed where king and rook stand at home.

@@ -1,7 +1,7 @@
 //! The words of Popeye's input. A first part of a word, of four letters or more, stands for it.
 
-ghost use Rattle.std.specs.Prelude.{◌≡◌, Some};
-ghost use Rattle.problem_import.specs.PopeyeProblems.{colour_named, command_of as command_of_word, ends_line as does_end_line};
+ghost use Rattle.std.specs.Prelude.{◌≡◌, Some, codes};
+ghost use Rattle.problem_import.specs.PopeyeProblems.{colour_named, command_of as command_of_word, ends_line as does_end_line, is_begin as does_begin};
 ghost use Rattle.problem_import.specs.PopeyeProblems.{is_end_word as is_word_of_end, is_remark_word as is_word_of_remark};
 ghost use Rattle.problem_import.specs.PopeyeProblems.{is_text_word as is_word_of_text, stands_for as does_stand_for};
 
@@ -90,6 +90,13 @@ pub(crate) fn command_of(word: &[u8]) -> Option<Command>
     }
 }
 
+/// Whether a word begins a problem.
+pub(crate) fn is_begin(word: &[u8]) -> bool
+    ensures { result ≡ does_begin (command_of_word word.now) }
+{
+    matches!(command_of(word), Some(Command::Begin))
+}
+
 /// Whether what stands behind a command on its line says nothing: a name, a remark, and what follows a problem's end.
 pub(crate) fn ends_line(command: Command) -> bool
     ensures { result ≡ does_end_line (Some command) }
@@ -98,7 +105,9 @@ pub(crate) fn ends_line(command: Command) -> bool
 }
 
 /// Whether a word begins the next problem, too.
-pub(crate) fn begins_next(word: &[u8]) -> bool {
+pub(crate) fn begins_next(word: &[u8]) -> bool
+    ensures { result ≡ does_stand_for word.now (codes "NextProblem") }
+{
     stands_for(word, "NextProblem")
 }
 

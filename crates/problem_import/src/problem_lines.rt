@@ -5,11 +5,16 @@ ghost use Rattle.std.specs.Io.KnownBytes.{Appends};
 ghost use Rattle.byte_streams.specs.Inputs.{MayBe};
 ghost use Rattle.byte_streams.specs.Stops.{AppendsBy};
 ghost use Rattle.chess_board.specs.Characters.{char};
+ghost use Rattle.chess_notation.specs.Records.{max_line};
 ghost use Rattle.chess_notation.specs.Words.{is_blank};
+ghost use Rattle.move_words.specs.Languages.{english};
+ghost use Rattle.move_words.specs.declared.languages.Letters.{Letters as LettersValue};
+ghost use Rattle.text_lines.specs.Lines.{texts_of};
 ghost use Rattle.problem_import.specs.Imports.{IsRecord, one_if as one_if_any, refused_line};
-ghost use Rattle.problem_import.specs.Problems.{AnswersFirstProblems, AnswersImports, AnswersProblems, EndsWith, IsAnswered, IsProblemReply};
+ghost use Rattle.problem_import.specs.Problems.{AnswersFirstProblems, AnswersImports, AnswersProblems, AnswersSourced, EndsWith, IsAnswered, IsProblemReply};
 ghost use Rattle.problem_import.specs.Problems.{IsLastCut, IsLastPut};
-ghost use Rattle.problem_import.specs.inside.Answered.{IsFilled, IsFound};
+ghost use Rattle.problem_import.specs.inside.Answered.{EndsAnswered, IsAnsweredFrom, IsFilled, IsFound, IsLastCutOf, IsLastPutOf, IsReadOf};
+ghost use Rattle.problem_import.specs.inside.KnownSources.{AreFrom, IsAt, IsFoundFrom, IsKnown, IsMadeFrom};
 
 use crate::import_faults::ImportFault;
 use crate::importing::{Imports, one_if};
@@ -83,6 +88,14 @@ impl<M> ProblemMemory<M> {
             memory,
         }
     }
+
+    /// Begins with the first line of another input. What whoever answers keeps is kept.
+    pub fn begin(&mut self)
+        ensures begun { IsReadOf self.new.reading [] }
+        ensures kept { self.new.memory ≡ self.old.memory }
+    {
+        self.reading = Reading::new();
+    }
 }
 
 /// The lines of an input, the problems of which are answered by another: of each what `import` would print.
@@ -127,6 +140,9 @@ impl<H: ProblemHandler> ProblemLines<'_, H> {
             (printed ++ made.now ++ char "\n" ∷ [])
             answers.new.text.items answers.new.any) }
         ensures ends { IfOk result (λ _. EndsWith (H.records self.now.handler.now number made.now) answers.new.text.items) }
+        ensures from { IfOk result (λ _. (letters : LettersValue) (lines : List (List ℕ)) → IsMadeFrom letters self.now.bound lines made.now
+            → IsAnsweredFrom letters self.now.bound lines (H.records self.now.handler.now) (H.rows self.now.handler.now) answers.old.text.items
+            → IsAnsweredFrom letters self.now.bound lines (H.records self.now.handler.now) (H.rows self.now.handler.now) answers.new.text.items) }
     {
         let output = self.handler.answer(alloc, number, made, memory)?;
         answers.push(output.text.as_slice(), output.refused > 0)?;
@@ -141,12 +157,15 @@ impl<H: ProblemHandler> ProblemLines<'_, H> {
         fault: ImportFault,
         answers: &mut Answers,
     ) -> Result<(), NoMemory>
-        ensures { IfOk result (λ _. (line : List ℕ) (printed : List ℕ)
+        ensures answered { IfOk result (λ _. (line : List ℕ) (printed : List ℕ)
             → IsAnswered self.now.bound line (H.records self.now.handler.now) (H.rows self.now.handler.now) printed
             answers.old.text.items answers.old.any
             → IsAnswered self.now.bound line (H.records self.now.handler.now) (H.rows self.now.handler.now)
             (printed ++ refused_line number fault)
             answers.new.text.items answers.new.any) }
+        ensures from { IfOk result (λ _. (letters : LettersValue) (lines : List (List ℕ))
+            → IsAnsweredFrom letters self.now.bound lines (H.records self.now.handler.now) (H.rows self.now.handler.now) answers.old.text.items
+            → IsAnsweredFrom letters self.now.bound lines (H.records self.now.handler.now) (H.rows self.now.handler.now) answers.new.text.items) }
     {
         let row = self.handler.refuse(alloc, number, fault)?;
         answers.push(row.as_slice(), true)?;
@@ -161,11 +180,14 @@ impl<H: ProblemHandler> ProblemLines<'_, H> {
         memory: &mut H::Memory,
         answers: &mut Answers,
     ) -> Result<(), NoMemory>
-        ensures { IfOk result (λ _. (line : List ℕ) (printed : List ℕ)
+        ensures filled { IfOk result (λ _. (line : List ℕ) (printed : List ℕ)
             → IsAnswered self.now.bound line (H.records self.now.handler.now) (H.rows self.now.handler.now) printed
             answers.old.text.items answers.old.any
             → IsFilled self.now.bound line (H.records self.now.handler.now) (H.rows self.now.handler.now)
             answers.new.text.items answers.new.any) }
+        ensures from { IfOk result (λ _. (letters : LettersValue) (lines : List (List ℕ)) → IsFoundFrom letters lines finding.now.found
+            → IsAnsweredFrom letters self.now.bound lines (H.records self.now.handler.now) (H.rows self.now.handler.now) answers.old.text.items
+            → IsAnsweredFrom letters self.now.bound lines (H.records self.now.handler.now) (H.rows self.now.handler.now) answers.new.text.items) }
     {
         let printing = &self.imports.printing;
         match made_record(
@@ -187,9 +209,11 @@ impl<H: ProblemHandler> ProblemLines<'_, H> {
         findings: &[Finding],
         memory: &mut H::Memory,
     ) -> Result<Answers, NoMemory>
-        ensures { IfOk result (λ answers. (line : List ℕ) → IsFound self.now.bound line (H.records self.now.handler.now)
+        ensures found { IfOk result (λ answers. (line : List ℕ) → IsFound self.now.bound line (H.records self.now.handler.now)
             (H.rows self.now.handler.now)
             (length findings.now) answers.text.items answers.any) }
+        ensures from { IfOk result (λ answers. (letters : LettersValue) (lines : List (List ℕ)) → AreFrom letters lines findings.now
+            → IsAnsweredFrom letters self.now.bound lines (H.records self.now.handler.now) (H.rows self.now.handler.now) answers.text.items) }
     {
         let mut answers = Answers::new(alloc);
         for finding in findings {
@@ -207,9 +231,12 @@ impl<H: ProblemHandler> ProblemLines<'_, H> {
         memory: &mut ProblemMemory<H::Memory>,
     ) -> Result<Answers, NoMemory>
         requires { is_blank line.now ≡ false }
-        ensures { IfOk result (λ answers. IsProblemReply self.now.bound (H.records self.now.handler.now) (H.rows self.now.handler.now)
+        ensures reply { IfOk result (λ answers. IsProblemReply self.now.bound (H.records self.now.handler.now) (H.rows self.now.handler.now)
             number line.now
             answers.text.items (one_if_any answers.any)) }
+        ensures from { IfOk result (λ answers. (letters : LettersValue) (lines own : List (List ℕ)) → IsAt lines own number line.now
+            → length line.now ≤ max_line → IsKnown letters own memory.old.reading → IsKnown letters lines memory.new.reading
+            × IsAnsweredFrom letters self.now.bound lines (H.records self.now.handler.now) (H.rows self.now.handler.now) answers.text.items) }
     {
         let read = read_line(alloc, self.imports.printing.rays, line)?;
         let kind = read.kind;
@@ -230,9 +257,11 @@ impl<H: ProblemHandler> ProblemLines<'_, H> {
         alloc: Global,
         memory: &mut ProblemMemory<H::Memory>,
     ) -> Result<Answers, NoMemory>
-        ensures { IfOk result (λ answers. (printed : List ℕ)
+        ensures last { IfOk result (λ answers. (printed : List ℕ)
             × IsAnswered self.now.bound [] (H.records self.now.handler.now) (H.rows self.now.handler.now)
             printed answers.text.items answers.any) }
+        ensures from { IfOk result (λ answers. EndsAnswered self.now.bound (H.records self.now.handler.now) (H.rows self.now.handler.now)
+            memory.old.reading answers.text.items) }
     {
         let mut findings = Vec::new(alloc);
         memory.reading.finish(alloc, Open::Nothing, &mut findings)?;
@@ -254,6 +283,10 @@ impl<H: ProblemHandler> ProblemLines<'_, H> {
             (O.contents out.old) (O.contents out.new)) }
         ensures err { IfErr result (λ stop. IsLastCut self.now.bound (H.records self.now.handler.now) (H.rows self.now.handler.now) stop
             (O.contents out.old) (O.contents out.new)) }
+        ensures sourced { IfOk result (λ total. IsLastPutOf self.now.bound (H.records self.now.handler.now) (H.rows self.now.handler.now)
+            memory.old.reading count total (O.contents out.old) (O.contents out.new)) }
+        ensures cut { IfErr result (λ stop. IsLastCutOf self.now.bound (H.records self.now.handler.now) (H.rows self.now.handler.now)
+            memory.old.reading stop (O.contents out.old) (O.contents out.new)) }
         ensures readable { IfErr result (λ stop. stop ≢ Stop.Unreadable) }
     {
         let Ok(last) = self.last(alloc, memory) else {
@@ -270,11 +303,20 @@ impl<H: ProblemHandler> ProblemLines<'_, H> {
 }
 
 impl<H: ProblemHandler> LineHandler for ProblemLines<'_, H> {
-    ghost use Rattle.problem_import.specs.Problems.{IsProblemReply, skipped};
+    ghost use Rattle.std.specs.Prelude.{[], false};
+    ghost use Rattle.move_words.specs.Languages.{english};
+    ghost use Rattle.problem_import.specs.Imports.{none as nothing};
+    ghost use Rattle.problem_import.specs.Problems.{IsProblemReply, no_problem, skipped};
+    ghost use Rattle.problem_import.specs.inside.Answered.{AnswersBehind, IsReadOf};
+    ghost use Rattle.problem_import.specs.inside.KnownSources.{passed_over};
 
     type Memory = ProblemMemory<H::Memory>;
 
     ghost replies = { λ lines. IsProblemReply lines.bound (H.records lines.handler.now) (H.rows lines.handler.now) };
+
+    ghost knows = { λ _ memory before. IsReadOf memory.reading before };
+
+    ghost follows = { λ lines. AnswersBehind english lines.bound (H.records lines.handler.now) (H.rows lines.handler.now) };
 
     ghost room = { λ _. 0 };
 
@@ -303,9 +345,9 @@ impl<H: ProblemHandler> LineHandler for ProblemLines<'_, H> {
 
     ghost unmarked = { λ _ _ _ _. tt };
 
-    ghost passes = { λ _ _ _ _ _ _. tt };
+    ghost passes = { λ _ _ before line is known. passed_over before line is known };
 
-    ghost skips_behind = { λ _ _ _ _ _. tt };
+    ghost skips_behind = { λ _ _ number line blank. (skipped blank, ([], false, 0, nothing, no_problem)) };
 }
 
 /// Answers the problems of an input: to what each line ends is replied before the next is waited for. Gives at how many lines, the end of
@@ -325,8 +367,15 @@ pub fn answer_problems<H: ProblemHandler, I: Input + Drop, O: Write>(
     ensures err { IfErr result (λ stop. (bytes : List ℕ) × (text : List ℕ) × MayBe (I.left input) bytes
         × AnswersFirstProblems lines.now.bound (H.records lines.now.handler.now) (H.rows lines.now.handler.now) bytes text
         × AppendsBy stop (O.contents out.old) (O.contents out.new) text) }
+    ensures sourced { IfOk result (λ _. (bytes : List ℕ) × (text : List ℕ) × MayBe (I.left input) bytes
+        × AnswersSourced english lines.now.bound (H.records lines.now.handler.now) (H.rows lines.now.handler.now) (texts_of bytes) text
+        × Appends (O.contents out.old) (O.contents out.new) text) }
+    ensures broken { IfErr result (λ stop. (bytes : List ℕ) × (text : List ℕ) × MayBe (I.left input) bytes
+        × AnswersSourced english lines.now.bound (H.records lines.now.handler.now) (H.rows lines.now.handler.now) (texts_of bytes) text
+        × AppendsBy stop (O.contents out.old) (O.contents out.new) text) }
     ensures unreadable { IfErr result (λ stop. stop ≡ Stop.Unreadable → I.breaks input) }
 {
+    memory.begin();
     match answer_input(alloc, lines, input, memory, out) {
         Ok(count) => lines.put_last(alloc, count, memory, out),
         Err(stop) => Err(stop),

@@ -1,17 +1,21 @@
 //! The forms told apart, line by line, and what the lines so far have said of problems that are open.
 
-ghost use Rattle.std.specs.Prelude.{◌≡◌, ◌≤◌, ◌<◌, ◌+◌, ℕ, List, [], IfOk, IfSome, Option, length, false, true};
+ghost use Rattle.std.specs.Prelude.{◌≡◌, ◌≤◌, ◌<◌, ◌+◌, ◌∷◌, ◌++◌, ℕ, Bool, List, [], IfOk, IfSome, Option, length, false, true};
+ghost use Rattle.chess_board.specs.Characters.{char};
+ghost use Rattle.chess_notation.specs.Records.{max_line};
+ghost use Rattle.chess_notation.specs.Words.{words_in};
 ghost use Rattle.move_words.specs.Languages.{english};
 ghost use Rattle.move_words.specs.declared.languages.Letters.{Letters as LettersValue};
 ghost use Rattle.problem_import.specs.Imports.{IsRecord};
 ghost use Rattle.problem_import.specs.Letters.{IsTextOf};
+ghost use Rattle.problem_import.specs.PopeyeProblems.{said_onto};
+ghost use Rattle.problem_import.specs.Sources.{AreUpTo, GameSays, IsGame, IsLast, IsOlives, IsPopeyes, Says, begins_problem, is_remark as is_remark_text};
+ghost use Rattle.problem_import.specs.TagPairs.{begins_with as begins_with_byte, is_tag_line, is_tag_pair as is_tag_pair_text};
 ghost use Rattle.problem_import.specs.inside.Findings.{AreFoundOf, IsAsked, IsFoundOf, IsRecordIf};
-ghost use Rattle.problem_import.specs.Sources.{GameSays, IsLast};
-ghost use Rattle.problem_import.specs.inside.KnownSources.{AreFrom, HasFen, IsEndIn, IsFoundBy, IsFoundFrom, IsKept, IsKnown, IsOpenFrom};
-ghost use Rattle.problem_import.specs.inside.KnownSources.{IsUnreadIn};
-ghost use Rattle.problem_import.specs.inside.KnownSources.{Keeps, KeepsBy, KeepsByEnd, KeepsByPart};
-ghost use Rattle.problem_import.specs.inside.OpenProblems.{due, goes_on as does_go_on, has_tags};
-ghost use Rattle.problem_import.specs.inside.TagPairs.{is_tag_line, is_tag_pair as is_tag_pair_text};
+ghost use Rattle.problem_import.specs.inside.KnownSources.{AreFrom, Ends, HasFen, IsAt, IsEndedFrom, IsFoundBy, IsFoundFrom, IsHeld, IsKnown, IsMoved, IsOpenFrom};
+ghost use Rattle.problem_import.specs.inside.KnownSources.{IsTagRead, IsTagged, IsWorded, Keeps, Takes, TakesOn};
+ghost use Rattle.problem_import.specs.inside.OpenProblems.{due, goes_on as does_go_on, has_begun, has_tags};
+ghost use Rattle.problem_import.specs.inside.OpenProblems.{in_comment as is_in_comment, is_game, is_olive, is_popeye};
 
 use crate::changes::{Changes, Form};
 use crate::games::{Game, Movetext};
@@ -19,8 +23,8 @@ use crate::import_faults::ImportFault;
 use crate::letters::ascii_text;
 use crate::mending::mended_line;
 use crate::olive::{OliveProblem, is_border};
-use crate::popeye::PopeyeProblem;
-use crate::popeye_words::{Command, command_of};
+use crate::popeye::{Ending, PopeyeProblem};
+use crate::popeye_words::is_begin;
 use crate::tag_pairs::{begins_with, is_tag_pair};
 use crate::texts::{trimmed, word_at};
 use move_words::Letters;
@@ -97,21 +101,23 @@ fn begins_with_placement(text: &[u8]) -> bool {
 }
 
 /// Whether a line is dropped: what is behind such a sign is no problem.
-fn is_remark(text: &[u8]) -> bool {
+fn is_remark(text: &[u8]) -> bool
+    ensures { result ≡ is_remark_text text.now }
+{
     matches!(text, [b'#' | b'%' | b';', ..])
 }
 
 impl Reading {
     /// Before the first line.
     pub(crate) fn new() -> Reading
-        ensures from { (lines : List (List ℕ)) → IsKnown english lines result.letters result.open }
+        ensures from { IsKnown english [] result }
     {
         Reading::lettered(Letters::ENGLISH)
     }
 
     /// Before the first line, where men have such letters.
     pub(crate) fn lettered(letters: Letters) -> Reading
-        ensures from { (lines : List (List ℕ)) → IsKnown letters lines result.letters result.open }
+        ensures from { IsKnown letters [] result }
     {
         Reading {
             open: Open::Nothing,
@@ -121,7 +127,9 @@ impl Reading {
     }
 
     /// Whether lines are passed over: those of a game.
-    pub(crate) fn passes(&self) -> bool {
+    pub(crate) fn passes(&self) -> bool
+        ensures { result ≡ is_game self.now.open }
+    {
         matches!(&self.open, Open::Game(_) | Open::Movetext(_))
     }
 
@@ -135,8 +143,10 @@ impl Reading {
         ensures found { IfOk result (λ _. length findings.new.items ≡ due self.old.open + length findings.old.items) }
         ensures own { IfOk result (λ _. (line : List ℕ) → AreFoundOf line findings.old.items → AreFoundOf line findings.new.items) }
         ensures next { self.new.open ≡ next }
-        ensures from { IfOk result (λ _. (letters : LettersValue) (lines : List (List ℕ)) → IsOpenFrom letters lines next
-            → IsKept letters lines self.old self.new findings.old.items findings.new.items) }
+        ensures letters { self.new.letters ≡ self.old.letters }
+        ensures last { self.new.last ≡ self.old.last }
+        ensures from { IfOk result (λ _. (letters : LettersValue) (lines own : List (List ℕ))
+            → Ends letters lines own self.old.open findings.old.items findings.new.items) }
     {
         let open = std::mem::replace(&mut self.open, next);
         match open {
@@ -150,8 +160,9 @@ impl Reading {
     /// Passes over a line of movetext.
     fn pass(&mut self, line: &[u8])
         ensures due { due self.new.open ≡ due self.old.open }
-        ensures from { (letters : LettersValue) (lines : List (List ℕ)) → IsKnown letters lines self.old.letters self.old.open
-            → IsKnown letters lines self.new.letters self.new.open }
+        ensures letters { self.new.letters ≡ self.old.letters }
+        ensures from { (letters : LettersValue) (lines : List (List ℕ)) → IsOpenFrom letters lines self.old.open
+            → IsOpenFrom letters lines self.new.open }
     {
         let Open::Movetext(movetext) = &mut self.open else {
             return;
@@ -162,10 +173,23 @@ impl Reading {
     }
 
     /// Whether a comment is open in movetext.
-    fn in_comment(&self) -> bool {
+    fn in_comment(&self) -> bool
+        ensures { result ≡ is_in_comment self.now.open }
+    {
         match &self.open {
             Open::Game(game) => game.in_comment,
             Open::Movetext(movetext) => movetext.in_comment,
+            Open::Nothing | Open::Popeye(_) | Open::Olive(_) => false,
+        }
+    }
+
+    /// Whether the movetext of a game has begun.
+    fn has_begun(&self) -> bool
+        ensures { result ≡ has_begun self.now.open }
+    {
+        match &self.open {
+            Open::Game(game) => game.is_begun,
+            Open::Movetext(_) => true,
             Open::Nothing | Open::Popeye(_) | Open::Olive(_) => false,
         }
     }
@@ -182,13 +206,9 @@ impl Reading {
         ensures tags { IfOk result (λ _. does_go_on self.old.open self.old.last number ≡ false
             → does_go_on self.new.open self.new.last number ≡ false) }
         ensures from { IfOk result (λ _. Keeps self.old self.new findings.old.items findings.new.items) }
+        ensures goes_on { IfOk result (λ _. has_begun self.new.open ≡ true → number ≤ self.new.last + 1) }
     {
-        let has_begun = match &self.open {
-            Open::Game(game) => game.is_begun,
-            Open::Movetext(_) => true,
-            Open::Nothing | Open::Popeye(_) | Open::Olive(_) => false,
-        };
-        if !has_begun || number <= self.last.saturating_add(1) {
+        if !self.has_begun() || number <= self.last.saturating_add(1) {
             return Ok(());
         }
         self.finish(alloc, Open::Nothing, findings)?;
@@ -245,7 +265,10 @@ impl Reading {
         ensures own { IfOk result (λ _. (line : List ℕ) → AreFoundOf line findings.old.items → AreFoundOf line findings.new.items) }
         ensures more { IfOk result (λ _. does_go_on self.old.open self.old.last number ≡ false
             → due self.old.open + length findings.old.items < due self.new.open + length findings.new.items) }
-        ensures from { IfOk result (λ _. Keeps self.old self.new findings.old.items findings.new.items) }
+        ensures letters { self.new.letters ≡ self.old.letters }
+        ensures from { IfOk result (λ _. (letters : LettersValue) (lines own : List (List ℕ)) → AreUpTo lines own → length own + 1 ≡ number
+            → IsKnown letters own self.old → AreFrom letters lines findings.old.items
+            → IsTagged letters own self.new.open × AreFrom letters lines findings.new.items) }
     {
         if self.goes_on(number) {
             return Ok(());
@@ -264,12 +287,15 @@ impl Reading {
         changes: Changes,
         findings: &mut Vec<Finding>,
     ) -> Result<&'t [u8], AllocError>
+        requires { begins_with_byte (char "[") line.now ≡ true }
         ensures kept { IfOk result (λ _. due self.old.open + length findings.old.items ≤ due self.new.open + length findings.new.items) }
         ensures own { IfOk result (λ _. (line : List ℕ) → AreFoundOf line findings.old.items → AreFoundOf line findings.new.items) }
         ensures more { IfOk result (λ _. does_go_on self.old.open self.old.last number ≡ false
             → due self.old.open + length findings.old.items < due self.new.open + length findings.new.items) }
-        ensures rest { IfOk result (λ rest. (lines : List (List ℕ)) → IsUnreadIn lines line.now → IsEndIn lines rest.now) }
-        ensures from { IfOk result (λ _. KeepsBy line.now self.old self.new findings.old.items findings.new.items) }
+        ensures letters { self.new.letters ≡ self.old.letters }
+        ensures from { IfOk result (λ rest. (letters : LettersValue) (lines own : List (List ℕ)) (whole : List ℕ) → IsAt lines own number whole
+            → Says whole line.now → IsKnown letters own self.old → AreFrom letters lines findings.old.items
+            → IsTagRead letters lines rest.now self.new.open × AreFrom letters lines findings.new.items) }
     {
         self.open_game(alloc, number, changes, findings)?;
         match &mut self.open {
@@ -293,24 +319,23 @@ impl Reading {
     ) -> Result<(), AllocError>
         ensures kept { IfOk result (λ _. due self.old.open + length findings.old.items ≤ due self.new.open + length findings.new.items) }
         ensures own { IfOk result (λ _. (line : List ℕ) → AreFoundOf line findings.old.items → AreFoundOf line findings.new.items) }
-        ensures from { IfOk result (λ _. KeepsByPart line.now self.old self.new findings.old.items findings.new.items) }
+        ensures from { IfOk result (λ _. (letters : LettersValue) (lines words : List (List ℕ)) → self.old.letters ≡ letters
+            → IsWorded words self.old.open → IsPopeyes lines (said_onto (words_in line.now) words) → AreFrom letters lines findings.old.items
+            → IsHeld letters lines self.new × AreFrom letters lines findings.new.items) }
     {
         let Open::Popeye(problem) = &mut self.open else {
             return Ok(());
         };
         problem.changes = problem.changes.and(changes);
-        problem.take_line(line)?;
-        if !problem.is_ended {
-            return Ok(());
+        match problem.take_line(line)? {
+            Ending::Open => Ok(()),
+            Ending::Ended => self.finish(alloc, Open::Nothing, findings),
+            Ending::Next => {
+                let changes = Changes::none(Form::Popeye);
+                let next = PopeyeProblem::new(alloc, number, changes);
+                self.finish(alloc, Open::Popeye(next), findings)
+            }
         }
-        let next = if problem.has_next {
-            let changes = Changes::none(Form::Popeye);
-            Open::Popeye(PopeyeProblem::new(alloc, number, changes))
-        } else {
-            Open::Nothing
-        };
-        self.finish(alloc, next, findings)?;
-        Ok(())
     }
 
     /// Takes a line of a problem of Olive's.
@@ -321,16 +346,18 @@ impl Reading {
         changes: Changes,
         findings: &mut Vec<Finding>,
     ) -> Result<(), AllocError>
+        requires olive { is_olive self.now.open ≡ true }
+        requires plain { is_remark_text line.now ≡ false }
+        requires other { begins_problem line.now ≡ false }
         ensures kept { IfOk result (λ _. due self.old.open + length findings.old.items ≤ due self.new.open + length findings.new.items) }
         ensures own { IfOk result (λ _. (line : List ℕ) → AreFoundOf line findings.old.items → AreFoundOf line findings.new.items) }
-        ensures from { IfOk result (λ _. KeepsBy line.now self.old self.new findings.old.items findings.new.items) }
+        ensures from { IfOk result (λ _. TakesOn line.now self.old self.new findings.old.items findings.new.items) }
     {
         let Open::Olive(problem) = &mut self.open else {
             return Ok(());
         };
         problem.changes = problem.changes.and(changes);
-        problem.take_line(alloc, line)?;
-        if !problem.is_ended {
+        if !problem.take_line(alloc, line)? {
             return Ok(());
         }
         self.finish(alloc, Open::Nothing, findings)?;
@@ -346,7 +373,9 @@ impl Reading {
     ) -> Result<(), AllocError>
         ensures kept { IfOk result (λ _. due self.old.open + length findings.old.items ≤ due self.new.open + length findings.new.items) }
         ensures own { IfOk result (λ _. (line : List ℕ) → AreFoundOf line findings.old.items → AreFoundOf line findings.new.items) }
-        ensures from { IfOk result (λ _. KeepsByEnd line.now self.old self.new findings.old.items findings.new.items) }
+        ensures letters { self.new.letters ≡ self.old.letters }
+        ensures from { IfOk result (λ _. (letters : LettersValue) (lines : List (List ℕ)) → IsMoved letters lines line.now self.old.open
+            → AreFrom letters lines findings.old.items → IsOpenFrom letters lines self.new.open × AreFrom letters lines findings.new.items) }
     {
         let Open::Game(game) = &mut self.open else {
             return Ok(());
@@ -371,7 +400,9 @@ impl Reading {
     ) -> Result<(), AllocError>
         ensures kept { IfOk result (λ _. due self.old.open + length findings.old.items ≤ due self.new.open + length findings.new.items) }
         ensures own { IfOk result (λ _. (line : List ℕ) → AreFoundOf line findings.old.items → AreFoundOf line findings.new.items) }
-        ensures from { IfOk result (λ _. KeepsByEnd line.now self.old self.new findings.old.items findings.new.items) }
+        ensures letters { self.new.letters ≡ self.old.letters }
+        ensures from { IfOk result (λ _. (letters : LettersValue) (lines : List (List ℕ)) → IsMoved letters lines line.now self.old.open
+            → AreFrom letters lines findings.old.items → IsOpenFrom letters lines self.new.open × AreFrom letters lines findings.new.items) }
     {
         self.take_moves(alloc, line, findings)?;
         self.pass(line);
@@ -392,9 +423,10 @@ impl Reading {
         ensures own { IfOk result (λ _. (whole : List ℕ) → IsTextOf whole line.now → IsRecordIf is_record whole
             → AreFoundOf whole findings.old.items → AreFoundOf whole findings.new.items) }
         ensures ended { IfOk result (λ _. self.new.open ≡ Open.Nothing) }
-        ensures from { IfOk result (λ _. (letters : LettersValue) (lines : List (List ℕ)) (whole : List ℕ) → IsLast lines whole
+        ensures letters { self.new.letters ≡ self.old.letters }
+        ensures from { IfOk result (λ _. (letters : LettersValue) (lines own : List (List ℕ)) (whole : List ℕ) → lines ≡ own ++ whole ∷ []
             → IsTextOf whole line.now → IsRecordIf is_record whole
-            → IsKept letters lines self.old self.new findings.old.items findings.new.items) }
+            → IsOpenFrom letters own self.old.open → AreFrom letters lines findings.old.items → AreFrom letters lines findings.new.items) }
     {
         self.finish(alloc, Open::Nothing, findings)?;
         let found = found_line(alloc, line, is_record, changes)?;
@@ -413,7 +445,9 @@ impl Reading {
     ) -> Result<(), AllocError>
         ensures more { IfOk result (λ _. due self.old.open + length findings.old.items < due self.new.open + length findings.new.items) }
         ensures own { IfOk result (λ _. (line : List ℕ) → AreFoundOf line findings.old.items → AreFoundOf line findings.new.items) }
-        ensures from { IfOk result (λ _. KeepsByPart behind.now self.old self.new findings.old.items findings.new.items) }
+        ensures from { IfOk result (λ _. (letters : LettersValue) (lines own : List (List ℕ)) → AreUpTo lines own → IsHeld letters own self.old
+            → IsPopeyes lines (said_onto (words_in behind.now) []) → AreFrom letters lines findings.old.items
+            → IsHeld letters lines self.new × AreFrom letters lines findings.new.items) }
     {
         let problem = PopeyeProblem::new(alloc, number, Changes::none(Form::Popeye));
         self.finish(alloc, Open::Popeye(problem), findings)?;
@@ -430,7 +464,9 @@ impl Reading {
     ) -> Result<(), AllocError>
         ensures more { IfOk result (λ _. due self.old.open + length findings.old.items < due self.new.open + length findings.new.items) }
         ensures own { IfOk result (λ _. (line : List ℕ) → AreFoundOf line findings.old.items → AreFoundOf line findings.new.items) }
-        ensures from { IfOk result (λ _. Keeps self.old self.new findings.old.items findings.new.items) }
+        ensures from { IfOk result (λ _. (letters : LettersValue) (lines own : List (List ℕ)) → AreUpTo lines own → IsHeld letters own self.old
+            → IsOlives lines [] → AreFrom letters lines findings.old.items
+            → IsHeld letters lines self.new × AreFrom letters lines findings.new.items) }
     {
         let problem = OliveProblem::new(alloc, number, Changes::none(Form::Popeye));
         self.finish(alloc, Open::Olive(problem), findings)?;
@@ -438,12 +474,16 @@ impl Reading {
     }
 
     /// Whether a problem for Popeye is open.
-    fn is_popeyes(&self) -> bool {
+    fn is_popeyes(&self) -> bool
+        ensures { result ≡ is_popeye self.now.open }
+    {
         matches!(&self.open, Open::Popeye(_))
     }
 
     /// Whether a problem of Olive's is open.
-    fn is_olives(&self) -> bool {
+    fn is_olives(&self) -> bool
+        ensures { result ≡ is_olive self.now.open }
+    {
         matches!(&self.open, Open::Olive(_))
     }
 
@@ -456,17 +496,21 @@ impl Reading {
         changes: Changes,
         findings: &mut Vec<Finding>,
     ) -> Result<(), AllocError>
+        requires plain { is_remark_text line.now ≡ false }
+        requires tag { is_tag_pair_text line.now ≡ false }
+        requires goes_on { has_begun self.now.open ≡ true → number ≤ self.now.last + 1 }
+        requires bracket { is_olive self.now.open ≡ false → begins_with_byte (char "[") line.now ≡ false }
         ensures kept { IfOk result (λ _. due self.old.open + length findings.old.items ≤ due self.new.open + length findings.new.items) }
         ensures own { IfOk result (λ _. (whole : List ℕ) → IsTextOf whole line.now → ¬ (IsRecord whole)
             → AreFoundOf whole findings.old.items → AreFoundOf whole findings.new.items) }
-        ensures from { IfOk result (λ _. KeepsBy line.now self.old self.new findings.old.items findings.new.items) }
+        ensures from { IfOk result (λ _. Takes number line.now self.old self.new findings.old.items findings.new.items) }
     {
         if is_border(line) {
             self.begin_olive(alloc, number, findings)?;
             return Ok(());
         }
         let (first, behind) = word_at(line);
-        if let Some(Command::Begin) = command_of(first) {
+        if is_begin(first) {
             self.begin_popeye(alloc, number, behind, changes, findings)?;
             return Ok(());
         }
@@ -495,11 +539,12 @@ impl Reading {
         changes: Changes,
         findings: &mut Vec<Finding>,
     ) -> Result<(), AllocError>
+        requires { begins_with_byte (char "[") line.now ≡ true }
         ensures kept { IfOk result (λ _. due self.old.open + length findings.old.items ≤ due self.new.open + length findings.new.items) }
         ensures own { IfOk result (λ _. (line : List ℕ) → AreFoundOf line findings.old.items → AreFoundOf line findings.new.items) }
         ensures more { IfOk result (λ _. does_go_on self.old.open self.old.last number ≡ false
             → due self.old.open + length findings.old.items < due self.new.open + length findings.new.items) }
-        ensures from { IfOk result (λ _. KeepsBy line.now self.old self.new findings.old.items findings.new.items) }
+        ensures from { IfOk result (λ _. Takes number line.now self.old self.new findings.old.items findings.new.items) }
     {
         let rest = self.take_tags(alloc, number, line, changes, findings)?;
         if rest.is_empty() {
@@ -518,12 +563,13 @@ impl Reading {
         changes: Changes,
         findings: &mut Vec<Finding>,
     ) -> Result<(), AllocError>
+        requires { has_begun self.now.open ≡ true → number ≤ self.now.last + 1 }
         ensures kept { IfOk result (λ _. due self.old.open + length findings.old.items ≤ due self.new.open + length findings.new.items) }
         ensures own { IfOk result (λ _. (whole : List ℕ) → IsTextOf whole line.now → ¬ (IsRecord whole)
             → AreFoundOf whole findings.old.items → AreFoundOf whole findings.new.items) }
         ensures more { IfOk result (λ _. is_tag_pair_text line.now ≡ true → does_go_on self.old.open self.old.last number ≡ false
             → due self.old.open + length findings.old.items < due self.new.open + length findings.new.items) }
-        ensures from { IfOk result (λ _. KeepsBy line.now self.old self.new findings.old.items findings.new.items) }
+        ensures from { IfOk result (λ _. Takes number line.now self.old self.new findings.old.items findings.new.items) }
     {
         if begins_with(b'[', line) && (is_tag_pair(line) || !self.is_olives()) {
             return self.take_game(alloc, number, line, changes, findings);
@@ -549,7 +595,7 @@ impl Reading {
             → AreFoundOf line findings.old.items → AreFoundOf line findings.new.items) }
         ensures more { IfOk result (λ _. is_tag_pair_text text.now ≡ true → does_go_on self.old.open self.old.last number ≡ false
             → due self.old.open + length findings.old.items < due self.new.open + length findings.new.items) }
-        ensures from { IfOk result (λ _. KeepsBy text.now self.old self.new findings.old.items findings.new.items) }
+        ensures from { IfOk result (λ _. Takes number text.now self.old self.new findings.old.items findings.new.items) }
     {
         if self.in_comment() && !is_tag_pair(text) {
             return self.take_movetext(alloc, text, findings);
@@ -571,8 +617,9 @@ impl Reading {
             → AreFoundOf line.now findings.new.items) }
         ensures more { IfOk result (λ _. is_tag_line line.now ≡ true → does_go_on self.old.open self.old.last number ≡ false
             → due self.old.open + length findings.old.items < due self.new.open + length findings.new.items) }
-        ensures from { IfOk result (λ _. (letters : LettersValue) (lines : List (List ℕ)) → IsLast lines line.now → ¬ (IsRecord line.now)
-            → IsKept letters lines self.old self.new findings.old.items findings.new.items) }
+        ensures from { IfOk result (λ _. (letters : LettersValue) (lines own : List (List ℕ)) → IsAt lines own number line.now
+            → length line.now ≤ max_line → ¬ (IsRecord line.now) → IsKnown letters own self.old → AreFrom letters lines findings.old.items
+            → IsKnown letters lines self.new × AreFrom letters lines findings.new.items) }
     {
         let mut changes = Changes::none(Form::Line);
         let text = ascii_text(alloc, &self.letters, line, &mut changes)?;
@@ -629,8 +676,9 @@ fn found_line(
 
 /// How many moves a record is to ask that is made of a game which asks this.
 fn number_by_tags(asked: Asked) -> Number
-    ensures { (letters : LettersValue) (given : Option ℕ) (lines : List (List ℕ)) (made : List ℕ) → HasFen letters lines made
-        → ((n : ℕ) → asked ≡ Asked.Moves n → GameSays lines n) → IsFoundBy letters given lines made result }
+    ensures { (letters : LettersValue) (given : Option ℕ) (lines own texts : List (List ℕ)) (has_moves : Bool) (made : List ℕ) → AreUpTo lines own
+        → IsGame own texts has_moves → HasFen letters texts made → ((n : ℕ) → asked ≡ Asked.Moves n → GameSays texts n)
+        → IsFoundBy letters given lines made result }
 {
     match asked {
         Asked::Moves(moves) => Number::Said(moves),
@@ -641,8 +689,8 @@ fn number_by_tags(asked: Asked) -> Number
 /// What the tag pairs of a game say.
 fn found_game(alloc: Global, game: &mut Game) -> Result<Found, AllocError>
     ensures own { IfOk result (λ found. (line : List ℕ) → IsFoundOf line found) }
-    ensures from { IfOk result (λ found. (letters : LettersValue) (lines : List (List ℕ)) → IsOpenFrom letters lines (Open.Game game.old)
-        → IsFoundFrom letters lines found) }
+    ensures from { IfOk result (λ found. (letters : LettersValue) (lines own : List (List ℕ)) → AreUpTo lines own
+        → IsEndedFrom letters own (Open.Game game.old) → IsFoundFrom letters lines found) }
 {
     if let Some(fault) = game.first_fault() {
         return Ok(Found::Fault(fault));
@@ -656,8 +704,8 @@ fn found_game(alloc: Global, game: &mut Game) -> Result<Found, AllocError>
 fn finish_game(alloc: Global, game: Game, findings: &mut Vec<Finding>) -> Result<(), AllocError>
     ensures length { IfOk result (λ _. length findings.new.items ≡ length findings.old.items + 1) }
     ensures own { IfOk result (λ _. (line : List ℕ) → AreFoundOf line findings.old.items → AreFoundOf line findings.new.items) }
-    ensures from { IfOk result (λ _. (letters : LettersValue) (lines : List (List ℕ)) → IsOpenFrom letters lines (Open.Game game)
-        → AreFrom letters lines findings.old.items → AreFrom letters lines findings.new.items) }
+    ensures from { IfOk result (λ _. (letters : LettersValue) (lines own : List (List ℕ))
+        → Ends letters lines own (Open.Game game) findings.old.items findings.new.items) }
 {
     let mut game = game;
     let found = found_game(alloc, &mut game)?;
@@ -674,8 +722,8 @@ fn finish_game(alloc: Global, game: Game, findings: &mut Vec<Finding>) -> Result
 /// What a problem for Popeye says.
 fn found_popeye(alloc: Global, problem: &PopeyeProblem) -> Result<Found, AllocError>
     ensures own { IfOk result (λ found. (line : List ℕ) → IsFoundOf line found) }
-    ensures from { IfOk result (λ found. (letters : LettersValue) (lines : List (List ℕ))
-        → IsOpenFrom letters lines (Open.Popeye problem.now) → IsFoundFrom letters lines found) }
+    ensures from { IfOk result (λ found. (letters : LettersValue) (lines own : List (List ℕ)) → AreUpTo lines own
+        → IsEndedFrom letters own (Open.Popeye problem.now) → IsFoundFrom letters lines found) }
 {
     let made = problem.made(alloc)?;
     match made {
@@ -695,8 +743,8 @@ fn finish_popeye(
 ) -> Result<(), AllocError>
     ensures length { IfOk result (λ _. length findings.new.items ≡ length findings.old.items + 1) }
     ensures own { IfOk result (λ _. (line : List ℕ) → AreFoundOf line findings.old.items → AreFoundOf line findings.new.items) }
-    ensures from { IfOk result (λ _. (letters : LettersValue) (lines : List (List ℕ)) → IsOpenFrom letters lines (Open.Popeye problem.now)
-        → AreFrom letters lines findings.old.items → AreFrom letters lines findings.new.items) }
+    ensures from { IfOk result (λ _. (letters : LettersValue) (lines own : List (List ℕ))
+        → Ends letters lines own (Open.Popeye problem.now) findings.old.items findings.new.items) }
 {
     let found = found_popeye(alloc, problem)?;
     push_finding(
@@ -712,8 +760,8 @@ fn finish_popeye(
 /// What a problem of Olive's says.
 fn found_olive(alloc: Global, problem: &OliveProblem) -> Result<Found, AllocError>
     ensures own { IfOk result (λ found. (line : List ℕ) → IsFoundOf line found) }
-    ensures from { IfOk result (λ found. (letters : LettersValue) (lines : List (List ℕ))
-        → IsOpenFrom letters lines (Open.Olive problem.now) → IsFoundFrom letters lines found) }
+    ensures from { IfOk result (λ found. (letters : LettersValue) (lines own : List (List ℕ)) → AreUpTo lines own
+        → IsEndedFrom letters own (Open.Olive problem.now) → IsFoundFrom letters lines found) }
 {
     let mut changes = problem.changes;
     let made = problem.made(alloc, &mut changes)?;
@@ -734,8 +782,8 @@ fn finish_olive(
 ) -> Result<(), AllocError>
     ensures length { IfOk result (λ _. length findings.new.items ≡ length findings.old.items + 1) }
     ensures own { IfOk result (λ _. (line : List ℕ) → AreFoundOf line findings.old.items → AreFoundOf line findings.new.items) }
-    ensures from { IfOk result (λ _. (letters : LettersValue) (lines : List (List ℕ)) → IsOpenFrom letters lines (Open.Olive problem.now)
-        → AreFrom letters lines findings.old.items → AreFrom letters lines findings.new.items) }
+    ensures from { IfOk result (λ _. (letters : LettersValue) (lines own : List (List ℕ))
+        → Ends letters lines own (Open.Olive problem.now) findings.old.items findings.new.items) }
 {
     let found = found_olive(alloc, problem)?;
     push_finding(

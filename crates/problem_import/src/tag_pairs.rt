@@ -2,10 +2,10 @@
 
 ghost use Rattle.std.specs.Prelude.{◌≡◌};
 ghost use Rattle.chess_notation.specs.Operations.{is_opcode_byte};
-ghost use Rattle.problem_import.specs.inside.TagPairs.{after_name as text_after_name, begins_with as does_begin_with};
-ghost use Rattle.problem_import.specs.inside.TagPairs.{begins_with_name as does_begin_with_name, ends_pair as does_end_pair};
-ghost use Rattle.problem_import.specs.inside.TagPairs.{is_bracket as is_bracket_text, is_named as is_named_text};
-ghost use Rattle.problem_import.specs.inside.TagPairs.{is_tag_pair as is_tag_pair_text, is_value as is_value_text};
+ghost use Rattle.problem_import.specs.TagPairs.{after_name as text_after_name, begins_with as does_begin_with};
+ghost use Rattle.problem_import.specs.TagPairs.{begins_with_name as does_begin_with_name, ends_pair as does_end_pair};
+ghost use Rattle.problem_import.specs.TagPairs.{is_bracket as is_bracket_text, is_named as is_named_text};
+ghost use Rattle.problem_import.specs.TagPairs.{is_tag_pair as is_tag_pair_text, is_value as is_value_text};
 
 use crate::texts::{after_spaces, without_first};
 

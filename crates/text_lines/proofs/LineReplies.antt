@@ -75,6 +75,10 @@ behind_next follows number lines line text here before count is replies reply =
     replies_next (behind follows all) number lines line text here before count is (behind_more follows lines (line ∷ []) text before replies)
     (subst (λ ls. follows ls number (without_cr line) here count) those reply)
 
+-- The lines before one stand as many as those that were taken.
+pub texts_before : (lines : List (List ℕ)) (number : ℕ) → length lines + 1 ≡ number → length (map without_cr lines) + 1 ≡ number
+texts_before lines number is = omega (arith, is, length-map lines without_cr)
+
 -- ---- an input of which first lines are taken
 
 -- A known input begins with what was taken of it, and another may be just that.

@@ -82,9 +82,11 @@ more_between P a b c first second all = subst P (omega (arith, first, second)) a
 pub said_of : (R : List ℕ → List ℕ → ℕ → Type 0) (line same text : List ℕ) (n : ℕ) → line ≡ same → R line text n → R same text n
 said_of R line same text n is says = subst (λ l. R l text n) is says
 
-module _ {M : Type 0} (knows : M → List (List ℕ) → Type 0) (follows : Following) (line same : List ℕ) where
-  pub known_of : (old new : M) (text : List ℕ) (n : ℕ) → line ≡ same → Knows knows follows line old new text n → Knows knows follows same old new text n
-  known_of old new text n is known = subst (λ l. Knows knows follows l old new text n) is known
+module _ {M : Type 0} (knows : M → List (List ℕ) → Type 0) (follows : Following) (line same : List ℕ) (number : ℕ) where
+  pub known_of : (old new : M) (text : List ℕ) (n : ℕ) → line ≡ same → Knows knows follows number line old new text n
+      → Knows knows follows number same old new text n
+  known_of old new text n is known = subst (λ l. Knows knows follows number l old new text n) is known
 
-  pub follows_of : (old : M) (text : List ℕ) (n : ℕ) → line ≡ same → Follows knows follows line old text n → Follows knows follows same old text n
-  follows_of old text n is known = subst (λ l. Follows knows follows l old text n) is known
+  pub follows_of : (old : M) (text : List ℕ) (n : ℕ) → line ≡ same → Follows knows follows number line old text n
+      → Follows knows follows number same old text n
+  follows_of old text n is known = subst (λ l. Follows knows follows number l old text n) is known

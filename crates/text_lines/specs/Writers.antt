@@ -1,5 +1,5 @@
 -- What an output gains by the reply to one line (own to this project).
-use Rattle.std.specs.Prelude.{ℕ, List, [], ◌∷◌, ◌++◌, Option}
+use Rattle.std.specs.Prelude.{◌≡◌, ℕ, ◌+◌, List, [], ◌∷◌, ◌++◌, Option, length}
 use Rattle.std.specs.Io.KnownBytes.{Appends, Keeps}
 use Rattle.byte_streams.specs.declared.stops.Stop.{Stop}
 use Rattle.byte_streams.specs.declared.stops.Stop.TheVariants.{NoMemory, Unreadable, Unwritable, NoReader}
@@ -17,14 +17,16 @@ Marked may marks follows count text refusals = may text refusals × marks text c
 abbrev pub Following : Type 1
 Following = List (List ℕ) → (line text : List ℕ) → ℕ → Type 0
 
--- Whatever the lines before, the reply follows them, where what goes from line to line is known to be of them.
-abbrev pub Follows : {M : Type 0} → (M → List (List ℕ) → Type 0) → Following → (line : List ℕ) → M → List ℕ → ℕ → Type 0
-Follows knows follows line old text refusals = (before : List (List ℕ)) → knows old before → follows before line text refusals
+-- Whatever the lines before that of such a number, the reply follows them, where what goes from line to line is known to be of them.
+abbrev pub Follows : {M : Type 0} → (M → List (List ℕ) → Type 0) → Following → (number : ℕ) → (line : List ℕ) → M → List ℕ → ℕ → Type 0
+Follows knows follows number line old text refusals =
+    (before : List (List ℕ)) → length before + 1 ≡ number → knows old before → follows before line text refusals
 
 -- It does, and what goes from line to line is known to be of this line, too.
-abbrev pub Knows : {M : Type 0} → (M → List (List ℕ) → Type 0) → Following → (line : List ℕ) → (old new : M) → List ℕ → ℕ → Type 0
-Knows knows follows line old new text refusals =
-    (before : List (List ℕ)) → knows old before → follows before line text refusals × knows new (before ++ line ∷ [])
+abbrev pub Knows : {M : Type 0} → (M → List (List ℕ) → Type 0) → Following → (number : ℕ) → (line : List ℕ) → (old new : M) → List ℕ → ℕ
+    → Type 0
+Knows knows follows number line old new text refusals =
+    (before : List (List ℕ)) → length before + 1 ≡ number → knows old before → follows before line text refusals × knows new (before ++ line ∷ [])
 
 -- a first part of such a reply
 abbrev pub PartReplied : (List ℕ → ℕ → Type 0) → (old new : Option (List ℕ)) → Type 0

@@ -62,7 +62,7 @@ pub trait LineHandler {
         requires short { length line.now ≤ max_line }
         ensures reply { IfOk result (λ output. replies self.now number line.now output.text.items output.refused) }
         ensures marked { IfOk result (λ output. marks self.now number line.now output.text.items (tally memory.new - tally memory.old)) }
-        ensures behind { IfOk result (λ output. Knows (knows self.now) (λ before. follows self.now before number) line.now
+        ensures behind { IfOk result (λ output. Knows (knows self.now) (λ before. follows self.now before number) number line.now
             memory.old memory.new output.text.items output.refused) }
         ensures grows { IfOk result (λ _. tally memory.old ≤ tally memory.new) }
         ensures few { IfOk result (λ output. output.refused ≤ 1) }

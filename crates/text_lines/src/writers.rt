@@ -57,10 +57,10 @@ pub trait LineWriter {
         requires filled { is_blank line.now ≡ false }
         requires short { length line.now ≤ max_line }
         ensures reply { IfOk result (Replied (Marked (replies self.now number line.now) (marks self.now number line.now)
-            (Knows (knows self.now) (λ before. follows self.now before number) line.now memory.old memory.new)
+            (Knows (knows self.now) (λ before. follows self.now before number) number line.now memory.old memory.new)
             (tally memory.new - tally memory.old)) (O.contents out.old) (O.contents out.new)) }
         ensures err { IfErr result (BreaksOff (λ text refusals. replies self.now number line.now text refusals
-            × Follows (knows self.now) (λ before. follows self.now before number) line.now memory.old text refusals)
+            × Follows (knows self.now) (λ before. follows self.now before number) number line.now memory.old text refusals)
             (O.contents out.old) (O.contents out.new)) }
         ensures few { IfOk result (λ refused. refused ≤ 1) }
         ensures grows { IfOk result (λ _. tally memory.old ≤ tally memory.new) }
@@ -111,11 +111,11 @@ fn answer_kept<W: LineWriter, O: Write>(
     ensures reply { IfOk result (Replied (Marked (λ text refusals. (line : List ℕ) → IsKept kept.now line
         → W.replies writer.now number (text_without_cr line) text refusals) (λ text count. (line : List ℕ) → IsKept kept.now line
         → W.marks writer.now number (text_without_cr line) text count) (λ text refusals. (line : List ℕ) → IsKept kept.now line
-        → Knows (W.knows writer.now) (λ before. W.follows writer.now before number) (text_without_cr line) memory.old memory.new
+        → Knows (W.knows writer.now) (λ before. W.follows writer.now before number) number (text_without_cr line) memory.old memory.new
         text refusals) (W.tally memory.new - W.tally memory.old)) (O.contents out.old) (O.contents out.new)) }
     ensures err { IfErr result (BreaksOff (λ text refusals. (line : List ℕ) → IsKept kept.now line
         → W.replies writer.now number (text_without_cr line) text refusals
-        × Follows (W.knows writer.now) (λ before. W.follows writer.now before number) (text_without_cr line) memory.old text refusals)
+        × Follows (W.knows writer.now) (λ before. W.follows writer.now before number) number (text_without_cr line) memory.old text refusals)
         (O.contents out.old) (O.contents out.new)) }
     ensures few { IfOk result (λ refused. refused ≤ 1) }
     ensures grows { IfOk result (λ _. W.tally memory.old ≤ W.tally memory.new) }
@@ -151,7 +151,7 @@ fn answer_next<W: LineWriter, I: Input + Drop, O: Write>(
     ensures ok { IfOk result (λ answered. (line : List ℕ) × (here : List ℕ)
         × W.replies writer.now number (text_without_cr line) here answered.refused
         × W.marks writer.now number (text_without_cr line) here (W.tally memory.new - W.tally memory.old)
-        × Knows (W.knows writer.now) (λ before. W.follows writer.now before number) (text_without_cr line) memory.old memory.new
+        × Knows (W.knows writer.now) (λ before. W.follows writer.now before number) number (text_without_cr line) memory.old memory.new
         here answered.refused
         × TakesLine answered.is_last (left_of I.left lines.old) (left_of I.left lines.new) line
         × Appends (O.contents out.old) (O.contents out.new) here) }
@@ -160,7 +160,7 @@ fn answer_next<W: LineWriter, I: Input + Drop, O: Write>(
     ensures unanswered { IfErr result (λ stop. is_of_output stop ≡ false → Keeps (O.contents out.old) (O.contents out.new)) }
     ensures cut { IfErr result (λ stop. is_of_output stop ≡ true → (is_last : Bool) × (line : List ℕ) × (here : List ℕ) × (count : ℕ)
         × (W.replies writer.now number (text_without_cr line) here count
-        × Follows (W.knows writer.now) (λ before. W.follows writer.now before number) (text_without_cr line) memory.old here count)
+        × Follows (W.knows writer.now) (λ before. W.follows writer.now before number) number (text_without_cr line) memory.old here count)
         × TakesLine is_last (left_of I.left lines.old) (left_of I.left lines.new) line
         × AppendsPart (O.contents out.old) (O.contents out.new) here) }
     ensures unreadable { IfErr result (λ stop. stop ≡ Stop.Unreadable → I.breaks lines.old.input) }

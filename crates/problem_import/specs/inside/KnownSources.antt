@@ -1,7 +1,8 @@
--- Not for believing: where what is found and what is open comes from. No contract of a public call rests on it.
-use Rattle.std.specs.Prelude.{◌≡◌, ◌⊎◌, ℕ, List, [], ◌∷◌, ◌++◌, All, Contains, Bool, true, Option, Some, None}
+-- Not for believing: where what is found and what is open comes from. It comes to `AreSourced`.
+use Rattle.std.specs.Prelude.{◌≡◌, ◌⊎◌, ◌<◌, ◌≤◌, ◌+◌, ℕ, List, [], ◌∷◌, ◌++◌, All, Contains, length, Bool, true, false, Option, Some, None}
 use Rattle.chess_notation.specs.RecordFields.{line_fields}
-use Rattle.chess_notation.specs.Words.{behind}
+use Rattle.chess_notation.specs.Records.{max_line}
+use Rattle.chess_notation.specs.Words.{is_blank}
 use Rattle.move_words.specs.declared.languages.Letters.{Letters}
 use Rattle.chess_board.specs.Characters.{char}
 use Rattle.stipulations.specs.Stipulations.{asked}
@@ -10,9 +11,9 @@ use Rattle.chess_board.specs.Positions.{Setup}
 use Rattle.chess_board.specs.Soundness.{IsSound}
 use Rattle.stipulations.specs.declared.asked.Asked.TheVariants.{Moves}
 use Rattle.text_lines.specs.Replies.{LineReplies, RepliesBehind}
-use Rattle.problem_import.specs.Imports.{AreImported, IsRecord}
-use Rattle.problem_import.specs.Letters.{IsTextOf}
-use Rattle.problem_import.specs.Sources.{AreItemsIn, AreWordsIn, GameSays, IsFenOf, IsLast, IsProblemIn, IsSourced, IsTextIn, MaySay, before_byte}
+use Rattle.problem_import.specs.Imports.{AreImported}
+use Rattle.problem_import.specs.PopeyeProblems.{has_end}
+use Rattle.problem_import.specs.Sources.{AreUpTo, GameSays, HasBrace, IsFenOf, IsGame, IsOlives, IsPopeyes, IsProblemIn, IsSourced, IsUnbroken, MaySay, Says, before_byte}
 use Rattle.problem_import.specs.declared.games.Game.{Game}
 use Rattle.problem_import.specs.declared.printing.ToldRecord.{ToldRecord}
 use Rattle.problem_import.specs.declared.printing.ToldRecord.TheVariants as told
@@ -28,12 +29,9 @@ use Rattle.problem_import.specs.OliveProblems.{Said}
 use Rattle.problem_import.specs.declared.olive.OliveProblem.{OliveProblem}
 use Rattle.problem_import.specs.declared.popeye.PopeyeProblem.{PopeyeProblem}
 use Rattle.problem_import.specs.inside.Findings.{Asks}
+use Rattle.problem_import.specs.inside.OpenProblems.{has_game}
 use Rattle.problem_import.specs.inside.ReadProblems.{AreRead, IsRead}
-use Rattle.problem_import.specs.inside.TagPairs.{EndsText}
-
--- The text stands at the end of what one of the lines says.
-abbrev pub IsEndIn : (lines : List (List ℕ)) → (rest : List ℕ) → Type 0
-IsEndIn lines rest = (text : List ℕ) × IsTextIn lines text × EndsText rest text
+use Rattle.problem_import.specs.TagPairs.{EndsText, begins_with}
 
 -- Each sound position that the text says is one of a problem that the lines have, where it asks so many moves.
 unfoldable pub IsFrom : Letters → (given : Option ℕ) → (lines : List (List ℕ)) → (made : List ℕ) → ℕ → Type 0
@@ -56,9 +54,10 @@ IsFoundFrom letters lines (Fault fault) = Unit {0}
 unfoldable pub AreFrom : Letters → (lines : List (List ℕ)) → List Finding → Type 0
 AreFrom letters lines findings = All (λ finding. IsFoundFrom letters lines finding.found) findings
 
--- The text has the first four words of a tag FEN in one of the lines.
-unfoldable pub HasFen : Letters → (lines : List (List ℕ)) → (made : List ℕ) → Type 0
-HasFen letters lines made = (text : List ℕ) × (fen : List ℕ) × IsTextIn lines text × IsFenOf letters text fen × (line_fields made ≡ line_fields fen)
+-- The text has the first four words of a tag FEN in one of the texts.
+unfoldable pub HasFen : Letters → (texts : List (List ℕ)) → (made : List ℕ) → Type 0
+HasFen letters texts made = (text : List ℕ) × (fen : List ℕ) × Contains texts text × (begins_with (char "[") text ≡ true) × IsFenOf letters text fen
+    × (line_fields made ≡ line_fields fen)
 
 -- A game has a position or doesn't, as it did, and one with the same fields.
 abbrev pub KeepsFen : (old new : Game) → Type 0
@@ -81,18 +80,28 @@ abbrev pub AsksMore : (Says : ℕ → Type 0) → (old new : Game) → Type 0
 AsksMore Says old new = ((n : ℕ) → new.asked ≡ Moves n → (old.asked ≡ Moves n) ⊎ Says n)
     × ((n : ℕ) → new.stipulated ≡ Some (Moves n) → (old.stipulated ≡ Some (Moves n)) ⊎ Says n)
 
--- The position of a game, and the number of moves that it asks, are of the lines.
-pub record IsGameFrom (letters : Letters) (lines : List (List ℕ)) (game : Game) : Type 0 where
-  pub fen : game.has_fen ≡ true → HasFen letters lines game.fen.items
-  pub asked : (n : ℕ) → game.asked ≡ Moves n → GameSays lines n
-  pub stipulated : (n : ℕ) → game.stipulated ≡ Some (Moves n) → GameSays lines n
+-- The position of a game, and the number of moves that it asks, are of its texts.
+pub record IsGameOf (letters : Letters) (texts : List (List ℕ)) (game : Game) : Type 0 where
+  pub fen : game.has_fen ≡ true → HasFen letters texts game.fen.items
+  pub asked : (n : ℕ) → game.asked ≡ Moves n → GameSays texts n
+  pub stipulated : (n : ℕ) → game.stipulated ≡ Some (Moves n) → GameSays texts n
+  pub comment : game.in_comment ≡ true → HasBrace texts
 
--- Words of the lines were read.
+-- These are its texts.
+abbrev pub IsGameFrom : Letters → (lines : List (List ℕ)) → Game → Type 0
+IsGameFrom letters lines game = (texts : List (List ℕ)) × (has_moves : Bool) × IsGame lines texts has_moves × IsGameOf letters texts game
+    × (game.is_begun ≡ false → has_moves ≡ false)
+
+-- A problem for Popeye is open, of which these words were read.
+pub record IsReadPopeyes (words : List (List ℕ)) (problem : PopeyeProblem) : Type 0 where
+  pub read : IsRead words problem
+  pub on : has_end words ≡ false
+
 abbrev pub IsPopeyeFrom : (lines : List (List ℕ)) → PopeyeProblem → Type 0
-IsPopeyeFrom lines problem = (words : List (List ℕ)) × AreWordsIn lines words × IsRead words problem
+IsPopeyeFrom lines problem = (words : List (List ℕ)) × IsPopeyes lines words × IsReadPopeyes words problem
 
 abbrev pub IsOliveFrom : (lines : List (List ℕ)) → OliveProblem → Type 0
-IsOliveFrom lines problem = (said : List Said) × AreItemsIn lines said × AreRead said problem
+IsOliveFrom lines problem = (said : List Said) × IsOlives lines said × AreRead said problem
 
 abbrev pub IsOpenFrom : Letters → (lines : List (List ℕ)) → Open → Type 0
 IsOpenFrom letters lines opens.Nothing = Unit {0}
@@ -101,39 +110,86 @@ IsOpenFrom letters lines (opens.Movetext movetext) = Unit {0}
 IsOpenFrom letters lines (opens.Popeye problem) = IsPopeyeFrom lines problem
 IsOpenFrom letters lines (opens.Olive problem) = IsOliveFrom lines problem
 
+-- What ends is of the lines.
+abbrev pub IsEndedFrom : Letters → (lines : List (List ℕ)) → Open → Type 0
+IsEndedFrom letters lines opens.Nothing = Unit {0}
+IsEndedFrom letters lines (opens.Game game) = IsGameFrom letters lines game
+IsEndedFrom letters lines (opens.Movetext movetext) = Unit {0}
+IsEndedFrom letters lines (opens.Popeye problem) = (words : List (List ℕ)) × IsPopeyes lines words × IsRead words problem
+IsEndedFrom letters lines (opens.Olive problem) = IsOliveFrom lines problem
+
 -- What is open is of the lines, and read by the letters.
-unfoldable pub IsKnown : Letters → (lines : List (List ℕ)) → (read_by : Letters) → Open → Type 0
-IsKnown letters lines read_by opened = (read_by ≡ letters) × IsOpenFrom letters lines opened
+abbrev pub IsHeld : Letters → (lines : List (List ℕ)) → Reading → Type 0
+IsHeld letters lines reading = (reading.letters ≡ letters) × IsOpenFrom letters lines reading.open
 
--- What is open, and what was found, is of the lines still.
-abbrev pub IsKept : Letters → (lines : List (List ℕ)) → (old new : Reading) → (before after : List Finding) → Type 0
-IsKept letters lines old new before after = IsKnown letters lines old.letters old.open → AreFrom letters lines before
-    → IsKnown letters lines new.letters new.open × AreFrom letters lines after
+-- What is open is of the lines, and where a game is, the number tells whether something stands in the last of them.
+pub record IsKnown (letters : Letters) (lines : List (List ℕ)) (reading : Reading) : Type 0 where
+  pub by : reading.letters ≡ letters
+  pub held : IsOpenFrom letters lines reading.open
+  pub past : has_game reading.open ≡ true → reading.last ≤ length lines
+  pub unbroken : has_game reading.open ≡ true → length lines ≤ reading.last → IsUnbroken lines
 
--- It is so, whatever the lines.
+-- The line is that of such a number, behind these.
+abbrev pub IsAt : (lines own : List (List ℕ)) → (number : ℕ) → (line : List ℕ) → Type 0
+IsAt lines own number line = (lines ≡ own ++ line ∷ []) × (length own + 1 ≡ number)
+
+-- Where what ends is of lines, what was found is of these still.
+abbrev pub Ends : Letters → (lines own : List (List ℕ)) → (old : Open) → (before after : List Finding) → Type 0
+Ends letters lines own old before after = AreUpTo lines own → IsEndedFrom letters own old → AreFrom letters lines before → AreFrom letters lines after
+
+-- So it is, and what is known is known still.
 abbrev pub Keeps : (old new : Reading) → (before after : List Finding) → Type 0
-Keeps old new before after = (letters : Letters) (lines : List (List ℕ)) → IsKept letters lines old new before after
+Keeps old new before after = (letters : Letters) (lines own : List (List ℕ)) → AreUpTo lines own → IsKnown letters own old
+    → AreFrom letters lines before → IsKnown letters own new × AreFrom letters lines after
 
--- The last of the lines says the text, and is no record as it stands.
-abbrev pub IsUnreadIn : (lines : List (List ℕ)) → (text : List ℕ) → Type 0
-IsUnreadIn lines text = (line : List ℕ) × IsLast lines line × IsTextOf line text × (¬ (IsRecord line))
+-- What was known before a line of such a number, which says the text, is known with it; what was found is of the lines.
+abbrev pub Takes : (number : ℕ) → (text : List ℕ) → (old new : Reading) → (before after : List Finding) → Type 0
+Takes number text old new before after = (letters : Letters) (lines own : List (List ℕ)) (line : List ℕ) → IsAt lines own number line
+    → Says line text → IsKnown letters own old → AreFrom letters lines before → IsHeld letters lines new × AreFrom letters lines after
 
--- It is so where that is.
-abbrev pub KeepsBy : (text : List ℕ) → (old new : Reading) → (before after : List Finding) → Type 0
-KeepsBy text old new before after = (letters : Letters) (lines : List (List ℕ)) → IsUnreadIn lines text → IsKept letters lines old new before after
+-- So it is whatever the number, of what is open.
+abbrev pub TakesOn : (text : List ℕ) → (old new : Reading) → (before after : List Finding) → Type 0
+TakesOn text old new before after = (letters : Letters) (lines own : List (List ℕ)) (line : List ℕ) → lines ≡ own ++ line ∷ []
+    → Says line text → IsHeld letters own old → AreFrom letters lines before → IsHeld letters lines new × AreFrom letters lines after
 
--- It is so where the text stands at the end of what one of the lines says.
-abbrev pub KeepsByEnd : (rest : List ℕ) → (old new : Reading) → (before after : List Finding) → Type 0
-KeepsByEnd rest old new before after = (letters : Letters) (lines : List (List ℕ)) → IsEndIn lines rest → IsKept letters lines old new before after
+-- The text stands at the end of one of these.
+abbrev pub EndsOne : (texts : List (List ℕ)) → (rest : List ℕ) → Type 0
+EndsOne texts rest = (text : List ℕ) × Contains texts text × EndsText rest text
 
--- The text is what one of the lines says, or that behind its first word.
-abbrev pub IsPartIn : (lines : List (List ℕ)) → (rest : List ℕ) → Type 0
-IsPartIn lines rest = (text : List ℕ) × IsTextIn lines text × ((rest ≡ text) ⊎ (rest ≡ behind text))
+-- Tag pairs of a game were read, one of whose texts ends so.
+abbrev pub IsTagRead : Letters → (lines : List (List ℕ)) → (rest : List ℕ) → Open → Type 0
+IsTagRead letters lines rest opens.Nothing = ⊥
+IsTagRead letters lines rest (opens.Game game) = (texts : List (List ℕ)) × IsGame lines texts false × IsGameOf letters texts game
+    × EndsOne texts rest
+IsTagRead letters lines rest (opens.Movetext movetext) = ⊥
+IsTagRead letters lines rest (opens.Popeye problem) = ⊥
+IsTagRead letters lines rest (opens.Olive problem) = ⊥
 
--- It is so where the text is such a part.
-abbrev pub KeepsByPart : (rest : List ℕ) → (old new : Reading) → (before after : List Finding) → Type 0
-KeepsByPart rest old new before after = (letters : Letters) (lines : List (List ℕ)) → IsPartIn lines rest
-    → IsKept letters lines old new before after
+-- A game is open, one of whose texts ends so; or the movetext of one.
+abbrev pub IsMoved : Letters → (lines : List (List ℕ)) → (rest : List ℕ) → Open → Type 0
+IsMoved letters lines rest opens.Nothing = ⊥
+IsMoved letters lines rest (opens.Game game) = (texts : List (List ℕ)) × (has_moves : Bool) × IsGame lines texts has_moves
+    × IsGameOf letters texts game × EndsOne texts rest
+IsMoved letters lines rest (opens.Movetext movetext) = Unit {0}
+IsMoved letters lines rest (opens.Popeye problem) = ⊥
+IsMoved letters lines rest (opens.Olive problem) = ⊥
+
+-- A game is open whose next line may be a tag pair: one that goes on, or a new one.
+abbrev pub IsTagged : Letters → (lines : List (List ℕ)) → Open → Type 0
+IsTagged letters lines opens.Nothing = ⊥
+IsTagged letters lines (opens.Game game) = (texts : List (List ℕ)) × IsGameOf letters texts game
+    × ((texts ≡ []) ⊎ (IsGame lines texts false × IsUnbroken lines))
+IsTagged letters lines (opens.Movetext movetext) = ⊥
+IsTagged letters lines (opens.Popeye problem) = ⊥
+IsTagged letters lines (opens.Olive problem) = ⊥
+
+-- A problem for Popeye is open, of which these words were read.
+abbrev pub IsWorded : (words : List (List ℕ)) → Open → Type 0
+IsWorded words opens.Nothing = ⊥
+IsWorded words (opens.Game game) = ⊥
+IsWorded words (opens.Movetext movetext) = ⊥
+IsWorded words (opens.Popeye problem) = IsReadPopeyes words problem
+IsWorded words (opens.Olive problem) = ⊥
 
 -- A text that is printed is one of the lines, or of a problem that they have.
 unfoldable pub IsMadeFrom : Letters → (given : Option ℕ) → (lines : List (List ℕ)) → (made : List ℕ) → Type 0
@@ -150,21 +206,18 @@ TellsOf text moves (told.As more says) = (line_fields more.items ≡ line_fields
 TellsOf text moves told.Not = Unit {0}
 TellsOf text moves told.Two = Unit {0}
 
--- Where what is open is of the lines, so is what is printed.
+-- Where what is open is of the lines, so is what is printed at their end.
 abbrev pub EndsFrom : (given : Option ℕ) → Reading → (text : List ℕ) → Bool → Type 0
-EndsFrom given reading text any = (letters : Letters) (lines : List (List ℕ)) → IsKnown letters lines reading.letters reading.open
-    → AreImported (IsMadeFrom letters given lines) text any
+EndsFrom given reading text any = (letters : Letters) (lines : List (List ℕ)) → IsKnown letters lines reading
+    → AreImported (IsMadeFrom letters given (lines ++ [] ∷ [])) text any
 
--- Each of these lines stands among others as it is read: as it stands, or by letters.
-abbrev pub Within : (List ℕ → List ℕ) → (some all : List (List ℕ)) → Type 0
-Within read some all = (line : List ℕ) → Contains some line → Contains all (read line)
-
--- What is open is of lines among which these stand.
-abbrev pub IsKnownOf : Letters → (List ℕ → List ℕ) → (before : List (List ℕ)) → Reading → Type 0
-IsKnownOf letters read before reading = (lines : List (List ℕ)) → Within read before lines → IsKnown letters lines reading.letters reading.open
+-- All lines are read so: what is open is known to be of them, as far as they were looked at, and a line that was passed over changes nothing.
+pub data IsKnownOf (letters : Letters) (all_read : List (List ℕ) → List (List ℕ)) (reading : Reading) : (before : List (List ℕ)) → Type 0 where
+  looked_at : (before : List (List ℕ)) → IsKnown letters (all_read before) reading → IsKnownOf letters all_read reading before
+  passed_over : (before : List (List ℕ)) (line : List ℕ) → (is_blank line ≡ true) ⊎ (max_line < length line)
+      → IsKnownOf letters all_read reading before → IsKnownOf letters all_read reading (before ++ line ∷ [])
 
 -- What a line may be answered, and that the records are of the lines up to it.
-abbrev pub Sourced : LineReplies → Letters → (given : Option ℕ) → (List ℕ → List ℕ) → RepliesBehind
-Sourced may letters given read before number line text refused = may number line text refused × ((any : Bool)
-    × ((lines : List (List ℕ)) → Within read (before ++ line ∷ []) lines → IsLast lines (read line)
-    → AreImported (IsMadeFrom letters given lines) text any))
+abbrev pub Sourced : LineReplies → Letters → (given : Option ℕ) → (List ℕ → List ℕ) → (List (List ℕ) → List (List ℕ)) → RepliesBehind
+Sourced may letters given read all_read before number line text refused = may number line text refused
+    × ((any : Bool) × AreImported (IsMadeFrom letters given (all_read before ++ read line ∷ [])) text any)

@@ -1,5 +1,5 @@
 -- Not for believing: what has been read of a problem for Popeye or of Olive's. No contract of a public call rests on it.
-use Rattle.std.specs.Prelude.{◌≡◌, ◌≢◌, ◌<◌, ℕ, List, ◌∷◌, Bool, true, false, Option, Some, None}
+use Rattle.std.specs.Prelude.{◌≡◌, ◌≢◌, ◌<◌, ℕ, List, ◌∷◌, codes, Bool, true, false, Option, Some, None}
 use Rattle.chess_board.specs.Fens.{SpellsSetup}
 use Rattle.chess_board.specs.Men.{has_right_of}
 use Rattle.chess_board.specs.Positions.{Setup, man_at}
@@ -9,17 +9,20 @@ use Rattle.chess_board.specs.declared.men.Colour.TheVariants.{White}
 use Rattle.chess_board.specs.declared.men.Man.{Man}
 use Rattle.chess_board.specs.declared.men.Wing.{Wing}
 use Rattle.chess_notation.specs.RecordFields.{line_fields}
+use Rattle.chess_notation.specs.Words.{words_in}
 use Rattle.stipulations.specs.declared.asked.Asked.{Asked}
 use Rattle.stipulations.specs.declared.asked.Asked.TheVariants.{Moves, Nothing}
 use Rattle.problem_import.specs.OliveProblems as olive
 use Rattle.problem_import.specs.OliveProblems.{Said, item}
-use Rattle.problem_import.specs.PopeyeProblems.{asked_in, colour_before, command_of, man_on, nearest}
+use Rattle.problem_import.specs.PopeyeProblems.{asked_in, begins_next, colour_before, command_of, has_end, is_end, man_on, nearest, said_onto, stands_for}
 use Rattle.problem_import.specs.SetUps.{IsSetBy, is_right}
 use Rattle.problem_import.specs.declared.diagrams.Diagram.{Diagram}
 use Rattle.problem_import.specs.declared.import_faults.ImportFault.{ImportFault}
 use Rattle.problem_import.specs.declared.olive.OliveProblem.{OliveProblem}
 use Rattle.problem_import.specs.declared.olive.Section.{Section}
 use Rattle.problem_import.specs.declared.olive.Section.TheVariants as sections
+use Rattle.problem_import.specs.declared.popeye.Ending.{Ending}
+use Rattle.problem_import.specs.declared.popeye.Ending.TheVariants as endings
 use Rattle.problem_import.specs.declared.popeye.Expected.{Expected}
 use Rattle.problem_import.specs.declared.popeye.Expected.TheVariants as expects
 use Rattle.problem_import.specs.declared.popeye.PopeyeProblem.{PopeyeProblem}
@@ -91,6 +94,18 @@ TakesWord word old new = command_of word ≡ None → Takes word old new
 
 abbrev pub TakesCommand : Command → (word : List ℕ) → (old new : PopeyeProblem) → Type 0
 TakesCommand command word old new = command_of word ≡ Some command → Takes word old new
+
+-- What becomes of a problem behind a word with which its line ends: where it stays open, that ends none.
+abbrev pub EndsBy : (word : List ℕ) → Ending → Type 0
+EndsBy word endings.Open = is_end (command_of word) ≡ false
+EndsBy word endings.Ended = Unit {0}
+EndsBy word endings.Next = stands_for word (codes "NextProblem") ≡ true
+
+-- So it is behind a line.
+abbrev pub IsEnding : (text : List ℕ) → Ending → Type 0
+IsEnding text endings.Open = (words : List (List ℕ)) → has_end words ≡ false → has_end (said_onto (words_in text) words) ≡ false
+IsEnding text endings.Ended = Unit {0}
+IsEnding text endings.Next = (words : List (List ℕ)) → begins_next (said_onto (words_in text) words) ≡ true
 
 -- ---- of Olive's
 

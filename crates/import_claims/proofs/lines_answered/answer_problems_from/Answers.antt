@@ -1,34 +1,28 @@
-use Rattle.std.proofs.Common.{◌≡◌, ℕ, List, [], ap, refl, sym, subst}
-use Rattle.file_answers.specs.LinesFrom.{IsReplyOn, IsReplyToFirstOn}
-use Rattle.problem_import.specs.Problems.{IsProblemReply}
-use Rattle.problem_import.proofs.AnsweredProblems.{ended_if, stopped, stopped_if}
-use Rattle.import_claims.proofs.FirstLines.{first_of_all}
+use Rattle.std.proofs.Common.{◌≤◌, arith}
+use Rattle.import_claims.proofs.SourcedRows.{broken_sourced, cut_sourced, ended_sourced}
 use Rattle.import_claims.proofs.lines_answered.answer_problems_from.Goals as goal
 
 pub returns-in-Ok-clause-ok : goal.returns-in-Ok-clause-ok
 returns-in-Ok-clause-ok g c =
-    let R = g.H.ProblemHandler.records c.args.lines.now.handler.now in
-    let G = c.args.lines.now.bound in
-    let Q = g.H.ProblemHandler.rows c.args.lines.now.handler.now in
-    ended_if G R Q (λ bytes text n. IsReplyOn (IsProblemReply G R Q) c.args.start.now.from bytes text n) c.put_last.result c.in-Ok.count
-    (g.I.Input.left c.args.input) (g.O.Write.contents c.args.out.now) (g.O.Write.contents c.answer_lines_from.new.out)
-    (g.O.Write.contents c.put_last.new.out) c.in-Ok.ensures.ok c.put_last.ensures.ok
+    let some : 1 ≤ c.args.start.now.from = omega (arith, c.get-number.ensures.some, c.get-number.ensures.number) in
+    ended_sourced c.args.lines.now.bound (g.H.ProblemHandler.records c.args.lines.now.handler.now)
+    (g.H.ProblemHandler.rows c.args.lines.now.handler.now) c.args.start.now.from some c.put_last.result c.in-Ok.count
+    c.answer_lines_from.new.memory.reading (g.I.Input.left c.args.input) (g.O.Write.contents c.args.out.now)
+    (g.O.Write.contents c.answer_lines_from.new.out) (g.O.Write.contents c.put_last.new.out) (c.in-Ok.ensures.followed c.begin.ensures.begun)
+    c.put_last.ensures.sourced
 
 pub returns-in-Ok-clause-err : goal.returns-in-Ok-clause-err
 returns-in-Ok-clause-err g c =
-    let R = g.H.ProblemHandler.records c.args.lines.now.handler.now in
-    let G = c.args.lines.now.bound in
-    let Q = g.H.ProblemHandler.rows c.args.lines.now.handler.now in
-    stopped_if G R Q (λ bytes text n. IsReplyOn (IsProblemReply G R Q) c.args.start.now.from bytes text n)
-    (λ bytes text. IsReplyToFirstOn (IsProblemReply G R Q) c.args.start.now.from bytes text)
-    (first_of_all (IsProblemReply G R Q) c.args.start.now.from) c.put_last.result c.in-Ok.count
-    (g.I.Input.left c.args.input) (g.O.Write.contents c.args.out.now) (g.O.Write.contents c.answer_lines_from.new.out)
-    (g.O.Write.contents c.put_last.new.out) c.in-Ok.ensures.ok c.put_last.ensures.err
+    let some : 1 ≤ c.args.start.now.from = omega (arith, c.get-number.ensures.some, c.get-number.ensures.number) in
+    cut_sourced c.args.lines.now.bound (g.H.ProblemHandler.records c.args.lines.now.handler.now)
+    (g.H.ProblemHandler.rows c.args.lines.now.handler.now) c.args.start.now.from some c.put_last.result c.in-Ok.count
+    c.answer_lines_from.new.memory.reading (g.I.Input.left c.args.input) (g.O.Write.contents c.args.out.now)
+    (g.O.Write.contents c.answer_lines_from.new.out) (g.O.Write.contents c.put_last.new.out) (c.in-Ok.ensures.followed c.begin.ensures.begun)
+    c.put_last.ensures.cut
 
 pub returns-in-Err-clause-err : goal.returns-in-Err-clause-err
 returns-in-Err-clause-err g c =
-    let R = g.H.ProblemHandler.records c.args.lines.now.handler.now in
-    let G = c.args.lines.now.bound in
-    let Q = g.H.ProblemHandler.rows c.args.lines.now.handler.now in
-    stopped G R Q (λ bytes text. IsReplyToFirstOn (IsProblemReply G R Q) c.args.start.now.from bytes text) c.in-Err.stop
-    (g.I.Input.left c.args.input) (g.O.Write.contents c.args.out.now) (g.O.Write.contents c.answer_lines_from.new.out) c.in-Err.ensures.err
+    let some : 1 ≤ c.args.start.now.from = omega (arith, c.get-number.ensures.some, c.get-number.ensures.number) in
+    broken_sourced c.args.lines.now.bound (g.H.ProblemHandler.records c.args.lines.now.handler.now)
+    (g.H.ProblemHandler.rows c.args.lines.now.handler.now) c.args.start.now.from some c.in-Err.stop (g.I.Input.left c.args.input)
+    (g.O.Write.contents c.args.out.now) (g.O.Write.contents c.answer_lines_from.new.out) (c.in-Err.ensures.broken c.begin.ensures.begun)

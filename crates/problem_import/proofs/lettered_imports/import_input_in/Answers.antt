@@ -1,4 +1,5 @@
-use Rattle.std.proofs.Common.{◌∙◌, sym}
+use Rattle.std.proofs.Common.{[], ◌∙◌, sym}
+use Rattle.problem_import.specs.inside.KnownSources.{looked_at}
 use Rattle.problem_import.proofs.LetteredImports.{english_err, english_ok, lettered_err, lettered_ok}
 use Rattle.problem_import.proofs.lettered_imports.import_input_in.Goals as goal
 
@@ -21,3 +22,6 @@ pub returns-clause-err : goal.returns-clause-err
 returns-clause-err g c =
     lettered_err c.args.letters.now c.args.keep c.args.bound c.import_lettered-end.result (g.I.Input.left c.args.input) (g.O.Write.contents c.args.out.now)
     (g.O.Write.contents c.import_lettered-end.new.out) (sym c.is_english.ensures ∙ c.if-is_english.false) (rw (c.lettered.ensures.keep, c.lettered.ensures.bound) at c.import_lettered-end.ensures.err)
+
+pub import_lettered-end-requires : goal.import_lettered-end-requires
+import_lettered-end-requires g c = looked_at [] c.lettered-reading.ensures.from

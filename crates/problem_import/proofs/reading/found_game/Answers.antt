@@ -11,8 +11,8 @@ returns-clause-own c = λ line. (
 )
 
 pub returns-clause-from : goal.returns-clause-from
-returns-clause-from c = λ letters lines of given.
-    c.number_by_tags-number.ensures letters given lines c.in_ok-text.text.items
-    (fen_moved letters lines c.args.game.now.fen.items c.in_ok-text.text.items c.in_ok-text.ensures
+returns-clause-from c = λ letters lines own up (texts, has_moves, game, of, tags) given.
+    c.number_by_tags-number.ensures letters given lines own texts has_moves c.in_ok-text.text.items up game
+    (fen_moved letters texts c.args.game.now.fen.items c.in_ok-text.text.items c.in_ok-text.ensures
     (of.fen (where_none _ c.first_fault.result c.in_default.not-Some c.first_fault.ensures)))
-    (game_asks letters lines c.args.game.now c.asks.result c.asks.ensures of)
+    (game_asks letters texts c.args.game.now c.asks.result c.asks.ensures of)

@@ -1,8 +1,6 @@
-use Rattle.problem_import.specs.PopeyeProblems.{asked_in, man_on}
-use Rattle.problem_import.specs.Sources.{popeyes}
 use Rattle.problem_import.proofs.Findings.{own_of_popeye}
 use Rattle.problem_import.proofs.KnownNumbers.{asked_of_popeye}
-use Rattle.problem_import.proofs.Sources.{from_set}
+use Rattle.problem_import.proofs.Sources.{from_popeyes}
 use Rattle.problem_import.proofs.reading.found_popeye.Goals as goal
 
 pub returns-in-Ok-clause-own : goal.returns-in-Ok-clause-own
@@ -12,6 +10,6 @@ returns-in-Ok-clause-own c = λ line. (
 )
 
 pub returns-in-Ok-clause-from : goal.returns-in-Ok-clause-from
-returns-in-Ok-clause-from c = λ letters lines (words, are, read).
+returns-in-Ok-clause-from c = λ letters lines own up (words, are, read).
     let (sets, asks) = (rw c.in-Ok.is at c.in_ok-made.ensures) words read in
-    (λ given. from_set letters given lines (man_on words) (asked_in words) c.in-Ok.text.items _ (popeyes words are) sets asks)
+    (λ given. from_popeyes letters given lines own words c.in-Ok.text.items _ up are sets asks)

@@ -1,5 +1,5 @@
 use Rattle.std.proofs.Common.{◌≡◌, length}
-use Rattle.problem_import.specs.inside.TagPairs.{after_name}
+use Rattle.problem_import.specs.TagPairs.{after_name}
 use Rattle.problem_import.proofs.tag_pairs.after_name.Given as goal
 
 abbrev pub invariant-loop-rest : goal.invariant-loop-rest

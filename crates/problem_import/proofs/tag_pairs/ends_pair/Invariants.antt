@@ -1,5 +1,5 @@
 use Rattle.std.proofs.Common.{◌≡◌, length}
-use Rattle.problem_import.specs.inside.TagPairs.{ends_pair}
+use Rattle.problem_import.specs.TagPairs.{ends_pair}
 use Rattle.problem_import.proofs.tag_pairs.ends_pair.Given as goal
 
 abbrev pub invariant-loop-rest : goal.invariant-loop-rest

@@ -13,7 +13,7 @@ returns-then-is_blank-clause-reply g c = (
     λ line is. g.met.W.LineWriter.skips c.args.writer.now c.args.number _ (sym (c.is_blank.ensures line is) ∙ c.if-is_blank.true),
     λ line is. none_more (g.W.LineWriter.marks c.args.writer.now c.args.number (without_cr line) []) _
         (g.met.W.LineWriter.unmarked c.args.writer.now c.args.number _ (sym (c.is_blank.ensures line is) ∙ c.if-is_blank.true)),
-    λ line is before known.
+    λ line is before many known.
         let blank = sym (c.is_blank.ensures line is) ∙ c.if-is_blank.true in (
           g.met.W.LineWriter.skips_behind c.args.writer.now before c.args.number _ blank,
           g.met.W.LineWriter.passes c.args.writer.now _ before _ (inl blank) known,
@@ -32,7 +32,7 @@ returns-then-line-gt-MAX_LINE-clause-reply g c =
       λ line is. may (without_cr line) (sym (c.is_blank.ensures line is) ∙ c.if-is_blank.false) (kept_long c.args.kept.now line is long),
       λ line is. none_more (g.W.LineWriter.marks c.args.writer.now c.args.number (without_cr line) text) _
           (marks (without_cr line) (sym (c.is_blank.ensures line is) ∙ c.if-is_blank.false) (kept_long c.args.kept.now line is long)),
-      λ line is before known. (
+      λ line is before many known. (
         follows (without_cr line) (sym (c.is_blank.ensures line is) ∙ c.if-is_blank.false) (kept_long c.args.kept.now line is long) before,
         g.met.W.LineWriter.passes c.args.writer.now _ before _ (inr (kept_long c.args.kept.now line is long)) known,
       ),
@@ -48,7 +48,7 @@ returns-then-line-gt-MAX_LINE-clause-err g c =
     (λ text n may line is.
     let (one, follows) =
     may (without_cr line) (sym (c.is_blank.ensures line is) ∙ c.if-is_blank.false) (kept_long c.args.kept.now line is long) in
-    (one, λ before known. follows before))
+    (one, λ before many known. follows before))
     c.refuse_long.ensures.err
 
 pub write_reply-requires-clause-filled : goal.write_reply-requires-clause-filled
@@ -71,7 +71,7 @@ returns-clause-reply g c =
       λ line is. said_of (g.W.LineWriter.marks c.args.writer.now c.args.number) _ (without_cr line) text _
           (kept ∙ ap without_cr (kept_short c.args.kept.now line is short)) marks,
       λ line is. known_of (g.W.LineWriter.knows c.args.writer.now) (λ before. g.W.LineWriter.follows c.args.writer.now before c.args.number)
-          _ (without_cr line) _ _ text n (kept ∙ ap without_cr (kept_short c.args.kept.now line is short)) knows,
+          _ (without_cr line) c.args.number _ _ text n (kept ∙ ap without_cr (kept_short c.args.kept.now line is short)) knows,
     )) c.write_reply.ensures.reply
 
 pub returns-clause-err : goal.returns-clause-err
@@ -84,5 +84,5 @@ returns-clause-err g c =
       subst (λ l. g.W.LineWriter.replies c.args.writer.now c.args.number l text n)
           (kept ∙ ap without_cr (kept_short c.args.kept.now line is short)) may,
       follows_of (g.W.LineWriter.knows c.args.writer.now) (λ before. g.W.LineWriter.follows c.args.writer.now before c.args.number)
-          _ (without_cr line) _ text n (kept ∙ ap without_cr (kept_short c.args.kept.now line is short)) follows,
+          _ (without_cr line) c.args.number _ text n (kept ∙ ap without_cr (kept_short c.args.kept.now line is short)) follows,
     )) c.write_reply.ensures.err

@@ -7,7 +7,7 @@ use Rattle.text_lines.specs.inside.InputLines.{TakesLine, left_of}
 use Rattle.text_lines.specs.Lines.{texts_of, without_cr}
 use Rattle.text_lines.specs.Replies.{IsReply, IsReplyFrom}
 use Rattle.text_lines.proofs.WrittenReplies.{more_between}
-use Rattle.text_lines.proofs.LineReplies.{behind_next, gave_up, last_lines, last_reply, opens_more, replies_next, stopped}
+use Rattle.text_lines.proofs.LineReplies.{behind_next, gave_up, last_lines, last_reply, opens_more, replies_next, stopped, texts_before}
 use Rattle.text_lines.proofs.writers.write_replies.Goals as goal
 
 pub loop-number-init : goal.loop-number-init
@@ -59,7 +59,7 @@ returns-in_err-answered-clause-broken g c =
     c.in_err-answered.ensures.unanswered
     (λ broken.
     let (is_last, line, here, count, (one, follows), takes, part) = c.in_err-answered.ensures.cut broken in
-    (is_last, line, here, count, follows (map without_cr lines) all, takes, part)))
+    (is_last, line, here, count, follows (map without_cr lines) (texts_before lines c.loop-number.number so_far.number) all, takes, part)))
 
 pub returns-then-answered-clause-ok : goal.returns-then-answered-clause-ok
 returns-then-answered-clause-ok g c =
@@ -79,7 +79,7 @@ returns-then-answered-clause-followed g c = λ known.
     let takes' = subst (λ b. TakesLine b (left_of g.I.Input.left c.loop-number.lines)
     (left_of g.I.Input.left c.answer_next.new.lines) line) c.if-answered.true takes in
     let (replies, all) = so_far.follows known in
-    let (follows, then) = knows (map without_cr lines) all in
+    let (follows, then) = knows (map without_cr lines) (texts_before lines c.loop-number.number so_far.number) all in
     let (may, whole) = last_reply (g.W.LineWriter.follows c.args.writer.now) c.loop-number.number c.loop-number.refused
     c.in_ok-answered.answered.refused (g.I.Input.left c.args.input) _ _ seen line text here lines
     so_far.taken so_far.opens replies so_far.number takes' follows in
@@ -134,7 +134,7 @@ loop-number-preserved g c =
             (replies_next (g.W.LineWriter.marks c.args.writer.now) c.loop-number.number lines line text here _ _ so_far.number so_far.marks marks);
         follows = λ known.
             let (so_far_these, all) = so_far.follows known in
-            let (follows, then) = knows (map without_cr lines) all in (
+            let (follows, then) = knows (map without_cr lines) (texts_before lines c.loop-number.number so_far.number) all in (
               behind_next (g.W.LineWriter.follows c.args.writer.now) c.loop-number.number lines line text here
                   c.loop-number.refused c.in_ok-answered.answered.refused so_far.number so_far_these follows,
               subst (g.W.LineWriter.knows c.args.writer.now c.answer_next.new.memory) (sym (map-append without_cr lines (line ∷ []))) then,

@@ -10,7 +10,7 @@ returns-then-passes-clause-reply g c = (
     passed_over (g.W.LineWriter.replies c.args.self.now.writer.now) c.args.self.now.start.now.from c.args.number c.args.line.now
         (is_before c.args.number c.args.self.now.start.now.from (sym c.passes.ensures ∙ c.if-passes.true)),
     tt,
-    λ before known. (tt, tt),
+    λ before many known. (tt, tt),
   ),
   Appends-nil (g.O.Write.contents c.args.out.now),
 )
@@ -23,7 +23,7 @@ returns-in-Ok-clause-reply g c =
         answered_on (g.W.LineWriter.replies c.args.self.now.writer.now) c.args.self.now.start.now.from c.args.number c.args.line.now text _
             (is_behind c.args.number c.args.self.now.start.now.from (sym c.passes.ensures ∙ c.if-passes.false)) may,
         tt,
-        λ before known. (tt, tt),
+        λ before many known. (tt, tt),
       ),
       on,
     )
@@ -34,5 +34,5 @@ returns-in-Err-clause-err g c =
     (λ text n (may, follows). (
       answered_on (g.W.LineWriter.replies c.args.self.now.writer.now) c.args.self.now.start.now.from c.args.number c.args.line.now text n
           (is_behind c.args.number c.args.self.now.start.now.from (sym c.passes.ensures ∙ c.if-passes.false)) may,
-      λ before known. tt,
+      λ before many known. tt,
     )) c.in-Err.ensures.err

@@ -6,7 +6,7 @@ use Rattle.mate_tree.proofs.tree_replies.TreeRepliesLineWriter.write_reply.Goals
 pub returns-in-Ok-write_record-clause-reply : goal.returns-in-Ok-write_record-clause-reply
 returns-in-Ok-write_record-clause-reply g c = (
   tree_reply c.args.self.now.form c.in-Ok.record,
-  (answered c.in-Ok.record c.requires.filled c.in-Ok.ensures.reads, tt, λ before known. (tt, tt)),
+  (answered c.in-Ok.record c.requires.filled c.in-Ok.ensures.reads, tt, λ before many known. (tt, tt)),
   c.in-Ok-write_record.ensures.ok,
 )
 
@@ -14,7 +14,7 @@ pub returns-in-Ok-clause-err : goal.returns-in-Ok-clause-err
 returns-in-Ok-clause-err g c =
     breaks_read (IsJust (tree_reply c.args.self.now.form c.in-Ok.record) 0)
     _ _ _ c.in-Err-write_record.stop
-    (λ text n (is, none). (rw (is, none) (answered c.in-Ok.record c.requires.filled c.in-Ok.ensures.reads), λ before known. tt))
+    (λ text n (is, none). (rw (is, none) (answered c.in-Ok.record c.requires.filled c.in-Ok.ensures.reads), λ before many known. tt))
     c.in-Err-write_record.ensures.err
 
 pub returns-clause-reply : goal.returns-clause-reply
@@ -24,7 +24,7 @@ returns-clause-reply g c =
       reply_refused c.args.self.now.form c.args.self.now.default c.args.number c.args.line.now c.in-Err.fault
           c.requires.filled c.in-Err.ensures.refused text n is,
       tt,
-      λ before known. (tt, tt),
+      λ before many known. (tt, tt),
     ))
     c.write_refused.ensures.ok
 
@@ -35,7 +35,7 @@ returns-clause-err g c =
     (λ text n is. (
       reply_refused c.args.self.now.form c.args.self.now.default c.args.number c.args.line.now c.in-Err.fault
           c.requires.filled c.in-Err.ensures.refused text n is,
-      λ before known. tt,
+      λ before many known. tt,
     ))
     c.write_refused.ensures.err
 

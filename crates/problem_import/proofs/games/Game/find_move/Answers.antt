@@ -1,6 +1,7 @@
+use Rattle.std.proofs.Common.{inr, sym, ◌∙◌}
 use Rattle.problem_import.specs.Sources.{SaysMoves}
 use Rattle.problem_import.proofs.GameNumbers.{asks_on, asks_same, asks_then, fen_then}
-use Rattle.problem_import.proofs.TagFens.{ends_drop, ends_ends}
+use Rattle.problem_import.proofs.TagFens.{brace_in, ends_drop, ends_ends}
 use Rattle.problem_import.proofs.games.Game.find_move.Goals as goal
 
 pub loop-preserved-then-begins_with-2 : goal.loop-preserved-then-begins_with-2
@@ -16,6 +17,9 @@ loop-preserved-then-begins_with-2 c =
       ends = ends_ends _ text line (ends_drop text _ 1 c.without_first-rest.ensures)
           (ends_ends text rest line (ends_drop rest text trim.0 trim.1)
           (ends_ends rest c.loop.rest.now line c.after_comment.ensures.rest c.loop.invariant.ends));
+      comment = λ is. inr (brace_in line text (ends_ends text rest line (ends_drop rest text trim.0 trim.1)
+          (ends_ends rest c.loop.rest.now line c.after_comment.ensures.rest c.loop.invariant.ends))
+          (sym c.begins_with-in-loop.ensures ∙ c.if-begins_with-2.true));
     }
 
 pub loop-preserved : goal.loop-preserved
@@ -34,7 +38,11 @@ loop-preserved c =
       ends = ends_ends c.in-Some.behind.now text line c.in-Some.ensures.rest
           (ends_ends text rest line (ends_drop rest text trim.0 trim.1)
           (ends_ends rest c.loop.rest.now line c.after_comment.ensures.rest c.loop.invariant.ends));
+      comment = λ is. c.loop.invariant.comment (c.after_comment.ensures.comment (sym c.take_mark.ensures.comment ∙ is));
     }
+
+pub returns-in_default-clause-comment : goal.returns-in_default-clause-comment
+returns-in_default-clause-comment c = λ is. c.loop.invariant.comment (c.after_comment.ensures.comment (sym c.take_mark.ensures.comment ∙ is))
 
 pub returns-in_default-clause-asks : goal.returns-in_default-clause-asks
 returns-in_default-clause-asks c =

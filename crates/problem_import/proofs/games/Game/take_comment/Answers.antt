@@ -1,5 +1,5 @@
 use Rattle.std.proofs.Common.{sym, subst}
-use Rattle.problem_import.specs.inside.TagPairs.{EndsText}
+use Rattle.problem_import.specs.TagPairs.{EndsText}
 use Rattle.problem_import.proofs.TagFens.{ends_behind}
 use Rattle.problem_import.proofs.games.Game.take_comment.Goals as goal
 

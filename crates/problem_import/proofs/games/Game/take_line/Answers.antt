@@ -3,7 +3,7 @@ use Rattle.problem_import.specs.Sources.{behind_byte, value_from}
 use Rattle.problem_import.specs.Sources.{IsFenOf, SaysMoves}
 use Rattle.problem_import.specs.inside.KnownSources.{TagSays}
 use Rattle.problem_import.proofs.GameNumbers.{asks_for, asks_same, asks_then, tag_says}
-use Rattle.problem_import.specs.inside.TagPairs.{EndsText, begins_with}
+use Rattle.problem_import.specs.TagPairs.{EndsText, begins_with}
 use Rattle.problem_import.proofs.TagFens.{begun, ends_behind, ends_drop, ends_ends, fen_next, fen_taken}
 use Rattle.problem_import.proofs.games.Game.take_line.Goals as goal
 
@@ -12,6 +12,7 @@ loop-init c = record {
   ends = ends_drop c.args.line.now _ c.trim_ascii_start-rest.ensures.value.0 c.trim_ascii_start-rest.ensures.value.1;
   fen = inl (refl, refl);
   asks = asks_same (SaysMoves c.args.line.now) c.args.self.now c.args.self.now (refl, refl);
+  comment = refl;
 }
 
 pub loop-preserved : goal.loop-preserved
@@ -43,4 +44,5 @@ loop-preserved c =
           (λ n. tag_says c.args.line.now rest more c.word_at.result.0.now c.take_value.new.value.items _ n
           c.loop.invariant.ends opens c.word_at.ensures.word from c.in_ok-value_read.ensures.other)
           c.take_tag.ensures.asks);
+      comment = c.take_tag.ensures.comment ∙ c.loop.invariant.comment;
     }

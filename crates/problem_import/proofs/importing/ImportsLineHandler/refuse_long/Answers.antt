@@ -1,4 +1,4 @@
-use Rattle.std.proofs.Common.{sym, subst}
+use Rattle.std.proofs.Common.{ℕ, List, [], ◌∷◌, ◌++◌, sym, subst}
 use Rattle.problem_import.specs.Imports.{AreImported}
 use Rattle.problem_import.specs.inside.KnownSources.{IsMadeFrom}
 use Rattle.problem_import.proofs.Imports.{long_reply}
@@ -25,11 +25,12 @@ pub returns-then-passes_long-clause-behind : goal.returns-then-passes_long-claus
 returns-then-passes_long-clause-behind c = λ line filled long before.
     let letters = c.args.self.now.printing.letters in
     let given = c.args.self.now.printing.bound in
-    let any = c.new-printed.result.any in (
+    let any = c.new-printed.result.any in
+    let lines : List (List ℕ) = before ++ line ∷ [] in (
       returns-then-passes_long-clause-reply c line filled long,
       (
         any,
-        λ lines among last. subst (λ t. AreImported (IsMadeFrom letters given lines) t any) (sym c.output_of.ensures.text)
+        subst (λ t. AreImported (IsMadeFrom letters given lines) t any) (sym c.output_of.ensures.text)
             (c.new-printed.ensures.from letters given lines),
       ),
     )
@@ -38,11 +39,12 @@ pub returns-clause-behind : goal.returns-clause-behind
 returns-clause-behind c = λ line filled long before.
     let letters = c.args.self.now.printing.letters in
     let given = c.args.self.now.printing.bound in
-    let any = c.push_refusal.new.self.any in (
+    let any = c.push_refusal.new.self.any in
+    let lines : List (List ℕ) = before ++ line ∷ [] in (
       returns-clause-reply c line filled long,
       (
         any,
-        λ lines among last. subst (λ t. AreImported (IsMadeFrom letters given lines) t any) (sym c.output_of-2.ensures.text)
+        subst (λ t. AreImported (IsMadeFrom letters given lines) t any) (sym c.output_of-2.ensures.text)
             (c.in_ok-push_refusal.ensures.from letters given lines (c.new-printed.ensures.from letters given lines)),
       ),
     )

@@ -28,6 +28,6 @@ pub printed-requires : goal.printed-requires
 printed-requires c = rw c.as_slice.ensures.value c.in_ok-findings.ensures.own
 
 pub returns-clause-from : goal.returns-clause-from
-returns-clause-from c = λ letters lines among known.
-    let (now, found) = c.in_ok-findings.ensures.from letters lines among known in
+returns-clause-from c = λ letters lines own at short known.
+    let (now, found) = c.in_ok-findings.ensures.from letters lines own at short known in
     (now, c.in_ok-printed.ensures.from letters lines (rw c.as_slice.ensures.value found))

@@ -1,4 +1,5 @@
-use Rattle.std.proofs.Common.{sym, subst}
+use Rattle.std.proofs.Common.{ℕ, List, [], ◌∷◌, ◌++◌, map, sym, subst}
+use Rattle.lettered_placements.specs.Readings.{line_read}
 use Rattle.problem_import.specs.Imports.{AreImported}
 use Rattle.problem_import.specs.inside.KnownSources.{IsMadeFrom}
 use Rattle.problem_import.proofs.LetteredImports.{lettered_long}
@@ -16,11 +17,12 @@ pub returns-clause-behind : goal.returns-clause-behind
 returns-clause-behind c = λ line filled long before.
     let letters = c.args.self.now.letters in
     let given = c.args.self.now.imports.printing.bound in
-    let any = c.in_ok-printed.printed.any in (
+    let any = c.in_ok-printed.printed.any in
+    let lines : List (List ℕ) = map (line_read letters) before ++ line_read letters line ∷ [] in (
       returns-clause-reply c line filled long,
       (
         any,
-        λ lines among last. subst (λ t. AreImported (IsMadeFrom letters given lines) t any) (sym c.output_of.ensures.text)
+        subst (λ t. AreImported (IsMadeFrom letters given lines) t any) (sym c.output_of.ensures.text)
             (c.in_ok-printed.ensures.from letters given lines),
       ),
     )

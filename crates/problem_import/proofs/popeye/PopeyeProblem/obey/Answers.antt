@@ -6,10 +6,6 @@ pub returns-in_ok-push_id-in-Text : goal.returns-in_ok-push_id-in-Text
 unfolding KeepsSaid
 returns-in_ok-push_id-in-Text c = λ free. (free, refl, refl, refl, refl)
 
-pub returns-in-End : goal.returns-in-End
-unfolding KeepsSaid
-returns-in-End c = λ free. (free, refl, refl, refl, refl)
-
 pub returns-in-Conditions : goal.returns-in-Conditions
 unfolding KeepsSaid
 returns-in-Conditions c = λ free. absurd (c.note.ensures free)

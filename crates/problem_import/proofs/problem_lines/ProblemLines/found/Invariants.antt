@@ -1,7 +1,15 @@
 use Rattle.std.proofs.Common.{ℕ, List}
-use Rattle.problem_import.specs.inside.Answered.{IsFound}
+use Rattle.move_words.specs.declared.languages.Letters.{Letters}
+use Rattle.problem_import.specs.inside.Answered.{IsAnsweredFrom, IsFound}
+use Rattle.problem_import.specs.inside.KnownSources.{AreFrom}
 use Rattle.problem_import.proofs.problem_lines.ProblemLines.found.Given as goal
 
+-- what was found so far is answered, and is of the lines that all of it is of
 abbrev pub invariant-loop-finding : goal.invariant-loop-finding
-invariant-loop-finding g l = (line : List ℕ) → IsFound l.self.bound line (g.H.ProblemHandler.records l.self.handler.now)
-    (g.H.ProblemHandler.rows l.self.handler.now) l.finding-index l.answers.text.items l.answers.any
+invariant-loop-finding g l = record {
+  found : (line : List ℕ) → IsFound l.self.bound line (g.H.ProblemHandler.records l.self.handler.now)
+      (g.H.ProblemHandler.rows l.self.handler.now) l.finding-index l.answers.text.items l.answers.any;
+  from : (letters : Letters) (lines : List (List ℕ)) → AreFrom letters lines l.findings
+      → IsAnsweredFrom letters l.self.bound lines (g.H.ProblemHandler.records l.self.handler.now) (g.H.ProblemHandler.rows l.self.handler.now)
+      l.answers.text.items;
+}

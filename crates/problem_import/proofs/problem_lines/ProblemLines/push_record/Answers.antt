@@ -1,3 +1,4 @@
+use Rattle.problem_import.proofs.AnsweredSources.{record_from}
 use Rattle.std.proofs.Common.{◌∙◌, ◌++◌, ap}
 use Rattle.problem_import.proofs.AnsweredProblems.{record_answered}
 use Rattle.problem_import.proofs.problem_lines.ProblemLines.push_record.Goals as goal
@@ -18,3 +19,11 @@ returns-clause-ends g c = (
   c.in_ok-output.ensures,
   c.in_ok-push.ensures.text ∙ ap (λ t. c.args.answers.now.text.items ++ t) c.as_slice.ensures.value,
 )
+
+pub returns-clause-from : goal.returns-clause-from
+returns-clause-from g c = λ letters lines from.
+    record_from c.args.self.now.bound (g.H.ProblemHandler.records c.args.self.now.handler.now)
+    (g.H.ProblemHandler.rows c.args.self.now.handler.now) letters lines
+    c.args.made.now c.in_ok-output.output.text.items c.args.answers.now.text.items c.push.new.self.text.items c.args.number
+    c.in_ok-output.output.refused c.requires from c.in_ok-output.ensures
+    (c.in_ok-push.ensures.text ∙ ap (λ t. c.args.answers.now.text.items ++ t) c.as_slice.ensures.value)

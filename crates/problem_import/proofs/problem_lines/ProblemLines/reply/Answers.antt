@@ -1,19 +1,33 @@
+use Rattle.problem_import.proofs.Sources.{made_line}
 use Rattle.std.proofs.Common.{length}
 use Rattle.problem_import.proofs.AnsweredProblems.{clean_reply, other_reply}
 use Rattle.problem_import.proofs.problem_lines.ProblemLines.reply.Goals as goal
 
-pub returns-in_default : goal.returns-in_default
-returns-in_default g c =
+pub returns-in_default-clause-reply : goal.returns-in_default-clause-reply
+returns-in_default-clause-reply g c =
     other_reply c.args.self.now.bound (g.H.ProblemHandler.records c.args.self.now.handler.now)
     (g.H.ProblemHandler.rows c.args.self.now.handler.now)
     c.in_ok-read.read.kind c.args.number c.args.line.now c.in_ok-answers.answers.text.items c.in_ok-answers.answers.any
     (length c.as_slice.result.now) c.requires c.in_ok-read.ensures.other c.in_ok-read.ensures.mendable c.in_default.not-Clean
-    (λ is. rw c.as_slice.ensures.value (c.in_ok-findings.ensures.found is)) (c.in_ok-answers.ensures c.args.line.now)
+    (λ is. rw c.as_slice.ensures.value (c.in_ok-findings.ensures.found is)) (c.in_ok-answers.ensures.found c.args.line.now)
 
-pub returns : goal.returns
-returns g c =
+pub returns-clause-reply : goal.returns-clause-reply
+returns-clause-reply g c =
     clean_reply c.args.self.now.bound (g.H.ProblemHandler.records c.args.self.now.handler.now)
     (g.H.ProblemHandler.rows c.args.self.now.handler.now)
     c.args.number c.args.line.now c.push_record.new.answers.text.items c.in_ok-answers.answers.text.items c.push_record.new.answers.any
-    c.in_ok-answers.answers.any (length c.as_slice.result.now) c.requires (c.in_ok-answers.ensures c.args.line.now)
+    c.in_ok-answers.answers.any (length c.as_slice.result.now) c.requires (c.in_ok-answers.ensures.found c.args.line.now)
     (c.in_ok-push_record.ensures.answered c.args.line.now) c.in_ok-push_record.ensures.ends
+
+pub returns-in_default-clause-from : goal.returns-in_default-clause-from
+returns-in_default-clause-from g c = λ letters lines own at short known.
+    let (now, found) = c.in_ok-findings.ensures.from letters lines own at short known in
+    (now, c.in_ok-answers.ensures.from letters lines (rw c.as_slice.ensures.value found))
+
+pub returns-clause-from : goal.returns-clause-from
+returns-clause-from g c = λ letters lines own at short known.
+    let (now, found) = c.in_ok-findings.ensures.from letters lines own at short known in (
+      now,
+      c.in_ok-push_record.ensures.from letters lines (made_line letters c.args.self.now.bound lines c.args.line.now (own, at.0))
+          (c.in_ok-answers.ensures.from letters lines (rw c.as_slice.ensures.value found)),
+    )

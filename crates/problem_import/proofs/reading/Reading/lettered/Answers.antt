@@ -3,4 +3,4 @@ use Rattle.problem_import.proofs.Sources.{known_first}
 use Rattle.problem_import.proofs.reading.Reading.lettered.Goals as goal
 
 pub returns : goal.returns
-returns c = record { from = λ lines. known_first c.args.letters lines c.args.letters refl }
+returns c = record { from = known_first c.args.letters _ refl refl }

@@ -1,26 +1,52 @@
-use Rattle.std.proofs.Common.{[], refl, sym, subst}
-use Rattle.problem_import.specs.Sources.{no_words}
-use Rattle.problem_import.specs.declared.reading.Open.TheVariants as opens
-use Rattle.problem_import.specs.inside.KnownSources.{IsOpenFrom}
-use Rattle.problem_import.proofs.Sources.{known_next, known_open, popeye_taken}
+use Rattle.std.proofs.Common.{[], inl, refl, ◌∙◌, subst}
+use Rattle.chess_notation.specs.Words.{words_in}
+use Rattle.problem_import.specs.PopeyeProblems.{said_onto}
+use Rattle.problem_import.specs.Sources.{behind_next}
+use Rattle.problem_import.specs.inside.KnownSources.{IsWorded}
+use Rattle.problem_import.proofs.Sources.{open_next, then_ok, words_kept, worded_popeye}
 use Rattle.problem_import.proofs.reading.Reading.take_popeye.Goals as goal
-use Rattle.problem_import.proofs.reading.Reading.take_popeye.Goals.{then-problem, else-problem}
 
-pub returns-then-not-problem-clause-from : goal.returns-then-not-problem-clause-from
-returns-then-not-problem-clause-from c = λ letters lines part known before.
-    let open_now = opens.Popeye c.take_line.new.self in
-    let old = known_open letters lines c.args.self.now.letters c.args.self.now.open (opens.Popeye c.in-Popeye.problem) c.in-Popeye.is known in
-    let of = popeye_taken lines c.args.line.now c.in-Popeye.problem _ c.take_line.new.self part refl refl refl refl refl c.in_ok-take_line.ensures old in
-    (known_next letters lines c.args.self.now.letters c.args.self.now.open open_now open_now refl of known, before)
+pub returns-in_default-clause-from : goal.returns-in_default-clause-from
+returns-in_default-clause-from c = λ letters lines words by worded are before.
+    let (problem, is) = worded_popeye words c.args.self.now.open worded in
+    absurd (c.in_default.not-Popeye problem is)
 
-pub returns-clause-from : goal.returns-clause-from
-returns-clause-from c = λ letters lines part known before.
-    let open_now = opens.Popeye c.take_line.new.self in
-    let old = known_open letters lines c.args.self.now.letters c.args.self.now.open (opens.Popeye c.in-Popeye.problem) c.in-Popeye.is known in
-    let of = popeye_taken lines c.args.line.now c.in-Popeye.problem _ c.take_line.new.self part refl refl refl refl refl c.in_ok-take_line.ensures old in
-    let next : IsOpenFrom letters lines c.if-problem.next = elim c.if-problem.branch [
-      | then-problem w ↦ subst (IsOpenFrom letters lines) (sym w.next-is) ([], no_words, w.new.ensures)
-      | else-problem w ↦ subst (IsOpenFrom letters lines) (sym w.next-is) tt
-    ] in
-    c.in_ok-finish.ensures.from letters lines next
-    (known_next letters lines c.args.self.now.letters c.args.self.now.open open_now open_now refl of known) before
+pub returns-in-Open-clause-from : goal.returns-in-Open-clause-from
+returns-in-Open-clause-from c = λ letters lines words by worded are before.
+    let of = subst (IsWorded words) c.in-Popeye.is worded in (
+      (
+        by,
+        (
+          said_onto (words_in c.args.line.now) words,
+          are,
+          record {
+            read = c.in_ok-take_line.ensures.read words (words_kept words c.in-Popeye.problem _ refl refl refl refl refl of.read);
+            on = (rw c.in-Open.is at c.in_ok-take_line.ensures.ends) words of.on;
+          },
+        ),
+      ),
+      before,
+    )
+
+pub returns-in-Ended-clause-from : goal.returns-in-Ended-clause-from
+returns-in-Ended-clause-from c = then_ok c.finish.result _ _ (λ from letters lines words by worded are before.
+    let of = subst (IsWorded words) c.in-Popeye.is worded in
+    let read = c.in_ok-take_line.ensures.read words (words_kept words c.in-Popeye.problem _ refl refl refl refl refl of.read) in (
+      (c.finish.ensures.letters ∙ by, open_next letters lines _ _ c.finish.ensures.next tt),
+      from letters lines lines (inl refl) (said_onto (words_in c.args.line.now) words, are, read) before,
+    )) c.finish.ensures.from
+
+pub returns-in-Next-clause-from : goal.returns-in-Next-clause-from
+returns-in-Next-clause-from c = then_ok c.finish-in-Next.result _ _ (λ from letters lines words by worded are before.
+    let of = subst (IsWorded words) c.in-Popeye.is worded in
+    let read = c.in_ok-take_line.ensures.read words (words_kept words c.in-Popeye.problem _ refl refl refl refl refl of.read) in (
+      (
+        c.finish-in-Next.ensures.letters ∙ by,
+        open_next letters lines _ _ c.finish-in-Next.ensures.next (
+          [],
+          behind_next lines (said_onto (words_in c.args.line.now) words) are ((rw c.in-Next.is at c.in_ok-take_line.ensures.ends) words),
+          record { read = c.new-next.ensures; on = refl },
+        ),
+      ),
+      from letters lines lines (inl refl) (said_onto (words_in c.args.line.now) words, are, read) before,
+    )) c.finish-in-Next.ensures.from

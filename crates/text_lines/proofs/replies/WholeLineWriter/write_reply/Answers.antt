@@ -10,7 +10,7 @@ returns-in-Ok-clause-reply g c =
 pub returns-in-Ok-clause-err : goal.returns-in-Ok-clause-err
 returns-in-Ok-clause-err g c =
     whole_breaks _ _ _ c.in-Ok.output.text.items c.in-Ok.output.refused c.put_reply.result
-    (c.in-Ok.ensures.reply, λ before known. (c.in-Ok.ensures.behind before known).0) c.put_reply.ensures.err
+    (c.in-Ok.ensures.reply, λ before many known. (c.in-Ok.ensures.behind before many known).0) c.put_reply.ensures.err
 
 pub returns-in-Ok-clause-few : goal.returns-in-Ok-clause-few
 returns-in-Ok-clause-few g c = whole_few _ c.in-Ok.output.refused c.put_reply.result c.in-Ok.ensures.few c.put_reply.ensures.ok

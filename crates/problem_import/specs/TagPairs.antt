@@ -1,4 +1,4 @@
--- Not for believing: which lines are tag pairs of a game (PGN Specification, 8.1.1). No contract of a public call rests on it.
+-- Which lines are tag pairs of a game (PGN Specification, 8.1.1).
 use Rattle.std.specs.Prelude.{◌≡◌, ℕ, ◌==◌, List, [], ◌∷◌, ◌++◌, drop}
 use Rattle.std.specs.Prelude.{Bool, false, ◌&&◌, ◌||◌, if◌then◌else◌}
 use Rattle.std.specs.List.{list_all}

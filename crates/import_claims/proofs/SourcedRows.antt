@@ -1,0 +1,195 @@
+-- Rows are of records that are of their lines, where the lines before that of a number are passed over.
+use Rattle.std.proofs.Common.{◌≡◌, ◌⊎◌, inl, inr, ◌≤◌, ◌+◌, ◌-◌, ℕ, zero, suc, Bool, false, List, [], ◌∷◌, ◌++◌, Option, Result, Ok, Err, IfErr, IfOk, ap, append_assoc, drop, length, map, take}
+use Rattle.std.proofs.Common.{take-append-drop}
+use Rattle.std.proofs.Common.{refl, sym, subst, ◌∙◌, arith}
+use Rattle.std.proofs.KnownBytes.{Appends-trans}
+use Rattle.std.proofs.lemmas.List.{append-nil, map-append}
+use Rattle.std.specs.Io.KnownBytes.{Appends}
+use Rattle.byte_streams.specs.Inputs.{MayBe}
+use Rattle.byte_streams.specs.Stops.{AppendsBy}
+use Rattle.byte_streams.specs.declared.stops.Stop.{Stop}
+use Rattle.move_words.specs.Languages.{english}
+use Rattle.text_lines.specs.Lines.{lines_of, texts_of, without_cr}
+use Rattle.text_lines.specs.Replies.{IsReplyFrom, LineReplies, behind}
+use Rattle.file_answers.specs.LinesFrom.{IsReplyOn, IsReplyToFirstOn, lines_from, without_first}
+use Rattle.problem_import.specs.Imports.{one_if}
+use Rattle.problem_import.specs.Problems.{AnswersSourced, IsEnded, IsEndedFirst, IsProblemReply, RefusalRows, no_problem}
+use Rattle.problem_import.specs.declared.reading.Reading.{Reading}
+use Rattle.problem_import.specs.inside.Answered.{AnswersBehind, IsAnsweredFrom, IsLastCutOf, IsLastPutOf, IsReadOf}
+use Rattle.problem_import.proofs.AnsweredSources.{first_answered, replies_of, whole_answered}
+use Rattle.problem_import.proofs.Imports.{appends_more}
+use Rattle.problem_import.proofs.Sources.{silent, sourced_all}
+use Rattle.mate_claims.specs.ClaimReplies.{IsClaimReply}
+use Rattle.import_claims.specs.ImportedRows.{IsRefusedRow}
+use Rattle.import_claims.specs.VerifiedImports.{bound_or_three, first_imported_replies, imported_replies, prefix_of}
+use Rattle.import_claims.proofs.FirstLines.{first_of_all}
+
+abbrev Split : (n : ℕ) → (lines : List (List ℕ)) → Type 0
+Split n lines = (front : List (List ℕ)) × (without_first n (map without_cr lines) ≡ front ++ map without_cr (drop n lines))
+    × ((n ≡ length front) ⊎ (drop n lines ≡ []))
+
+-- Lines behind others leave those as they are read.
+append_on : (n : ℕ) (xs ys : List (List ℕ)) → (more : List (List ℕ)) × (without_first n (xs ++ ys) ≡ without_first n xs ++ more)
+append_on zero xs ys = (ys, refl)
+append_on (suc n) [] ys = (without_first (suc n) ys, refl)
+append_on (suc n) (x ∷ xs) ys = let (more, is) = append_on n xs ys in (more, ap (λ ls. [] ∷ ls) is)
+
+longer : (front : List (List ℕ)) (n : ℕ) (lines : List (List ℕ)) → (n ≡ length front) ⊎ (lines ≡ []) → (suc n ≡ length ([] ∷ front)) ⊎ (lines ≡ [])
+longer front n lines (inl is) = inl (ap suc is)
+longer front n lines (inr is) = inr is
+
+split : (n : ℕ) (lines : List (List ℕ)) → Split n lines
+split zero lines = ([], refl, inl refl)
+split (suc n) [] = ([], refl, inr refl)
+split (suc n) (line ∷ lines) =
+    let (front, same, long) = split n lines in ([] ∷ front, ap (λ ls. [] ∷ ls) same, longer front n (drop n lines) long)
+
+module _ (G : Option ℕ) (R : LineReplies) (Q : RefusalRows) where
+  sourced_by : (from : ℕ) (all front lines : List (List ℕ)) (text : List ℕ) (count : ℕ) (last : List ℕ) → 1 ≤ from → all ≡ front ++ map without_cr lines
+      → ((from - 1) ≡ length front) ⊎ (lines ≡ []) → IsReplyFrom (behind (AnswersBehind english G R Q) all) from lines text count
+      → IsAnsweredFrom english G (all ++ [] ∷ []) R Q last → AnswersSourced english G R Q all (text ++ last)
+  sourced_by from all front lines text count last some whole (inl long) replies ends =
+      whole_answered G R Q english all front from lines text count last (omega (arith, some, long)) whole replies ends
+  sourced_by from all front lines text count last some whole (inr none) replies ends =
+      let F = behind (AnswersBehind english G R Q) all in
+      whole_answered G R Q english all front (length front + 1) [] text count last refl (whole ∙ ap (λ ls. front ++ map without_cr ls) none)
+      (subst (λ ls. IsReplyFrom F from ls text count) none replies) ends
+
+  -- All lines of a file from that of a number on were answered, and its end.
+  pub ended_sourced : (from : ℕ) → 1 ≤ from → (r : Result ℕ Stop) (count : ℕ) (reading : Reading) (known old middle new : Option (List ℕ))
+      → (bytes : List ℕ) × (text : List ℕ) × MayBe known bytes
+      × (IsReplyOn (behind (AnswersBehind english G R Q) (lines_from from (texts_of bytes))) from bytes text count
+      × IsReadOf reading (lines_from from (texts_of bytes))) × Appends old middle text
+      → IfOk r (λ total. IsLastPutOf G R Q reading count total middle new)
+      → IfOk r (λ total. (bytes : List ℕ) × (text : List ℕ) × MayBe known bytes
+      × (IsEnded G R Q (IsReplyOn (IsProblemReply G R Q) from bytes) text total
+      × AnswersSourced english G R Q (lines_from from (texts_of bytes)) text) × Appends old new text)
+  unfolding IsReplyOn
+  ended_sourced from some (Ok total) count reading known old middle new (bytes, text, may, (replies, are_known), before)
+      (printed, last, any, answered, ends, is, behind_it) =
+      let all : List (List ℕ) = lines_from from (texts_of bytes) in
+      let lines : List (List ℕ) = drop (from - 1) (lines_of bytes) in
+      let (front, whole, long) = split (from - 1) (lines_of bytes) in (
+        bytes,
+        text ++ last,
+        may,
+        (
+          (text, count, printed, last, any, replies_of G R Q english all from lines text count replies, answered, refl, is),
+          sourced_by from all front lines text count last some whole long replies (ends all are_known),
+        ),
+        Appends-trans old middle new text last before behind_it,
+      )
+  ended_sourced from some (Err s) count reading known old middle new replied ended = tt
+
+  -- ---- where that stops
+
+  -- Nothing is answered to no line.
+  pub none_sourced : (lines : List (List ℕ)) → AnswersSourced english G R Q lines []
+  unfolding AnswersSourced
+  none_sourced lines = ([], 0, sourced_all english G lines [] (silent english G [] lines), no_problem)
+
+  pub cut_sourced : (from : ℕ) → 1 ≤ from → (r : Result ℕ Stop) (count : ℕ) (reading : Reading) (known old middle new : Option (List ℕ))
+      → (bytes : List ℕ) × (text : List ℕ) × MayBe known bytes
+      × (IsReplyOn (behind (AnswersBehind english G R Q) (lines_from from (texts_of bytes))) from bytes text count
+      × IsReadOf reading (lines_from from (texts_of bytes))) × Appends old middle text
+      → IfErr r (λ s. IsLastCutOf G R Q reading s middle new)
+      → IfErr r (λ s. (bytes : List ℕ) × (text : List ℕ) × MayBe known bytes
+      × (IsEndedFirst G R Q (IsReplyToFirstOn (IsProblemReply G R Q) from bytes) text
+      × AnswersSourced english G R Q (lines_from from (texts_of bytes)) text) × AppendsBy s old new text)
+  unfolding IsReplyOn
+  cut_sourced from some (Ok total) count reading known old middle new replied ended = tt
+  cut_sourced from some (Err s) count reading known old middle new (bytes, text, may, (replies, are_known), before)
+      (printed, last, any, answered, ends, behind_it) =
+      let all : List (List ℕ) = lines_from from (texts_of bytes) in
+      let lines : List (List ℕ) = drop (from - 1) (lines_of bytes) in
+      let (front, whole, long) = split (from - 1) (lines_of bytes) in (
+        bytes,
+        text ++ last,
+        may,
+        (
+          (
+            0 + one_if any,
+            (
+              text,
+              0,
+              printed,
+              last,
+              any,
+              first_of_all (IsProblemReply G R Q) from bytes text count (replies_of G R Q english all from lines text count replies),
+              answered,
+              refl,
+              refl,
+            ),
+          ),
+          sourced_by from all front lines text count last some whole long replies (ends all are_known),
+        ),
+        appends_more s old middle new text last before behind_it,
+      )
+
+  first_by : (from : ℕ) (all front lines more : List (List ℕ)) (text : List ℕ) (count : ℕ) → 1 ≤ from
+      → all ≡ front ++ (map without_cr lines ++ more) → ((from - 1) ≡ length front) ⊎ (lines ≡ [])
+      → IsReplyFrom (behind (AnswersBehind english G R Q) all) from lines text count → AnswersSourced english G R Q all text
+  first_by from all front lines more text count some whole (inl long) replies =
+      first_answered G R Q english all front from lines more text count (omega (arith, some, long)) whole replies
+  first_by from all front lines more text count some whole (inr none) replies =
+      let F = behind (AnswersBehind english G R Q) all in
+      let (is, nobody) = subst (λ ls. IsReplyFrom F from ls text count) none replies in
+      subst (AnswersSourced english G R Q all) (sym is) (none_sourced all)
+
+  -- Of some of the first lines those behind the front are answered.
+  first_sourced : (n from : ℕ) (lines : List (List ℕ)) (text : List ℕ) (count : ℕ) → 1 ≤ from
+      → IsReplyFrom (behind (AnswersBehind english G R Q) (lines_from from (map without_cr lines))) from (drop (from - 1) (take n lines)) text
+      count → AnswersSourced english G R Q (lines_from from (map without_cr lines)) text
+  first_sourced n from lines text count some replies =
+      let own : List (List ℕ) = drop (from - 1) (take n lines) in
+      let (front, whole, long) = split (from - 1) (take n lines) in
+      let (more, on) = append_on (from - 1) (map without_cr (take n lines)) (map without_cr (drop n lines)) in
+      let both : map without_cr lines ≡ map without_cr (take n lines) ++ map without_cr (drop n lines) =
+      ap (map without_cr) (sym (take-append-drop n lines)) ∙ map-append without_cr (take n lines) (drop n lines) in
+      first_by from (lines_from from (map without_cr lines)) front own more text count some
+      (ap (without_first (from - 1)) both ∙ on ∙ ap (λ ls. ls ++ more) whole ∙ append_assoc front (map without_cr own) more) long replies
+
+  -- Some of the first lines of a file were answered.
+  pub broken_sourced : (from : ℕ) → 1 ≤ from → (s : Stop) (known old new : Option (List ℕ)) → (bytes : List ℕ) × (text : List ℕ) × MayBe known bytes
+      × IsReplyToFirstOn (behind (AnswersBehind english G R Q) (lines_from from (texts_of bytes))) from bytes text × AppendsBy s old new text
+      → (bytes : List ℕ) × (text : List ℕ) × MayBe known bytes
+      × (IsEndedFirst G R Q (IsReplyToFirstOn (IsProblemReply G R Q) from bytes) text
+      × AnswersSourced english G R Q (lines_from from (texts_of bytes)) text) × AppendsBy s old new text
+  unfolding IsReplyToFirstOn
+  broken_sourced from some s known old new (bytes, text, may, (n, count, replies), behind_it) =
+      let lines : List (List ℕ) = lines_of bytes in
+      let first = replies_of G R Q english (lines_from from (texts_of bytes)) from (drop (from - 1) (take n lines)) text count replies in (
+        bytes,
+        text,
+        may,
+        (
+          (0 + one_if false, (text, 0, [], [], false, (n, count, first), (0, no_problem, refl), sym (append-nil text), refl)),
+          first_sourced n from lines text count some replies,
+        ),
+        behind_it,
+      )
+
+-- ---- as the rows of a file
+
+module _ (several : Bool) (bound given : Option ℕ) (name prefix : List ℕ) (default : ℕ) (prefixed : prefix ≡ prefix_of several name)
+    (asked : default ≡ bound_or_three bound) (is : given ≡ bound) (from : ℕ) (bytes text : List ℕ) where
+  abbrev Rows : Option ℕ → List ℕ → ℕ → Type 0
+  Rows G p d = AnswersSourced english G (IsClaimReply p d) (IsRefusedRow p) (lines_from from (texts_of bytes)) text
+
+  abbrev pub All : Option ℕ → List ℕ → ℕ → ℕ → Type 0
+  All G p d count = IsEnded G (IsClaimReply p d) (IsRefusedRow p) (IsReplyOn (IsProblemReply G (IsClaimReply p d) (IsRefusedRow p)) from bytes) text
+      count × Rows G p d
+
+  abbrev pub Some : Option ℕ → List ℕ → ℕ → Type 0
+  Some G p d = IsEndedFirst G (IsClaimReply p d) (IsRefusedRow p) (IsReplyToFirstOn (IsProblemReply G (IsClaimReply p d) (IsRefusedRow p)) from bytes)
+      text × Rows G p d
+
+  pub rows_of : (count : ℕ) → All given prefix default count → imported_replies several bound from name bytes text count
+  rows_of count all =
+      subst (λ G. All G (prefix_of several name) (bound_or_three bound) count) is
+      (subst (λ p. All given p (bound_or_three bound) count) prefixed (subst (λ d. All given prefix d count) asked all))
+
+  pub first_rows_of : Some given prefix default → first_imported_replies several bound from name bytes text
+  first_rows_of some =
+      subst (λ G. Some G (prefix_of several name) (bound_or_three bound)) is
+      (subst (λ p. Some given p (bound_or_three bound)) prefixed (subst (λ d. Some given prefix d) asked some))
