@@ -1,6 +1,8 @@
 mod HeldFiles
 mod LinesFrom
 mod WrittenFrom
+mod Opened
+mod KeptBytes
 mod Parts
 pub mod AnsweredFiles
 pub mod Unopened

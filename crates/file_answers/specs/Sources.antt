@@ -1,6 +1,10 @@
 -- What files hold.
-use Rattle.std.specs.Prelude.{◌≡◌, ◌++◌, ◌⊎◌, ℕ, List, [], ◌∷◌, Option, Some, Bool, true, false, if◌then◌else◌, length, ⊤}
+use Rattle.std.specs.Prelude.{◌≡◌, ◌++◌, ◌⊎◌, ℕ, List, [], ◌∷◌, Option, Some, IfSome, Bool, true, false, if◌then◌else◌, length, ⊤}
 use Rattle.byte_streams.specs.Inputs.{MayBe}
+
+-- Of a file that was just opened all is left that its name holds, where that is known.
+abbrev pub HasAll : Option (List ℕ) → Option (List ℕ) → Type 0
+HasAll held left = IfSome held (λ all. left ≡ Some all)
 
 -- Each input is what its name holds, where that is known.
 abbrev pub Holds : (List ℕ → Option (List ℕ)) → List (List ℕ) → List (List ℕ) → Type 0

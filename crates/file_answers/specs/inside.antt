@@ -1,2 +1,3 @@
 pub mod LinesFrom
 pub mod GivenTexts
+pub mod Files

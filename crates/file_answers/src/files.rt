@@ -1,6 +1,7 @@
 //! The files of the system.
 
 ghost use Rattle.std.specs.Prelude.{None, ⊤};
+ghost use Rattle.file_answers.specs.inside.Files.{left_of};
 
 use crate::sources::{NameKind, Source, SourceFault, whole};
 use byte_streams::Input;
@@ -9,14 +10,14 @@ use std::io::{Read, Stdin};
 use std::rt::Files;
 use std::{fs, io};
 
-/// A reader of which nothing is known. What a signal interrupts is tried again.
+/// What a reader gives, to its end; that it breaks off is not shut out. What a signal interrupts is tried again.
 #[derive(Drop)]
 pub struct Reading<R> {
     pub reader: R,
 }
 
 impl<R: Read> Input for Reading<R> {
-    ghost left = { λ _. None };
+    ghost left = { λ reading. R.remaining reading.reader };
 
     ghost breaks = { λ _. ⊤ };
 
@@ -43,6 +44,8 @@ pub enum Stream<F> {
 }
 
 impl<F: Read> Read for Stream<F> {
+    ghost remaining = { left_of (λ file. F.remaining file) };
+
     fn read(&mut self, buf: &mut [u8]) -> io::Result<usize> {
         match self {
             Stream::File(file) => file.read(buf),
@@ -51,7 +54,8 @@ impl<F: Read> Read for Stream<F> {
     }
 }
 
-/// The files of the system, of which nothing is known. The name `-` is standard input, which has one reading for all who ask.
+/// The files of the system. What a name holds is not known, only that what is opened is read as it is. The name `-` is standard input, which
+/// has one reading for all who ask.
 #[derive(Clone, Copy)]
 pub struct FileSystem<'r, R> {
     pub rt: &'r R,

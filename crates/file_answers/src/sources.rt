@@ -2,7 +2,7 @@
 
 ghost use Rattle.std.specs.Prelude.{◌≡◌, ◌⊎◌, ℕ, List, Option, IfErr, IfOk, length, map};
 ghost use Rattle.byte_streams.specs.Inputs.{MayBe};
-ghost use Rattle.file_answers.specs.Sources.{Holds, HoldsEach, HoldsMore, SomeRefused};
+ghost use Rattle.file_answers.specs.Sources.{HasAll, Holds, HoldsEach, HoldsMore, SomeRefused};
 
 use crate::writing::{complain, complain_unreadable};
 use byte_streams::{Input, Stop};
@@ -41,7 +41,7 @@ pub trait Source {
 
     /// The file of this name, of which nothing is read yet.
     fn open(&self, alloc: Global, name: &str) -> Result<Self::File, SourceFault>
-        ensures bytes { IfOk result (λ file. Self.File.Input.left file ≡ holds self.now name.now) }
+        ensures bytes { IfOk result (λ file. HasAll (holds self.now name.now) (Self.File.Input.left file)) }
         ensures breaks { IfOk result (λ file. Self.File.Input.breaks file → refuses self.now name.now) }
         ensures refused { IfErr result (λ fault. fault ≡ SourceFault.Unreadable → refuses self.now name.now) };
 

@@ -1,4 +1,5 @@
-use Rattle.std.proofs.lemmas.Result.{err_from_is_err_and}
+use Rattle.std.proofs.lemmas.Result.{IfErr-weaker, IfOk-weaker, err_from_is_err_and}
+use Rattle.file_answers.proofs.Opened.{held_by}
 use Rattle.file_answers.proofs.Unopened.{not_opened}
 use Rattle.file_answers.proofs.file_answers.answer_file.Goals as goal
 
@@ -10,7 +11,13 @@ returns-in_err-file-clause-err g c =
     (c.begins_with_nothing.ensures c.args.start.now.from c.args.start.now.name.now) same)
 
 pub returns-clause-ok : goal.returns-clause-ok
-returns-clause-ok g c = rw (← c.in_ok-file.ensures.bytes) c.answer.ensures.ok
+returns-clause-ok g c =
+    IfOk-weaker c.answer.result _ _
+    (λ _ (input, text, may, told, appends). (input, text, held_by _ _ input c.in_ok-file.ensures.bytes may, told, appends))
+    c.answer.ensures.ok
 
 pub returns-clause-err : goal.returns-clause-err
-returns-clause-err g c = rw (← c.in_ok-file.ensures.bytes) c.answer.ensures.err
+returns-clause-err g c =
+    IfErr-weaker c.answer.result _ _
+    (λ _ (input, text, may, first, appends). (input, text, held_by _ _ input c.in_ok-file.ensures.bytes may, first, appends))
+    c.answer.ensures.err
