@@ -5,7 +5,7 @@ use Rattle.chess_notation.specs.Records.{max_line}
 use Rattle.chess_notation.specs.Words.{is_blank}
 use Rattle.text_lines.specs.Lines.{lines_of, texts_of}
 use Rattle.text_lines.specs.Replies.{IsReply, IsReplyFrom, IsReplyToFirst, LineReplies, RepliesBehind, behind}
-use Rattle.file_answers.specs.LinesFrom.{IsReplyOn, IsReplyToFirstOn, lines_from, without_first}
+use Rattle.file_answers.specs.LinesFrom.{IsReplyOn, IsReplyToFirstOn, lines_from, blanked_first}
 use Rattle.file_answers.specs.inside.LinesFrom.{KnowsFrom, RepliesFrom, looked_at, went_by}
 use Rattle.file_answers.proofs.WrittenFrom.{is_before, is_behind}
 
@@ -42,28 +42,28 @@ reply_to_first_on R from input text some (count, n, replies) =
 
 -- ---- lines that are read as empty ones
 
-pub first_none : (n : ℕ) → without_first n [] ≡ []
+pub first_none : (n : ℕ) → blanked_first n [] ≡ []
 first_none zero = refl
 first_none (suc n) = refl
 
-pub first_length : (n : ℕ) (lines : List (List ℕ)) → length (without_first n lines) ≡ length lines
+pub first_length : (n : ℕ) (lines : List (List ℕ)) → length (blanked_first n lines) ≡ length lines
 first_length zero lines = refl
 first_length (suc n) [] = refl
 first_length (suc n) (line ∷ lines) = ap suc (first_length n lines)
 
 pub first_pushed : (n : ℕ) (lines : List (List ℕ)) (line : List ℕ) → length lines < n
-    → without_first n (lines ++ line ∷ []) ≡ without_first n lines ++ [] ∷ []
+    → blanked_first n (lines ++ line ∷ []) ≡ blanked_first n lines ++ [] ∷ []
 first_pushed zero lines line few = absurd (omega (arith, few))
 first_pushed (suc n) [] line few = ap (λ ls. [] ∷ ls) (first_none n)
 first_pushed (suc n) (l ∷ lines) line few = ap (λ ls. [] ∷ ls) (first_pushed n lines line (omega (arith, few)))
 
 pub later_pushed : (n : ℕ) (lines : List (List ℕ)) (line : List ℕ) → n ≤ length lines
-    → without_first n (lines ++ line ∷ []) ≡ without_first n lines ++ line ∷ []
+    → blanked_first n (lines ++ line ∷ []) ≡ blanked_first n lines ++ line ∷ []
 later_pushed zero lines line many = refl
 later_pushed (suc n) [] line many = absurd (omega (arith, many))
 later_pushed (suc n) (l ∷ lines) line many = ap (λ ls. [] ∷ ls) (later_pushed n lines line (omega (arith, many)))
 
-first_taken : (n k : ℕ) (lines : List (List ℕ)) → without_first n (take k lines) ≡ take k (without_first n lines)
+first_taken : (n k : ℕ) (lines : List (List ℕ)) → blanked_first n (take k lines) ≡ take k (blanked_first n lines)
 first_taken zero k lines = refl
 first_taken (suc n) zero lines = sym (first_none (suc n))
 first_taken (suc n) (suc k) [] = refl
@@ -73,8 +73,8 @@ first_taken (suc n) (suc k) (line ∷ lines) = ap (λ ls. [] ∷ ls) (first_take
 
 module _ (M : Type 0) (K : M → List (List ℕ) → Type 0) (memory : M) where
   push_if : (n : ℕ) (own : List (List ℕ)) (line : List ℕ) (is_first : Bool) → nat_lt (length own) n ≡ is_first
-      → ((line : List ℕ) → (is_blank line ≡ true) ⊎ (max_line < length line) → K memory (without_first n own ++ line ∷ []))
-      → (is_blank line ≡ true) ⊎ (max_line < length line) → K memory (without_first n (own ++ line ∷ []))
+      → ((line : List ℕ) → (is_blank line ≡ true) ⊎ (max_line < length line) → K memory (blanked_first n own ++ line ∷ []))
+      → (is_blank line ≡ true) ⊎ (max_line < length line) → K memory (blanked_first n (own ++ line ∷ []))
   push_if n own line true is each passes =
       subst (K memory) (sym (first_pushed n own line (is_before (length own) n is))) (each [] (inl refl))
   push_if n own line false is each passes =
@@ -86,7 +86,7 @@ module _ (M : Type 0) (K : M → List (List ℕ) → Type 0) (memory : M) where
   known_from passes from before (looked_at own known) = known
   known_from passes from before (went_by own line is known) =
       let rest = known_from passes from own known in
-      push_if (from - 1) own line (nat_lt (length own) (from - 1)) refl (λ l may. passes (without_first (from - 1) own) l may rest) is
+      push_if (from - 1) own line (nat_lt (length own) (from - 1)) refl (λ l may. passes (blanked_first (from - 1) own) l may rest) is
 
 pub knows_first : (M : Type 0) (K : M → List (List ℕ) → Type 0) (memory : M) (from : ℕ) → K memory [] → KnowsFrom M K from memory []
 knows_first M K memory from known = looked_at [] (subst (K memory) (sym (first_none (from - 1))) known)

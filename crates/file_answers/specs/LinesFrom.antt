@@ -14,11 +14,11 @@ IsReplyToFirstOn replies from input text =
     (count : ℕ) × (refusals : ℕ) × IsReplyFrom replies from (drop (from - 1) (take count (lines_of input))) text refusals
 
 -- the lines, of which the first so many are read as empty ones
-abbrev pub without_first : ℕ → List (List ℕ) → List (List ℕ)
-without_first zero lines = lines
-without_first (suc n) [] = []
-without_first (suc n) (line ∷ lines) = [] ∷ without_first n lines
+abbrev pub blanked_first : ℕ → List (List ℕ) → List (List ℕ)
+blanked_first zero lines = lines
+blanked_first (suc n) [] = []
+blanked_first (suc n) (line ∷ lines) = [] ∷ blanked_first n lines
 
 -- the lines from that of a number on, where those before it are passed over as empty ones are
 abbrev pub lines_from : ℕ → List (List ℕ) → List (List ℕ)
-lines_from from lines = without_first (from - 1) lines
+lines_from from lines = blanked_first (from - 1) lines

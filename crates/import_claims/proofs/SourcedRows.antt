@@ -11,7 +11,7 @@ use Rattle.byte_streams.specs.declared.stops.Stop.{Stop}
 use Rattle.move_words.specs.Languages.{english}
 use Rattle.text_lines.specs.Lines.{lines_of, texts_of, without_cr}
 use Rattle.text_lines.specs.Replies.{IsReplyFrom, LineReplies, behind}
-use Rattle.file_answers.specs.LinesFrom.{IsReplyOn, IsReplyToFirstOn, lines_from, without_first}
+use Rattle.file_answers.specs.LinesFrom.{IsReplyOn, IsReplyToFirstOn, lines_from, blanked_first}
 use Rattle.problem_import.specs.Imports.{one_if}
 use Rattle.problem_import.specs.Problems.{AnswersSourced, IsEnded, IsEndedFirst, IsProblemReply, RefusalRows, no_problem}
 use Rattle.problem_import.specs.declared.reading.Reading.{Reading}
@@ -25,13 +25,13 @@ use Rattle.import_claims.specs.VerifiedImports.{bound_or_three, first_imported_r
 use Rattle.import_claims.proofs.FirstLines.{first_of_all}
 
 abbrev Split : (n : ℕ) → (lines : List (List ℕ)) → Type 0
-Split n lines = (front : List (List ℕ)) × (without_first n (map without_cr lines) ≡ front ++ map without_cr (drop n lines))
+Split n lines = (front : List (List ℕ)) × (blanked_first n (map without_cr lines) ≡ front ++ map without_cr (drop n lines))
     × ((n ≡ length front) ⊎ (drop n lines ≡ []))
 
 -- Lines behind others leave those as they are read.
-append_on : (n : ℕ) (xs ys : List (List ℕ)) → (more : List (List ℕ)) × (without_first n (xs ++ ys) ≡ without_first n xs ++ more)
+append_on : (n : ℕ) (xs ys : List (List ℕ)) → (more : List (List ℕ)) × (blanked_first n (xs ++ ys) ≡ blanked_first n xs ++ more)
 append_on zero xs ys = (ys, refl)
-append_on (suc n) [] ys = (without_first (suc n) ys, refl)
+append_on (suc n) [] ys = (blanked_first (suc n) ys, refl)
 append_on (suc n) (x ∷ xs) ys = let (more, is) = append_on n xs ys in (more, ap (λ ls. [] ∷ ls) is)
 
 longer : (front : List (List ℕ)) (n : ℕ) (lines : List (List ℕ)) → (n ≡ length front) ⊎ (lines ≡ []) → (suc n ≡ length ([] ∷ front)) ⊎ (lines ≡ [])
@@ -147,7 +147,7 @@ module _ (G : Option ℕ) (R : LineReplies) (Q : RefusalRows) where
       let both : map without_cr lines ≡ map without_cr (take n lines) ++ map without_cr (drop n lines) =
       ap (map without_cr) (sym (take-append-drop n lines)) ∙ map-append without_cr (take n lines) (drop n lines) in
       first_by from (lines_from from (map without_cr lines)) front own more text count some
-      (ap (without_first (from - 1)) both ∙ on ∙ ap (λ ls. ls ++ more) whole ∙ append_assoc front (map without_cr own) more) long replies
+      (ap (blanked_first (from - 1)) both ∙ on ∙ ap (λ ls. ls ++ more) whole ∙ append_assoc front (map without_cr own) more) long replies
 
   -- Some of the first lines of a file were answered.
   pub broken_sourced : (from : ℕ) → 1 ≤ from → (s : Stop) (known old new : Option (List ℕ)) → (bytes : List ℕ) × (text : List ℕ) × MayBe known bytes
