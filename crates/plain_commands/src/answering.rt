@@ -1,4 +1,4 @@
-//! The words of a command line in, text and a status out, but for `serve`, `uci`, and `solve` with `--workers` or `--limit`.
+//! The words of a command line in, text and a status out, but for what starts threads: `serve`, `uci`, `--workers` and `--limit`.
 
 ghost use Rattle.std.specs.Prelude.{◌≡◌, ◌≢◌, ◌⊎◌, ◌≤◌, None, IfErr, IfNone, IfOk, IfSome, IsNone, IsSome, map, option_map, true, false};
 ghost use Rattle.std.specs.String.{string_bytes};
@@ -200,8 +200,8 @@ fn usage<O: Write, E: Write>(error: &Error, out: &mut O, err: &mut E) -> u8
     }
 }
 
-/// Answers what the words ask for, of which the first is the program's own name, unless that is `serve`, `uci`, or `solve` with `--workers` or
-/// `--limit`, which start threads: then nothing is written, and the answer is none. It reads files from `source`.
+/// Answers what the words ask for, of which the first is the program's own name, unless that starts threads, as `serve`, `uci`, `--workers` and
+/// `--limit` do: then nothing is written, and the answer is none. It reads files from `source`.
 ///
 /// A fault of `err` is passed over and changes no status.
 pub fn plain_command<S: Source, O: Write, E: Write>(
