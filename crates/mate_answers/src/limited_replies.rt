@@ -73,6 +73,7 @@ pub fn decide<T: TimeLimit, S: Solver<T>>(
     ensures truth { IfOk result (λ outcome. outcome ≡ truth (problem_of «record».now)) }
     ensures playable { IfOk result (λ outcome. IsPlayable «record».now.position outcome) }
     ensures none { IfErr result (λ none. IsNoneSoFar «record».now none) }
+    ensures stopped { IfErr result (λ _. T.may_stop guide.now.halt.now) }
     ensures room { S.room memory.new ≡ S.room memory.old }
 {
     let mut problem = record.problem();
@@ -108,6 +109,7 @@ fn limited_text<T: TimeLimit, S: Solver<T>>(
     ensures decided { IfOk result (λ said. said.is_decided ≡ true → said.text.items ≡ answer_line «record».now) }
     ensures undecided { IfOk result (λ said. said.is_decided ≡ false
         → IsUndecidedLine limited.now.seconds «record».now said.text.items) }
+    ensures stopped { IfOk result (λ said. said.is_decided ≡ false → T.may_stop limited.now.limit.now) }
     ensures room { S.room memory.new ≡ S.room memory.old }
 {
     limited.limit.begin();
@@ -127,8 +129,9 @@ fn limited_text<T: TimeLimit, S: Solver<T>>(
 }
 
 impl<T: TimeLimit, S: Solver<T>> LineHandler for Limited<'_, T, S> {
-    ghost use Rattle.mate_answers.specs.InputReplies.{skipped};
-    ghost use Rattle.std.specs.Prelude.{[]};
+    ghost use Rattle.mate_answers.specs.InputReplies.{IsLineReply, skipped};
+    ghost use Rattle.std.proofs.Common.{inr};
+    ghost use Rattle.std.specs.Prelude.{◌⊎◌, []};
     ghost use Rattle.mate_answers.specs.LimitedReplies.{IsLateReply, IsLimitedReply, decided, in_time};
 
     type Memory = LimitedMemory<S::Memory>;
@@ -140,6 +143,9 @@ impl<T: TimeLimit, S: Solver<T>> LineHandler for Limited<'_, T, S> {
     ghost marks = { λ limited. IsLateReply limited.seconds limited.default };
 
     ghost tally = { λ memory. memory.undecided };
+
+    /// Whatever stands before it, a line is answered as without a limit, unless the limit may stop a search at all.
+    ghost follows = { λ limited _ number line text refusals. T.may_stop limited.limit.now ⊎ IsLineReply limited.default number line text refusals };
 
     ghost room = { λ memory. S.room memory.memory };
 
@@ -181,5 +187,5 @@ impl<T: TimeLimit, S: Solver<T>> LineHandler for Limited<'_, T, S> {
 
     ghost passes = { λ _ _ _ _ _ _. tt };
 
-    ghost skips_behind = { λ _ _ _ _ _. tt };
+    ghost skips_behind = { λ limited before number line blank. inr (skipped blank) };
 }

@@ -26,3 +26,9 @@ returns-clause-undecided g c = λ no. elim c.match-decide.branch [
         ∙ ap (λ t. t ++ 10 ∷ []) (ap (λ said. string_bytes said.0) w.text-is ∙ w.in_ok-undecided_text-in-Err.ensures),
   )
 ]
+
+pub returns-clause-stopped : goal.returns-clause-stopped
+returns-clause-stopped g c = λ no. elim c.match-decide.branch [
+  | in-Ok+in_ok-answer_text-in-Ok w ↦ absurd (false≢true (sym no ∙ ap (λ said. said.1) w.text-is))
+  | in-Err+in_ok-undecided_text-in-Err w ↦ w.in-Err.ensures.stopped
+]

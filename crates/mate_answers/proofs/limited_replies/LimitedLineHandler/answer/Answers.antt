@@ -1,4 +1,4 @@
-use Rattle.std.proofs.Common.{arith}
+use Rattle.std.proofs.Common.{arith, inl, inr}
 use Rattle.std.proofs.lemmas.Result.{IfOk-weaker}
 use Rattle.mate_answers.specs.InputReplies.{IsLineReply, answer_line, answered}
 use Rattle.mate_answers.specs.LimitedReplies.{IsLateReply, IsLimitedReply, decided, in_time, late, undecided}
@@ -56,3 +56,19 @@ returns-in-Err-clause-few g c = few_refused (λ output. output.refused) c.refusa
 
 pub returns-in-Some-clause-grows : goal.returns-in-Some-clause-grows
 returns-in-Some-clause-grows g c = omega (arith, c.in-Some.ensures.1)
+
+pub returns-in-Err-clause-behind : goal.returns-in-Err-clause-behind
+returns-in-Err-clause-behind g c =
+    IfOk-weaker c.refusal.result (λ output. IsLineReply c.args.self.now.default c.args.number c.args.line.now output.text.items output.refused)
+    _ (λ output told before number known. (inr told, tt))
+    (reply_refused c.args.self.now.default c.args.number c.args.line.now c.in-Err.fault (λ output. output.text.items)
+    (λ output. output.refused) c.refusal.result
+    c.requires.filled c.in-Err.ensures.refused c.refusal.ensures.fault c.refusal.ensures.text c.refusal.ensures.one)
+
+pub returns-then-said-clause-behind : goal.returns-then-said-clause-behind
+returns-then-said-clause-behind g c = λ before number known.
+    rw (c.in_ok-said-in-Ok.ensures.decided c.if-said.true)
+    (inr (answered c.in-Ok.record c.requires.filled c.in-Ok.ensures.reads), tt)
+
+pub returns-in-Some-clause-behind : goal.returns-in-Some-clause-behind
+returns-in-Some-clause-behind g c = λ before number known. (inl (c.in_ok-said-in-Ok.ensures.stopped c.if-said.false), tt)
