@@ -1,5 +1,6 @@
 pub mod BoundSources
 pub mod ClaimReplies
+pub mod CountedLines
 pub mod ListedKeys
 pub mod MovesTested
 pub mod PlaySegments

@@ -15,13 +15,13 @@ use Rattle.mate_claims.specs.declared.counts.Counts.{Counts}
 use Rattle.mate_claims.specs.declared.verdicts.Verdict.{Verdict}
 use Rattle.mate_claims.specs.declared.verdicts.Verdict.TheVariants as verdict
 use Rattle.mate_claims.specs.BoundSources.{IsSource, ReadsClaimed}
-use Rattle.mate_claims.specs.ClaimReplies.{IsToldBy, no_record, refusals_of}
+use Rattle.mate_claims.specs.ClaimReplies.{IsClaimReply, IsTold, IsToldBy, no_record, refusals_of}
 use Rattle.mate_claims.specs.Counts.{count_of, with_count, with_one, with_source}
 use Rattle.mate_claims.specs.LimitedClaims.{IsLateClaim, IsLimitedClaim, IsToldInTime, IsToldLate, in_time, late, marked, told, undecided_of, unjudged}
 use Rattle.mate_claims.specs.Rows.{refused_row}
 use Rattle.mate_claims.specs.Said.{Said, said_by, said_of}
 use Rattle.mate_claims.specs.Verdicts.{verdict_name}
-use Rattle.mate_claims.proofs.ClaimReplies.{none_before, told_record}
+use Rattle.mate_claims.proofs.ClaimReplies.{none_before, told_record, told_reply}
 
 -- ---- what comes of claims without an outcome
 
@@ -65,6 +65,17 @@ told_of_either place default line r from words row v source (Ok x) reads comes s
     rw known (told_either place default line r from words (row x) (v x) reads comes same is)
 told_of_either place default line r from words row v source (Err e) reads comes same is known = tt
 
+-- The same as without a limit, unless it may be stopped.
+pub told_unless : {X E : Type 0} (stops : Type 0) (place : List ℕ) (default : ℕ) (line : List ℕ) (r : RecordValue) (from : BoundSource)
+    (words : List ℕ) (row : X → List ℕ) (v : X → Option Verdict) (source : X → Option BoundSource) (result : Result X E)
+    → ReadsClaimed line default r → IsSource line r from → words ≡ claims_text line
+    → IfOk result (λ x. stops ⊎ IsToldBy place r from (said_by line words (words_in words) r (truth (problem_of r))) (row x) (v x))
+    → IfOk result (λ x. source x ≡ Some from) → IfOk result (λ x. stops ⊎ IsTold place default line (row x) (v x) (source x))
+told_unless stops place default line r from words row v source (Ok x) reads comes same (inl may) known = inl may
+told_unless stops place default line r from words row v source (Ok x) reads comes same (inr is) known =
+    inr (rw known (told_record place default line r from words (row x) (v x) reads comes same is))
+told_unless stops place default line r from words row v source (Err e) reads comes same is known = tt
+
 -- ---- how many were not decided
 
 kept_by_source : (from : Option BoundSource) (c : Counts) → (with_source from c).undecided ≡ c.undecided
@@ -102,6 +113,18 @@ pub limited_reply : (prefix place : List ℕ) (default number : ℕ) (line row :
     → IsToldInTime place default line row v from → refusals ≡ refusals_of v → IsLimitedClaim prefix default number line row refusals
 limited_reply prefix place default number line row v from refusals filled at is count =
     rw count (told row v from filled (subst (λ p. IsToldInTime p default line row v from) at is))
+
+unless : (stops : Type 0) (A B : Type 0) → (A → B) → stops ⊎ A → stops ⊎ B
+unless stops A B f (inl may) = inl may
+unless stops A B f (inr a) = inr (f a)
+
+-- What is told of it without a limit is its reply without one.
+pub unstopped_reply : (stops : Type 0) (prefix place : List ℕ) (default number : ℕ) (line row : List ℕ) (v : Option Verdict)
+    (from : Option BoundSource) (refusals : ℕ) → is_blank line ≡ false → place ≡ prefix ++ decimal number
+    → stops ⊎ IsTold place default line row v from → refusals ≡ refusals_of v → stops ⊎ IsClaimReply prefix default number line row refusals
+unstopped_reply stops prefix place default number line row v from refusals filled at is count =
+    unless stops (IsTold place default line row v from) (IsClaimReply prefix default number line row refusals)
+    (λ told. told_reply prefix place default number line row v from refusals filled at told count) is
 
 -- So many records more were not decided.
 pub late_reply : (prefix place : List ℕ) (default number : ℕ) (line row : List ℕ) (v : Option Verdict) (from : Option BoundSource)

@@ -6,3 +6,4 @@ pub mod PlayWords
 pub mod Said
 pub mod ClaimReplies
 pub mod LimitedClaims
+pub mod CountedLines

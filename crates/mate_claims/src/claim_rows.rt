@@ -95,10 +95,14 @@ impl ClaimRows<'_> {
 
 impl LineHandler for ClaimRows<'_> {
     ghost use Rattle.mate_claims.specs.ClaimReplies.{IsClaimReply, skipped};
+    ghost use Rattle.mate_claims.specs.CountedLines.{AreCounted, comes_to, passed};
 
     type Memory = ClaimMemory;
 
     ghost replies = { λ rows. IsClaimReply rows.prefix.now rows.default };
+
+    /// Where nothing is counted before, the counts are those of the lines.
+    ghost knows = { λ rows memory before. AreCounted (comes_to rows.default) before memory.counts };
 
     ghost room = { λ memory. memory.memo.room };
 
@@ -129,7 +133,7 @@ impl LineHandler for ClaimRows<'_> {
 
     ghost unmarked = { λ _ _ _ _. tt };
 
-    ghost passes = { λ _ _ _ _ _ _. tt };
+    ghost passes = { λ rows memory before line is known. passed before line memory.counts is known };
 
     ghost skips_behind = { λ _ _ _ _ _. tt };
 }

@@ -6,7 +6,7 @@ ghost use Rattle.chess_notation.specs.Records.{problem_of};
 ghost use Rattle.chess_problems.specs.declared.outcomes.Outcome.TheVariants.{NoMate};
 ghost use Rattle.mate_search.specs.inside.Truth.{truth};
 ghost use Rattle.mate_answers.specs.LimitedReplies.{IsNoneSoFar};
-ghost use Rattle.mate_claims.specs.ClaimReplies.{IsToldBy};
+ghost use Rattle.mate_claims.specs.ClaimReplies.{IsTold, IsToldBy};
 ghost use Rattle.mate_claims.specs.Counts.{with_one};
 ghost use Rattle.mate_claims.specs.LimitedClaims.{IsToldInTime, IsToldLate, unjudged};
 ghost use Rattle.mate_claims.specs.Said.{said_by};
@@ -80,6 +80,8 @@ impl<T: TimeLimit, S: Solver<T>> LimitedClaims<'_, '_, T, S> {
             (said_by line.now words.now (words_in words.now) «record».now (truth (problem_of «record».now))) told.row.items told.verdict
             ⊎ ((none : ℕ) × IsNoneSoFar «record».now none × IsToldLate place.now «record».now source
             (unjudged (said_by line.now words.now (words_in words.now) «record».now NoMate)) told.row.items told.verdict)) }
+        ensures unstopped { IfOk result (λ told. T.may_stop self.now.limited.now.limit.now ⊎ IsToldBy place.now «record».now source
+            (said_by line.now words.now (words_in words.now) «record».now (truth (problem_of «record».now))) told.row.items told.verdict) }
         ensures source { IfOk result (λ told. told.source ≡ Some source) }
         ensures room { S.room memory.new ≡ S.room memory.old }
     {
@@ -109,6 +111,8 @@ impl<T: TimeLimit, S: Solver<T>> LimitedClaims<'_, '_, T, S> {
     ) -> Result<Told, NoMemory>
         requires { S.ready self.now.limited.now.solver }
         ensures told { IfOk result (λ told. IsToldInTime place.now self.now.limited.now.default line.now told.row.items told.verdict told.source) }
+        ensures unstopped { IfOk result (λ told. T.may_stop self.now.limited.now.limit.now
+            ⊎ IsTold place.now self.now.limited.now.default line.now told.row.items told.verdict told.source) }
         ensures room { S.room memory.new ≡ S.room memory.old }
     {
         let limited = self.limited;
@@ -136,6 +140,8 @@ impl<T: TimeLimit, S: Solver<T>> LimitedClaims<'_, '_, T, S> {
         requires { S.ready self.now.limited.now.solver }
         ensures told { IfOk result (λ told. IsToldInTime (self.now.prefix.now ++ decimal number) self.now.limited.now.default line.now
             told.row.items told.verdict told.source) }
+        ensures unstopped { IfOk result (λ told. T.may_stop self.now.limited.now.limit.now
+            ⊎ IsTold (self.now.prefix.now ++ decimal number) self.now.limited.now.default line.now told.row.items told.verdict told.source) }
         ensures counts { IfOk result (λ told. memory.new.counts ≡ with_one told.verdict told.source memory.old.counts) }
         ensures room { S.room memory.new.memory ≡ S.room memory.old.memory }
     {
@@ -150,6 +156,9 @@ impl<T: TimeLimit, S: Solver<T>> LimitedClaims<'_, '_, T, S> {
 }
 
 impl<T: TimeLimit, S: Solver<T>> LineHandler for LimitedClaims<'_, '_, T, S> {
+    ghost use Rattle.std.proofs.Common.{inr};
+    ghost use Rattle.mate_claims.specs.ClaimReplies.{IsClaimReply, skipped as blank_skipped};
+    ghost use Rattle.mate_claims.specs.CountedLines.{AreCounted, comes_in_time_to, passed};
     ghost use Rattle.mate_claims.specs.LimitedClaims.{IsLateClaim, IsLimitedClaim, skipped, unmarked as none_marked};
 
     type Memory = LimitedClaimMemory<S::Memory>;
@@ -161,6 +170,13 @@ impl<T: TimeLimit, S: Solver<T>> LineHandler for LimitedClaims<'_, '_, T, S> {
     ghost marks = { λ claims. IsLateClaim claims.prefix.now claims.limited.now.default };
 
     ghost tally = { λ memory. memory.counts.undecided };
+
+    /// Where nothing is counted before, the counts are those of the lines.
+    ghost knows = { λ claims memory before. AreCounted (comes_in_time_to claims.limited.now.default) before memory.counts };
+
+    /// Whatever stands before it, a line is answered as without a limit, unless the limit may stop a search at all.
+    ghost follows = { λ claims _ number line text refusals. T.may_stop claims.limited.now.limit.now
+        ⊎ IsClaimReply claims.prefix.now claims.limited.now.default number line text refusals };
 
     ghost room = { λ memory. S.room memory.memory };
 
@@ -191,7 +207,7 @@ impl<T: TimeLimit, S: Solver<T>> LineHandler for LimitedClaims<'_, '_, T, S> {
 
     ghost unmarked = { λ claims number line blank. none_marked blank };
 
-    ghost passes = { λ _ _ _ _ _ _. tt };
+    ghost passes = { λ claims memory before line is known. passed before line memory.counts is known };
 
-    ghost skips_behind = { λ _ _ _ _ _. tt };
+    ghost skips_behind = { λ claims before number line blank. inr (blank_skipped blank) };
 }

@@ -1,5 +1,6 @@
-use Rattle.std.proofs.Common.{ap, ◌∙◌}
+use Rattle.std.proofs.Common.{ap, inr, ◌∙◌}
 use Rattle.mate_claims.specs.Rows.{refused_row}
+use Rattle.mate_claims.proofs.ClaimReplies.{long_reply}
 use Rattle.mate_claims.proofs.UndecidedClaims.{long_limited, long_unmarked}
 use Rattle.mate_claims.proofs.limited_claims.LimitedClaimsLineHandler.refuse_long.Goals as goal
 
@@ -14,3 +15,9 @@ returns-clause-marked g c = λ line filled long.
     long_unmarked c.args.self.now.prefix.now c.as_slice.result.now c.args.self.now.limited.now.default c.args.number line
     c.in_ok-refused_row.field-0.items filled long
     (c.as_slice.ensures.value ∙ c.in_ok-place.ensures) (c.in_ok-refused_row.ensures ∙ ap (refused_row c.as_slice.result.now) c.code.ensures)
+
+pub returns-clause-behind : goal.returns-clause-behind
+returns-clause-behind g c = λ line filled long before.
+    inr (long_reply c.args.self.now.prefix.now c.as_slice.result.now c.args.self.now.limited.now.default c.args.number line
+    c.in_ok-refused_row.field-0.items filled long
+    (c.as_slice.ensures.value ∙ c.in_ok-place.ensures) (c.in_ok-refused_row.ensures ∙ ap (refused_row c.as_slice.result.now) c.code.ensures))
