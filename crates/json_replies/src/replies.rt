@@ -63,6 +63,10 @@ impl<H: LineHandler> LineHandler for JsonReplies<'_, H> {
 
     ghost tally = { λ memory. H.tally memory };
 
+    ghost knows = { λ json. H.knows json.handler.now };
+
+    ghost follows = { λ json before. InJson json.form json.front.now (H.follows json.handler.now before) };
+
     ghost room = { λ memory. H.room memory };
 
     fn answer(
@@ -91,7 +95,7 @@ impl<H: LineHandler> LineHandler for JsonReplies<'_, H> {
 
     ghost unmarked = { λ json number line blank. ([], H.unmarked json.handler.now number line blank, refl) };
 
-    ghost passes = { λ _ _ _ _ _ _. tt };
+    ghost passes = { λ json memory before line is known. H.passes json.handler.now memory before line is known };
 
-    ghost skips_behind = { λ _ _ _ _ _. tt };
+    ghost skips_behind = { λ json before number line blank. ([], H.skips_behind json.handler.now before number line blank, refl) };
 }
