@@ -1,5 +1,5 @@
 -- What `explain` shows.
-use Rattle.std.specs.Prelude.{◌≡◌, ◌++◌, ◌∷◌, Bool, List, [], ℕ, Option, None, Some, true, false, codes, find, flat_map}
+use Rattle.std.specs.Prelude.{◌≡◌, ◌++◌, ◌∷◌, Bool, List, [], ℕ, Option, None, Some, true, false, codes, find, flat_map, map}
 use Rattle.std.specs.Borrow.{Bor}
 use Rattle.std.specs.Char.{is_ascii_whitespace}
 use Rattle.std.specs.List.{slice_split}
@@ -59,6 +59,53 @@ sentence_of (Some e) = sentence e
 abbrev pub code_sentence : List (Bor (List Explanation)) → List ℕ → List ℕ
 code_sentence groups word = sentence_of (explanation_of groups word)
 
+-- the codes of faults and verdicts, group by group
+abbrev pub field_codes : List (List ℕ)
+field_codes = codes "FieldCount" ∷ codes "BadPlacement" ∷ codes "BadSide" ∷ codes "BadCastling" ∷ codes "BadTarget" ∷ codes "BadCounter" ∷ []
+
+abbrev pub men_codes : List (List ℕ)
+men_codes =
+    codes "BadKings" ∷ codes "PawnOnEndRank" ∷ codes "TooManyMen" ∷ codes "RightWithoutMen" ∷ codes "TargetWithoutPawn" ∷
+    codes "OpponentInCheck" ∷ []
+
+abbrev pub move_codes : List (List ℕ)
+move_codes = codes "NoSuchMove" ∷ []
+
+abbrev pub line_codes : List (List ℕ)
+line_codes =
+    codes "TooLong" ∷ codes "NotPrintable" ∷ codes "Fen" ∷ codes "BadOpcode" ∷ codes "BadString" ∷ codes "MissingSemicolon" ∷
+    codes "DoubleOpcode" ∷ []
+
+abbrev pub problem_codes : List (List ℕ)
+problem_codes = codes "BadBound" ∷ codes "BoundTooLarge" ∷ codes "BadAvoid" ∷ codes "NoMemory" ∷ []
+
+abbrev pub verdict_codes : List (List ℕ)
+verdict_codes =
+    codes "TwoLengths" ∷ codes "undecided" ∷ codes "unsolvable" ∷ codes "short" ∷ codes "wrong" ∷ codes "cooked" ∷ codes "unclaimed" ∷
+    codes "sound" ∷ []
+
+abbrev pub step_codes : List (List ℕ)
+step_codes = codes "NoSuchSubmitter" ∷ codes "Closed" ∷ codes "Full" ∷ codes "NotAccepted" ∷ codes "Delivered" ∷ codes "Withdrawn" ∷ []
+
+abbrev pub size_codes : List (List ℕ)
+size_codes = codes "BadSubmitters" ∷ codes "BadRoom" ∷ codes "BadWindows" ∷ codes "NoThread" ∷ codes "NoSuchFault" ∷ codes "TimedOut" ∷ []
+
+abbrev pub import_codes : List (List ℕ)
+import_codes =
+    codes "NoFen" ∷ codes "NoBound" ∷ codes "TwoBounds" ∷ codes "BadStipulation" ∷ codes "FairyCondition" ∷ codes "FairyPiece" ∷
+    codes "UnknownCommand" ∷ []
+
+unfoldable pub known_codes : List (List (List ℕ))
+known_codes = field_codes ∷ men_codes ∷ move_codes ∷ line_codes ∷ problem_codes ∷ verdict_codes ∷ step_codes ∷ size_codes ∷ import_codes ∷ []
+
+-- what these explanations are called
+abbrev pub codes_of : List Explanation → List (List ℕ)
+codes_of explanations = map (λ e. e.code.now) explanations
+
+-- These are the explanations of all codes that there are.
+abbrev pub AreOfKnown : List (Bor (List Explanation)) → Type 0
+AreOfKnown groups = map (λ g. codes_of g.now) groups ≡ known_codes
+
 -- Each is explained, one after the other, with an empty line between each two; where there is none, nothing is, and that is a refusal.
 abbrev pub ExplainsEach : List Explanation → Bool → List ℕ → Type 0
 ExplainsEach [] false text = ⊥
@@ -67,8 +114,9 @@ ExplainsEach (e ∷ more) false text = text ≡ explanation_text e ++ flat_map (
 ExplainsEach (e ∷ more) true text = ⊥
 
 -- Where no reply is given, explanations are listed, a sentence of each. Of replies each word that is a code is explained; and where there
--- is none, they are refused. Which explanations there are is the table's to say, and what they say for a reader to judge.
+-- is none, they are refused. What the explanations of these codes say is for a reader to judge.
 abbrev pub Explains : List (List ℕ) → Bool → List ℕ → Type 0
-Explains [] false text = (groups : List (Bor (List Explanation))) × (text ≡ flat_map (λ g. sentences g.now) groups)
+Explains [] false text = (groups : List (Bor (List Explanation))) × AreOfKnown groups × (text ≡ flat_map (λ g. sentences g.now) groups)
 Explains [] true text = ⊥
-Explains (reply ∷ replies) refused text = (groups : List (Bor (List Explanation))) × ExplainsEach (named_in groups (reply ∷ replies)) refused text
+Explains (reply ∷ replies) refused text =
+    (groups : List (Bor (List Explanation))) × AreOfKnown groups × ExplainsEach (named_in groups (reply ∷ replies)) refused text

@@ -1,5 +1,9 @@
 //! What each fault means: the one table that `explain` tells, in the order of docs/FORMATS.md.
 
+ghost use Rattle.std.specs.Prelude.{◌≡◌};
+ghost use Rattle.fault_explanations.specs.Explained.{AreOfKnown, codes_of, field_codes, men_codes, move_codes, line_codes, problem_codes};
+ghost use Rattle.fault_explanations.specs.Explained.{verdict_codes, step_codes, size_codes, import_codes};
+
 /// A text that has a fault, and the same mended.
 #[derive(Clone, Copy)]
 pub struct Example {
@@ -506,44 +510,65 @@ static IMPORTS: [Explanation; 7] = [
     },
 ];
 
-fn fields() -> &'static [Explanation] {
+fn fields() -> &'static [Explanation]
+    ensures { codes_of result.now ≡ field_codes }
+{
     &FIELDS
 }
 
-fn men() -> &'static [Explanation] {
+fn men() -> &'static [Explanation]
+    ensures { codes_of result.now ≡ men_codes }
+{
     &MEN
 }
 
-fn moves() -> &'static [Explanation] {
+fn moves() -> &'static [Explanation]
+    ensures { codes_of result.now ≡ move_codes }
+{
     &MOVES
 }
 
-fn lines() -> &'static [Explanation] {
+fn lines() -> &'static [Explanation]
+    ensures { codes_of result.now ≡ line_codes }
+{
     &LINES
 }
 
-fn problems() -> &'static [Explanation] {
+fn problems() -> &'static [Explanation]
+    ensures { codes_of result.now ≡ problem_codes }
+{
     &PROBLEMS
 }
 
-fn verdicts() -> &'static [Explanation] {
+fn verdicts() -> &'static [Explanation]
+    ensures { codes_of result.now ≡ verdict_codes }
+{
     &VERDICTS
 }
 
-fn steps() -> &'static [Explanation] {
+fn steps() -> &'static [Explanation]
+    ensures { codes_of result.now ≡ step_codes }
+{
     &STEPS
 }
 
-fn sizes() -> &'static [Explanation] {
+fn sizes() -> &'static [Explanation]
+    ensures { codes_of result.now ≡ size_codes }
+{
     &SIZES
 }
 
-fn imports() -> &'static [Explanation] {
+fn imports() -> &'static [Explanation]
+    ensures { codes_of result.now ≡ import_codes }
+{
     &IMPORTS
 }
 
 /// All of them, group by group, so that no proof has the whole table before it.
-pub(crate) fn all() -> [&'static [Explanation]; 9] {
+#[tactic(auto, unfolding(crate::specs::Explained::known_codes))]
+pub(crate) fn all() -> [&'static [Explanation]; 9]
+    ensures { AreOfKnown result }
+{
     [
         fields(),
         men(),
