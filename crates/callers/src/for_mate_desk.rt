@@ -1,6 +1,7 @@
 //! Callers of `mate_desk`.
 
 ghost use Rattle.std.specs.Prelude.{◌≡◌, IfOk, IfErr};
+ghost use Rattle.mate_jobs.specs.Jobs.{answer_to};
 ghost use Rattle.mate_desk.specs.declared.refusals.DeskFault.TheVariants.{NoMemory};
 
 use chess_moves::Rays;
@@ -17,7 +18,7 @@ pub fn at_a_desk(
     memo: &mut Memo,
     asked: Record,
 ) -> Result<Answer, DeskFault>
-    ensures answered { IfOk result (λ answer. answer ≡ asked) }
+    ensures answered { IfOk result (λ answer. answer ≡ answer_to asked) }
     ensures no_memory { IfErr result (λ fault. fault ≡ NoMemory) }
 {
     let mut desk = Desk::new(alloc, 1, 1, 0)?;

@@ -3,6 +3,7 @@ use Rattle.std.proofs.Common.{◌≡◌, ℕ, List, [], ◌∷◌, ◌++◌, Vec
 use Rattle.std.proofs.lemmas.List.{map-append}
 use Rattle.chess_notation.specs.Records.{RecordValue}
 use Rattle.mate_answers.specs.InputReplies.{answer_line}
+use Rattle.mate_jobs.specs.Jobs.{AnswerValue}
 use Rattle.mate_jobs.specs.declared.deliveries.Delivery.TheVariants.{Answer}
 use Rattle.room_ends.specs.Letters.{records}
 use Rattle.desk_room.specs.Deliveries.{asked}
@@ -38,11 +39,11 @@ pub moved : (default other : ℕ) (lines : List (List ℕ)) (sent posted got had
     → Progress default lines sent got text pending refused → Progress other lines posted had all after many
 moved default other lines sent posted got had text all pending after refused many a b c d e f progress = rw (a, b, c, d, e, f) progress
 
-pub collects_one : (c d : Submitter) (r : RecordValue) (replies : Vec ℕ Global)
-    → SameWindow c.window d.window → letters_sent d.window ≡ letters_sent c.window → collected d.window ≡ collected c.window ++ Answer r ∷ []
+pub collects_one : (c d : Submitter) (a : AnswerValue) (replies : Vec ℕ Global)
+    → SameWindow c.window d.window → letters_sent d.window ≡ letters_sent c.window → collected d.window ≡ collected c.window ++ Answer a ∷ []
     → c.pending_replies.items ≡ replies ∷ d.pending_replies.items
-    → d.text.items ≡ c.text.items ++ (answer_line r ++ replies.items) → d.refused ≡ c.refused → Collects c d
-collects_one c d r replies window sent got is text refused = record {
+    → d.text.items ≡ c.text.items ++ (answer_line a.asked ++ replies.items) → d.refused ≡ c.refused → Collects c d
+collects_one c d a replies window sent got is text refused = record {
   window = window;
   refused = refused;
   handled = λ lines old.
@@ -52,12 +53,12 @@ collects_one c d r replies window sent got is text refused = record {
       subst (λ l. Progress (default_of c.window) lines (records (letters_sent c.window))
       (map asked (collected c.window)) c.text.items l c.refused) (ap items is) old in
       moved (default_of c.window) (default_of d.window) lines (records (letters_sent c.window)) (records (letters_sent d.window))
-      (map asked (collected c.window) ++ r ∷ [])
-      (map asked (collected d.window)) (c.text.items ++ (answer_line r ++ replies.items)) d.text.items
+      (map asked (collected c.window) ++ a.asked ∷ [])
+      (map asked (collected d.window)) (c.text.items ++ (answer_line a.asked ++ replies.items)) d.text.items
       (items d.pending_replies.items) (items d.pending_replies.items) c.refused d.refused
-      window.3 (ap records sent) (ap (map asked) got ∙ map-append asked (collected c.window) (Answer r ∷ [])) text refl refused
+      window.3 (ap records sent) (ap (map asked) got ∙ map-append asked (collected c.window) (Answer a ∷ [])) text refl refused
       (progress_answer (default_of c.window) c.refused lines (records (letters_sent c.window))
-      (map asked (collected c.window)) r c.text.items replies.items (items d.pending_replies.items) before);
+      (map asked (collected c.window)) a.asked c.text.items replies.items (items d.pending_replies.items) before);
 }
 
 -- Nothing went by the window.

@@ -3,7 +3,7 @@ use Rattle.std.proofs.Common.{◌≡◌, ◌<◌, inl, inr, ⊎_elim, true≢fal
 use Rattle.std.proofs.Common.{not, ◌||◌, nat_lt, if◌then◌else◌, List, [], ◌∷◌, ◌++◌, length, map, get_or}
 use Rattle.std.proofs.Common.{drop, Some, refl, sym, ap, ◌∙◌, subst, arith, append_assoc}
 use Rattle.std.specs.List.{list_any}
-use Rattle.mate_jobs.specs.Jobs.{Task}
+use Rattle.mate_jobs.specs.Jobs.{Task, answer_to}
 use Rattle.chess_notation.specs.Records.{RecordValue}
 use Rattle.mate_desk.specs.Content.{QueueValue, EntryValue, Phase, Waiting, Out, Finished, is_out, is_finished, has_task, waits_as, is_out_with}
 use Rattle.mate_desk.specs.Calls.{change_at, into_phase, with_entry, withdrawn, withdrawn_at, ready_first}
@@ -144,7 +144,7 @@ by_letters n ds js (Gives m d ∷ es) s t a r g = absurd (true≢false (sym a.0)
 
 -- What is given as an answer was finished.
 answer_of : (p : Phase) (w : Bool) (t : ℕ) (r : RecordValue) (d : Delivery) → (if w then not (is_out p) else is_finished p) ≡ true
-    → (if w then Notice t r else Answer r) ≡ d → is_answer d ≡ true → is_finished p ≡ true
+    → (if w then Notice t r else Answer (answer_to r)) ≡ d → is_answer d ≡ true → is_finished p ≡ true
 answer_of Waiting true t r d e g a = absurd (true≢false (sym a ∙ ap is_answer (sym g)))
 answer_of Waiting false t r d e g a = absurd (cc)
 answer_of Out true t r d e g a = absurd (cc)

@@ -8,6 +8,7 @@ use Rattle.mate_desk.specs.Calls.{withdraw_refusal_of, withdraw_refusal_by, read
 use Rattle.mate_desk.specs.Deliveries.{delivery, delivery_of}
 use Rattle.mate_desk.specs.declared.refusals.WithdrawRefusal.TheVariants as refusal
 use Rattle.mate_jobs.specs.declared.deliveries.Delivery.{Delivery}
+use Rattle.mate_jobs.specs.Jobs.{answer_to}
 use Rattle.mate_jobs.specs.declared.deliveries.Delivery.TheVariants.{Answer, Notice}
 use Rattle.room_ends.specs.Letters.{records, farewells}
 use Rattle.desk_room.specs.Events.{RoomLists, Event, Takes, Gives, Orders, Hears, May, after, one_more, one_if, tally, is_heard, is_taken}
@@ -115,7 +116,7 @@ notices_append (x ∷ xs) ys = omega (arith, notices_append xs ys)
 notice_is : (d : Delivery) (i : EntryValue) → delivery_of i ≡ d → one_if (is_withdrawn i) ≡ notices (d ∷ [])
 notice_is d i h = own i.withdrawn ∙ ap (λ x. notices (x ∷ [])) h
   where
-    own : (w : Bool) → one_if w ≡ notices ((if w then Notice i.ticket i.asked else Answer i.asked) ∷ [])
+    own : (w : Bool) → one_if w ≡ notices ((if w then Notice i.ticket i.asked else Answer (answer_to i.asked)) ∷ [])
     own true = refl
     own false = refl
 

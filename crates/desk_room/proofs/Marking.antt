@@ -9,6 +9,7 @@ use Rattle.mate_desk.specs.Content.{QueueValue, EntryValue, Phase, Waiting}
 use Rattle.mate_desk.specs.Calls.{change_at, in_queue, into_phase, with_entry, withdrawn, withdrawn_at, ready_first}
 use Rattle.mate_desk.specs.Deliveries.{delivery, delivery_of}
 use Rattle.mate_jobs.specs.declared.deliveries.Delivery.{Delivery}
+use Rattle.mate_jobs.specs.Jobs.{answer_to}
 use Rattle.mate_jobs.specs.declared.deliveries.Delivery.TheVariants.{Answer, Notice}
 use Rattle.desk_room.specs.Deliveries.{is_answer}
 use Rattle.desk_room.specs.Withdrawals.{mark, marks_onto, marks, are_notices_marked}
@@ -190,7 +191,7 @@ notices_last (c ∷ ds) d (x ∷ ms) m rest e f g = let y = and_both (is_answer 
 fair : (d : Delivery) (i : EntryValue) → delivery_of i ≡ d → (is_answer d || i.withdrawn) ≡ true
 fair d i h = ap (λ x. is_answer x || i.withdrawn) (sym h) ∙ own i.withdrawn
   where
-    own : (w : Bool) → (is_answer (if w then Notice i.ticket i.asked else Answer i.asked) || w) ≡ true
+    own : (w : Bool) → (is_answer (if w then Notice i.ticket i.asked else Answer (answer_to i.asked)) || w) ≡ true
     own true = refl
     own false = refl
 

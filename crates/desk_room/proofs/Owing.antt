@@ -6,6 +6,7 @@ use Rattle.mate_desk.specs.Content.{QueueValue, EntryValue, Phase}
 use Rattle.mate_desk.specs.Calls.{change_at, in_queue, into_phase, with_entry, withdrawn, withdrawn_at, ready_first}
 use Rattle.mate_desk.specs.Deliveries.{delivery, delivery_of}
 use Rattle.mate_jobs.specs.declared.deliveries.Delivery.{Delivery}
+use Rattle.mate_jobs.specs.Jobs.{answer_to}
 use Rattle.mate_jobs.specs.declared.deliveries.Delivery.TheVariants.{Answer, Notice}
 use Rattle.room_ends.specs.Letters.{records}
 use Rattle.desk_room.specs.Deliveries.{asked}
@@ -86,7 +87,7 @@ owed_take n Farewell s k =
     (λ t p q h e. records_append t (Farewell ∷ []) ∙ (nil_append (records t) ∙ e)) k))
 
 asked_of_delivery : (e : EntryValue) → asked (delivery_of e) ≡ e.asked
-asked_of_delivery e = (elim e.withdrawn as (λ b. asked (if b then Notice e.ticket e.asked else Answer e.asked)
+asked_of_delivery e = (elim e.withdrawn as (λ b. asked (if b then Notice e.ticket e.asked else Answer (answer_to e.asked))
     ≡ e.asked) [ true ↦ refl | false ↦ refl ])
 
 asked_first : (d : Delivery) (es : List EntryValue) → delivery (ready_first es) ≡ Some d → map asked_of es ≡ asked d ∷ map asked_of (drop 1 es)

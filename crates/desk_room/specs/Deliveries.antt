@@ -6,9 +6,9 @@ use Rattle.mate_jobs.specs.declared.deliveries.Delivery.TheVariants.{Answer, Not
 
 -- the record that it is for: the one that was answered, or that the notice names
 abbrev pub asked : Delivery → RecordValue
-asked (Answer r) = r
+asked (Answer answer) = answer.asked
 asked (Notice t r) = r
 
 abbrev pub is_answer : Delivery → Bool
-is_answer (Answer r) = true
+is_answer (Answer answer) = true
 is_answer (Notice t r) = false

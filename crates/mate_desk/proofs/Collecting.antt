@@ -3,7 +3,7 @@ use Rattle.std.proofs.Common.{◌≡◌, ℕ, zero, suc, ◌+◌, ◌<◌, ◌�
 use Rattle.std.proofs.Common.{false, ap, refl, sym, ◌∙◌, subst, arith, None, Some, Option, nat_lt, if◌then◌else◌, ◌==◌}
 use Rattle.std.proofs.lemmas.Bool.Decides.{nat_tests}
 use Rattle.chess_notation.specs.Records.{RecordValue, Reads}
-use Rattle.mate_jobs.specs.Jobs.{Task}
+use Rattle.mate_jobs.specs.Jobs.{Task, answer_to}
 use Rattle.mate_desk.specs.Content.{Content, EntryValue, QueueValue, Phase, Waiting, Out, Finished, is_ready}
 use Rattle.mate_desk.specs.Calls.{change_at, ready_first, ready_of, ready, collected, after_collect}
 use Rattle.mate_desk.specs.Deliveries.{delivery}
@@ -82,20 +82,20 @@ gives_answer : (asks : ℕ → RecordValue) (n room default : ℕ) (h : History)
     (claim : Claim) → MirrorsBy asks n room default h c jobs → slice_get (accepted h s) (length (delivered h s)) ≡ Some claim
     → withdrawn h s (length (delivered h s)) ≡ false
     → is_ready (entry_at asks (phase h) (withdrawn h s) (length (delivered h s)) claim) ≡ true
-    → IsReplyTo n room default h (step.Collect s) (reply.Answer (asks claim.ticket))
-    → MirrorsBy asks n room default (record { step = step.Collect s; reply = reply.Answer (asks claim.ticket) } ∷ h) (after_collect c s) jobs
+    → IsReplyTo n room default h (step.Collect s) (reply.Answer (answer_to (asks claim.ticket)))
+    → MirrorsBy asks n room default (record { step = step.Collect s; reply = reply.Answer (answer_to (asks claim.ticket)) } ∷ h) (after_collect c s) jobs
 gives_answer asks n room default h c jobs s claim m at w ready f =
     let reads : Reads claim.line default (asks claim.ticket) =
     read_at default asks (accepted h s) (length (delivered h s)) claim (m.sound s).read at in
     record {
-      queues = ap (change_at s collected) m.queues ∙ queues_delivered asks room h s n (Answered (asks claim.ticket)) claim at ready;
+      queues = ap (change_at s collected) m.queues ∙ queues_delivered asks room h s n (Answered (answer_to (asks claim.ticket))) claim at ready;
       next = m.next;
       shut = m.shut;
       nobody = m.nobody;
       tickets = m.tickets;
       apart = m.apart;
-      sound = sound_one asks room default h s (Answered (asks claim.ticket)) claim m.sound at ready reads (sym w);
-      fixed = and_fixed n room default h (step.Collect s) (reply.Answer (asks claim.ticket)) f m.fixed;
+      sound = sound_one asks room default h s (Answered (answer_to (asks claim.ticket))) claim m.sound at ready reads (sym w);
+      fixed = and_fixed n room default h (step.Collect s) (reply.Answer (answer_to (asks claim.ticket))) f m.fixed;
       out = out_after c s jobs m.out;
     }
 
@@ -173,7 +173,7 @@ by_phase asks n room default h c jobs s claim m inside at b p w v = by_cases b p
     by_cases false Finished w v =
         let reads : Reads claim.line default (asks claim.ticket) = read_at default asks (accepted h s) d claim (m.sound s).read at in
         gives_answer asks n room default h c jobs s claim m at w (ready_then false Finished w v refl)
-        (owed (reply.Answer (asks claim.ticket)) false Finished w v (asks claim.ticket, reads, refl))
+        (owed (reply.Answer (answer_to (asks claim.ticket))) false Finished w v (asks claim.ticket, reads, refl))
 
 by_claim : (asks : ℕ → RecordValue) (n room default : ℕ) (h : History) (c : Content) (jobs : List Task) (s : ℕ) → MirrorsBy asks n
     room default h c jobs → s < n → (o : Option Claim) → slice_get (accepted h s) (length (delivered h s)) ≡ o

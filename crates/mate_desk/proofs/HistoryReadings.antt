@@ -122,7 +122,7 @@ claims_added s e h claim a = ap (λ (e : Event). accepted (e ∷ h) s) a.1
 
 -- what adds to the deliveries of a submitter
 abbrev pub AddsParcel : ℕ → Event → Parcel → Type 0
-AddsParcel s e (Answered asked) = e ≡ record { step = step.Collect s; reply = reply.Answer asked }
+AddsParcel s e (Answered answer) = e ≡ record { step = step.Collect s; reply = reply.Answer answer }
 AddsParcel s e (Noticed t) = e ≡ record { step = step.Collect s; reply = reply.Notice t }
 
 parcels_by : (s n : ℕ) (r : Reply) (parcel : Parcel) (parcels : List Parcel)
@@ -140,8 +140,8 @@ parcels_by s n r parcel parcels adds = (elim (s == n) as (λ b. (s == n) ≡ b
 parcels_grow_by : (s : ℕ) (st : Step) (r : Reply) (parcels : List Parcel)
     → (and_got st r s parcels ≡ parcels) ⊎ ((parcel : Parcel) × AddsParcel s (record { step = st; reply = r }) parcel
     × (and_got st r s parcels ≡ parcels ++ parcel ∷ []))
-parcels_grow_by s (step.Collect n) (reply.Answer asked) parcels = parcels_by s n (reply.Answer asked) (Answered asked) parcels
-    (λ q. ap (λ n. record { step = step.Collect n; reply = reply.Answer asked }) q)
+parcels_grow_by s (step.Collect n) (reply.Answer answer) parcels = parcels_by s n (reply.Answer answer) (Answered answer) parcels
+    (λ q. ap (λ n. record { step = step.Collect n; reply = reply.Answer answer }) q)
 parcels_grow_by s (step.Collect n) (reply.Notice t) parcels = parcels_by s n (reply.Notice t) (Noticed t) parcels
     (λ q. ap (λ n. record { step = step.Collect n; reply = reply.Notice t }) q)
 parcels_grow_by s (step.Collect n) (reply.Ticket t) parcels = inl refl
@@ -170,5 +170,5 @@ pub parcels_grow : (s : ℕ) → Grows (λ h. delivered h s) (AddsParcel s)
 parcels_grow s e h = parcels_grow_by s e.step e.reply (delivered h s)
 
 pub parcels_added : (s : ℕ) (e : Event) (h : History) (parcel : Parcel) → AddsParcel s e parcel → delivered (e ∷ h) s ≡ delivered h s ++ parcel ∷ []
-parcels_added s e h (Answered asked) is = ap (λ (e : Event). delivered (e ∷ h) s) is ∙ (rw (same s) refl)
+parcels_added s e h (Answered answer) is = ap (λ (e : Event). delivered (e ∷ h) s) is ∙ (rw (same s) refl)
 parcels_added s e h (Noticed t) is = ap (λ (e : Event). delivered (e ∷ h) s) is ∙ (rw (same s) refl)

@@ -26,6 +26,7 @@ pub mod Finishing
 pub mod Placing
 pub mod JobOrder
 pub mod Promises
+pub mod RightReplies
 pub mod Beginnings
 pub mod HistoryReadings
 pub mod EventReadings

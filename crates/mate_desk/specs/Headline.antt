@@ -4,7 +4,7 @@ use Rattle.chess_board.specs.Moves.{Move}
 use Rattle.chess_problems.specs.declared.outcomes.Outcome.{Outcome}
 use Rattle.chess_notation.specs.Records.{RecordValue, Reads, problem_of}
 use Rattle.mate_search.specs.Laws.{AreFirstMoves, IsTold}
-use Rattle.mate_search.specs.inside.Truth.{truth}
+use Rattle.mate_jobs.specs.Jobs.{AnswerValue}
 use Rattle.mate_desk.specs.declared.steps_and_replies.Step.{Step}
 use Rattle.mate_desk.specs.declared.steps_and_replies.Reply.{Reply}
 use Rattle.mate_desk.specs.declared.steps_and_replies.Reply.TheVariants.{Answer}
@@ -13,7 +13,7 @@ use Rattle.mate_desk.specs.Replies.{drained}
 
 -- The answer to this record, or the notice of its ticket.
 abbrev pub IsFor : ℕ → Claim → Parcel → Type 0
-IsFor default claim (Answered asked) = Reads claim.line default asked
+IsFor default claim (Answered answer) = Reads claim.line default answer.asked
 IsFor default claim (Noticed t) = t ≡ claim.ticket
 
 -- They are for the first of these records, in order and each once.
@@ -49,15 +49,15 @@ AfterEachPrefix P steps replies = (k : ℕ) → P (past (take k steps) (take k r
 unfoldable pub IsTrueOf : RecordValue → Outcome → Type 0
 IsTrueOf asked outcome = (first : List Move) × AreFirstMoves (problem_of asked) first × IsTold first asked.position asked.bound outcome
 
--- Each answer among the replies, as it prints, is true of the record that was asked.
+-- What each answer among the replies tells is true of the record that was asked.
 abbrev pub AnswersAreTrue : List Reply → Type 0
-AnswersAreTrue replies = (asked : RecordValue) → Contains replies (Answer asked) → IsTrueOf asked (truth (problem_of asked))
+AnswersAreTrue replies = (answer : AnswerValue) → Contains replies (Answer answer) → IsTrueOf answer.asked answer.outcome
 
--- The reply is an answer, and this outcome is true of the record that was asked.
+-- The reply is an answer that tells this outcome, and it is true of the record that was asked.
 abbrev pub AnswersTruly : Reply → Outcome → Type 0
-AnswersTruly (Answer asked) outcome = IsTrueOf asked outcome
+AnswersTruly (Answer answer) outcome = (outcome ≡ answer.outcome) × IsTrueOf answer.asked outcome
 AnswersTruly _ outcome = ⊥
 
 abbrev pub is_answer : Reply → Bool
-is_answer (Answer asked) = true
+is_answer (Answer answer) = true
 is_answer _ = false

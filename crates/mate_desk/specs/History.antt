@@ -1,6 +1,6 @@
 -- What happened at a desk: the steps that were made, and the reply to each. All else is read out of these (own to this project).
 use Rattle.std.specs.Prelude.{ℕ, ◌+◌, ◌-◌, ◌==◌, Bool, true, false, not, ◌&&◌, ◌||◌, if◌then◌else◌, List, [], ◌∷◌, ◌++◌, length, filter}
-use Rattle.chess_notation.specs.Records.{RecordValue}
+use Rattle.mate_jobs.specs.Jobs.{AnswerValue}
 use Rattle.mate_desk.specs.Content.{Phase, Waiting, Out, Finished}
 use Rattle.mate_desk.specs.declared.steps_and_replies.Step.{Step}
 use Rattle.mate_desk.specs.declared.steps_and_replies.Step.TheVariants.{Submit, Collect, Withdraw, Close}
@@ -40,15 +40,15 @@ accepted (e ∷ h) s = and_claimed e.step e.reply s (accepted h s)
 
 -- what a submitter got: the answer to a record, or the notice of a ticket
 pub data Parcel : Type 0 where
-  Answered : RecordValue → Parcel
+  Answered : AnswerValue → Parcel
   Noticed : ℕ → Parcel
 
 abbrev pub is_notice : Parcel → Bool
-is_notice (Answered asked) = false
+is_notice (Answered answer) = false
 is_notice (Noticed t) = true
 
 abbrev pub and_got : Step → Reply → ℕ → List Parcel → List Parcel
-and_got (Collect n) (reply.Answer asked) s parcels = if s == n then parcels ++ Answered asked ∷ [] else parcels
+and_got (Collect n) (reply.Answer answer) s parcels = if s == n then parcels ++ Answered answer ∷ [] else parcels
 and_got (Collect n) (reply.Notice t) s parcels = if s == n then parcels ++ Noticed t ∷ [] else parcels
 and_got _ _ s parcels = parcels
 

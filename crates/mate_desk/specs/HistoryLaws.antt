@@ -2,7 +2,7 @@
 use Rattle.std.specs.Prelude.{◌≡◌, ◌↔◌, ℕ, Vec, true, false, ◌∷◌, ◌++◌, length, count_by, slice_get, Some, Bool, ◌==◌}
 use Rattle.std.specs.List.{list_any}
 use Rattle.std.specs.declared.alloc.Global.{Global}
-use Rattle.chess_notation.specs.Records.{RecordValue}
+use Rattle.mate_jobs.specs.Jobs.{AnswerValue}
 use Rattle.mate_desk.specs.Content.{Out, Finished}
 use Rattle.mate_desk.specs.declared.steps_and_replies.Step.{Step}
 use Rattle.mate_desk.specs.declared.steps_and_replies.Step.TheVariants as step
@@ -25,8 +25,8 @@ AcceptedReads = (h : History) (s k : ℕ) (claim : Claim) → (slice_get (accept
 -- The k-th thing that a submitter got is the answer, or the notice, in the reply to the step in which it collected when it had got k.
 abbrev pub DeliveredReads : Type 0
 DeliveredReads = (h : History) (s k : ℕ)
-    → ((asked : RecordValue) → (slice_get (delivered h s) k ≡ Some (Answered asked)) ↔
-    ((before : History) × WasMade h (step.Collect s) (reply.Answer asked) before × (length (delivered before s) ≡ k)))
+    → ((answer : AnswerValue) → (slice_get (delivered h s) k ≡ Some (Answered answer)) ↔
+    ((before : History) × WasMade h (step.Collect s) (reply.Answer answer) before × (length (delivered before s) ≡ k)))
     × ((t : ℕ) → (slice_get (delivered h s) k ≡ Some (Noticed t)) ↔
     ((before : History) × WasMade h (step.Collect s) (reply.Notice t) before × (length (delivered before s) ≡ k)))
 

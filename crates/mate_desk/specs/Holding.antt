@@ -2,6 +2,7 @@
 use Rattle.std.specs.Prelude.{List, [], ◌∷◌, None, false}
 use Rattle.chess_board.specs.declared.men.Colour.TheVariants.{White}
 use Rattle.chess_notation.specs.Records.{RecordValue}
+use Rattle.mate_jobs.specs.Jobs.{AnswerValue, answer_to}
 
 -- No place of a held answer is empty, so this is asked of none.
 abbrev pub nothing : RecordValue
@@ -23,6 +24,6 @@ nothing = record {
 }
 
 -- the one that stands there
-abbrev pub the_one : List RecordValue → RecordValue
-the_one [] = nothing
-the_one (asked ∷ more) = asked
+abbrev pub the_one : List AnswerValue → AnswerValue
+the_one [] = answer_to nothing
+the_one (answer ∷ more) = answer

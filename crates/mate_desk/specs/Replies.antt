@@ -6,6 +6,7 @@ use Rattle.chess_notation.specs.Records.{RecordValue, Reads}
 use Rattle.chess_notation.specs.EpdFaults.{IsFaultOf}
 use Rattle.chess_notation.specs.declared.epd_faults.EpdFault.{EpdFault}
 use Rattle.chess_notation.specs.declared.epd_faults.EpdFault.TheVariants.{NoMemory}
+use Rattle.mate_jobs.specs.Jobs.{answer_to}
 use Rattle.mate_desk.specs.Content.{Phase, Waiting, Out, Finished, is_waiting, lower}
 use Rattle.mate_desk.specs.declared.refusals.SubmitRefusal.TheVariants as submit
 use Rattle.mate_desk.specs.declared.refusals.WithdrawRefusal.TheVariants as withdraw
@@ -75,7 +76,7 @@ IsOwed default true Out claim r = r ≡ reply.Empty
 IsOwed default true Finished claim r = r ≡ reply.Notice claim.ticket
 IsOwed default false Waiting claim r = r ≡ reply.Empty
 IsOwed default false Out claim r = r ≡ reply.Empty
-IsOwed default false Finished claim r = (asked : RecordValue) × Reads claim.line default asked × (r ≡ reply.Answer asked)
+IsOwed default false Finished claim r = (asked : RecordValue) × Reads claim.line default asked × (r ≡ reply.Answer (answer_to asked))
 
 -- where it has one at all
 abbrev pub IsFirstOwed : ℕ → History → ℕ → Option Claim → Reply → Type 0

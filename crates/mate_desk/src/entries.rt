@@ -5,6 +5,7 @@ ghost use Rattle.chess_notation.specs.Records.{problem_of};
 ghost use Rattle.mate_desk.specs.Content.{waits, is_ready, is_finished, is_out_with, has_task, Waiting as waiting, Out as out, Finished as finished};
 ghost use Rattle.mate_desk.specs.Calls.{withdrawn as withdrawn_entry};
 ghost use Rattle.mate_desk.specs.inside.Keeping.{task_of};
+ghost use Rattle.mate_jobs.specs.Jobs.{answer_to};
 ghost use Rattle.mate_jobs.specs.declared.deliveries.Delivery.TheVariants.{Answer, Notice};
 
 use chess_notation::Record;
@@ -168,7 +169,7 @@ impl Entry {
     /// The answer to it, of what was solved.
     pub(crate) fn into_answer(self, done: Done) -> Delivery
         requires { problem_of self.asked ≡ done.problem }
-        ensures { result ≡ Answer self.asked }
+        ensures { result ≡ Answer (answer_to self.asked) }
     {
         Delivery::Answer(done.into_answer(self.asked))
     }

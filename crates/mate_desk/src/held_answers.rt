@@ -15,10 +15,10 @@ pub struct HeldAnswer {
 
 impl Model for HeldAnswer {
     ghost use Rattle.std.specs.Prelude.{◌≡◌, length};
-    ghost use Rattle.chess_notation.specs.Records.{RecordValue};
+    ghost use Rattle.mate_jobs.specs.Jobs.{AnswerValue};
     ghost use Rattle.mate_desk.specs.Holding.{the_one};
 
-    ghost Value = { RecordValue };
+    ghost Value = { AnswerValue };
 
     ghost view = { λ h. the_one h.place.items };
 

@@ -4,6 +4,7 @@ ghost use Rattle.std.specs.Prelude.{◌≡◌, ◌≤◌, IfOk, string_bytes};
 ghost use Rattle.chess_notation.specs.Answers.{answer_text as answer_text_of};
 ghost use Rattle.mate_search.specs.inside.Truth.{truth};
 ghost use Rattle.chess_notation.specs.Records.{problem_of};
+ghost use Rattle.mate_jobs.specs.Jobs.{answer_to};
 
 use crate::tickets::Ticket;
 use chess_moves::Rays;
@@ -111,7 +112,7 @@ impl Done {
     /// The answer to a record that asked this problem.
     pub fn into_answer(self, asked: Record) -> Answer
         requires { problem_of asked ≡ self.problem }
-        ensures { result ≡ asked }
+        ensures { result ≡ answer_to asked }
     {
         Answer {
             asked,
@@ -120,8 +121,7 @@ impl Done {
     }
 }
 
-/// A record with its outcome. Its type keeps that the outcome is the right one of the problem that the record asks, so
-/// contracts see the record alone.
+/// A record with its outcome. Its type keeps that the outcome is the right one of the problem that the record asks.
 #[derive(Drop)]
 pub struct Answer {
     asked: Record,
@@ -130,12 +130,13 @@ pub struct Answer {
 
 impl Model for Answer {
     ghost use Rattle.std.specs.Prelude.{◌≡◌};
-    ghost use Rattle.chess_notation.specs.Records.{RecordValue, problem_of};
+    ghost use Rattle.chess_notation.specs.Records.{problem_of};
+    ghost use Rattle.mate_jobs.specs.Jobs.{AnswerValue};
     ghost use Rattle.mate_search.specs.inside.Truth.{truth};
 
-    ghost Value = { RecordValue };
+    ghost Value = { AnswerValue };
 
-    ghost view = { λ a. a.asked };
+    ghost view = { λ a. record { asked = a.asked; outcome = a.outcome } };
 
     ghost invariant = { λ a. a.outcome ≡ truth (problem_of a.asked) };
 }
@@ -143,21 +144,22 @@ impl Model for Answer {
 impl Answer {
     /// The record that was asked.
     pub fn asked(&self) -> &Record
-        ensures { result.now ≡ self.now }
+        ensures { result.now ≡ self.now.asked }
     {
         &self.asked
     }
 
     /// The outcome that is right for the record's problem.
     pub fn outcome(&self) -> &Outcome
-        ensures { result.now ≡ truth (problem_of self.now) }
+        ensures told { result.now ≡ self.now.outcome }
+        ensures right { result.now ≡ truth (problem_of self.now.asked) }
     {
         &self.outcome
     }
 
     /// The record and its outcome as a line of EPD. Only a growth that is refused is an error.
     pub fn text(&self, alloc: Global, rays: &Rays) -> Result<String, NoMemory>
-        ensures { IfOk result (λ text. string_bytes text ≡ answer_text_of self.now (truth (problem_of self.now))) }
+        ensures { IfOk result (λ text. string_bytes text ≡ answer_text_of self.now.asked (truth (problem_of self.now.asked))) }
     {
         // That the outcome's moves can be played is this law.
         truth_playable();

@@ -35,7 +35,7 @@ fn write_answer(
     replies: &[u8],
     text: &mut Vec<u8>,
 ) -> Result<(), StopReason>
-    ensures { IfOk result (λ _. text.new.items ≡ text.old.items ++ (answer_line answer.now ++ replies.now)) }
+    ensures { IfOk result (λ _. text.new.items ≡ text.old.items ++ (answer_line answer.now.asked ++ replies.now)) }
 {
     let answered = answer.text(alloc, rays)?;
     text.extend_from_slice(answered.as_bytes())?;

@@ -9,7 +9,7 @@ use Rattle.mate_desk.specs.declared.steps_and_replies.Reply.{Reply}
 use Rattle.mate_desk.specs.declared.steps_and_replies.Reply.TheVariants as reply
 
 abbrev pub delivery_reply : Delivery → Reply
-delivery_reply (delivery.Answer asked) = reply.Answer asked
+delivery_reply (delivery.Answer answer) = reply.Answer answer
 delivery_reply (delivery.Notice t asked) = reply.Notice t
 
 abbrev pub found_reply : Option Delivery → Reply
@@ -26,7 +26,7 @@ finishes _ = false
 
 -- how many answers a reply is
 abbrev pub answers : Reply → ℕ
-answers (reply.Answer asked) = 1
+answers (reply.Answer answer) = 1
 answers _ = 0
 
 abbrev pub is_done : EntryValue → Bool

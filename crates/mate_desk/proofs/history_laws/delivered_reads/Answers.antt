@@ -7,11 +7,11 @@ use Rattle.mate_desk.proofs.history_laws.delivered_reads.Goals as goal
 
 pub returns : goal.returns
 returns c h s k = (
-  λ asked. (
-    λ g. (let a = find_added (λ h. delivered h s) (AddsParcel s) refl (parcels_grow s) h k (Answered asked) g in
+  λ answer. (
+    λ g. (let a = find_added (λ h. delivered h s) (AddsParcel s) refl (parcels_grow s) h k (Answered answer) g in
         (a.2, (a.0, a.3 ∙ ap (λ e. a.0 ++ e ∷ a.2) a.4), a.5)),
-    λ a. read_added (λ h. delivered h s) (AddsParcel s) (parcels_grow s) (parcels_added s) h k (Answered asked)
-        (a.1.0, record { step = step.Collect s; reply = reply.Answer asked }, a.0, a.1.1, refl, a.2),
+    λ a. read_added (λ h. delivered h s) (AddsParcel s) (parcels_grow s) (parcels_added s) h k (Answered answer)
+        (a.1.0, record { step = step.Collect s; reply = reply.Answer answer }, a.0, a.1.1, refl, a.2),
   ),
   λ t. (
     λ g. (let a = find_added (λ h. delivered h s) (AddsParcel s) refl (parcels_grow s) h k (Noticed t) g in

@@ -3,7 +3,7 @@ use Rattle.std.proofs.Common.{get_or, ℕ, length-append, vec_len, true, false, 
 use Rattle.std.proofs.Math.Nat.{min-eq_left, min-eq_right}
 use Rattle.std.proofs.lemmas.Bool.Decides.{nat_tests}
 use Rattle.std.proofs.lemmas.List.{take_all}
-use Rattle.mate_jobs.specs.Jobs.{Task}
+use Rattle.mate_jobs.specs.Jobs.{AnswerValue, Task, answer_to}
 use Rattle.mate_desk.specs.Content.{Content}
 use Rattle.mate_desk.specs.declared.steps_and_replies.Step.{Step}
 use Rattle.mate_desk.specs.History.{past, History}
@@ -13,6 +13,7 @@ use Rattle.mate_desk.specs.Headline.{DeliversInOrder, GivesNoticeOfWithdrawn, De
 use Rattle.mate_desk.specs.inside.Mirrors.{MirrorsBy, Mirrors, AtEachMoment}
 use Rattle.mate_desk.proofs.Promises.{in_order, notices, all_delivered, none_after_close, first_moment, and_moment, prefix_has}
 use Rattle.mate_desk.proofs.Beginnings.{start, past_more, hand_fits}
+use Rattle.mate_desk.proofs.RightReplies.{right_answers}
 use Rattle.mate_desk.specs.Holding.{nothing}
 use Rattle.mate_desk.specs.inside.Stepping.{collects, finishes, count_done, answers}
 use Rattle.mate_desk.proofs.Placing.{none_done, place_there, places_left}
@@ -151,4 +152,9 @@ returns-clause-all_once_drained c =
 
 pub returns-clause-true_answers : goal.returns-clause-true_answers
 unfolding IsTrueOf
-returns-clause-true_answers c = λ asked _. c.truth_reads.ensures (problem_of asked)
+returns-clause-true_answers c answer (k, low, at) =
+    let same : length c.loop-step.replies.items ≡ length c.args.steps.now =
+    omega (arith, c.loop-step.invariant.told, c.loop-step-test.false, c.loop-step.auto.step-index-end) in
+    let told : answer ≡ answer_to answer.asked = right_answers c.args.submitters c.args.room c.args.default [] c.args.steps.now
+    c.loop-step.replies.items same (returns-clause-fixed_by_the_past c) answer k low at in
+    subst (λ outcome. IsTrueOf answer.asked outcome) (sym (ap (λ (a : AnswerValue). a.outcome) told)) (c.truth_reads.ensures (problem_of answer.asked))

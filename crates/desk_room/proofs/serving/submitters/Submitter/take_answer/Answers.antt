@@ -9,8 +9,8 @@ use Rattle.desk_room.proofs.serving.submitters.Submitter.take_answer.Goals as go
 
 pub returns-clause-collects : goal.returns-clause-collects
 returns-clause-collects c =
-    let text : c.write_answer.new.text.items ≡ c.args.self.now.text.items ++ (answer_line c.in-Answer.answer ++ c.in-Some.replies.items) =
-    subst (λ (l : List ℕ). c.write_answer.new.text.items ≡ c.args.self.now.text.items ++ (answer_line c.in-Answer.answer ++ l))
+    let text : c.write_answer.new.text.items ≡ c.args.self.now.text.items ++ (answer_line c.in-Answer.answer.asked ++ c.in-Some.replies.items) =
+    subst (λ (l : List ℕ). c.write_answer.new.text.items ≡ c.args.self.now.text.items ++ (answer_line c.in-Answer.answer.asked ++ l))
     c.as_slice.ensures.value c.in_ok-write_answer.ensures in
     let first : IsPrefix (Answer c.in-Answer.answer ∷ []) (deliveries_known c.args.self.now.window) =
     subst (λ (d : Delivery). IsPrefix (d ∷ []) (deliveries_known c.args.self.now.window)) c.in-Answer.is c.first_known.ensures in
