@@ -3,3 +3,4 @@ pub mod EscapedTexts
 pub mod Numbered
 pub mod RecordsInTurn
 pub mod TextsInTurn
+pub mod ShapeLetters

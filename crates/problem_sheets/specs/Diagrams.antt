@@ -12,7 +12,8 @@ use Rattle.chess_board.specs.Men.{is_colour}
 use Rattle.chess_board.specs.Placement.{man_letter}
 use Rattle.chess_board.specs.Positions.{Setup, man_at}
 use Rattle.chess_board.specs.Squares.{file_of, rank_of}
-use Rattle.problem_sheets.specs.declared.shapes.TheConstants.{BOARD, WHITE_COORDINATES, BLACK_COORDINATES, MEN}
+use Rattle.problem_sheets.specs.declared.shapes.TheConstants.{BOARD, WHITE_COORDINATES, BLACK_COORDINATES, MARK}
+use Rattle.problem_sheets.specs.declared.shapes.TheConstants.{PAWN, KNIGHT, BISHOP, ROOK, QUEEN, KING}
 
 -- the texts of the numbers below n, from 0 on
 unfoldable pub each_below : ℕ → (ℕ → List ℕ) → List ℕ
@@ -52,12 +53,12 @@ abbrev pub shape_at : Colour → List (Option Man) → ℕ → List ℕ
 shape_at from men square = option_map_or (λ man. shape_text from man square) (man_at men square) []
 
 abbrev pub kind_name : Kind → List ℕ
-kind_name Pawn = codes "pawn "
-kind_name Knight = codes "knight "
-kind_name Bishop = codes "bishop "
-kind_name Rook = codes "rook "
-kind_name Queen = codes "queen "
-kind_name King = codes "king "
+kind_name Pawn = codes "pawn"
+kind_name Knight = codes "knight"
+kind_name Bishop = codes "bishop"
+kind_name Rook = codes "rook"
+kind_name Queen = codes "queen"
+kind_name King = codes "king"
 
 abbrev pub colour_name : Colour → List ℕ
 colour_name White = codes ", white "
@@ -65,7 +66,7 @@ colour_name Black = codes ", black "
 
 -- a man of this colour, and where it stands: `, white king c2`
 abbrev pub name_text : Colour → Man → ℕ → List ℕ
-name_text colour man square = if is_colour man.colour colour then colour_name colour ++ kind_name man.kind ++ square_text square else []
+name_text colour man square = if is_colour man.colour colour then colour_name colour ++ kind_name man.kind ++ codes " " ++ square_text square else []
 
 abbrev pub name_at : Colour → List (Option Man) → ℕ → List ℕ
 name_at colour men square = option_map_or (λ man. name_text colour man square) (man_at men square) []
@@ -106,8 +107,41 @@ unfoldable pub coordinates : Colour → List ℕ
 coordinates White = WHITE_COORDINATES.now
 coordinates Black = BLACK_COORDINATES.now
 
+-- the drawing of a kind, which is called by the kind's name
+abbrev pub drawing : Kind → List ℕ
+drawing Pawn = PAWN.now
+drawing Knight = KNIGHT.now
+drawing Bishop = BISHOP.now
+drawing Rook = ROOK.now
+drawing Queen = QUEEN.now
+drawing King = KING.now
+
+unfoldable pub kind_shape : Kind → List ℕ
+kind_shape kind = codes "<g id='" ++ kind_name kind ++ codes "' stroke-width='1.6' stroke-linejoin='round' stroke-linecap='round'>\n"
+    ++ drawing kind ++ codes "</g>\n"
+
+unfoldable pub kind_shapes : List ℕ
+kind_shapes = kind_shape Pawn ++ kind_shape Knight ++ kind_shape Bishop ++ kind_shape Rook ++ kind_shape Queen ++ kind_shape King
+
+-- White's men are filled white and Black's black; lines within them have the other colour.
+abbrev pub filled_text : Colour → List ℕ
+filled_text White = codes "' fill='#fff' stroke='#000' color='#000'><use href='#"
+filled_text Black = codes "' fill='#000' stroke='#000' color='#fff'><use href='#"
+
+-- a man's shape, called by its letter: the drawing of its kind, filled with its colour
+unfoldable pub man_shape : Colour → Kind → List ℕ
+man_shape colour kind =
+    codes "<g id='" ++ letter_text (record { kind = kind; colour = colour }) ++ filled_text colour ++ kind_name kind ++ codes "'/></g>\n"
+
+unfoldable pub side_shapes : Colour → List ℕ
+side_shapes colour = man_shape colour King ++ man_shape colour Queen ++ man_shape colour Rook
+    ++ man_shape colour Bishop ++ man_shape colour Knight ++ man_shape colour Pawn
+
+unfoldable pub mark_shape : List ℕ
+mark_shape = MARK.now
+
 unfoldable pub men_shapes : List ℕ
-men_shapes = MEN.now
+men_shapes = mark_shape ++ kind_shapes ++ side_shapes White ++ side_shapes Black ++ codes "</defs>\n"
 
 unfoldable pub shapes : Colour → List ℕ
 shapes from = board_shape ++ coordinates from ++ men_shapes

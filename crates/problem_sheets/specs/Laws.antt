@@ -1,7 +1,9 @@
--- What escaping is meant to do.
+-- What escaping, and the letters of shapes, are meant to do.
 use Rattle.std.specs.Prelude.{◌≡◌, ℕ, ◌==◌, ◌&&◌, ◌||◌, List, [], ◌∷◌, codes, Bool, true, false, not}
 use Rattle.std.specs.List.{list_any}
 use Rattle.chess_board.specs.Characters.{char}
+use Rattle.chess_board.specs.declared.men.Man.{Man}
+use Rattle.problem_sheets.specs.Diagrams.{letter_text}
 use Rattle.problem_sheets.specs.Escaping.{escaped}
 
 -- angle brackets and quotation marks
@@ -30,3 +32,7 @@ NoMarkup = (text : List ℕ) → list_any is_markup (escaped text) ≡ false
 
 abbrev pub EachReferred : Type 0
 EachReferred = (text : List ℕ) → are_references (escaped text) ≡ true
+
+-- No two men's shapes are called by one letter.
+abbrev pub LettersApart : Type 0
+LettersApart = (a b : Man) → letter_text a ≡ letter_text b → a ≡ b

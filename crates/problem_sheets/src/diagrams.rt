@@ -6,9 +6,12 @@ ghost use Rattle.chess_board.specs.Placement.{man_letter};
 ghost use Rattle.problem_sheets.specs.Diagrams.{board_shape, board_text, colour_name, column_from, coordinates, diagram_start, diagram_text};
 ghost use Rattle.problem_sheets.specs.Diagrams.{drawing_text, each_square, kind_name, label_text, letter_text, mark_text, men_shapes, name_at};
 ghost use Rattle.problem_sheets.specs.Diagrams.{name_text, place_text, row_from, shape_at, shape_text, shapes, side_words};
+ghost use Rattle.problem_sheets.specs.Diagrams.{drawing, filled_text, kind_shape, kind_shapes, man_shape, mark_shape, side_shapes};
 ghost use Rattle.problem_sheets.specs.Diagrams.{svg_start, svg_text, use_text};
 
-use crate::shapes::{BLACK_COORDINATES, BOARD, MEN, WHITE_COORDINATES};
+use crate::shapes::{
+    BISHOP, BLACK_COORDINATES, BOARD, KING, KNIGHT, MARK, PAWN, QUEEN, ROOK, WHITE_COORDINATES,
+};
 use chess_board::{Colour, Kind, Man, Position, Square};
 use itoa::Buffer;
 use std::alloc::{AllocError, Global};
@@ -120,12 +123,12 @@ fn kind_name(kind: Kind) -> &'static [u8]
     ensures { result.now ≡ kind_name kind }
 {
     match kind {
-        Kind::Pawn => b"pawn ",
-        Kind::Knight => b"knight ",
-        Kind::Bishop => b"bishop ",
-        Kind::Rook => b"rook ",
-        Kind::Queen => b"queen ",
-        Kind::King => b"king ",
+        Kind::Pawn => b"pawn",
+        Kind::Knight => b"knight",
+        Kind::Bishop => b"bishop",
+        Kind::Rook => b"rook",
+        Kind::Queen => b"queen",
+        Kind::King => b"king",
     }
 }
 
@@ -145,6 +148,7 @@ fn push_name(text: &mut Vec<u8>, colour: Colour, man: Man, square: Square) -> Re
     if man.colour == colour {
         text.extend_from_slice(colour_name(colour))?;
         text.extend_from_slice(kind_name(man.kind))?;
+        text.push(b' ')?;
         push_square(text, square)?;
     }
     Ok(())
@@ -276,12 +280,100 @@ fn push_board_shape(text: &mut Vec<u8>) -> Result<(), AllocError>
     text.extend_from_slice(BOARD.as_bytes())
 }
 
+/// The drawing of a kind.
+fn drawing(kind: Kind) -> &'static str
+    ensures { result.now ≡ drawing kind }
+{
+    match kind {
+        Kind::Pawn => PAWN,
+        Kind::Knight => KNIGHT,
+        Kind::Bishop => BISHOP,
+        Kind::Rook => ROOK,
+        Kind::Queen => QUEEN,
+        Kind::King => KING,
+    }
+}
+
+/// Adds that drawing, which is called by the kind's name.
+#[tactic(auto, unfolding(crate::specs::Diagrams::kind_shape))]
+fn push_kind_shape(text: &mut Vec<u8>, kind: Kind) -> Result<(), AllocError>
+    ensures { IfOk result (λ _. text.new.items ≡ text.old.items ++ kind_shape kind) }
+{
+    text.extend_from_slice(b"<g id='")?;
+    text.extend_from_slice(kind_name(kind))?;
+    text.extend_from_slice(
+        b"' stroke-width='1.6' stroke-linejoin='round' stroke-linecap='round'>\n",
+    )?;
+    text.extend_from_slice(drawing(kind).as_bytes())?;
+    text.extend_from_slice(b"</g>\n")
+}
+
+/// Adds the drawings of all kinds.
+#[tactic(auto, unfolding(crate::specs::Diagrams::kind_shapes))]
+fn push_kind_shapes(text: &mut Vec<u8>) -> Result<(), AllocError>
+    ensures { IfOk result (λ _. text.new.items ≡ text.old.items ++ kind_shapes) }
+{
+    push_kind_shape(text, Kind::Pawn)?;
+    push_kind_shape(text, Kind::Knight)?;
+    push_kind_shape(text, Kind::Bishop)?;
+    push_kind_shape(text, Kind::Rook)?;
+    push_kind_shape(text, Kind::Queen)?;
+    push_kind_shape(text, Kind::King)
+}
+
+/// How a side's men are filled: White's white and Black's black, with lines of the other colour.
+fn filled_text(colour: Colour) -> &'static [u8]
+    ensures { result.now ≡ filled_text colour }
+{
+    match colour {
+        Colour::White => b"' fill='#fff' stroke='#000' color='#000'><use href='#",
+        Colour::Black => b"' fill='#000' stroke='#000' color='#fff'><use href='#",
+    }
+}
+
+/// Adds a man's shape, which is called by its letter: the drawing of its kind, filled with its colour.
+#[tactic(auto, unfolding(crate::specs::Diagrams::man_shape))]
+fn push_man_shape(text: &mut Vec<u8>, colour: Colour, kind: Kind) -> Result<(), AllocError>
+    ensures { IfOk result (λ _. text.new.items ≡ text.old.items ++ man_shape colour kind) }
+{
+    text.extend_from_slice(b"<g id='")?;
+    push_letter(text, Man { kind, colour })?;
+    text.extend_from_slice(filled_text(colour))?;
+    text.extend_from_slice(kind_name(kind))?;
+    text.extend_from_slice(b"'/></g>\n")
+}
+
+/// Adds the shapes of a side's men.
+#[tactic(auto, unfolding(crate::specs::Diagrams::side_shapes))]
+fn push_side_shapes(text: &mut Vec<u8>, colour: Colour) -> Result<(), AllocError>
+    ensures { IfOk result (λ _. text.new.items ≡ text.old.items ++ side_shapes colour) }
+{
+    push_man_shape(text, colour, Kind::King)?;
+    push_man_shape(text, colour, Kind::Queen)?;
+    push_man_shape(text, colour, Kind::Rook)?;
+    push_man_shape(text, colour, Kind::Bishop)?;
+    push_man_shape(text, colour, Kind::Knight)?;
+    push_man_shape(text, colour, Kind::Pawn)
+}
+
+/// Adds the shape of the mark.
+#[tactic(auto, unfolding(crate::specs::Diagrams::mark_shape))]
+fn push_mark_shape(text: &mut Vec<u8>) -> Result<(), AllocError>
+    ensures { IfOk result (λ _. text.new.items ≡ text.old.items ++ mark_shape) }
+{
+    text.extend_from_slice(MARK.as_bytes())
+}
+
 /// Adds what follows them: the shapes of the mark and of the men.
 #[tactic(auto, unfolding(crate::specs::Diagrams::men_shapes))]
 fn push_men_shapes(text: &mut Vec<u8>) -> Result<(), AllocError>
     ensures { IfOk result (λ _. text.new.items ≡ text.old.items ++ men_shapes) }
 {
-    text.extend_from_slice(MEN.as_bytes())
+    push_mark_shape(text)?;
+    push_kind_shapes(text)?;
+    push_side_shapes(text, Colour::White)?;
+    push_side_shapes(text, Colour::Black)?;
+    text.extend_from_slice(b"</defs>\n")
 }
 
 /// Adds all shapes: of the board as a side sees it, of the mark and of the men.

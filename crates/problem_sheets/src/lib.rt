@@ -18,5 +18,5 @@ mod solutions;
 
 pub use contents::{Contents, add_files};
 pub use diagrams::svg_text;
-pub use laws::{each_referred, no_markup};
+pub use laws::{each_referred, letters_apart, no_markup};
 pub use pages::{Form, page_text};
