@@ -17,7 +17,8 @@ pub struct Bench {
 }
 
 impl Bench {
-    ghost use Rattle.std.specs.Prelude.{◌≡◌, ◌<◌, [], ◌∷◌, ◌++◌, length, IsOk, OnOk, IfErr, OnErr, true};
+    ghost use Rattle.std.specs.Prelude.{◌≡◌, ◌+◌, ◌<◌, ◌≤◌, [], ◌∷◌, ◌++◌, length};
+    ghost use Rattle.std.specs.Prelude.{IsOk, OnOk, IfErr, OnErr, MatchResult, true, false};
     ghost use Rattle.room_ends.specs.DequeRule.{stops};
     ghost use Rattle.room_ends.specs.Orders.{taken_order};
     ghost use Rattle.room_ends.specs.Benches.{got, given, places_known, bench_ring, SameBench};
@@ -43,6 +44,8 @@ impl Bench {
         ensures full { OnErr result (places_known self.new ≡ 0) }
         ensures succeeds { 0 < places_known self.old → IsOk result }
         ensures first { length (given self.old) < bench_ring self.old → IsOk result }
+        ensures places { MatchResult result (λ _. places_known self.old ≤ places_known self.new + 1)
+            (λ _. places_known self.old ≤ places_known self.new) }
         ensures got { got self.new ≡ got self.old }
         ensures ends { SameBench self.old self.new }
     {
@@ -55,7 +58,9 @@ impl Bench {
 
     /// Whether a place of the back ring is known to be free.
     pub fn has_place(&mut self) -> bool
+        ensures places { places_known self.old ≤ places_known self.new }
         ensures place { result ≡ true → 0 < places_known self.new }
+        ensures no_place { result ≡ false → places_known self.new ≡ 0 }
         ensures given { given self.new ≡ given self.old }
         ensures got { got self.new ≡ got self.old }
         ensures ends { SameBench self.old self.new }
@@ -67,6 +72,7 @@ impl Bench {
     pub fn give(&mut self, back: Back)
         requires { 0 < places_known self.old }
         ensures given { given self.new ≡ given self.old ++ back ∷ [] }
+        ensures places { places_known self.old ≡ places_known self.new + 1 }
         ensures got { got self.new ≡ got self.old }
         ensures ends { SameBench self.old self.new }
     {

@@ -147,7 +147,10 @@ impl Window {
         ensures sent { letters_sent self.new ≡ letters_sent self.old }
         ensures collected { collected self.new ≡ collected self.old }
         ensures stays { is_gone self.new ≡ is_gone self.old }
+        ensures known { deliveries_known self.new ≡ deliveries_known self.old }
+        ensures places { places_known self.old ≤ places_known self.new }
         ensures place { result ≡ true → 0 < places_known self.new }
+        ensures no_place { result ≡ false → places_known self.new ≡ 0 }
     {
         !self.letters.is_full()
     }
@@ -158,7 +161,10 @@ impl Window {
         ensures sent { letters_sent self.new ≡ letters_sent self.old }
         ensures collected { collected self.new ≡ collected self.old }
         ensures stays { is_gone self.new ≡ is_gone self.old }
+        ensures places { places_known self.new ≡ places_known self.old }
+        ensures known { IsPrefix (deliveries_known self.old) (deliveries_known self.new) }
         ensures delivery { result ≡ true → 0 < length (deliveries_known self.new) }
+        ensures no_delivery { result ≡ false → deliveries_known self.new ≡ [] }
     {
         !self.answers.is_empty()
     }
@@ -178,6 +184,8 @@ impl Window {
         ensures window { SameWindow self.old self.new }
         ensures sent { letters_sent self.new ≡ letters_sent self.old }
         ensures collected { (d : Delivery) → IsPrefix (d ∷ []) (deliveries_known self.old) → collected self.new ≡ collected self.old ++ d ∷ [] }
+        ensures known { (d : Delivery) → IsPrefix (d ∷ []) (deliveries_known self.old) → deliveries_known self.old ≡ d ∷ deliveries_known self.new }
+        ensures places { places_known self.new ≡ places_known self.old }
         ensures stays { is_gone self.new ≡ is_gone self.old }
     {
         self.answers.pop_known();
