@@ -29,4 +29,5 @@ pub mod Opened
 pub mod Progress
 pub mod Collecting
 pub mod Handed
+pub mod Heeding
 pub mod Joined

@@ -7,7 +7,7 @@
 ghost use Rattle.std.specs.Prelude.{◌≡◌, ◌≢◌, ◌↔◌, ◌⊎◌, ◌<◌, ◌≤◌, length, map, vec_len, IfOk, IfSome, Err};
 ghost use Rattle.std.specs.Thread.{IsSync};
 ghost use Rattle.desk_room.specs.Serving.{AreReplies};
-ghost use Rattle.desk_room.specs.inside.Threads.{AllFresh, AllOf, AllReport, AllSettled, IsSettled};
+ghost use Rattle.desk_room.specs.inside.Threads.{AllFresh, AllHeed, AllOf, AllReport, AllSettled, IsSettled};
 ghost use Rattle.desk_room.specs.Keepers.{IsOf, SameRoom};
 ghost use Rattle.desk_room.specs.declared.rooms.RoomFault.TheVariants as fault;
 
@@ -26,7 +26,7 @@ use crate::rooms::{Room, RoomFault, open_room};
 use crate::serving::bench_thread::BenchTools;
 use crate::serving::keeper_thread::run_keeper;
 use crate::serving::signals::{Signals, StopReason};
-use crate::serving::thread_groups::{BenchesDone, run_benches, run_windows};
+use crate::serving::thread_groups::{BenchesOf, run_benches, run_windows};
 use crate::serving::window_thread::Report;
 use chess_moves::Rays;
 use chess_problems::Bound;
@@ -53,6 +53,13 @@ impl Promise<Keeper> for KeeperOf {
     ghost kept_by = { λ p k. SameRoom p.0.value k };
 }
 
+/// What the threads of windows and benches bring back, where memory sufficed.
+#[derive(Drop)]
+struct Ended {
+    reports: Result<Vec<Report>, AllocError>,
+    benches: Result<Vec<Bench>, AllocError>,
+}
+
 /// Runs the benches beside the windows.
 fn run_ends<R: Threads + Wait + Sync, G: Gate>(
     rt: &R,
@@ -61,10 +68,11 @@ fn run_ends<R: Threads + Wait + Sync, G: Gate>(
     inputs: &[Vec<u8>],
     benches: Vec<Bench>,
     tools: &BenchTools<'_, G>,
-) -> Result<Vec<Report>, AllocError>
+) -> Ended
     requires as_many { vec_len windows ≡ length inputs.now }
     requires fresh { AllFresh windows.items }
-    ensures { IfOk result (λ all. AllReport windows.items (map (λ v. v.items) inputs.now) all.items) }
+    ensures reports { IfOk result.reports (λ all. AllReport windows.items (map (λ v. v.items) inputs.now) all.items) }
+    ensures benches { IfOk result.benches (λ all. AllHeed (G.answers tools.now.gate.now) 0 benches.items all.items) }
 {
     // A closure that captures the struct would ensure nothing.
     let BenchTools {
@@ -76,26 +84,33 @@ fn run_ends<R: Threads + Wait + Sync, G: Gate>(
     thread::scope(
         thread::scope_env(),
         rt,
-        move |scope| -> Result<Vec<Report>, AllocError>
+        move |scope| -> Ended
             requires { IsSync R.row × IsSync G.row × (vec_len windows ≡ length inputs.now) × AllFresh windows.items }
-            ensures { IfOk result (λ all. AllReport windows.items (map (λ v. v.items) inputs.entry.now) all.items) }
+            ensures { IfOk result.reports (λ all. AllReport windows.items (map (λ v. v.items) inputs.entry.now) all.items)
+                × IfOk result.benches (λ all. AllHeed (G.answers gate.entry.now) 0 benches.items all.items) }
         {
-            let working = move ||
+            let promise = BenchesOf {
+                benches: Snapshot::of(&benches),
+                gate,
+            };
+            let working = move || -> Result<Vec<Bench>, AllocError>
                 requires { IsSync R.row × IsSync G.row }
+                ensures { IfOk result (λ all. AllHeed (G.answers gate.entry.now) 0 benches.items all.items) }
             {
                 let tools = BenchTools::new(rays, entries, gate, signals);
                 run_benches(rt, alloc, benches, &tools)
             };
-            match scope.spawn_with(BenchesDone, working) {
+            match scope.spawn_with(promise, working) {
                 Ok(child) => {
                     let reports = run_windows(rt, alloc, rays, windows, inputs, signals);
-                    child.join(rt);
-                    reports
+                    let benches = child.join(rt);
+                    Ended { reports, benches }
                 }
                 Err(refused) => {
                     signals.stop(StopReason::NoThread);
-                    (refused.value)();
-                    run_windows(rt, alloc, rays, windows, inputs, signals)
+                    let benches = (refused.value)();
+                    let reports = run_windows(rt, alloc, rays, windows, inputs, signals);
+                    Ended { reports, benches }
                 }
             }
         },
@@ -144,7 +159,7 @@ fn run<R: Threads + Wait + Sync, G: Gate>(
                 signals.stop(StopReason::NoThread);
             }
             let tools = BenchTools::new(rays, entries, gate, signals);
-            let reports = run_ends(rt, alloc, windows, inputs, benches, &tools);
+            let Ended { reports, .. } = run_ends(rt, alloc, windows, inputs, benches, &tools);
             if reports.is_err() {
                 signals.stop(StopReason::NoMemory);
             }

@@ -1,8 +1,9 @@
 //! What the thread of a bench does.
 
 ghost use Rattle.std.specs.Prelude.{◌≡◌, ◌<◌, ◌++◌, Bool, [], ◌∷◌, true};
-ghost use Rattle.room_ends.specs.Benches.{given, places_known};
+ghost use Rattle.room_ends.specs.Benches.{got, given, places_known};
 ghost use Rattle.desk_room.specs.Serving.{back_of};
+ghost use Rattle.desk_room.specs.inside.Threads.{HeedsAll};
 
 use crate::serving::backoff::Backoff;
 use crate::serving::signals::{KeeperCalls, Signals, StopReason};
@@ -25,7 +26,9 @@ fn await_place<R: Wait>(
     signals: &Signals,
     calls: &mut KeeperCalls,
 ) -> bool
-    ensures { result ≡ true → 0 < places_known bench.new }
+    ensures place { result ≡ true → 0 < places_known bench.new }
+    ensures got { got bench.new ≡ got bench.old }
+    ensures given { given bench.new ≡ given bench.old }
 {
     let mut backoff = Backoff::new(signals.bench_for_place(number), LOOKS);
     for _ in rt.forever() {
@@ -52,7 +55,8 @@ fn solve_or_return<G: Gate>(
     job: Job,
 )
     requires { 0 < places_known bench.old }
-    ensures { (passed : Bool) × G.answers gate.now number job.ticket passed × (given bench.new ≡ given bench.old ++ back_of passed job ∷ []) }
+    ensures got { got bench.new ≡ got bench.old }
+    ensures given { (passed : Bool) × G.answers gate.now number job.ticket passed × (given bench.new ≡ given bench.old ++ back_of passed job ∷ []) }
 {
     if gate.pass(number, job.ticket()) {
         bench.give(Back::Solved(job.solve(rays, memo)));
@@ -77,7 +81,9 @@ impl<'a, G: Gate> BenchTools<'a, G> {
         entries: usize,
         gate: &'a G,
         signals: &'a Signals,
-    ) -> BenchTools<'a, G> {
+    ) -> BenchTools<'a, G>
+        ensures { result.gate.now ≡ gate.now }
+    {
         BenchTools {
             rays,
             entries,
@@ -91,10 +97,12 @@ impl<'a, G: Gate> BenchTools<'a, G> {
 pub(crate) fn run_bench<R: Wait, G: Gate>(
     rt: &R,
     alloc: Global,
-    mut bench: Bench,
+    bench: &mut Bench,
     number: usize,
     tools: &BenchTools<'_, G>,
-) {
+)
+    ensures { HeedsAll (G.answers tools.now.gate.now number) bench.old bench.new }
+{
     let BenchTools {
         rays,
         entries,
@@ -114,10 +122,10 @@ pub(crate) fn run_bench<R: Wait, G: Gate>(
         match bench.take() {
             Taken::Job(job) => {
                 backoff.reset();
-                if !await_place(rt, &mut bench, number, signals, &mut calls) {
+                if !await_place(rt, bench, number, signals, &mut calls) {
                     return;
                 }
-                solve_or_return(rays, &mut memo, gate, number, &mut bench, job);
+                solve_or_return(rays, &mut memo, gate, number, bench, job);
                 calls.count();
             }
             Taken::Stop => return,

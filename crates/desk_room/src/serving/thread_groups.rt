@@ -2,7 +2,8 @@
 
 ghost use Rattle.std.specs.Prelude.{◌≡◌, List, ℕ, [], ◌∷◌, ◌++◌, length, map, vec_len, IfOk};
 ghost use Rattle.std.specs.Thread.{IsSync};
-ghost use Rattle.desk_room.specs.inside.Threads.{AllFresh, IsFreshWindow, AllReport};
+ghost use Rattle.room_ends.specs.declared.benches.Bench.{Bench};
+ghost use Rattle.desk_room.specs.inside.Threads.{AllFresh, IsFreshWindow, AllHeed, AllReport, HeedsAll};
 ghost use Rattle.desk_room.specs.inside.Submitters.{Reports};
 
 use crate::serving::bench_thread::{BenchTools, run_bench};
@@ -28,12 +29,12 @@ impl<'a> Promise<Result<Vec<Report>, AllocError>> for ReportsOf<'a> {
     ghost kept_by = { λ p r. IfOk r (λ all. AllReport p.windows.value.items (map (λ v. v.items) p.inputs.now) all.items) };
 }
 
-/// These reports, and one more behind them.
-fn with_report(mut reports: Vec<Report>, one: Report) -> Result<Vec<Report>, AllocError>
-    ensures { IfOk result (λ all. all.items ≡ reports.items ++ one ∷ []) }
+/// These items, and one more behind them.
+fn with_one<T: Drop>(mut items: Vec<T>, one: T) -> Result<Vec<T>, AllocError>
+    ensures { IfOk result (λ all. all.items ≡ items.items ++ one ∷ []) }
 {
-    match reports.push(one) {
-        Ok(()) => Ok(reports),
+    match items.push(one) {
+        Ok(()) => Ok(items),
         Err(_) => Err(AllocError),
     }
 }
@@ -61,7 +62,7 @@ pub(crate) fn run_windows<R: Threads + Wait + Sync>(
     };
     if windows.is_empty() {
         let only = run_window(rt, alloc, rays, window, input.as_slice(), signals);
-        return with_report(Vec::new(alloc), only);
+        return with_one(Vec::new(alloc), only);
     }
     let (mine, theirs) = thread::scope(
         thread::scope_env(),
@@ -91,52 +92,76 @@ pub(crate) fn run_windows<R: Threads + Wait + Sync>(
         },
     );
     let all = theirs?;
-    with_report(all, mine)
+    with_one(all, mine)
 }
 
-/// What a thread of benches brings back: nothing that matters.
+/// What the thread of several benches brings back: them, when they have heeded the gate.
 #[derive(Drop)]
-pub(crate) struct BenchesDone;
-
-impl Promise<()> for BenchesDone {
-    ghost kept_by = { λ p r. Unit {0} };
+pub(crate) struct BenchesOf<'a, G: Gate> {
+    pub(crate) benches: Snapshot<Vec<Bench>>,
+    pub(crate) gate: &'a G,
 }
 
-/// Runs each bench: the last in this thread, beside a thread for the others.
+impl<'a, G: Gate> Promise<Result<Vec<Bench>, AllocError>> for BenchesOf<'a, G> {
+    ghost kept_by = { λ p r. IfOk r (λ all. AllHeed (G.answers p.gate.now) 0 p.benches.value.items all.items) };
+}
+
+/// Runs each bench, known to the gate by its place: the last in this thread, beside a thread for the others.
 #[cycle(benches)]
 pub(crate) fn run_benches<R: Threads + Wait + Sync, G: Gate>(
     rt: &R,
     alloc: Global,
     mut benches: Vec<Bench>,
     tools: &BenchTools<'_, G>,
-) {
-    let Some(bench) = benches.pop() else {
-        return;
+) -> Result<Vec<Bench>, AllocError>
+    ensures { IfOk result (λ all. AllHeed (G.answers tools.now.gate.now) 0 benches.items all.items) }
+{
+    let Some(mut bench) = benches.pop() else {
+        return Ok(Vec::new(alloc));
     };
     let number = benches.len();
     if number == 0 {
-        run_bench(rt, alloc, bench, number, tools);
-        return;
+        run_bench(rt, alloc, &mut bench, number, tools);
+        return with_one(benches, bench);
     }
-    thread::scope(
+    let BenchTools {
+        rays,
+        entries,
+        gate,
+        signals,
+    } = *tools;
+    let (mine, theirs) = thread::scope(
         thread::scope_env(),
         rt,
-        move |scope|
+        move |scope| -> (Bench, Result<Vec<Bench>, AllocError>)
             requires { IsSync R.row × IsSync G.row }
+            ensures { HeedsAll (G.answers gate.entry.now number) bench result.0
+                × IfOk result.1 (λ all. AllHeed (G.answers gate.entry.now) 0 benches.items all.items) }
         {
-            let others = move ||
+            let promise = BenchesOf {
+                benches: Snapshot::of(&benches),
+                gate,
+            };
+            let others = move || -> Result<Vec<Bench>, AllocError>
                 requires { IsSync R.row × IsSync G.row }
-            { run_benches(rt, alloc, benches, tools) };
-            match scope.spawn_with(BenchesDone, others) {
+                ensures { IfOk result (λ all. AllHeed (G.answers gate.entry.now) 0 benches.items all.items) }
+            {
+                let tools = BenchTools::new(rays, entries, gate, signals);
+                run_benches(rt, alloc, benches, &tools)
+            };
+            let mut mine = bench;
+            match scope.spawn_with(promise, others) {
                 Ok(child) => {
-                    run_bench(rt, alloc, bench, number, tools);
-                    child.join(rt);
+                    let tools = BenchTools::new(rays, entries, gate, signals);
+                    run_bench(rt, alloc, &mut mine, number, &tools);
+                    (mine, child.join(rt))
                 }
                 Err(refused) => {
-                    tools.signals.stop(StopReason::NoThread);
-                    (refused.value)();
+                    signals.stop(StopReason::NoThread);
+                    (mine, (refused.value)())
                 }
             }
         },
-    )
+    );
+    with_one(theirs?, mine)
 }

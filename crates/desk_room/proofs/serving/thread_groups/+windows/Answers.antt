@@ -12,4 +12,4 @@ returns g t c =
     reports_more _ c.pop.new.self.items _ (map (λ v. v.items) c.in-Some-split_last.rest.now) _ c.in_ok-all.all.items
     c.in-Some.window c.in-Some-split_last.input.now.items c.scoped-mine.result.0
     front (ap (map (λ v. v.items)) c.in-Some-split_last.ensures.cases.0 ∙ map-append _ _ _) is
-    (of_ok _ _ _ s.1.1 c.in_ok-all.was) s.1.0) c.with_report-2.ensures
+    (of_ok _ _ _ s.1.1 c.in_ok-all.was) s.1.0) c.with_one-2.ensures
