@@ -1,6 +1,6 @@
 -- What mates soonest, by the laws of the search.
 use Rattle.std.proofs.Common.{◌≡◌, ◌∙◌, ◌⊎◌, inl, inr, ℕ, zero, suc, ◌+◌, ◌-◌, ◌<◌, ◌≤◌, Bool, true, false, not}
-use Rattle.std.proofs.Common.{◌&&◌, List, [], ◌∷◌, length, drop, get_or, Contains, refl, sym, ap, subst, arith}
+use Rattle.std.proofs.Common.{◌&&◌, List, [], length, Contains, refl, sym, ap, subst, arith}
 use Rattle.std.specs.Prelude.{nat_lt}
 use Rattle.chess_board.specs.Positions.{Setup}
 use Rattle.chess_board.specs.Moves.{Move}
@@ -17,7 +17,7 @@ use Rattle.mate_search.specs.PrincipalVariation.{IsKey, IsLongestDefence, IsPrin
 use Rattle.mate_search.specs.inside.Truth.{truth}
 use Rattle.mate_search.specs.Laws.{AreFirstMoves, HaveNoKeyBelow, IsTold, LostReads, TruthReads, WinGrows, WinReads}
 use Rattle.mate_tree.specs.Continuations.{keys_of, soonest}
-use Rattle.mate_tree.specs.Laws.{DefencesAnswered, LeavesMate, LineBranches, SoonestReads, length_of, line_of}
+use Rattle.mate_tree.specs.Laws.{DefencesAnswered, IsBranch, LeavesMate, LineBranches, SoonestReads, length_of, line_of}
 use Rattle.mate_tree.specs.Tries.{is_no_mate}
 
 abbrev asked : ℕ → Setup → ProblemValue
@@ -119,38 +119,6 @@ defences_answered truths reads soon q m r has legal =
 
 -- ---- the line that is told
 
--- What the line of a mate in n begins with.
-pub record Begins (first : List Move) (p : Setup) (n : ℕ) (m r next : Move) : Type 0 where
-  pub key : IsKey first p n m
-  pub longer : 1 ≤ n - 1
-  pub reply : IsLongestDefence (after_setup p m) r
-  pub on : IsKey (legal_moves (after_setup (after_setup p m) r)) (after_setup (after_setup p m) r) (n - 1) next
-
-first_of : (first : List Move) (p : Setup) (n : ℕ) (line : List Move) (m : Move) (rest : List Move) → line ≡ m ∷ rest
-    → IsPrincipalVariation first p n line → IsKey first p n m
-first_of first p n line m rest is (mates _ _ x key) = subst (λ (z : Move). IsKey first p 1 z) (ap (λ xs. get_or xs 0 x) is) key.0
-first_of first p n line m rest is (goes_on _ _ q s j x y more some key after defence on others) =
-    subst (λ (z : Move). IsKey first p (j + 1) z) (ap (λ xs. get_or xs 0 x) is) key.0
-
-line_begins : (first : List Move) (p : Setup) (n : ℕ) (line : List Move) (m r next : Move) (rest : List Move)
-    → line ≡ m ∷ r ∷ next ∷ rest → IsPrincipalVariation first p n line
-    → Begins first p n m r next
-line_begins first p n line m r next rest is (mates _ _ x key) = absurd (omega (arith, ap length is))
-line_begins first p n line m r next rest is (goes_on _ _ q s j x y more some key after defence on others) =
-    let same_key = ap (λ xs. get_or xs 0 x) is in
-    let same_reply = ap (λ xs. get_or xs 1 y) is in
-    let behind = ap (drop 2) is in
-    let fewer : j ≡ j + 1 - 1 = omega arith in
-    let left : q ≡ after_setup p m = after ∙ ap (after_setup p) same_key in
-    let reached : s ≡ after_setup (after_setup p m) r = on ∙ ap (λ z. after_setup z y) left ∙ ap (after_setup (after_setup p m)) same_reply in
-    record {
-      key = subst (λ (z : Move). IsKey first p (j + 1) z) same_key key.0;
-      longer = omega (arith, some);
-      reply = subst (λ (z : Move). IsLongestDefence (after_setup p m) z) same_reply (subst (λ (z : Setup). IsLongestDefence z y) left defence);
-      on = subst (λ k. IsKey (legal_moves (after_setup (after_setup p m) r)) (after_setup (after_setup p m) r) k next) fewer
-          (subst (λ (z : Setup). IsKey (legal_moves z) z j next) reached (first_of (legal_moves s) s j more next rest behind others));
-    }
-
 true_unless : (b : Bool) → (b ≡ false → ⊥) → b ≡ true
 true_unless true not_false = refl
 true_unless false not_false = absurd (not_false refl)
@@ -164,40 +132,54 @@ key_within reads first p n k m r key longest some met =
     let fewer : k + 1 - 1 ≡ k = omega arith in
     (key.0, ap (λ j. lost j (after_setup p m)) fewer ∙ (reads k (after_setup p m)).1 (inr (some, (r, longest.0), each)))
 
--- What mates soonest from there is what the line goes on with.
-goes_on_soonest : WinReads → LostReads → (first : List Move) (p : Setup) (n : ℕ) (m r next : Move)
-    → HaveNoKeyBelow first p n → Begins first p n m r next
-    → (others : List Move) (o : Outcome) → AreFirstMoves (asked (n - 1) (after_setup (after_setup p m) r)) others
-    → IsTold others (after_setup (after_setup p m) r) (n - 1) o → Contains (keys_of o) next
-goes_on_soonest wins reads first p n m r next none line others NoMate are told =
-    absurd (told (n - 1) line.longer (omega arith) next ((are.0 next).1 (line.on.0, none_avoided next), line.on.1))
-goes_on_soonest wins reads first p n m r next none line others (Mate l keys pv) are told =
+-- Where no mate in fewer moves begins, none does behind a key and the longest defence.
+none_below : WinReads → LostReads → (first : List Move) (p : Setup) (n : ℕ) (m r : Move) → HaveNoKeyBelow first p (n + 1) → IsKey first p (n + 1) m
+    → IsLongestDefence (after_setup p m) r
+    → HaveNoKeyBelow (legal_moves (after_setup (after_setup p m) r)) (after_setup (after_setup p m) r) n
+none_below wins reads first p n m r none key longest k some fewer x other =
     let s = after_setup (after_setup p m) r in
-    let (x, key) = begins others s l pv.items told.4 in
-    let met = wins_by wins l s others x told.0 (λ y has. ((are.0 y).0 has).0) key in
-    let long : n - 1 ≤ l = not_below (n - 1) l (λ shorter. none (l + 1) (omega arith) (omega (arith, shorter)) m
-    (key_within reads first p n l m r line.key line.reply told.0 met)) in
-    let same : n - 1 ≡ l = omega (arith, long, told.1) in
-    (told.3.0 next).1 ((are.0 next).1 (line.on.0, none_avoided next), ap (λ k. lost (k - 1) (after_setup s next)) (sym same) ∙ line.on.1)
+    none (k + 1) (omega arith) (omega (arith, fewer)) m
+    (key_within reads first p (n + 1) k m r key longest some (wins_by wins k s (legal_moves s) x some (λ y has. has) other))
+
+-- All keys of the shortest mate from a position are told.
+keys_told : (s : Setup) (n : ℕ) (x : Move) → 1 ≤ n → HaveNoKeyBelow (legal_moves s) s n → IsKey (legal_moves s) s n x
+    → (first : List Move) (o : Outcome) → AreFirstMoves (asked n s) first → IsTold first s n o → Contains (keys_of o) x
+keys_told s n x some none key first NoMate are told = absurd (told n some (omega arith) x ((are.0 x).1 (key.0, none_avoided x), key.1))
+keys_told s n x some none key first (Mate l keys pv) are told =
+    let (y, other) = begins first s l pv.items told.4 in
+    let long : n ≤ l = not_below n l (λ shorter. none l told.0 shorter y (((are.0 y).0 other.0).0, other.1)) in
+    let same : n ≡ l = omega (arith, long, told.1) in
+    (told.3.0 x).1 ((are.0 x).1 (key.0, none_avoided x), ap (λ k. lost (k - 1) (after_setup s x)) (sym same) ∙ key.1)
   where
     not_below : (a b : ℕ) → (b < a → ⊥) → a ≤ b
     not_below a b never = grind (arith, nat_tests, never)
 
-pub line_branches : TruthReads → WinReads → LostReads → LineBranches
+branches : TruthReads → WinReads → LostReads → (first : List Move) (p : Setup) (n : ℕ) (line keys : List Move) → IsPrincipalVariation first p n line
+    → HaveNoKeyBelow first p n → ((x : Move) → IsKey first p n x → Contains keys x) → IsBranch keys n p line
 unfolding soonest
-line_branches truths wins reads q m r next rest is =
+branches truths wins reads first p n line keys (mates _ _ m key) none each = (each m key.0, refl)
+branches truths wins reads first p n line keys (goes_on _ _ q s j m r rest some key after defence on more) none each =
+    let fewer : j ≡ j + 1 - 1 = omega arith in
+    let reached : s ≡ after_setup (after_setup p m) r = on ∙ ap (λ z. after_setup z r) after in
+    let longest : IsLongestDefence (after_setup p m) r = subst (λ (z : Setup). IsLongestDefence z r) after defence in
+    let fewest : HaveNoKeyBelow (legal_moves s) s j =
+    subst (λ (z : Setup). HaveNoKeyBelow (legal_moves z) z j) (sym reached) (none_below wins reads first p j m r none key.0 longest) in
+    let (others, are, told) = truths (asked j s) in
+    let further : IsBranch (keys_of (soonest j s)) j s rest = branches truths wins reads (legal_moves s) s j rest (keys_of (soonest j s)) more fewest
+    (λ x is. keys_told s j x some fewest is others (truth (asked j s)) are told) in (
+      each m key.0,
+      longest.0,
+      subst (λ k. IsBranch (keys_of (soonest k (after_setup (after_setup p m) r))) k (after_setup (after_setup p m) r) rest) fewer
+          (subst (λ (z : Setup). IsBranch (keys_of (soonest j z)) j z rest) reached further),
+    )
+
+pub line_branches : TruthReads → WinReads → LostReads → LineBranches
+line_branches truths wins reads q some =
     let (first, are, told) = truths q in
-    branch (truth q) first told is
+    branch (truth q) first told some
   where
-    branch : (o : Outcome) (first : List Move) → IsTold first q.position q.bound o → line_of o ≡ m ∷ r ∷ next ∷ rest
-        → Contains (keys_of o) m × Contains (legal_moves (after_setup q.position m)) r
-        × Contains (keys_of (truth (asked (length_of o - 1) (after_setup (after_setup q.position m) r)))) next
-    branch NoMate first told is = absurd (omega (arith, ap length is))
-    branch (Mate n keys pv) first told is =
-        let line = line_begins first q.position n pv.items m r next rest is told.4 in
-        let (others, are, after) = truths (asked (n - 1) (after_setup (after_setup q.position m) r)) in (
-          (told.3.0 m).1 line.key,
-          line.reply.0,
-          goes_on_soonest wins reads first q.position n m r next told.2 line others
-              (truth (asked (n - 1) (after_setup (after_setup q.position m) r))) are after,
-        )
+    branch : (o : Outcome) (first : List Move) → IsTold first q.position q.bound o → is_no_mate o ≡ false
+        → IsBranch (keys_of o) (length_of o) q.position (line_of o)
+    branch NoMate first told some = cc
+    branch (Mate n keys pv) first told some =
+        branches truths wins reads first q.position n pv.items keys.items told.4 told.2 (λ x is. (told.3.0 x).1 is)

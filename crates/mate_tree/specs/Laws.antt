@@ -35,9 +35,15 @@ abbrev pub line_of : Outcome → List Move
 line_of (Mate n keys pv) = pv.items
 line_of NoMate = []
 
--- The line that is told is a branch of the tree: its first move is one of the keys; the reply that follows, if one does, is legal, and what
--- follows that is one of the moves that mate soonest from there.
+-- A line of play is a branch of the tree that begins with these keys of a mate in so many moves: it begins with one of them; the reply
+-- that follows is legal, and what follows that is a branch again, of the moves that mate soonest from there, in one move less. It ends with
+-- a mate in one.
+abbrev pub IsBranch : List Move → ℕ → Setup → List Move → Type 0
+IsBranch keys n p [] = ⊥
+IsBranch keys n p (m ∷ []) = Contains keys m × (n ≡ 1)
+IsBranch keys n p (m ∷ r ∷ rest) = Contains keys m × Contains (legal_moves (after_setup p m)) r
+    × IsBranch (keys_of (soonest (n - 1) (after_setup (after_setup p m) r))) (n - 1) (after_setup (after_setup p m) r) rest
+
+-- The whole line that is told is a branch of the tree.
 abbrev pub LineBranches : Type 0
-LineBranches = (q : ProblemValue) (m r next : Move) (rest : List Move) → line_of (truth q) ≡ m ∷ r ∷ next ∷ rest
-    → Contains (keys_of (truth q)) m × Contains (legal_moves (after_setup q.position m)) r
-    × Contains (keys_of (soonest (length_of (truth q) - 1) (after_setup (after_setup q.position m) r))) next
+LineBranches = (q : ProblemValue) → is_no_mate (truth q) ≡ false → IsBranch (keys_of (truth q)) (length_of (truth q)) q.position (line_of (truth q))

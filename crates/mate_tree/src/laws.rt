@@ -33,8 +33,8 @@ pub fn defences_answered()
     soonest_reads();
 }
 
-/// The line that `solve` tells is a branch of the tree: a key, a legal reply, a move that mates soonest from there; and so on, since that
-/// move is a key again.
+/// The whole line that `solve` tells is a branch of the tree: a key, a legal reply, a move that mates soonest from there, and so on to the
+/// mate.
 pub fn line_branches()
     ensures { LineBranches }
 {
