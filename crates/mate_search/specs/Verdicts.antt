@@ -1,9 +1,15 @@
 -- Verdicts on first moves.
-use Rattle.std.specs.Prelude.{◌≡◌, List, All}
+use Rattle.std.specs.Prelude.{◌≡◌, ◌==◌, ◌&&◌, ℕ, Bool, List, All}
 use Rattle.chess_board.specs.Positions.{Setup}
+use Rattle.chess_board.specs.Moves.{Move}
+use Rattle.chess_problems.specs.SameProblems.{is_same_move}
 use Rattle.mate_search.specs.Wins.{leaves_lost}
 use Rattle.mate_search.specs.declared.verdicts.Verdict.{Verdict}
 
 -- Each verdict is true in this position: exactly where it says so, its move leaves the defender lost with as many moves more as it says.
 unfoldable pub AreTrueIn : Setup → List Verdict → Type 0
 AreTrueIn p verdicts = All (λ v. v.is_lost ≡ leaves_lost v.k p v.m) verdicts
+
+-- It is on this move, with as many moves more.
+abbrev pub is_on : Move → ℕ → Verdict → Bool
+is_on m k v = (v.k == k) && is_same_move v.m m

@@ -1,9 +1,10 @@
 //! Verdicts on first moves, which may have been found before.
 
-ghost use Rattle.std.specs.Prelude.{◌≡◌, true, IfErr, IfOk, IfSome};
+ghost use Rattle.std.specs.Prelude.{◌≡◌, true, IfErr, IfOk, IfSome, is_some};
+ghost use Rattle.std.specs.List.{list_any};
 ghost use Rattle.chess_board.specs.Legality.{is_legal};
 ghost use Rattle.chess_board.specs.Positions.{Setup};
-ghost use Rattle.mate_search.specs.Verdicts.{AreTrueIn};
+ghost use Rattle.mate_search.specs.Verdicts.{AreTrueIn, is_on};
 ghost use Rattle.mate_search.specs.Wins.{leaves_lost as move_leaves_lost};
 
 use crate::halting::{Guide, Halt, Stopped};
@@ -23,7 +24,8 @@ pub struct Verdict {
 /// What these verdicts tell of a move with `k` more, if anything.
 #[tactic(auto, using(crate::proofs::Told::verdict_told))]
 pub fn verdict_on(verdicts: &[Verdict], m: Move, k: u8) -> Option<bool>
-    ensures { (p : Setup) → AreTrueIn p verdicts.now → IfSome result (λ is_lost. is_lost ≡ move_leaves_lost k p m) }
+    ensures found { (p : Setup) → AreTrueIn p verdicts.now → IfSome result (λ is_lost. is_lost ≡ move_leaves_lost k p m) }
+    ensures told { is_some result ≡ list_any (is_on m k) verdicts.now }
 {
     // That moves which are the same are equal is this law.
     same_move_reads();
@@ -72,6 +74,7 @@ pub(crate) fn judge<H: Halt>(
     requires told { AreTrueIn root.now.position.now root.now.told.now }
     ensures found { IfOk result (λ found. found ≡ move_leaves_lost k root.now.position.now m) }
     ensures stopped { IfErr result (λ _. H.may_stop guide.now.halt.now) }
+    ensures unsearched { list_any (is_on m k) root.now.told.now ≡ true → memo.new ≡ memo.old }
     ensures room { memo.new.room ≡ memo.old.room }
 {
     match verdict_on(root.told, m, k) {
