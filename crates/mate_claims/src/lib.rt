@@ -3,7 +3,8 @@
 //! What a record says, and claims in `bm`, is `chess_notation`'s business, solving is `mate_search`'s, and lines are `text_lines`'s. To read:
 //! `specs/Verdicts.antt` and `verdicts`, `specs/BoundSources.antt` and `bound_sources`, `specs/Rows.antt` and `rows`, `counts`, then
 //! `play_words`, what the line of play claims; `specs/Said.antt` and `said`, what comes of claims; `specs/ClaimReplies.antt`, `claim_replies`
-//! and `claim_rows`; and `specs/LimitedClaims.antt` and `limited_claims`, where each record may take so long.
+//! and `claim_rows`; `specs/LimitedClaims.antt` and `limited_claims`, where each record may take so long; and `specs/CountedLines.antt`, what
+//! is counted of an input's lines.
 #![tactic(auto)]
 
 mod bound_sources;
