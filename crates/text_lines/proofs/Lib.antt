@@ -1,4 +1,5 @@
 pub mod InputLines
 pub mod KeptLines
 pub mod LineReplies
+pub mod LinesTaken
 pub mod WrittenReplies

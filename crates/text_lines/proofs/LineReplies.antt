@@ -87,7 +87,7 @@ input_from None left seen taken = ([], tt)
 input_from (Some x) None seen taken = absurd taken
 input_from (Some x) (Some y) seen taken = (y, sym taken)
 
-input_at_end : (known left : Option (List ℕ)) (seen : List ℕ) → Consumes known left seen → IsAtEnd left → MayBe known seen
+pub input_at_end : (known left : Option (List ℕ)) (seen : List ℕ) → Consumes known left seen → IsAtEnd left → MayBe known seen
 input_at_end None left seen taken end = tt
 input_at_end (Some x) None seen taken end = absurd taken
 input_at_end (Some x) (Some y) seen taken end = sym (taken ∙ ap (λ l. seen ++ l) end ∙ append-nil seen)

@@ -1,5 +1,6 @@
 pub mod Lines
 pub mod Refusals
 pub mod Replies
+pub mod TakenLines
 pub mod Writers
 pub mod inside

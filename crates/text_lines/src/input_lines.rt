@@ -9,11 +9,11 @@ ghost use Rattle.text_lines.specs.inside.InputLines.{IsKept, IsOneLine, TakesLin
 use byte_streams::{Input, InputFault};
 use std::alloc::{AllocError, Global};
 
-/// How many bytes are asked for at once.
+/// How many bytes are asked for at once, where nothing else is said.
 const PIECE: usize = 4096;
 
 /// How long a line may be without its CR: as long as a record. That it is the `max_line` of records is proved.
-pub(crate) const MAX_LINE: usize = 1023;
+pub const MAX_LINE: usize = 1023;
 
 /// How many bytes of a line are kept: one more than the longest and the CR behind it.
 const MOST_KEPT: usize = MAX_LINE + 2;
@@ -115,6 +115,8 @@ pub(crate) struct Lines<I: Drop> {
     pub(crate) piece: Vec<u8>,
     /// How much of it is taken.
     pub(crate) taken: usize,
+    /// How many bytes are asked for at once.
+    most: usize,
 }
 
 /// A line that was taken, and whether it is the last, behind which there is no newline.
@@ -130,11 +132,27 @@ impl<I: Input + Drop> Lines<I> {
         ensures left { left_of I.left result ≡ I.left input }
         ensures input { result.input ≡ input }
     {
+        Lines::by_pieces(alloc, input, PIECE)
+    }
+
+    /// The same, by pieces of so many bytes, one at least.
+    pub(crate) fn by_pieces(alloc: Global, input: I, most: usize) -> Lines<I>
+        ensures left { left_of I.left result ≡ I.left input }
+        ensures input { result.input ≡ input }
+    {
         Lines {
             input,
             piece: Vec::new(alloc),
             taken: 0,
+            most,
         }
+    }
+
+    /// Whether a whole line was read that isn't taken yet.
+    pub(crate) fn has_line(&self) -> bool {
+        let read = self.piece.as_slice();
+        let (_, left) = read.split_at(self.taken.min(read.len()));
+        cut_line(left).is_some()
     }
 
     /// Reads the next piece in place of the last; gives whether the input is at its end.
@@ -145,7 +163,7 @@ impl<I: Input + Drop> Lines<I> {
         ensures unreadable { IfErr result (λ fault. fault ≡ InputFault.Unreadable → I.breaks self.old.input) }
         ensures steady { I.breaks self.new.input → I.breaks self.old.input }
     {
-        self.piece.resize(PIECE, 0)?;
+        self.piece.resize(self.most.max(1), 0)?;
         let count = self.input.read(self.piece.as_mut_slice())?;
         self.piece.truncate(count);
         self.taken = 0;
