@@ -1,0 +1,3 @@
+mod Answers
+mod Gaining
+mod Ordering

@@ -1,0 +1,8 @@
+use Rattle.std.proofs.Common.{rules}
+use Rattle.parallel_answers.proofs.Gaining.{on_ok, opened}
+use Rattle.parallel_answers.proofs.ordered_answers.Answering.hand_in.Goals as goal
+
+pub returns-clause-opened : goal.returns-clause-opened
+returns-clause-opened g c = on_ok c.add.result _ _ c.add.ensures.replies (λ is whole lines taken at left.
+    opened c.args.self.now.answers.now.default c.args.replies.now.first c.args.number c.args.replies.now.replies.items
+    c.add.new.self.replies.items c.in_ok-reply.reply lines whole is at (c.in_ok-reply.ensures.open whole taken) left)

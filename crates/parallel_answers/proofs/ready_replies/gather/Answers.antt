@@ -1,0 +1,17 @@
+use Rattle.std.proofs.Common.{◌≡◌, ◌∙◌, ◌++◌, List, ℕ, ap, rules, subst, sym}
+use Rattle.parallel_answers.specs.inside.OpenReplies.{Gains}
+use Rattle.parallel_answers.proofs.Gaining.{gains_none, gains_then}
+use Rattle.parallel_answers.proofs.ready_replies.gather.Goals as goal
+
+pub loop-init : goal.loop-init
+loop-init c = subst (Gains c.args.default c.args.replies.now c.args.replies.now) (sym c.new-text.ensures.items)
+    (gains_none c.args.default c.args.replies.now)
+
+pub loop-preserved : goal.loop-preserved
+loop-preserved c =
+    let first : Gains c.args.default c.loop.replies c.take_first.new.self c.in-Some.output.text.items = search rules in
+    let text : c.extend_from_slice.new.self.items ≡ c.loop.text.items ++ c.in-Some.output.text.items =
+    c.in_ok-extend_from_slice.ensures.items ∙ ap (λ l. c.loop.text.items ++ l) c.as_slice.ensures.value in
+    subst (Gains c.args.default c.args.replies.now c.take_first.new.self) (sym text)
+    (gains_then c.args.default c.args.replies.now c.loop.replies c.take_first.new.self c.loop.text.items c.in-Some.output.text.items
+    c.loop.invariant first)

@@ -1,0 +1,16 @@
+//! Records answered on several threads, in their order, as their lines come.
+//!
+//! One thread takes lines, writes replies and says what is wrong with lines that say no record; workers, each with a memo of its own, answer
+//! those that say one. What comes back from them is true by its type, `answered_lines`, and is held against the line that waits for it: so
+//! nothing is proved of the channels, and an answer that is lost, or meant for another line, is never written. To read: `answered_lines`;
+//! `open_replies`, what is not written yet; `workers`, where the threads are; and `ordered_answers`.
+#![tactic(auto)]
+
+mod answered_lines;
+mod open_replies;
+mod ordered_answers;
+mod ready_replies;
+mod workers;
+
+pub use ordered_answers::{Watcher, answer_in_order};
+pub use workers::{NoWorkers, Workers};

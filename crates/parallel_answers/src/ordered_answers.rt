@@ -1,0 +1,162 @@
+//! An input answered by workers, in the order of its lines.
+
+ghost use Rattle.std.specs.Prelude.{◌≡◌, ◌≢◌, ◌≤◌, ◌+◌, ◌++◌, ◌∷◌, [], List, ℕ, IfErr, IfOk, OnOk, length};
+ghost use Rattle.std.specs.Io.KnownBytes.{Appends};
+ghost use Rattle.byte_streams.specs.Inputs.{MayBe};
+ghost use Rattle.byte_streams.specs.Stops.{AppendsBy};
+ghost use Rattle.text_lines.specs.TakenLines.{IsTakenAs};
+ghost use Rattle.mate_answers.specs.InputReplies.{IsReply, IsReplyToFirst};
+ghost use Rattle.parallel_answers.specs.inside.OpenReplies.{AreOpen, Breaks, Gains};
+
+use crate::open_replies::{OpenReplies, OpenReply, open_reply};
+use crate::ready_replies::write_ready;
+use crate::workers::{MOST_OPEN, Workers};
+use byte_streams::{Input, Stop};
+use chess_moves::Rays;
+use chess_problems::Bound;
+use mate_answers::Answers;
+use mate_search::OneThread;
+use std::alloc::Global;
+use std::io::Write;
+use std::sync::Wait;
+use text_lines::{TakenLine, TakenLines, lines_begin};
+
+/// How many bytes are asked for at once. All answers to them are written before more is asked for, since that may have to wait.
+const PIECE: usize = 262_144;
+
+/// What is told how far the answers are. No answer depends on it.
+pub trait Watcher {
+    /// These replies were written, of which the next is that to the line of such a number.
+    fn wrote(&self, replies: &[u8], next: usize);
+}
+
+/// What replies are written over: by whom they are solved, and who is told.
+#[derive(Drop)]
+struct Answering<'a, R, T> {
+    rt: &'a R,
+    alloc: Global,
+    answers: &'a Answers<'a, OneThread>,
+    watcher: &'a T,
+}
+
+impl<R: Wait, T: Watcher> Answering<'_, R, T> {
+    /// Opens the reply to a line, and hands a record to the workers.
+    fn hand_in(
+        &self,
+        workers: &mut Workers,
+        replies: &mut OpenReplies,
+        number: usize,
+        line: TakenLine,
+    ) -> Result<(), Stop>
+        ensures opened { OnOk result ((whole : List ℕ) (lines : List (List ℕ)) → IsTakenAs line whole
+            → replies.old.first + length lines ≡ number → AreOpen self.now.answers.now.default replies.old.first replies.old.replies.items lines
+            → AreOpen self.now.answers.now.default replies.old.first replies.new.replies.items (lines ++ whole ∷ [])) }
+        ensures first { replies.new.first ≡ replies.old.first }
+        ensures refused { replies.new.refused ≡ replies.old.refused }
+        ensures memory { IfErr result (λ stop. stop ≡ Stop.NoMemory) }
+    {
+        let reply = open_reply(self.alloc, self.answers, number, line)?;
+        if let OpenReply::Awaited(text) = &reply {
+            workers.hand_out(self.rt, self.alloc, number, text.as_slice())?;
+        }
+        replies.add(reply)
+    }
+
+    /// Writes the replies that are there.
+    fn write<O: Write>(
+        &self,
+        workers: &mut Workers,
+        replies: &mut OpenReplies,
+        out: &mut O,
+    ) -> Result<(), Stop>
+        ensures gains { OnOk result ((text : List ℕ) × Gains self.now.answers.now.default replies.old replies.new text
+            × Appends (O.contents out.old) (O.contents out.new) text) }
+        ensures breaks { IfErr result (λ stop. Breaks self.now.answers.now.default replies.old stop (O.contents out.old) (O.contents out.new)) }
+        ensures readable { IfErr result (λ stop. stop ≢ Stop.Unreadable) }
+    {
+        let text = write_ready(
+            self.alloc,
+            self.answers.default,
+            replies,
+            &mut workers.arrived,
+            out,
+        )?;
+        if !text.is_empty() {
+            self.watcher.wrote(text.as_slice(), replies.first);
+        }
+        Ok(())
+    }
+
+    /// Writes replies until no more of them are open than may be, and waits for answers as long as more are.
+    fn write_on<O: Write>(
+        &self,
+        workers: &mut Workers,
+        replies: &mut OpenReplies,
+        most: usize,
+        out: &mut O,
+    ) -> Result<(), Stop>
+        ensures gains { OnOk result ((text : List ℕ) × Gains self.now.answers.now.default replies.old replies.new text
+            × Appends (O.contents out.old) (O.contents out.new) text) }
+        ensures few { OnOk result (length replies.new.replies.items ≤ most) }
+        ensures breaks { IfErr result (λ stop. Breaks self.now.answers.now.default replies.old stop (O.contents out.old) (O.contents out.new)) }
+        ensures readable { IfErr result (λ stop. stop ≢ Stop.Unreadable) }
+    {
+        for _ in self.rt.forever() {
+            self.write(workers, replies, out)?;
+            if replies.replies.len() <= most {
+                return Ok(());
+            }
+            workers.wait(self.rt, self.alloc)?;
+        }
+        unreachable!()
+    }
+}
+
+/// Answers an input line by line, in order, by workers, who answer the records that ask for no bound within the default one, and are
+/// asked nothing else at the time. Each reply is written once it and all before it are there; before more is read, all are.
+///
+/// Gives how many lines are refused. Where it stops before the end, the replies to some of the first lines are written. A line is taken into
+/// memory no further than a record is long, and no more lines than may be open, or were read at once.
+pub fn answer_in_order<R: Wait, I: Input + Drop, O: Write, T: Watcher>(
+    rt: &R,
+    alloc: Global,
+    rays: &Rays,
+    default: Bound,
+    workers: &mut Workers,
+    input: I,
+    out: &mut O,
+    watcher: &T,
+) -> Result<usize, Stop>
+    ensures ok { IfOk result (λ refused. (bytes : List ℕ) × (text : List ℕ) × MayBe (I.left input) bytes × IsReply default bytes text refused
+        × Appends (O.contents out.old) (O.contents out.new) text) }
+    ensures err { IfErr result (λ stop. (bytes : List ℕ) × (text : List ℕ) × MayBe (I.left input) bytes × IsReplyToFirst default bytes text
+        × AppendsBy stop (O.contents out.old) (O.contents out.new) text) }
+    ensures unreadable { IfErr result (λ stop. stop ≡ Stop.Unreadable → I.breaks input) }
+{
+    // That lines which were taken are the first of the input is this law.
+    lines_begin();
+    let answering = Answering {
+        rt,
+        alloc,
+        answers: &Answers {
+            rays,
+            default,
+            solver: OneThread,
+        },
+        watcher,
+    };
+    let mut lines = TakenLines::new(alloc, input, PIECE);
+    let mut replies = OpenReplies::new(alloc);
+    for number in 1..usize::MAX {
+        // To read on may have to wait.
+        let most = if lines.has_line() { MOST_OPEN } else { 0 };
+        answering.write_on(workers, &mut replies, most, out)?;
+        let taken = lines.take(alloc)?;
+        answering.hand_in(workers, &mut replies, number, taken.line)?;
+        if taken.is_last {
+            answering.write_on(workers, &mut replies, 0, out)?;
+            return Ok(replies.refused);
+        }
+    }
+    Err(Stop::NoMemory)
+}

@@ -1,0 +1,380 @@
+//! Workers: threads that answer lines which say records, each with a memo of its own.
+//!
+//! Lines go out several together, as many as a worker answers in no time; an answer that took long comes back by itself. Nothing is known of
+//! who answers what, or when.
+
+use crate::answered_lines::{AnsweredLine, answered};
+use byte_streams::Stop;
+use chess_moves::Rays;
+use chess_problems::Bound;
+use crossbeam_channel::{Receiver, Sender, unbounded};
+use mate_answers::Answers;
+use mate_search::{Memo, OneThread};
+use std::alloc::{AllocError, Global};
+use std::sync::Wait;
+use std::thread::{JoinHandle, Threads};
+use std::time::Clock;
+use std::{mem, thread};
+
+/// For how many lines there are places for answers that came before their turn.
+const PLACES: usize = 4096;
+
+/// How many replies may be open at once: fewer than there are places, so that no two lines share one.
+pub(crate) const MOST_OPEN: usize = 4000;
+
+/// How many lines go out together at most.
+const MOST_TOGETHER: usize = 32;
+
+/// How many blocks of lines may be out for each worker.
+const BLOCKS_EACH: usize = 4;
+
+/// After so many microseconds what a worker has answered goes back.
+const SOON: u128 = 1000;
+
+/// Why there are no workers.
+#[derive(Clone, Copy, Debug, PartialEq, Eq)]
+pub enum NoWorkers {
+    /// Memory was refused.
+    NoMemory,
+    /// A thread was refused.
+    NoThread,
+}
+
+impl From<AllocError> for NoWorkers {
+    fn from(_refused: AllocError) -> NoWorkers {
+        NoWorkers::NoMemory
+    }
+}
+
+/// Answers that came back, each at a place by its line's number.
+#[derive(Drop)]
+pub(crate) struct Arrived {
+    places: Vec<Option<AnsweredLine>>,
+}
+
+impl Arrived {
+    /// None yet.
+    fn new(alloc: Global) -> Result<Arrived, AllocError> {
+        let mut places = Vec::new(alloc);
+        for _ in 0..PLACES {
+            places.push(None)?;
+        }
+        Ok(Arrived { places })
+    }
+
+    /// Whether the answer to the line of this number has come.
+    pub(crate) fn has(&self, number: usize) -> bool {
+        match self.places.get(number % PLACES) {
+            Some(Some(answered)) => answered.number == number,
+            _ => false,
+        }
+    }
+
+    /// Takes the answer to the line of this number.
+    pub(crate) fn take(&mut self, number: usize) -> Option<AnsweredLine> {
+        match self.places.get_mut(number % PLACES) {
+            Some(place) => place.take(),
+            None => None,
+        }
+    }
+
+    /// Puts an answer at its place.
+    fn put(&mut self, answered: AnsweredLine) {
+        if let Some(place) = self.places.get_mut(answered.number % PLACES) {
+            *place = Some(answered);
+        }
+    }
+}
+
+/// A line that is handed out, and its number.
+#[derive(Drop)]
+struct HandedLine {
+    number: usize,
+    line: Vec<u8>,
+}
+
+/// What comes back.
+#[derive(Drop)]
+enum Back {
+    /// Answers to lines that went out together; whether they are the last of these, and all came soon.
+    Answered {
+        lines: Vec<AnsweredLine>,
+        is_last: bool,
+        is_soon: bool,
+    },
+    /// Memory was refused.
+    NoMemory,
+}
+
+/// The ends of the channels that a worker has, and what it is asked.
+#[derive(Drop)]
+struct Bench {
+    handed: Receiver<Vec<HandedLine>, Global>,
+    backs: Sender<Back, Global>,
+    default: Bound,
+    entries: usize,
+}
+
+/// What a clock says, in microseconds, or nothing where it can't be read.
+fn time<R: Clock>(rt: &R) -> u128 {
+    match rt.monotonic() {
+        Ok(since) => since.as_micros(),
+        Err(_) => 0,
+    }
+}
+
+impl Bench {
+    /// Gives answers back; answers whether somebody takes them.
+    fn give<R: Wait>(&self, rt: &R, back: Back) -> bool {
+        self.backs.send(rt, back).is_ok()
+    }
+
+    /// Answers lines that went out together; answers whether there is more to do.
+    fn answer_block<R: Wait + Clock>(
+        &self,
+        rt: &R,
+        alloc: Global,
+        answers: &Answers<OneThread>,
+        block: Vec<HandedLine>,
+        memo: &mut Memo,
+    ) -> bool {
+        let began = time(rt);
+        let mut since = began;
+        let mut now = began;
+        let mut lines = Vec::new(alloc);
+        for HandedLine { number, line } in block {
+            let Some(line) = answered(alloc, answers, number, line, memo) else {
+                return self.give(rt, Back::NoMemory);
+            };
+            if lines.push(line).is_err() {
+                return self.give(rt, Back::NoMemory);
+            }
+            now = time(rt);
+            if now.saturating_sub(since) >= SOON {
+                since = now;
+                let some = Back::Answered {
+                    lines: mem::replace(&mut lines, Vec::new(alloc)),
+                    is_last: false,
+                    is_soon: false,
+                };
+                if !self.give(rt, some) {
+                    return false;
+                }
+            }
+        }
+        let is_soon = now.saturating_sub(began) < SOON;
+        self.give(
+            rt,
+            Back::Answered {
+                lines,
+                is_last: true,
+                is_soon,
+            },
+        )
+    }
+
+    /// Answers lines until none are handed out any more.
+    fn run<R: Wait + Clock>(&self, rt: &R, alloc: Global) {
+        let Ok(mut memo) = Memo::new(alloc, self.entries) else {
+            self.give(rt, Back::NoMemory);
+            return;
+        };
+        let rays = Rays::new();
+        let answers = Answers {
+            rays: &rays,
+            default: self.default,
+            solver: OneThread,
+        };
+        for _ in rt.forever() {
+            let Ok(block) = self.handed.recv(rt) else {
+                return;
+            };
+            if !self.answer_block(rt, alloc, &answers, block, &mut memo) {
+                return;
+            }
+        }
+    }
+}
+
+/// Workers, the lines that they have, and the answers that came back.
+#[derive(Drop)]
+pub struct Workers {
+    handed: Sender<Vec<HandedLine>, Global>,
+    backs: Receiver<Back, Global>,
+    pub(crate) arrived: Arrived,
+    // Lines that go out with the next, how many are to go together, how many blocks are out and may be.
+    held: Vec<HandedLine>,
+    together: usize,
+    out: usize,
+    most_out: usize,
+    threads: Vec<JoinHandle<()>>,
+}
+
+/// Starts one worker.
+fn start_one<R: Threads + Wait + Clock + Clone + Drop + Send + 'static>(
+    rt: &R,
+    alloc: Global,
+    bench: Bench,
+) -> Result<JoinHandle<()>, NoWorkers> {
+    let Ok(own) = rt.clone() else {
+        return Err(NoWorkers::NoMemory);
+    };
+    match thread::spawn(rt, move || bench.run(&own, alloc)) {
+        Ok(thread) => Ok(thread),
+        Err(_) => Err(NoWorkers::NoThread),
+    }
+}
+
+impl Workers {
+    ghost use Rattle.std.specs.Prelude.{◌≡◌, IfErr};
+
+    /// Starts so many workers, each with a memo of so many entries, 1 to 65,536. They answer records that ask for no bound within the
+    /// default one.
+    pub fn start<R: Threads + Wait + Clock + Clone + Drop + Send + 'static>(
+        rt: &R,
+        alloc: Global,
+        count: usize,
+        default: Bound,
+        entries: usize,
+    ) -> Result<Workers, NoWorkers> {
+        let (handed, takes) = unbounded(alloc)?;
+        let (gives, backs) = unbounded(alloc)?;
+        let mut threads = Vec::new(alloc);
+        for _ in 0..count {
+            let bench = Bench {
+                handed: takes.clone()?,
+                backs: gives.clone()?,
+                default,
+                entries,
+            };
+            let thread = start_one(rt, alloc, bench)?;
+            if threads.push(thread).is_err() {
+                return Err(NoWorkers::NoMemory);
+            }
+        }
+        Ok(Workers {
+            handed,
+            backs,
+            arrived: Arrived::new(alloc)?,
+            held: Vec::new(alloc),
+            together: 1,
+            out: 0,
+            most_out: count.saturating_mul(BLOCKS_EACH),
+            threads,
+        })
+    }
+
+    /// Hands out the lines that are held.
+    fn send_held<R: Wait>(&mut self, rt: &R, alloc: Global) -> Result<(), Stop>
+        ensures memory { IfErr result (λ stop. stop ≡ Stop.NoMemory) }
+    {
+        let block = mem::replace(&mut self.held, Vec::new(alloc));
+        if self.handed.send(rt, block).is_err() {
+            return Err(Stop::NoMemory);
+        }
+        self.out = self.out.saturating_add(1);
+        Ok(())
+    }
+
+    /// Takes in what came back. Where it came soon more lines go out together from then on, else one at a time.
+    fn take_in(&mut self, back: Back) -> Result<(), Stop>
+        ensures memory { IfErr result (λ stop. stop ≡ Stop.NoMemory) }
+    {
+        let Back::Answered {
+            lines,
+            is_last,
+            is_soon,
+        } = back
+        else {
+            return Err(Stop::NoMemory);
+        };
+        for line in lines {
+            self.arrived.put(line);
+        }
+        if is_last {
+            self.out = self.out.saturating_sub(1);
+            self.together = if is_soon {
+                self.together.saturating_mul(2).min(MOST_TOGETHER)
+            } else {
+                1
+            };
+        }
+        Ok(())
+    }
+
+    /// Takes in all that has come back.
+    fn look<R: Wait>(&mut self, rt: &R) -> Result<(), Stop>
+        ensures memory { IfErr result (λ stop. stop ≡ Stop.NoMemory) }
+    {
+        for _ in 0..PLACES {
+            match self.backs.try_recv(rt) {
+                Ok(back) => self.take_in(back)?,
+                Err(_) => return Ok(()),
+            }
+        }
+        Ok(())
+    }
+
+    /// Waits until something comes back.
+    fn await_back<R: Wait>(&mut self, rt: &R) -> Result<(), Stop>
+        ensures memory { IfErr result (λ stop. stop ≡ Stop.NoMemory) }
+    {
+        match self.backs.recv(rt) {
+            Ok(back) => self.take_in(back)?,
+            Err(_) => return Err(Stop::NoMemory),
+        }
+        self.look(rt)
+    }
+
+    /// Hands out a line that says a record, by its number, at the latest with the next wait. It waits where enough are out.
+    pub(crate) fn hand_out<R: Wait>(
+        &mut self,
+        rt: &R,
+        alloc: Global,
+        number: usize,
+        line: &[u8],
+    ) -> Result<(), Stop>
+        ensures memory { IfErr result (λ stop. stop ≡ Stop.NoMemory) }
+    {
+        let mut copy = Vec::new(alloc);
+        copy.extend_from_slice(line)?;
+        if self.held.push(HandedLine { number, line: copy }).is_err() {
+            return Err(Stop::NoMemory);
+        }
+        if self.held.len() < self.together {
+            return Ok(());
+        }
+        self.send_held(rt, alloc)?;
+        self.look(rt)?;
+        if self.out >= self.most_out {
+            self.await_back(rt)?;
+        }
+        Ok(())
+    }
+
+    /// Waits until something comes back, where something is out.
+    pub(crate) fn wait<R: Wait>(&mut self, rt: &R, alloc: Global) -> Result<(), Stop>
+        ensures memory { IfErr result (λ stop. stop ≡ Stop.NoMemory) }
+    {
+        if !self.held.is_empty() {
+            self.send_held(rt, alloc)?;
+        }
+        if self.out == 0 {
+            return Err(Stop::NoMemory);
+        }
+        self.await_back(rt)
+    }
+
+    /// Lets the workers go, and waits until they are gone.
+    pub fn end<R: Threads + Wait>(self, rt: &R) {
+        let Workers {
+            handed,
+            threads,
+            ..
+        } = self;
+        drop(handed);
+        for thread in threads {
+            thread.join(rt);
+        }
+    }
+}
