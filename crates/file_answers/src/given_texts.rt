@@ -113,6 +113,10 @@ impl<'a, S: Source> Source for GivenTexts<'a, S> {
         self.source.kind(name)
     }
 
+    fn turns_to(&self, name: &str) {
+        self.source.turns_to(name);
+    }
+
     fn begins(&self, number: usize) {
         self.source.begins(number);
     }

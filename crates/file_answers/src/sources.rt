@@ -60,7 +60,10 @@ pub trait Source {
         NameKind::Unknown
     }
 
-    /// Is told that the line of this number is begun, of the file that was opened last.
+    /// Is told that the file of this name, which was opened before, is answered next.
+    fn turns_to(&self, _name: &str) {}
+
+    /// Is told that the line of this number is begun, of the file that was opened or turned to last.
     fn begins(&self, _number: usize) {}
 
     /// What counts the lines that workers take, whichever they are; none where nobody asks.
