@@ -2,9 +2,9 @@
 use Rattle.std.proofs.Common.{◌≡◌, ◌∙◌, ◌+◌, ◌-◌, ◌++◌, ◌||◌, ◌<◌, ◌≤◌, Bor, ℕ, zero, suc, Bool, false, List, [], ◌∷◌, Option, refl, sym}
 use Rattle.std.proofs.Common.{ap, subst, arith, lt-ltb, map, take, drop, length, nat_lt, append_assoc, slice_index_or}
 use Rattle.std.specs.Bool.{⊤}
-use Rattle.std.proofs.lemmas.List.{append-nil, take_all, take_more, map-append, take-append-drop}
+use Rattle.std.proofs.lemmas.List.{append-nil, take_all}
 use Rattle.std.proofs.KnownBytes.{Appends-trans}
-use Rattle.std.proofs.Math.Seq.{drop-append_seam, drop-cons, take-append_seam}
+use Rattle.std.proofs.Math.Seq.{drop-append_seam, take-append_seam}
 use Rattle.std.specs.Io.KnownBytes.{Appends}
 use Rattle.byte_streams.specs.Inputs.{MayBe}
 use Rattle.byte_streams.specs.Stops.{AppendsBy}
@@ -13,6 +13,7 @@ use Rattle.byte_streams.specs.declared.stops.Stop.TheVariants as stop
 use Rattle.file_answers.specs.Sources.{Holds, HoldsEach, HoldsMore}
 use Rattle.file_answers.specs.FileAnswers.{Answers, AnswersFirst, AnswersTold, AreReplies, AreTold, FileReplies, FileTold, FirstRefused}
 use Rattle.file_answers.specs.FileAnswers.{FirstReplies, IsReplyIn, StopsAnswering, from_behind}
+use Rattle.file_answers.proofs.HeldFiles.{names_next, names_split}
 use Rattle.file_answers.proofs.Parts.{part_behind}
 
 pub refused_more : (a b : Bool) (m n : ℕ) → a ≡ nat_lt 0 m → b ≡ nat_lt 0 n → (a || b) ≡ nat_lt 0 (m + n)
@@ -121,7 +122,7 @@ answers_next joined holds T from names i d at refused here_refused a b c gained 
     (slice_index_or names i d).now at refused here_refused (b - a) (c - b) gained input here few so_far held reply refusal in
     let all = subst (λ n. AnsweredTo holds T from (map (λ s. s.now) (take i names) ++ (slice_index_or names i d).now ∷ []) 1
     (refused || here_refused) n (gained ++ here)) (omega (arith, first, second)) more in
-    rw (take_more names i d within, map-append (λ (s : Bor (List ℕ)). s.now) (take i names) (slice_index_or names i d ∷ [])) all
+    rw (names_next names i d within) all
 
 -- All names are answered: what is told of the files.
 pub all_so_far : (T : FileTold) (holds : List ℕ → Option (List ℕ)) (from : ℕ) (names : List (Bor (List ℕ))) (i at : ℕ) (refused : Bool) (marks : ℕ)
@@ -215,14 +216,6 @@ stops_at each holds refuses R P from front name back at a stop.NoReader old mid 
       appends = part_behind old mid new gained part before appends;
     }
 
-names_split : (names : List (Bor (List ℕ))) (i : ℕ) (d : Bor (List ℕ)) → i < length names
-    → map (λ s. s.now) names ≡ map (λ s. s.now) (take i names) ++ (slice_index_or names i d).now ∷ map (λ s. s.now) (drop (suc i) names)
-names_split names i d within =
-    let split : names ≡ take i names ++ slice_index_or names i d ∷ drop (suc i) names =
-    sym (take-append-drop i names) ∙ ap (λ l. take i names ++ l) (drop-cons names i d within) in
-    ap (map (λ (s : Bor (List ℕ)). s.now)) split
-    ∙ map-append (λ (s : Bor (List ℕ)). s.now) (take i names) (slice_index_or names i d ∷ drop (suc i) names)
-
 -- It stops at the file of this index.
 pub stops_there : HoldsEach
     → (holds : List ℕ → Option (List ℕ)) (refuses : List ℕ → Type 0) (T : FileTold) (R : FileReplies) (P : FirstReplies) → Tells T R → (from : ℕ)
@@ -234,7 +227,7 @@ pub stops_there : HoldsEach
 stops_there each holds refuses T R P tells from names i d at a marks s old mid new gained input part within so_far before held reply appends may =
     rw (names_split names i d within)
     (stops_at each holds refuses R P from (map (λ s. s.now) (take i names)) (slice_index_or names i d).now
-    (map (λ s. s.now) (drop (suc i) names)) at a s old mid new gained input part
+    (map (λ s. s.now) (drop (i + 1) names)) at a s old mid new gained input part
     (stands_at T R tells holds from (map (λ s. s.now) (take i names)) at a marks gained so_far) before held reply appends may)
 
 -- All files are answered, and it stops behind them.

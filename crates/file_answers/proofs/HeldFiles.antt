@@ -1,6 +1,6 @@
 -- Names of files one after the other, and what each holds.
 use Rattle.std.proofs.Common.{◌≡◌, ◌∙◌, ◌+◌, ◌++◌, ◌<◌, ◌⊎◌, Bor, ℕ, suc, List, [], ◌∷◌, Option, inl}
-use Rattle.std.proofs.Common.{inr, refl, sym, ap, subst, map, take, drop, length, slice_index_or}
+use Rattle.std.proofs.Common.{arith, inr, refl, sym, ap, subst, map, take, drop, length, slice_index_or}
 use Rattle.std.proofs.lemmas.List.{take_more, map-append, take-append-drop}
 use Rattle.std.proofs.Math.Seq.{drop-cons}
 use Rattle.byte_streams.specs.Inputs.{MayBe}
@@ -20,21 +20,35 @@ holds_each holds [] (x ∷ xs) held = absurd held
 holds_each holds (n ∷ ns) [] held = absurd held
 holds_each holds (n ∷ ns) (x ∷ xs) held = ap suc (holds_each holds ns xs held.1)
 
-names_split : (names : List (Bor (List ℕ))) (i : ℕ) (d : Bor (List ℕ)) → i < length names
-    → map (λ s. s.now) names ≡ map (λ s. s.now) (take i names) ++ (slice_index_or names i d).now ∷ map (λ s. s.now) (drop (suc i) names)
+-- The names from that of an index on.
+pub names_left : (names : List (Bor (List ℕ))) (i : ℕ) (d : Bor (List ℕ)) → i < length names
+    → map (λ s. s.now) (drop i names) ≡ (slice_index_or names i d).now ∷ map (λ s. s.now) (drop (i + 1) names)
+names_left names i d within =
+    let after : suc i ≡ i + 1 = omega arith in
+    ap (map (λ (s : Bor (List ℕ)). s.now))
+    (subst (λ n. drop i names ≡ slice_index_or names i d ∷ drop n names) after (drop-cons names i d within))
+
+pub names_split : (names : List (Bor (List ℕ))) (i : ℕ) (d : Bor (List ℕ)) → i < length names
+    → map (λ s. s.now) names ≡ map (λ s. s.now) (take i names) ++ (slice_index_or names i d).now ∷ map (λ s. s.now) (drop (i + 1) names)
 names_split names i d within =
-    let split : names ≡ take i names ++ slice_index_or names i d ∷ drop (suc i) names =
-    sym (take-append-drop i names) ∙ ap (λ l. take i names ++ l) (drop-cons names i d within) in
-    ap (map (λ (s : Bor (List ℕ)). s.now)) split
-    ∙ map-append (λ (s : Bor (List ℕ)). s.now) (take i names) (slice_index_or names i d ∷ drop (suc i) names)
+    ap (map (λ (s : Bor (List ℕ)). s.now)) (sym (take-append-drop i names))
+    ∙ map-append (λ (s : Bor (List ℕ)). s.now) (take i names) (drop i names)
+    ∙ ap (λ l. map (λ (s : Bor (List ℕ)). s.now) (take i names) ++ l) (names_left names i d within)
+
+-- One name more is taken.
+pub names_next : (names : List (Bor (List ℕ))) (i : ℕ) (d : Bor (List ℕ)) → i < length names
+    → map (λ s. s.now) (take (i + 1) names) ≡ map (λ s. s.now) (take i names) ++ (slice_index_or names i d).now ∷ []
+names_next names i d within =
+    ap (map (λ (s : Bor (List ℕ)). s.now)) (take_more names i d within)
+    ∙ map-append (λ (s : Bor (List ℕ)). s.now) (take i names) (slice_index_or names i d ∷ [])
 
 -- One name more of those that are taken is read.
 pub holds_next : (holds : List ℕ → Option (List ℕ)) (names : List (Bor (List ℕ))) (i : ℕ) (d : Bor (List ℕ)) (inputs : List (List ℕ)) (input : List ℕ)
     → i < length names → Holds holds (map (λ s. s.now) (take i names)) inputs → MayBe (holds (slice_index_or names i d).now) input
     → Holds holds (map (λ s. s.now) (take (i + 1) names)) (inputs ++ input ∷ [])
 holds_next holds names i d inputs input within so_far held =
-    let more = holds_more holds (map (λ s. s.now) (take i names)) inputs (slice_index_or names i d).now input so_far held in
-    rw (take_more names i d within, map-append (λ (s : Bor (List ℕ)). s.now) (take i names) (slice_index_or names i d ∷ [])) more
+    rw (names_next names i d within)
+    (holds_more holds (map (λ s. s.now) (take i names)) inputs (slice_index_or names i d).now input so_far held)
 
 some_behind : (refuses : List ℕ → Type 0) (front : List (List ℕ)) (name : List ℕ) (back : List (List ℕ)) → refuses name
     → SomeRefused refuses (front ++ name ∷ back)
@@ -46,7 +60,7 @@ some_refused : (refuses : List ℕ → Type 0) (names : List (Bor (List ℕ))) (
     → SomeRefused refuses (map (λ s. s.now) names)
 some_refused refuses names i d within may =
     subst (SomeRefused refuses) (sym (names_split names i d within))
-    (some_behind refuses (map (λ s. s.now) (take i names)) (slice_index_or names i d).now (map (λ s. s.now) (drop (suc i) names)) may)
+    (some_behind refuses (map (λ s. s.now) (take i names)) (slice_index_or names i d).now (map (λ s. s.now) (drop (i + 1) names)) may)
 
 -- The file of this index stops the reading.
 pub refused_there : (refuses : List ℕ → Type 0) (names : List (Bor (List ℕ))) (i : ℕ) (d : Bor (List ℕ)) (s : Stop) → i < length names

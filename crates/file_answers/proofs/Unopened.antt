@@ -1,5 +1,5 @@
 -- What a file that is not opened is answered.
-use Rattle.std.proofs.Common.{◌≡◌, ◌-◌, ℕ, zero, suc, List, [], ◌∷◌, Option, None, Some, refl, drop}
+use Rattle.std.proofs.Common.{◌≡◌, ◌-◌, ◌⊎◌, ℕ, zero, suc, List, [], ◌∷◌, Option, None, Some, arith, inl, inr, refl, drop}
 use Rattle.std.specs.Bool.{⊤}
 use Rattle.std.proofs.KnownBytes.{Appends-nil}
 use Rattle.byte_streams.specs.Inputs.{MayBe}
@@ -8,6 +8,7 @@ use Rattle.byte_streams.specs.Stops.{AppendsBy, stop_of}
 use Rattle.byte_streams.specs.declared.inputs.InputFault.{InputFault}
 use Rattle.byte_streams.specs.declared.inputs.InputFault.TheVariants as fault
 use Rattle.byte_streams.specs.declared.stops.Stop.{Stop}
+use Rattle.byte_streams.specs.declared.stops.Stop.TheVariants as stop
 use Rattle.file_answers.specs.FileAnswers.{AnswersFirst, FileReplies, FirstReplies, IsReplyIn}
 use Rattle.file_answers.specs.LinesFrom.{IsReplyToFirstOn}
 
@@ -53,3 +54,14 @@ pub not_opened : (f : InputFault) (s : Stop) (P : List ℕ → List ℕ → Type
     → ((input : List ℕ) → P input []) → s ≡ stop_of f
     → (input : List ℕ) × (text : List ℕ) × MayBe known input × P input text × AppendsBy s old old text
 not_opened f s P known old none is = rw (is) (not_opened_by f P known old none)
+
+-- The same where it stops for want of memory, or at a name that may be refused.
+pub stopped_unopened : {Q : Type 0} (s : Stop) (P : List ℕ → List ℕ → Type 0) (known old : Option (List ℕ))
+    → ((input : List ℕ) → P input []) → (s ≡ stop.NoMemory) ⊎ ((s ≡ stop.Unreadable) × Q)
+    → (input : List ℕ) × (text : List ℕ) × MayBe known input × P input text × AppendsBy s old old text
+stopped_unopened s P known old none (inl is) = not_opened fault.NoMemory s P known old none is
+stopped_unopened s P known old none (inr (is, may)) = not_opened fault.Unreadable s P known old none is
+
+pub may_refuse : {Q : Type 0} {s : Stop} → (s ≡ stop.NoMemory) ⊎ ((s ≡ stop.Unreadable) × Q) → s ≡ stop.Unreadable → Q
+may_refuse (inl is) unreadable = grind (arith, is, unreadable)
+may_refuse (inr (is, may)) unreadable = may

@@ -5,9 +5,10 @@ ghost use Rattle.std.specs.Io.KnownBytes.{Appends};
 ghost use Rattle.byte_streams.specs.Inputs.{MayBe};
 ghost use Rattle.byte_streams.specs.Stops.{AppendsBy};
 ghost use Rattle.file_answers.specs.Writing.{Gains};
+ghost use Rattle.file_answers.specs.Sources.{HasAll};
 ghost use Rattle.file_answers.specs.FileAnswers.{Answers, AnswersTold, FileReplies, FileTold, FirstReplies, StopsAnswering};
 
-use crate::sources::{Source, complain_of, holds_reads};
+use crate::sources::{Source, holds_reads, open_file, stop_at};
 use byte_streams::{Input, Stop};
 use command_words::{Files, LineNumber};
 use std::alloc::Global;
@@ -68,15 +69,20 @@ pub trait FileAnswers {
         ensures { (from : ℕ) (name input : List ℕ) → first self.now from name input [] };
 }
 
-/// Answers a file from the line of a number on; gives how many of its lines are refused.
-fn answer_file<A: FileAnswers, S: Source, O: Write>(
+/// Answers a file that was opened, from the line of a number on; gives how many of its lines are refused. One that breaks off is named on
+/// `err`.
+pub(crate) fn answer_file<A: FileAnswers, S: Source, O: Write, E: Write>(
     alloc: Global,
     answers: &A,
     start: &FileStart<S>,
+    file: S::File,
     memory: &mut A::Memory,
     out: &mut O,
+    err: &mut E,
 ) -> Result<usize, Stop>
     requires ready { A.ready answers.now }
+    requires left { HasAll (S.holds start.now.source.now start.now.name.now) (S.File.Input.left file) }
+    requires breaks { S.File.Input.breaks file → S.refuses start.now.source.now start.now.name.now }
     ensures ok { IfOk result (λ count. (input : List ℕ) × (text : List ℕ) × MayBe (S.holds start.now.source.now start.now.name.now) input
         × A.told answers.now start.now.from start.now.name.now input text count (A.tally memory.new - A.tally memory.old)
         × Appends (O.contents out.old) (O.contents out.new) text) }
@@ -86,10 +92,10 @@ fn answer_file<A: FileAnswers, S: Source, O: Write>(
         × AppendsBy stop (O.contents out.old) (O.contents out.new) text) }
     ensures unreadable { IfErr result (λ stop. stop ≡ Stop.Unreadable → S.refuses start.now.source.now start.now.name.now) }
 {
-    // What a file that can't be opened is answered.
-    answers.begins_with_nothing();
-    let file = start.source.open(alloc, start.name)?;
-    answers.answer(alloc, start, file, memory, out)
+    match answers.answer(alloc, start, file, memory, out) {
+        Ok(count) => Ok(count),
+        Err(stop) => Err(stop_at(stop, err, start.source, start.name)),
+    }
 }
 
 /// Answers each line of each file in order, but those of the first file that are passed over, and opens a file only after the answers to
@@ -113,24 +119,17 @@ pub fn answer_files<A: FileAnswers, S: Source, O: Write, E: Write>(
         (λ stop. StopsAnswering (S.holds source.now) (S.refuses source.now) (A.replies answers.now) (A.first answers.now)
         files.now.from (map (λ s. s.now) files.now.names.now) stop (O.contents out.old) (O.contents out.new)) }
 {
-    // How the files that are answered so far go on with the next.
+    // How the files that are answered so far go on with the next, and what one that can't be opened is answered.
     holds_reads();
+    answers.begins_with_nothing();
     let mut refused = false;
     let mut from = files.from;
     for name in files.names {
         let start = FileStart { name, from, source };
-        match answer_file(alloc, answers, &start, memory, out) {
-            Ok(count) => {
-                refused |= count > 0;
-                from = LineNumber::first();
-            }
-            Err(stop) => {
-                if stop == Stop::Unreadable {
-                    complain_of(err, source, name);
-                }
-                return Err(stop);
-            }
-        }
+        let file = open_file(alloc, name, source, err)?;
+        let count = answer_file(alloc, answers, &start, file, memory, out, err)?;
+        refused |= count > 0;
+        from = LineNumber::first();
     }
     Ok(refused)
 }

@@ -130,6 +130,33 @@ pub fn complain_of<S: Source, E: Write>(err: &mut E, source: &S, name: &str) {
     }
 }
 
+/// Names the file that it stops at on `err`, if that can't be read; gives why it stops.
+pub(crate) fn stop_at<S: Source, E: Write>(stop: Stop, err: &mut E, source: &S, name: &str) -> Stop
+    ensures { result ≡ stop }
+{
+    if stop == Stop::Unreadable {
+        complain_of(err, source, name);
+    }
+    stop
+}
+
+/// A file, of which nothing is read yet. One that can't be opened is named on `err`.
+pub(crate) fn open_file<S: Source, E: Write>(
+    alloc: Global,
+    name: &str,
+    source: &S,
+    err: &mut E,
+) -> Result<S::File, Stop>
+    ensures bytes { IfOk result (λ file. HasAll (S.holds source.now name.now) (S.File.Input.left file)) }
+    ensures breaks { IfOk result (λ file. S.File.Input.breaks file → S.refuses source.now name.now) }
+    ensures refused { IfErr result (λ stop. (stop ≡ Stop.NoMemory) ⊎ ((stop ≡ Stop.Unreadable) × S.refuses source.now name.now)) }
+{
+    match source.open(alloc, name) {
+        Ok(file) => Ok(file),
+        Err(fault) => Err(stop_at(Stop::from(fault), err, source, name)),
+    }
+}
+
 /// All bytes of a file. One that can't be read is named on `err`.
 pub fn read_file<S: Source, E: Write>(
     alloc: Global,
