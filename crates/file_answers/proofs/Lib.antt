@@ -1,4 +1,5 @@
 mod HeldFiles
+mod OpenedFiles
 mod LinesFrom
 mod WrittenFrom
 mod Opened

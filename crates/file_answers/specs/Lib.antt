@@ -1,4 +1,5 @@
 pub mod Sources
+pub mod OpenedFiles
 pub mod Writing
 pub mod Status
 pub mod LinesFrom

@@ -1,0 +1,62 @@
+use Rattle.std.proofs.Common.{◌++◌, [], arith, refl}
+use Rattle.std.proofs.KnownBytes.{Appends-nil, Appends-trans}
+use Rattle.std.proofs.lemmas.List.{length-map}
+use Rattle.std.proofs.lemmas.Result.{err_from_is_err_and}
+use Rattle.file_answers.proofs.AnsweredFiles.{all_so_far, all_told, answered_none, answers_next, stops_there}
+use Rattle.file_answers.proofs.OpenedFiles.{opened_behind, opened_each}
+use Rattle.file_answers.proofs.opened_files.answer_opened.Goals as goal
+
+pub returns-in_err-count-clause-err : goal.returns-in_err-count-clause-err
+returns-in_err-count-clause-err g c =
+    let (other, is, same) = err_from_is_err_and c.from_residual.result c.from_residual.ensures.1 in
+    let (gained, so_far, grown, before, left, count) = c.loop-name.invariant in
+    let (input, part, may, reply, appends) = c.in_err-count.ensures.err in
+    rw (is, same) (stops_there c.holds_reads.ensures.each (g.S.Source.holds c.args.source.now) (g.S.Source.refuses c.args.source.now)
+    (g.A.FileAnswers.told c.args.answers.now) (g.A.FileAnswers.replies c.args.answers.now)
+    (g.A.FileAnswers.first c.args.answers.now) (g.A.FileAnswers.tells c.args.answers.now) 1 c.args.names.now
+    c.loop-name.name-index _ c.first-from.result c.loop-name.refused _ c.in_err-count.field-0.0 (g.O.Write.contents c.args.out.now) _ _ gained
+    input part c.loop-name-test.true so_far before may reply appends c.in_err-count.ensures.unreadable)
+
+pub loop-name-init : goal.loop-name-init
+loop-name-init g c =
+    let each = opened_each _ _ _ _ _ _ c.requires.opened in (
+      [],
+      rw c.first-from.ensures (answered_none _ _ _ _),
+      omega arith,
+      Appends-nil (g.O.Write.contents c.args.out.now),
+      rw c.into_iter-rest.ensures.rest c.requires.opened,
+      omega (arith, each, c.into_iter-rest.ensures.len, length-map c.args.names.now (λ s. s.now)),
+    )
+
+pub loop-name-preserved : goal.loop-name-preserved
+loop-name-preserved g c =
+    let (gained, so_far, grown, before, left, count) = c.loop-name.invariant in
+    let (input, text, may, reply, appends) = c.in_ok-count.ensures.ok in (
+      gained ++ text,
+      rw c.first-from.ensures (answers_next c.holds_reads.ensures.more (g.S.Source.holds c.args.source.now) (g.A.FileAnswers.told c.args.answers.now) 1
+          c.args.names.now c.loop-name.name-index _ c.first-from.result c.loop-name.refused _ _ _ _ gained input text c.in_ok-count.count
+          c.loop-name-test.true grown c.in_ok-count.ensures.grows so_far may reply refl),
+      omega (arith, grown, c.in_ok-count.ensures.grows),
+      Appends-trans _ _ _ gained text before appends,
+      opened_behind _ _ _ _ c.args.names.now c.loop-name.name-index _ _ _ c.loop-name-test.true left c.in-Some.ensures.cases.0,
+      omega (arith, count, c.in-Some.ensures.cases.1),
+    )
+
+pub returns-clause-ok : goal.returns-clause-ok
+returns-clause-ok g c =
+    let (gained, so_far, grown, appends, left, count) = c.loop-name.invariant in record {
+      gained = gained;
+      shows = all_told (g.A.FileAnswers.told c.args.answers.now) (g.A.FileAnswers.replies c.args.answers.now)
+          (g.A.FileAnswers.tells c.args.answers.now) (g.S.Source.holds c.args.source.now) 1 c.args.names.now
+          c.loop-name.name-index c.first-from.result c.loop-name.refused _ gained c.loop-name-test.false so_far;
+      appends = appends;
+    }
+
+pub returns-clause-told : goal.returns-clause-told
+returns-clause-told g c =
+    let (gained, so_far, grown, appends, left, count) = c.loop-name.invariant in record {
+      gained = gained;
+      shows = all_so_far (g.A.FileAnswers.told c.args.answers.now) (g.S.Source.holds c.args.source.now) 1
+          c.args.names.now c.loop-name.name-index c.first-from.result c.loop-name.refused _ gained c.loop-name-test.false so_far;
+      appends = appends;
+    }

@@ -1,0 +1,76 @@
+//! Files that are all opened before the first is answered.
+
+ghost use Rattle.std.specs.Prelude.{◌≡◌, ◌⊎◌, ◌-◌, IfErr, IfOk, length, map};
+ghost use Rattle.file_answers.specs.FileAnswers.{Answers, AnswersTold, StopsAnswering};
+ghost use Rattle.file_answers.specs.OpenedFiles.{AreOpened};
+ghost use Rattle.file_answers.specs.Sources.{SomeRefused};
+ghost use Rattle.file_answers.specs.Writing.{Gains};
+
+use crate::file_answers::{FileAnswers, FileStart, answer_file};
+use crate::sources::{Source, holds_reads, open_file};
+use byte_streams::Stop;
+use command_words::LineNumber;
+use std::alloc::Global;
+use std::io::Write;
+
+/// Opens each file, in order. The first that can't be opened is named on `err`, and none behind it is opened.
+pub fn open_files<S: Source, E: Write>(
+    alloc: Global,
+    names: &[&str],
+    source: &S,
+    err: &mut E,
+) -> Result<Vec<S::File>, Stop>
+    ensures count { IfOk result (λ files. length files.items ≡ length names.now) }
+    ensures opened { IfOk result (λ files. AreOpened S.File.Input.left S.File.Input.breaks (S.holds source.now) (S.refuses source.now)
+        (map (λ s. s.now) names.now) files.items) }
+    ensures refused { IfErr result (λ stop. (stop ≡ Stop.NoMemory)
+        ⊎ ((stop ≡ Stop.Unreadable) × SomeRefused (S.refuses source.now) (map (λ s. s.now) names.now))) }
+{
+    let mut files = Vec::new(alloc);
+    for name in names {
+        let file = open_file(alloc, name, source, err)?;
+        let Ok(()) = files.push(file) else {
+            return Err(Stop::NoMemory);
+        };
+    }
+    Ok(files)
+}
+
+/// Answers each line of each file in order, of files that were opened by these names; gives whether a line was refused; how many marks there
+/// are more, the memory tells. The source is told which file is next, and one that breaks off is named on `err`.
+pub fn answer_opened<A: FileAnswers, S: Source, O: Write, E: Write>(
+    alloc: Global,
+    answers: &A,
+    names: &[&str],
+    files: Vec<S::File>,
+    source: &S,
+    memory: &mut A::Memory,
+    out: &mut O,
+    err: &mut E,
+) -> Result<bool, Stop>
+    requires ready { A.ready answers.now }
+    requires opened { AreOpened S.File.Input.left S.File.Input.breaks (S.holds source.now) (S.refuses source.now)
+        (map (λ s. s.now) names.now) files.items }
+    ensures ok { IfOk result (λ refused. Gains (Answers (S.holds source.now) (A.replies answers.now) 1
+        (map (λ s. s.now) names.now) refused) (O.contents out.old) (O.contents out.new)) }
+    ensures told { IfOk result (λ refused. Gains (AnswersTold (S.holds source.now) (A.told answers.now) 1
+        (map (λ s. s.now) names.now) refused (A.tally memory.new - A.tally memory.old)) (O.contents out.old) (O.contents out.new)) }
+    ensures err { IfErr result (λ stop. StopsAnswering (S.holds source.now) (S.refuses source.now) (A.replies answers.now) (A.first answers.now)
+        1 (map (λ s. s.now) names.now) stop (O.contents out.old) (O.contents out.new)) }
+{
+    // How the files that are answered so far go on with the next.
+    holds_reads();
+    let mut refused = false;
+    let from = LineNumber::first();
+    let mut rest = files.into_iter();
+    for name in names {
+        let Some(file) = rest.next() else {
+            unreachable!()
+        };
+        source.turns_to(name);
+        let start = FileStart { name, from, source };
+        let count = answer_file(alloc, answers, &start, file, memory, out, err)?;
+        refused |= count > 0;
+    }
+    Ok(refused)
+}
