@@ -24,9 +24,6 @@ pub struct Progress {
     /// The line that was begun last, and at which tick.
     line: AtomicU64,
     began: AtomicU64,
-    /// How many lines workers are to take, and how many they took.
-    waiting: AtomicU64,
-    pub(crate) taken: AtomicU64,
     /// How many replies there were.
     replies: AtomicU64,
     refused: AtomicU64,
@@ -86,8 +83,6 @@ impl Progress {
             read: AtomicU64::new(0),
             line: AtomicU64::new(0),
             began: AtomicU64::new(0),
-            waiting: AtomicU64::new(0),
-            taken: AtomicU64::new(0),
             replies: AtomicU64::new(0),
             refused: AtomicU64::new(0),
             no_mate: AtomicU64::new(0),
@@ -121,11 +116,6 @@ impl Progress {
         self.line.store(number as u64, Ordering::SeqCst);
     }
 
-    /// So many lines more wait for workers.
-    pub(crate) fn wait(&self, count: u64) {
-        self.waiting.fetch_add(count, Ordering::SeqCst);
-    }
-
     /// A line was printed that says this.
     pub(crate) fn count(&self, said: Said) {
         match said {
@@ -152,13 +142,6 @@ impl Progress {
         let replies = now(&self.replies);
         text.push_str(format!(in alloc; "{replies} answered")?.as_str())?;
         push_count(alloc, text, now(&self.refused), "refused")
-    }
-
-    /// How far workers are.
-    fn told_of_workers(&self, alloc: Global, waiting: u64) -> Result<String, AllocError> {
-        let taken = now(&self.taken);
-        let seconds = self.seconds_since(0);
-        format!(in alloc; "{taken} of {waiting} lines begun, {seconds} s")
     }
 
     /// The file that was opened last, by the end of its name, in so many bytes at most.
@@ -190,10 +173,6 @@ impl Progress {
 
     /// How far all is, on one line, with so many bytes of the file's name; nothing before a line is begun.
     pub(crate) fn told(&self, alloc: Global, most: usize) -> Result<String, AllocError> {
-        let waiting = now(&self.waiting);
-        if waiting > 0 {
-            return self.told_of_workers(alloc, waiting);
-        }
         let name = self.name(most);
         let line = now(&self.line);
         if line == 0 {

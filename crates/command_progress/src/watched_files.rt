@@ -5,8 +5,7 @@ use crate::said::{Said, said_by};
 use byte_streams::{Input, InputFault};
 use file_answers::{NameKind, Source, SourceFault};
 use std::alloc::Global;
-use std::sync::atomic::AtomicU64;
-use text_lines::{Output, first_line};
+use text_lines::first_line;
 
 /// A file of which is counted how much was read.
 #[derive(Drop)]
@@ -34,21 +33,6 @@ pub struct WatchedFiles<'a, S> {
     pub progress: &'a Progress,
 }
 
-/// How many lines of a text are not blank.
-fn lines_in(text: &[u8]) -> u64 {
-    let mut lines: u64 = 0;
-    let mut is_blank = true;
-    for byte in text {
-        if *byte == b'\n' {
-            is_blank = true;
-        } else if is_blank && *byte != b' ' && *byte != b'\r' {
-            is_blank = false;
-            lines = lines.saturating_add(1);
-        }
-    }
-    lines
-}
-
 impl<'a, S: Source> Source for WatchedFiles<'a, S> {
     type File = WatchedFile<'a, S::File>;
 
@@ -66,9 +50,7 @@ impl<'a, S: Source> Source for WatchedFiles<'a, S> {
     }
 
     fn read(&self, alloc: Global, name: &str) -> Result<Vec<u8>, SourceFault> {
-        let bytes = self.source.read(alloc, name)?;
-        self.progress.wait(lines_in(bytes.as_slice()));
-        Ok(bytes)
+        self.source.read(alloc, name)
     }
 
     fn size(&self, name: &str) -> Option<u64> {
@@ -79,17 +61,18 @@ impl<'a, S: Source> Source for WatchedFiles<'a, S> {
         self.source.kind(name)
     }
 
+    fn turns_to(&self, name: &str) {
+        self.source.turns_to(name);
+        self.progress.open(name, self.source.size(name));
+    }
+
     fn begins(&self, number: usize) {
         self.progress.begin(number);
     }
 
-    fn taken(&self) -> Option<&AtomicU64> {
-        Some(&self.progress.taken)
-    }
-
-    fn ends(&self, reply: &Output) {
-        let mut rest = reply.text.as_slice();
-        for _ in 0..reply.text.len() {
+    fn ends(&self, replies: &[u8]) {
+        let mut rest = replies;
+        for _ in 0..replies.len() {
             let Some((line, more)) = first_line(rest) else {
                 return;
             };

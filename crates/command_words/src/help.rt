@@ -336,12 +336,12 @@ pub const ABOUT_SERVE: &str =
 /// What stands below the arguments of `serve`: how it differs from `solve`, an example, and the statuses.
 pub const AFTER_SERVE: &str =
     "The answers are those of `solve`, in the same order: `matedesk solve --help` says what a
-record is and what an answer says. N workers solve the records of all files, so that many
-problems are answered sooner, also those of one file; one hard problem is not. Each worker
-has a memo of its own.
+record is and what an answer says. N workers solve the records, each one at a time, so that
+many problems are answered sooner; one hard problem is not: for that there is
+`solve --workers`. Each worker has a memo of its own.
 
-All files are read to their ends before the first problem is looked at, and the answers are
-written when the last is found. To be answered line by line, use `solve`.
+All files are opened before the first problem is looked at. Each answer is written once it
+and all before it are there, and before more input is waited for.
 
 Example:
   $ cat problems.epd
@@ -357,7 +357,7 @@ Status:
   2  the words ask for nothing, or for more than 16 files
   3  no memory, or no thread
   4  a FILE can't be read, or the output can't be written
-At 3, and where a FILE can't be read, nothing was written.";
+At 3 and 4 the answers to some first lines were written, where a FILE can't be opened none.";
 
 /// The option `--workers` in one line.
 pub const ABOUT_WORKERS: &str = "How many threads solve, 1 to 16";

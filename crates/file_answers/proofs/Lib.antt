@@ -7,4 +7,3 @@ mod KeptBytes
 mod Parts
 pub mod AnsweredFiles
 pub mod Unopened
-mod WrittenOutputs

@@ -6,8 +6,6 @@ use crate::sources::{NameKind, Source, SourceFault};
 use byte_streams::{Input, InputFault};
 use std::alloc::{AllocError, Global};
 use std::io::Read;
-use std::sync::atomic::AtomicU64;
-use text_lines::Output;
 
 /// A text, of which so many bytes were read.
 #[derive(Drop)]
@@ -121,12 +119,8 @@ impl<'a, S: Source> Source for GivenTexts<'a, S> {
         self.source.begins(number);
     }
 
-    fn taken(&self) -> Option<&AtomicU64> {
-        self.source.taken()
-    }
-
-    fn ends(&self, reply: &Output) {
-        self.source.ends(reply);
+    fn ends(&self, replies: &[u8]) {
+        self.source.ends(replies);
     }
 
     fn wrote(&self, refused: usize) {

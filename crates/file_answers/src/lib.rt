@@ -4,7 +4,7 @@
 //! What a line is answered is the business of a `LineHandler` or a `LineWriter` of `text_lines`, and what a command answers its files that of
 //! `FileAnswers`. To read: `sources` (a `Source` is the files that a command may read) and `files` (those of the system), `given_texts` (texts in
 //! place of files); `writing` and `status`; then `file_answers`, where `answer_files` goes from file to file, `opened_files`, where all are
-//! opened first, with `lines_from` and `written_from` (the lines from one on); and `outputs`, which were made elsewhere.
+//! opened first, with `lines_from` and `written_from` (the lines from one on).
 #![tactic(auto)]
 
 mod file_answers;
@@ -12,7 +12,6 @@ mod files;
 mod given_texts;
 mod lines_from;
 mod opened_files;
-mod outputs;
 mod sources;
 mod status;
 mod writing;
@@ -23,7 +22,6 @@ pub use files::{FileSystem, Reading, Stream};
 pub use given_texts::{Given, GivenText, GivenTexts};
 pub use lines_from::answer_lines_from;
 pub use opened_files::{answer_opened, open_files};
-pub use outputs::put_outputs;
 pub use sources::{
     NameKind, Source, SourceFault, complain_of, holds_reads, read_file, read_files, whole,
 };

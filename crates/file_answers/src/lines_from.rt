@@ -75,7 +75,7 @@ impl<H: LineHandler, S: Source> LineHandler for LinesFrom<'_, H, S> {
         }
         self.start.source.begins(number);
         let output = self.handler.answer(alloc, number, line, memory)?;
-        self.start.source.ends(&output);
+        self.start.source.ends(output.text.as_slice());
         Ok(output)
     }
 
@@ -85,7 +85,7 @@ impl<H: LineHandler, S: Source> LineHandler for LinesFrom<'_, H, S> {
         }
         self.start.source.begins(number);
         let output = self.handler.refuse_long(alloc, number)?;
-        self.start.source.ends(&output);
+        self.start.source.ends(output.text.as_slice());
         Ok(output)
     }
 

@@ -8,8 +8,6 @@ use crate::writing::{complain, complain_unreadable};
 use byte_streams::{Input, Stop};
 use std::alloc::Global;
 use std::io::Write;
-use std::sync::atomic::AtomicU64;
-use text_lines::Output;
 
 /// How many bytes are asked for at once.
 const PIECE: usize = 4096;
@@ -66,13 +64,8 @@ pub trait Source {
     /// Is told that the line of this number is begun, of the file that was opened or turned to last.
     fn begins(&self, _number: usize) {}
 
-    /// What counts the lines that workers take, whichever they are; none where nobody asks.
-    fn taken(&self) -> Option<&AtomicU64> {
-        None
-    }
-
-    /// Is told the reply to a line that was begun, or the replies to those that were taken.
-    fn ends(&self, _reply: &Output) {}
+    /// Is told the replies to lines, from one that was begun on.
+    fn ends(&self, _replies: &[u8]) {}
 
     /// Is told that the reply to a line that was begun is written, and how many lines it refuses.
     fn wrote(&self, _refused: usize) {}

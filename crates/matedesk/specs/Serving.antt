@@ -1,12 +1,10 @@
--- The status of `serve` where nothing was served.
-use Rattle.std.specs.Prelude.{ℕ}
-use Rattle.desk_room.specs.declared.rooms.RoomFault.{RoomFault}
-use Rattle.desk_room.specs.declared.rooms.RoomFault.TheVariants.{BadWindows, BadBenches, BadRing, NoMemory, NoThread}
+-- What `serve` answers a file.
+use Rattle.std.specs.Prelude.{ℕ, List}
+use Rattle.mate_answers.specs.InputReplies.{IsReply, IsReplyToFirst}
 
--- the status where nothing was served
-abbrev pub unserved_status : RoomFault → ℕ
-unserved_status BadWindows = 2
-unserved_status BadBenches = 2
-unserved_status BadRing = 2
-unserved_status NoMemory = 3
-unserved_status NoThread = 3
+-- What records are answered where they ask for no bound but this: each file whole, whatever it is called.
+abbrev pub served_replies : ℕ → ℕ → List ℕ → List ℕ → List ℕ → ℕ → Type 0
+served_replies bound from name input text refused = IsReply bound input text refused
+
+abbrev pub first_served_replies : ℕ → ℕ → List ℕ → List ℕ → List ℕ → Type 0
+first_served_replies bound from name input text = IsReplyToFirst bound input text

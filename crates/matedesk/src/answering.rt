@@ -21,13 +21,14 @@ use std::alloc::Global;
 use std::io::Write;
 use std::sync::Wait;
 use std::thread::Threads;
+use std::time::Clock;
 
 /// Answers words that ask for `serve`, `uci`, `--workers` or `--limit`. That they were parsed before shows that they are no fault:
 /// what is refused now is memory.
 // Its own frame: these commands have large values, which would lie on the stack of all others, too.
 #[inline(never)]
 fn threaded_command<
-    R: Threads + Wait + Sync + Clone + Drop + Send + 'static,
+    R: Threads + Wait + Clock + Sync + Clone + Drop + Send + 'static,
     S: Source,
     O: Write,
     E: Write,
@@ -81,14 +82,12 @@ where
 }
 
 /// Answers what the words ask for.
-fn answer<R: Threads + Wait + Sync + Clone + Drop + Send + 'static, S: Source, O: Write, E: Write>(
-    rt: &R,
-    alloc: Global,
-    words: &[String],
-    source: &S,
-    out: &mut O,
-    err: &mut E,
-) -> u8
+fn answer<
+    R: Threads + Wait + Clock + Sync + Clone + Drop + Send + 'static,
+    S: Source,
+    O: Write,
+    E: Write,
+>(rt: &R, alloc: Global, words: &[String], source: &S, out: &mut O, err: &mut E) -> u8
 where
     S::File: Send,
     ensures ends { EndsBy (S.holds source.now) (S.refuses source.now) (map string_bytes words.now) result
@@ -121,7 +120,7 @@ fn are_told(alloc: Global, words: &[String]) -> bool {
 ///
 /// A fault of `err` is passed over and changes no status. So does one of the thread that tells on standard error how far the command is.
 pub fn command<
-    R: Threads + Wait + Console + Sync + Clone + Drop + Send + 'static,
+    R: Threads + Wait + Clock + Console + Sync + Clone + Drop + Send + 'static,
     S: Source,
     O: Write,
     E: Write,

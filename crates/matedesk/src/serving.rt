@@ -3,62 +3,114 @@
 ghost use Rattle.std.specs.Prelude.{◌≡◌, Some, map};
 ghost use Rattle.command_words.specs.Asked.{serve as serve_asked};
 ghost use Rattle.plain_commands.specs.Command.{Ends};
-ghost use Rattle.matedesk.specs.Serving.{unserved_status};
 
+use byte_streams::{Input, Stop};
 use chess_moves::Rays;
 use chess_problems::Bound;
-use command_words::{MemoSize, Workers};
-use desk_room::{Gate, RoomFault};
+use command_words::{MemoSize, Workers as WorkerCount};
 use file_answers::{
-    MISUSED, NO_THREAD, Source, complain, no_memory, put_outputs, read_files, status_of,
+    FileAnswers, FileStart, MISUSED, NO_THREAD, Source, answer_opened, complain, no_memory,
+    open_files, status_of,
 };
-use mate_jobs::Ticket;
+use file_solving::solves_none;
+use parallel_answers::{NoWorkers, Watcher, Workers, answer_in_order};
 use plain_commands::ends_by_status;
 use std::alloc::Global;
 use std::io::Write;
 use std::sync::Wait;
-use std::sync::atomic::{AtomicU64, Ordering};
 use std::thread::Threads;
+use std::time::Clock;
 
-/// Lets each job pass, and counts it where somebody asks.
+/// How many files may be served.
+const MOST_FILES: usize = 16;
+
+/// Tells a source which replies were written, and which line's is next.
 #[derive(Clone, Copy)]
-struct CountingGate<'a> {
-    taken: Option<&'a AtomicU64>,
+struct ToldSource<'a, S> {
+    source: &'a S,
 }
 
-impl Gate for CountingGate<'_> {
-    ghost use Rattle.std.specs.Prelude.{◌≡◌, true};
-
-    ghost answers = { λ _ _ _ passed. passed ≡ true };
-
-    fn pass(&self, _bench: usize, _ticket: Ticket) -> bool {
-        if let Some(taken) = self.taken {
-            taken.fetch_add(1, Ordering::SeqCst);
-        }
-        true
+impl<S: Source> Watcher for ToldSource<'_, S> {
+    fn wrote(&self, replies: &[u8], next: usize) {
+        self.source.ends(replies);
+        self.source.begins(next);
     }
 }
 
-/// Says why no file was served, and gives the status.
-fn unserved<E: Write>(fault: RoomFault, err: &mut E) -> u8
-    ensures { result ≡ unserved_status fault }
+/// Answers files of records by workers.
+#[derive(Clone, Copy)]
+struct ServedRecords<'a, R: Wait> {
+    rt: &'a R,
+    rays: &'a Rays,
+    default: Bound,
+}
+
+impl<R: Wait> FileAnswers for ServedRecords<'_, R> {
+    ghost use Rattle.file_answers.specs.FileAnswers.{unmarked};
+    ghost use Rattle.matedesk.specs.Serving.{served_replies, first_served_replies};
+
+    type Memory = Workers;
+
+    ghost replies = { λ records. served_replies records.default };
+
+    ghost told = { λ records. unmarked (served_replies records.default) };
+
+    ghost tells = { λ _ _ _ _ _ _ _ told. told };
+
+    ghost first = { λ records. first_served_replies records.default };
+
+    fn answer<S: Source, I: Input + Drop, O: Write>(
+        &self,
+        alloc: Global,
+        start: &FileStart<S>,
+        input: I,
+        memory: &mut Workers,
+        out: &mut O,
+    ) -> Result<usize, Stop> {
+        start.source.begins(1);
+        let told = ToldSource {
+            source: start.source,
+        };
+        answer_in_order(
+            self.rt,
+            alloc,
+            self.rays,
+            self.default,
+            memory,
+            input,
+            out,
+            &told,
+        )
+    }
+
+    #[tactic(auto, using(crate::proofs::ServedFiles::no_served_reply))]
+    fn begins_with_nothing(&self) {}
+}
+
+/// Says why there are no workers, and gives the status.
+fn unserved<E: Write>(fault: NoWorkers, err: &mut E) -> u8
+    ensures { result ≡ 3 }
 {
-    if fault == RoomFault::NoMemory {
-        return no_memory(err);
-    }
-    complain(err, fault.code());
     match fault {
-        RoomFault::NoThread => NO_THREAD,
-        _ => MISUSED,
+        NoWorkers::NoMemory => no_memory(err),
+        NoWorkers::NoThread => {
+            complain(err, "NoThread");
+            NO_THREAD
+        }
     }
 }
 
-/// Answers each line of each file as `solve` does, on threads: one for each file and one for each worker, which has a memo of such a
-/// size. All files are read before any thread is started, and all answers made before any of them is written.
-pub fn serve<R: Threads + Wait + Sync, S: Source, O: Write, E: Write>(
+/// Answers each line of each file in order, as `solve` does, by so many workers, each a thread with a memo of such a size. All files are opened
+/// before anything else. Each reply is written once it and all before it are there.
+pub fn serve<
+    R: Threads + Wait + Clock + Clone + Drop + Send + 'static,
+    S: Source,
+    O: Write,
+    E: Write,
+>(
     rt: &R,
     alloc: Global,
-    workers: Workers,
+    workers: WorkerCount,
     bound: Bound,
     memo: MemoSize,
     names: &[&str],
@@ -69,33 +121,40 @@ pub fn serve<R: Threads + Wait + Sync, S: Source, O: Write, E: Write>(
     ensures { Ends (S.holds source.now) (S.refuses source.now)
         (Some (serve_asked workers bound memo (map (λ s. s.now) names.now))) result (O.contents out.old) (O.contents out.new) }
 {
-    // How it ends with the status of what was written.
+    // How it ends with the status of what was written, and with nothing written.
     ends_by_status(source);
-    let files = match read_files(alloc, names, source, err) {
+    solves_none();
+    let files = match open_files(alloc, names, source, err) {
         Ok(files) => files,
         Err(stop) => return status_of(Err(stop), err),
     };
-    let rays = Rays::new();
-    let benches = workers.get() as usize;
-    let gate = CountingGate {
-        taken: source.taken(),
-    };
-    match desk_room::serve_with_memo(
-        rt,
-        alloc,
-        &rays,
-        files.as_slice(),
-        bound,
-        benches,
-        memo.get() as usize,
-        &gate,
-    ) {
-        Ok(outputs) => {
-            for output in &outputs {
-                source.ends(output);
-            }
-            status_of(put_outputs(out, outputs.as_slice()), err)
-        }
-        Err(fault) => unserved(fault, err),
+    if names.is_empty() || names.len() > MOST_FILES {
+        complain(err, "BadWindows");
+        return MISUSED;
     }
+    let count = workers.get() as usize;
+    let mut workers = match Workers::start(rt, alloc, count, bound, memo.get() as usize) {
+        Ok(workers) => workers,
+        Err(fault) => return unserved(fault, err),
+    };
+    let rays = Rays::new();
+    let records = ServedRecords {
+        rt,
+        rays: &rays,
+        default: bound,
+    };
+    let ended = answer_opened(
+        alloc,
+        &records,
+        names,
+        files,
+        source,
+        &mut workers,
+        out,
+        err,
+    );
+    if ended.is_ok() {
+        workers.end(rt);
+    }
+    status_of(ended, err)
 }

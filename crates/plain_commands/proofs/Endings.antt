@@ -66,7 +66,8 @@ stops_unread none late untold holds refuses (Some (tree_json bound form letters 
 stops_unread none late untold holds refuses (Some (sheet bound memo form letters title names)) old new kept = kept
 stops_unread none late untold holds refuses (Some (imports keep bound letters names)) old new kept =
     imports_at_once holds refuses (letters_in letters) keep bound names old new kept
-stops_unread none late untold holds refuses (Some (serve workers bound memo names)) old new kept = kept
+stops_unread none late untold holds refuses (Some (serve workers bound memo names)) old new kept =
+    record { gained = []; shows = none holds bound 1 names; appends = Appends-kept old old new [] (Appends-nil old) kept }
 stops_unread none late untold holds refuses (Some (replay name)) old new kept = kept
 stops_unread none late untold holds refuses (Some (explain words)) old new kept = kept
 stops_unread none late untold holds refuses (Some uci) old new kept = tt

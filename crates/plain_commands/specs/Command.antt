@@ -81,13 +81,12 @@ ShownInPart holds (verify_limited_json seconds bound memo from names) old new =
     (unsound : Bool) × (undecided : ℕ) × (0 < undecided) × Gains (VerifiesLimitedJson holds bound from names unsound undecided) old new
 ShownInPart holds asks old new = ⊥
 
--- What the output gained where `serve` stops: nothing where memory gives out, no thread is to be had or a file can't be read, which
--- may be refused; and where a write breaks off, a first part of the replies to all files.
+-- What the output gained where `serve` stops: nothing where a file can't be opened, which may be refused; else the same as where `solve` of
+-- these files does. A thread that can't be had is want of memory.
 abbrev pub StopsServing : (Text → Option (List ℕ)) → (Text → Type 0) → ℕ → List Text → Stop → (old new : Option (List ℕ)) → Type 0
-StopsServing holds refuses bound names NoMemory old new = Keeps old new
-StopsServing holds refuses bound names Unreadable old new = SomeRefused refuses names × Keeps old new
-StopsServing holds refuses bound names Unwritable old new = GainsPart (λ text. (refused : Bool) × Serves holds bound names refused text) old new
-StopsServing holds refuses bound names NoReader old new = GainsPart (λ text. (refused : Bool) × Serves holds bound names refused text) old new
+StopsServing holds refuses bound names Unreadable old new =
+    (SomeRefused refuses names × Keeps old new) ⊎ StopsSolving holds refuses bound 1 names Unreadable old new
+StopsServing holds refuses bound names stop old new = StopsSolving holds refuses bound 1 names stop old new
 
 abbrev pub Stops : (Text → Option (List ℕ)) → (Text → Type 0) → Asked → Stop → (old new : Option (List ℕ)) → Type 0
 Stops holds refuses (lines view names) stop old new = StopsLines holds refuses (command_of view) names stop old new
