@@ -19,6 +19,7 @@ pub mod for_mate_jobs;
 pub mod for_mate_search;
 pub mod for_mate_tree;
 pub mod for_move_words;
+pub mod for_parallel_answers;
 pub mod for_parallel_search;
 pub mod for_plain_commands;
 pub mod for_position_lines;

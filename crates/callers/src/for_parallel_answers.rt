@@ -1,0 +1,51 @@
+//! A caller of `parallel_answers`.
+
+ghost use Rattle.std.specs.Prelude.{◌≡◌, IfOk, ℕ, List, Some};
+ghost use Rattle.std.specs.Io.KnownBytes.{Appends};
+ghost use Rattle.mate_answers.specs.InputReplies.{IsReply};
+
+use byte_streams::Stop;
+use chess_moves::Rays;
+use chess_problems::Bound;
+use parallel_answers::{Watcher, Workers, answer_in_order};
+use std::alloc::Global;
+use std::io::Write;
+use std::sync::Wait;
+use std::thread::Threads;
+use std::time::Clock;
+
+/// Is told nothing.
+struct Nobody;
+
+impl Watcher for Nobody {
+    fn wrote(&self, _replies: &[u8], _next: usize) {}
+}
+
+/// The replies to an input of records, each written once it and all before it are there, by four workers; how many lines are refused.
+pub fn answer_by_four<R: Threads + Wait + Clock + Clone + Drop + Send + 'static, O: Write>(
+    rt: &R,
+    alloc: Global,
+    input: &[u8],
+    default: Bound,
+    out: &mut O,
+) -> Result<usize, Stop>
+    ensures { IfOk result (λ refused. (text : List ℕ) × IsReply default input.now text refused
+        × Appends (O.contents out.old) (O.contents out.new) text) }
+{
+    let Ok(mut workers) = Workers::start(rt, alloc, 4, default, 16_384) else {
+        return Err(Stop::NoMemory);
+    };
+    let rays = Rays::new();
+    let refused = answer_in_order(
+        rt,
+        alloc,
+        &rays,
+        default,
+        &mut workers,
+        input,
+        out,
+        &Nobody,
+    )?;
+    workers.end(rt);
+    Ok(refused)
+}
