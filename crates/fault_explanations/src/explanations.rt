@@ -432,8 +432,8 @@ static SIZES: [Explanation; 6] = [
     Explanation {
         code: "BadWindows",
         comes: "`serve` is given more than 16 files",
-        means: "Each file has a thread of its own, and there are 16 of these. Call `serve` twice, or join
-files: `cat FILE.. | matedesk serve --workers 4 -`.",
+        means: "All files are open at once, 16 at most. Call `serve` twice, or join files:
+`cat FILE.. | matedesk serve --workers 4 -`.",
         example: Some(Example {
             faulty: "matedesk serve --workers 4 - - - - - - - - - - - - - - - - -",
             mended: "matedesk serve --workers 4 - - - - - - - - - - - - - - - -",
@@ -442,7 +442,7 @@ files: `cat FILE.. | matedesk serve --workers 4 -`.",
     Explanation {
         code: "NoThread",
         comes: "`serve`, `uci`, `solve --limit` or `verify --limit` could start no more threads",
-        means: "The system allows no more of them: `serve` with fewer files, or `solve` alone, which starts none.",
+        means: "The system allows no more of them: `serve` with fewer workers, or `solve` alone, which starts none.",
         example: None,
     },
     Explanation {

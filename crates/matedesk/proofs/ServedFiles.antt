@@ -15,7 +15,7 @@ use Rattle.file_answers.specs.Status.{status_of}
 use Rattle.file_answers.specs.Writing.{Gains, GainsPart}
 use Rattle.file_solving.specs.Solved.{SolvesNone, first_record_replies, record_replies}
 use Rattle.plain_commands.specs.Command.{Ends, EndsByStatus, Shown, StopsServing}
-use Rattle.plain_commands.specs.Served.{HaveNoWindows, HaveWindows, Serves}
+use Rattle.plain_commands.specs.Served.{AreTooManyFiles, AreFewFiles, Serves}
 use Rattle.matedesk.specs.Serving.{first_served_replies, served_replies}
 
 -- ---- a file is answered from its first line on
@@ -64,14 +64,14 @@ first_of holds bound names Stops text first = record {
 
 -- ---- what is shown
 
-shown : (holds : Text → Option (List ℕ)) (bound : ℕ) (names : List Text) (r : Result Bool Stop) (old new : Option (List ℕ)) → HaveWindows names
+shown : (holds : Text → Option (List ℕ)) (bound : ℕ) (names : List Text) (r : Result Bool Stop) (old new : Option (List ℕ)) → AreFewFiles names
     → IfOk r (λ refused. Gains (Answers holds (served_replies bound) 1 names refused) old new)
     → IfOk r (λ refused. Gains (Serves holds bound names refused) old new)
 shown holds bound names (Err s) old new few ok = tt
 shown holds bound names (Ok refused) old new few ok = record {
   gained = ok.gained;
   shows = record {
-    windows = few;
+    few = few;
     solves = record {
       inputs = ok.shows.inputs;
       refusals = ok.shows.refusals;
@@ -114,7 +114,7 @@ stopped holds refuses bound names (Err stop.NoReader) old new err = part_first h
 -- The files were opened and answered.
 pub ends_served : (holds : Text → Option (List ℕ)) (refuses : Text → Type 0) → EndsByStatus holds refuses
     → (workers bound memo : ℕ) (names : List Text) (r : Result Bool Stop) (status : ℕ) (old new : Option (List ℕ)) → status ≡ status_of r
-    → HaveWindows names → IfOk r (λ refused. Gains (Answers holds (served_replies bound) 1 names refused) old new)
+    → AreFewFiles names → IfOk r (λ refused. Gains (Answers holds (served_replies bound) 1 names refused) old new)
     → IfErr r (λ s. StopsAnswering holds refuses (served_replies bound) (first_served_replies bound) 1 names s old new)
     → Ends holds refuses (Some (serve workers bound memo names)) status old new
 ends_served holds refuses ends_by workers bound memo names r status old new is few ok err =
@@ -136,7 +136,7 @@ ends_unread holds refuses ends_by none workers bound memo names s status old is 
 
 -- There are too many, or none.
 pub ends_in_vain : (holds : Text → Option (List ℕ)) (refuses : Text → Type 0) (workers bound memo : ℕ) (names : List Text)
-    (old : Option (List ℕ)) → HaveNoWindows names
+    (old : Option (List ℕ)) → AreTooManyFiles names
     → Ends holds refuses (Some (serve workers bound memo names)) 2 old old
 ends_in_vain holds refuses workers bound memo names old many = record {
   answered = λ is. absurd (omega (arith, is));

@@ -30,7 +30,7 @@ use Rattle.file_verifying.specs.Verified.{LimitedHeaded, StopsHeaded, StopsLimit
 use Rattle.plain_commands.specs.Told.{StopsTelling, Tells, tree_form_of}
 use Rattle.plain_commands.specs.Sheeted.{Sheets, StopsSheet, page_form_of}
 use Rattle.plain_commands.specs.Imported.{ImportsFiles, StopsImporting, letters_in}
-use Rattle.plain_commands.specs.Served.{HaveNoWindows, Serves}
+use Rattle.plain_commands.specs.Served.{AreTooManyFiles, Serves}
 
 -- What a command shows where names hold such inputs, and whether anything that it was given is refused. The size of a memo and the
 -- number of workers change nothing of it.
@@ -131,10 +131,10 @@ has_letters (tree_json bound form letters from names) = is_some (letters_said le
 has_letters (sheet bound memo form letters title names) = is_some (letters_said letters)
 has_letters _ = true
 
--- The words ask for nothing, for `serve` with more files than there are windows for, or for letters of men that there are none of.
+-- The words ask for nothing, for `serve` with too many files, or for letters of men that there are none of.
 abbrev pub AsksInVain : Option Asked → Type 0
 AsksInVain None = ⊤
-AsksInVain (Some (serve workers bound memo names)) = HaveNoWindows names
+AsksInVain (Some (serve workers bound memo names)) = AreTooManyFiles names
 AsksInVain (Some (imports keep bound letters names)) = letters_said letters ≡ None
 AsksInVain (Some (tree bound form letters from names)) = letters_said letters ≡ None
 AsksInVain (Some (tree_json bound form letters from names)) = letters_said letters ≡ None
