@@ -7,7 +7,7 @@ use crate::answered_lines::{AnsweredLine, answered};
 use byte_streams::Stop;
 use chess_moves::Rays;
 use chess_problems::Bound;
-use crossbeam_channel::{Receiver, Sender, unbounded};
+use crossbeam_channel::{Receiver, Sender, bounded};
 use mate_answers::Answers;
 use mate_search::{Memo, OneThread};
 use std::alloc::{AllocError, Global};
@@ -237,8 +237,10 @@ impl Workers {
         default: Bound,
         entries: usize,
     ) -> Result<Workers, NoWorkers> {
-        let (handed, takes) = unbounded(alloc)?;
-        let (gives, backs) = unbounded(alloc)?;
+        let most_out = count.saturating_mul(BLOCKS_EACH);
+        // Places for all that may be out, so that nothing is lost for want of memory; who gives back more than there are places for waits.
+        let (handed, takes) = bounded(alloc, most_out.saturating_add(1))?;
+        let (gives, backs) = bounded(alloc, most_out.saturating_add(1))?;
         let mut threads = Vec::new(alloc);
         for _ in 0..count {
             let bench = Bench {
@@ -259,7 +261,7 @@ impl Workers {
             held: Vec::new(alloc),
             together: 1,
             out: 0,
-            most_out: count.saturating_mul(BLOCKS_EACH),
+            most_out,
             threads,
         })
     }
