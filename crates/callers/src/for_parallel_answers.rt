@@ -36,16 +36,7 @@ pub fn answer_by_four<R: Threads + Wait + Clock + Clone + Drop + Send + 'static,
         return Err(Stop::NoMemory);
     };
     let rays = Rays::new();
-    let refused = answer_in_order(
-        rt,
-        alloc,
-        &rays,
-        default,
-        &mut workers,
-        input,
-        out,
-        &Nobody,
-    )?;
+    let refused = answer_in_order(rt, alloc, &rays, default, &mut workers, input, out, &Nobody)?;
     workers.end(rt);
     Ok(refused)
 }

@@ -1,7 +1,8 @@
 -- What `serve` shows, and where it stops.
-use Rattle.std.proofs.Common.{◌≡◌, ◌≤◌, ◌<◌, ◌⊎◌, ◌×◌, ℕ, Bool, List, [], ◌∷◌, Option, Some, Result}
-use Rattle.std.proofs.Common.{Ok, Err, IfErr, IfOk, inl, inr, refl, sym, subst, arith, length, take, drop, ⊤}
+use Rattle.std.proofs.Common.{◌≡◌, ◌<◌, ◌≤◌, ◌⊎◌, ℕ, Bool, List, [], ◌∷◌, Option, Some, Result}
+use Rattle.std.proofs.Common.{Ok, Err, IfErr, IfOk, inl, inr, refl, arith, length, map, take, drop}
 use Rattle.std.proofs.KnownBytes.{Appends-nil, Keeps-refl}
+use Rattle.std.proofs.lemmas.List.{length-map}
 use Rattle.clap.specs.Words.{Text}
 use Rattle.byte_streams.specs.declared.stops.Stop.{Stop}
 use Rattle.byte_streams.specs.declared.stops.Stop.TheVariants as stop
@@ -160,3 +161,8 @@ ends_unserved holds refuses none workers bound memo names old = record {
   in_part = λ is. absurd (omega (arith, is));
   bounded = omega arith;
 }
+
+-- ---- how many there may be
+
+pub few_files : {A : Type 0} (name : A → Text) (names : List A) → 0 < length names → length names ≤ 16 → AreFewFiles (map name names)
+few_files name names some few = (omega (arith, length-map names name, some), omega (arith, length-map names name, few))

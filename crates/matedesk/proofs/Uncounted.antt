@@ -65,7 +65,8 @@ ends_unshared_json holds refuses ends workers bound memo from names out =
 pub ends_unstarted : (holds : Text → Option (List ℕ)) (refuses : Text → Type 0) → EndsByStatus holds refuses → LimitedNone → SolvesNone
     → (asks : Option Asked) → asks_threads asks ≡ true → (out : Option (List ℕ)) → Ends holds refuses asks 3 out out
 ends_unstarted holds refuses ends none unsolved (Some (serve workers bound memo names)) threads out =
-    ends (serve workers bound memo names) (Err stop.NoMemory) 3 out out refl tt (Keeps-refl out)
+    ends (serve workers bound memo names) (Err stop.NoMemory) 3 out out refl tt
+    (record { gained = []; shows = unsolved holds bound 1 names; appends = Appends-nil out })
 ends_unstarted holds refuses ends none unsolved (Some (limited seconds bound memo from names)) threads out =
     ends_uncounted holds refuses ends none seconds bound memo from names out
 ends_unstarted holds refuses ends none unsolved (Some (limited_json seconds bound memo from names)) threads out =

@@ -74,6 +74,7 @@ impl<R: Wait, T: Watcher> Answering<'_, R, T> {
         ensures breaks { IfErr result (λ stop. Breaks self.now.answers.now.default replies.old stop (O.contents out.old) (O.contents out.new)) }
         ensures readable { IfErr result (λ stop. stop ≢ Stop.Unreadable) }
     {
+        let first = replies.first;
         let text = write_ready(
             self.alloc,
             self.answers.default,
@@ -81,7 +82,7 @@ impl<R: Wait, T: Watcher> Answering<'_, R, T> {
             &mut workers.arrived,
             out,
         )?;
-        if !text.is_empty() {
+        if replies.first != first {
             self.watcher.wrote(text.as_slice(), replies.first);
         }
         Ok(())
