@@ -1,7 +1,7 @@
 //! Workers: threads that answer lines which say records, each with a memo of its own.
 //!
-//! Lines go out several together, as many as a worker answers in no time; an answer that took long comes back by itself. Nothing is known of
-//! who answers what, or when.
+//! Lines go out several together, as many as a worker answers in no time; where one takes long it comes back at once with those behind it, which
+//! then go out one by one. Nothing is known of who answers what, or when.
 
 use crate::answered_lines::{AnsweredLine, answered};
 use byte_streams::Stop;
@@ -96,10 +96,10 @@ struct HandedLine {
 /// What comes back.
 #[derive(Drop)]
 enum Back {
-    /// Answers to lines that went out together; whether they are the last of these, and all came soon.
+    /// Answers to lines that went out together, those behind one that took long, and whether none did.
     Answered {
         lines: Vec<AnsweredLine>,
-        is_last: bool,
+        rest: Vec<HandedLine>,
         is_soon: bool,
     },
     /// Memory was refused.
@@ -129,7 +129,7 @@ impl Bench {
         self.backs.send(rt, back).is_ok()
     }
 
-    /// Answers lines that went out together; answers whether there is more to do.
+    /// Answers lines that went out together, up to one that takes long; answers whether there is more to do.
     fn answer_block<R: Wait + Clock>(
         &self,
         rt: &R,
@@ -139,35 +139,29 @@ impl Bench {
         memo: &mut Memo,
     ) -> bool {
         let began = time(rt);
-        let mut since = began;
-        let mut now = began;
+        let mut is_soon = true;
         let mut lines = Vec::new(alloc);
+        let mut rest = Vec::new(alloc);
         for HandedLine { number, line } in block {
+            if !is_soon {
+                if rest.push(HandedLine { number, line }).is_err() {
+                    return self.give(rt, Back::NoMemory);
+                }
+                continue;
+            }
             let Some(line) = answered(alloc, answers, number, line, memo) else {
                 return self.give(rt, Back::NoMemory);
             };
             if lines.push(line).is_err() {
                 return self.give(rt, Back::NoMemory);
             }
-            now = time(rt);
-            if now.saturating_sub(since) >= SOON {
-                since = now;
-                let some = Back::Answered {
-                    lines: mem::replace(&mut lines, Vec::new(alloc)),
-                    is_last: false,
-                    is_soon: false,
-                };
-                if !self.give(rt, some) {
-                    return false;
-                }
-            }
+            is_soon = time(rt).saturating_sub(began) < SOON;
         }
-        let is_soon = now.saturating_sub(began) < SOON;
         self.give(
             rt,
             Back::Answered {
                 lines,
-                is_last: true,
+                rest,
                 is_soon,
             },
         )
@@ -238,9 +232,10 @@ impl Workers {
         entries: usize,
     ) -> Result<Workers, NoWorkers> {
         let most_out = count.saturating_mul(BLOCKS_EACH);
-        // Places for all that may be out, so that nothing is lost for want of memory; who gives back more than there are places for waits.
-        let (handed, takes) = bounded(alloc, most_out.saturating_add(1))?;
-        let (gives, backs) = bounded(alloc, most_out.saturating_add(1))?;
+        // Places for all that may be out, each line by itself, so that nothing is lost for want of memory.
+        let places = most_out.saturating_add(1).saturating_mul(MOST_TOGETHER);
+        let (handed, takes) = bounded(alloc, places)?;
+        let (gives, backs) = bounded(alloc, places)?;
         let mut threads = Vec::new(alloc);
         for _ in 0..count {
             let bench = Bench {
@@ -266,11 +261,10 @@ impl Workers {
         })
     }
 
-    /// Hands out the lines that are held.
-    fn send_held<R: Wait>(&mut self, rt: &R, alloc: Global) -> Result<(), Stop>
+    /// Hands lines out together.
+    fn send<R: Wait>(&mut self, rt: &R, block: Vec<HandedLine>) -> Result<(), Stop>
         ensures memory { IfErr result (λ stop. stop ≡ Stop.NoMemory) }
     {
-        let block = mem::replace(&mut self.held, Vec::new(alloc));
         if self.handed.send(rt, block).is_err() {
             return Err(Stop::NoMemory);
         }
@@ -278,13 +272,32 @@ impl Workers {
         Ok(())
     }
 
-    /// Takes in what came back. Where it came soon more lines go out together from then on, else one at a time.
-    fn take_in(&mut self, back: Back) -> Result<(), Stop>
+    /// Hands out the lines that are held.
+    fn send_held<R: Wait>(&mut self, rt: &R, alloc: Global) -> Result<(), Stop>
+        ensures memory { IfErr result (λ stop. stop ≡ Stop.NoMemory) }
+    {
+        let block = mem::replace(&mut self.held, Vec::new(alloc));
+        self.send(rt, block)
+    }
+
+    /// Hands a line out by itself.
+    fn send_one<R: Wait>(&mut self, rt: &R, alloc: Global, line: HandedLine) -> Result<(), Stop>
+        ensures memory { IfErr result (λ stop. stop ≡ Stop.NoMemory) }
+    {
+        let mut block = Vec::new(alloc);
+        if block.push(line).is_err() {
+            return Err(Stop::NoMemory);
+        }
+        self.send(rt, block)
+    }
+
+    /// Takes in what came back. Where it came soon more lines go out together from then on, else one at a time, as those do that are left of it.
+    fn take_in<R: Wait>(&mut self, rt: &R, alloc: Global, back: Back) -> Result<(), Stop>
         ensures memory { IfErr result (λ stop. stop ≡ Stop.NoMemory) }
     {
         let Back::Answered {
             lines,
-            is_last,
+            rest,
             is_soon,
         } = back
         else {
@@ -293,24 +306,25 @@ impl Workers {
         for line in lines {
             self.arrived.put(line);
         }
-        if is_last {
-            self.out = self.out.saturating_sub(1);
-            self.together = if is_soon {
-                self.together.saturating_mul(2).min(MOST_TOGETHER)
-            } else {
-                1
-            };
+        self.out = self.out.saturating_sub(1);
+        self.together = if is_soon {
+            self.together.saturating_mul(2).min(MOST_TOGETHER)
+        } else {
+            1
+        };
+        for line in rest {
+            self.send_one(rt, alloc, line)?;
         }
         Ok(())
     }
 
     /// Takes in all that has come back.
-    fn look<R: Wait>(&mut self, rt: &R) -> Result<(), Stop>
+    fn look<R: Wait>(&mut self, rt: &R, alloc: Global) -> Result<(), Stop>
         ensures memory { IfErr result (λ stop. stop ≡ Stop.NoMemory) }
     {
         for _ in 0..PLACES {
             match self.backs.try_recv(rt) {
-                Ok(back) => self.take_in(back)?,
+                Ok(back) => self.take_in(rt, alloc, back)?,
                 Err(_) => return Ok(()),
             }
         }
@@ -318,14 +332,14 @@ impl Workers {
     }
 
     /// Waits until something comes back.
-    fn await_back<R: Wait>(&mut self, rt: &R) -> Result<(), Stop>
+    fn await_back<R: Wait>(&mut self, rt: &R, alloc: Global) -> Result<(), Stop>
         ensures memory { IfErr result (λ stop. stop ≡ Stop.NoMemory) }
     {
         match self.backs.recv(rt) {
-            Ok(back) => self.take_in(back)?,
+            Ok(back) => self.take_in(rt, alloc, back)?,
             Err(_) => return Err(Stop::NoMemory),
         }
-        self.look(rt)
+        self.look(rt, alloc)
     }
 
     /// Hands out a line that says a record, by its number, at the latest with the next wait. It waits where enough are out.
@@ -347,9 +361,9 @@ impl Workers {
             return Ok(());
         }
         self.send_held(rt, alloc)?;
-        self.look(rt)?;
+        self.look(rt, alloc)?;
         if self.out >= self.most_out {
-            self.await_back(rt)?;
+            self.await_back(rt, alloc)?;
         }
         Ok(())
     }
@@ -364,7 +378,7 @@ impl Workers {
         if self.out == 0 {
             return Err(Stop::NoMemory);
         }
-        self.await_back(rt)
+        self.await_back(rt, alloc)
     }
 
     /// Lets the workers go, and waits until they are gone.
