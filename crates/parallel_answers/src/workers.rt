@@ -342,6 +342,19 @@ impl Workers {
         self.look(rt, alloc)
     }
 
+    /// Waits until no more blocks are out than may be, and so never more lines than there are places for.
+    fn await_room<R: Wait>(&mut self, rt: &R, alloc: Global) -> Result<(), Stop>
+        ensures memory { IfErr result (λ stop. stop ≡ Stop.NoMemory) }
+    {
+        for _ in rt.forever() {
+            if self.out < self.most_out {
+                return Ok(());
+            }
+            self.await_back(rt, alloc)?;
+        }
+        unreachable!()
+    }
+
     /// Hands out a line that says a record, by its number, at the latest with the next wait. It waits where enough are out.
     pub(crate) fn hand_out<R: Wait>(
         &mut self,
@@ -362,10 +375,7 @@ impl Workers {
         }
         self.send_held(rt, alloc)?;
         self.look(rt, alloc)?;
-        if self.out >= self.most_out {
-            self.await_back(rt, alloc)?;
-        }
-        Ok(())
+        self.await_room(rt, alloc)
     }
 
     /// Waits until something comes back, where something is out.
