@@ -4,7 +4,7 @@
 //! `specs/Wins.antt`, keys and the principal variation in `specs/PrincipalVariation.antt`, and what there is to say of a problem in
 //! `specs/Laws.antt`; an outcome is exactly that.
 //!
-//! To read: `memo_entries`, `killers`, `recent_positions`, `transpositions`, `memo`, `halting`, `searching`, `verdicts`,
+//! To read: `memo_entries`, `peers`, `killers`, `recent_positions`, `transpositions`, `memo`, `halting`, `searching`, `verdicts`,
 //! `principal_variation`, `findings`, `solving`, `solvers`; `laws` says of the definitions what they are meant to say. `solve` takes memory
 //! for its memo alone, and never fails for want of it; `solve_until` can be stopped.
 #![tactic(auto)]
@@ -15,6 +15,7 @@ mod killers;
 mod laws;
 mod memo;
 mod memo_entries;
+mod peers;
 mod principal_variation;
 mod recent_positions;
 mod searching;
@@ -29,6 +30,7 @@ pub use laws::{
     truth_playable, truth_reads, win_grows, win_reads,
 };
 pub use memo::{Memo, MemoFault};
+pub use peers::{Peers, connect_peers};
 pub use solvers::{OneThread, Solver};
 pub use solving::{first_moves, solve, solve_told, solve_until};
 pub use verdicts::{Verdict, leaves_lost, verdict_on};

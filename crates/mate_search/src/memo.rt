@@ -9,12 +9,14 @@ ghost use Rattle.mate_search.specs.Wins.{lost};
 
 use crate::killers::Killers;
 use crate::memo_entries::Entry;
+use crate::peers::Peers;
 use crate::recent_positions::{Camps, RecentPositions};
 use crate::transpositions::{Place, Transpositions};
 use chess_board::{Move, Position, equal_reads};
 use lru::LruCache;
 use std::alloc::Global;
 use std::marker::Model;
+use std::mem::swap;
 use std::num::NonZeroUsize;
 use thiserror::Error;
 
@@ -34,6 +36,8 @@ pub struct Memo {
     /// What was found of positions with the defender to move and one move left.
     transpositions: Transpositions,
     killers: Killers,
+    /// Whom it tells what is kept, and from whom it hears.
+    peers: Peers,
 }
 
 impl Model for Memo {
@@ -74,6 +78,9 @@ impl MemoFault {
 /// How many entries more are met at least before memory that was refused is asked for again.
 const LEAST_WAITING: usize = 16;
 
+/// How much of what its peers told it keeps at once, at most.
+const MOST_HEARD: usize = 64;
+
 /// As many as there are where there may be more, and half as many where there are as many as there may be.
 fn fewer(held: usize, most: usize) -> usize
     ensures { result ≤ held }
@@ -106,6 +113,7 @@ impl Memo {
                 recent,
                 transpositions,
                 killers: Killers::none(),
+                peers: Peers::none(alloc),
             }),
             Err(_) => Err(MemoFault::NoMemory),
         }
@@ -168,8 +176,47 @@ impl Memo {
         }
     }
 
-    /// What is known of a position, which becomes the one that was met last.
+    /// From now on it tells these what is kept that took long to find, and keeps what it hears from them.
+    pub fn join(&mut self, peers: Peers)
+        ensures { self.new ≡ self.old }
+    {
+        self.peers = peers;
+    }
+
+    /// Exchanges what two memos hold. Each goes on with its own peers.
+    pub fn exchange(&mut self, other: &mut Memo)
+        ensures this { self.new ≡ other.old }
+        ensures other { other.new ≡ self.old }
+    {
+        swap(self, other);
+        swap(&mut self.peers, &mut other.peers);
+    }
+
+    /// Keeps what its peers told since it was asked about a position last.
+    #[inline(always)]
+    fn hear(&mut self)
+        ensures room { self.new.room ≡ self.old.room }
+    {
+        for _ in 0..MOST_HEARD {
+            let Some(learned) = self.peers.next() else {
+                return;
+            };
+            let known = self.known(&learned.position).with_all_of(learned.known);
+            self.take_in(&learned.position, known);
+        }
+    }
+
+    /// What is known of a position, by its peers too, which becomes the one that was met last.
     pub(crate) fn entry(&mut self, position: &Position) -> Entry
+        ensures known { IsTrueOf position.now result }
+        ensures room { self.new.room ≡ self.old.room }
+    {
+        self.hear();
+        self.known(position)
+    }
+
+    /// What is kept of a position, which becomes the one that was met last.
+    fn known(&mut self, position: &Position) -> Entry
         ensures known { IsTrueOf position.now result }
         ensures room { self.new.room ≡ self.old.room }
     {
@@ -208,8 +255,19 @@ impl Memo {
         }
     }
 
-    /// Keeps what is known of a position in place of what was kept of it. Where memory is refused, the memo makes do with what it has.
+    /// Keeps what is known of a position in place of what was kept of it, and tells its peers what takes long to find. Where memory is
+    /// refused, the memo makes do with what it has.
     pub(crate) fn keep(&mut self, position: &Position, entry: Entry)
+        requires { IsTrueOf position.now entry }
+        ensures room { self.new.room ≡ self.old.room }
+        ensures within { self.new.kept ≤ self.new.room }
+    {
+        self.peers.tell(position, entry);
+        self.take_in(position, entry);
+    }
+
+    /// Keeps it, and tells nobody.
+    fn take_in(&mut self, position: &Position, entry: Entry)
         requires { IsTrueOf position.now entry }
         ensures room { self.new.room ≡ self.old.room }
         ensures within { self.new.kept ≤ self.new.room }

@@ -56,4 +56,23 @@ impl Entry {
             },
         }
     }
+    /// What is known by both.
+    pub(crate) fn with_all_of(self, other: Entry) -> Entry
+        ensures { (p : Setup) → IsTrueOf p self → IsTrueOf p other → IsTrueOf p result }
+    {
+        let known = self.with(other.none_within, false);
+        match other.win_within {
+            Some(k) => known.with(k, true),
+            None => known,
+        }
+    }
+
+    /// The number of moves up to which it says something.
+    #[inline(always)]
+    pub(crate) fn moves(self) -> u8 {
+        match self.win_within {
+            Some(k) => self.none_within.max(k),
+            None => self.none_within,
+        }
+    }
 }

@@ -11,7 +11,9 @@ use crate::workers::{Question, Worker, exchange_memos};
 use arrayvec::ArrayVec;
 use chess_board::Move;
 use chess_problems::Problem;
-use mate_search::{Guide, Halt, Memo, Verdict, first_moves, leaves_lost, verdict_on};
+use mate_search::{
+    Guide, Halt, Memo, Verdict, connect_peers, first_moves, leaves_lost, verdict_on,
+};
 use std::alloc::Global;
 use std::thread::Threads;
 
@@ -27,7 +29,8 @@ pub(crate) struct Workers {
 }
 
 impl Workers {
-    /// So many, each with a memo of so many entries, or as many as there is memory for.
+    /// So many, each with a memo of so many entries, or as many as there is memory for. Each memo hears what takes long to find from each
+    /// other, unless memory is refused for that.
     pub(crate) fn new(alloc: Global, count: usize, entries: usize) -> Workers {
         let mut workers = Vec::new(alloc);
         for _ in 0..count {
@@ -38,10 +41,23 @@ impl Workers {
                 break;
             }
         }
+        join_memos(alloc, workers.as_mut_slice());
         Workers {
             workers,
             order: ArrayVec::new(),
             told: Vec::new(alloc),
+        }
+    }
+}
+
+/// Has the memos of workers hear from one another; where memory is refused, none does.
+fn join_memos(alloc: Global, workers: &mut [Worker]) {
+    let Ok(mut peers) = connect_peers(alloc, workers.len()) else {
+        return;
+    };
+    for worker in workers.iter_mut() {
+        if let Some(peers) = peers.pop() {
+            worker.memo.join(peers);
         }
     }
 }

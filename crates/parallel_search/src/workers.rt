@@ -10,7 +10,6 @@ use chess_board::{Move, Position};
 use chess_problems::is_same_move;
 use mate_search::{Guide, Halt, Memo, Verdict, leaves_lost};
 use std::cell::Cell;
-use std::mem::swap;
 
 /// A memo, what was found with it of the first moves in one round, and how many positions were searched for each of these verdicts.
 #[derive(Drop)]
@@ -103,6 +102,6 @@ pub(crate) fn exchange_memos(worker: &mut Worker, memo: &mut Memo)
     ensures room { memo.new.room ≡ memo.old.room }
 {
     if worker.memo.room() == memo.room() {
-        swap(&mut worker.memo, memo);
+        worker.memo.exchange(memo);
     }
 }

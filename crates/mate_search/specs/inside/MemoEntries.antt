@@ -11,6 +11,11 @@ pub record IsTrueOf (p : Setup) (entry : Entry) : Type 0 where
   pub none : win entry.none_within p ≡ false
   pub won : (n : ℕ) → entry.win_within ≡ Some n → win n p ≡ true
 
+-- a position, and what is known of it
+pub record LearnedValue : Type 0 where
+  pub position : Setup
+  pub known : Entry
+
 -- Each entry says the truth about its position.
 abbrev pub AreTrue : List (Setup × Entry) → Type 0
 AreTrue entries = (e : Setup × Entry) → Contains entries e → IsTrueOf e.0 e.1
