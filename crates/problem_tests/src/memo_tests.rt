@@ -2,7 +2,7 @@
 
 use crate::test_rows::{Known, check_outcome, memo_of, problem_of, same};
 use chess_moves::Rays;
-use mate_search::{Memo, MemoFault, solve};
+use mate_search::{Memo, MemoFault, connect_peers, solve};
 use std::alloc::Global;
 use std::process::Abort;
 
@@ -55,6 +55,33 @@ fn keeps_what_it_found(rt: HostRuntime) {
     same(&rt, &1, &kept_on_one_memo(&rt, rt.alloc(), 1), &1);
     let is_kept = kept_on_one_memo(&rt, rt.alloc(), 65_536) >= 1;
     same(&rt, &65_536, &is_kept, &true);
+}
+
+/// Two men and a king in the open: no mate within four moves.
+const OPEN: &str = "7k/8/8/8/3K4/8/8/R7 w - - 0 1";
+
+/// Solves that within so many moves.
+fn solve_open(rt: &impl Abort, bound: u8, memo: &mut Memo) {
+    check_known(rt, &(OPEN, bound, 0, &[], &[]), memo);
+}
+
+#[test]
+fn hears_what_another_found(rt: HostRuntime) {
+    let alloc = rt.alloc();
+    let mut one = memo_of(&rt, alloc, 4096);
+    let mut other = memo_of(&rt, alloc, 4096);
+    let mut alone = memo_of(&rt, alloc, 4096);
+    let mut peers = connect_peers(alloc, 2).expect(&rt, "peers");
+    one.join(peers.pop().expect(&rt, "one"));
+    other.join(peers.pop().expect(&rt, "other"));
+    solve_open(&rt, 4, &mut one);
+    same(&rt, &"before it asks", &other.len(), &0);
+    solve_open(&rt, 3, &mut other);
+    solve_open(&rt, 3, &mut alone);
+    same(&rt, &"heard", &(other.len() > alone.len()), &true);
+    let (held, heard) = (one.len(), other.len());
+    one.exchange(&mut other);
+    same(&rt, &"exchanged", &(one.len(), other.len()), &(heard, held));
 }
 
 static KNOWN: [Known; 10] = [
