@@ -45,7 +45,7 @@ fn write_answer(
 }
 
 impl Submitter {
-    ghost use Rattle.std.specs.Prelude.{◌≡◌, ◌<◌, ◌≤◌, ◌+◌, ◌-◌, ◌^◌, ℕ, List, [], ◌∷◌, ◌++◌, OnOk, length, true, false};
+    ghost use Rattle.std.specs.Prelude.{◌≡◌, ◌⊎◌, ◌<◌, ◌≤◌, ◌+◌, ◌-◌, ◌^◌, ℕ, List, [], ◌∷◌, ◌++◌, OnOk, length, true, false};
     ghost use Rattle.chess_notation.specs.Words.{is_blank as is_blank_text};
     ghost use Rattle.text_lines.specs.Lines.{without_cr as text_without_cr, lines_of};
     ghost use Rattle.mate_answers.specs.InputReplies.{IsLineReply};
@@ -93,6 +93,7 @@ impl Submitter {
         ensures window { SameWindow self.old.window self.new.window }
         ensures awaited { result ≡ true → 0 < length self.new.pending_replies.items }
         ensures known { result ≡ true → 0 < length (deliveries_known self.new.window) }
+        ensures none { result ≡ false → (self.old.pending_replies.items ≡ []) ⊎ (deliveries_known self.new.window ≡ []) }
         ensures collects { Collects self.old self.new }
     {
         if self.pending_replies.is_empty() {
@@ -117,6 +118,7 @@ impl Submitter {
     /// Whether the record ring has a place.
     fn has_place(&mut self) -> bool
         ensures place { result ≡ true → 0 < places_known self.new.window }
+        ensures no_place { result ≡ false → places_known self.new.window ≡ 0 }
         ensures collects { Collects self.old self.new }
     {
         self.window.has_place()
