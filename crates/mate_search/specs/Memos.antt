@@ -8,6 +8,10 @@ pub record MemoValue : Type 0 where
   pub kept : ℕ
   pub room : ℕ
 
+-- the most entries of a large memo
+abbrev pub max_large_entries : ℕ
+max_large_entries = 268435456
+
 abbrev pub memo_fault_name : MemoFault → List ℕ
 memo_fault_name BadSize = codes "BadSize"
 memo_fault_name NoMemory = codes "NoMemory"

@@ -29,7 +29,7 @@ pub use laws::{
     among_all, dist_reads, keys_read, keys_rise, line_mates, line_reads, lost_reads, no_dist_reads,
     truth_playable, truth_reads, win_grows, win_reads,
 };
-pub use memo::{Memo, MemoFault};
+pub use memo::{MAX_LARGE_ENTRIES, Memo, MemoFault};
 pub use peers::{Peers, connect_peers};
 pub use solvers::{OneThread, Solver};
 pub use solving::{first_moves, solve, solve_told, solve_until};

@@ -1,24 +1,32 @@
 //! What a search may keep of what it found.
 
-ghost use Rattle.std.specs.Prelude.{◌≡◌, ◌↔◌, ◌⊎◌, ◌<◌, ◌≤◌, Err, IfOk, IfSome, codes};
+ghost use Rattle.std.specs.Prelude.{◌≡◌, ◌↔◌, ◌⊎◌, ◌<◌, ◌≤◌, [], Err, IfOk, IfSome, codes};
+ghost use Rattle.std.specs.NonZero.{non_zero_usize_get};
+ghost use Rattle.lru.specs.LruCache.{lru_cache};
 ghost use Rattle.mate_search.specs.declared.memo.MemoFault.TheVariants.{BadSize, NoMemory};
 ghost use Rattle.mate_search.specs.inside.Camps.{AreCampsOf};
 ghost use Rattle.mate_search.specs.inside.MemoEntries.{IsTrueOf};
-ghost use Rattle.mate_search.specs.Memos.{memo_fault_name};
+ghost use Rattle.mate_search.specs.Memos.{max_large_entries, memo_fault_name};
 ghost use Rattle.mate_search.specs.Wins.{lost};
 
 use crate::killers::Killers;
 use crate::memo_entries::Entry;
 use crate::peers::Peers;
-use crate::recent_positions::{Camps, RecentPositions};
+use crate::recent_positions::{Camps, RecentPositions, filter_bytes};
 use crate::transpositions::{Place, Transpositions};
 use chess_board::{Move, Position, equal_reads};
 use lru::LruCache;
-use std::alloc::Global;
+use std::alloc::{AllocError, Global};
 use std::marker::Model;
 use std::mem::swap;
 use std::num::NonZeroUsize;
 use thiserror::Error;
+
+/// The most entries of a large memo.
+pub const MAX_LARGE_ENTRIES: usize = 268_435_456;
+
+/// Up to how many entries a memo is small.
+const FEW_ENTRIES: usize = 65_536;
 
 /// What a search found about the positions that it met last, at most as many as there is room for; what it found about positions one move
 /// from the end, no more of these than entries; and the replies that refuted last. Each entry is true and each reply is tried, so no
@@ -55,7 +63,7 @@ impl Model for Memo {
 /// Why there is no memo.
 #[derive(Clone, Copy, Debug, PartialEq, Eq, Error)]
 pub enum MemoFault {
-    /// The number of entries is not one of 1 to 65,536.
+    /// The number of entries is not one of 1 to 65,536, or of a large memo to 268,435,456.
     #[error("BadSize")]
     BadSize,
     /// Memory was refused.
@@ -88,6 +96,17 @@ fn fewer(held: usize, most: usize) -> usize
     if held < most { held } else { held / 2 }
 }
 
+/// A cache with room for so many entries. Where they are few its index is asked for beforehand, else it grows with them.
+fn cache_for(alloc: Global, size: NonZeroUsize) -> Result<LruCache<Position, Entry>, AllocError>
+    ensures { IfOk result (λ cache. cache ≡ lru_cache [] (non_zero_usize_get size)) }
+{
+    if size.get() <= FEW_ENTRIES {
+        LruCache::new(alloc, size)
+    } else {
+        LruCache::sparse(alloc, size)
+    }
+}
+
 impl Memo {
     /// An empty memo with room for so many entries, 1 to 65,536.
     pub fn new(alloc: Global, entries: usize) -> Result<Memo, MemoFault>
@@ -100,12 +119,27 @@ impl Memo {
         if entries > 65_536 {
             return Err(MemoFault::BadSize);
         }
+        Memo::large(alloc, entries)
+    }
+
+    /// The same with room for 1 to 268,435,456. What more than 65,536 entries take is asked for as they come.
+    pub fn large(alloc: Global, entries: usize) -> Result<Memo, MemoFault>
+        ensures ok { IfOk result (λ _. (1 ≤ entries) × (entries ≤ max_large_entries)) }
+        ensures empty { IfOk result (λ memo. memo.kept ≡ 0) }
+        ensures room { IfOk result (λ memo. memo.room ≡ entries) }
+        ensures bad_size { (result ≡ Err BadSize) ↔ ((entries ≡ 0) ⊎ (max_large_entries < entries)) }
+        ensures no_memory { result ≡ Err NoMemory → (1 ≤ entries) × (entries ≤ max_large_entries) }
+    {
+        if entries > MAX_LARGE_ENTRIES {
+            return Err(MemoFault::BadSize);
+        }
         let Some(size) = NonZeroUsize::new(entries) else {
             return Err(MemoFault::BadSize);
         };
         let recent = RecentPositions::new(alloc, entries);
-        let transpositions = Transpositions::none(alloc, entries, recent.bytes());
-        match LruCache::new(alloc, size) {
+        let few = entries.min(FEW_ENTRIES);
+        let transpositions = Transpositions::none(alloc, few, filter_bytes(few));
+        match cache_for(alloc, size) {
             Ok(cache) => Ok(Memo {
                 cache,
                 room: entries,

@@ -17,9 +17,28 @@ const A_WORD: usize = 8;
 /// How many words a half has at first, at most. Most problems meet no more positions than it has room for.
 const FIRST_WORDS: usize = 1024;
 
+/// How many times as many marks a half has room for once it has grown, at most: a memo that stays small keeps a small filter.
+const GROWTH: usize = 8;
+
+/// How many words a half has at most: as many as the bits of a hash name that name a word.
+const MOST_WORDS: usize = 16_777_216;
+
 /// The largest power of two up to a number; 1 for 0.
 fn power_of_two_within(number: usize) -> usize {
     1usize.wrapping_shl(63u32.wrapping_sub((number | 1).leading_zeros()))
+}
+
+/// How many words a half has for so many marks, the least power of two that is enough, where there may be so many.
+fn words_for(marks: usize) -> usize {
+    match marks.saturating_sub(1) / A_WORD {
+        0 => 1,
+        fewer => power_of_two_within(fewer).saturating_mul(2).min(MOST_WORDS),
+    }
+}
+
+/// How many bytes both halves take where they have all their words, in a memo with room for so many entries.
+pub(crate) fn filter_bytes(entries: usize) -> usize {
+    words_for(entries).saturating_mul(16)
 }
 
 /// The squares of White's men and of Black's: by these the filter tells positions apart.
@@ -183,22 +202,9 @@ impl RecentPositions {
         self.met = self.met.saturating_add(1);
     }
 
-    /// How many words a half has for as many marks as the memo has entries, the least power of two that is enough.
-    fn words(&self) -> usize {
-        match self.most.saturating_sub(1) / A_WORD {
-            0 => 1,
-            fewer => power_of_two_within(fewer).saturating_mul(2),
-        }
-    }
-
-    /// How many bytes both halves take where they have all their words.
-    pub(crate) fn bytes(&self) -> usize {
-        self.words().saturating_mul(16)
-    }
-
     /// Begins with the first position, or, where memory is refused, never: that position would have no mark.
     fn begin(&mut self) {
-        let words = self.words().min(FIRST_WORDS);
+        let words = words_for(self.most).min(FIRST_WORDS);
         self.full = self.most.min(words.saturating_mul(A_WORD)).max(1);
         if let Ok(newer) = Vec::from_elem(self.alloc, 0, words) {
             self.newer = newer;
@@ -217,12 +223,12 @@ impl RecentPositions {
     /// Lets the newer half grow. Each word stands in the larger one wherever a hash that named it may name it now. Where memory is refused,
     /// it stays as it is.
     fn grow(&mut self) {
-        let words = self.words();
-        self.full = self.most;
+        self.full = self.full.saturating_mul(GROWTH).min(self.most);
+        let words = words_for(self.full);
         let Ok(mut larger) = Vec::with_capacity(self.alloc, words) else {
             return;
         };
-        for _ in 0..words / FIRST_WORDS {
+        for _ in 0..words / self.newer.len().max(1) {
             if larger.extend_from_slice(&self.newer).is_err() {
                 return;
             }
