@@ -34,7 +34,7 @@ impl Workers {
     pub(crate) fn new(alloc: Global, count: usize, entries: usize) -> Workers {
         let mut workers = Vec::new(alloc);
         for _ in 0..count {
-            let Ok(memo) = Memo::new(alloc, entries) else {
+            let Ok(memo) = Memo::large(alloc, entries) else {
                 break;
             };
             if workers.push(Worker::new(memo)).is_err() {
