@@ -3,6 +3,7 @@
 ghost use Rattle.std.specs.Prelude.{◌≡◌, ◌≤◌, IfErr, IfOk, map};
 ghost use Rattle.file_answers.specs.Writing.{Gains};
 ghost use Rattle.file_solving.specs.Solved.{Solves, SolvesNone, StopsSolving};
+ghost use Rattle.mate_search.specs.Memos.{max_large_entries};
 
 use byte_streams::{Input, Stop};
 use chess_moves::Rays;
@@ -14,13 +15,13 @@ use mate_search::{Memo, MemoFault, Never, OneThread, Solver};
 use std::alloc::Global;
 use std::io::Write;
 
-/// An empty memo with room for so many entries, 1 to 65,536.
+/// An empty memo with room for so many entries, 1 to 268,435,456.
 pub fn new_memo(alloc: Global, entries: usize) -> Result<Memo, Stop>
-    requires { (1 ≤ entries) × (entries ≤ 65536) }
+    requires { (1 ≤ entries) × (entries ≤ max_large_entries) }
     ensures room { IfOk result (λ memo. memo.room ≡ entries) }
     ensures err { IfErr result (λ stop. stop ≡ Stop.NoMemory) }
 {
-    match Memo::new(alloc, entries) {
+    match Memo::large(alloc, entries) {
         Ok(memo) => Ok(memo),
         Err(MemoFault::NoMemory) => Err(Stop::NoMemory),
         Err(MemoFault::BadSize) => unreachable!(),
