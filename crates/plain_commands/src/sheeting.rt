@@ -1,6 +1,7 @@
 //! The command `sheet`.
 
 ghost use Rattle.std.specs.Prelude.{◌≡◌, ◌≤◌, ◌⊎◌, IfErr, IfOk, map};
+ghost use Rattle.command_words.specs.Limits.{max_memo_entries};
 ghost use Rattle.file_answers.specs.Sources.{SomeRefused};
 ghost use Rattle.file_answers.specs.Writing.{Gains};
 ghost use Rattle.plain_commands.specs.Sheeted.{Sheets, StopsSheet, page_form_of};
@@ -47,7 +48,7 @@ fn form_of(form: &SheetForm, letters: &str) -> Form
 /// How many entries the memo has: where nothing is solved, one is enough.
 fn entries_of(asked: &SheetAsked<'_>) -> usize
     ensures some { 1 ≤ result }
-    ensures few { result ≤ 65536 }
+    ensures few { result ≤ max_memo_entries }
 {
     if asked.form.solutions {
         asked.size.get() as usize
