@@ -169,7 +169,7 @@ impl Bench {
 
     /// Answers lines until none are handed out any more.
     fn run<R: Wait + Clock>(&self, rt: &R, alloc: Global) {
-        let Ok(mut memo) = Memo::new(alloc, self.entries) else {
+        let Ok(mut memo) = Memo::large(alloc, self.entries) else {
             self.give(rt, Back::NoMemory);
             return;
         };
@@ -222,7 +222,7 @@ fn start_one<R: Threads + Wait + Clock + Clone + Drop + Send + 'static>(
 impl Workers {
     ghost use Rattle.std.specs.Prelude.{◌≡◌, IfErr};
 
-    /// Starts so many workers, each with a memo of so many entries, 1 to 65,536. They answer records that ask for no bound within the
+    /// Starts so many workers, each with a memo of so many entries, 1 to 268,435,456. They answer records that ask for no bound within the
     /// default one.
     pub fn start<R: Threads + Wait + Clock + Clone + Drop + Send + 'static>(
         rt: &R,
