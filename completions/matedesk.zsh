@@ -31,6 +31,7 @@ _matedesk() {
             _arguments $help \
                 '--bound=[moves within which a record without dm asks for mate]:bound:(1 2 3 4 5 6 7 8 9 10 11 12 13 14 15)' \
                 '--memo=[positions that are remembered]:positions: ' \
+                '--memory[memory for all that is remembered]:size: ' \
                 '--limit=[seconds that a record may take]:seconds: ' \
                 '--workers=[threads that solve each record]:threads:(1 2 3 4 5 6 7 8 9 10 11 12 13 14 15 16)' \
                 '--json[print JSON]' \
@@ -44,6 +45,7 @@ _matedesk() {
             _arguments $help \
                 '--bound=[moves within which a record without dm asks for mate]:bound:(1 2 3 4 5 6 7 8 9 10 11 12 13 14 15)' \
                 '--memo=[positions that are remembered]:positions: ' \
+                '--memory[memory for all that is remembered]:size: ' \
                 '--import[take problems as import does]' \
                 '--limit=[seconds that a record may take]:seconds: ' \
                 '--header[print a first row of names]' \
@@ -80,6 +82,7 @@ _matedesk() {
                 '--title[what the page is called]:title: ' \
                 '--bound=[moves within which a record without dm asks for mate]:bound:(1 2 3 4 5 6 7 8 9 10 11 12 13 14 15)' \
                 '--memo=[positions that are remembered]:positions: ' \
+                '--memory[memory for all that is remembered]:size: ' \
                 '*:file of records:_files'
             ;;
         import)
@@ -94,6 +97,7 @@ _matedesk() {
                 '--workers=[threads that solve]:workers:(1 2 3 4 5 6 7 8 9 10 11 12 13 14 15 16)' \
                 '--bound=[moves within which a record without dm asks for mate]:bound:(1 2 3 4 5 6 7 8 9 10 11 12 13 14 15)' \
                 '--memo=[positions that each worker remembers]:positions: ' \
+                '--memory[memory for all that is remembered]:size: ' \
                 '--progress[tell how far it is]' \
                 '*:file of records:_files'
             ;;

@@ -1,3 +1,4 @@
+mod Capped
 mod Escapes
 mod JoinedWords
 mod Numbers

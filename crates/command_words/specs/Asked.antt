@@ -1,6 +1,6 @@
 -- What the words of a command line ask for.
-use Rattle.std.specs.Prelude.{ℕ, ◌^◌, ◌==◌, ◌&&◌, ◌||◌, Bool, List, [], ◌∷◌, Option, None, Some, true, false, codes}
-use Rattle.std.specs.Prelude.{length, nat_lt, not, option_map, option_and_then, unwrap_or, if◌then◌else◌}
+use Rattle.std.specs.Prelude.{ℕ, ◌+◌, ◌^◌, ◌==◌, ◌&&◌, ◌||◌, Bool, List, [], ◌∷◌, Option, None, Some, true, false, codes}
+use Rattle.std.specs.Prelude.{length, is_some, nat_lt, not, option_map, option_and_then, unwrap_or, if◌then◌else◌}
 use Rattle.std.specs.List.{list_all, list_any}
 use Rattle.std.specs.Option.{option_map_or}
 use Rattle.std.specs.Char.{digit_value}
@@ -18,6 +18,7 @@ use Rattle.command_words.specs.CommandLine.{desk_app}
 use Rattle.command_words.specs.Limits.{depth_of}
 use Rattle.command_words.specs.Limits.{line_number_of, memo_size_of, workers_of}
 use Rattle.command_words.specs.LineCommands.{given}
+use Rattle.command_words.specs.Memory.{shared_size_of}
 use Rattle.command_words.specs.declared.request.LineView.{LineView}
 use Rattle.command_words.specs.declared.request.LineView.TheVariants as shown
 use Rattle.command_words.specs.declared.request.MoveForm.{MoveForm}
@@ -76,9 +77,26 @@ number_or_zero text =
     && nat_lt (digits_value 10 digits) (2 ^ 32) then digits_value 10 digits
     else 0
 
--- the number of `--memo`; none outside the numbers of entries of a memo
-unfoldable pub memo_size_in : List Row → Option ℕ
-memo_size_in rows = memo_size_of (option_map_or number_or_zero (one_of (codes "M") rows) 0)
+-- the entries of each of so many memos: by `--memo`, which is 0 where it isn't given, by the memory of `--memory`, or else so many; none
+-- where both are given
+abbrev pub memo_size_at : ℕ → ℕ → ℕ → Option Text → Option ℕ
+memo_size_at memos default entries None = memo_size_of (if entries == 0 then default else entries)
+memo_size_at memos default entries (Some memory) = if entries == 0 then shared_size_of memos memory else None
+
+unfoldable pub memo_size_in : ℕ → ℕ → List Row → Option ℕ
+memo_size_in memos default rows =
+    memo_size_at memos default (option_map_or number_or_zero (one_of (codes "M") rows) 0) (first_of (codes "SIZE") rows)
+
+-- the entries of a memo where nothing is said of it; of each worker of `serve`
+abbrev pub default_memo : ℕ
+default_memo = 65536
+
+abbrev pub default_memos : ℕ
+default_memos = 16384
+
+-- how many memos `solve` has with so many workers: one, or where there are several one more than these
+abbrev pub memos_on : ℕ → ℕ
+memos_on workers = if workers == 1 then 1 else workers + 1
 
 -- the number of `--from`; none outside the numbers of lines
 unfoldable pub from_in : List Row → Option ℕ
@@ -178,7 +196,7 @@ solve_in rows =
     option_and_then (λ workers. option_and_then (λ bound. option_and_then
     (λ memo. option_and_then (λ from. option_map
     (λ names. solve_as (is_given (codes "json") rows) (limit_in rows) workers bound memo from names) (all_of (codes "FILE") rows))
-    (from_in rows)) (memo_size_in rows)) (bound_in rows)) (workers_in rows)
+    (from_in rows)) (memo_size_in (memos_on workers) default_memo rows)) (bound_in rows)) (workers_in rows)
 
 -- the bound of records that say none, where it isn't given
 abbrev pub default_bound : ℕ
@@ -214,7 +232,7 @@ verify_at rows memo from names =
 unfoldable pub verify_in : List Row → Option Asked
 verify_in rows =
     option_and_then (λ memo. option_and_then (λ from. option_and_then (verify_at rows memo from) (all_of (codes "FILE") rows))
-    (from_in rows)) (memo_size_in rows)
+    (from_in rows)) (memo_size_in 1 default_memo rows)
 
 -- what is shown of a tree: how many moves, whether only the defences that parry, set play, tries, in one column, with figurines, and how
 -- many lines
@@ -250,7 +268,7 @@ unfoldable pub sheet_in : List Row → Option Asked
 sheet_in rows =
     option_and_then (λ bound. option_and_then (λ memo. option_and_then
     (λ letters. option_and_then (λ title. option_map (λ names. sheet bound memo (sheet_form_in rows) letters title names)
-    (all_of (codes "FILE") rows)) (first_of (codes "T") rows)) (first_of (codes "L") rows)) (memo_size_in rows)) (bound_in rows)
+    (all_of (codes "FILE") rows)) (first_of (codes "T") rows)) (first_of (codes "L") rows)) (memo_size_in 1 default_memo rows)) (bound_in rows)
 
 -- what the arguments of `import` ask for: whether what was changed is told, the bound of problems that say none, if one is given, the letters
 -- of men, and files
@@ -264,7 +282,7 @@ unfoldable pub serve_in : List Row → Option Asked
 serve_in rows =
     option_and_then (λ workers. option_and_then
     (λ bound. option_and_then (λ memo. option_map (λ names. serve workers bound memo names) (all_of (codes "FILE") rows))
-    (memo_size_in rows)) (bound_in rows)) (workers_in rows)
+    (memo_size_in workers default_memos rows)) (bound_in rows)) (workers_in rows)
 
 -- what the arguments of a command ask for, by its name: of a command over lines of positions
 unfoldable pub lines_asked_by : Text → List Row → Option Asked
@@ -325,6 +343,10 @@ asked_of m = option_and_then (λ p. asked_by p.0 p.1) (subcommand_rows_of m)
 -- whether matches of a whole command line ask to be told how far the command is
 abbrev pub progress_of : ArgMatches → Bool
 progress_of m = option_map_or (λ p. is_given (codes "progress") p.1) (subcommand_rows_of m) false
+
+-- whether they say what size a memo has, where they speak of it
+abbrev pub has_memo_size : ArgMatches → Bool
+has_memo_size m = option_map_or (λ p. is_some (memo_size_in 1 default_memo p.1)) (subcommand_rows_of m) true
 
 -- a command that answers records one after the other
 abbrev pub answers_records : Text → Bool

@@ -50,13 +50,13 @@ solve_workers_rule = record (new_rule (codes "N")) {
   defaults = codes "1" ∷ [];
 }
 
--- an option that reads a number from 1 to 65,536, and is such a one where it isn't given
-unfoldable pub memo_rule : Text → Rule
-memo_rule default = record (new_rule (codes "M")) {
-  long = Some (codes "memo");
-  parser = Some (parser.Signed (pos 1) (pos 65536));
-  defaults = default ∷ [];
-}
+-- an option that reads a number from 1 to 65,536, and need not be given
+unfoldable pub memo_rule : Rule
+memo_rule = record (new_rule (codes "M")) { long = Some (codes "memo"); parser = Some (parser.Signed (pos 1) (pos 65536)) }
+
+-- an option that takes any text, and need not be given
+unfoldable pub memory_rule : Rule
+memory_rule = record (new_rule (codes "SIZE")) { long = Some (codes "memory") }
 
 -- an option that reads a number from 1 to 1,000,000,000, and is 1 where it isn't given
 unfoldable pub from_rule : Rule
@@ -100,9 +100,13 @@ words_rule id = record (new_rule id) { range = Some (record { start_inclusive = 
 unfoldable pub files_rule : Rule
 files_rule = record (wanted (codes "FILE")) { range = Some (record { start_inclusive = 1; end_inclusive = usize_max }) }
 
--- with the options of `solve`, `verify` and `serve`: the bound, and the number of entries of a memo
-unfoldable pub with_solving_options : App → Text → App
-with_solving_options a default = with_rule (with_rule a bound_rule) (memo_rule default)
+-- with the size of memos: as a number of entries, or as memory
+unfoldable pub with_memo_options : App → App
+with_memo_options a = with_rule (with_rule a memo_rule) memory_rule
+
+-- with the options of `solve`, `sheet` and `serve`: the bound, and the size of memos
+unfoldable pub with_solving_options : App → App
+with_solving_options a = with_memo_options (with_rule a bound_rule)
 
 -- whether it is told how far the command is
 abbrev pub progress_rule : Rule
@@ -118,7 +122,7 @@ with_lines_of_files a = with_rule (with_given_records (with_rule (with_rule a fr
 
 unfoldable pub solve_app : App
 solve_app = with_lines_of_files
-    (with_rule (with_rule (with_rule (with_solving_options (new_app (codes "solve")) (codes "65536")) limit_rule) solve_workers_rule)
+    (with_rule (with_rule (with_rule (with_solving_options (new_app (codes "solve"))) limit_rule) solve_workers_rule)
     (flag_rule (codes "json")))
 
 -- with what `verify` may do beside its rows: imported problems, the names of fields, and JSON in place of rows
@@ -127,7 +131,7 @@ with_row_options a = with_rule (with_rule (with_rule a (flag_rule (codes "import
 
 unfoldable pub verify_app : App
 verify_app = with_lines_of_files
-    (with_row_options (with_rule (with_rule (with_rule (new_app (codes "verify")) import_bound_rule) (memo_rule (codes "65536"))) limit_rule))
+    (with_row_options (with_rule (with_memo_options (with_rule (new_app (codes "verify")) import_bound_rule)) limit_rule))
 
 -- with the options of `tree`: the bound, and what is shown
 unfoldable pub with_tree_options : App → App
@@ -148,7 +152,7 @@ unfoldable pub with_sheet_options : App → App
 with_sheet_options a = with_rule (with_rule (with_sheet_flags a) letters_rule) title_rule
 
 unfoldable pub sheet_app : App
-sheet_app = with_rule (with_solving_options (with_sheet_options (new_app (codes "sheet"))) (codes "65536")) files_rule
+sheet_app = with_rule (with_solving_options (with_sheet_options (new_app (codes "sheet")))) files_rule
 
 unfoldable pub import_app : App
 import_app = with_rule (with_rule (with_rule (with_rule (new_app (codes "import")) (flag_rule (codes "keep"))) import_bound_rule) letters_rule)
@@ -156,7 +160,7 @@ import_app = with_rule (with_rule (with_rule (with_rule (new_app (codes "import"
 
 unfoldable pub serve_app : App
 serve_app =
-    with_rule (with_rule (with_solving_options (with_rule (new_app (codes "serve")) workers_rule) (codes "16384")) progress_rule)
+    with_rule (with_rule (with_solving_options (with_rule (new_app (codes "serve")) workers_rule)) progress_rule)
     files_rule
 
 unfoldable pub look_app : App

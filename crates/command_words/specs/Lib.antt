@@ -6,4 +6,5 @@ pub mod Commands
 pub mod Limits
 pub mod Hyphens
 pub mod LineCommands
+pub mod Memory
 pub mod Request

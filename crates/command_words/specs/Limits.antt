@@ -16,7 +16,7 @@ abbrev pub workers_of : ℕ → Option ℕ
 workers_of n = if nat_le 1 n && nat_le n max_workers then Some n else None
 
 abbrev pub max_memo_entries : ℕ
-max_memo_entries = 65536
+max_memo_entries = 268435456
 
 -- the number of entries of a memo, where the number is one
 abbrev pub memo_size_of : ℕ → Option ℕ

@@ -7,10 +7,10 @@ use crate::help::{
     ABOUT_BOARD, ABOUT_BOUND, ABOUT_COLUMN, ABOUT_COORDINATES, ABOUT_DEFENCES, ABOUT_DEPTH,
     ABOUT_DIVIDE, ABOUT_FEN, ABOUT_FENS, ABOUT_FIGURINES, ABOUT_FILE, ABOUT_FLIP, ABOUT_FROM,
     ABOUT_HEADER, ABOUT_IMPORT_BOUND, ABOUT_IMPORTED, ABOUT_JSON, ABOUT_KEEP, ABOUT_LETTERS,
-    ABOUT_LIMIT, ABOUT_MEMO, ABOUT_MEMOS, ABOUT_MOST_LINES, ABOUT_MOVE, ABOUT_MOVES_JSON,
-    ABOUT_POSITIONS, ABOUT_PROGRESS, ABOUT_RECORD, ABOUT_RECORD_FEN, ABOUT_SCRIPT, ABOUT_SET_PLAY,
-    ABOUT_SHOWN, ABOUT_SOLUTIONS, ABOUT_SOLVE_WORKERS, ABOUT_SVG, ABOUT_TITLE,
-    ABOUT_TREE_FIGURINES, ABOUT_TRIES, ABOUT_VERIFY_BOUND, ABOUT_WORD, ABOUT_WORKERS,
+    ABOUT_LIMIT, ABOUT_MEMO, ABOUT_MEMORY, ABOUT_MEMOS, ABOUT_MOST_LINES, ABOUT_MOVE,
+    ABOUT_MOVES_JSON, ABOUT_POSITIONS, ABOUT_PROGRESS, ABOUT_RECORD, ABOUT_RECORD_FEN,
+    ABOUT_SCRIPT, ABOUT_SET_PLAY, ABOUT_SHOWN, ABOUT_SOLUTIONS, ABOUT_SOLVE_WORKERS, ABOUT_SVG,
+    ABOUT_TITLE, ABOUT_TREE_FIGURINES, ABOUT_TRIES, ABOUT_VERIFY_BOUND, ABOUT_WORD, ABOUT_WORKERS,
 };
 
 /// The arguments of the commands.
@@ -31,6 +31,7 @@ pub(crate) enum Argument {
     SolveWorkers,
     Memo,
     Memos,
+    Memory,
     From,
     Limit,
     Shown,
@@ -236,16 +237,23 @@ const ENTRIES: Row = Row {
 };
 
 static MEMO: Row = Row {
-    defaults: &["65536"],
     help: ABOUT_MEMO,
     ..ENTRIES
 };
 
 /// The memo of each worker of `serve`.
 static MEMOS: Row = Row {
-    defaults: &["16384"],
     help: ABOUT_MEMOS,
     ..ENTRIES
+};
+
+/// How much memory memos take in place of so many entries, which `request` reads.
+static MEMORY: Row = Row {
+    id: "SIZE",
+    long: "memory",
+    form: Form::TextOption,
+    help: ABOUT_MEMORY,
+    ..OPTIONAL
 };
 
 /// The number of the line that is the first to be answered, 1 to 1,000,000,000.
@@ -444,6 +452,7 @@ pub(crate) fn row_of(argument: Argument) -> &'static Row
         Argument::SolveWorkers => &SOLVE_WORKERS,
         Argument::Memo => &MEMO,
         Argument::Memos => &MEMOS,
+        Argument::Memory => &MEMORY,
         Argument::From => &FROM,
         Argument::Limit => &LIMIT,
         Argument::Shown => &SHOWN,

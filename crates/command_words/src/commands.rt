@@ -70,6 +70,7 @@ static SOLVE: Subcommand = Subcommand {
     arguments: &[
         Argument::Bound,
         Argument::Memo,
+        Argument::Memory,
         Argument::Limit,
         Argument::SolveWorkers,
         Argument::Json,
@@ -88,6 +89,7 @@ static VERIFY: Subcommand = Subcommand {
     arguments: &[
         Argument::VerifyBound,
         Argument::Memo,
+        Argument::Memory,
         Argument::Limit,
         Argument::Import,
         Argument::Header,
@@ -143,6 +145,7 @@ static SERVE: Subcommand = Subcommand {
         Argument::Workers,
         Argument::Bound,
         Argument::Memos,
+        Argument::Memory,
         Argument::Progress,
         Argument::File,
     ],
@@ -239,6 +242,7 @@ static SHEET: Subcommand = Subcommand {
         Argument::Title,
         Argument::Bound,
         Argument::Memo,
+        Argument::Memory,
         Argument::File,
     ],
 };

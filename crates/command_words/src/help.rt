@@ -75,6 +75,8 @@ ten seconds elsewhere, and at the end how often there was which answer.
 
 What was found of positions is kept in a memo with room for M of them, so that it need not
 be found again. No answer depends on M: more room mostly takes less time and more memory.
+For a hard problem `--memory SIZE`, as 512M or 8G, makes room for as many as so much memory
+holds, which is taken as they come; the memos of several workers share it.
 With `--workers N` each record is solved by N threads, each with a memo of its own: a hard
 problem is answered sooner, and by the same answer. For many records there is `serve`.
 
@@ -338,7 +340,7 @@ pub const AFTER_SERVE: &str =
     "The answers are those of `solve`, in the same order: `matedesk solve --help` says what a
 record is and what an answer says. N workers solve the records, each one at a time, so that
 many problems are answered sooner; one hard problem is not: for that there is
-`solve --workers`. Each worker has a memo of its own.
+`solve --workers`. Each worker has a memo of its own; with `--memory SIZE` all share SIZE.
 
 All files are opened before the first problem is looked at. Each answer is written once it
 and all before it are there, and before more input is waited for.
@@ -485,10 +487,16 @@ pub const ABOUT_MOST_LINES: &str =
     "How many lines a tree has at most, 1 to 1000000; `..` stands for the others";
 
 /// The option `--memo` of `solve` in one line.
-pub const ABOUT_MEMO: &str = "How many positions the memo has room for, 1 to 65536";
+pub const ABOUT_MEMO: &str =
+    "How many positions the memo has room for, 1 to 65536 [default: 65536]";
+
+/// The option `--memory` in one line.
+pub const ABOUT_MEMORY: &str =
+    "How much memory all memos take, 1K to 32G, as 512M; in place of --memo";
 
 /// The option `--memo` of `serve` in one line.
-pub const ABOUT_MEMOS: &str = "How many positions each worker's memo has room for, 1 to 65536";
+pub const ABOUT_MEMOS: &str =
+    "How many positions each worker's memo has room for, 1 to 65536 [default: 16384]";
 
 /// The option `--limit` in one line.
 pub const ABOUT_LIMIT: &str =

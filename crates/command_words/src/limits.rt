@@ -13,7 +13,7 @@ const MAX_DEPTH: u8 = 6;
 const MAX_WORKERS: u8 = 16;
 
 /// The most entries of a memo.
-const MAX_MEMO_ENTRIES: u32 = 65_536;
+const MAX_MEMO_ENTRIES: u64 = 268_435_456;
 
 /// The greatest number of a line that may be asked for.
 const MAX_LINE_NUMBER: u32 = 1_000_000_000;
@@ -93,7 +93,7 @@ impl Workers {
     }
 }
 
-/// A number of entries of a memo, from 1 to 65,536.
+/// A number of entries of a memo, from 1 to 268,435,456.
 #[derive(Clone, Copy, PartialEq, Eq)]
 pub struct MemoSize {
     entries: u32,
@@ -110,12 +110,14 @@ impl Model for MemoSize {
 }
 
 impl MemoSize {
-    /// So many entries; none outside 1 to 65,536.
-    pub fn new(entries: u32) -> Option<MemoSize>
+    /// So many entries; none outside 1 to 268,435,456.
+    pub fn new(entries: u64) -> Option<MemoSize>
         ensures { result ≡ memo_size_of entries }
     {
         if 1 <= entries && entries <= MAX_MEMO_ENTRIES {
-            Some(MemoSize { entries })
+            Some(MemoSize {
+                entries: entries as u32,
+            })
         } else {
             None
         }

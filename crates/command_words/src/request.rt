@@ -1,12 +1,12 @@
 //! From the words of a command line to a request.
 
-ghost use Rattle.std.specs.Prelude.{◌≡◌, ◌≢◌, None, codes, IfOk, IfErr, map, option_map, unwrap_or, false, true};
+ghost use Rattle.std.specs.Prelude.{◌≡◌, ◌≢◌, ◌≤◌, None, codes, IfOk, IfErr, map, option_map, unwrap_or, false, true};
 ghost use Rattle.std.specs.Option.{option_map_or};
 ghost use Rattle.clap.specs.Walk.{byte_or_zero};
 ghost use Rattle.clap.specs.Words.{all_of, first_of, found_of, kind_of, one_of, rows_of};
 ghost use Rattle.command_words.specs.Asked.{desk_asked_by, lines_asked_by, records_asked_by};
 ghost use Rattle.command_words.specs.Asked.{asked_by, asked_exactly, bound_in, depth_in, form_in, from_in, is_given, limit_in, lines_in, look_in};
-ghost use Rattle.command_words.specs.Asked.{look_lines_in, memo_size_in, moves_in, number_or_zero, perft_in, perft_lines_in, play_in};
+ghost use Rattle.command_words.specs.Asked.{has_memo_size, look_lines_in, memo_size_in, memos_on, moves_in, number_or_zero, perft_in, perft_lines_in, play_in};
 ghost use Rattle.command_words.specs.Asked.{side_in, svg_at, workers_in, serve_in, solve_in, some_number, tree_form_in, tree_in, verify_in};
 ghost use Rattle.command_words.specs.Asked.{default_bound, moves_at, solve_as, solve_at, solve_json_at, verify_at, verify_json_at, verify_rows_at};
 ghost use Rattle.command_words.specs.Asked.{sheet_form_in, sheet_in, import_in, asked_of, asks_display_exactly, is_display, may_display_exactly};
@@ -15,6 +15,7 @@ ghost use Rattle.command_words.specs.Request.{plan_of};
 
 use crate::command_line::desk_command;
 use crate::limits::{Depth, LineNumber, MemoSize, Workers};
+use crate::memory::shared_size;
 use crate::texts::is_same;
 use chess_board::Colour;
 use chess_problems::Bound;
@@ -225,12 +226,36 @@ fn workers_in(matches: &ArgMatches) -> Option<Workers>
     Workers::new(number_in(matches, "N"))
 }
 
-/// The size of the memo of `solve`, `verify` or `sheet`, or of each worker of `serve`. `clap` has kept it to its range.
+/// The entries of a memo where nothing is said of it, and of each worker of `serve`.
+const DEFAULT_MEMO: u32 = 65_536;
+
+const DEFAULT_MEMOS: u32 = 16_384;
+
+/// The size of each of so many memos: that of `--memo`, which `clap` has kept to its range, and has none where none is given, or by
+/// `--memory`.
 #[tactic(auto, unfolding(crate::specs::Asked::memo_size_in))]
-fn memo_size_in(matches: &ArgMatches) -> Option<MemoSize>
-    ensures { result ≡ memo_size_in (rows_of (found_of matches.now)) }
+fn memo_size_in(matches: &ArgMatches, memos: u8, default: u32) -> Option<MemoSize>
+    requires { 1 ≤ memos }
+    ensures { result ≡ memo_size_in memos default (rows_of (found_of matches.now)) }
 {
-    MemoSize::new(large_number_in(matches, "M"))
+    let entries = large_number_in(matches, "M");
+    match text_in(matches, "SIZE") {
+        None if entries == 0 => MemoSize::new(default as u64),
+        None => MemoSize::new(entries as u64),
+        Some(memory) if entries == 0 => shared_size(memos, memory),
+        Some(_) => None,
+    }
+}
+
+/// How many memos `solve` has with so many workers: each has one, and where there are several the calling thread another.
+fn memos_on(workers: Workers) -> u8
+    ensures memos { result ≡ memos_on workers }
+    ensures some { 1 ≤ result }
+{
+    match workers.get() {
+        1 => 1,
+        count => count + 1,
+    }
 }
 
 /// The number of the line that `solve`, `verify` or `tree` answers first. `clap` has kept it to its range.
@@ -458,7 +483,7 @@ fn solve_in<'m, 'a>(matches: &'m ArgMatches<'a>) -> Option<Request<'m, 'a>>
 {
     let workers = workers_in(matches)?;
     let bound = bound_in(matches)?;
-    let memo = memo_size_in(matches)?;
+    let memo = memo_size_in(matches, memos_on(workers), DEFAULT_MEMO)?;
     let from = from_in(matches)?;
     let names = names_in(matches, "FILE")?;
     let limit = limit_in(matches);
@@ -572,7 +597,7 @@ fn verify_with<'m, 'a>(
 fn verify_in<'m, 'a>(matches: &'m ArgMatches<'a>) -> Option<Request<'m, 'a>>
     ensures { option_map plan_of result ≡ verify_in (rows_of (found_of matches.now)) }
 {
-    let memo = memo_size_in(matches)?;
+    let memo = memo_size_in(matches, 1, DEFAULT_MEMO)?;
     let from = from_in(matches)?;
     let names = names_in(matches, "FILE")?;
     verify_with(matches, memo, from, names)
@@ -649,7 +674,7 @@ fn sheet_in<'m, 'a>(matches: &'m ArgMatches<'a>) -> Option<Request<'m, 'a>>
     ensures { option_map plan_of result ≡ sheet_in (rows_of (found_of matches.now)) }
 {
     let bound = bound_in(matches)?;
-    let memo = memo_size_in(matches)?;
+    let memo = memo_size_in(matches, 1, DEFAULT_MEMO)?;
     let form = sheet_form_in(matches);
     let letters = text_in(matches, "L")?;
     let title = text_in(matches, "T")?;
@@ -676,7 +701,7 @@ fn serve_in<'m, 'a>(matches: &'m ArgMatches<'a>) -> Option<Request<'m, 'a>>
 {
     let workers = workers_in(matches)?;
     let bound = bound_in(matches)?;
-    let memo = memo_size_in(matches)?;
+    let memo = memo_size_in(matches, workers.get(), DEFAULT_MEMOS)?;
     let names = names_in(matches, "FILE")?;
     Some(Request::Serve(workers, bound, memo, names))
 }
@@ -768,6 +793,17 @@ pub fn asks_progress(matches: &ArgMatches) -> bool
     match matches.subcommand() {
         Some((_, inner)) => is_given(inner, "progress"),
         None => false,
+    }
+}
+
+/// Whether the matches of the whole command line say what size a memo has, where they speak of it: not both by `--memo` and `--memory`,
+/// and by this no more or less than may be, or anything else.
+pub fn has_memo_size(matches: &ArgMatches) -> bool
+    ensures { result ≡ has_memo_size matches.now }
+{
+    match matches.subcommand() {
+        Some((_, inner)) => memo_size_in(inner, 1, DEFAULT_MEMO).is_some(),
+        None => true,
     }
 }
 

@@ -16,9 +16,9 @@ use crate::replaying::replay;
 use crate::sheeting::{SheetAsked, sheet};
 use crate::telling::{tells_none, tree, tree_json};
 use byte_streams::{Stop, stop_of_output};
-use clap::Error;
 use clap::error::ErrorKind;
-use command_words::{Request, escaped, gives_records, parse, request_of};
+use clap::{ArgMatches, Error};
+use command_words::{Request, escaped, gives_records, has_memo_size, parse, request_of};
 use file_answers::{ANSWERED, GivenTexts, MISUSED, Source, complain, no_memory, status_of};
 use file_solving::{limited_none, solve, solves_none};
 use file_verifying::verify;
@@ -31,6 +31,23 @@ use std::io::Write;
 /// What is said of a word that gives no letters of men.
 const NO_LETTERS: &str =
     "--letters takes six capitals, each another, as KDTLSB, or the code of a language, as de";
+
+/// What is said of options that go not together.
+const NO_REQUEST: &str =
+    "--flip goes with --board or --svg, and these not with each other; verify --json goes without --header and --import, verify --import without --limit, and moves --json without another form";
+
+/// What is said of a size that memos can't have.
+const NO_MEMO_SIZE: &str =
+    "--memory takes 1K to 32G, a number and K, M or G, as 512M, and goes without --memo";
+
+/// What is said of matches that ask for nothing.
+fn no_request(matches: &ArgMatches) -> &'static str {
+    if has_memo_size(matches) {
+        NO_REQUEST
+    } else {
+        NO_MEMO_SIZE
+    }
+}
 
 /// Whether a request is one for threads.
 fn is_threaded(request: &Request) -> bool
@@ -132,11 +149,12 @@ fn answer<S: Source, O: Write, E: Write>(
     }
 }
 
-/// Answers what the words ask for, unless that starts threads. Matches that ask for nothing are a misuse like any other: `clap` takes `--flip`
-/// alone, and `--board` beside `--svg`.
+/// Answers what the words ask for, unless that starts threads. Matches that ask for nothing are a misuse like any other, of which this is said:
+/// `clap` takes `--flip` alone, and `--board` beside `--svg`.
 fn run<S: Source, O: Write, E: Write>(
     alloc: Global,
     request: &Option<Request>,
+    none: &str,
     source: &S,
     out: &mut O,
     err: &mut E,
@@ -149,10 +167,7 @@ fn run<S: Source, O: Write, E: Write>(
     ensures kept { IfNone result ((out.new ≡ out.old) × (err.new ≡ err.old)) }
 {
     let Some(request) = request else {
-        complain(
-            err,
-            "--flip goes with --board or --svg, and these not with each other; verify --json goes without --header and --import, verify --import without --limit, and moves --json without another form",
-        );
+        complain(err, none);
         return Some(MISUSED);
     };
     if is_threaded(request) {
@@ -233,7 +248,8 @@ pub fn plain_command<S: Source, O: Write, E: Write>(
                 source,
                 are_texts: gives_records(&matches),
             };
-            run(alloc, &request_of(&matches), &given, out, err)
+            let request = request_of(&matches);
+            run(alloc, &request, no_request(&matches), &given, out, err)
         }
         Err(error) => Some(usage(&error, out, err)),
     }
