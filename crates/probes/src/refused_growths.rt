@@ -30,6 +30,7 @@ fn tell<R: Threads + Wait + Sync>(
     match name {
         "read_record" => of_notation::tell_read_record(alloc, rays),
         "Memo::new" => of_search::tell_new_memo(alloc),
+        "Memo::large" => of_search::tell_large_memo(alloc),
         "solve" => of_search::tell_solve(alloc, rays),
         "OnThreads::solve" => of_search::tell_on_threads(rt, alloc, rays),
         "Job::solve" => of_search::tell_job(alloc, rays),

@@ -1,8 +1,8 @@
 //! Memos of all sizes, and problems solved one after the other over one of them.
 
-use crate::test_rows::{Known, check_outcome, memo_of, problem_of, same};
+use crate::test_rows::{Known, check_outcome, large_memo_of, memo_of, problem_of, same};
 use chess_moves::Rays;
-use mate_search::{Memo, MemoFault, connect_peers, solve};
+use mate_search::{MAX_LARGE_ENTRIES, Memo, MemoFault, connect_peers, solve};
 use std::alloc::Global;
 use std::process::Abort;
 
@@ -23,6 +23,19 @@ fn makes_memos_of_some_sizes(rt: HostRuntime) {
     same(&rt, &"code", &MemoFault::BadSize.code(), &"BadSize");
     for entries in &[1, 65_536] {
         let _memo = memo_of(&rt, alloc, *entries);
+    }
+}
+
+#[test]
+fn makes_large_memos_of_some_sizes(rt: HostRuntime) {
+    let alloc = rt.alloc();
+    for entries in &[0, MAX_LARGE_ENTRIES + 1] {
+        let fault = Memo::large(alloc, *entries).err();
+        same(&rt, entries, &fault, &Some(MemoFault::BadSize));
+    }
+    for entries in &[1, 65_536, 65_537, MAX_LARGE_ENTRIES] {
+        let memo = large_memo_of(&rt, alloc, *entries);
+        same(&rt, entries, &memo.room(), entries);
     }
 }
 
@@ -129,8 +142,8 @@ static KNOWN: [Known; 10] = [
 
 #[test]
 fn solves_the_same_over_a_shared_memo(rt: HostRuntime) {
-    for entries in &[16, 65_536] {
-        let mut memo = memo_of(&rt, rt.alloc(), *entries);
+    for entries in &[16, 65_536, MAX_LARGE_ENTRIES] {
+        let mut memo = large_memo_of(&rt, rt.alloc(), *entries);
         for known in KNOWN.iter().chain(KNOWN.iter().rev()) {
             check_known(&rt, known, &mut memo);
         }

@@ -6,7 +6,7 @@ ghost use Rattle.std.specs.Prelude.{⊤};
 use crate::plain_memo::PlainMemo;
 use crate::plain_search::loses;
 use crate::plain_solving::solve_either;
-use crate::test_rows::{bound_of, memo_of, position_of, same};
+use crate::test_rows::{bound_of, large_memo_of, position_of, same};
 use chess_board::{Move, Position, after};
 use chess_moves::{Rays, is_legal, legal, legal_moves};
 use chess_problems::{AvoidList, Outcome, Problem};
@@ -99,7 +99,7 @@ impl Both {
     /// Nothing yet, over memos of so many entries.
     fn new(rt: &impl Abort, alloc: Global, entries: usize) -> Both {
         Both {
-            memo: memo_of(rt, alloc, entries),
+            memo: large_memo_of(rt, alloc, entries),
             plain: PlainMemo::new(alloc, entries).expect(rt, "plain"),
             asked: Counter {
                 asked: Cell::new(0),
@@ -268,10 +268,25 @@ fn memos_are_asked_as_often_where_a_filter_grows(rt: HostRuntime) {
     }
 }
 
-/// The largest memo, which is not full. The same games as of that one of 9,000 lead to more positions than its
+/// The largest of these, which is not full. The same games as of that one of 9,000 lead to more positions than its
 /// filter has marks for at first.
 #[test]
 fn a_large_memo_is_asked_as_often(rt: HostRuntime) {
     let kept = check_games(&rt, rt.alloc(), 65_536, (8, 24), 3);
     same(&rt, &kept, &(kept > 10_000), &true);
+}
+
+/// A larger one, of a problem that leads to more positions than its filter has marks for once it has grown.
+#[test]
+fn a_larger_memo_is_asked_as_often(rt: HostRuntime) {
+    let mut both = Both::new(&rt, rt.alloc(), 600_000);
+    let problem = Problem {
+        position: position_of(&rt, "8/8/8/4K3/b1p4N/4k3/1R6/8 w - - 0 1"),
+        bound: bound_of(&rt, 7),
+        avoid: AvoidList::new(),
+    };
+    let outcome = both.check_outcome(&rt, &Rays::new(), &problem);
+    same(&rt, &"within 7", &outcome, &Outcome::NoMate);
+    let kept = both.memo.len();
+    same(&rt, &kept, &(kept > 65_536), &true);
 }

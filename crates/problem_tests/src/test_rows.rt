@@ -73,6 +73,11 @@ pub(crate) fn memo_of(rt: &impl Abort, alloc: Global, entries: usize) -> Memo {
     Memo::new(alloc, entries).expect(rt, "memo")
 }
 
+/// One of up to 65,536 entries is the same as that.
+pub(crate) fn large_memo_of(rt: &impl Abort, alloc: Global, entries: usize) -> Memo {
+    Memo::large(alloc, entries).expect(rt, "large memo")
+}
+
 /// The record of a line, where a bound of 3 is asked by default, or the line's fault.
 pub(crate) fn read(rt: &impl Abort, alloc: Global, line: &[u8]) -> Result<Record, EpdFault> {
     read_record(alloc, &Rays::new(), line, bound_of(rt, 3))

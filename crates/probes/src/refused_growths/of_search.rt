@@ -6,7 +6,7 @@ use chess_moves::Rays;
 use chess_notation::{NoMemory, Record, answer_text, read_record};
 use chess_problems::{Outcome, Problem};
 use mate_jobs::{Answer, Done, Job, Ticket};
-use mate_search::{Guide, Memo, Never, Solver, Stopped, solve};
+use mate_search::{Guide, Memo, MemoFault, Never, Solver, Stopped, solve};
 use parallel_search::{OnThreads, ThreadMemory};
 use std::alloc::{AllocError, Global};
 use std::thread::Threads;
@@ -36,6 +36,18 @@ pub(crate) fn tell_new_memo(alloc: Global) -> Result<String, Stop> {
     mark(alloc);
     let memo = Memo::new(alloc, 16);
     mark(alloc);
+    memo_text(alloc, memo)
+}
+
+pub(crate) fn tell_large_memo(alloc: Global) -> Result<String, Stop> {
+    mark(alloc);
+    let memo = Memo::large(alloc, 1_000_000);
+    mark(alloc);
+    memo_text(alloc, memo)
+}
+
+/// How many entries a memo has, or why there is none.
+fn memo_text(alloc: Global, memo: Result<Memo, MemoFault>) -> Result<String, Stop> {
     match memo {
         Ok(memo) => Ok(format!(in alloc; "a memo of {}", memo.len())?),
         Err(fault) => Ok(format!(in alloc; "{}", fault.code())?),
