@@ -25,7 +25,7 @@ use Rattle.file_answers.specs.Sources.{Holds, held, held_back}
 use Rattle.text_lines.specs.Refusals.{fault_line}
 use Rattle.mate_answers.specs.InputReplies.{IsLineReply, answered, refused, skipped}
 use Rattle.chess_board.specs.Positions.{Setup}
-use Rattle.command_words.specs.Asked.{asked, asked_by, asked_exactly, look, serve, solve, records_given, records_given_by, records_given_exactly}
+use Rattle.command_words.specs.Asked.{asked, asked_by, asked_exactly, look, serve, solve, solve_on, records_given, records_given_by, records_given_exactly}
 use Rattle.plain_commands.specs.Command.{Ends, EndsBy}
 use Rattle.command_words.specs.Hyphens.{escaped}
 use Rattle.command_words.specs.LineCommands.{joined}
@@ -40,6 +40,16 @@ asked_look = refl
 pub asked_solve : asked (codes "matedesk" ∷ codes "solve" ∷ codes "one" ∷ codes "two" ∷ []) ≡ Some (solve 3 65536 1 (codes "one" ∷ codes "two" ∷ []))
 unfolding desk_on_literals asked_by asked_exactly escaped joined
 asked_solve = refl
+
+pub asked_memory : asked (codes "matedesk" ∷ codes "solve" ∷ codes "--memory" ∷ codes "512M" ∷ codes "one" ∷ [])
+    ≡ Some (solve 3 3355443 1 (codes "one" ∷ []))
+unfolding desk_on_literals asked_by asked_exactly escaped joined
+asked_memory = refl
+
+pub asked_memory_shared : asked (codes "matedesk" ∷ codes "solve" ∷ codes "--workers" ∷ codes "4" ∷ codes "--memory" ∷ codes "8g" ∷ codes "one" ∷ [])
+    ≡ Some (solve_on 4 3 10737418 1 (codes "one" ∷ []))
+unfolding desk_on_literals asked_by asked_exactly escaped joined
+asked_memory_shared = refl
 
 pub asked_serve : asked (codes "matedesk" ∷ codes "serve" ∷ codes "--workers" ∷ codes "2" ∷ codes "one" ∷ codes "two" ∷ [])
     ≡ Some (serve 2 3 16384 (codes "one" ∷ codes "two" ∷ []))
