@@ -70,12 +70,14 @@ fn keeps_what_it_found(rt: HostRuntime) {
     same(&rt, &65_536, &is_kept, &true);
 }
 
-/// Two men and a king in the open: no mate within four moves.
-const OPEN: &str = "7k/8/8/8/3K4/8/8/R7 w - - 0 1";
+/// A king and a rook far from the other king: no mate within four moves, of White's or of Black's.
+const FAR: &str = "7k/8/8/8/3K4/8/8/R7 w - - 0 1";
 
-/// Solves that within so many moves.
-fn solve_open(rt: &impl Abort, bound: u8, memo: &mut Memo) {
-    check_known(rt, &(OPEN, bound, 0, &[], &[]), memo);
+const FAR_OF_BLACK: &str = "7K/8/8/8/3k4/8/8/r7 b - - 0 1";
+
+/// Finds no mate within so many moves.
+fn find_none(rt: &impl Abort, text: &'static str, bound: u8, memo: &mut Memo) {
+    check_known(rt, &(text, bound, 0, &[], &[]), memo);
 }
 
 #[test]
@@ -87,10 +89,11 @@ fn hears_what_another_found(rt: HostRuntime) {
     let mut peers = connect_peers(alloc, 2).expect(&rt, "peers");
     one.join(peers.pop().expect(&rt, "one"));
     other.join(peers.pop().expect(&rt, "other"));
-    solve_open(&rt, 4, &mut one);
+    find_none(&rt, FAR, 4, &mut one);
     same(&rt, &"before it asks", &other.len(), &0);
-    solve_open(&rt, 3, &mut other);
-    solve_open(&rt, 3, &mut alone);
+    // Of its own positions the other is the attacker, so that none of them is one that it hears of.
+    find_none(&rt, FAR_OF_BLACK, 3, &mut other);
+    find_none(&rt, FAR_OF_BLACK, 3, &mut alone);
     same(&rt, &"heard", &(other.len() > alone.len()), &true);
     let (held, heard) = (one.len(), other.len());
     one.exchange(&mut other);
