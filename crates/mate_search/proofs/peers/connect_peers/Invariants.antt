@@ -1,4 +1,4 @@
-use Rattle.std.proofs.Common.{◌≡◌, ℕ, length}
+use Rattle.std.proofs.Common.{◌≡◌, length}
 use Rattle.mate_search.proofs.peers.connect_peers.Given as goal
 
 abbrev pub invariant-loop : goal.invariant-loop
