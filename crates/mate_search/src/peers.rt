@@ -12,7 +12,7 @@ use std::marker::Model;
 /// How many entries a ring holds that were told and not yet heard.
 const RING: usize = 64;
 
-/// Of positions with fewer moves left it costs more to hear than to search.
+/// To tell and hear of positions with fewer moves left took longer than it spared.
 const LEAST_MOVES: u8 = 3;
 
 /// What is known of a position: the truth, by its type.
