@@ -3,7 +3,7 @@
 ghost use Rattle.std.specs.Prelude.{◌≡◌, ◌++◌, [], flat_map, map, IfNone, IfOk, IfSome, option_map, false, true, List};
 ghost use Rattle.std.specs.Borrow.{Bor};
 ghost use Rattle.chess_views.specs.Lines.{line};
-ghost use Rattle.fault_explanations.specs.Explained.{Explains, ExplainsEach, example_text, explanation_in, explanation_of, explanation_text};
+ghost use Rattle.fault_explanations.specs.Explained.{AreOfKnown, Explains, ExplainsEach, example_text, explanation_in, explanation_of, explanation_text};
 ghost use Rattle.fault_explanations.specs.declared.explanations.Explanation.{Explanation as ExplanationValue};
 ghost use Rattle.fault_explanations.specs.Explained.{code_sentence, sentence_of, named, named_in, sentence, sentences, words_of};
 
@@ -128,7 +128,7 @@ fn push_code_of(
 /// Adds the code of a fault, in any case, and where it comes; nothing where the word is no code.
 pub fn push_code(text: &mut Vec<u8>, word: &[u8]) -> Result<(), AllocError>
     ensures { IfOk result (λ _. (groups : List (Bor (List ExplanationValue)))
-        × (text.new.items ≡ text.old.items ++ code_sentence groups word.now)) }
+        × AreOfKnown groups × (text.new.items ≡ text.old.items ++ code_sentence groups word.now)) }
 {
     push_code_of(text, &all(), word)
 }

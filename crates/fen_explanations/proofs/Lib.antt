@@ -1,3 +1,4 @@
 mod Below
 mod EachBelow
+mod KnownCodes
 mod WordFronts

@@ -17,7 +17,7 @@ use Rattle.chess_notation.specs.Records.{Reads, RecordValue}
 use Rattle.chess_notation.specs.Words.{behind, is_blank, is_empty_text, word_at}
 use Rattle.chess_notation.specs.declared.epd_faults.EpdFault.{EpdFault}
 use Rattle.chess_notation.specs.declared.epd_faults.EpdFault.TheVariants.{Fen}
-use Rattle.fault_explanations.specs.Explained.{code_sentence}
+use Rattle.fault_explanations.specs.Explained.{AreOfKnown, code_sentence}
 use Rattle.fault_explanations.specs.declared.explanations.Explanation.{Explanation}
 use Rattle.fen_explanations.specs.Checks.{checks_told}
 use Rattle.fen_explanations.specs.Fields.{castling_told, counter_told, no_target_told, side_field_told, side_said, target_told}
@@ -91,7 +91,7 @@ is_fen text = begins_with_digit (word_at (behind_fields text)) && is_blank (behi
 abbrev pub TellsFen : List ℕ → Bool → List ℕ → Type 0
 TellsFen text false shown = ((f : FenValue) × Spells text f × IsSound f.position) × (shown ≡ text_told text)
 TellsFen text true shown = ((f : FenValue) → Spells text f → ¬ (IsSound f.position))
-    × ((fault : FenFault) × (groups : List (Bor (List Explanation))) × IsFault text fault
+    × ((fault : FenFault) × (groups : List (Bor (List Explanation))) × AreOfKnown groups × IsFault text fault
     × (shown ≡ unless_told (fen_told text) (code_sentence groups (fault_name fault))))
 
 -- the bound of a record that says none
@@ -101,8 +101,8 @@ default_bound = 3
 -- Something is wrong with a record exactly where the line says none.
 abbrev pub TellsRecord : List ℕ → Bool → List ℕ → Type 0
 TellsRecord line false shown = ((r : RecordValue) × Reads line default_bound r) × (shown ≡ text_told line)
-TellsRecord line true shown = (fault : EpdFault) × (groups : List (Bor (List Explanation))) × IsFaultOf line fault
-    × (shown ≡ record_told line fault (code_sentence groups))
+TellsRecord line true shown = (fault : EpdFault) × (groups : List (Bor (List Explanation))) × AreOfKnown groups
+    × IsFaultOf line fault × (shown ≡ record_told line fault (code_sentence groups))
 
 -- What is told of a text, and whether something is wrong with it.
 abbrev pub TellsBy : Bool → List ℕ → Bool → List ℕ → Type 0

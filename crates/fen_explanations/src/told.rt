@@ -6,7 +6,7 @@ ghost use Rattle.chess_board.specs.Faults.{fault_name};
 ghost use Rattle.chess_board.specs.Fens.{IsFault};
 ghost use Rattle.chess_notation.specs.RecordFields.{behind_fields, line_fields};
 ghost use Rattle.chess_notation.specs.Words.{word_at as word_of_text};
-ghost use Rattle.fault_explanations.specs.Explained.{code_sentence};
+ghost use Rattle.fault_explanations.specs.Explained.{AreOfKnown, code_sentence};
 ghost use Rattle.fault_explanations.specs.declared.explanations.Explanation.{Explanation};
 ghost use Rattle.fen_explanations.specs.Told.{Tells, TellsFen, TellsRecord, begins_with_digit as does_begin_with_digit, checks_if, counters_told};
 ghost use Rattle.fen_explanations.specs.Told.{fen_told, fields_told, is_fen as is_text_of_fen, moving_told, record_told, rest_told, sound_told};
@@ -153,7 +153,7 @@ fn fen_text(alloc: Global, fen: &[u8]) -> Result<Vec<u8>, AllocError>
 #[tactic(auto, unfolding(crate::specs::Told::unless_told))]
 fn push_unless_told(text: &mut Vec<u8>, code: &str) -> Result<(), AllocError>
     ensures { IfOk result (λ _. (groups : List (Bor (List Explanation)))
-        × (text.new.items ≡ unless_told text.old.items (code_sentence groups code.now))) }
+        × AreOfKnown groups × (text.new.items ≡ unless_told text.old.items (code_sentence groups code.now))) }
 {
     if !text.is_empty() {
         return Ok(());
@@ -164,7 +164,7 @@ fn push_unless_told(text: &mut Vec<u8>, code: &str) -> Result<(), AllocError>
 /// What is wrong with a FEN that has this fault.
 fn faulty_fen_text(alloc: Global, fen: &[u8], fault: &FenFault) -> Result<Vec<u8>, AllocError>
     ensures { IfOk result (λ text. (groups : List (Bor (List Explanation)))
-        × (text.items ≡ unless_told (fen_told fen.now) (code_sentence groups (fault_name fault.now)))) }
+        × AreOfKnown groups × (text.items ≡ unless_told (fen_told fen.now) (code_sentence groups (fault_name fault.now)))) }
 {
     let mut text = fen_text(alloc, fen)?;
     push_unless_told(&mut text, fault.code())?;
@@ -176,7 +176,7 @@ fn faulty_fen_text(alloc: Global, fen: &[u8], fault: &FenFault) -> Result<Vec<u8
 fn push_record_fault(text: &mut Vec<u8>, line: &[u8], fault: &EpdFault) -> Result<(), AllocError>
     requires { text.old.items ≡ fields_told (line_fields line.now) }
     ensures { IfOk result (λ _. (groups : List (Bor (List Explanation)))
-        × (text.new.items ≡ record_told line.now fault.now (code_sentence groups))) }
+        × AreOfKnown groups × (text.new.items ≡ record_told line.now fault.now (code_sentence groups))) }
 {
     match fault {
         EpdFault::Fen(fault) => push_unless_told(text, fault.code()),
@@ -187,7 +187,7 @@ fn push_record_fault(text: &mut Vec<u8>, line: &[u8], fault: &EpdFault) -> Resul
 /// What is wrong with a record that has this fault.
 fn faulty_record_text(alloc: Global, line: &[u8], fault: &EpdFault) -> Result<Vec<u8>, AllocError>
     ensures { IfOk result (λ text. (groups : List (Bor (List Explanation)))
-        × (text.items ≡ record_told line.now fault.now (code_sentence groups))) }
+        × AreOfKnown groups × (text.items ≡ record_told line.now fault.now (code_sentence groups))) }
 {
     let words = four_words(line);
     let mut text = fields_text(alloc, &words)?;
