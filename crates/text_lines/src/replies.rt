@@ -209,6 +209,11 @@ pub fn answer_bytes<H: LineHandler>(
 ) -> Result<Output, NoMemory>
     requires ready { H.ready handler.now }
     ensures reply { IfOk result (λ output. IsReply (H.replies handler.now) input.now output.text.items output.refused) }
+    ensures marked { IfOk result (λ output. IsReply (H.marks handler.now) input.now output.text.items (H.tally memory.new - H.tally memory.old)) }
+    ensures followed { IfOk result (λ output. H.knows handler.now memory.old []
+        → IsReply (behind (H.follows handler.now) (texts_of input.now)) input.now output.text.items output.refused
+        × H.knows handler.now memory.new (texts_of input.now)) }
+    ensures grows { IfOk result (λ _. H.tally memory.old ≤ H.tally memory.new) }
     ensures room { H.room memory.new ≡ H.room memory.old }
 {
     let mut text = Vec::new(alloc);
