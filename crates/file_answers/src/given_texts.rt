@@ -119,6 +119,14 @@ impl<'a, S: Source> Source for GivenTexts<'a, S> {
         self.source.begins(number);
     }
 
+    fn follows_lengths(&self) -> bool {
+        self.source.follows_lengths()
+    }
+
+    fn searches(&self, moves: u8) {
+        self.source.searches(moves);
+    }
+
     fn ends(&self, replies: &[u8]) {
         self.source.ends(replies);
     }

@@ -64,6 +64,14 @@ pub trait Source {
     /// Is told that the line of this number is begun, of the file that was opened or turned to last.
     fn begins(&self, _number: usize) {}
 
+    /// Whether it wants to be told which length is searched.
+    fn follows_lengths(&self) -> bool {
+        false
+    }
+
+    /// Is told that mate in so many moves is searched, of the line that was begun last.
+    fn searches(&self, _moves: u8) {}
+
     /// Is told the replies to lines, from one that was begun on.
     fn ends(&self, _replies: &[u8]) {}
 
