@@ -5,6 +5,7 @@ ghost use Rattle.file_answers.specs.Writing.{Gains};
 ghost use Rattle.file_solving.specs.Solved.{Solves, SolvesNone, StopsSolving};
 ghost use Rattle.mate_search.specs.Memos.{max_large_entries};
 
+use crate::lengths::Lengthwise;
 use byte_streams::{Input, Stop};
 use chess_moves::Rays;
 use chess_problems::Bound;
@@ -86,7 +87,10 @@ pub fn solve<S: Source, O: Write, E: Write>(
     let answers = Answers {
         rays: &rays,
         default: bound,
-        solver: OneThread,
+        solver: Lengthwise {
+            solver: OneThread,
+            source,
+        },
     };
     solve_by(alloc, &answers, files, source, &mut memo, out, err)
 }
