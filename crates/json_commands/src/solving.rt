@@ -10,7 +10,7 @@ use chess_moves::Rays;
 use chess_problems::Bound;
 use command_words::{Files, MemoSize};
 use file_answers::Source;
-use file_solving::new_memo;
+use file_solving::{Lengthwise, new_memo};
 use json_replies::Form;
 use mate_answers::{Answers, Limited, LimitedMemory, TimeLimit};
 use mate_search::{Never, OneThread, Solver};
@@ -38,7 +38,10 @@ pub fn solve_json<S: Source, O: Write, E: Write>(
     let answers = Answers {
         rays: &rays,
         default: bound,
-        solver: OneThread,
+        solver: Lengthwise {
+            solver: OneThread,
+            source,
+        },
     };
     solve_json_by(alloc, &answers, files, source, &mut memo, out, err)
 }

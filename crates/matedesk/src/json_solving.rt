@@ -15,6 +15,7 @@ use chess_moves::Rays;
 use chess_problems::Bound;
 use command_words::{Files, LimitedSolve, MemoSize, Workers};
 use file_answers::{Source, no_memory, status_of};
+use file_solving::{Lengthwise, ToldLength};
 use json_commands::{solve_json_by, solve_json_limited};
 use mate_answers::{Answers, Limited, LimitedMemory};
 use parallel_search::{OnThreads, ThreadMemory};
@@ -49,7 +50,10 @@ pub fn solve_json_on<R: Threads + Sync, S: Source, O: Write, E: Write>(
     let answers = Answers {
         rays: &rays,
         default: bound,
-        solver: OnThreads { rt },
+        solver: Lengthwise {
+            solver: OnThreads { rt },
+            source,
+        },
     };
     let ended = solve_json_by(alloc, &answers, files, source, &mut memory, out, err);
     status_of(ended, err)
@@ -78,7 +82,10 @@ fn solve_until_stopped<R: Threads + Sync, S: Source, O: Write, E: Write>(
         default: asked.bound,
         seconds: asked.seconds,
         limit,
-        solver: InTime { rt },
+        solver: ToldLength {
+            solver: InTime { rt },
+            source,
+        },
     };
     solve_json_limited(alloc, &limited, &asked.files, source, memory, out, err)
 }

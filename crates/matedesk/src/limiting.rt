@@ -14,7 +14,7 @@ use chess_moves::Rays;
 use chess_problems::{Outcome, Problem};
 use command_words::LimitedSolve;
 use file_answers::{Source, no_memory};
-use file_solving::{limited_none, solve_limited};
+use file_solving::{ToldLength, limited_none, solve_limited};
 use mate_answers::{Limited, LimitedMemory};
 use mate_search::{Guide, Solver, Stopped};
 use parallel_search::{ThreadMemory, solve_on_threads};
@@ -72,7 +72,10 @@ fn solve_until_stopped<R: Threads + Sync, S: Source, O: Write, E: Write>(
         default: asked.bound,
         seconds: asked.seconds,
         limit,
-        solver: InTime { rt },
+        solver: ToldLength {
+            solver: InTime { rt },
+            source,
+        },
     };
     solve_limited(alloc, &limited, &asked.files, source, memory, out, err)
 }

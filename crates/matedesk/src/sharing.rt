@@ -9,7 +9,7 @@ use chess_moves::Rays;
 use chess_problems::Bound;
 use command_words::{Files, MemoSize, Workers};
 use file_answers::{Source, no_memory, status_of};
-use file_solving::{new_memo, solve_by, solves_none};
+use file_solving::{Lengthwise, new_memo, solve_by, solves_none};
 use mate_answers::Answers;
 use parallel_search::{OnThreads, ThreadMemory};
 use plain_commands::ends_by_status;
@@ -58,7 +58,10 @@ pub fn solve_on<R: Threads + Sync, S: Source, O: Write, E: Write>(
     let answers = Answers {
         rays: &rays,
         default: bound,
-        solver: OnThreads { rt },
+        solver: Lengthwise {
+            solver: OnThreads { rt },
+            source,
+        },
     };
     let ended = solve_by(alloc, &answers, files, source, &mut memory, out, err);
     status_of(ended, err)
