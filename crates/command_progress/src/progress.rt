@@ -24,6 +24,8 @@ pub struct Progress {
     /// The line that was begun last, and at which tick.
     line: AtomicU64,
     began: AtomicU64,
+    /// In how many moves mate is searched there, and 0 where that isn't known.
+    moves: AtomicU64,
     /// How many replies there were.
     replies: AtomicU64,
     refused: AtomicU64,
@@ -83,6 +85,7 @@ impl Progress {
             read: AtomicU64::new(0),
             line: AtomicU64::new(0),
             began: AtomicU64::new(0),
+            moves: AtomicU64::new(0),
             replies: AtomicU64::new(0),
             refused: AtomicU64::new(0),
             no_mate: AtomicU64::new(0),
@@ -112,8 +115,14 @@ impl Progress {
 
     /// The line of this number was begun.
     pub(crate) fn begin(&self, number: usize) {
+        self.search(0);
         self.began.store(now(&self.ticks), Ordering::SeqCst);
         self.line.store(number as u64, Ordering::SeqCst);
+    }
+
+    /// Mate in so many moves is searched, or for 0 none.
+    pub(crate) fn search(&self, moves: u8) {
+        self.moves.store(moves as u64, Ordering::SeqCst);
     }
 
     /// A line was printed that says this.
@@ -132,6 +141,7 @@ impl Progress {
         }
         add_one(&self.replies);
     }
+
     /// How long a number of ticks is, in seconds.
     fn seconds_since(&self, tick: u64) -> u64 {
         now(&self.ticks).saturating_sub(tick) / TICKS_A_SECOND
@@ -140,8 +150,17 @@ impl Progress {
     /// What came of the lines until now.
     fn push_counts(&self, alloc: Global, text: &mut String) -> Result<(), AllocError> {
         let replies = now(&self.replies);
-        text.push_str(format!(in alloc; "{replies} answered")?.as_str())?;
+        text.push_str(format!(in alloc; ", {replies} answered")?.as_str())?;
         push_count(alloc, text, now(&self.refused), "refused")
+    }
+
+    /// Which length is searched, where it is known.
+    fn push_length(&self, alloc: Global, text: &mut String) -> Result<(), AllocError> {
+        let moves = now(&self.moves);
+        if moves > 0 {
+            text.push_str(format!(in alloc; ", at mate in {moves}")?.as_str())?;
+        }
+        Ok(())
     }
 
     /// The file that was opened last, by the end of its name, in so many bytes at most.
@@ -165,7 +184,8 @@ impl Progress {
     /// How far a file is at this line.
     fn told_of_line(&self, alloc: Global, name: &str, line: u64) -> Result<String, AllocError> {
         let seconds = self.seconds_since(now(&self.began));
-        let mut text = format!(in alloc; "{name}: line {line} for {seconds} s, ")?;
+        let mut text = format!(in alloc; "{name}: line {line} for {seconds} s")?;
+        self.push_length(alloc, &mut text)?;
         self.push_counts(alloc, &mut text)?;
         self.push_part(alloc, &mut text)?;
         Ok(text)

@@ -70,7 +70,16 @@ impl<'a, S: Source> Source for WatchedFiles<'a, S> {
         self.progress.begin(number);
     }
 
+    fn follows_lengths(&self) -> bool {
+        true
+    }
+
+    fn searches(&self, moves: u8) {
+        self.progress.search(moves);
+    }
+
     fn ends(&self, replies: &[u8]) {
+        self.progress.search(0);
         let mut rest = replies;
         for _ in 0..replies.len() {
             let Some((line, more)) = first_line(rest) else {
