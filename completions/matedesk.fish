@@ -20,7 +20,7 @@ complete -c matedesk -n "not __fish_seen_subcommand_from $commands" -a moves -d 
 complete -c matedesk -n "not __fish_seen_subcommand_from $commands" -a perft -d 'Count the lines of legal moves from a FEN'
 complete -c matedesk -n "not __fish_seen_subcommand_from $commands" -a explain -d 'Say what a fault means'
 
-complete -c matedesk -n '__fish_seen_subcommand_from solve serve' -l workers -x -a '(seq 1 16)' -d 'Threads that solve'
+complete -c matedesk -n '__fish_seen_subcommand_from solve verify tree serve' -l workers -x -a '(seq 1 16)' -d 'Threads that solve'
 complete -c matedesk -n '__fish_seen_subcommand_from solve verify tree sheet serve' -l bound -x -a '(seq 1 15)' -d 'Moves of a record without dm'
 complete -c matedesk -n '__fish_seen_subcommand_from solve verify sheet serve' -l memo -x -d 'Positions that are remembered'
 complete -c matedesk -n '__fish_seen_subcommand_from solve verify sheet serve' -l memory -r -d 'Memory for all that is remembered'

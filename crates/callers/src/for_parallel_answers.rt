@@ -7,7 +7,8 @@ ghost use Rattle.mate_answers.specs.InputReplies.{IsReply};
 use byte_streams::Stop;
 use chess_moves::Rays;
 use chess_problems::Bound;
-use parallel_answers::{Watcher, Workers, answer_in_order};
+use parallel_answers::{Watcher, answer_in_order};
+use record_tasks::{SolveTask, start_solving};
 use std::alloc::Global;
 use std::io::Write;
 use std::sync::Wait;
@@ -32,11 +33,12 @@ pub fn answer_by_four<R: Threads + Wait + Clock + Clone + Drop + Send + 'static,
     ensures { IfOk result (λ refused. (text : List ℕ) × IsReply default input.now text refused
         × Appends (O.contents out.old) (O.contents out.new) text) }
 {
-    let Ok(mut workers) = Workers::start(rt, alloc, 4, default, 16_384) else {
+    let Ok(mut workers) = start_solving(rt, alloc, 4, 16_384) else {
         return Err(Stop::NoMemory);
     };
     let rays = Rays::new();
-    let refused = answer_in_order(rt, alloc, &rays, default, &mut workers, input, out, &Nobody)?;
+    let task = SolveTask { default };
+    let refused = answer_in_order(rt, alloc, &rays, &task, &mut workers, input, out, &Nobody)?;
     workers.end(rt);
     Ok(refused)
 }

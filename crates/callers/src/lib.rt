@@ -25,6 +25,7 @@ pub mod for_plain_commands;
 pub mod for_position_lines;
 pub mod for_problem_import;
 pub mod for_problem_sheets;
+pub mod for_record_tasks;
 pub mod for_room_ends;
 pub mod for_square_sets;
 pub mod for_stipulations;

@@ -7,7 +7,8 @@ use Rattle.clap.specs.declared.builder.value_parser.ValueParser.TheVariants as p
 use Rattle.clap.specs.declared.builder.arg.Arg.{Arg}
 use Rattle.command_words.specs.ClapWords.{new_rule, rule_of}
 use Rattle.command_words.specs.CommandLine.{bound_rule, depth_rule, files_rule, flag_rule, from_rule, import_bound_rule, letters_rule, limit_rule, memo_rule, memory_rule}
-use Rattle.command_words.specs.CommandLine.{most_lines_rule, progress_rule, shown_rule, solve_workers_rule, title_rule, wanted, words_rule, workers_rule}
+use Rattle.command_words.specs.CommandLine.{most_lines_rule, progress_rule, shown_rule, solve_workers_rule, title_rule, tree_workers_rule, wanted}
+use Rattle.command_words.specs.CommandLine.{words_rule, workers_rule}
 use Rattle.command_words.specs.declared.arguments.Argument.{Argument}
 use Rattle.command_words.specs.declared.arguments.Argument.TheVariants as argument
 use Rattle.command_words.specs.declared.arguments.Form.{Form}
@@ -45,6 +46,8 @@ argument_rule argument.VerifyBound = import_bound_rule
 argument_rule argument.Letters = letters_rule
 argument_rule argument.Workers = workers_rule
 argument_rule argument.SolveWorkers = solve_workers_rule
+argument_rule argument.VerifyWorkers = solve_workers_rule
+argument_rule argument.TreeWorkers = tree_workers_rule
 argument_rule argument.Memo = memo_rule
 argument_rule argument.Memos = memo_rule
 argument_rule argument.Memory = memory_rule

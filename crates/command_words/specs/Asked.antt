@@ -44,11 +44,13 @@ pub data Asked : Type 0 where
   limited : ℕ → ℕ → ℕ → ℕ → List Text → Asked
   limited_json : ℕ → ℕ → ℕ → ℕ → List Text → Asked
   verify : ℕ → ℕ → Bool → ℕ → List Text → Asked
+  verify_on : ℕ → ℕ → ℕ → Bool → ℕ → List Text → Asked
   verify_json : ℕ → ℕ → ℕ → List Text → Asked
   verify_imported : Option ℕ → ℕ → Bool → ℕ → List Text → Asked
   verify_limited : ℕ → ℕ → ℕ → Bool → ℕ → List Text → Asked
   verify_limited_json : ℕ → ℕ → ℕ → ℕ → List Text → Asked
   tree : ℕ → TreeForm → Text → ℕ → List Text → Asked
+  tree_on : ℕ → ℕ → TreeForm → Text → ℕ → List Text → Asked
   tree_json : ℕ → TreeForm → Text → ℕ → List Text → Asked
   sheet : ℕ → ℕ → SheetForm → Text → Text → List Text → Asked
   imports : Bool → Option ℕ → Text → List Text → Asked
@@ -68,6 +70,10 @@ bound_in rows = bound_of (option_map_or byte_or_zero (one_of (codes "B") rows) 0
 -- the number of `--workers` in the same way; none outside the numbers of workers
 unfoldable pub workers_in : List Row → Option ℕ
 workers_in rows = workers_of (option_map_or byte_or_zero (one_of (codes "N") rows) 0)
+
+-- the same of `tree`
+unfoldable pub tree_workers_in : List Row → Option ℕ
+tree_workers_in rows = workers_of (option_map_or byte_or_zero (one_of (codes "W") rows) 0)
 
 -- the number that a word stands for, which `clap` has read, where it may be larger than a byte
 unfoldable pub number_or_zero : Text → ℕ
@@ -202,37 +208,46 @@ solve_in rows =
 abbrev pub default_bound : ℕ
 default_bound = 3
 
--- what `verify` asks for rows of records: of each so many seconds at most, or as long as it takes
-abbrev pub verify_rows_at : Option ℕ → ℕ → ℕ → Bool → ℕ → List Text → Asked
-verify_rows_at None bound memo header from names = verify bound memo header from names
-verify_rows_at (Some seconds) bound memo header from names = verify_limited seconds bound memo header from names
+-- how many memos `verify` has with so many workers: as `solve` where each record has a limit, and else one for each of them
+abbrev pub verify_memos_on : Option ℕ → ℕ → ℕ
+verify_memos_on None workers = workers
+verify_memos_on (Some seconds) workers = memos_on workers
 
--- the same in JSON
+-- what `verify` asks for rows of records: of each so many seconds at most, or as long as it takes, and then by so many workers, or by one
+abbrev pub verify_rows_at : Option ℕ → ℕ → ℕ → ℕ → Bool → ℕ → List Text → Asked
+verify_rows_at None workers bound memo header from names =
+    if workers == 1 then verify bound memo header from names else verify_on workers bound memo header from names
+verify_rows_at (Some seconds) workers bound memo header from names = verify_limited seconds bound memo header from names
+
+-- the same in JSON, by one worker
 abbrev pub verify_json_at : Option ℕ → ℕ → ℕ → ℕ → List Text → Asked
 verify_json_at None bound memo from names = verify_json bound memo from names
 verify_json_at (Some seconds) bound memo from names = verify_limited_json seconds bound memo from names
 
--- of problems that are imported, which have no limit
+-- of problems that are imported, which have one worker and no limit
 abbrev pub verify_imported_at : Option ℕ → Option ℕ → ℕ → Bool → ℕ → List Text → Option Asked
 verify_imported_at None bound memo header from names = Some (verify_imported bound memo header from names)
 verify_imported_at (Some seconds) bound memo header from names = None
 
 -- what `verify` asks for: rows, with or without the names of their fields, of records or of problems that are imported; or JSON of records
-abbrev pub verify_at : List Row → ℕ → ℕ → List Text → Option Asked
-verify_at rows memo from names =
+abbrev pub verify_at : List Row → Option ℕ → ℕ → ℕ → ℕ → List Text → Option Asked
+verify_at rows limit workers memo from names =
     let header = is_given (codes "header") rows in
     let imported = is_given (codes "import") rows in
+    let alone = workers == 1 in
     if not (is_given (codes "json") rows) then
-    (if imported then verify_imported_at (limit_in rows) (bound_in rows) memo header from names
-    else Some (verify_rows_at (limit_in rows) (unwrap_or (bound_in rows) default_bound) memo header from names))
-    else if header || imported then None
-    else Some (verify_json_at (limit_in rows) (unwrap_or (bound_in rows) default_bound) memo from names)
+    (if not imported then Some (verify_rows_at limit workers (unwrap_or (bound_in rows) default_bound) memo header from names)
+    else if alone then verify_imported_at limit (bound_in rows) memo header from names
+    else None)
+    else if header || imported || not alone then None
+    else Some (verify_json_at limit (unwrap_or (bound_in rows) default_bound) memo from names)
 
 -- what the arguments of `verify` ask for
 unfoldable pub verify_in : List Row → Option Asked
 verify_in rows =
-    option_and_then (λ memo. option_and_then (λ from. option_and_then (verify_at rows memo from) (all_of (codes "FILE") rows))
-    (from_in rows)) (memo_size_in 1 default_memo rows)
+    option_and_then (λ workers. option_and_then (λ memo. option_and_then
+    (λ from. option_and_then (verify_at rows (limit_in rows) workers memo from) (all_of (codes "FILE") rows))
+    (from_in rows)) (memo_size_in (verify_memos_on (limit_in rows) workers) default_memo rows)) (workers_in rows)
 
 -- what is shown of a tree: how many moves, whether only the defences that parry, set play, tries, in one column, with figurines, and how
 -- many lines
@@ -247,17 +262,18 @@ tree_form_in rows = record {
   lines = some_number (option_map_or number_or_zero (one_of (codes "N") rows) 0);
 }
 
--- what `tree` asks for, as text or in JSON, with what gives the letters of men
-abbrev pub tree_at : Bool → ℕ → TreeForm → Text → ℕ → List Text → Asked
-tree_at false bound form letters from names = tree bound form letters from names
-tree_at true bound form letters from names = tree_json bound form letters from names
+-- what `tree` asks for, as text by so many workers, or by one, or in JSON by one, with what gives the letters of men
+abbrev pub tree_at : Bool → ℕ → ℕ → TreeForm → Text → ℕ → List Text → Option Asked
+tree_at false workers bound form letters from names =
+    Some (if workers == 1 then tree bound form letters from names else tree_on workers bound form letters from names)
+tree_at true workers bound form letters from names = if workers == 1 then Some (tree_json bound form letters from names) else None
 
 -- what the arguments of `tree` ask for
 unfoldable pub tree_in : List Row → Option Asked
 tree_in rows =
-    option_and_then (λ bound. option_and_then (λ from. option_and_then (λ letters. option_map
-    (λ names. tree_at (is_given (codes "json") rows) bound (tree_form_in rows) letters from names) (all_of (codes "FILE") rows))
-    (first_of (codes "L") rows)) (from_in rows)) (bound_in rows)
+    option_and_then (λ workers. option_and_then (λ bound. option_and_then (λ from. option_and_then (λ letters. option_and_then
+    (λ names. tree_at (is_given (codes "json") rows) workers bound (tree_form_in rows) letters from names) (all_of (codes "FILE") rows))
+    (first_of (codes "L") rows)) (from_in rows)) (bound_in rows)) (tree_workers_in rows)
 
 -- what a page has beside its diagrams
 unfoldable pub sheet_form_in : List Row → SheetForm
@@ -327,8 +343,10 @@ is_threaded (solve_on workers bound memo from names) = true
 is_threaded (solve_json_on workers bound memo from names) = true
 is_threaded (limited seconds bound memo from names) = true
 is_threaded (limited_json seconds bound memo from names) = true
+is_threaded (verify_on workers bound memo header from names) = true
 is_threaded (verify_limited seconds bound memo header from names) = true
 is_threaded (verify_limited_json seconds bound memo from names) = true
+is_threaded (tree_on workers bound form letters from names) = true
 is_threaded uci = true
 is_threaded _ = false
 

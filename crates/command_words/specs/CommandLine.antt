@@ -42,9 +42,17 @@ workers_rule = record (wanted (codes "N")) {
   parser = Some (parser.Signed (pos 1) (pos 16));
 }
 
--- the same of `solve`, which is 1 where it isn't given
+-- the same of `solve` and `verify`, which is 1 where it isn't given
 unfoldable pub solve_workers_rule : Rule
 solve_workers_rule = record (new_rule (codes "N")) {
+  long = Some (codes "workers");
+  parser = Some (parser.Signed (pos 1) (pos 16));
+  defaults = codes "1" ∷ [];
+}
+
+-- the same of `tree`, whose N is a number of lines
+unfoldable pub tree_workers_rule : Rule
+tree_workers_rule = record (new_rule (codes "W")) {
   long = Some (codes "workers");
   parser = Some (parser.Signed (pos 1) (pos 16));
   defaults = codes "1" ∷ [];
@@ -131,7 +139,8 @@ with_row_options a = with_rule (with_rule (with_rule a (flag_rule (codes "import
 
 unfoldable pub verify_app : App
 verify_app = with_lines_of_files
-    (with_row_options (with_rule (with_memo_options (with_rule (new_app (codes "verify")) import_bound_rule)) limit_rule))
+    (with_row_options
+    (with_rule (with_rule (with_memo_options (with_rule (new_app (codes "verify")) import_bound_rule)) limit_rule) solve_workers_rule))
 
 -- with the options of `tree`: the bound, and what is shown
 unfoldable pub with_tree_options : App → App
@@ -141,7 +150,8 @@ with_tree_options a =
     (flag_rule (codes "figurines"))) letters_rule) most_lines_rule
 
 unfoldable pub tree_app : App
-tree_app = with_lines_of_files (with_rule (with_tree_options (new_app (codes "tree"))) (flag_rule (codes "json")))
+tree_app =
+    with_lines_of_files (with_rule (with_rule (with_tree_options (new_app (codes "tree"))) tree_workers_rule) (flag_rule (codes "json")))
 
 -- with what a page may have beside its diagrams
 unfoldable pub with_sheet_flags : App → App

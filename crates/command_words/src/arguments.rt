@@ -9,8 +9,9 @@ use crate::help::{
     ABOUT_HEADER, ABOUT_IMPORT_BOUND, ABOUT_IMPORTED, ABOUT_JSON, ABOUT_KEEP, ABOUT_LETTERS,
     ABOUT_LIMIT, ABOUT_MEMO, ABOUT_MEMORY, ABOUT_MEMOS, ABOUT_MOST_LINES, ABOUT_MOVE,
     ABOUT_MOVES_JSON, ABOUT_POSITIONS, ABOUT_PROGRESS, ABOUT_RECORD, ABOUT_RECORD_FEN,
-    ABOUT_SCRIPT, ABOUT_SET_PLAY, ABOUT_SHOWN, ABOUT_SOLUTIONS, ABOUT_SOLVE_WORKERS, ABOUT_SVG,
-    ABOUT_TITLE, ABOUT_TREE_FIGURINES, ABOUT_TRIES, ABOUT_VERIFY_BOUND, ABOUT_WORD, ABOUT_WORKERS,
+    ABOUT_RECORD_WORKERS, ABOUT_SCRIPT, ABOUT_SET_PLAY, ABOUT_SHOWN, ABOUT_SOLUTIONS,
+    ABOUT_SOLVE_WORKERS, ABOUT_SVG, ABOUT_TITLE, ABOUT_TREE_FIGURINES, ABOUT_TRIES,
+    ABOUT_VERIFY_BOUND, ABOUT_WORD, ABOUT_WORKERS,
 };
 
 /// The arguments of the commands.
@@ -29,6 +30,8 @@ pub(crate) enum Argument {
     Letters,
     Workers,
     SolveWorkers,
+    VerifyWorkers,
+    TreeWorkers,
     Memo,
     Memos,
     Memory,
@@ -222,10 +225,27 @@ static WORKERS: Row = Row {
     ..COUNT
 };
 
-static SOLVE_WORKERS: Row = Row {
+/// The same of commands that have one where none is given.
+const OPEN_COUNT: Row = Row {
     defaults: &["1"],
-    help: ABOUT_SOLVE_WORKERS,
     ..COUNT
+};
+
+static SOLVE_WORKERS: Row = Row {
+    help: ABOUT_SOLVE_WORKERS,
+    ..OPEN_COUNT
+};
+
+static VERIFY_WORKERS: Row = Row {
+    help: ABOUT_RECORD_WORKERS,
+    ..OPEN_COUNT
+};
+
+/// Of `tree`, whose N is a number of lines.
+static TREE_WORKERS: Row = Row {
+    id: "W",
+    help: ABOUT_RECORD_WORKERS,
+    ..OPEN_COUNT
 };
 
 /// A number of entries of a memo, 1 to 65,536.
@@ -450,6 +470,8 @@ pub(crate) fn row_of(argument: Argument) -> &'static Row
         Argument::Letters => &LETTERS,
         Argument::Workers => &WORKERS,
         Argument::SolveWorkers => &SOLVE_WORKERS,
+        Argument::VerifyWorkers => &VERIFY_WORKERS,
+        Argument::TreeWorkers => &TREE_WORKERS,
         Argument::Memo => &MEMO,
         Argument::Memos => &MEMOS,
         Argument::Memory => &MEMORY,

@@ -145,6 +145,11 @@ With --import the lines are problems in any form that `import` takes, and LINE i
 where one begins; one that says no number of moves is NoBound, unless --bound is given. With
 --json each row is an object in JSON.
 
+With `--workers N` the records of a collection are taken side by side by N threads, each with
+a memo of its own, and all with one SIZE; their rows stand in the order of its lines. With
+`--limit S` as well they are taken one after the other, and each is solved by N threads, as
+`solve` does. Beside --json and --import N is 1.
+
 Example:
   $ cat problems.epd
   7k/8/5K2/8/8/8/8/R7 w - - bm Kf7; dm 2; id \"one key of two\";
@@ -158,7 +163,7 @@ Status:
   0  each record is sound
   1  a line is not
   2  the words ask for nothing
-  3  no memory; with `--limit` also no thread
+  3  no memory; with `--limit` or `--workers` also no thread
   4  a FILE can't be read, or the output can't be written
   5  with `--limit`: every line has its row, and some record was not decided
 At 3 and 4 the first of the rows may have been written.";
@@ -194,6 +199,9 @@ were the defender to move first. With --tries `tries` has behind them each first
 exactly one reply refutes: 1.Qh3? Kd5! With --json there is one object for each line, as
 `solve --json` has it, with the lines of the tree as strings in `tree`.
 
+With `--workers W` the records of a collection are taken side by side by W threads, each with
+a memo of its own; their trees stand in the order of its lines. Beside --json W is 1.
+
 Example:
   $ cat problems.epd
   7k/8/5K2/8/8/8/8/R7 w - - dm 2;
@@ -215,7 +223,7 @@ Status:
   0  every line was answered
   1  a line was refused; all others were answered
   2  the words ask for nothing
-  3  no memory
+  3  no memory; with `--workers` also no thread
   4  a FILE can't be read, or the output can't be written
 At 3 and 4 the first of the answers may have been written.";
 
@@ -505,6 +513,10 @@ pub const ABOUT_LIMIT: &str =
 /// The option `--workers` of `solve` in one line.
 pub const ABOUT_SOLVE_WORKERS: &str =
     "How many threads solve each record, 1 to 16, each with a memo of its own";
+
+/// The option `--workers` of `verify` and of `tree` in one line.
+pub const ABOUT_RECORD_WORKERS: &str =
+    "How many threads take the records side by side, 1 to 16, each with a memo of its own";
 
 /// The option `--from` in one line.
 pub const ABOUT_FROM: &str =

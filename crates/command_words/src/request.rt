@@ -7,7 +7,7 @@ ghost use Rattle.clap.specs.Words.{all_of, first_of, found_of, kind_of, one_of, 
 ghost use Rattle.command_words.specs.Asked.{desk_asked_by, lines_asked_by, records_asked_by};
 ghost use Rattle.command_words.specs.Asked.{asked_by, asked_exactly, bound_in, depth_in, form_in, from_in, is_given, limit_in, lines_in, look_in};
 ghost use Rattle.command_words.specs.Asked.{has_memo_size, look_lines_in, memo_size_in, memos_on, moves_in, number_or_zero, perft_in, perft_lines_in, play_in};
-ghost use Rattle.command_words.specs.Asked.{side_in, svg_at, workers_in, serve_in, solve_in, some_number, tree_form_in, tree_in, verify_in};
+ghost use Rattle.command_words.specs.Asked.{side_in, svg_at, workers_in, serve_in, solve_in, some_number, tree_form_in, tree_in, tree_workers_in, verify_in, verify_memos_on};
 ghost use Rattle.command_words.specs.Asked.{default_bound, moves_at, solve_as, solve_at, solve_json_at, verify_at, verify_json_at, verify_rows_at};
 ghost use Rattle.command_words.specs.Asked.{sheet_form_in, sheet_in, import_in, asked_of, asks_display_exactly, is_display, may_display_exactly};
 ghost use Rattle.command_words.specs.Asked.{answers_records, progress_of, records_given_by, records_given_exactly, records_given_of};
@@ -87,12 +87,13 @@ pub struct LimitedSolve<'m, 'a> {
     pub files: Files<'m, 'a>,
 }
 
-/// What is asked where each record that is held against its claims may take so many seconds: the bound of records that say none, the size of
-/// a memo, whether a first row names the fields, and the files.
+/// What is asked where each record that is held against its claims may take so many seconds: how many workers, the bound of records that say
+/// none, the size of a memo, whether a first row names the fields, and the files.
 #[derive(Clone, Copy)]
 pub struct LimitedVerify<'m, 'a> {
     /// How many seconds, 1 to 86,400.
     pub seconds: u32,
+    pub workers: Workers,
     pub bound: Bound,
     pub memo: MemoSize,
     pub header: bool,
@@ -144,18 +145,22 @@ pub enum Request<'m, 'a> {
     /// Hold the records of files, in order, against their own claims, over a memo of such a size; the bound is for records that say none.
     /// Whether a first row names the fields.
     Verify(Bound, MemoSize, bool, Files<'m, 'a>),
-    /// The same in JSON.
+    /// The same by so many workers, each over a memo of such a size.
+    VerifyOn(Workers, Bound, MemoSize, bool, Files<'m, 'a>),
+    /// As `Verify`, in JSON.
     VerifyJson(Bound, MemoSize, Files<'m, 'a>),
     /// As `Verify`, of problems as they are imported; where a bound is given, it is for problems that say none, which are else refused.
     VerifyImported(Option<Bound>, MemoSize, bool, Files<'m, 'a>),
-    /// As `Verify`, where each record may take so many seconds.
+    /// As `Verify`, where each record may take so many seconds, and so many workers solve it.
     VerifyLimited(LimitedVerify<'m, 'a>),
-    /// The same in JSON, which has no first row.
+    /// The same in JSON, which has no first row, and one worker.
     VerifyLimitedJson(LimitedVerify<'m, 'a>),
     /// Tell the trees of the records of files, in order, in such a form; the bound is for records that say none. A word
     /// gives the letters of men.
     Tree(Bound, TreeForm, &'a str, Files<'m, 'a>),
-    /// The same in JSON.
+    /// The same by so many workers.
+    TreeOn(Workers, Bound, TreeForm, &'a str, Files<'m, 'a>),
+    /// As `Tree`, in JSON.
     TreeJson(Bound, TreeForm, &'a str, Files<'m, 'a>),
     /// Make a page of the records of files, in order, in such a form, and with such a title, the second word. Solutions are found over a memo
     /// of such a size, and the first word gives the letters of men in them; the bound is for records that say none.
@@ -218,12 +223,20 @@ fn bound_in(matches: &ArgMatches) -> Option<Bound>
     Bound::new(number_in(matches, "B"))
 }
 
-/// The workers of `serve`. `clap` has kept them to their range.
+/// The workers of `solve`, `verify` and `serve`. `clap` has kept them to their range.
 #[tactic(auto, unfolding(crate::specs::Asked::workers_in))]
 fn workers_in(matches: &ArgMatches) -> Option<Workers>
     ensures { result ≡ workers_in (rows_of (found_of matches.now)) }
 {
     Workers::new(number_in(matches, "N"))
+}
+
+/// The workers of `tree`, whose N is a number of lines.
+#[tactic(auto, unfolding(crate::specs::Asked::tree_workers_in))]
+fn tree_workers_in(matches: &ArgMatches) -> Option<Workers>
+    ensures { result ≡ tree_workers_in (rows_of (found_of matches.now)) }
+{
+    Workers::new(number_in(matches, "W"))
 }
 
 /// The entries of a memo where nothing is said of it, and of each worker of `serve`.
@@ -255,6 +268,17 @@ fn memos_on(workers: Workers) -> u8
     match workers.get() {
         1 => 1,
         count => count + 1,
+    }
+}
+
+/// How many memos `verify` has with so many workers: as `solve` where each record has a limit, and else one for each of them.
+fn verify_memos_on(limit: Option<u32>, workers: Workers) -> u8
+    ensures memos { result ≡ verify_memos_on limit workers }
+    ensures some { 1 ≤ result }
+{
+    match limit {
+        Some(_) => memos_on(workers),
+        None => workers.get(),
     }
 }
 
@@ -516,31 +540,40 @@ fn bound_or_default(matches: &ArgMatches) -> Bound
 
 /// What `verify` is asked for in rows of records.
 fn verify_rows_with<'m, 'a>(
+    matches: &ArgMatches<'a>,
     limit: Option<u32>,
-    bound: Bound,
+    workers: Workers,
     memo: MemoSize,
-    header: bool,
     from: LineNumber,
     names: &'m [&'a str],
 ) -> Request<'m, 'a>
-    ensures { plan_of result ≡ verify_rows_at limit bound memo header from (map (λ s. s.now) names.entry.now) }
+    ensures { plan_of result ≡ verify_rows_at limit workers (unwrap_or (bound_in (rows_of (found_of matches.now))) default_bound) memo
+        (is_given (codes "header") (rows_of (found_of matches.now))) from (map (λ s. s.now) names.entry.now) }
 {
+    let bound = bound_or_default(matches);
+    let header = is_given(matches, "header");
     let files = Files { names, from };
-    match limit {
-        Some(seconds) => Request::VerifyLimited(LimitedVerify {
+    if let Some(seconds) = limit {
+        return Request::VerifyLimited(LimitedVerify {
             seconds,
+            workers,
             bound,
             memo,
             header,
             files,
-        }),
-        None => Request::Verify(bound, memo, header, files),
+        });
+    }
+    if workers.get() == 1 {
+        Request::Verify(bound, memo, header, files)
+    } else {
+        Request::VerifyOn(workers, bound, memo, header, files)
     }
 }
 
-/// What `verify` is asked for in JSON.
+/// What `verify` is asked for in JSON, of one worker.
 fn verify_json_with<'m, 'a>(
     limit: Option<u32>,
+    worker: Workers,
     bound: Bound,
     memo: MemoSize,
     from: LineNumber,
@@ -552,6 +585,7 @@ fn verify_json_with<'m, 'a>(
     match limit {
         Some(seconds) => Request::VerifyLimitedJson(LimitedVerify {
             seconds,
+            workers: worker,
             bound,
             memo,
             header: false,
@@ -561,35 +595,37 @@ fn verify_json_with<'m, 'a>(
     }
 }
 
-/// What `verify` is asked for; nothing where it is to be in JSON, and with names of fields or of imported problems, too, or of these with a
-/// limit.
+/// What `verify` is asked for; nothing where several workers are to tell it in JSON or of imported problems, where it is to be in JSON and with
+/// names of fields or of imported problems, or where these have a limit.
 fn verify_with<'m, 'a>(
     matches: &'m ArgMatches<'a>,
+    limit: Option<u32>,
+    workers: Workers,
     memo: MemoSize,
     from: LineNumber,
     names: &'m [&'a str],
 ) -> Option<Request<'m, 'a>>
-    ensures { option_map plan_of result ≡ verify_at (rows_of (found_of matches.now)) memo from (map (λ s. s.now) names.entry.now) }
+    ensures { option_map plan_of result
+        ≡ verify_at (rows_of (found_of matches.now)) limit workers memo from (map (λ s. s.now) names.entry.now) }
 {
-    let header = is_given(matches, "header");
     let imported = is_given(matches, "import");
-    let limit = limit_in(matches);
+    let alone = workers.get() == 1;
     if is_given(matches, "json") {
-        if header || imported {
+        if is_given(matches, "header") || imported || !alone {
             return None;
         }
         let bound = bound_or_default(matches);
-        return Some(verify_json_with(limit, bound, memo, from, names));
+        return Some(verify_json_with(limit, workers, bound, memo, from, names));
     }
-    if imported {
-        if limit.is_some() {
-            return None;
-        }
-        let bound = bound_in(matches);
-        return Some(Request::VerifyImported(bound, memo, header, Files { names, from }));
+    if !imported {
+        return Some(verify_rows_with(matches, limit, workers, memo, from, names));
     }
-    let bound = bound_or_default(matches);
-    Some(verify_rows_with(limit, bound, memo, header, from, names))
+    if limit.is_some() || !alone {
+        return None;
+    }
+    let bound = bound_in(matches);
+    let files = Files { names, from };
+    Some(Request::VerifyImported(bound, memo, is_given(matches, "header"), files))
 }
 
 /// What the arguments of `verify` ask for.
@@ -597,10 +633,12 @@ fn verify_with<'m, 'a>(
 fn verify_in<'m, 'a>(matches: &'m ArgMatches<'a>) -> Option<Request<'m, 'a>>
     ensures { option_map plan_of result ≡ verify_in (rows_of (found_of matches.now)) }
 {
-    let memo = memo_size_in(matches, 1, DEFAULT_MEMO)?;
+    let workers = workers_in(matches)?;
+    let limit = limit_in(matches);
+    let memo = memo_size_in(matches, verify_memos_on(limit, workers), DEFAULT_MEMO)?;
     let from = from_in(matches)?;
     let names = names_in(matches, "FILE")?;
-    verify_with(matches, memo, from, names)
+    verify_with(matches, limit, workers, memo, from, names)
 }
 
 /// How many of the attacker's moves are shown of a tree. `clap` has kept them to their range, and has none where none are given.
@@ -639,22 +677,24 @@ fn tree_form_in(matches: &ArgMatches) -> TreeForm
     }
 }
 
-/// What the arguments of `tree` ask for.
+/// What the arguments of `tree` ask for; nothing where it is to be in JSON and by several workers.
 #[tactic(auto, unfolding(crate::specs::Asked::tree_in))]
 fn tree_in<'m, 'a>(matches: &'m ArgMatches<'a>) -> Option<Request<'m, 'a>>
     ensures { option_map plan_of result ≡ tree_in (rows_of (found_of matches.now)) }
 {
+    let workers = tree_workers_in(matches)?;
     let bound = bound_in(matches)?;
     let from = from_in(matches)?;
     let form = tree_form_in(matches);
     let letters = text_in(matches, "L")?;
     let names = names_in(matches, "FILE")?;
     let files = Files { names, from };
-    Some(if is_given(matches, "json") {
-        Request::TreeJson(bound, form, letters, files)
-    } else {
-        Request::Tree(bound, form, letters, files)
-    })
+    match (is_given(matches, "json"), workers.get() == 1) {
+        (false, true) => Some(Request::Tree(bound, form, letters, files)),
+        (false, false) => Some(Request::TreeOn(workers, bound, form, letters, files)),
+        (true, true) => Some(Request::TreeJson(bound, form, letters, files)),
+        (true, false) => None,
+    }
 }
 
 /// What a page has beside its diagrams.

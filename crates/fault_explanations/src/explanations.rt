@@ -289,7 +289,7 @@ one.",
         code: "undecided",
         comes: "with `--limit`, the record was not decided in its seconds",
         means: "Nothing is held against it, and what the fourth and the fifth field would have is not known.
-A longer limit may decide it; hard ones are solved sooner by `solve --workers`.",
+A longer limit may decide it; hard ones are decided sooner with `--workers`.",
         example: None,
     },
     Explanation {
@@ -441,8 +441,9 @@ static SIZES: [Explanation; 6] = [
     },
     Explanation {
         code: "NoThread",
-        comes: "`serve`, `uci`, `solve --limit` or `verify --limit` could start no more threads",
-        means: "The system allows no more of them: `serve` with fewer workers, or `solve` alone, which starts none.",
+        comes: "`serve`, `uci`, `verify --workers`, `tree --workers`, `solve --limit` or `verify --limit` could start no more threads",
+        means: "The system allows no more of them: take fewer workers, or `solve`, `verify` or `tree` alone,
+which start none.",
         example: None,
     },
     Explanation {

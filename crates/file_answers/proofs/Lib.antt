@@ -1,6 +1,6 @@
 mod HeldFiles
 mod OpenedFiles
-mod LinesFrom
+pub mod LinesFrom
 mod WrittenFrom
 mod Opened
 mod KeptBytes

@@ -21,12 +21,3 @@ verifies_none holds bound from names = answers_none holds _ _ from names (no_cla
 pub limited_none : (holds : List ℕ → Option (List ℕ)) (bound from : ℕ) (names : List (List ℕ)) → AnswersFirst holds
     (limited_claim_replies (has_several names) bound) (first_limited_claim_replies (has_several names) bound) from names (λ _. ⊤) []
 limited_none holds bound from names = answers_none holds _ _ from names (no_limited_reply (has_several names) bound)
-
-pub verifies_at_once : (holds : List ℕ → Option (List ℕ)) (refuses : List ℕ → Type 0) (bound from : ℕ) (names : List (List ℕ))
-    (old new : Option (List ℕ)) → Keeps old new → StopsAnswering holds refuses
-    (claim_replies (has_several names) bound) (first_claim_replies (has_several names) bound) from names stop.NoMemory old new
-verifies_at_once holds refuses bound from names old new kept = record {
-  gained = [];
-  shows = verifies_none holds bound from names;
-  appends = Appends-kept old old new [] (Appends-nil old) kept;
-}

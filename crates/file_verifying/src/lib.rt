@@ -9,4 +9,4 @@ mod limited_verifying;
 mod verifying;
 
 pub use limited_verifying::verify_limited;
-pub use verifying::verify;
+pub use verifying::{Verifier, verify, verify_by};

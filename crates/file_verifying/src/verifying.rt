@@ -1,7 +1,12 @@
 //! The command `verify`.
 
-ghost use Rattle.std.specs.Prelude.{IfErr, IfOk, map};
+ghost use Rattle.std.specs.Prelude.{◌≡◌, ℕ, List, IfErr, IfOk, map};
+ghost use Rattle.std.specs.Io.KnownBytes.{Appends};
+ghost use Rattle.byte_streams.specs.Inputs.{MayBe};
+ghost use Rattle.byte_streams.specs.Stops.{AppendsBy};
+ghost use Rattle.file_answers.specs.LinesFrom.{IsReplyOn, IsReplyToFirstOn};
 ghost use Rattle.file_answers.specs.Writing.{Gains};
+ghost use Rattle.mate_claims.specs.ClaimReplies.{IsClaimReply};
 ghost use Rattle.file_verifying.specs.Verified.{StopsHeaded, StopsVerifying, Verifies, VerifiesHeaded};
 
 use crate::headings::{prefix_of, put_header};
@@ -17,42 +22,62 @@ use mate_claims::{ClaimMemory, ClaimRows, Counts};
 use std::alloc::Global;
 use std::io::Write;
 
-/// Holds records against their claims, with the bound of those that say none.
-#[derive(Clone, Copy)]
-struct ClaimAnswers<'a> {
-    rays: &'a Rays,
-    bound: Bound,
-    /// Whether a row names its file.
-    several: bool,
-}
+/// Who holds the lines of files against their claims.
+pub trait Verifier {
+    /// What is kept from line to line.
+    type Memory;
 
-impl<'a> FileAnswers for ClaimAnswers<'a> {
-    ghost use Rattle.file_answers.specs.FileAnswers.{unmarked};
-    ghost use Rattle.file_verifying.specs.Verified.{claim_replies, first_claim_replies};
+    /// The bound of records that say none.
+    ghost default: { Self → ℕ };
 
-    type Memory = ClaimMemory;
-
-    ghost replies = { λ answers. claim_replies answers.several answers.bound };
-
-    ghost told = { λ answers. unmarked (claim_replies answers.several answers.bound) };
-
-    ghost tells = { λ _ _ _ _ _ _ _ told. told };
-
-    ghost first = { λ answers. first_claim_replies answers.several answers.bound };
-
-    fn answer<S: Source, I: Input + Drop, O: Write>(
+    /// Writes the row of each line of a file from that of a number on, with this part of its place before its number; gives how many lines
+    /// aren't sound.
+    fn verify_lines<S: Source, I: Input + Drop, O: Write>(
         &self,
         alloc: Global,
+        prefix: &[u8],
+        start: &FileStart<S>,
+        input: I,
+        memory: &mut Self::Memory,
+        out: &mut O,
+    ) -> Result<usize, Stop>
+        ensures ok { IfOk result (λ unsound. (bytes : List ℕ) × (text : List ℕ) × MayBe (I.left input) bytes
+            × IsReplyOn (IsClaimReply prefix.now (default self.now)) start.now.from bytes text unsound
+            × Appends (O.contents out.old) (O.contents out.new) text) }
+        ensures err { IfErr result (λ stop. (bytes : List ℕ) × (text : List ℕ) × MayBe (I.left input) bytes
+            × IsReplyToFirstOn (IsClaimReply prefix.now (default self.now)) start.now.from bytes text
+            × AppendsBy stop (O.contents out.old) (O.contents out.new) text) }
+        ensures unreadable { IfErr result (λ stop. stop ≡ Stop.Unreadable → I.breaks input) };
+
+    /// How many lines came to which verdict so far.
+    fn counts(&self, memory: &Self::Memory) -> Counts;
+}
+
+/// The calling thread, over one memo.
+#[derive(Clone, Copy)]
+struct OneVerifier<'a> {
+    rays: &'a Rays,
+    bound: Bound,
+}
+
+impl Verifier for OneVerifier<'_> {
+    type Memory = ClaimMemory;
+
+    ghost default = { λ one. one.bound };
+
+    fn verify_lines<S: Source, I: Input + Drop, O: Write>(
+        &self,
+        alloc: Global,
+        prefix: &[u8],
         start: &FileStart<S>,
         input: I,
         memory: &mut ClaimMemory,
         out: &mut O,
     ) -> Result<usize, Stop> {
-        let prefix = prefix_of(alloc, self.several, start.name)?;
         let rows = ClaimRows {
             rays: self.rays,
             default: self.bound,
-            prefix: prefix.as_slice(),
+            prefix,
         };
         let before = memory.counts.not_sound();
         let unsound = answer_lines_from(alloc, &rows, start, input, memory, out)?;
@@ -60,41 +85,74 @@ impl<'a> FileAnswers for ClaimAnswers<'a> {
         Ok(unsound)
     }
 
+    fn counts(&self, memory: &ClaimMemory) -> Counts {
+        memory.counts
+    }
+}
+
+/// Holds records against their claims so.
+#[derive(Drop)]
+struct ClaimAnswers<'a, V> {
+    verifier: &'a V,
+    /// Whether a row names its file.
+    several: bool,
+}
+
+impl<V: Verifier> FileAnswers for ClaimAnswers<'_, V> {
+    ghost use Rattle.file_answers.specs.FileAnswers.{unmarked};
+    ghost use Rattle.file_verifying.specs.Verified.{claim_replies, first_claim_replies};
+
+    type Memory = V::Memory;
+
+    ghost replies = { λ answers. claim_replies answers.several (V.default answers.verifier.now) };
+
+    ghost told = { λ answers. unmarked (claim_replies answers.several (V.default answers.verifier.now)) };
+
+    ghost tells = { λ _ _ _ _ _ _ _ told. told };
+
+    ghost first = { λ answers. first_claim_replies answers.several (V.default answers.verifier.now) };
+
+    fn answer<S: Source, I: Input + Drop, O: Write>(
+        &self,
+        alloc: Global,
+        start: &FileStart<S>,
+        input: I,
+        memory: &mut V::Memory,
+        out: &mut O,
+    ) -> Result<usize, Stop> {
+        let prefix = prefix_of(alloc, self.several, start.name)?;
+        self.verifier
+            .verify_lines(alloc, prefix.as_slice(), start, input, memory, out)
+    }
+
     #[tactic(auto, using(crate::proofs::Unopened::no_claim_reply))]
     fn begins_with_nothing(&self) {}
 }
 
 /// Writes the row of each record of each file, in order, but of those of the first file that are passed over.
-fn verify_rows<S: Source, O: Write, E: Write>(
+fn verify_rows<V: Verifier, S: Source, O: Write, E: Write>(
     alloc: Global,
-    bound: Bound,
-    size: MemoSize,
+    verifier: &V,
     files: &Files,
     source: &S,
+    memory: &mut V::Memory,
     out: &mut O,
     err: &mut E,
 ) -> Result<bool, Stop>
-    ensures ok { IfOk result (λ refused. Gains (Verifies (S.holds source.now) bound files.now.from
+    ensures ok { IfOk result (λ refused. Gains (Verifies (S.holds source.now) (V.default verifier.now) files.now.from
         (map (λ s. s.now) files.now.names.now) refused) (O.contents out.old) (O.contents out.new)) }
-    ensures err { IfErr result (λ stop. StopsVerifying (S.holds source.now) (S.refuses source.now) bound files.now.from
+    ensures err { IfErr result (λ stop. StopsVerifying (S.holds source.now) (S.refuses source.now) (V.default verifier.now) files.now.from
         (map (λ s. s.now) files.now.names.now) stop (O.contents out.old) (O.contents out.new)) }
 {
     // How many inputs there are of so many names.
     holds_reads();
-    let rays = Rays::new();
-    let memo = new_memo(alloc, size.get() as usize)?;
-    let mut memory = ClaimMemory {
-        memo,
-        counts: Counts::new(),
-    };
     let answers = ClaimAnswers {
-        rays: &rays,
-        bound,
+        verifier,
         several: files.names.len() > 1,
     };
-    match answer_files(alloc, &answers, files, source, &mut memory, out, err) {
+    match answer_files(alloc, &answers, files, source, memory, out, err) {
         Ok(unsound) => {
-            let counts = memory.counts.text(alloc)?;
+            let counts = verifier.counts(memory).text(alloc)?;
             complain(err, counts.as_str());
             Ok(unsound)
         }
@@ -102,9 +160,29 @@ fn verify_rows<S: Source, O: Write, E: Write>(
     }
 }
 
-/// Holds each record of each file, in order, but those of the first file that are passed over, against its claims, over one memo of such a
-/// size; gives whether a line isn't sound. A first row has the names of the fields, where these are asked for. At the end `err` is told how
-/// many lines came to which verdict; a file that can't be read is named there.
+/// Has each record of each file, in order, but those of the first file that are passed over, held against its claims; gives whether a line
+/// isn't sound. A first row has the names of the fields, where these are asked for. At the end `err` is told how many lines came to which
+/// verdict; a file that can't be read is named there.
+pub fn verify_by<V: Verifier, S: Source, O: Write, E: Write>(
+    alloc: Global,
+    verifier: &V,
+    header: bool,
+    files: &Files,
+    source: &S,
+    memory: &mut V::Memory,
+    out: &mut O,
+    err: &mut E,
+) -> Result<bool, Stop>
+    ensures ok { IfOk result (λ refused. Gains (VerifiesHeaded (S.holds source.now) (V.default verifier.now) header files.now.from
+        (map (λ s. s.now) files.now.names.now) refused) (O.contents out.old) (O.contents out.new)) }
+    ensures err { IfErr result (λ stop. StopsHeaded (S.holds source.now) (S.refuses source.now) (V.default verifier.now) header files.now.from
+        (map (λ s. s.now) files.now.names.now) stop (O.contents out.old) (O.contents out.new)) }
+{
+    put_header(out, header)?;
+    verify_rows(alloc, verifier, files, source, memory, out, err)
+}
+
+/// The same by the calling thread, over one memo of such a size.
 pub fn verify<S: Source, O: Write, E: Write>(
     alloc: Global,
     bound: Bound,
@@ -120,6 +198,20 @@ pub fn verify<S: Source, O: Write, E: Write>(
     ensures err { IfErr result (λ stop. StopsHeaded (S.holds source.now) (S.refuses source.now) bound header files.now.from
         (map (λ s. s.now) files.now.names.now) stop (O.contents out.old) (O.contents out.new)) }
 {
-    put_header(out, header)?;
-    verify_rows(alloc, bound, size, files, source, out, err)
+    let rays = Rays::new();
+    let mut memory = ClaimMemory {
+        memo: new_memo(alloc, size.get() as usize)?,
+        counts: Counts::new(),
+    };
+    let verifier = OneVerifier { rays: &rays, bound };
+    verify_by(
+        alloc,
+        &verifier,
+        header,
+        files,
+        source,
+        &mut memory,
+        out,
+        err,
+    )
 }

@@ -16,3 +16,7 @@ SaysBound line r = (default : ℕ) → ReadsClaimed line default r
 abbrev pub IsSource : List ℕ → RecordValue → BoundSource → Type 0
 IsSource line r Line = SaysBound line r
 IsSource line r Default = ¬ (SaysBound line r)
+
+-- The line says a record, and it is known where its bound comes from.
+abbrev pub SaysClaimed : List ℕ → ℕ → Type 0
+SaysClaimed line default = (r : RecordValue) × (source : BoundSource) × ReadsClaimed line default r × IsSource line r source

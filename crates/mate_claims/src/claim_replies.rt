@@ -1,11 +1,12 @@
 //! What is told of a line that is held against its own claims.
 
-ghost use Rattle.std.specs.Prelude.{◌≡◌, ◌≢◌, ◌≤◌, IfOk, None, Some};
+ghost use Rattle.std.specs.Prelude.{◌≡◌, ◌≢◌, ◌≤◌, IfNone, IfOk, IfSome, None, Some};
 ghost use Rattle.chess_notation.specs.Words.{words_in};
 ghost use Rattle.chess_notation.specs.EpdFaults.{epd_fault_name};
 ghost use Rattle.chess_notation.specs.Records.{problem_of};
 ghost use Rattle.chess_problems.specs.Outcomes.{IsPlayable};
 ghost use Rattle.mate_search.specs.inside.Truth.{truth};
+ghost use Rattle.mate_claims.specs.BoundSources.{SaysClaimed};
 ghost use Rattle.mate_claims.specs.ClaimReplies.{IsTold, IsToldBy};
 ghost use Rattle.mate_claims.specs.Rows.{keys_found as keys_found_in, listed, refused_row as refused_row_of, row_of};
 ghost use Rattle.mate_claims.specs.Said.{said_by};
@@ -175,5 +176,28 @@ pub fn told_of(
             told_of_record(alloc, rays, place, line, &record, source, words, memo)
         }
         Err(fault) => told_of_fault(alloc, place, fault),
+    }
+}
+
+/// What is told of a line that isn't blank and says no record; nothing of one that says one, which has to be solved first.
+#[tactic(auto, unfolding(chess_notation::specs::Claims::claim_words))]
+pub(crate) fn told_unsolved(
+    alloc: Global,
+    rays: &Rays,
+    place: &[u8],
+    line: &[u8],
+    default: Bound,
+) -> Result<Option<Told>, NoMemory>
+    ensures told { IfOk result (λ known. IfSome known (λ told. IsTold place.now default line.now told.row.items told.verdict told.source)) }
+    ensures record { IfOk result (λ known. IfNone known (SaysClaimed line.now default)) }
+{
+    let words = claims_text(alloc, line)?;
+    let bound = bound_claimed(words.as_slice(), default);
+    match read_record(alloc, rays, line, bound) {
+        Ok(record) => {
+            bound_source(alloc, rays, line, words.as_slice(), &record, default)?;
+            Ok(None)
+        }
+        Err(fault) => Ok(Some(told_of_fault(alloc, place, fault)?)),
     }
 }

@@ -1,10 +1,11 @@
 //! The lines of an input held against their own claims, row by row.
 
-ghost use Rattle.std.specs.Prelude.{◌≡◌, ◌++◌, ◌≤◌, IfOk, decimal};
+ghost use Rattle.std.specs.Prelude.{◌≡◌, ◌++◌, ◌≤◌, IfNone, IfOk, IfSome, decimal};
+ghost use Rattle.mate_claims.specs.BoundSources.{SaysClaimed};
 ghost use Rattle.mate_claims.specs.ClaimReplies.{IsClaimReply, IsTold, refusals_of};
 ghost use Rattle.mate_claims.specs.Counts.{with_one, with_unread};
 
-use crate::claim_replies::{Told, told_of};
+use crate::claim_replies::{Told, told_of, told_unsolved};
 use crate::counts::Counts;
 use crate::rows::refused_row;
 use crate::verdicts::Verdict;
@@ -52,7 +53,7 @@ pub(crate) fn place_of(alloc: Global, prefix: &[u8], number: usize) -> Result<Ve
 }
 
 /// How many refusals a verdict is, or none.
-pub(crate) fn refusals(verdict: Option<Verdict>) -> usize
+pub fn refusals(verdict: Option<Verdict>) -> usize
     ensures count { result ≡ refusals_of verdict }
     ensures few { result ≤ 1 }
 {
@@ -63,6 +64,32 @@ pub(crate) fn refusals(verdict: Option<Verdict>) -> usize
 }
 
 impl ClaimRows<'_> {
+    /// What is told of a line that says no record, and nothing of one that says one.
+    pub fn look(&self, alloc: Global, number: usize, line: &[u8]) -> Result<Option<Told>, NoMemory>
+        ensures told { IfOk result (λ known. IfSome known (λ told. IsTold (self.now.prefix.now ++ decimal number) self.now.default line.now
+            told.row.items told.verdict told.source)) }
+        ensures record { IfOk result (λ known. IfNone known (SaysClaimed line.now self.now.default)) }
+    {
+        let place = place_of(alloc, self.prefix, number)?;
+        told_unsolved(alloc, self.rays, place.as_slice(), line, self.default)
+    }
+
+    /// What is told of a line.
+    pub fn told(
+        &self,
+        alloc: Global,
+        number: usize,
+        line: &[u8],
+        memo: &mut Memo,
+    ) -> Result<Told, NoMemory>
+        ensures told { IfOk result (λ told. IsTold (self.now.prefix.now ++ decimal number) self.now.default line.now
+            told.row.items told.verdict told.source) }
+        ensures room { memo.new.room ≡ memo.old.room }
+    {
+        let place = place_of(alloc, self.prefix, number)?;
+        told_of(alloc, self.rays, place.as_slice(), line, self.default, memo)
+    }
+
     /// What is told of a line, which is counted.
     fn tell(
         &self,
@@ -76,15 +103,7 @@ impl ClaimRows<'_> {
         ensures counts { IfOk result (λ told. memory.new.counts ≡ with_one told.verdict told.source memory.old.counts) }
         ensures room { memory.new.memo.room ≡ memory.old.memo.room }
     {
-        let place = place_of(alloc, self.prefix, number)?;
-        let told = told_of(
-            alloc,
-            self.rays,
-            place.as_slice(),
-            line,
-            self.default,
-            &mut memory.memo,
-        )?;
+        let told = self.told(alloc, number, line, &mut memory.memo)?;
         let Some(counts) = memory.counts.with(told.verdict, told.source) else {
             return Err(NoMemory);
         };

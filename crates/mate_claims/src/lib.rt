@@ -19,7 +19,7 @@ mod verdicts;
 
 pub use bound_sources::BoundSource;
 pub use claim_replies::{Told, told_of};
-pub use claim_rows::{ClaimMemory, ClaimRows};
+pub use claim_rows::{ClaimMemory, ClaimRows, refusals};
 pub use counts::Counts;
 pub use limited_claims::{LimitedClaimMemory, LimitedClaims};
 pub use rows::refused_row;

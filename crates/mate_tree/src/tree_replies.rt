@@ -71,7 +71,11 @@ fn write_record<O: Write>(
 }
 
 /// The reply to a line that is refused, and an empty line.
-fn refused_text(alloc: Global, number: usize, fault: EpdFault) -> Result<Output, NoMemory>
+pub(crate) fn refused_text(
+    alloc: Global,
+    number: usize,
+    fault: EpdFault,
+) -> Result<Output, NoMemory>
     ensures fault { IfOk result (λ output. fault ≢ EpdFault.NoMemory) }
     ensures text { IfOk result (λ output. output.text.items ≡ fault_line number fault ++ line []) }
     ensures one { IfOk result (λ output. output.refused ≡ 1) }

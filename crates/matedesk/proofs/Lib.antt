@@ -1,2 +1,3 @@
+mod LinesOn
 mod ServedFiles
 mod Uncounted

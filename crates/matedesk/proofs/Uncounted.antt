@@ -6,8 +6,8 @@ use Rattle.byte_streams.specs.declared.stops.Stop.{Stop}
 use Rattle.byte_streams.specs.declared.stops.Stop.TheVariants as stop
 use Rattle.clap.specs.Words.{Text}
 use Rattle.command_words.specs.Asked.{Asked, look, board, svg, play, moves, moves_json, perft, divide, lines, solve, solve_json, solve_on, solve_json_on}
-use Rattle.command_words.specs.Asked.{limited, limited_json, verify, verify_json, verify_imported, verify_limited, verify_limited_json, tree, tree_json, sheet}
-use Rattle.command_words.specs.Asked.{imports, serve, replay, explain, uci, asks_threads}
+use Rattle.command_words.specs.Asked.{limited, limited_json, verify, verify_on, verify_json, verify_imported, verify_limited, verify_limited_json}
+use Rattle.command_words.specs.Asked.{tree, tree_on, tree_json, sheet, imports, serve, replay, explain, uci, asks_threads}
 use Rattle.plain_commands.specs.Command.{Ends, EndsByStatus, EndsInPart, Shown, ShownInPart, Stops}
 use Rattle.file_answers.specs.Sources.{held, held_back}
 use Rattle.file_answers.specs.Status.{status_of}
@@ -18,6 +18,8 @@ use Rattle.json_replies.specs.declared.replies.Form.TheVariants.{Answer, Row}
 use Rattle.mate_answers.specs.InputReplies.{IsLineReply}
 use Rattle.mate_answers.specs.LimitedReplies.{IsLimitedReply}
 use Rattle.mate_claims.specs.LimitedClaims.{IsLimitedClaim}
+use Rattle.plain_commands.specs.Told.{TellsNone, tree_form_of}
+use Rattle.command_words.specs.declared.request.TreeForm.{TreeForm}
 
 -- Nothing is written, and the status is that of no memory.
 pub ends_uncounted : (holds : Text → Option (List ℕ)) (refuses : Text → Type 0) → EndsByStatus holds refuses → LimitedNone
@@ -62,45 +64,63 @@ ends_unshared_json holds refuses ends workers bound memo from names out =
     ends (solve_json_on workers bound memo from names) (Err stop.NoMemory) 3 out out refl tt
     (stops_at_once holds refuses Answer (IsLineReply bound) from names out out (Keeps-refl out))
 
+pub ends_untaken : (holds : Text → Option (List ℕ)) (refuses : Text → Type 0) → EndsByStatus holds refuses
+    → (workers bound memo : ℕ) (header : Bool) (from : ℕ) (names : List Text) (out : Option (List ℕ))
+    → Ends holds refuses (Some (verify_on workers bound memo header from names)) 3 out out
+ends_untaken holds refuses ends workers bound memo header from names out =
+    ends (verify_on workers bound memo header from names) (Err stop.NoMemory) 3 out out refl tt
+    (record { gained = []; shows = inl refl; appends = Appends-nil out })
+
+pub ends_untold : (holds : Text → Option (List ℕ)) (refuses : Text → Type 0) → EndsByStatus holds refuses → TellsNone
+    → (workers bound : ℕ) (form : TreeForm) (letters : Text) (from : ℕ) (names : List Text) (out : Option (List ℕ))
+    → Ends holds refuses (Some (tree_on workers bound form letters from names)) 3 out out
+ends_untold holds refuses ends untold workers bound form letters from names out =
+    ends (tree_on workers bound form letters from names) (Err stop.NoMemory) 3 out out refl tt
+    (record { gained = []; shows = untold holds bound (tree_form_of form letters) from names; appends = Appends-nil out })
+
 pub ends_unstarted : (holds : Text → Option (List ℕ)) (refuses : Text → Type 0) → EndsByStatus holds refuses → LimitedNone → SolvesNone
-    → (asks : Option Asked) → asks_threads asks ≡ true → (out : Option (List ℕ)) → Ends holds refuses asks 3 out out
-ends_unstarted holds refuses ends none unsolved (Some (serve workers bound memo names)) threads out =
+    → TellsNone → (asks : Option Asked) → asks_threads asks ≡ true → (out : Option (List ℕ)) → Ends holds refuses asks 3 out out
+ends_unstarted holds refuses ends none unsolved untold (Some (serve workers bound memo names)) threads out =
     ends (serve workers bound memo names) (Err stop.NoMemory) 3 out out refl tt
     (record { gained = []; shows = unsolved holds bound 1 names; appends = Appends-nil out })
-ends_unstarted holds refuses ends none unsolved (Some (limited seconds bound memo from names)) threads out =
+ends_unstarted holds refuses ends none unsolved untold (Some (limited seconds bound memo from names)) threads out =
     ends_uncounted holds refuses ends none seconds bound memo from names out
-ends_unstarted holds refuses ends none unsolved (Some (limited_json seconds bound memo from names)) threads out =
+ends_unstarted holds refuses ends none unsolved untold (Some (limited_json seconds bound memo from names)) threads out =
     ends_uncounted_json holds refuses ends seconds bound memo from names out
-ends_unstarted holds refuses ends none unsolved (Some (verify_limited seconds bound memo header from names)) threads out =
+ends_unstarted holds refuses ends none unsolved untold (Some (verify_limited seconds bound memo header from names)) threads out =
     ends_unverified holds refuses ends seconds bound memo header from names out
-ends_unstarted holds refuses ends none unsolved (Some (verify_limited_json seconds bound memo from names)) threads out =
+ends_unstarted holds refuses ends none unsolved untold (Some (verify_limited_json seconds bound memo from names)) threads out =
     ends_unverified_json holds refuses ends seconds bound memo from names out
-ends_unstarted holds refuses ends none unsolved (Some (solve_on workers bound memo from names)) threads out =
+ends_unstarted holds refuses ends none unsolved untold (Some (solve_on workers bound memo from names)) threads out =
     ends_unshared holds refuses ends unsolved workers bound memo from names out
-ends_unstarted holds refuses ends none unsolved (Some (solve_json_on workers bound memo from names)) threads out =
+ends_unstarted holds refuses ends none unsolved untold (Some (solve_json_on workers bound memo from names)) threads out =
     ends_unshared_json holds refuses ends workers bound memo from names out
-ends_unstarted holds refuses ends none unsolved (Some uci) threads out = ends uci (Err stop.NoMemory) 3 out out refl tt tt
-ends_unstarted holds refuses ends none unsolved None threads out = cc
-ends_unstarted holds refuses ends none unsolved (Some (look fen)) threads out = cc
-ends_unstarted holds refuses ends none unsolved (Some (board fen side)) threads out = cc
-ends_unstarted holds refuses ends none unsolved (Some (svg fen side)) threads out = cc
-ends_unstarted holds refuses ends none unsolved (Some (play fen words)) threads out = cc
-ends_unstarted holds refuses ends none unsolved (Some (moves form fen)) threads out = cc
-ends_unstarted holds refuses ends none unsolved (Some (moves_json fen)) threads out = cc
-ends_unstarted holds refuses ends none unsolved (Some (perft fen depth)) threads out = cc
-ends_unstarted holds refuses ends none unsolved (Some (divide fen depth)) threads out = cc
-ends_unstarted holds refuses ends none unsolved (Some (lines view names)) threads out = cc
-ends_unstarted holds refuses ends none unsolved (Some (solve bound memo from names)) threads out = cc
-ends_unstarted holds refuses ends none unsolved (Some (solve_json bound memo from names)) threads out = cc
-ends_unstarted holds refuses ends none unsolved (Some (verify bound memo header from names)) threads out = cc
-ends_unstarted holds refuses ends none unsolved (Some (verify_json bound memo from names)) threads out = cc
-ends_unstarted holds refuses ends none unsolved (Some (verify_imported bound memo header from names)) threads out = cc
-ends_unstarted holds refuses ends none unsolved (Some (tree bound form letters from names)) threads out = cc
-ends_unstarted holds refuses ends none unsolved (Some (tree_json bound form letters from names)) threads out = cc
-ends_unstarted holds refuses ends none unsolved (Some (sheet bound memo form letters title names)) threads out = cc
-ends_unstarted holds refuses ends none unsolved (Some (imports keep bound letters names)) threads out = cc
-ends_unstarted holds refuses ends none unsolved (Some (replay name)) threads out = cc
-ends_unstarted holds refuses ends none unsolved (Some (explain words)) threads out = cc
+ends_unstarted holds refuses ends none unsolved untold (Some (verify_on workers bound memo header from names)) threads out =
+    ends_untaken holds refuses ends workers bound memo header from names out
+ends_unstarted holds refuses ends none unsolved untold (Some (tree_on workers bound form letters from names)) threads out =
+    ends_untold holds refuses ends untold workers bound form letters from names out
+ends_unstarted holds refuses ends none unsolved untold (Some uci) threads out = ends uci (Err stop.NoMemory) 3 out out refl tt tt
+ends_unstarted holds refuses ends none unsolved untold None threads out = cc
+ends_unstarted holds refuses ends none unsolved untold (Some (look fen)) threads out = cc
+ends_unstarted holds refuses ends none unsolved untold (Some (board fen side)) threads out = cc
+ends_unstarted holds refuses ends none unsolved untold (Some (svg fen side)) threads out = cc
+ends_unstarted holds refuses ends none unsolved untold (Some (play fen words)) threads out = cc
+ends_unstarted holds refuses ends none unsolved untold (Some (moves form fen)) threads out = cc
+ends_unstarted holds refuses ends none unsolved untold (Some (moves_json fen)) threads out = cc
+ends_unstarted holds refuses ends none unsolved untold (Some (perft fen depth)) threads out = cc
+ends_unstarted holds refuses ends none unsolved untold (Some (divide fen depth)) threads out = cc
+ends_unstarted holds refuses ends none unsolved untold (Some (lines view names)) threads out = cc
+ends_unstarted holds refuses ends none unsolved untold (Some (solve bound memo from names)) threads out = cc
+ends_unstarted holds refuses ends none unsolved untold (Some (solve_json bound memo from names)) threads out = cc
+ends_unstarted holds refuses ends none unsolved untold (Some (verify bound memo header from names)) threads out = cc
+ends_unstarted holds refuses ends none unsolved untold (Some (verify_json bound memo from names)) threads out = cc
+ends_unstarted holds refuses ends none unsolved untold (Some (verify_imported bound memo header from names)) threads out = cc
+ends_unstarted holds refuses ends none unsolved untold (Some (tree bound form letters from names)) threads out = cc
+ends_unstarted holds refuses ends none unsolved untold (Some (tree_json bound form letters from names)) threads out = cc
+ends_unstarted holds refuses ends none unsolved untold (Some (sheet bound memo form letters title names)) threads out = cc
+ends_unstarted holds refuses ends none unsolved untold (Some (imports keep bound letters names)) threads out = cc
+ends_unstarted holds refuses ends none unsolved untold (Some (replay name)) threads out = cc
+ends_unstarted holds refuses ends none unsolved untold (Some (explain words)) threads out = cc
 
 -- Be what names hold what files do, or records that are given: in either case.
 pub ends_given : (are_texts : Bool) (holds : Text → Option (List ℕ)) (refuses : Text → Type 0)

@@ -12,11 +12,13 @@ use crate::limiting::solve_in_time;
 use crate::serving::serve;
 use crate::sharing::solve_on;
 use crate::talking::talk;
+use crate::trees_on::tree_on;
+use crate::verifying_on::verify_on;
 use command_progress::{Console, Telling, WatchedFiles};
 use command_words::{Request, asks_progress, escaped, gives_records, parse, request_of};
 use file_answers::{GivenTexts, Source, complain, no_memory};
 use file_solving::{limited_none, solves_none};
-use plain_commands::{ends_by_status, plain_command};
+use plain_commands::{ends_by_status, plain_command, tells_none};
 use std::alloc::Global;
 use std::io::Write;
 use std::sync::Wait;
@@ -50,6 +52,7 @@ where
     ends_by_status(&given);
     limited_none();
     solves_none();
+    tells_none();
     let Ok(texts) = escaped(alloc, words) else {
         return no_memory(err);
     };
@@ -67,6 +70,12 @@ where
         ),
         Some(Request::SolveJsonOn(workers, bound, memo, files)) => solve_json_on(
             rt, alloc, *workers, *bound, *memo, files, &given, out, err,
+        ),
+        Some(Request::VerifyOn(workers, bound, memo, header, files)) => verify_on(
+            rt, alloc, *workers, *bound, *memo, *header, files, &given, out, err,
+        ),
+        Some(Request::TreeOn(workers, bound, form, letters, files)) => tree_on(
+            rt, alloc, *workers, *bound, *form, letters, files, &given, out, err,
         ),
         Some(Request::Limited(asked)) => solve_in_time(rt, alloc, asked, &given, out, err),
         Some(Request::LimitedJson(asked)) => {
@@ -116,7 +125,8 @@ fn are_told(alloc: Global, words: &[String]) -> bool {
 }
 
 /// The program: answers what the words ask for, of which the first is the program's own name. It reads files from `source`. Only
-/// `serve`, `uci`, `solve` with `--workers`, `solve` and `verify` with `--limit`, and what has `--progress` start threads, and wait for them.
+/// `serve`, `uci`, `solve`, `verify` and `tree` with `--workers`, `solve` and `verify` with `--limit`, and what has `--progress` start threads,
+/// and wait for them.
 ///
 /// A fault of `err` is passed over and changes no status. So does one of the thread that tells on standard error how far the command is.
 pub fn command<

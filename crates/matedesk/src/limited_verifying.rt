@@ -7,16 +7,17 @@ ghost use Rattle.file_answers.specs.Writing.{Gains};
 ghost use Rattle.file_verifying.specs.Verified.{LimitedHeaded, StopsLimitedHeaded};
 
 use crate::counting::{Counting, start, status_in_time, unsolved};
+use crate::limiting::InTime;
+use crate::sharing::thread_memory;
 use crate::tick_limit::TickLimit;
 use byte_streams::Stop;
 use chess_moves::Rays;
 use command_words::LimitedVerify;
 use file_answers::{Source, no_memory};
-use file_solving::new_memo;
 use file_verifying::verify_limited;
 use mate_answers::Limited;
 use mate_claims::{Counts, LimitedClaimMemory};
-use mate_search::{Memo, OneThread};
+use parallel_search::ThreadMemory;
 use plain_commands::{ends_by_status, ends_in_part};
 use std::alloc::Global;
 use std::io::Write;
@@ -25,11 +26,12 @@ use std::thread::Threads;
 
 /// Writes the row of each line of each file as `verify` does, but that a record which the limit stops before it is decided is told as
 /// undecided, and counted.
-fn verify_until_stopped<S: Source, O: Write, E: Write>(
+fn verify_until_stopped<R: Threads + Sync, S: Source, O: Write, E: Write>(
+    rt: &R,
     alloc: Global,
     asked: &LimitedVerify,
     limit: &TickLimit,
-    memory: &mut LimitedClaimMemory<Memo>,
+    memory: &mut LimitedClaimMemory<ThreadMemory>,
     source: &S,
     out: &mut O,
     err: &mut E,
@@ -46,7 +48,7 @@ fn verify_until_stopped<S: Source, O: Write, E: Write>(
         default: asked.bound,
         seconds: asked.seconds,
         limit,
-        solver: OneThread,
+        solver: InTime { rt },
     };
     verify_limited(
         alloc,
@@ -70,7 +72,7 @@ fn verify_counted<
     rt: &R,
     alloc: Global,
     asked: &LimitedVerify,
-    memory: &mut LimitedClaimMemory<Memo>,
+    memory: &mut LimitedClaimMemory<ThreadMemory>,
     source: &S,
     out: &mut O,
     err: &mut E,
@@ -85,7 +87,7 @@ fn verify_counted<
     ends_in_part(source);
     match start(rt, alloc, asked.seconds) {
         Ok(Counting { limit, thread }) => {
-            let ended = verify_until_stopped(alloc, asked, &*limit, memory, source, out, err);
+            let ended = verify_until_stopped(rt, alloc, asked, &*limit, memory, source, out, err);
             limit.end();
             thread.join(rt);
             status_in_time(ended, memory.counts.undecided, err)
@@ -94,8 +96,8 @@ fn verify_counted<
     }
 }
 
-/// Writes the row of each line of each file as `verify` does, but that a record which isn't decided in its seconds is told as undecided. A
-/// thread counts them.
+/// Writes the row of each line of each file as `verify` does, each record solved by so many workers, but that one which isn't decided in its
+/// seconds is told as undecided. A thread counts them.
 pub fn verify_in_time<
     R: Threads + Wait + Sync + Clone + Drop + Send + 'static,
     S: Source,
@@ -108,11 +110,11 @@ pub fn verify_in_time<
 {
     // How it ends with nothing written.
     ends_by_status(source);
-    let Ok(memo) = new_memo(alloc, asked.memo.get() as usize) else {
+    let Ok(memory) = thread_memory(alloc, asked.workers, asked.memo) else {
         return no_memory(err);
     };
     let mut memory = LimitedClaimMemory {
-        memory: memo,
+        memory,
         counts: Counts::new(),
     };
     verify_counted(rt, alloc, asked, &mut memory, source, out, err)

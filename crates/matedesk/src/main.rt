@@ -1,8 +1,8 @@
 //! The program `matedesk`: it answers the words that it was called with, from the files and to the outputs of the system.
 //!
-//! Read `answering` first, where the contract of `command` is the program's, then the commands that start threads: `serving`, `talking`,
-//! `sharing`, and `limiting` and `limited_verifying` over `counting` and `tick_limit`; `json_solving` and `json_verifying` do in JSON what these
-//! and `sharing` do.
+//! Read `answering` first, where the contract of `command` is the program's, then the commands that start threads: `serving`, `verifying_on`
+//! and `trees_on` over `told_sources`, `talking`, `sharing`, and `limiting` and `limited_verifying` over `counting` and `tick_limit`;
+//! `json_solving` and `json_verifying` do in JSON what these and `sharing` do.
 //! What a word means is the business of `command_words`, what all other commands answer that of `plain_commands`, and how it is told how far a
 //! command is that of `command_progress`.
 #![tactic(auto)]
@@ -17,6 +17,9 @@ mod serving;
 mod sharing;
 mod talking;
 mod tick_limit;
+mod told_sources;
+mod trees_on;
+mod verifying_on;
 
 use answering::command;
 use file_answers::{FileSystem, MISUSED, complain, no_memory};

@@ -4,6 +4,7 @@ ghost use Rattle.std.specs.Prelude.{◌≡◌, Some, map};
 ghost use Rattle.command_words.specs.Asked.{serve as serve_asked};
 ghost use Rattle.plain_commands.specs.Command.{Ends};
 
+use crate::told_sources::ToldSource;
 use byte_streams::{Input, Stop};
 use chess_moves::Rays;
 use chess_problems::Bound;
@@ -13,8 +14,9 @@ use file_answers::{
     open_files, status_of,
 };
 use file_solving::solves_none;
-use parallel_answers::{NoWorkers, Watcher, Workers, answer_in_order};
+use parallel_answers::{NoWorkers, Workers, answer_in_order};
 use plain_commands::ends_by_status;
+use record_tasks::{SolveTask, start_solving};
 use std::alloc::Global;
 use std::io::Write;
 use std::sync::Wait;
@@ -24,47 +26,34 @@ use std::time::Clock;
 /// How many files may be served.
 const MOST_FILES: usize = 16;
 
-/// Tells a source which replies were written, and which line's is next.
-#[derive(Clone, Copy)]
-struct ToldSource<'a, S> {
-    source: &'a S,
-}
-
-impl<S: Source> Watcher for ToldSource<'_, S> {
-    fn wrote(&self, replies: &[u8], next: usize) {
-        self.source.ends(replies);
-        self.source.begins(next);
-    }
-}
-
 /// Answers files of records by workers.
 #[derive(Clone, Copy)]
 struct ServedRecords<'a, R: Wait> {
     rt: &'a R,
     rays: &'a Rays,
-    default: Bound,
+    task: &'a SolveTask,
 }
 
 impl<R: Wait> FileAnswers for ServedRecords<'_, R> {
     ghost use Rattle.file_answers.specs.FileAnswers.{unmarked};
     ghost use Rattle.matedesk.specs.Serving.{served_replies, first_served_replies};
 
-    type Memory = Workers;
+    type Memory = Workers<SolveTask>;
 
-    ghost replies = { λ records. served_replies records.default };
+    ghost replies = { λ records. served_replies records.task.now.default };
 
-    ghost told = { λ records. unmarked (served_replies records.default) };
+    ghost told = { λ records. unmarked (served_replies records.task.now.default) };
 
     ghost tells = { λ _ _ _ _ _ _ _ told. told };
 
-    ghost first = { λ records. first_served_replies records.default };
+    ghost first = { λ records. first_served_replies records.task.now.default };
 
     fn answer<S: Source, I: Input + Drop, O: Write>(
         &self,
         alloc: Global,
         start: &FileStart<S>,
         input: I,
-        memory: &mut Workers,
+        memory: &mut Workers<SolveTask>,
         out: &mut O,
     ) -> Result<usize, Stop> {
         start.source.begins(1);
@@ -72,14 +61,7 @@ impl<R: Wait> FileAnswers for ServedRecords<'_, R> {
             source: start.source,
         };
         answer_in_order(
-            self.rt,
-            alloc,
-            self.rays,
-            self.default,
-            memory,
-            input,
-            out,
-            &told,
+            self.rt, alloc, self.rays, self.task, memory, input, out, &told,
         )
     }
 
@@ -88,7 +70,7 @@ impl<R: Wait> FileAnswers for ServedRecords<'_, R> {
 }
 
 /// Says why there are no workers, and gives the status.
-fn unserved<E: Write>(fault: NoWorkers, err: &mut E) -> u8
+pub(crate) fn unserved<E: Write>(fault: NoWorkers, err: &mut E) -> u8
     ensures { result ≡ 3 }
 {
     match fault {
@@ -133,7 +115,7 @@ pub fn serve<
         return MISUSED;
     }
     let count = workers.get() as usize;
-    let mut workers = match Workers::start(rt, alloc, count, bound, memo.get() as usize) {
+    let mut workers = match start_solving(rt, alloc, count, memo.get() as usize) {
         Ok(workers) => workers,
         Err(fault) => return unserved(fault, err),
     };
@@ -141,7 +123,7 @@ pub fn serve<
     let records = ServedRecords {
         rt,
         rays: &rays,
-        default: bound,
+        task: &SolveTask { default: bound },
     };
     let ended = answer_opened(
         alloc,

@@ -1,3 +1,2 @@
-mod Answers
 mod Gaining
 mod Ordering

@@ -1,2 +1,1 @@
-pub mod AnsweredLines
 pub mod inside

@@ -1,43 +1,41 @@
-//! A line that says a record, with its answer, on its way from who solved it to who writes it.
+//! A line with its reply, on its way from who answered it to who writes it.
 
-ghost use Rattle.parallel_answers.specs.AnsweredLines.{IsAnswerTo};
-
-use chess_notation::{is_blank, records_clear, says_one};
-use chess_problems::Bound;
-use mate_answers::Answers;
-use mate_search::{Memo, OneThread};
+use crate::line_tasks::{LineTask, Reply};
+use chess_moves::Rays;
+use chess_notation::is_blank;
+use mate_search::Memo;
 use std::alloc::Global;
-use text_lines::{LineHandler, MAX_LINE};
+use text_lines::MAX_LINE;
 
-/// A line without its CR, by its number in the input, and the line of the answer to what it says with this default bound: true by its type.
+/// A line without its CR, by its number in the input, and the reply to it by this task: true by its type.
 #[derive(Drop)]
-pub(crate) struct AnsweredLine {
+pub(crate) struct AnsweredLine<T: LineTask> {
+    pub(crate) task: T,
     pub(crate) number: usize,
-    pub(crate) default: Bound,
     pub(crate) line: Vec<u8>,
-    pub(crate) text: Vec<u8>,
-    ghost answer: { IsAnswerTo default line.items text.items },
+    pub(crate) reply: Reply<T::Mark>,
+    ghost answer: { ∥ T.replies task number line.items reply.text.items reply.refused ∥₁ },
 }
 
-/// Answers a line, which was read before and says a record; none where memory is refused.
-pub(crate) fn answered(
+/// Answers a line, which was looked at before; none where memory is refused.
+pub(crate) fn answered<T: LineTask>(
     alloc: Global,
-    answers: &Answers<OneThread>,
+    rays: &Rays,
+    task: T,
     number: usize,
     line: Vec<u8>,
     memo: &mut Memo,
-) -> Option<AnsweredLine> {
-    // That such a line has no fault, and says one record alone, are these laws.
-    records_clear();
-    says_one();
+) -> Option<AnsweredLine<T>> {
     if line.len() > MAX_LINE || is_blank(line.as_slice()) {
         return None;
     }
-    let output = answers.answer(alloc, number, line.as_slice(), memo).ok()?;
+    let reply = task
+        .answer(alloc, rays, number, line.as_slice(), memo)
+        .ok()?;
     Some(AnsweredLine {
+        task,
         number,
-        default: answers.default,
         line,
-        text: output.text,
+        reply,
     })
 }

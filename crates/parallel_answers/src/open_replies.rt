@@ -3,88 +3,97 @@
 ghost use Rattle.std.specs.Prelude.{◌≡◌, ◌∷◌, ◌++◌, ◌+◌, ℕ, List, [], IfErr, IfNone, IfOk, IfSome, OnOk};
 ghost use Rattle.text_lines.specs.Lines.{without_cr};
 ghost use Rattle.text_lines.specs.TakenLines.{IsTakenAs};
-ghost use Rattle.mate_answers.specs.InputReplies.{IsLineReply};
-ghost use Rattle.parallel_answers.specs.AnsweredLines.{IsAnswerTo};
 ghost use Rattle.parallel_answers.specs.inside.OpenReplies.{AreOpen, Gains, IsOpen};
 
 use crate::answered_lines::AnsweredLine;
+use crate::line_tasks::{LineTask, Reply};
 use crate::workers::Arrived;
 use byte_streams::Stop;
-use chess_notation::read_record;
-use chess_problems::Bound;
-use mate_answers::Answers;
-use mate_search::OneThread;
+use chess_moves::Rays;
 use std::alloc::Global;
 use std::collections::VecDeque;
-use text_lines::{LineHandler, Output, TakenLine, refusal};
+use text_lines::TakenLine;
 
-/// The reply to a line: it is there, or the line, without its CR, says a record whose answer is awaited.
+/// The reply to a line: it is there, or the line, without its CR, waits for an answer.
 #[derive(Drop)]
-pub(crate) enum OpenReply {
-    Said(Output),
+pub(crate) enum OpenReply<M: Drop> {
+    Said(Reply<M>),
     Awaited(Vec<u8>),
 }
 
 /// Replies that are not written yet, in the order of their lines; the number of the line of the first; and how many lines were refused
 /// before it.
 #[derive(Drop)]
-pub(crate) struct OpenReplies {
-    pub(crate) replies: VecDeque<OpenReply>,
+pub(crate) struct OpenReplies<M: Drop> {
+    pub(crate) replies: VecDeque<OpenReply<M>>,
     pub(crate) first: usize,
     pub(crate) refused: usize,
 }
 
-/// What there is to say to a line before anybody solves it.
-pub(crate) fn open_reply(
+/// What there is to say to a line before anybody answers it.
+pub(crate) fn open_reply<T: LineTask>(
     alloc: Global,
-    answers: &Answers<OneThread>,
+    rays: &Rays,
+    task: &T,
     number: usize,
     line: TakenLine,
-) -> Result<OpenReply, Stop>
-    ensures open { IfOk result (λ reply. (whole : List ℕ) → IsTakenAs line whole → IsOpen answers.now.default number reply whole) }
+) -> Result<OpenReply<T::Mark>, Stop>
+    ensures open { IfOk result (λ reply. (whole : List ℕ) → IsTakenAs line whole
+        → IsOpen (T.replies task.now) (T.waits task.now) number reply whole) }
     ensures memory { IfErr result (λ stop. stop ≡ Stop.NoMemory) }
 {
     let text = match line {
         TakenLine::Blank => {
-            return Ok(OpenReply::Said(Output {
+            return Ok(OpenReply::Said(Reply {
                 text: Vec::new(alloc),
                 refused: 0,
+                mark: None,
             }));
         }
-        TakenLine::Long => return Ok(OpenReply::Said(answers.refuse_long(alloc, number)?)),
+        TakenLine::Long => return Ok(OpenReply::Said(task.refuse_long(alloc, rays, number)?)),
         TakenLine::Text(text) => text,
     };
-    match read_record(alloc, answers.rays, text.as_slice(), answers.default) {
-        Ok(_) => Ok(OpenReply::Awaited(text)),
-        Err(fault) => Ok(OpenReply::Said(refusal(alloc, number, fault)?)),
+    match task.look(alloc, rays, number, text.as_slice())? {
+        Some(reply) => Ok(OpenReply::Said(reply)),
+        None => Ok(OpenReply::Awaited(text)),
     }
 }
 
-/// The answer's line to a line that awaits it. One that is for another line, or of another default bound, is none.
-fn text_for(default: Bound, line: &[u8], answered: Option<AnsweredLine>) -> Result<Vec<u8>, Stop>
-    ensures text { IfOk result (λ text. IsAnswerTo default line.now text.items) }
+/// The reply to a line that awaits it. One to another line, or by another task, is none.
+fn reply_to<T: LineTask>(
+    task: &T,
+    number: usize,
+    line: &[u8],
+    answered: Option<AnsweredLine<T>>,
+) -> Result<Reply<T::Mark>, Stop>
+    ensures reply { IfOk result (λ reply. ∥ T.replies task.now number line.now reply.text.items reply.refused ∥₁) }
     ensures memory { IfErr result (λ stop. stop ≡ Stop.NoMemory) }
 {
     match answered {
-        Some(answered) if answered.default == default && answered.line.as_slice() == line => {
-            Ok(answered.text)
-        }
+        Some(answered)
+            if answered.number == number
+                && answered.line.as_slice() == line
+                && task.is(&answered.task) => { Ok(answered.reply) }
         _ => Err(Stop::NoMemory),
     }
 }
 
-/// A reply that is there, or whose answer has arrived.
-fn said(default: Bound, reply: OpenReply, answered: Option<AnsweredLine>) -> Result<Output, Stop>
-    ensures reply { IfOk result (λ output. (number : ℕ) (line : List ℕ) → IsOpen default number reply line
-        → IsLineReply default number (without_cr line) output.text.items output.refused) }
+/// A reply that is there, or has arrived.
+fn said<T: LineTask>(
+    task: &T,
+    number: usize,
+    reply: OpenReply<T::Mark>,
+    answered: Option<AnsweredLine<T>>,
+) -> Result<Reply<T::Mark>, Stop>
+    ensures reply { IfOk result (λ said. (line : List ℕ) → IsOpen (T.replies task.now) (T.waits task.now) number reply line
+        → T.replies task.now number (without_cr line) said.text.items said.refused) }
     ensures memory { IfErr result (λ stop. stop ≡ Stop.NoMemory) }
 {
+    // That a reply which somebody has made is the line's is this law.
+    task.joins();
     match reply {
-        OpenReply::Said(output) => Ok(output),
-        OpenReply::Awaited(line) => {
-            let text = text_for(default, line.as_slice(), answered)?;
-            Ok(Output { text, refused: 0 })
-        }
+        OpenReply::Said(reply) => Ok(reply),
+        OpenReply::Awaited(line) => reply_to(task, number, line.as_slice(), answered),
     }
 }
 
@@ -99,9 +108,9 @@ fn sum(number: usize, more: usize) -> Result<usize, Stop>
     }
 }
 
-impl OpenReplies {
+impl<M: Drop> OpenReplies<M> {
     /// None, before the first line.
-    pub(crate) fn new(alloc: Global) -> OpenReplies
+    pub(crate) fn new(alloc: Global) -> OpenReplies<M>
         ensures none { result.replies.items ≡ [] }
         ensures first { result.first ≡ 1 }
         ensures refused { result.refused ≡ 0 }
@@ -114,7 +123,7 @@ impl OpenReplies {
     }
 
     /// Puts the reply to one line more behind them.
-    pub(crate) fn add(&mut self, reply: OpenReply) -> Result<(), Stop>
+    pub(crate) fn add(&mut self, reply: OpenReply<M>) -> Result<(), Stop>
         ensures replies { OnOk result (self.new.replies.items ≡ self.old.replies.items ++ reply ∷ []) }
         ensures first { self.new.first ≡ self.old.first }
         ensures refused { self.new.refused ≡ self.old.refused }
@@ -127,33 +136,34 @@ impl OpenReplies {
     }
 
     /// Whether the first is there.
-    fn has_first(&self, arrived: &Arrived) -> bool {
+    fn has_first<T: LineTask>(&self, arrived: &Arrived<T>) -> bool {
         match self.replies.front() {
             None => false,
             Some(OpenReply::Said(_)) => true,
             Some(OpenReply::Awaited(_)) => arrived.has(self.first),
         }
     }
+}
 
-    /// Takes the first, where it is there.
-    pub(crate) fn take_first(
-        &mut self,
-        default: Bound,
-        arrived: &mut Arrived,
-    ) -> Result<Option<Output>, Stop>
-        ensures none { IfOk result (λ first. IfNone first (self.new ≡ self.old)) }
-        ensures some { IfOk result (λ first. IfSome first (λ output. Gains default self.old self.new output.text.items)) }
-        ensures memory { IfErr result (λ stop. stop ≡ Stop.NoMemory) }
-    {
-        if !self.has_first(arrived) {
-            return Ok(None);
-        }
-        let Some(reply) = self.replies.pop_front() else {
-            return Err(Stop::NoMemory);
-        };
-        let output = said(default, reply, arrived.take(self.first))?;
-        self.first = sum(self.first, 1)?;
-        self.refused = sum(self.refused, output.refused)?;
-        Ok(Some(output))
+/// Takes the first, where it is there.
+pub(crate) fn take_first<T: LineTask>(
+    task: &T,
+    replies: &mut OpenReplies<T::Mark>,
+    arrived: &mut Arrived<T>,
+) -> Result<Option<Reply<T::Mark>>, Stop>
+    ensures none { IfOk result (λ first. IfNone first (replies.new ≡ replies.old)) }
+    ensures some { IfOk result (λ first. IfSome first
+        (λ reply. Gains (T.replies task.now) (T.waits task.now) replies.old replies.new reply.text.items)) }
+    ensures memory { IfErr result (λ stop. stop ≡ Stop.NoMemory) }
+{
+    if !replies.has_first(arrived) {
+        return Ok(None);
     }
+    let Some(open) = replies.replies.pop_front() else {
+        return Err(Stop::NoMemory);
+    };
+    let reply = said(task, replies.first, open, arrived.take(replies.first))?;
+    replies.first = sum(replies.first, 1)?;
+    replies.refused = sum(replies.refused, reply.refused)?;
+    Ok(Some(reply))
 }

@@ -4,18 +4,16 @@ ghost use Rattle.std.specs.Prelude.{◌≡◌, ◌≢◌, ◌≤◌, ◌+◌, �
 ghost use Rattle.std.specs.Io.KnownBytes.{Appends};
 ghost use Rattle.byte_streams.specs.Inputs.{MayBe};
 ghost use Rattle.byte_streams.specs.Stops.{AppendsBy};
+ghost use Rattle.text_lines.specs.Replies.{IsReply, IsReplyToFirst};
 ghost use Rattle.text_lines.specs.TakenLines.{IsTakenAs};
-ghost use Rattle.mate_answers.specs.InputReplies.{IsReply, IsReplyToFirst};
 ghost use Rattle.parallel_answers.specs.inside.OpenReplies.{AreOpen, Breaks, Gains};
 
+use crate::line_tasks::LineTask;
 use crate::open_replies::{OpenReplies, OpenReply, open_reply};
 use crate::ready_replies::write_ready;
 use crate::workers::{MOST_OPEN, Workers};
 use byte_streams::{Input, Stop};
 use chess_moves::Rays;
-use chess_problems::Bound;
-use mate_answers::Answers;
-use mate_search::OneThread;
 use std::alloc::Global;
 use std::io::Write;
 use std::sync::Wait;
@@ -30,34 +28,38 @@ pub trait Watcher {
     fn wrote(&self, replies: &[u8], next: usize);
 }
 
-/// What replies are written over: by whom they are solved, and who is told.
+/// What replies are written over: what is asked of each line, and who is told.
 #[derive(Drop)]
-struct Answering<'a, R, T> {
+struct Answering<'a, R, T, W> {
     rt: &'a R,
     alloc: Global,
-    answers: &'a Answers<'a, OneThread>,
-    watcher: &'a T,
+    rays: &'a Rays,
+    task: &'a T,
+    watcher: &'a W,
 }
 
-impl<R: Wait, T: Watcher> Answering<'_, R, T> {
-    /// Opens the reply to a line, and hands a record to the workers.
+impl<R: Wait, T: LineTask, W: Watcher> Answering<'_, R, T, W> {
+    /// Opens the reply to a line, and hands one that waits for an answer to the workers.
     fn hand_in(
         &self,
-        workers: &mut Workers,
-        replies: &mut OpenReplies,
+        workers: &mut Workers<T>,
+        replies: &mut OpenReplies<T::Mark>,
         number: usize,
         line: TakenLine,
     ) -> Result<(), Stop>
         ensures opened { OnOk result ((whole : List ℕ) (lines : List (List ℕ)) → IsTakenAs line whole
-            → replies.old.first + length lines ≡ number → AreOpen self.now.answers.now.default replies.old.first replies.old.replies.items lines
-            → AreOpen self.now.answers.now.default replies.old.first replies.new.replies.items (lines ++ whole ∷ [])) }
+            → replies.old.first + length lines ≡ number → AreOpen (T.replies self.now.task.now) (T.waits self.now.task.now) replies.old.first replies.old.replies.items lines
+            → AreOpen (T.replies self.now.task.now) (T.waits self.now.task.now) replies.old.first replies.new.replies.items (lines ++ whole ∷ [])) }
         ensures first { replies.new.first ≡ replies.old.first }
         ensures refused { replies.new.refused ≡ replies.old.refused }
         ensures memory { IfErr result (λ stop. stop ≡ Stop.NoMemory) }
     {
-        let reply = open_reply(self.alloc, self.answers, number, line)?;
-        if let OpenReply::Awaited(text) = &reply {
-            workers.hand_out(self.rt, self.alloc, number, text.as_slice())?;
+        let reply = open_reply(self.alloc, self.rays, self.task, number, line)?;
+        match &reply {
+            OpenReply::Said(known) => workers.count(known),
+            OpenReply::Awaited(text) => {
+                workers.hand_out(self.rt, self.alloc, self.task, number, text.as_slice())?;
+            }
         }
         replies.add(reply)
     }
@@ -65,23 +67,17 @@ impl<R: Wait, T: Watcher> Answering<'_, R, T> {
     /// Writes the replies that are there.
     fn write<O: Write>(
         &self,
-        workers: &mut Workers,
-        replies: &mut OpenReplies,
+        workers: &mut Workers<T>,
+        replies: &mut OpenReplies<T::Mark>,
         out: &mut O,
     ) -> Result<(), Stop>
-        ensures gains { OnOk result ((text : List ℕ) × Gains self.now.answers.now.default replies.old replies.new text
+        ensures gains { OnOk result ((text : List ℕ) × Gains (T.replies self.now.task.now) (T.waits self.now.task.now) replies.old replies.new text
             × Appends (O.contents out.old) (O.contents out.new) text) }
-        ensures breaks { IfErr result (λ stop. Breaks self.now.answers.now.default replies.old stop (O.contents out.old) (O.contents out.new)) }
+        ensures breaks { IfErr result (λ stop. Breaks (T.replies self.now.task.now) (T.waits self.now.task.now) replies.old stop (O.contents out.old) (O.contents out.new)) }
         ensures readable { IfErr result (λ stop. stop ≢ Stop.Unreadable) }
     {
         let first = replies.first;
-        let text = write_ready(
-            self.alloc,
-            self.answers.default,
-            replies,
-            &mut workers.arrived,
-            out,
-        )?;
+        let text = write_ready(self.alloc, self.task, replies, &mut workers.arrived, out)?;
         if replies.first != first {
             self.watcher.wrote(text.as_slice(), replies.first);
         }
@@ -91,15 +87,15 @@ impl<R: Wait, T: Watcher> Answering<'_, R, T> {
     /// Writes replies until no more of them are open than may be, and waits for answers as long as more are.
     fn write_on<O: Write>(
         &self,
-        workers: &mut Workers,
-        replies: &mut OpenReplies,
+        workers: &mut Workers<T>,
+        replies: &mut OpenReplies<T::Mark>,
         most: usize,
         out: &mut O,
     ) -> Result<(), Stop>
-        ensures gains { OnOk result ((text : List ℕ) × Gains self.now.answers.now.default replies.old replies.new text
+        ensures gains { OnOk result ((text : List ℕ) × Gains (T.replies self.now.task.now) (T.waits self.now.task.now) replies.old replies.new text
             × Appends (O.contents out.old) (O.contents out.new) text) }
         ensures few { OnOk result (length replies.new.replies.items ≤ most) }
-        ensures breaks { IfErr result (λ stop. Breaks self.now.answers.now.default replies.old stop (O.contents out.old) (O.contents out.new)) }
+        ensures breaks { IfErr result (λ stop. Breaks (T.replies self.now.task.now) (T.waits self.now.task.now) replies.old stop (O.contents out.old) (O.contents out.new)) }
         ensures readable { IfErr result (λ stop. stop ≢ Stop.Unreadable) }
     {
         for _ in self.rt.forever() {
@@ -113,25 +109,25 @@ impl<R: Wait, T: Watcher> Answering<'_, R, T> {
     }
 }
 
-/// Answers an input line by line, in order, by workers, who answer the records that ask for no bound within the default one, and are
-/// asked nothing else at the time. Each reply is written once it and all before it are there; before more is read, all are.
+/// Answers an input line by line, in order, by workers, who are asked nothing else at the time. Each reply is written once it and all before
+/// it are there; before more is read, all are.
 ///
 /// Gives how many lines are refused. Where it stops before the end, the replies to some of the first lines are written. A line is taken into
 /// memory no further than a record is long, and no more lines than may be open, or were read at once.
-pub fn answer_in_order<R: Wait, I: Input + Drop, O: Write, T: Watcher>(
+pub fn answer_in_order<R: Wait, T: LineTask, I: Input + Drop, O: Write, W: Watcher>(
     rt: &R,
     alloc: Global,
     rays: &Rays,
-    default: Bound,
-    workers: &mut Workers,
+    task: &T,
+    workers: &mut Workers<T>,
     input: I,
     out: &mut O,
-    watcher: &T,
+    watcher: &W,
 ) -> Result<usize, Stop>
-    ensures ok { IfOk result (λ refused. (bytes : List ℕ) × (text : List ℕ) × MayBe (I.left input) bytes × IsReply default bytes text refused
-        × Appends (O.contents out.old) (O.contents out.new) text) }
-    ensures err { IfErr result (λ stop. (bytes : List ℕ) × (text : List ℕ) × MayBe (I.left input) bytes × IsReplyToFirst default bytes text
-        × AppendsBy stop (O.contents out.old) (O.contents out.new) text) }
+    ensures ok { IfOk result (λ refused. (bytes : List ℕ) × (text : List ℕ) × MayBe (I.left input) bytes
+        × IsReply (T.replies task.now) bytes text refused × Appends (O.contents out.old) (O.contents out.new) text) }
+    ensures err { IfErr result (λ stop. (bytes : List ℕ) × (text : List ℕ) × MayBe (I.left input) bytes
+        × IsReplyToFirst (T.replies task.now) bytes text × AppendsBy stop (O.contents out.old) (O.contents out.new) text) }
     ensures unreadable { IfErr result (λ stop. stop ≡ Stop.Unreadable → I.breaks input) }
 {
     // That lines which were taken are the first of the input is this law.
@@ -139,11 +135,8 @@ pub fn answer_in_order<R: Wait, I: Input + Drop, O: Write, T: Watcher>(
     let answering = Answering {
         rt,
         alloc,
-        answers: &Answers {
-            rays,
-            default,
-            solver: OneThread,
-        },
+        rays,
+        task,
         watcher,
     };
     let mut lines = TakenLines::new(alloc, input, PIECE);

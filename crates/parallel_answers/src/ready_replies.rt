@@ -4,47 +4,47 @@ ghost use Rattle.std.specs.Prelude.{◌≡◌, ◌≢◌, List, ℕ, IfErr, IfOk
 ghost use Rattle.std.specs.Io.KnownBytes.{Appends};
 ghost use Rattle.parallel_answers.specs.inside.OpenReplies.{Breaks, Gains};
 
-use crate::open_replies::OpenReplies;
+use crate::line_tasks::LineTask;
+use crate::open_replies::{OpenReplies, take_first};
 use crate::workers::Arrived;
 use byte_streams::{Stop, put};
-use chess_problems::Bound;
 use std::alloc::Global;
 use std::io::Write;
 
 /// Takes all that are there, up to the first that is not, into one text.
-fn gather(
+fn gather<T: LineTask>(
     alloc: Global,
-    default: Bound,
-    replies: &mut OpenReplies,
-    arrived: &mut Arrived,
+    task: &T,
+    replies: &mut OpenReplies<T::Mark>,
+    arrived: &mut Arrived<T>,
 ) -> Result<Vec<u8>, Stop>
-    ensures gains { IfOk result (λ text. Gains default replies.old replies.new text.items) }
+    ensures gains { IfOk result (λ text. Gains (T.replies task.now) (T.waits task.now) replies.old replies.new text.items) }
     ensures memory { IfErr result (λ stop. stop ≡ Stop.NoMemory) }
 {
     let mut text = Vec::new(alloc);
     for _ in 0..u64::MAX {
-        let Some(output) = replies.take_first(default, arrived)? else {
+        let Some(reply) = take_first(task, replies, arrived)? else {
             return Ok(text);
         };
-        text.extend_from_slice(output.text.as_slice())?;
+        text.extend_from_slice(reply.text.as_slice())?;
     }
     Err(Stop::NoMemory)
 }
 
 /// Writes all that are there, up to the first that is not; gives their text.
-pub(crate) fn write_ready<O: Write>(
+pub(crate) fn write_ready<T: LineTask, O: Write>(
     alloc: Global,
-    default: Bound,
-    replies: &mut OpenReplies,
-    arrived: &mut Arrived,
+    task: &T,
+    replies: &mut OpenReplies<T::Mark>,
+    arrived: &mut Arrived<T>,
     out: &mut O,
 ) -> Result<Vec<u8>, Stop>
-    ensures gains { IfOk result (λ text. Gains default replies.old replies.new text.items
+    ensures gains { IfOk result (λ text. Gains (T.replies task.now) (T.waits task.now) replies.old replies.new text.items
         × Appends (O.contents out.old) (O.contents out.new) text.items) }
-    ensures breaks { IfErr result (λ stop. Breaks default replies.old stop (O.contents out.old) (O.contents out.new)) }
+    ensures breaks { IfErr result (λ stop. Breaks (T.replies task.now) (T.waits task.now) replies.old stop (O.contents out.old) (O.contents out.new)) }
     ensures readable { IfErr result (λ stop. stop ≢ Stop.Unreadable) }
 {
-    let text = gather(alloc, default, replies, arrived)?;
+    let text = gather(alloc, task, replies, arrived)?;
     if !text.is_empty() {
         put(out, text.as_slice())?;
     }

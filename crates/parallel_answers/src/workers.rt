@@ -1,20 +1,19 @@
-//! Workers: threads that answer lines which say records, each with a memo of its own.
+//! Workers: threads that answer lines, each with a memo of its own.
 //!
 //! Lines go out several together, as many as a worker answers in no time; where one takes long it comes back at once with those behind it, which
 //! then go out one by one. Nothing is known of who answers what, or when.
 
 use crate::answered_lines::{AnsweredLine, answered};
+use crate::line_tasks::{LineTask, Reply};
 use byte_streams::Stop;
 use chess_moves::Rays;
-use chess_problems::Bound;
 use crossbeam_channel::{Receiver, Sender, bounded};
-use mate_answers::Answers;
-use mate_search::{Memo, OneThread};
+use mate_search::Memo;
 use std::alloc::{AllocError, Global};
+use std::mem;
 use std::sync::Wait;
 use std::thread::{JoinHandle, Threads};
 use std::time::Clock;
-use std::{mem, thread};
 
 /// For how many lines there are places for answers that came before their turn.
 const PLACES: usize = 4096;
@@ -48,13 +47,13 @@ impl From<AllocError> for NoWorkers {
 
 /// Answers that came back, each at a place by its line's number.
 #[derive(Drop)]
-pub(crate) struct Arrived {
-    places: Vec<Option<AnsweredLine>>,
+pub(crate) struct Arrived<T: LineTask> {
+    places: Vec<Option<AnsweredLine<T>>>,
 }
 
-impl Arrived {
+impl<T: LineTask> Arrived<T> {
     /// None yet.
-    fn new(alloc: Global) -> Result<Arrived, AllocError> {
+    fn new(alloc: Global) -> Result<Arrived<T>, AllocError> {
         let mut places = Vec::new(alloc);
         for _ in 0..PLACES {
             places.push(None)?;
@@ -71,7 +70,7 @@ impl Arrived {
     }
 
     /// Takes the answer to the line of this number.
-    pub(crate) fn take(&mut self, number: usize) -> Option<AnsweredLine> {
+    pub(crate) fn take(&mut self, number: usize) -> Option<AnsweredLine<T>> {
         match self.places.get_mut(number % PLACES) {
             Some(place) => place.take(),
             None => None,
@@ -79,39 +78,39 @@ impl Arrived {
     }
 
     /// Puts an answer at its place.
-    fn put(&mut self, answered: AnsweredLine) {
+    fn put(&mut self, answered: AnsweredLine<T>) {
         if let Some(place) = self.places.get_mut(answered.number % PLACES) {
             *place = Some(answered);
         }
     }
 }
 
-/// A line that is handed out, and its number.
+/// A line that is handed out, its number, and what is asked of it.
 #[derive(Drop)]
-struct HandedLine {
+struct HandedLine<T: LineTask> {
+    task: T,
     number: usize,
     line: Vec<u8>,
 }
 
 /// What comes back.
 #[derive(Drop)]
-enum Back {
+enum Back<T: LineTask> {
     /// Answers to lines that went out together, those behind one that took long, and whether none did.
     Answered {
-        lines: Vec<AnsweredLine>,
-        rest: Vec<HandedLine>,
+        lines: Vec<AnsweredLine<T>>,
+        rest: Vec<HandedLine<T>>,
         is_soon: bool,
     },
     /// Memory was refused.
     NoMemory,
 }
 
-/// The ends of the channels that a worker has, and what it is asked.
+/// What a worker has: its ends of the channels, and the size of its memo.
 #[derive(Drop)]
-struct Bench {
-    handed: Receiver<Vec<HandedLine>, Global>,
-    backs: Sender<Back, Global>,
-    default: Bound,
+pub struct Worker<T: LineTask> {
+    handed: Receiver<Vec<HandedLine<T>>, Global>,
+    backs: Sender<Back<T>, Global>,
     entries: usize,
 }
 
@@ -123,9 +122,9 @@ fn time<R: Clock>(rt: &R) -> u128 {
     }
 }
 
-impl Bench {
+impl<T: LineTask> Worker<T> {
     /// Gives answers back; answers whether somebody takes them.
-    fn give<R: Wait>(&self, rt: &R, back: Back) -> bool {
+    fn give<R: Wait>(&self, rt: &R, back: Back<T>) -> bool {
         self.backs.send(rt, back).is_ok()
     }
 
@@ -134,22 +133,22 @@ impl Bench {
         &self,
         rt: &R,
         alloc: Global,
-        answers: &Answers<OneThread>,
-        block: Vec<HandedLine>,
+        rays: &Rays,
+        block: Vec<HandedLine<T>>,
         memo: &mut Memo,
     ) -> bool {
         let began = time(rt);
         let mut is_soon = true;
         let mut lines = Vec::new(alloc);
         let mut rest = Vec::new(alloc);
-        for HandedLine { number, line } in block {
+        for HandedLine { task, number, line } in block {
             if !is_soon {
-                if rest.push(HandedLine { number, line }).is_err() {
+                if rest.push(HandedLine { task, number, line }).is_err() {
                     return self.give(rt, Back::NoMemory);
                 }
                 continue;
             }
-            let Some(line) = answered(alloc, answers, number, line, memo) else {
+            let Some(line) = answered(alloc, rays, task, number, line, memo) else {
                 return self.give(rt, Back::NoMemory);
             };
             if lines.push(line).is_err() {
@@ -168,101 +167,96 @@ impl Bench {
     }
 
     /// Answers lines until none are handed out any more.
-    fn run<R: Wait + Clock>(&self, rt: &R, alloc: Global) {
+    pub fn run<R: Wait + Clock>(&self, rt: &R, alloc: Global) {
         let Ok(mut memo) = Memo::large(alloc, self.entries) else {
             self.give(rt, Back::NoMemory);
             return;
         };
         let rays = Rays::new();
-        let answers = Answers {
-            rays: &rays,
-            default: self.default,
-            solver: OneThread,
-        };
         for _ in rt.forever() {
             let Ok(block) = self.handed.recv(rt) else {
                 return;
             };
-            if !self.answer_block(rt, alloc, &answers, block, &mut memo) {
+            if !self.answer_block(rt, alloc, &rays, block, &mut memo) {
                 return;
             }
         }
     }
 }
 
-/// Workers, the lines that they have, and the answers that came back.
+/// Workers, the lines that they have, the answers that came back, and what was counted of them.
 #[derive(Drop)]
-pub struct Workers {
-    handed: Sender<Vec<HandedLine>, Global>,
-    backs: Receiver<Back, Global>,
-    pub(crate) arrived: Arrived,
+pub struct Workers<T: LineTask> {
+    handed: Sender<Vec<HandedLine<T>>, Global>,
+    backs: Receiver<Back<T>, Global>,
+    pub(crate) arrived: Arrived<T>,
+    tally: T::Tally,
     // Lines that go out with the next, how many are to go together, how many blocks are out and may be.
-    held: Vec<HandedLine>,
+    held: Vec<HandedLine<T>>,
     together: usize,
     out: usize,
     most_out: usize,
     threads: Vec<JoinHandle<()>>,
 }
 
-/// Starts one worker.
-fn start_one<R: Threads + Wait + Clock + Clone + Drop + Send + 'static>(
-    rt: &R,
-    alloc: Global,
-    bench: Bench,
-) -> Result<JoinHandle<()>, NoWorkers> {
-    let Ok(own) = rt.clone() else {
-        return Err(NoWorkers::NoMemory);
-    };
-    match thread::spawn(rt, move || bench.run(&own, alloc)) {
-        Ok(thread) => Ok(thread),
-        Err(_) => Err(NoWorkers::NoThread),
-    }
+/// Workers, and those of them whose threads are still to be started.
+#[derive(Drop)]
+pub struct Prepared<T: LineTask> {
+    pub workers: Workers<T>,
+    pub waiting: Vec<Worker<T>>,
 }
 
-impl Workers {
+/// So many workers, each with a memo of so many entries, 1 to 268,435,456. Who calls it starts a thread for each, which runs it, and says so by
+/// `Workers::add`: a thread is given no value whose type is a parameter. What they have answered is counted in the tally.
+pub fn prepare<T: LineTask>(
+    alloc: Global,
+    count: usize,
+    entries: usize,
+    tally: T::Tally,
+) -> Result<Prepared<T>, NoWorkers> {
+    let most_out = count.saturating_mul(BLOCKS_EACH);
+    // Places for all that may be out, each line by itself, so that nothing is lost for want of memory.
+    let places = most_out.saturating_add(1).saturating_mul(MOST_TOGETHER);
+    let (handed, takes) = bounded(alloc, places)?;
+    let (gives, backs) = bounded(alloc, places)?;
+    let mut waiting = Vec::new(alloc);
+    for _ in 0..count {
+        let worker = Worker {
+            handed: takes.clone()?,
+            backs: gives.clone()?,
+            entries,
+        };
+        if waiting.push(worker).is_err() {
+            return Err(NoWorkers::NoMemory);
+        }
+    }
+    let workers = Workers {
+        handed,
+        backs,
+        arrived: Arrived::new(alloc)?,
+        tally,
+        held: Vec::new(alloc),
+        together: 1,
+        out: 0,
+        most_out,
+        threads: Vec::new(alloc),
+    };
+    Ok(Prepared { workers, waiting })
+}
+
+impl<T: LineTask> Workers<T> {
     ghost use Rattle.std.specs.Prelude.{◌≡◌, IfErr};
 
-    /// Starts so many workers, each with a memo of so many entries, 1 to 268,435,456. They answer records that ask for no bound within the
-    /// default one.
-    pub fn start<R: Threads + Wait + Clock + Clone + Drop + Send + 'static>(
-        rt: &R,
-        alloc: Global,
-        count: usize,
-        default: Bound,
-        entries: usize,
-    ) -> Result<Workers, NoWorkers> {
-        let most_out = count.saturating_mul(BLOCKS_EACH);
-        // Places for all that may be out, each line by itself, so that nothing is lost for want of memory.
-        let places = most_out.saturating_add(1).saturating_mul(MOST_TOGETHER);
-        let (handed, takes) = bounded(alloc, places)?;
-        let (gives, backs) = bounded(alloc, places)?;
-        let mut threads = Vec::new(alloc);
-        for _ in 0..count {
-            let bench = Bench {
-                handed: takes.clone()?,
-                backs: gives.clone()?,
-                default,
-                entries,
-            };
-            let thread = start_one(rt, alloc, bench)?;
-            if threads.push(thread).is_err() {
-                return Err(NoWorkers::NoMemory);
-            }
+    /// Another of the workers has its thread.
+    pub fn add(&mut self, thread: JoinHandle<()>) -> Result<(), NoWorkers> {
+        match self.threads.push(thread) {
+            Ok(()) => Ok(()),
+            Err(_) => Err(NoWorkers::NoMemory),
         }
-        Ok(Workers {
-            handed,
-            backs,
-            arrived: Arrived::new(alloc)?,
-            held: Vec::new(alloc),
-            together: 1,
-            out: 0,
-            most_out,
-            threads,
-        })
     }
 
     /// Hands lines out together.
-    fn send<R: Wait>(&mut self, rt: &R, block: Vec<HandedLine>) -> Result<(), Stop>
+    fn send<R: Wait>(&mut self, rt: &R, block: Vec<HandedLine<T>>) -> Result<(), Stop>
         ensures memory { IfErr result (λ stop. stop ≡ Stop.NoMemory) }
     {
         if self.handed.send(rt, block).is_err() {
@@ -281,7 +275,7 @@ impl Workers {
     }
 
     /// Hands a line out by itself.
-    fn send_one<R: Wait>(&mut self, rt: &R, alloc: Global, line: HandedLine) -> Result<(), Stop>
+    fn send_one<R: Wait>(&mut self, rt: &R, alloc: Global, line: HandedLine<T>) -> Result<(), Stop>
         ensures memory { IfErr result (λ stop. stop ≡ Stop.NoMemory) }
     {
         let mut block = Vec::new(alloc);
@@ -292,7 +286,7 @@ impl Workers {
     }
 
     /// Takes in what came back. Where it came soon more lines go out together from then on, else one at a time, as those do that are left of it.
-    fn take_in<R: Wait>(&mut self, rt: &R, alloc: Global, back: Back) -> Result<(), Stop>
+    fn take_in<R: Wait>(&mut self, rt: &R, alloc: Global, back: Back<T>) -> Result<(), Stop>
         ensures memory { IfErr result (λ stop. stop ≡ Stop.NoMemory) }
     {
         let Back::Answered {
@@ -304,6 +298,7 @@ impl Workers {
             return Err(Stop::NoMemory);
         };
         for line in lines {
+            self.count(&line.reply);
             self.arrived.put(line);
         }
         self.out = self.out.saturating_sub(1);
@@ -355,11 +350,24 @@ impl Workers {
         unreachable!()
     }
 
-    /// Hands out a line that says a record, by its number, at the latest with the next wait. It waits where enough are out.
+    /// Counts a reply.
+    pub(crate) fn count(&mut self, reply: &Reply<T::Mark>) {
+        if let Some(mark) = &reply.mark {
+            T::count(&mut self.tally, mark);
+        }
+    }
+
+    /// What was counted so far.
+    pub fn tally(&self) -> &T::Tally {
+        &self.tally
+    }
+
+    /// Hands out a line of which so much is asked, by its number, at the latest with the next wait. It waits where enough are out.
     pub(crate) fn hand_out<R: Wait>(
         &mut self,
         rt: &R,
         alloc: Global,
+        task: &T,
         number: usize,
         line: &[u8],
     ) -> Result<(), Stop>
@@ -367,7 +375,12 @@ impl Workers {
     {
         let mut copy = Vec::new(alloc);
         copy.extend_from_slice(line)?;
-        if self.held.push(HandedLine { number, line: copy }).is_err() {
+        let handed = HandedLine {
+            task: task.copy(alloc)?,
+            number,
+            line: copy,
+        };
+        if self.held.push(handed).is_err() {
             return Err(Stop::NoMemory);
         }
         if self.held.len() < self.together {

@@ -7,8 +7,8 @@ use Rattle.clap.specs.Words.{Text}
 use Rattle.byte_streams.specs.declared.stops.Stop.{Stop}
 use Rattle.byte_streams.specs.declared.stops.Stop.TheVariants as stop
 use Rattle.command_words.specs.Asked.{Asked, look, board, svg, play, moves, moves_json, perft, divide, lines, solve, solve_json, solve_on, solve_json_on}
-use Rattle.command_words.specs.Asked.{limited, limited_json, verify, verify_limited, verify_limited_json, verify_json, verify_imported, tree, tree_json, sheet}
-use Rattle.command_words.specs.Asked.{imports, serve, replay, explain, uci}
+use Rattle.command_words.specs.Asked.{limited, limited_json, verify, verify_on, verify_limited, verify_limited_json, verify_json, verify_imported, tree}
+use Rattle.command_words.specs.Asked.{tree_on, tree_json, sheet, imports, serve, replay, explain, uci}
 use Rattle.file_answers.specs.Status.{status_of}
 use Rattle.file_solving.specs.Solved.{LimitedNone, SolvesNone}
 use Rattle.plain_commands.specs.Told.{TellsNone, tree_form_of}
@@ -51,6 +51,8 @@ stops_unread none late untold holds refuses (Some (limited_json seconds bound me
     json_at_once holds refuses Answer (IsLimitedReply seconds bound) from names old new kept
 stops_unread none late untold holds refuses (Some (verify bound memo header from names)) old new kept =
     record { gained = []; shows = inl refl; appends = Appends-kept old old new [] (Appends-nil old) kept }
+stops_unread none late untold holds refuses (Some (verify_on workers bound memo header from names)) old new kept =
+    record { gained = []; shows = inl refl; appends = Appends-kept old old new [] (Appends-nil old) kept }
 stops_unread none late untold holds refuses (Some (verify_json bound memo from names)) old new kept =
     json_at_once holds refuses Row (IsClaimReply [] bound) from names old new kept
 stops_unread none late untold holds refuses (Some (verify_imported bound memo header from names)) old new kept =
@@ -60,6 +62,8 @@ stops_unread none late untold holds refuses (Some (verify_limited seconds bound 
 stops_unread none late untold holds refuses (Some (verify_limited_json seconds bound memo from names)) old new kept =
     json_at_once holds refuses Row (IsLimitedClaim [] bound) from names old new kept
 stops_unread none late untold holds refuses (Some (tree bound form letters from names)) old new kept =
+    record { gained = []; shows = untold holds bound (tree_form_of form letters) from names; appends = Appends-kept old old new [] (Appends-nil old) kept }
+stops_unread none late untold holds refuses (Some (tree_on workers bound form letters from names)) old new kept =
     record { gained = []; shows = untold holds bound (tree_form_of form letters) from names; appends = Appends-kept old old new [] (Appends-nil old) kept }
 stops_unread none late untold holds refuses (Some (tree_json bound form letters from names)) old new kept =
     json_at_once holds refuses Tree (IsTreeReply (tree_form_of form letters) bound) from names old new kept
@@ -90,11 +94,13 @@ no_reader holds refuses (solve_json_on workers bound memo from names) old new st
 no_reader holds refuses (limited seconds bound memo from names) old new stops = stops
 no_reader holds refuses (limited_json seconds bound memo from names) old new stops = stops
 no_reader holds refuses (verify bound memo header from names) old new stops = stops
+no_reader holds refuses (verify_on workers bound memo header from names) old new stops = stops
 no_reader holds refuses (verify_json bound memo from names) old new stops = stops
 no_reader holds refuses (verify_imported bound memo header from names) old new stops = stops
 no_reader holds refuses (verify_limited seconds bound memo header from names) old new stops = stops
 no_reader holds refuses (verify_limited_json seconds bound memo from names) old new stops = stops
 no_reader holds refuses (tree bound form letters from names) old new stops = stops
+no_reader holds refuses (tree_on workers bound form letters from names) old new stops = stops
 no_reader holds refuses (tree_json bound form letters from names) old new stops = stops
 no_reader holds refuses (sheet bound memo form letters title names) old new stops = stops
 no_reader holds refuses (imports keep bound letters names) old new stops = stops

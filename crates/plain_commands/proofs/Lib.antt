@@ -1,4 +1,4 @@
 mod Shown
-mod Unopened
+pub mod Unopened
 mod Uncounted
 mod Endings

@@ -11,8 +11,8 @@ use Rattle.chess_views.specs.Counts.{divided_text, perft_text}
 use Rattle.chess_views.specs.Listings.{moves_text}
 use Rattle.chess_views.specs.Looks.{look_board_text, look_text}
 use Rattle.command_words.specs.Asked.{Asked, asked, records_given, look, board, svg, play, moves, moves_json, perft, divide, lines, solve, solve_json}
-use Rattle.command_words.specs.Asked.{solve_on, solve_json_on, limited, limited_json, verify, verify_limited, verify_limited_json, verify_json}
-use Rattle.command_words.specs.Asked.{verify_imported, tree, tree_json, sheet, imports, serve, replay, explain, uci}
+use Rattle.command_words.specs.Asked.{solve_on, solve_json_on, limited, limited_json, verify, verify_on, verify_limited, verify_limited_json}
+use Rattle.command_words.specs.Asked.{verify_json, verify_imported, tree, tree_on, tree_json, sheet, imports, serve, replay, explain, uci}
 use Rattle.move_words.specs.Languages.{letters_said}
 use Rattle.problem_sheets.specs.Diagrams.{svg_of}
 use Rattle.json_replies.specs.Moves.{moves_json as moves_object}
@@ -51,11 +51,14 @@ Shows holds (solve_json_on workers bound memo from names) refused text = SolvesJ
 Shows holds (limited seconds bound memo from names) refused text = SolvesLimited holds seconds bound from names refused 0 text
 Shows holds (limited_json seconds bound memo from names) refused text = SolvesLimitedJson holds seconds bound from names refused 0 text
 Shows holds (verify bound memo header from names) refused text = VerifiesHeaded holds bound header from names refused text
+Shows holds (verify_on workers bound memo header from names) refused text = VerifiesHeaded holds bound header from names refused text
 Shows holds (verify_json bound memo from names) refused text = VerifiesJson holds bound from names refused text
 Shows holds (verify_imported bound memo header from names) refused text = VerifiesImported holds bound header from names refused text
 Shows holds (verify_limited seconds bound memo header from names) refused text = LimitedHeaded holds bound header from names refused 0 text
 Shows holds (verify_limited_json seconds bound memo from names) refused text = VerifiesLimitedJson holds bound from names refused 0 text
 Shows holds (tree bound form letters from names) refused text = Tells holds bound (tree_form_of form letters) from names refused text
+Shows holds (tree_on workers bound form letters from names) refused text =
+    Tells holds bound (tree_form_of form letters) from names refused text
 Shows holds (tree_json bound form letters from names) refused text = TellsJson holds bound (tree_form_of form letters) from names refused text
 Shows holds (sheet bound memo form letters title names) refused text = Sheets holds bound (page_form_of form letters) title names refused text
 Shows holds (imports keep bound letters names) refused text = ImportsFiles holds (letters_in letters) keep bound names refused text
@@ -97,6 +100,7 @@ Stops holds refuses (solve_json_on workers bound memo from names) stop old new =
 Stops holds refuses (limited seconds bound memo from names) stop old new = StopsLimited holds refuses seconds bound from names stop old new
 Stops holds refuses (limited_json seconds bound memo from names) stop old new = StopsLimitedJson holds refuses seconds bound from names stop old new
 Stops holds refuses (verify bound memo header from names) stop old new = StopsHeaded holds refuses bound header from names stop old new
+Stops holds refuses (verify_on workers bound memo header from names) stop old new = StopsHeaded holds refuses bound header from names stop old new
 Stops holds refuses (verify_json bound memo from names) stop old new = StopsVerifyingJson holds refuses bound from names stop old new
 Stops holds refuses (verify_imported bound memo header from names) stop old new = StopsVerifyingImported holds refuses bound header from names stop old new
 Stops holds refuses (verify_limited seconds bound memo header from names) stop old new =
@@ -104,6 +108,8 @@ Stops holds refuses (verify_limited seconds bound memo header from names) stop o
 Stops holds refuses (verify_limited_json seconds bound memo from names) stop old new =
     StopsVerifyingLimitedJson holds refuses bound from names stop old new
 Stops holds refuses (tree bound form letters from names) stop old new =
+    StopsTelling holds refuses bound (tree_form_of form letters) from names stop old new
+Stops holds refuses (tree_on workers bound form letters from names) stop old new =
     StopsTelling holds refuses bound (tree_form_of form letters) from names stop old new
 Stops holds refuses (tree_json bound form letters from names) stop old new =
     StopsTellingJson holds refuses bound (tree_form_of form letters) from names stop old new
@@ -127,6 +133,7 @@ StopsBy holds refuses (Some asks) stop old new = Stops holds refuses asks stop o
 abbrev pub has_letters : Asked → Bool
 has_letters (imports keep bound letters names) = is_some (letters_said letters)
 has_letters (tree bound form letters from names) = is_some (letters_said letters)
+has_letters (tree_on workers bound form letters from names) = is_some (letters_said letters)
 has_letters (tree_json bound form letters from names) = is_some (letters_said letters)
 has_letters (sheet bound memo form letters title names) = is_some (letters_said letters)
 has_letters _ = true
@@ -137,6 +144,7 @@ AsksInVain None = ⊤
 AsksInVain (Some (serve workers bound memo names)) = AreTooManyFiles names
 AsksInVain (Some (imports keep bound letters names)) = letters_said letters ≡ None
 AsksInVain (Some (tree bound form letters from names)) = letters_said letters ≡ None
+AsksInVain (Some (tree_on workers bound form letters from names)) = letters_said letters ≡ None
 AsksInVain (Some (tree_json bound form letters from names)) = letters_said letters ≡ None
 AsksInVain (Some (sheet bound memo form letters title names)) = letters_said letters ≡ None
 AsksInVain (Some asks) = ⊥

@@ -29,12 +29,12 @@ use std::alloc::Global;
 use std::io::Write;
 
 /// What is said of a word that gives no letters of men.
-const NO_LETTERS: &str =
+pub const NO_LETTERS: &str =
     "--letters takes six capitals, each another, as KDTLSB, or the code of a language, as de";
 
 /// What is said of options that go not together.
 const NO_REQUEST: &str =
-    "--flip goes with --board or --svg, and these not with each other; verify --json goes without --header and --import, verify --import without --limit, and moves --json without another form";
+    "--flip goes with --board or --svg, and these not with each other; verify --json goes without --header and --import, verify --import without --limit, these two and tree --json with no more than one worker, and moves --json without another form";
 
 /// What is said of a size that memos can't have.
 const NO_MEMO_SIZE: &str =
@@ -60,8 +60,10 @@ fn is_threaded(request: &Request) -> bool
             | Request::SolveJsonOn(..)
             | Request::Limited(..)
             | Request::LimitedJson(..)
+            | Request::VerifyOn(..)
             | Request::VerifyLimited(..)
             | Request::VerifyLimitedJson(..)
+            | Request::TreeOn(..)
             | Request::Uci
     )
 }
@@ -73,6 +75,7 @@ fn has_letters(request: &Request) -> bool
     match request {
         Request::Import(_, _, letters, _)
         | Request::Tree(_, _, letters, _)
+        | Request::TreeOn(_, _, _, letters, _)
         | Request::TreeJson(_, _, letters, _)
         | Request::Sheet(_, _, _, letters, _, _) => Letters::said(letters).is_some(),
         _ => true,
@@ -141,8 +144,10 @@ fn answer<S: Source, O: Write, E: Write>(
         | Request::SolveJsonOn(..)
         | Request::Limited(..)
         | Request::LimitedJson(..)
+        | Request::VerifyOn(..)
         | Request::VerifyLimited(..)
         | Request::VerifyLimitedJson(..)
+        | Request::TreeOn(..)
         | Request::Uci => unreachable!(),
         Request::Replay(name) => replay(alloc, name, source, out, err),
         Request::Explain(words) => explain_given(alloc, *words, out, err),

@@ -20,7 +20,7 @@ mod replaying;
 mod sheeting;
 mod telling;
 
-pub use answering::{ends_by_status, ends_in_part, plain_command};
+pub use answering::{NO_LETTERS, ends_by_status, ends_in_part, plain_command};
 pub use desk_scripts::{Script, ScriptFault, read_script};
 pub use explaining::explain;
 pub use fault_explanations::{Example, Explanation};
@@ -29,3 +29,4 @@ pub use playing::play_moves;
 pub use position_answers::show_lines;
 pub use replaying::replay;
 pub use sheeting::{SheetAsked, sheet};
+pub use telling::{TREE_ENTRIES, tells_none, tree_form};

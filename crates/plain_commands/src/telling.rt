@@ -18,8 +18,8 @@ use mate_tree::{Form, TreeReplies};
 use std::alloc::Global;
 use std::io::Write;
 
-/// How many positions the memo has room for.
-const ENTRIES: usize = 65_536;
+/// How many positions a memo for trees has room for.
+pub const TREE_ENTRIES: usize = 65_536;
 
 /// Tells the trees of records, with the bound of those that say none.
 #[derive(Clone, Copy)]
@@ -30,7 +30,7 @@ struct TreeAnswers<'a> {
 }
 
 /// What is shown of a tree, as the words ask for it, of which one gives the letters of men.
-fn form_of(form: &TreeForm, letters: &str) -> Form
+pub fn tree_form(form: &TreeForm, letters: &str) -> Form
     ensures { result ≡ tree_form_of form.now letters.now }
 {
     Form {
@@ -96,11 +96,11 @@ pub fn tree<S: Source, O: Write, E: Write>(
         (map (λ s. s.now) files.now.names.now) stop (O.contents out.old) (O.contents out.new)) }
 {
     let rays = Rays::new();
-    let mut memo = new_memo(alloc, ENTRIES)?;
+    let mut memo = new_memo(alloc, TREE_ENTRIES)?;
     let answers = TreeAnswers {
         rays: &rays,
         bound,
-        form: form_of(&form, letters),
+        form: tree_form(&form, letters),
     };
     answer_files(alloc, &answers, files, source, &mut memo, out, err)
 }
@@ -122,11 +122,11 @@ pub fn tree_json<S: Source, O: Write, E: Write>(
         files.now.from (map (λ s. s.now) files.now.names.now) stop (O.contents out.old) (O.contents out.new)) }
 {
     let rays = Rays::new();
-    let mut memo = new_memo(alloc, ENTRIES)?;
+    let mut memo = new_memo(alloc, TREE_ENTRIES)?;
     let trees = TreeReplies {
         rays: &rays,
         default: bound,
-        form: form_of(&form, letters),
+        form: tree_form(&form, letters),
     };
     tell_json(alloc, &trees, files, source, &mut memo, out, err)
 }

@@ -1,31 +1,23 @@
 use Rattle.std.proofs.Common.{refl}
-use Rattle.std.proofs.KnownBytes.{Keeps-refl}
 use Rattle.std.proofs.lemmas.Result.{err_from_is_err_and}
 use Rattle.file_verifying.specs.Verified.{claim_replies, first_claim_replies}
-use Rattle.file_verifying.proofs.Unopened.{verifies_at_once}
 use Rattle.file_verifying.proofs.VerifiedFiles.{stops_between, stops_uncounted, verifies_each}
 use Rattle.file_verifying.proofs.verifying.verify_rows.Goals as goal
 
-pub returns-in_err-memo-clause-err : goal.returns-in_err-memo-clause-err
-returns-in_err-memo-clause-err g c =
-    let (other, is, same) = err_from_is_err_and c.from_residual.result c.from_residual.ensures.1 in
-    rw (is, same, c.in_err-memo.ensures.err) (verifies_at_once (g.S.Source.holds c.args.source.now)
-    (g.S.Source.refuses c.args.source.now) c.args.bound _ _ _ _ (Keeps-refl (g.O.Write.contents c.args.out.now)))
-
 pub returns-in_err-counts-in-Ok-clause-err : goal.returns-in_err-counts-in-Ok-clause-err
 returns-in_err-counts-in-Ok-clause-err g c =
-    let (other, is, same) = err_from_is_err_and c.from_residual-in_err-counts-in-Ok.result c.from_residual-in_err-counts-in-Ok.ensures.1 in
+    let (other, is, same) = err_from_is_err_and c.from_residual.result c.from_residual.ensures.1 in
     rw (is, same)
     (stops_uncounted c.holds_reads.ensures.each (g.S.Source.holds c.args.source.now) (g.S.Source.refuses c.args.source.now)
-    (λ b. claim_replies b c.args.bound) (λ b. first_claim_replies b c.args.bound) c.args.files.now.from c.args.files.now.names.now _
+    (λ b. claim_replies b (g.V.Verifier.default c.args.verifier.now)) (λ b. first_claim_replies b (g.V.Verifier.default c.args.verifier.now)) c.args.files.now.from c.args.files.now.names.now _
     c.in-Ok.unsound (g.O.Write.contents c.args.out.now) (g.O.Write.contents c.answer_files.new.out) refl c.in-Ok.ensures.ok)
 
-pub returns-in-Ok-clause-ok : goal.returns-in-Ok-clause-ok
-returns-in-Ok-clause-ok g c = verifies_each (g.S.Source.holds c.args.source.now) (λ b. claim_replies b c.args.bound) c.args.files.now.from
+pub returns-in_ok-counts-in-Ok-clause-ok : goal.returns-in_ok-counts-in-Ok-clause-ok
+returns-in_ok-counts-in-Ok-clause-ok g c = verifies_each (g.S.Source.holds c.args.source.now) (λ b. claim_replies b (g.V.Verifier.default c.args.verifier.now)) c.args.files.now.from
     c.args.files.now.names.now _ c.in-Ok.unsound (g.O.Write.contents c.args.out.now)
     (g.O.Write.contents c.answer_files.new.out) refl c.in-Ok.ensures.ok
 
-pub returns-clause-err : goal.returns-clause-err
-returns-clause-err g c = stops_between (g.S.Source.holds c.args.source.now) (g.S.Source.refuses c.args.source.now)
-    (λ b. claim_replies b c.args.bound) (λ b. first_claim_replies b c.args.bound) c.args.files.now.from c.args.files.now.names.now _
+pub returns-in-Err-clause-err : goal.returns-in-Err-clause-err
+returns-in-Err-clause-err g c = stops_between (g.S.Source.holds c.args.source.now) (g.S.Source.refuses c.args.source.now)
+    (λ b. claim_replies b (g.V.Verifier.default c.args.verifier.now)) (λ b. first_claim_replies b (g.V.Verifier.default c.args.verifier.now)) c.args.files.now.from c.args.files.now.names.now _
     c.in-Err.stop (g.O.Write.contents c.args.out.now) (g.O.Write.contents c.answer_files.new.out) refl c.in-Err.ensures.err

@@ -10,8 +10,8 @@ returns-in-Err g c =
     c.args.workers c.args.bound c.args.memo (map (λ s. s.now) c.args.names.now) c.in-Err.stop c.status_of.result _ c.status_of.ensures
     c.in-Err.ensures.refused
 
-pub returns-in-Err-start : goal.returns-in-Err-start
-returns-in-Err-start g c =
+pub returns-in-Err-start_solving : goal.returns-in-Err-start_solving
+returns-in-Err-start_solving g c =
     rw (c.unserved.ensures)
     (ends_unserved (g.S.Source.holds c.args.source.now) (g.S.Source.refuses c.args.source.now) c.solves_none.ensures c.args.workers
     c.args.bound c.args.memo (map (λ s. s.now) c.args.names.now) (g.O.Write.contents c.args.out.now))

@@ -8,6 +8,6 @@ abbrev pub invariant-loop-number : goal.invariant-loop-number
 invariant-loop-number g l = (these : List (List ℕ)) × record {
   taken : HasTaken (g.I.Input.left l.fn.input) (left_in g.I.Input.left l.lines) these;
   number : length these + 1 ≡ l.number;
-  so_far : Between l.fn.default these l.replies (g.O.Write.contents l.initial.out) (g.O.Write.contents l.out);
+  so_far : Between (g.T.LineTask.replies l.fn.task) (g.T.LineTask.waits l.fn.task) these l.replies (g.O.Write.contents l.initial.out) (g.O.Write.contents l.out);
   steady : are_broken g.I.Input.breaks l.lines → g.I.Input.breaks l.fn.input;
 }

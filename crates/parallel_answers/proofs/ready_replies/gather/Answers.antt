@@ -4,14 +4,14 @@ use Rattle.parallel_answers.proofs.Gaining.{gains_none, gains_then}
 use Rattle.parallel_answers.proofs.ready_replies.gather.Goals as goal
 
 pub loop-init : goal.loop-init
-loop-init c = subst (Gains c.args.default c.args.replies.now c.args.replies.now) (sym c.new-text.ensures.items)
-    (gains_none c.args.default c.args.replies.now)
+loop-init g c = subst (Gains (g.T.LineTask.replies c.args.task.now) (g.T.LineTask.waits c.args.task.now) c.args.replies.now c.args.replies.now) (sym c.new-text.ensures.items)
+    (gains_none (g.T.LineTask.replies c.args.task.now) (g.T.LineTask.waits c.args.task.now) c.args.replies.now)
 
 pub loop-preserved : goal.loop-preserved
-loop-preserved c =
-    let first : Gains c.args.default c.loop.replies c.take_first.new.self c.in-Some.output.text.items = search rules in
-    let text : c.extend_from_slice.new.self.items ≡ c.loop.text.items ++ c.in-Some.output.text.items =
+loop-preserved g c =
+    let first : Gains (g.T.LineTask.replies c.args.task.now) (g.T.LineTask.waits c.args.task.now) c.loop.replies c.take_first.new.replies c.in-Some.reply.text.items = search rules in
+    let text : c.extend_from_slice.new.self.items ≡ c.loop.text.items ++ c.in-Some.reply.text.items =
     c.in_ok-extend_from_slice.ensures.items ∙ ap (λ l. c.loop.text.items ++ l) c.as_slice.ensures.value in
-    subst (Gains c.args.default c.args.replies.now c.take_first.new.self) (sym text)
-    (gains_then c.args.default c.args.replies.now c.loop.replies c.take_first.new.self c.loop.text.items c.in-Some.output.text.items
+    subst (Gains (g.T.LineTask.replies c.args.task.now) (g.T.LineTask.waits c.args.task.now) c.args.replies.now c.take_first.new.replies) (sym text)
+    (gains_then (g.T.LineTask.replies c.args.task.now) (g.T.LineTask.waits c.args.task.now) c.args.replies.now c.loop.replies c.take_first.new.replies c.loop.text.items c.in-Some.reply.text.items
     c.loop.invariant first)

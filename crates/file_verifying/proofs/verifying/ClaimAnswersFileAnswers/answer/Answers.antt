@@ -8,6 +8,6 @@ use Rattle.file_verifying.proofs.verifying.ClaimAnswersFileAnswers.answer.Goals 
 pub returns-in_err-prefix-clause-err : goal.returns-in_err-prefix-clause-err
 returns-in_err-prefix-clause-err g c =
     let (other, is, same) = err_from_is_err_and c.from_residual.result c.from_residual.ensures.1 in
-    rw (is) (not_opened fault.NoMemory other (first_claim_replies c.args.self.now.several c.args.self.now.bound c.args.start.now.from
+    rw (is) (not_opened fault.NoMemory other (first_claim_replies c.args.self.now.several (g.V.Verifier.default c.args.self.now.verifier.now) c.args.start.now.from
     c.args.start.now.name.now) (g.I.Input.left c.args.input) (g.O.Write.contents c.args.out.now)
-    (no_claim_reply c.args.self.now.several c.args.self.now.bound c.args.start.now.from c.args.start.now.name.now) same)
+    (no_claim_reply c.args.self.now.several (g.V.Verifier.default c.args.self.now.verifier.now) c.args.start.now.from c.args.start.now.name.now) same)

@@ -4,5 +4,5 @@ use Rattle.parallel_answers.proofs.ordered_answers.Answering.hand_in.Goals as go
 
 pub returns-clause-opened : goal.returns-clause-opened
 returns-clause-opened g c = on_ok c.add.result _ _ c.add.ensures.replies (λ is whole lines taken at left.
-    opened c.args.self.now.answers.now.default c.args.replies.now.first c.args.number c.args.replies.now.replies.items
+    opened (g.T.LineTask.replies c.args.self.now.task.now) (g.T.LineTask.waits c.args.self.now.task.now) c.args.replies.now.first c.args.number c.args.replies.now.replies.items
     c.add.new.self.replies.items c.in_ok-reply.reply lines whole is at (c.in_ok-reply.ensures.open whole taken) left)

@@ -1,0 +1,28 @@
+use Rattle.std.proofs.Common.{IfErr, IfOk, map, subst}
+use Rattle.command_words.specs.Asked.{tree_on}
+use Rattle.file_answers.specs.Writing.{Gains}
+use Rattle.plain_commands.specs.Told.{StopsTelling, Tells}
+use Rattle.matedesk.proofs.LinesOn.{ends_unlettered, ends_untold_on}
+use Rattle.matedesk.proofs.trees_on.tree_on.Goals as goal
+
+pub returns-in-Err : goal.returns-in-Err
+returns-in-Err g c =
+    rw c.unserved.ensures (ends_untold_on (g.S.Source.holds c.args.source.now) (g.S.Source.refuses c.args.source.now)
+    c.ends_by_status.ensures c.tells_none.ensures c.args.workers c.args.bound c.args.form c.args.letters.now c.args.files.now.from
+    (map (λ s. s.now) c.args.files.now.names.now) (g.O.Write.contents c.args.out.now))
+
+pub returns : goal.returns
+returns g c =
+    let holds = g.S.Source.holds c.args.source.now in
+    let refuses = g.S.Source.refuses c.args.source.now in
+    let from = c.args.files.now.from in
+    let names = map (λ s. s.now) c.args.files.now.names.now in
+    let old = g.O.Write.contents c.args.out.now in
+    let new = g.O.Write.contents c.answer_files-ended.new.out in
+    let ended = c.answer_files-ended.result in
+    let ok = subst (λ f. IfOk ended (λ refused. Gains (Tells holds c.args.bound f from names refused) old new)) c.tree_form.ensures
+    c.answer_files-ended.ensures.ok in
+    let err = subst (λ f. IfErr ended (λ stop. StopsTelling holds refuses c.args.bound f from names stop old new)) c.tree_form.ensures
+    c.answer_files-ended.ensures.err in
+    c.ends_by_status.ensures (tree_on c.args.workers c.args.bound c.args.form c.args.letters.now from names) ended c.status_of.result old new
+    c.status_of.ensures ok err

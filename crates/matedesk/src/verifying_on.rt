@@ -1,0 +1,118 @@
+//! The command `verify --workers`.
+
+ghost use Rattle.std.specs.Prelude.{◌≡◌, Some, map};
+ghost use Rattle.command_words.specs.Asked.{verify_on as verify_on_asked};
+ghost use Rattle.plain_commands.specs.Command.{Ends};
+
+use crate::serving::unserved;
+use crate::told_sources::ToldSource;
+use byte_streams::{Input, Stop};
+use chess_moves::Rays;
+use chess_problems::Bound;
+use command_words::{Files, MemoSize, Workers as WorkerCount};
+use file_answers::{FileStart, Source, status_of};
+use file_verifying::{Verifier, verify_by};
+use mate_claims::Counts;
+use parallel_answers::{Workers, answer_in_order};
+use plain_commands::ends_by_status;
+use record_tasks::{ClaimTask, TaskFrom, start_verifying};
+use std::alloc::Global;
+use std::io::Write;
+use std::sync::Wait;
+use std::thread::Threads;
+use std::time::Clock;
+
+/// Workers hold the lines of files against their claims.
+#[derive(Clone, Copy)]
+struct VerifierOn<'a, R: Wait> {
+    rt: &'a R,
+    rays: &'a Rays,
+    bound: Bound,
+}
+
+impl<R: Wait> Verifier for VerifierOn<'_, R> {
+    type Memory = Workers<TaskFrom<ClaimTask>>;
+
+    ghost default = { λ on. on.bound };
+
+    fn verify_lines<S: Source, I: Input + Drop, O: Write>(
+        &self,
+        alloc: Global,
+        prefix: &[u8],
+        start: &FileStart<S>,
+        input: I,
+        memory: &mut Workers<TaskFrom<ClaimTask>>,
+        out: &mut O,
+    ) -> Result<usize, Stop> {
+        let task = TaskFrom {
+            task: ClaimTask {
+                default: self.bound,
+                prefix: Vec::from_slice(alloc, prefix)?,
+            },
+            from: start.from,
+        };
+        // That the file is answered from that line on is this law.
+        task.answers_on();
+        start.source.begins(start.from.get() as usize);
+        let told = ToldSource {
+            source: start.source,
+        };
+        answer_in_order(self.rt, alloc, self.rays, &task, memory, input, out, &told)
+    }
+
+    fn counts(&self, memory: &Workers<TaskFrom<ClaimTask>>) -> Counts {
+        *memory.tally()
+    }
+}
+
+/// Holds each record of each file against its claims as `verify` does, by so many workers, each a thread with a memo of such a size. Each row
+/// is written once it and all before it are there.
+pub fn verify_on<
+    R: Threads + Wait + Clock + Clone + Drop + Send + 'static,
+    S: Source,
+    O: Write,
+    E: Write,
+>(
+    rt: &R,
+    alloc: Global,
+    workers: WorkerCount,
+    bound: Bound,
+    memo: MemoSize,
+    header: bool,
+    files: &Files,
+    source: &S,
+    out: &mut O,
+    err: &mut E,
+) -> u8
+    ensures { Ends (S.holds source.now) (S.refuses source.now)
+        (Some (verify_on_asked workers bound memo header files.now.from (map (λ s. s.now) files.now.names.now))) result
+        (O.contents out.old) (O.contents out.new) }
+{
+    // How it ends with the status of what was written.
+    ends_by_status(source);
+    let count = workers.get() as usize;
+    let mut workers = match start_verifying(rt, alloc, count, memo.get() as usize) {
+        Ok(workers) => workers,
+        Err(fault) => return unserved(fault, err),
+    };
+    let rays = Rays::new();
+    let verifier = VerifierOn {
+        rt,
+        rays: &rays,
+        bound,
+    };
+    let ended = verify_by(
+        alloc,
+        &verifier,
+        header,
+        files,
+        source,
+        &mut workers,
+        out,
+        err,
+    );
+    if ended.is_ok() {
+        workers.end(rt);
+    }
+    status_of(ended, err)
+}

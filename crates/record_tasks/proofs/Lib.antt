@@ -1,0 +1,4 @@
+mod Claimed
+mod JoinsFrom
+mod Solving
+mod Told

@@ -1,0 +1,164 @@
+//! That the record which a line says is held against its own claims.
+
+ghost use Rattle.std.specs.Prelude.{◌≡◌};
+ghost use Rattle.mate_claims.specs.ClaimReplies.{refusals_of};
+
+use crate::tasks_from::TaskFrom;
+use byte_streams::NoMemory;
+use chess_moves::Rays;
+use chess_notation::{records_clear, says_one};
+use chess_problems::Bound;
+use mate_claims::{BoundSource, ClaimRows, Counts, Told, Verdict, refusals};
+use mate_search::Memo;
+use parallel_answers::{LineTask, NoWorkers, Prepared, Reply, Workers, prepare};
+use std::alloc::Global;
+use std::sync::Wait;
+use std::thread;
+use std::thread::Threads;
+use std::time::Clock;
+use text_lines::LineHandler;
+
+/// Each record is held against its claims, with the default bound where it claims none; what stands before its number in a row.
+#[derive(Drop)]
+pub struct ClaimTask {
+    pub default: Bound,
+    pub prefix: Vec<u8>,
+}
+
+/// What is counted of a line: its verdict, if it isn't refused, and of a record where its bound comes from.
+#[derive(Clone, Copy, Debug, PartialEq, Eq)]
+pub struct LineVerdict {
+    pub verdict: Option<Verdict>,
+    pub source: Option<BoundSource>,
+}
+
+/// The reply that tells this of a line.
+fn reply_of(told: Told) -> Reply<LineVerdict>
+    ensures text { result.text ≡ told.row }
+    ensures refused { result.refused ≡ refusals_of told.verdict }
+{
+    Reply {
+        text: told.row,
+        refused: refusals(told.verdict),
+        mark: Some(LineVerdict {
+            verdict: told.verdict,
+            source: told.source,
+        }),
+    }
+}
+
+impl ClaimTask {
+    /// What tells the rows.
+    fn rows<'a>(&'a self, rays: &'a Rays) -> ClaimRows<'a>
+        ensures default { result.default ≡ self.now.default }
+        ensures prefix { result.prefix.now ≡ self.now.prefix.items }
+    {
+        ClaimRows {
+            rays,
+            default: self.default,
+            prefix: self.prefix.as_slice(),
+        }
+    }
+}
+
+impl LineTask for ClaimTask {
+    ghost use Rattle.mate_claims.specs.BoundSources.{SaysClaimed};
+    ghost use Rattle.mate_claims.specs.ClaimReplies.{IsClaimReply, skipped};
+
+    type Mark = LineVerdict;
+
+    type Tally = Counts;
+
+    ghost replies = { λ task. IsClaimReply task.prefix.items task.default };
+
+    ghost waits = { λ task line. SaysClaimed line task.default };
+
+    fn copy(&self, alloc: Global) -> Result<ClaimTask, NoMemory> {
+        Ok(ClaimTask {
+            default: self.default,
+            prefix: Vec::from_slice(alloc, self.prefix.as_slice())?,
+        })
+    }
+
+    fn is(&self, other: &ClaimTask) -> bool {
+        self.default == other.default && self.prefix.as_slice() == other.prefix.as_slice()
+    }
+
+    fn look(
+        &self,
+        alloc: Global,
+        rays: &Rays,
+        number: usize,
+        line: &[u8],
+    ) -> Result<Option<Reply<LineVerdict>>, NoMemory> {
+        let Some(told) = self.rows(rays).look(alloc, number, line)? else {
+            return Ok(None);
+        };
+        Ok(Some(reply_of(told)))
+    }
+
+    fn refuse_long(
+        &self,
+        alloc: Global,
+        rays: &Rays,
+        number: usize,
+    ) -> Result<Reply<LineVerdict>, NoMemory> {
+        let output = self.rows(rays).refuse_long(alloc, number)?;
+        Ok(Reply {
+            text: output.text,
+            refused: output.refused,
+            mark: Some(LineVerdict {
+                verdict: None,
+                source: None,
+            }),
+        })
+    }
+
+    fn answer(
+        &self,
+        alloc: Global,
+        rays: &Rays,
+        number: usize,
+        line: &[u8],
+        memo: &mut Memo,
+    ) -> Result<Reply<LineVerdict>, NoMemory> {
+        let told = self.rows(rays).told(alloc, number, line, memo)?;
+        Ok(reply_of(told))
+    }
+
+    /// A count that has no room stays as it is: no input has so many lines.
+    fn count(tally: &mut Counts, mark: &LineVerdict) {
+        if let Some(counts) = tally.with(mark.verdict, mark.source) {
+            *tally = counts;
+        }
+    }
+
+    ghost skips = { λ task number line blank. skipped blank };
+
+    #[tactic(auto, using(crate::proofs::Claimed::claimed_joins))]
+    fn joins(&self) {
+        records_clear();
+        says_one();
+    }
+}
+
+/// Starts so many workers, 1 to 16, that hold records against their claims, each a thread with a memo of so many entries, 1 to 268,435,456.
+pub fn start_verifying<R: Threads + Wait + Clock + Clone + Drop + Send + 'static>(
+    rt: &R,
+    alloc: Global,
+    count: usize,
+    entries: usize,
+) -> Result<Workers<TaskFrom<ClaimTask>>, NoWorkers> {
+    let Prepared {
+        mut workers,
+        waiting,
+    } = prepare(alloc, count, entries, Counts::new())?;
+    for worker in waiting {
+        let own = rt.clone()?;
+        match thread::spawn(rt, move || worker.run(&own, alloc)) {
+            Ok(thread) => workers.add(thread)?,
+            Err(_) => return Err(NoWorkers::NoThread),
+        }
+    }
+    Ok(workers)
+}
