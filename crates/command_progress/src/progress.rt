@@ -158,7 +158,7 @@ impl Progress {
     fn push_length(&self, alloc: Global, text: &mut String) -> Result<(), AllocError> {
         let moves = now(&self.moves);
         if moves > 0 {
-            text.push_str(format!(in alloc; ", at mate in {moves}")?.as_str())?;
+            text.push_str(format!(in alloc; ", at #{moves}")?.as_str())?;
         }
         Ok(())
     }
