@@ -192,8 +192,8 @@ pub(crate) fn told_unsolved(
     ensures record { IfOk result (λ known. IfNone known (SaysClaimed line.now default)) }
 {
     let words = claims_text(alloc, line)?;
-    let bound = bound_claimed(words.as_slice(), default);
-    match read_record(alloc, rays, line, bound) {
+    let within = bound_claimed(words.as_slice(), default);
+    match read_record(alloc, rays, line, within) {
         Ok(record) => {
             bound_source(alloc, rays, line, words.as_slice(), &record, default)?;
             Ok(None)
