@@ -1,6 +1,6 @@
 //! Why a text is no FEN of a sound position.
 
-ghost use Rattle.std.specs.Prelude.{◌≡◌, codes};
+ghost use Rattle.std.specs.Prelude.{◌≡◌, codes, Some};
 ghost use Rattle.chess_board.specs.Faults.{fault_name};
 
 use std::fmt;
@@ -36,6 +36,8 @@ pub enum FenFault {
 }
 
 impl fmt::Display for FenFault {
+    ghost output = { λ fault. Some (fault_name fault) };
+
     fn fmt<W: fmt::Write>(&self, f: &mut fmt::Formatter<W>) -> fmt::Result {
         f.write_str(self.code())
     }

@@ -1,6 +1,6 @@
 //! Why a line of EPD is no record: its faults, in the order in which they are answered.
 
-ghost use Rattle.std.specs.Prelude.{◌≡◌, ◌++◌, ◌<◌, ◌≤◌, ℕ, List, IfSome, IfNone, IfOk, IfErr, OnOk, codes, true, false};
+ghost use Rattle.std.specs.Prelude.{◌≡◌, ◌++◌, ◌<◌, ◌≤◌, ℕ, List, IfSome, IfNone, IfOk, IfErr, OnOk, codes, true, false, Some};
 ghost use Rattle.std.specs.List.{list_all};
 ghost use Rattle.chess_board.specs.declared.faults.FenFault.{FenFault as FenFaultValue};
 ghost use Rattle.chess_board.specs.Faults.{fault_name};
@@ -57,6 +57,8 @@ pub enum EpdFault {
 }
 
 impl fmt::Display for EpdFault {
+    ghost output = { λ fault. Some (epd_fault_name fault) };
+
     fn fmt<W: fmt::Write>(&self, f: &mut fmt::Formatter<W>) -> fmt::Result {
         f.write_str(self.code())
     }

@@ -1,6 +1,6 @@
 //! Rooms.
 
-ghost use Rattle.std.specs.Prelude.{◌≡◌, ◌≢◌, ◌↔◌, ◌⊎◌, ◌<◌, ◌≤◌, [], codes, length, replicate, IfOk, Err, false};
+ghost use Rattle.std.specs.Prelude.{◌≡◌, ◌≢◌, ◌↔◌, ◌⊎◌, ◌<◌, ◌≤◌, [], codes, length, replicate, IfOk, Err, false, Some};
 ghost use Rattle.mate_desk.specs.Calls.{empty};
 ghost use Rattle.desk_room.specs.Keepers.{lists, lines_of, receivers_of, producer_of, ring_of, is_home};
 ghost use Rattle.desk_room.specs.RoomFaults.{room_fault_name};
@@ -54,6 +54,8 @@ impl RoomFault {
 }
 
 impl fmt::Display for RoomFault {
+    ghost output = { λ fault. Some (room_fault_name fault) };
+
     fn fmt<W: fmt::Write>(&self, f: &mut fmt::Formatter<W>) -> fmt::Result {
         f.write_str(self.code())
     }

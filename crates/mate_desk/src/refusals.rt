@@ -1,6 +1,6 @@
 //! Why a call is refused. Each reason prints as its name, and where several apply the first of them is answered.
 
-ghost use Rattle.std.specs.Prelude.{◌≡◌, codes};
+ghost use Rattle.std.specs.Prelude.{◌≡◌, codes, Some};
 ghost use Rattle.mate_desk.specs.Refusals.{desk_fault_name, submit_refusal_name, withdraw_refusal_name};
 
 use std::fmt;
@@ -31,6 +31,8 @@ impl DeskFault {
 }
 
 impl fmt::Display for DeskFault {
+    ghost output = { λ fault. Some (desk_fault_name fault) };
+
     fn fmt<W: fmt::Write>(&self, f: &mut fmt::Formatter<W>) -> fmt::Result {
         f.write_str(self.code())
     }
@@ -64,6 +66,8 @@ impl SubmitRefusal {
 }
 
 impl fmt::Display for SubmitRefusal {
+    ghost output = { λ fault. Some (submit_refusal_name fault) };
+
     fn fmt<W: fmt::Write>(&self, f: &mut fmt::Formatter<W>) -> fmt::Result {
         f.write_str(self.code())
     }
@@ -97,6 +101,8 @@ impl WithdrawRefusal {
 }
 
 impl fmt::Display for WithdrawRefusal {
+    ghost output = { λ fault. Some (withdraw_refusal_name fault) };
+
     fn fmt<W: fmt::Write>(&self, f: &mut fmt::Formatter<W>) -> fmt::Result {
         f.write_str(self.code())
     }

@@ -1,6 +1,6 @@
 //! Runs: a list of steps at a new desk, and the reply to each.
 
-ghost use Rattle.std.specs.Prelude.{◌≡◌, ◌⊎◌, ◌↔◌, ◌*◌, ◌<◌, ◌≤◌, [], length, min, count_by, vec_len, vec_capacity};
+ghost use Rattle.std.specs.Prelude.{◌≡◌, ◌⊎◌, ◌↔◌, ◌*◌, ◌<◌, ◌≤◌, [], length, min, count_by, vec_len, vec_capacity, Some};
 ghost use Rattle.std.specs.Prelude.{IfOk, IfErr, Err};
 ghost use Rattle.mate_desk.specs.Calls.{empty};
 ghost use Rattle.mate_desk.specs.Refusals.{AreServed, IsRoom};
@@ -50,6 +50,8 @@ impl RunFault {
 }
 
 impl fmt::Display for RunFault {
+    ghost output = { λ fault. Some (run_fault_name fault) };
+
     fn fmt<W: fmt::Write>(&self, f: &mut fmt::Formatter<W>) -> fmt::Result {
         f.write_str(self.code())
     }

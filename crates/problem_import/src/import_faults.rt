@@ -1,6 +1,6 @@
 //! Why a problem can't be imported.
 
-ghost use Rattle.std.specs.Prelude.{◌≡◌};
+ghost use Rattle.std.specs.Prelude.{◌≡◌, Some};
 ghost use Rattle.problem_import.specs.Imports.{import_fault_name};
 
 use chess_notation::EpdFault;
@@ -47,6 +47,8 @@ impl ImportFault {
 }
 
 impl fmt::Display for ImportFault {
+    ghost output = { λ fault. Some (import_fault_name fault) };
+
     fn fmt<W: fmt::Write>(&self, f: &mut fmt::Formatter<W>) -> fmt::Result {
         f.write_str(self.code())
     }

@@ -1,6 +1,6 @@
 //! Why a call of a window is refused. Each reason prints as its name, and where several apply the first of them is answered.
 
-ghost use Rattle.std.specs.Prelude.{◌≡◌};
+ghost use Rattle.std.specs.Prelude.{◌≡◌, Some};
 ghost use Rattle.room_ends.specs.WindowFaults.{window_fault_name, withdraw_fault_name, bye_fault_name};
 
 use chess_notation::EpdFault;
@@ -35,6 +35,8 @@ impl WindowFault {
 }
 
 impl fmt::Display for WindowFault {
+    ghost output = { λ fault. Some (window_fault_name fault) };
+
     fn fmt<W: fmt::Write>(&self, f: &mut fmt::Formatter<W>) -> fmt::Result {
         f.write_str(self.code())
     }
@@ -65,6 +67,8 @@ impl WithdrawFault {
 }
 
 impl fmt::Display for WithdrawFault {
+    ghost output = { λ fault. Some (withdraw_fault_name fault) };
+
     fn fmt<W: fmt::Write>(&self, f: &mut fmt::Formatter<W>) -> fmt::Result {
         f.write_str(self.code())
     }
@@ -92,6 +96,8 @@ impl ByeFault {
 }
 
 impl fmt::Display for ByeFault {
+    ghost output = { λ fault. Some (bye_fault_name fault) };
+
     fn fmt<W: fmt::Write>(&self, f: &mut fmt::Formatter<W>) -> fmt::Result {
         f.write_str(self.code())
     }
