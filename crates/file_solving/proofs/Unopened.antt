@@ -1,5 +1,6 @@
 -- What is written before a file is opened: nothing.
 use Rattle.std.proofs.Common.{ℕ, List, [], Option}
+use Rattle.std.specs.Bool.{⊤}
 use Rattle.std.proofs.KnownBytes.{Appends-kept, Appends-nil}
 use Rattle.std.specs.Io.KnownBytes.{Keeps}
 use Rattle.byte_streams.specs.declared.stops.Stop.TheVariants as stop
@@ -21,8 +22,8 @@ stops_at_once holds refuses bound from names old new kept = record {
   appends = Appends-kept old old new [] (Appends-nil old) kept;
 }
 
-pub no_limited_reply : (seconds bound from : ℕ) (name input : List ℕ) → first_limited_replies seconds bound from name input []
-no_limited_reply seconds bound from name input = no_reply_on _ from input
+pub no_limited_reply : (stops : Type 0) (seconds bound from : ℕ) (name input : List ℕ) → first_limited_replies stops seconds bound from name input []
+no_limited_reply stops seconds bound from name input = no_reply_on _ from input
 
 pub limited_none : LimitedNone
-limited_none holds seconds bound from names = answers_none holds _ _ from names (no_limited_reply seconds bound)
+limited_none holds seconds bound from names = answers_none holds _ _ from names (no_limited_reply ⊤ seconds bound)

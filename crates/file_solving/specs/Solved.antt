@@ -22,27 +22,27 @@ abbrev pub StopsSolving : (List ℕ → Option (List ℕ)) → (List ℕ → Typ
 StopsSolving holds refuses bound from names stop old new =
     StopsAnswering holds refuses (record_replies bound) (first_record_replies bound) from names stop old new
 
--- The same, where each record may take so many seconds.
-abbrev pub limited_replies : ℕ → ℕ → ℕ → List ℕ → List ℕ → List ℕ → ℕ → Type 0
-limited_replies seconds bound from name input text refusals = IsReplyOn (IsLimitedReply seconds bound) from input text refusals
+-- The same, where each record may take so many seconds, and whether a search may be stopped at all.
+abbrev pub limited_replies : Type 0 → ℕ → ℕ → ℕ → List ℕ → List ℕ → List ℕ → ℕ → Type 0
+limited_replies stops seconds bound from name input text refusals = IsReplyOn (IsLimitedReply stops seconds bound) from input text refusals
 
 -- The same, and how many records were not decided.
-abbrev pub limited_told : ℕ → ℕ → ℕ → List ℕ → List ℕ → List ℕ → (refusals undecided : ℕ) → Type 0
-limited_told seconds bound from name input text refusals undecided =
-    limited_replies seconds bound from name input text refusals × IsReplyOn (IsLateReply seconds bound) from input text undecided
+abbrev pub limited_told : Type 0 → ℕ → ℕ → ℕ → List ℕ → List ℕ → List ℕ → (refusals undecided : ℕ) → Type 0
+limited_told stops seconds bound from name input text refusals undecided =
+    limited_replies stops seconds bound from name input text refusals × IsReplyOn (IsLateReply stops seconds bound) from input text undecided
 
-abbrev pub first_limited_replies : ℕ → ℕ → ℕ → List ℕ → List ℕ → List ℕ → Type 0
-first_limited_replies seconds bound from name input text = IsReplyToFirstOn (IsLimitedReply seconds bound) from input text
+abbrev pub first_limited_replies : Type 0 → ℕ → ℕ → ℕ → List ℕ → List ℕ → List ℕ → Type 0
+first_limited_replies stops seconds bound from name input text = IsReplyToFirstOn (IsLimitedReply stops seconds bound) from input text
 
 -- The replies to what the names hold, whether a line of it is refused, and how many records were not decided.
-abbrev pub SolvesLimited : (List ℕ → Option (List ℕ)) → (seconds bound from : ℕ) → List (List ℕ) → Bool → ℕ → List ℕ → Type 0
-SolvesLimited holds seconds bound from names refused undecided gained =
-    AnswersTold holds (limited_told seconds bound) from names refused undecided gained
+abbrev pub SolvesLimited : (List ℕ → Option (List ℕ)) → (stops : Type 0) → (seconds bound from : ℕ) → List (List ℕ) → Bool → ℕ → List ℕ → Type 0
+SolvesLimited holds stops seconds bound from names refused undecided gained =
+    AnswersTold holds (limited_told stops seconds bound) from names refused undecided gained
 
-abbrev pub StopsLimited : (List ℕ → Option (List ℕ)) → (List ℕ → Type 0) → (seconds bound from : ℕ) → List (List ℕ) → Stop
+abbrev pub StopsLimited : (List ℕ → Option (List ℕ)) → (List ℕ → Type 0) → (stops : Type 0) → (seconds bound from : ℕ) → List (List ℕ) → Stop
     → (old new : Option (List ℕ)) → Type 0
-StopsLimited holds refuses seconds bound from names stop old new =
-    StopsAnswering holds refuses (limited_replies seconds bound) (first_limited_replies seconds bound) from names stop old new
+StopsLimited holds refuses stops seconds bound from names stop old new =
+    StopsAnswering holds refuses (limited_replies stops seconds bound) (first_limited_replies stops seconds bound) from names stop old new
 
 -- Before a file is opened there is nothing to write.
 abbrev pub SolvesNone : Type 0
@@ -51,4 +51,4 @@ SolvesNone = (holds : List ℕ → Option (List ℕ)) (bound from : ℕ) (names 
 
 abbrev pub LimitedNone : Type 0
 LimitedNone = (holds : List ℕ → Option (List ℕ)) (seconds bound from : ℕ) (names : List (List ℕ))
-    → AnswersFirst holds (limited_replies seconds bound) (first_limited_replies seconds bound) from names (λ _. ⊤) []
+    → AnswersFirst holds (limited_replies ⊤ seconds bound) (first_limited_replies ⊤ seconds bound) from names (λ _. ⊤) []

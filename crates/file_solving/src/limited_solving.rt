@@ -25,15 +25,18 @@ impl<T: TimeLimit, V: Solver<T>> FileAnswers for LimitedRecords<'_, '_, T, V> {
 
     ghost ready = { λ records. V.ready records.limited.now.solver };
 
-    ghost replies = { λ records. limited_replies records.limited.now.seconds records.limited.now.default };
+    ghost replies = { λ records. limited_replies (T.may_stop records.limited.now.limit.now) records.limited.now.seconds
+        records.limited.now.default };
 
-    ghost told = { λ records. limited_told records.limited.now.seconds records.limited.now.default };
+    ghost told = { λ records. limited_told (T.may_stop records.limited.now.limit.now) records.limited.now.seconds
+        records.limited.now.default };
 
     ghost tally = { λ memory. memory.undecided };
 
     ghost tells = { λ _ _ _ _ _ _ _ told. told.0 };
 
-    ghost first = { λ records. first_limited_replies records.limited.now.seconds records.limited.now.default };
+    ghost first = { λ records. first_limited_replies (T.may_stop records.limited.now.limit.now) records.limited.now.seconds
+        records.limited.now.default };
 
     fn answer<S: Source, I: Input + Drop, O: Write>(
         &self,
@@ -61,10 +64,12 @@ pub fn solve_limited<T: TimeLimit, V: Solver<T>, S: Source, O: Write, E: Write>(
     err: &mut E,
 ) -> Result<bool, Stop>
     requires ready { V.ready limited.now.solver }
-    ensures ok { IfOk result (λ refused. Gains (SolvesLimited (S.holds source.now) limited.now.seconds limited.now.default files.now.from
-        (map (λ s. s.now) files.now.names.now) refused (memory.new.undecided - memory.old.undecided)) (O.contents out.old) (O.contents out.new)) }
-    ensures err { IfErr result (λ stop. StopsLimited (S.holds source.now) (S.refuses source.now) limited.now.seconds limited.now.default
-        files.now.from (map (λ s. s.now) files.now.names.now) stop (O.contents out.old) (O.contents out.new)) }
+    ensures ok { IfOk result (λ refused. Gains (SolvesLimited (S.holds source.now) (T.may_stop limited.now.limit.now) limited.now.seconds
+        limited.now.default files.now.from (map (λ s. s.now) files.now.names.now) refused (memory.new.undecided - memory.old.undecided))
+        (O.contents out.old) (O.contents out.new)) }
+    ensures err { IfErr result (λ stop. StopsLimited (S.holds source.now) (S.refuses source.now) (T.may_stop limited.now.limit.now)
+        limited.now.seconds limited.now.default files.now.from (map (λ s. s.now) files.now.names.now) stop
+        (O.contents out.old) (O.contents out.new)) }
 {
     answer_files(
         alloc,

@@ -23,36 +23,39 @@ claim_replies several bound from name input text unsound = IsReplyOn (IsClaimRep
 abbrev pub first_claim_replies : Bool → ℕ → ℕ → List ℕ → List ℕ → List ℕ → Type 0
 first_claim_replies several bound from name input text = IsReplyToFirstOn (IsClaimReply (prefix_of several name) bound) from input text
 
--- The same, where each record may take so long.
-abbrev pub limited_claim_replies : Bool → ℕ → ℕ → List ℕ → List ℕ → List ℕ → ℕ → Type 0
-limited_claim_replies several bound from name input text unsound = IsReplyOn (IsLimitedClaim (prefix_of several name) bound) from input text unsound
+-- The same, where each record may take so long, and whether a search may be stopped at all.
+abbrev pub limited_claim_replies : Type 0 → Bool → ℕ → ℕ → List ℕ → List ℕ → List ℕ → ℕ → Type 0
+limited_claim_replies stops several bound from name input text unsound =
+    IsReplyOn (IsLimitedClaim stops (prefix_of several name) bound) from input text unsound
 
 -- The same, and how many records were not decided.
-abbrev pub limited_claims_told : Bool → ℕ → ℕ → List ℕ → List ℕ → List ℕ → (unsound undecided : ℕ) → Type 0
-limited_claims_told several bound from name input text unsound undecided =
-    limited_claim_replies several bound from name input text unsound × IsReplyOn (IsLateClaim (prefix_of several name) bound) from input text undecided
+abbrev pub limited_claims_told : Type 0 → Bool → ℕ → ℕ → List ℕ → List ℕ → List ℕ → (unsound undecided : ℕ) → Type 0
+limited_claims_told stops several bound from name input text unsound undecided =
+    limited_claim_replies stops several bound from name input text unsound
+    × IsReplyOn (IsLateClaim stops (prefix_of several name) bound) from input text undecided
 
-abbrev pub first_limited_claim_replies : Bool → ℕ → ℕ → List ℕ → List ℕ → List ℕ → Type 0
-first_limited_claim_replies several bound from name input text = IsReplyToFirstOn (IsLimitedClaim (prefix_of several name) bound) from input text
+abbrev pub first_limited_claim_replies : Type 0 → Bool → ℕ → ℕ → List ℕ → List ℕ → List ℕ → Type 0
+first_limited_claim_replies stops several bound from name input text =
+    IsReplyToFirstOn (IsLimitedClaim stops (prefix_of several name) bound) from input text
 
 -- The rows of what the names hold, of the first of them from the line of such a number on, and whether a line of it isn't sound.
 abbrev pub Verifies : (List ℕ → Option (List ℕ)) → ℕ → ℕ → List (List ℕ) → Bool → List ℕ → Type 0
 Verifies holds bound from names unsound gained = Answers holds (claim_replies (has_several names) bound) from names unsound gained
 
 -- The same, where each record may take so long: whether a line is known not to be sound, and how many records were not decided.
-abbrev pub VerifiesInTime : (List ℕ → Option (List ℕ)) → ℕ → ℕ → List (List ℕ) → Bool → ℕ → List ℕ → Type 0
-VerifiesInTime holds bound from names unsound undecided gained =
-    AnswersTold holds (limited_claims_told (has_several names) bound) from names unsound undecided gained
+abbrev pub VerifiesInTime : (List ℕ → Option (List ℕ)) → Type 0 → ℕ → ℕ → List (List ℕ) → Bool → ℕ → List ℕ → Type 0
+VerifiesInTime holds stops bound from names unsound undecided gained =
+    AnswersTold holds (limited_claims_told stops (has_several names) bound) from names unsound undecided gained
 
 -- What the output gained where the rows stop.
 abbrev pub StopsVerifying : (List ℕ → Option (List ℕ)) → (List ℕ → Type 0) → ℕ → ℕ → List (List ℕ) → Stop → (old new : Option (List ℕ)) → Type 0
 StopsVerifying holds refuses bound from names stop old new = StopsAnswering holds refuses
     (claim_replies (has_several names) bound) (first_claim_replies (has_several names) bound) from names stop old new
 
-abbrev pub StopsVerifyingInTime : (List ℕ → Option (List ℕ)) → (List ℕ → Type 0) → ℕ → ℕ → List (List ℕ) → Stop
+abbrev pub StopsVerifyingInTime : (List ℕ → Option (List ℕ)) → (List ℕ → Type 0) → Type 0 → ℕ → ℕ → List (List ℕ) → Stop
     → (old new : Option (List ℕ)) → Type 0
-StopsVerifyingInTime holds refuses bound from names stop old new = StopsAnswering holds refuses
-    (limited_claim_replies (has_several names) bound) (first_limited_claim_replies (has_several names) bound) from names stop old new
+StopsVerifyingInTime holds refuses stops bound from names stop old new = StopsAnswering holds refuses
+    (limited_claim_replies stops (has_several names) bound) (first_limited_claim_replies stops (has_several names) bound) from names stop old new
 
 -- the first row, where it is asked for: the names of the fields
 unfoldable pub header_text : Bool → List ℕ
@@ -67,9 +70,9 @@ abbrev pub VerifiesHeaded : (List ℕ → Option (List ℕ)) → ℕ → Bool �
 VerifiesHeaded holds bound header from names unsound gained = Headed header (Verifies holds bound from names unsound) gained
 
 -- What `verify --limit` shows, whether a line is known not to be sound, and how many records were not decided.
-abbrev pub LimitedHeaded : (List ℕ → Option (List ℕ)) → ℕ → Bool → ℕ → List (List ℕ) → Bool → ℕ → List ℕ → Type 0
-LimitedHeaded holds bound header from names unsound undecided gained =
-    Headed header (VerifiesInTime holds bound from names unsound undecided) gained
+abbrev pub LimitedHeaded : (List ℕ → Option (List ℕ)) → Type 0 → ℕ → Bool → ℕ → List (List ℕ) → Bool → ℕ → List ℕ → Type 0
+LimitedHeaded holds stops bound header from names unsound undecided gained =
+    Headed header (VerifiesInTime holds stops bound from names unsound undecided) gained
 
 -- What the output gained where rows stop: as where the replies stop, behind the first row; where memory gives out perhaps nothing.
 abbrev pub StopsRows : (List ℕ → Option (List ℕ)) → (List ℕ → Type 0) → FileReplies → FirstReplies → Bool → ℕ → List (List ℕ) → Stop
@@ -89,6 +92,6 @@ StopsHeaded holds refuses bound header from names stop old new = StopsRows holds
     (claim_replies (has_several names) bound) (first_claim_replies (has_several names) bound) header from names stop old new
 
 -- What it gained where `verify --limit` does.
-abbrev pub StopsLimitedHeaded : (List ℕ → Option (List ℕ)) → (List ℕ → Type 0) → ℕ → Bool → ℕ → List (List ℕ) → Stop → (old new : Option (List ℕ)) → Type 0
-StopsLimitedHeaded holds refuses bound header from names stop old new = StopsRows holds refuses
-    (limited_claim_replies (has_several names) bound) (first_limited_claim_replies (has_several names) bound) header from names stop old new
+abbrev pub StopsLimitedHeaded : (List ℕ → Option (List ℕ)) → (List ℕ → Type 0) → Type 0 → ℕ → Bool → ℕ → List (List ℕ) → Stop → (old new : Option (List ℕ)) → Type 0
+StopsLimitedHeaded holds refuses stops bound header from names stop old new = StopsRows holds refuses
+    (limited_claim_replies stops (has_several names) bound) (first_limited_claim_replies stops (has_several names) bound) header from names stop old new

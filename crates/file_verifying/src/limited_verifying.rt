@@ -31,15 +31,15 @@ impl<T: TimeLimit, V: Solver<T>> FileAnswers for LimitedAnswers<'_, '_, T, V> {
 
     ghost ready = { λ answers. V.ready answers.limited.now.solver };
 
-    ghost replies = { λ answers. limited_claim_replies answers.several answers.limited.now.default };
+    ghost replies = { λ answers. limited_claim_replies (T.may_stop answers.limited.now.limit.now) answers.several answers.limited.now.default };
 
-    ghost told = { λ answers. limited_claims_told answers.several answers.limited.now.default };
+    ghost told = { λ answers. limited_claims_told (T.may_stop answers.limited.now.limit.now) answers.several answers.limited.now.default };
 
     ghost tally = { λ memory. memory.counts.undecided };
 
     ghost tells = { λ _ _ _ _ _ _ _ told. told.0 };
 
-    ghost first = { λ answers. first_limited_claim_replies answers.several answers.limited.now.default };
+    ghost first = { λ answers. first_limited_claim_replies (T.may_stop answers.limited.now.limit.now) answers.several answers.limited.now.default };
 
     fn answer<S: Source, I: Input + Drop, O: Write>(
         &self,
@@ -75,11 +75,11 @@ fn verify_rows<T: TimeLimit, V: Solver<T>, S: Source, O: Write, E: Write>(
     err: &mut E,
 ) -> Result<bool, Stop>
     requires ready { V.ready limited.now.solver }
-    ensures ok { IfOk result (λ unsound. Gains (VerifiesInTime (S.holds source.now) limited.now.default files.now.from
-        (map (λ s. s.now) files.now.names.now) unsound (memory.new.counts.undecided - memory.old.counts.undecided))
-        (O.contents out.old) (O.contents out.new)) }
-    ensures err { IfErr result (λ stop. StopsVerifyingInTime (S.holds source.now) (S.refuses source.now) limited.now.default files.now.from
-        (map (λ s. s.now) files.now.names.now) stop (O.contents out.old) (O.contents out.new)) }
+    ensures ok { IfOk result (λ unsound. Gains (VerifiesInTime (S.holds source.now) (T.may_stop limited.now.limit.now)
+        limited.now.default files.now.from (map (λ s. s.now) files.now.names.now) unsound
+        (memory.new.counts.undecided - memory.old.counts.undecided)) (O.contents out.old) (O.contents out.new)) }
+    ensures err { IfErr result (λ stop. StopsVerifyingInTime (S.holds source.now) (S.refuses source.now) (T.may_stop limited.now.limit.now)
+        limited.now.default files.now.from (map (λ s. s.now) files.now.names.now) stop (O.contents out.old) (O.contents out.new)) }
 {
     // How many inputs there are of so many names.
     holds_reads();
@@ -111,11 +111,11 @@ pub fn verify_limited<T: TimeLimit, V: Solver<T>, S: Source, O: Write, E: Write>
     err: &mut E,
 ) -> Result<bool, Stop>
     requires ready { V.ready limited.now.solver }
-    ensures ok { IfOk result (λ unsound. Gains (LimitedHeaded (S.holds source.now) limited.now.default header files.now.from
-        (map (λ s. s.now) files.now.names.now) unsound (memory.new.counts.undecided - memory.old.counts.undecided))
-        (O.contents out.old) (O.contents out.new)) }
-    ensures err { IfErr result (λ stop. StopsLimitedHeaded (S.holds source.now) (S.refuses source.now) limited.now.default header files.now.from
-        (map (λ s. s.now) files.now.names.now) stop (O.contents out.old) (O.contents out.new)) }
+    ensures ok { IfOk result (λ unsound. Gains (LimitedHeaded (S.holds source.now) (T.may_stop limited.now.limit.now)
+        limited.now.default header files.now.from (map (λ s. s.now) files.now.names.now) unsound
+        (memory.new.counts.undecided - memory.old.counts.undecided)) (O.contents out.old) (O.contents out.new)) }
+    ensures err { IfErr result (λ stop. StopsLimitedHeaded (S.holds source.now) (S.refuses source.now) (T.may_stop limited.now.limit.now)
+        limited.now.default header files.now.from (map (λ s. s.now) files.now.names.now) stop (O.contents out.old) (O.contents out.new)) }
 {
     put_header(out, header)?;
     verify_rows(alloc, limited, files, source, memory, out, err)

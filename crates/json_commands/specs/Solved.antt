@@ -16,12 +16,12 @@ abbrev pub StopsSolvingJson : (List ℕ → Option (List ℕ)) → (List ℕ →
     → (old new : Option (List ℕ)) → Type 0
 StopsSolvingJson holds refuses bound from names stop old new = StopsJson holds refuses Answer (IsLineReply bound) from names stop old new
 
--- The same, where each record may take so many seconds, and how many records were not decided.
-abbrev pub SolvesLimitedJson : (List ℕ → Option (List ℕ)) → (seconds bound from : ℕ) → List (List ℕ) → Bool → ℕ → List ℕ → Type 0
-SolvesLimitedJson holds seconds bound from names refused undecided gained = AnswersTold holds
-    (file_told Answer (has_several names) (IsLimitedReply seconds bound) (IsLateReply seconds bound)) from names refused undecided gained
+-- The same, where each record may take so many seconds, whether a search may be stopped at all, and how many records were not decided.
+abbrev pub SolvesLimitedJson : (List ℕ → Option (List ℕ)) → (stops : Type 0) → (seconds bound from : ℕ) → List (List ℕ) → Bool → ℕ → List ℕ → Type 0
+SolvesLimitedJson holds stops seconds bound from names refused undecided gained = AnswersTold holds
+    (file_told Answer (has_several names) (IsLimitedReply stops seconds bound) (IsLateReply stops seconds bound)) from names refused undecided gained
 
-abbrev pub StopsLimitedJson : (List ℕ → Option (List ℕ)) → (List ℕ → Type 0) → (seconds bound from : ℕ) → List (List ℕ) → Stop
+abbrev pub StopsLimitedJson : (List ℕ → Option (List ℕ)) → (List ℕ → Type 0) → (stops : Type 0) → (seconds bound from : ℕ) → List (List ℕ) → Stop
     → (old new : Option (List ℕ)) → Type 0
-StopsLimitedJson holds refuses seconds bound from names stop old new =
-    StopsJson holds refuses Answer (IsLimitedReply seconds bound) from names stop old new
+StopsLimitedJson holds refuses stops seconds bound from names stop old new =
+    StopsJson holds refuses Answer (IsLimitedReply stops seconds bound) from names stop old new

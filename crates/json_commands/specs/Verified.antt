@@ -16,11 +16,11 @@ abbrev pub StopsVerifyingJson : (List ℕ → Option (List ℕ)) → (List ℕ �
     → (old new : Option (List ℕ)) → Type 0
 StopsVerifyingJson holds refuses bound from names stop old new = StopsJson holds refuses Row (IsClaimReply [] bound) from names stop old new
 
--- The same, where each record may take so long: whether a line is known not to be sound, and how many records were not decided.
-abbrev pub VerifiesLimitedJson : (List ℕ → Option (List ℕ)) → (bound from : ℕ) → List (List ℕ) → Bool → ℕ → List ℕ → Type 0
-VerifiesLimitedJson holds bound from names unsound undecided gained = AnswersTold holds
-    (file_told Row (has_several names) (IsLimitedClaim [] bound) (IsLateClaim [] bound)) from names unsound undecided gained
+-- The same, where each record may take so long, and a search may perhaps be stopped: whether a line is known not to be sound, and how many records were not decided.
+abbrev pub VerifiesLimitedJson : (List ℕ → Option (List ℕ)) → (stops : Type 0) → (bound from : ℕ) → List (List ℕ) → Bool → ℕ → List ℕ → Type 0
+VerifiesLimitedJson holds stops bound from names unsound undecided gained = AnswersTold holds
+    (file_told Row (has_several names) (IsLimitedClaim stops [] bound) (IsLateClaim stops [] bound)) from names unsound undecided gained
 
-abbrev pub StopsVerifyingLimitedJson : (List ℕ → Option (List ℕ)) → (List ℕ → Type 0) → (bound from : ℕ) → List (List ℕ) → Stop
+abbrev pub StopsVerifyingLimitedJson : (List ℕ → Option (List ℕ)) → (List ℕ → Type 0) → (stops : Type 0) → (bound from : ℕ) → List (List ℕ) → Stop
     → (old new : Option (List ℕ)) → Type 0
-StopsVerifyingLimitedJson holds refuses bound from names stop old new = StopsJson holds refuses Row (IsLimitedClaim [] bound) from names stop old new
+StopsVerifyingLimitedJson holds refuses stops bound from names stop old new = StopsJson holds refuses Row (IsLimitedClaim stops [] bound) from names stop old new

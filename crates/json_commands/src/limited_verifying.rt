@@ -35,16 +35,19 @@ impl<T: TimeLimit, V: Solver<T>> FileAnswers for LimitedJsonClaims<'_, '_, T, V>
 
     ghost ready = { λ claims. V.ready claims.limited.now.solver };
 
-    ghost replies = { λ claims. file_replies Row claims.several (IsLimitedClaim [] claims.limited.now.default) };
+    ghost replies = { λ claims. file_replies Row claims.several
+        (IsLimitedClaim (T.may_stop claims.limited.now.limit.now) [] claims.limited.now.default) };
 
-    ghost told = { λ claims. file_told Row claims.several (IsLimitedClaim [] claims.limited.now.default)
-        (IsLateClaim [] claims.limited.now.default) };
+    ghost told = { λ claims. file_told Row claims.several
+        (IsLimitedClaim (T.may_stop claims.limited.now.limit.now) [] claims.limited.now.default)
+        (IsLateClaim (T.may_stop claims.limited.now.limit.now) [] claims.limited.now.default) };
 
     ghost tally = { λ memory. memory.counts.undecided };
 
     ghost tells = { λ _ _ _ _ _ _ _ told. told.0 };
 
-    ghost first = { λ claims. first_file_replies Row claims.several (IsLimitedClaim [] claims.limited.now.default) };
+    ghost first = { λ claims. first_file_replies Row claims.several
+        (IsLimitedClaim (T.may_stop claims.limited.now.limit.now) [] claims.limited.now.default) };
 
     fn answer<S: Source, I: Input + Drop, O: Write>(
         &self,
@@ -87,11 +90,11 @@ pub fn verify_json_limited<T: TimeLimit, V: Solver<T>, S: Source, O: Write, E: W
     err: &mut E,
 ) -> Result<bool, Stop>
     requires ready { V.ready limited.now.solver }
-    ensures ok { IfOk result (λ unsound. Gains (VerifiesLimitedJson (S.holds source.now) limited.now.default files.now.from
-        (map (λ s. s.now) files.now.names.now) unsound (memory.new.counts.undecided - memory.old.counts.undecided))
-        (O.contents out.old) (O.contents out.new)) }
-    ensures err { IfErr result (λ stop. StopsVerifyingLimitedJson (S.holds source.now) (S.refuses source.now) limited.now.default files.now.from
-        (map (λ s. s.now) files.now.names.now) stop (O.contents out.old) (O.contents out.new)) }
+    ensures ok { IfOk result (λ unsound. Gains (VerifiesLimitedJson (S.holds source.now) (T.may_stop limited.now.limit.now)
+        limited.now.default files.now.from (map (λ s. s.now) files.now.names.now) unsound
+        (memory.new.counts.undecided - memory.old.counts.undecided)) (O.contents out.old) (O.contents out.new)) }
+    ensures err { IfErr result (λ stop. StopsVerifyingLimitedJson (S.holds source.now) (S.refuses source.now)
+        (T.may_stop limited.now.limit.now) limited.now.default files.now.from (map (λ s. s.now) files.now.names.now) stop (O.contents out.old) (O.contents out.new)) }
 {
     // How many inputs there are of so many names.
     holds_reads();

@@ -85,10 +85,11 @@ pub fn solve_json_limited<T: TimeLimit, V: Solver<T>, S: Source, O: Write, E: Wr
     err: &mut E,
 ) -> Result<bool, Stop>
     requires ready { V.ready limited.now.solver }
-    ensures ok { IfOk result (λ refused. Gains (SolvesLimitedJson (S.holds source.now) limited.now.seconds limited.now.default files.now.from
-        (map (λ s. s.now) files.now.names.now) refused (memory.new.undecided - memory.old.undecided)) (O.contents out.old) (O.contents out.new)) }
-    ensures err { IfErr result (λ stop. StopsLimitedJson (S.holds source.now) (S.refuses source.now) limited.now.seconds limited.now.default
-        files.now.from (map (λ s. s.now) files.now.names.now) stop (O.contents out.old) (O.contents out.new)) }
+    ensures ok { IfOk result (λ refused. Gains (SolvesLimitedJson (S.holds source.now) (T.may_stop limited.now.limit.now)
+        limited.now.seconds limited.now.default files.now.from (map (λ s. s.now) files.now.names.now) refused
+        (memory.new.undecided - memory.old.undecided)) (O.contents out.old) (O.contents out.new)) }
+    ensures err { IfErr result (λ stop. StopsLimitedJson (S.holds source.now) (S.refuses source.now) (T.may_stop limited.now.limit.now)
+        limited.now.seconds limited.now.default files.now.from (map (λ s. s.now) files.now.names.now) stop (O.contents out.old) (O.contents out.new)) }
 {
     answer_json(
         alloc,

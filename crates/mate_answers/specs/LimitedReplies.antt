@@ -26,14 +26,15 @@ undecided_line none seconds r = undecided_text r none seconds ++ char "\n" ∷ [
 abbrev pub IsUndecidedLine : ℕ → RecordValue → List ℕ → Type 0
 IsUndecidedLine seconds r text = (none : ℕ) × IsNoneSoFar r none × (text ≡ undecided_line none seconds r)
 
--- What one line is answered, and how many refusals that is: as without a limit, or that it was not decided, and what is true so far.
-pub data IsLimitedReply (seconds default number : ℕ) (line : List ℕ) : List ℕ → ℕ → Type 0 where
-  decided : (text : List ℕ) (count : ℕ) → IsLineReply default number line text count → IsLimitedReply seconds default number line text count
-  undecided : (r : RecordValue) (none : ℕ) → is_blank line ≡ false → Reads line default r → IsNoneSoFar r none
-      → IsLimitedReply seconds default number line (undecided_line none seconds r) 0
+-- What one line is answered, and how many refusals that is: as without a limit, or, where the limit may stop a search at all, that it was not
+-- decided, and what is true so far.
+pub data IsLimitedReply (stops : Type 0) (seconds default number : ℕ) (line : List ℕ) : List ℕ → ℕ → Type 0 where
+  decided : (text : List ℕ) (count : ℕ) → IsLineReply default number line text count → IsLimitedReply stops seconds default number line text count
+  undecided : stops → (r : RecordValue) (none : ℕ) → is_blank line ≡ false → Reads line default r → IsNoneSoFar r none
+      → IsLimitedReply stops seconds default number line (undecided_line none seconds r) 0
 
 -- What one line is answered, and how many of its replies are that it was not decided: one or none.
-pub data IsLateReply (seconds default number : ℕ) (line : List ℕ) : List ℕ → ℕ → Type 0 where
-  in_time : (text : List ℕ) (count : ℕ) → IsLineReply default number line text count → IsLateReply seconds default number line text 0
-  late : (r : RecordValue) (none : ℕ) → is_blank line ≡ false → Reads line default r → IsNoneSoFar r none
-      → IsLateReply seconds default number line (undecided_line none seconds r) 1
+pub data IsLateReply (stops : Type 0) (seconds default number : ℕ) (line : List ℕ) : List ℕ → ℕ → Type 0 where
+  in_time : (text : List ℕ) (count : ℕ) → IsLineReply default number line text count → IsLateReply stops seconds default number line text 0
+  late : stops → (r : RecordValue) (none : ℕ) → is_blank line ≡ false → Reads line default r → IsNoneSoFar r none
+      → IsLateReply stops seconds default number line (undecided_line none seconds r) 1

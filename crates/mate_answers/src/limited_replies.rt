@@ -138,9 +138,9 @@ impl<T: TimeLimit, S: Solver<T>> LineHandler for Limited<'_, T, S> {
 
     ghost ready = { λ limited. S.ready limited.solver };
 
-    ghost replies = { λ limited. IsLimitedReply limited.seconds limited.default };
+    ghost replies = { λ limited. IsLimitedReply (T.may_stop limited.limit.now) limited.seconds limited.default };
 
-    ghost marks = { λ limited. IsLateReply limited.seconds limited.default };
+    ghost marks = { λ limited. IsLateReply (T.may_stop limited.limit.now) limited.seconds limited.default };
 
     ghost tally = { λ memory. memory.undecided };
 

@@ -17,7 +17,8 @@ use Rattle.mate_claims.specs.declared.verdicts.Verdict.TheVariants as verdict
 use Rattle.mate_claims.specs.BoundSources.{IsSource, ReadsClaimed}
 use Rattle.mate_claims.specs.ClaimReplies.{IsClaimReply, IsTold, IsToldBy, no_record, refusals_of}
 use Rattle.mate_claims.specs.Counts.{count_of, with_count, with_one, with_source}
-use Rattle.mate_claims.specs.LimitedClaims.{IsLateClaim, IsLimitedClaim, IsToldInTime, IsToldLate, in_time, late, marked, told, undecided_of, unjudged}
+use Rattle.mate_claims.specs.LimitedClaims.{IsLateClaim, IsLimitedClaim, IsToldInTime, IsToldLate}
+use Rattle.mate_claims.specs.LimitedClaims.{in_time, late, marked, told, undecided_of, unjudged}
 use Rattle.mate_claims.specs.Rows.{refused_row}
 use Rattle.mate_claims.specs.Said.{Said, said_by, said_of}
 use Rattle.mate_claims.specs.Verdicts.{verdict_name}
@@ -43,38 +44,36 @@ unjudged_none word claims None said is none = ap unjudged is
 -- ---- what is told
 
 -- What is told of a record that a line says, decided or not.
-told_either : (place : List ℕ) (default : ℕ) (line : List ℕ) (r : RecordValue) (from : BoundSource) (words row : List ℕ) (v : Option Verdict)
+told_either : (stops : Type 0) (place : List ℕ) (default : ℕ) (line : List ℕ) (r : RecordValue) (from : BoundSource) (words row : List ℕ)
+    (v : Option Verdict)
     → ReadsClaimed line default r → IsSource line r from → words ≡ claims_text line
     → IsToldBy place r from (said_by line words (words_in words) r (truth (problem_of r))) row v
-    ⊎ ((none : ℕ) × IsNoneSoFar r none × IsToldLate place r from (unjudged (said_by line words (words_in words) r NoMate)) row v)
-    → IsToldInTime place default line row v (Some from)
+    ⊎ (stops × (none : ℕ) × IsNoneSoFar r none × IsToldLate place r from (unjudged (said_by line words (words_in words) r NoMate)) row v)
+    → IsToldInTime stops place default line row v (Some from)
 unfolding said_of claim_words
-told_either place default line r from words row v reads comes same (inl is) =
+told_either stops place default line r from words row v reads comes same (inl is) =
     in_time row v (Some from) (told_record place default line r from words row v reads comes same is)
-told_either place default line r from words row v reads comes same (inr is) =
-    late r from is.0 row v reads comes is.1
-    (subst (λ t. IsToldLate place r from (unjudged (said_by line t (words_in t) r NoMate)) row v) same is.2)
+told_either stops place default line r from words row v reads comes same (inr (may, none, so_far, is)) =
+    late may r from none row v reads comes so_far
+    (subst (λ t. IsToldLate place r from (unjudged (said_by line t (words_in t) r NoMate)) row v) same is)
 
-pub told_of_either : {X E : Type 0} (place : List ℕ) (default : ℕ) (line : List ℕ) (r : RecordValue) (from : BoundSource) (words : List ℕ)
+pub told_of_either : {X E : Type 0} (stops : Type 0) (place : List ℕ) (default : ℕ) (line : List ℕ) (r : RecordValue) (from : BoundSource)
+    (words : List ℕ)
     (row : X → List ℕ) (v : X → Option Verdict) (source : X → Option BoundSource) (result : Result X E) → ReadsClaimed line default r
     → IsSource line r from → words ≡ claims_text line
     → IfOk result (λ x. IsToldBy place r from (said_by line words (words_in words) r (truth (problem_of r))) (row x) (v x)
-    ⊎ ((none : ℕ) × IsNoneSoFar r none × IsToldLate place r from (unjudged (said_by line words (words_in words) r NoMate)) (row x) (v x)))
-    → IfOk result (λ x. source x ≡ Some from) → IfOk result (λ x. IsToldInTime place default line (row x) (v x) (source x))
-told_of_either place default line r from words row v source (Ok x) reads comes same is known =
-    rw known (told_either place default line r from words (row x) (v x) reads comes same is)
-told_of_either place default line r from words row v source (Err e) reads comes same is known = tt
+    ⊎ (stops × (none : ℕ) × IsNoneSoFar r none
+    × IsToldLate place r from (unjudged (said_by line words (words_in words) r NoMate)) (row x) (v x)))
+    → IfOk result (λ x. source x ≡ Some from) → IfOk result (λ x. IsToldInTime stops place default line (row x) (v x) (source x))
+told_of_either stops place default line r from words row v source (Ok x) reads comes same is known =
+    rw known (told_either stops place default line r from words (row x) (v x) reads comes same is)
+told_of_either stops place default line r from words row v source (Err e) reads comes same is known = tt
 
 -- The same as without a limit, unless it may be stopped.
-pub told_unless : {X E : Type 0} (stops : Type 0) (place : List ℕ) (default : ℕ) (line : List ℕ) (r : RecordValue) (from : BoundSource)
-    (words : List ℕ) (row : X → List ℕ) (v : X → Option Verdict) (source : X → Option BoundSource) (result : Result X E)
-    → ReadsClaimed line default r → IsSource line r from → words ≡ claims_text line
-    → IfOk result (λ x. stops ⊎ IsToldBy place r from (said_by line words (words_in words) r (truth (problem_of r))) (row x) (v x))
-    → IfOk result (λ x. source x ≡ Some from) → IfOk result (λ x. stops ⊎ IsTold place default line (row x) (v x) (source x))
-told_unless stops place default line r from words row v source (Ok x) reads comes same (inl may) known = inl may
-told_unless stops place default line r from words row v source (Ok x) reads comes same (inr is) known =
-    inr (rw known (told_record place default line r from words (row x) (v x) reads comes same is))
-told_unless stops place default line r from words row v source (Err e) reads comes same is known = tt
+told_unless : (stops : Type 0) (place : List ℕ) (default : ℕ) (line row : List ℕ) (v : Option Verdict) (from : Option BoundSource)
+    → IsToldInTime stops place default line row v from → stops ⊎ IsTold place default line row v from
+told_unless stops place default line _ _ _ (in_time row v from is) = inr is
+told_unless stops place default line _ _ _ (late may r from none row v reads comes so_far is) = inl may
 
 -- ---- how many were not decided
 
@@ -108,11 +107,11 @@ no_fewer_undecided v from old new is = omega (arith, counted_undecided v from ol
 -- ---- replies
 
 -- What is told of a line is its reply.
-pub limited_reply : (prefix place : List ℕ) (default number : ℕ) (line row : List ℕ) (v : Option Verdict) (from : Option BoundSource)
+pub limited_reply : (stops : Type 0) (prefix place : List ℕ) (default number : ℕ) (line row : List ℕ) (v : Option Verdict) (from : Option BoundSource)
     (refusals : ℕ) → is_blank line ≡ false → place ≡ prefix ++ decimal number
-    → IsToldInTime place default line row v from → refusals ≡ refusals_of v → IsLimitedClaim prefix default number line row refusals
-limited_reply prefix place default number line row v from refusals filled at is count =
-    rw count (told row v from filled (subst (λ p. IsToldInTime p default line row v from) at is))
+    → IsToldInTime stops place default line row v from → refusals ≡ refusals_of v → IsLimitedClaim stops prefix default number line row refusals
+limited_reply stops prefix place default number line row v from refusals filled at is count =
+    rw count (told row v from filled (subst (λ p. IsToldInTime stops p default line row v from) at is))
 
 unless : (stops : Type 0) (A B : Type 0) → (A → B) → stops ⊎ A → stops ⊎ B
 unless stops A B f (inl may) = inl may
@@ -121,34 +120,36 @@ unless stops A B f (inr a) = inr (f a)
 -- What is told of it without a limit is its reply without one.
 pub unstopped_reply : (stops : Type 0) (prefix place : List ℕ) (default number : ℕ) (line row : List ℕ) (v : Option Verdict)
     (from : Option BoundSource) (refusals : ℕ) → is_blank line ≡ false → place ≡ prefix ++ decimal number
-    → stops ⊎ IsTold place default line row v from → refusals ≡ refusals_of v → stops ⊎ IsClaimReply prefix default number line row refusals
+    → IsToldInTime stops place default line row v from → refusals ≡ refusals_of v → stops ⊎ IsClaimReply prefix default number line row refusals
 unstopped_reply stops prefix place default number line row v from refusals filled at is count =
     unless stops (IsTold place default line row v from) (IsClaimReply prefix default number line row refusals)
-    (λ told. told_reply prefix place default number line row v from refusals filled at told count) is
+    (λ told. told_reply prefix place default number line row v from refusals filled at told count)
+    (told_unless stops place default line row v from is)
 
 -- So many records more were not decided.
-pub late_reply : (prefix place : List ℕ) (default number : ℕ) (line row : List ℕ) (v : Option Verdict) (from : Option BoundSource)
-    (old new : Counts) → is_blank line ≡ false → place ≡ prefix ++ decimal number → IsToldInTime place default line row v from
-    → new ≡ with_one v from old → IsLateClaim prefix default number line row (new.undecided - old.undecided)
-late_reply prefix place default number line row v from old new filled at is count =
+pub late_reply : (stops : Type 0) (prefix place : List ℕ) (default number : ℕ) (line row : List ℕ) (v : Option Verdict) (from : Option BoundSource)
+    (old new : Counts) → is_blank line ≡ false → place ≡ prefix ++ decimal number → IsToldInTime stops place default line row v from
+    → new ≡ with_one v from old → IsLateClaim stops prefix default number line row (new.undecided - old.undecided)
+late_reply stops prefix place default number line row v from old new filled at is count =
     let more : undecided_of v ≡ new.undecided - old.undecided = omega (arith, counted_undecided v from old new count) in
-    subst (IsLateClaim prefix default number line row) more
-    (marked row v from filled (subst (λ p. IsToldInTime p default line row v from) at is))
+    subst (IsLateClaim stops prefix default number line row) more
+    (marked row v from filled (subst (λ p. IsToldInTime stops p default line row v from) at is))
 
 -- A line that is too long is refused by that, whatever else is amiss.
-long_told : (place : List ℕ) (default : ℕ) (line row : List ℕ) → max_line < length line → row ≡ refused_row place (epd_fault_name fault.TooLong)
-    → IsToldInTime place default line row None None
-long_told place default line row long is =
+long_told : (stops : Type 0) (place : List ℕ) (default : ℕ) (line row : List ℕ) → max_line < length line
+    → row ≡ refused_row place (epd_fault_name fault.TooLong)
+    → IsToldInTime stops place default line row None None
+long_told stops place default line row long is =
     in_time row None None (rw is (no_record fault.TooLong (record { applies = long; first = none_before line })))
 
-pub long_limited : (prefix place : List ℕ) (default number : ℕ) (line row : List ℕ) → is_blank line ≡ false
+pub long_limited : (stops : Type 0) (prefix place : List ℕ) (default number : ℕ) (line row : List ℕ) → is_blank line ≡ false
     → max_line < length line → place ≡ prefix ++ decimal number
-    → row ≡ refused_row place (epd_fault_name fault.TooLong) → IsLimitedClaim prefix default number line row 1
-long_limited prefix place default number line row filled long at is =
-    limited_reply prefix place default number line row None None 1 filled at (long_told place default line row long is) refl
+    → row ≡ refused_row place (epd_fault_name fault.TooLong) → IsLimitedClaim stops prefix default number line row 1
+long_limited stops prefix place default number line row filled long at is =
+    limited_reply stops prefix place default number line row None None 1 filled at (long_told stops place default line row long is) refl
 
-pub long_unmarked : (prefix place : List ℕ) (default number : ℕ) (line row : List ℕ) → is_blank line ≡ false
+pub long_unmarked : (stops : Type 0) (prefix place : List ℕ) (default number : ℕ) (line row : List ℕ) → is_blank line ≡ false
     → max_line < length line → place ≡ prefix ++ decimal number
-    → row ≡ refused_row place (epd_fault_name fault.TooLong) → IsLateClaim prefix default number line row 0
-long_unmarked prefix place default number line row filled long at is =
-    marked row None None filled (subst (λ p. IsToldInTime p default line row None None) at (long_told place default line row long is))
+    → row ≡ refused_row place (epd_fault_name fault.TooLong) → IsLateClaim stops prefix default number line row 0
+long_unmarked stops prefix place default number line row filled long at is =
+    marked row None None filled (subst (λ p. IsToldInTime stops p default line row None None) at (long_told stops place default line row long is))

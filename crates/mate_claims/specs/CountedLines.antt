@@ -18,8 +18,9 @@ abbrev pub comes_to : ℕ → LineVerdicts
 comes_to default line verdict source = (place : List ℕ) × (row : List ℕ) × IsTold place default line row verdict source
 
 -- the same, where each record may take so long
-abbrev pub comes_in_time_to : ℕ → LineVerdicts
-comes_in_time_to default line verdict source = (place : List ℕ) × (row : List ℕ) × IsToldInTime place default line row verdict source
+abbrev pub comes_in_time_to : Type 0 → ℕ → LineVerdicts
+comes_in_time_to stops default line verdict source =
+    (place : List ℕ) × (row : List ℕ) × IsToldInTime stops place default line row verdict source
 
 -- What is counted of lines, each without its CR: each but those that are blank, or longer than a record may be.
 pub data AreCounted (comes : LineVerdicts) : List (List ℕ) → Counts → Type 0 where

@@ -27,22 +27,22 @@ abbrev pub IsToldLate : List ℕ → RecordValue → BoundSource → Said → Li
 IsToldLate place r source said row verdict =
     (row ≡ row_of place r source said.word NoMate said.claims) × (verdict ≡ said.verdict)
 
--- What is told of a line that isn't blank: as without a limit; or of a record of which no more was known in time than that there is no mate
--- within so many moves of fewer than it asks for. Whichever outcome its claims are held against, they and what is amiss with them are the
--- same.
-pub data IsToldInTime (place : List ℕ) (default : ℕ) (line : List ℕ) : List ℕ → Option Verdict → Option BoundSource → Type 0 where
+-- What is told of a line that isn't blank: as without a limit; or, where the limit may stop a search at all, of a record of which no more was
+-- known in time than that there is no mate within so many moves of fewer than it asks for. Whichever outcome its claims are held against,
+-- they and what is amiss with them are the same.
+pub data IsToldInTime (stops : Type 0) (place : List ℕ) (default : ℕ) (line : List ℕ) : List ℕ → Option Verdict → Option BoundSource → Type 0 where
   in_time : (row : List ℕ) (verdict : Option Verdict) (source : Option BoundSource) → IsTold place default line row verdict source
-      → IsToldInTime place default line row verdict source
-  late : (r : RecordValue) (source : BoundSource) (none : ℕ) (row : List ℕ) (verdict : Option Verdict) → ReadsClaimed line default r
+      → IsToldInTime stops place default line row verdict source
+  late : stops → (r : RecordValue) (source : BoundSource) (none : ℕ) (row : List ℕ) (verdict : Option Verdict) → ReadsClaimed line default r
       → IsSource line r source → IsNoneSoFar r none → IsToldLate place r source (unjudged (said_of line r NoMate)) row verdict
-      → IsToldInTime place default line row verdict (Some source)
+      → IsToldInTime stops place default line row verdict (Some source)
 
 -- What one line is answered, its place the name's part and its number, and how many refusals that is: nothing where it is blank.
-pub data IsLimitedClaim (prefix : List ℕ) (default number : ℕ) (line : List ℕ) : List ℕ → ℕ → Type 0 where
-  skipped : is_blank line ≡ true → IsLimitedClaim prefix default number line [] 0
+pub data IsLimitedClaim (stops : Type 0) (prefix : List ℕ) (default number : ℕ) (line : List ℕ) : List ℕ → ℕ → Type 0 where
+  skipped : is_blank line ≡ true → IsLimitedClaim stops prefix default number line [] 0
   told : (row : List ℕ) (verdict : Option Verdict) (source : Option BoundSource) → is_blank line ≡ false
-      → IsToldInTime (prefix ++ decimal number) default line row verdict source
-      → IsLimitedClaim prefix default number line row (refusals_of verdict)
+      → IsToldInTime stops (prefix ++ decimal number) default line row verdict source
+      → IsLimitedClaim stops prefix default number line row (refusals_of verdict)
 
 -- one where the row says that the record was not decided
 abbrev pub undecided_of : Option Verdict → ℕ
@@ -50,8 +50,8 @@ undecided_of (Some Undecided) = 1
 undecided_of _ = 0
 
 -- What one line is answered, and how many of its rows say that it was not decided: one or none.
-pub data IsLateClaim (prefix : List ℕ) (default number : ℕ) (line : List ℕ) : List ℕ → ℕ → Type 0 where
-  unmarked : is_blank line ≡ true → IsLateClaim prefix default number line [] 0
+pub data IsLateClaim (stops : Type 0) (prefix : List ℕ) (default number : ℕ) (line : List ℕ) : List ℕ → ℕ → Type 0 where
+  unmarked : is_blank line ≡ true → IsLateClaim stops prefix default number line [] 0
   marked : (row : List ℕ) (verdict : Option Verdict) (source : Option BoundSource) → is_blank line ≡ false
-      → IsToldInTime (prefix ++ decimal number) default line row verdict source
-      → IsLateClaim prefix default number line row (undecided_of verdict)
+      → IsToldInTime stops (prefix ++ decimal number) default line row verdict source
+      → IsLateClaim stops prefix default number line row (undecided_of verdict)

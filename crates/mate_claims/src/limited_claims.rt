@@ -78,10 +78,8 @@ impl<T: TimeLimit, S: Solver<T>> LimitedClaims<'_, '_, T, S> {
         requires { S.ready self.now.limited.now.solver }
         ensures told { IfOk result (λ told. IsToldBy place.now «record».now source
             (said_by line.now words.now (words_in words.now) «record».now (truth (problem_of «record».now))) told.row.items told.verdict
-            ⊎ ((none : ℕ) × IsNoneSoFar «record».now none × IsToldLate place.now «record».now source
+            ⊎ (T.may_stop self.now.limited.now.limit.now × (none : ℕ) × IsNoneSoFar «record».now none × IsToldLate place.now «record».now source
             (unjudged (said_by line.now words.now (words_in words.now) «record».now NoMate)) told.row.items told.verdict)) }
-        ensures unstopped { IfOk result (λ told. T.may_stop self.now.limited.now.limit.now ⊎ IsToldBy place.now «record».now source
-            (said_by line.now words.now (words_in words.now) «record».now (truth (problem_of «record».now))) told.row.items told.verdict) }
         ensures source { IfOk result (λ told. told.source ≡ Some source) }
         ensures room { S.room memory.new ≡ S.room memory.old }
     {
@@ -110,9 +108,8 @@ impl<T: TimeLimit, S: Solver<T>> LimitedClaims<'_, '_, T, S> {
         memory: &mut S::Memory,
     ) -> Result<Told, NoMemory>
         requires { S.ready self.now.limited.now.solver }
-        ensures told { IfOk result (λ told. IsToldInTime place.now self.now.limited.now.default line.now told.row.items told.verdict told.source) }
-        ensures unstopped { IfOk result (λ told. T.may_stop self.now.limited.now.limit.now
-            ⊎ IsTold place.now self.now.limited.now.default line.now told.row.items told.verdict told.source) }
+        ensures told { IfOk result (λ told. IsToldInTime (T.may_stop self.now.limited.now.limit.now) place.now
+            self.now.limited.now.default line.now told.row.items told.verdict told.source) }
         ensures room { S.room memory.new ≡ S.room memory.old }
     {
         let limited = self.limited;
@@ -138,10 +135,8 @@ impl<T: TimeLimit, S: Solver<T>> LimitedClaims<'_, '_, T, S> {
         memory: &mut LimitedClaimMemory<S::Memory>,
     ) -> Result<Told, NoMemory>
         requires { S.ready self.now.limited.now.solver }
-        ensures told { IfOk result (λ told. IsToldInTime (self.now.prefix.now ++ decimal number) self.now.limited.now.default line.now
-            told.row.items told.verdict told.source) }
-        ensures unstopped { IfOk result (λ told. T.may_stop self.now.limited.now.limit.now
-            ⊎ IsTold (self.now.prefix.now ++ decimal number) self.now.limited.now.default line.now told.row.items told.verdict told.source) }
+        ensures told { IfOk result (λ told. IsToldInTime (T.may_stop self.now.limited.now.limit.now) (self.now.prefix.now ++ decimal number)
+            self.now.limited.now.default line.now told.row.items told.verdict told.source) }
         ensures counts { IfOk result (λ told. memory.new.counts ≡ with_one told.verdict told.source memory.old.counts) }
         ensures room { S.room memory.new.memory ≡ S.room memory.old.memory }
     {
@@ -165,14 +160,15 @@ impl<T: TimeLimit, S: Solver<T>> LineHandler for LimitedClaims<'_, '_, T, S> {
 
     ghost ready = { λ claims. S.ready claims.limited.now.solver };
 
-    ghost replies = { λ claims. IsLimitedClaim claims.prefix.now claims.limited.now.default };
+    ghost replies = { λ claims. IsLimitedClaim (T.may_stop claims.limited.now.limit.now) claims.prefix.now claims.limited.now.default };
 
-    ghost marks = { λ claims. IsLateClaim claims.prefix.now claims.limited.now.default };
+    ghost marks = { λ claims. IsLateClaim (T.may_stop claims.limited.now.limit.now) claims.prefix.now claims.limited.now.default };
 
     ghost tally = { λ memory. memory.counts.undecided };
 
     /// Where nothing is counted before, the counts are those of the lines.
-    ghost knows = { λ claims memory before. AreCounted (comes_in_time_to claims.limited.now.default) before memory.counts };
+    ghost knows = { λ claims memory before. AreCounted
+        (comes_in_time_to (T.may_stop claims.limited.now.limit.now) claims.limited.now.default) before memory.counts };
 
     /// Whatever stands before it, a line is answered as without a limit, unless the limit may stop a search at all.
     ghost follows = { λ claims _ number line text refusals. T.may_stop claims.limited.now.limit.now

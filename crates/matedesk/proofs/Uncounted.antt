@@ -2,6 +2,7 @@
 use Rattle.std.proofs.Common.{◌≡◌, ◌<◌, ◌-◌, Bool, true, false, ℕ, zero, suc, List, [], Option, Some, None, Result, Ok, Err, IfOk, IfErr}
 use Rattle.std.proofs.Common.{inl, refl, subst, arith}
 use Rattle.std.proofs.KnownBytes.{Appends-nil, Keeps-refl}
+use Rattle.std.specs.Bool.{⊤}
 use Rattle.byte_streams.specs.declared.stops.Stop.{Stop}
 use Rattle.byte_streams.specs.declared.stops.Stop.TheVariants as stop
 use Rattle.clap.specs.Words.{Text}
@@ -34,7 +35,7 @@ pub ends_uncounted_json : (holds : Text → Option (List ℕ)) (refuses : Text �
     → Ends holds refuses (Some (limited_json seconds bound memo from names)) 3 out out
 ends_uncounted_json holds refuses ends seconds bound memo from names out =
     ends (limited_json seconds bound memo from names) (Err stop.NoMemory) 3 out out refl tt
-    (stops_at_once holds refuses Answer (IsLimitedReply seconds bound) from names out out (Keeps-refl out))
+    (stops_at_once holds refuses Answer (IsLimitedReply ⊤ seconds bound) from names out out (Keeps-refl out))
 
 pub ends_unverified : (holds : Text → Option (List ℕ)) (refuses : Text → Type 0) → EndsByStatus holds refuses
     → (seconds bound memo : ℕ) (header : Bool) (from : ℕ) (names : List Text) (out : Option (List ℕ))
@@ -48,7 +49,7 @@ pub ends_unverified_json : (holds : Text → Option (List ℕ)) (refuses : Text 
     → Ends holds refuses (Some (verify_limited_json seconds bound memo from names)) 3 out out
 ends_unverified_json holds refuses ends seconds bound memo from names out =
     ends (verify_limited_json seconds bound memo from names) (Err stop.NoMemory) 3 out out refl tt
-    (stops_at_once holds refuses Row (IsLimitedClaim [] bound) from names out out (Keeps-refl out))
+    (stops_at_once holds refuses Row (IsLimitedClaim ⊤ [] bound) from names out out (Keeps-refl out))
 
 pub ends_unshared : (holds : Text → Option (List ℕ)) (refuses : Text → Type 0) → EndsByStatus holds refuses → SolvesNone
     → (workers bound memo from : ℕ) (names : List Text) (out : Option (List ℕ))

@@ -1,6 +1,6 @@
 //! The command `verify --json --limit`.
 
-ghost use Rattle.std.specs.Prelude.{◌≡◌, ◌-◌, IfErr, IfOk, Some, map};
+ghost use Rattle.std.specs.Prelude.{◌≡◌, ◌-◌, IfErr, IfOk, Some, map, ⊤};
 ghost use Rattle.command_words.specs.Asked.{verify_limited_json as verify_limited_json_asked};
 ghost use Rattle.plain_commands.specs.Command.{Ends};
 ghost use Rattle.file_answers.specs.Writing.{Gains};
@@ -34,10 +34,10 @@ fn verify_until_stopped<S: Source, O: Write, E: Write>(
     out: &mut O,
     err: &mut E,
 ) -> Result<bool, Stop>
-    ensures ok { IfOk result (λ unsound. Gains (VerifiesLimitedJson (S.holds source.now) asked.now.bound asked.now.files.from
+    ensures ok { IfOk result (λ unsound. Gains (VerifiesLimitedJson (S.holds source.now) ⊤ asked.now.bound asked.now.files.from
         (map (λ s. s.now) asked.now.files.names.now) unsound (memory.new.counts.undecided - memory.old.counts.undecided))
         (O.contents out.old) (O.contents out.new)) }
-    ensures err { IfErr result (λ stop. StopsVerifyingLimitedJson (S.holds source.now) (S.refuses source.now) asked.now.bound
+    ensures err { IfErr result (λ stop. StopsVerifyingLimitedJson (S.holds source.now) (S.refuses source.now) ⊤ asked.now.bound
         asked.now.files.from (map (λ s. s.now) asked.now.files.names.now) stop (O.contents out.old) (O.contents out.new)) }
 {
     let rays = Rays::new();

@@ -1,6 +1,6 @@
 //! The command `solve --limit`.
 
-ghost use Rattle.std.specs.Prelude.{◌≡◌, ◌-◌, IfErr, IfOk, Some, map};
+ghost use Rattle.std.specs.Prelude.{◌≡◌, ◌-◌, IfErr, IfOk, Some, map, ⊤};
 ghost use Rattle.command_words.specs.Asked.{limited as limited_asked};
 ghost use Rattle.plain_commands.specs.Command.{Ends};
 ghost use Rattle.file_solving.specs.Solved.{SolvesLimited, StopsLimited};
@@ -60,10 +60,10 @@ fn solve_until_stopped<R: Threads + Sync, S: Source, O: Write, E: Write>(
     out: &mut O,
     err: &mut E,
 ) -> Result<bool, Stop>
-    ensures ok { IfOk result (λ refused. Gains (SolvesLimited (S.holds source.now) asked.now.seconds asked.now.bound asked.now.files.from
+    ensures ok { IfOk result (λ refused. Gains (SolvesLimited (S.holds source.now) ⊤ asked.now.seconds asked.now.bound asked.now.files.from
         (map (λ s. s.now) asked.now.files.names.now) refused (memory.new.undecided - memory.old.undecided))
         (O.contents out.old) (O.contents out.new)) }
-    ensures err { IfErr result (λ stop. StopsLimited (S.holds source.now) (S.refuses source.now) asked.now.seconds asked.now.bound
+    ensures err { IfErr result (λ stop. StopsLimited (S.holds source.now) (S.refuses source.now) ⊤ asked.now.seconds asked.now.bound
         asked.now.files.from (map (λ s. s.now) asked.now.files.names.now) stop (O.contents out.old) (O.contents out.new)) }
 {
     let rays = Rays::new();

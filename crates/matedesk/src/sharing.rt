@@ -1,6 +1,6 @@
 //! The command `solve --workers`.
 
-ghost use Rattle.std.specs.Prelude.{◌≡◌, Some, map};
+ghost use Rattle.std.specs.Prelude.{◌≡◌, IfOk, Some, map};
 ghost use Rattle.command_words.specs.Asked.{solve_on as solve_on_asked};
 ghost use Rattle.plain_commands.specs.Command.{Ends};
 
@@ -22,7 +22,9 @@ pub(crate) fn thread_memory(
     alloc: Global,
     workers: Workers,
     size: MemoSize,
-) -> Result<ThreadMemory, Stop> {
+) -> Result<ThreadMemory, Stop>
+    ensures room { IfOk result (λ memory. memory.memo.room ≡ size) }
+{
     let entries = size.get() as usize;
     let memo = new_memo(alloc, entries)?;
     let others = match workers.get() {

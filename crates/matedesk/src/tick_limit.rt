@@ -1,5 +1,7 @@
 //! A limit of time, counted by a thread that parks, since no clock of the system is at hand.
 
+ghost use Rattle.std.specs.Prelude.{◌≡◌, ◌*◌};
+
 use mate_answers::TimeLimit;
 use mate_search::Halt;
 use std::sync::Wait;
@@ -25,7 +27,9 @@ pub(crate) struct TickLimit {
 
 impl TickLimit {
     /// That of so many seconds for each record.
-    pub(crate) fn new(seconds: u32) -> TickLimit {
+    pub(crate) fn new(seconds: u32) -> TickLimit
+        ensures { result.each ≡ seconds * 100 }
+    {
         TickLimit {
             each: u64::from(seconds) * TICKS_A_SECOND,
             ticks: AtomicU64::new(0),

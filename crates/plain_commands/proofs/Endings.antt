@@ -2,6 +2,7 @@
 use Rattle.std.proofs.Common.{◌≡◌, ◌≢◌, ◌⊎◌, ◌≤◌, Bool, true, false, ℕ, List, [], Option, None}
 use Rattle.std.proofs.Common.{Some, Result, Ok, Err, IfErr, IfOk, inl, inr, refl, sym, subst, arith}
 use Rattle.std.proofs.KnownBytes.{Appends-kept, Appends-nil}
+use Rattle.std.specs.Bool.{⊤}
 use Rattle.std.specs.Io.KnownBytes.{Keeps}
 use Rattle.clap.specs.Words.{Text}
 use Rattle.byte_streams.specs.declared.stops.Stop.{Stop}
@@ -48,7 +49,7 @@ stops_unread none late untold holds refuses (Some (solve_json_on workers bound m
 stops_unread none late untold holds refuses (Some (limited seconds bound memo from names)) old new kept =
     record { gained = []; shows = late holds seconds bound from names; appends = Appends-kept old old new [] (Appends-nil old) kept }
 stops_unread none late untold holds refuses (Some (limited_json seconds bound memo from names)) old new kept =
-    json_at_once holds refuses Answer (IsLimitedReply seconds bound) from names old new kept
+    json_at_once holds refuses Answer (IsLimitedReply ⊤ seconds bound) from names old new kept
 stops_unread none late untold holds refuses (Some (verify bound memo header from names)) old new kept =
     record { gained = []; shows = inl refl; appends = Appends-kept old old new [] (Appends-nil old) kept }
 stops_unread none late untold holds refuses (Some (verify_on workers bound memo header from names)) old new kept =
@@ -60,7 +61,7 @@ stops_unread none late untold holds refuses (Some (verify_imported bound memo he
 stops_unread none late untold holds refuses (Some (verify_limited seconds bound memo header from names)) old new kept =
     record { gained = []; shows = inl refl; appends = Appends-kept old old new [] (Appends-nil old) kept }
 stops_unread none late untold holds refuses (Some (verify_limited_json seconds bound memo from names)) old new kept =
-    json_at_once holds refuses Row (IsLimitedClaim [] bound) from names old new kept
+    json_at_once holds refuses Row (IsLimitedClaim ⊤ [] bound) from names old new kept
 stops_unread none late untold holds refuses (Some (tree bound form letters from names)) old new kept =
     record { gained = []; shows = untold holds bound (tree_form_of form letters) from names; appends = Appends-kept old old new [] (Appends-nil old) kept }
 stops_unread none late untold holds refuses (Some (tree_on workers bound form letters from names)) old new kept =

@@ -48,14 +48,14 @@ Shows holds (solve bound memo from names) refused text = Solves holds bound from
 Shows holds (solve_json bound memo from names) refused text = SolvesJson holds bound from names refused text
 Shows holds (solve_on workers bound memo from names) refused text = Solves holds bound from names refused text
 Shows holds (solve_json_on workers bound memo from names) refused text = SolvesJson holds bound from names refused text
-Shows holds (limited seconds bound memo from names) refused text = SolvesLimited holds seconds bound from names refused 0 text
-Shows holds (limited_json seconds bound memo from names) refused text = SolvesLimitedJson holds seconds bound from names refused 0 text
+Shows holds (limited seconds bound memo from names) refused text = SolvesLimited holds ⊤ seconds bound from names refused 0 text
+Shows holds (limited_json seconds bound memo from names) refused text = SolvesLimitedJson holds ⊤ seconds bound from names refused 0 text
 Shows holds (verify bound memo header from names) refused text = VerifiesHeaded holds bound header from names refused text
 Shows holds (verify_on workers bound memo header from names) refused text = VerifiesHeaded holds bound header from names refused text
 Shows holds (verify_json bound memo from names) refused text = VerifiesJson holds bound from names refused text
 Shows holds (verify_imported bound memo header from names) refused text = VerifiesImported holds bound header from names refused text
-Shows holds (verify_limited seconds bound memo header from names) refused text = LimitedHeaded holds bound header from names refused 0 text
-Shows holds (verify_limited_json seconds bound memo from names) refused text = VerifiesLimitedJson holds bound from names refused 0 text
+Shows holds (verify_limited seconds bound memo header from names) refused text = LimitedHeaded holds ⊤ bound header from names refused 0 text
+Shows holds (verify_limited_json seconds bound memo from names) refused text = VerifiesLimitedJson holds ⊤ bound from names refused 0 text
 Shows holds (tree bound form letters from names) refused text = Tells holds bound (tree_form_of form letters) from names refused text
 Shows holds (tree_on workers bound form letters from names) refused text =
     Tells holds bound (tree_form_of form letters) from names refused text
@@ -75,13 +75,13 @@ Shown holds asks refused old new = Gains (Shows holds asks refused) old new
 -- The output gained what `solve --limit` or `verify --limit` shows where some records were not decided, and whether or not a line is refused.
 abbrev pub ShownInPart : (Text → Option (List ℕ)) → Asked → (old new : Option (List ℕ)) → Type 0
 ShownInPart holds (limited seconds bound memo from names) old new =
-    (refused : Bool) × (undecided : ℕ) × (0 < undecided) × Gains (SolvesLimited holds seconds bound from names refused undecided) old new
+    (refused : Bool) × (undecided : ℕ) × (0 < undecided) × Gains (SolvesLimited holds ⊤ seconds bound from names refused undecided) old new
 ShownInPart holds (limited_json seconds bound memo from names) old new =
-    (refused : Bool) × (undecided : ℕ) × (0 < undecided) × Gains (SolvesLimitedJson holds seconds bound from names refused undecided) old new
+    (refused : Bool) × (undecided : ℕ) × (0 < undecided) × Gains (SolvesLimitedJson holds ⊤ seconds bound from names refused undecided) old new
 ShownInPart holds (verify_limited seconds bound memo header from names) old new =
-    (unsound : Bool) × (undecided : ℕ) × (0 < undecided) × Gains (LimitedHeaded holds bound header from names unsound undecided) old new
+    (unsound : Bool) × (undecided : ℕ) × (0 < undecided) × Gains (LimitedHeaded holds ⊤ bound header from names unsound undecided) old new
 ShownInPart holds (verify_limited_json seconds bound memo from names) old new =
-    (unsound : Bool) × (undecided : ℕ) × (0 < undecided) × Gains (VerifiesLimitedJson holds bound from names unsound undecided) old new
+    (unsound : Bool) × (undecided : ℕ) × (0 < undecided) × Gains (VerifiesLimitedJson holds ⊤ bound from names unsound undecided) old new
 ShownInPart holds asks old new = ⊥
 
 -- What the output gained where `serve` stops: nothing where a file can't be opened, which may be refused; else the same as where `solve` of
@@ -97,16 +97,16 @@ Stops holds refuses (solve bound memo from names) stop old new = StopsSolving ho
 Stops holds refuses (solve_json bound memo from names) stop old new = StopsSolvingJson holds refuses bound from names stop old new
 Stops holds refuses (solve_on workers bound memo from names) stop old new = StopsSolving holds refuses bound from names stop old new
 Stops holds refuses (solve_json_on workers bound memo from names) stop old new = StopsSolvingJson holds refuses bound from names stop old new
-Stops holds refuses (limited seconds bound memo from names) stop old new = StopsLimited holds refuses seconds bound from names stop old new
-Stops holds refuses (limited_json seconds bound memo from names) stop old new = StopsLimitedJson holds refuses seconds bound from names stop old new
+Stops holds refuses (limited seconds bound memo from names) stop old new = StopsLimited holds refuses ⊤ seconds bound from names stop old new
+Stops holds refuses (limited_json seconds bound memo from names) stop old new = StopsLimitedJson holds refuses ⊤ seconds bound from names stop old new
 Stops holds refuses (verify bound memo header from names) stop old new = StopsHeaded holds refuses bound header from names stop old new
 Stops holds refuses (verify_on workers bound memo header from names) stop old new = StopsHeaded holds refuses bound header from names stop old new
 Stops holds refuses (verify_json bound memo from names) stop old new = StopsVerifyingJson holds refuses bound from names stop old new
 Stops holds refuses (verify_imported bound memo header from names) stop old new = StopsVerifyingImported holds refuses bound header from names stop old new
 Stops holds refuses (verify_limited seconds bound memo header from names) stop old new =
-    StopsLimitedHeaded holds refuses bound header from names stop old new
+    StopsLimitedHeaded holds refuses ⊤ bound header from names stop old new
 Stops holds refuses (verify_limited_json seconds bound memo from names) stop old new =
-    StopsVerifyingLimitedJson holds refuses bound from names stop old new
+    StopsVerifyingLimitedJson holds refuses ⊤ bound from names stop old new
 Stops holds refuses (tree bound form letters from names) stop old new =
     StopsTelling holds refuses bound (tree_form_of form letters) from names stop old new
 Stops holds refuses (tree_on workers bound form letters from names) stop old new =

@@ -73,6 +73,7 @@ impl Submitter {
         requires awaited { 0 < length self.old.pending_replies.items }
         requires known { 0 < length (deliveries_known self.old.window) }
         ensures window { SameWindow self.old.window self.new.window }
+        ensures took { OnOk result (length self.new.pending_replies.items + 1 ≡ length self.old.pending_replies.items) }
         ensures collects { OnOk result (Collects self.old self.new) }
     {
         let Delivery::Answer(answer) = self.window.first_known() else {
@@ -94,6 +95,7 @@ impl Submitter {
         ensures awaited { result ≡ true → 0 < length self.new.pending_replies.items }
         ensures known { result ≡ true → 0 < length (deliveries_known self.new.window) }
         ensures none { result ≡ false → (self.old.pending_replies.items ≡ []) ⊎ (deliveries_known self.new.window ≡ []) }
+        ensures same { self.new.pending_replies ≡ self.old.pending_replies }
         ensures collects { Collects self.old self.new }
     {
         if self.pending_replies.is_empty() {
@@ -106,6 +108,10 @@ impl Submitter {
     /// Takes the next answer, where one is awaited and has come. It answers whether it did.
     fn collect(&mut self, alloc: Global, rays: &Rays) -> Result<bool, StopReason>
         ensures window { SameWindow self.old.window self.new.window }
+        ensures took { IfOk result (λ took. took ≡ true
+            → length self.new.pending_replies.items + 1 ≡ length self.old.pending_replies.items) }
+        ensures none { IfOk result (λ took. took ≡ false
+            → (self.old.pending_replies.items ≡ []) ⊎ (deliveries_known self.new.window ≡ [])) }
         ensures collects { OnOk result (Collects self.old self.new) }
     {
         if !self.has_answer() {

@@ -1,4 +1,5 @@
 use Rattle.std.proofs.Common.{map}
+use Rattle.std.specs.Bool.{⊤}
 use Rattle.command_words.specs.Asked.{verify_limited}
 use Rattle.file_verifying.specs.Verified.{LimitedHeaded}
 use Rattle.matedesk.proofs.Uncounted.{ends_in_time, ends_unverified}
@@ -10,7 +11,7 @@ returns-in-Ok g c =
     let names = map (λ s. s.now) asked.files.names.now in
     ends_in_time (g.S.Source.holds c.args.source.now) (g.S.Source.refuses c.args.source.now) c.ends_by_status.ensures c.ends_in_part.ensures
     (verify_limited asked.seconds asked.bound asked.memo asked.header asked.files.from names)
-    (λ unsound n. LimitedHeaded (g.S.Source.holds c.args.source.now) asked.bound asked.header asked.files.from names unsound n) (g.O.Write.contents c.args.out.now)
+    (λ unsound n. LimitedHeaded (g.S.Source.holds c.args.source.now) ⊤ asked.bound asked.header asked.files.from names unsound n) (g.O.Write.contents c.args.out.now)
     (g.O.Write.contents c.verify_until_stopped-ended.new.out) (λ refused gains. gains)
     (λ refused n some gains. (refused, n, some, gains)) c.verify_until_stopped-ended.result c.args.memory.now.counts.undecided
     c.verify_until_stopped-ended.new.memory.counts.undecided c.status_in_time.result c.requires.none

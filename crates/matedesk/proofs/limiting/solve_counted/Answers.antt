@@ -1,4 +1,5 @@
 use Rattle.std.proofs.Common.{map}
+use Rattle.std.specs.Bool.{⊤}
 use Rattle.command_words.specs.Asked.{limited}
 use Rattle.file_solving.specs.Solved.{SolvesLimited}
 use Rattle.matedesk.proofs.Uncounted.{ends_in_time, ends_uncounted}
@@ -10,7 +11,7 @@ returns-in-Ok g c =
     let names = map (λ s. s.now) asked.files.names.now in
     ends_in_time (g.S.Source.holds c.args.source.now) (g.S.Source.refuses c.args.source.now) c.ends_by_status.ensures c.ends_in_part.ensures
     (limited asked.seconds asked.bound asked.memo asked.files.from names)
-    (λ refused n. SolvesLimited (g.S.Source.holds c.args.source.now) asked.seconds asked.bound asked.files.from names refused n) (g.O.Write.contents c.args.out.now)
+    (λ refused n. SolvesLimited (g.S.Source.holds c.args.source.now) ⊤ asked.seconds asked.bound asked.files.from names refused n) (g.O.Write.contents c.args.out.now)
     (g.O.Write.contents c.solve_until_stopped-ended.new.out) (λ refused gains. gains)
     (λ refused n some gains. (refused, n, some, gains)) c.solve_until_stopped-ended.result c.args.memory.now.undecided
     c.solve_until_stopped-ended.new.memory.undecided c.status_in_time.result c.requires.none

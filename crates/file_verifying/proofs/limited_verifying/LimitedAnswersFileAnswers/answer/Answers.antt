@@ -9,9 +9,10 @@ pub returns-in_err-prefix-clause-err : goal.returns-in_err-prefix-clause-err
 returns-in_err-prefix-clause-err g c =
     let (other, is, same) = err_from_is_err_and c.from_residual.result c.from_residual.ensures.1 in
     let bound = c.args.self.now.limited.now.default in
-    rw (is) (not_opened fault.NoMemory other (first_limited_claim_replies c.args.self.now.several bound c.args.start.now.from
+    let stops = g.T.Halt.may_stop c.args.self.now.limited.now.limit.now in
+    rw (is) (not_opened fault.NoMemory other (first_limited_claim_replies stops c.args.self.now.several bound c.args.start.now.from
     c.args.start.now.name.now) (g.I.Input.left c.args.input) (g.O.Write.contents c.args.out.now)
-    (no_limited_reply c.args.self.now.several bound c.args.start.now.from c.args.start.now.name.now) same)
+    (no_limited_reply stops c.args.self.now.several bound c.args.start.now.from c.args.start.now.name.now) same)
 
 pub returns-clause-ok : goal.returns-clause-ok
 returns-clause-ok g c =

@@ -12,6 +12,7 @@ pub returns-in_err-front-clause-err : goal.returns-in_err-front-clause-err
 returns-in_err-front-clause-err g c =
     let (other, is, same) = err_from_is_err_and c.from_residual.result c.from_residual.ensures.1 in
     let bound = c.args.self.now.limited.now.default in
-    rw (is) (not_opened fault.NoMemory other (first_file_replies Row c.args.self.now.several (IsLimitedClaim [] bound)
+    let stops = g.T.Halt.may_stop c.args.self.now.limited.now.limit.now in
+    rw (is) (not_opened fault.NoMemory other (first_file_replies Row c.args.self.now.several (IsLimitedClaim stops [] bound)
     c.args.start.now.from c.args.start.now.name.now) (g.I.Input.left c.args.input) (g.O.Write.contents c.args.out.now)
-    (no_file_reply Row c.args.self.now.several (IsLimitedClaim [] bound) c.args.start.now.from c.args.start.now.name.now) same)
+    (no_file_reply Row c.args.self.now.several (IsLimitedClaim stops [] bound) c.args.start.now.from c.args.start.now.name.now) same)

@@ -9,7 +9,8 @@ use Rattle.mate_answers.proofs.limited_replies.LimitedLineHandler.answer.Goals a
 pub returns-in-Err-clause-reply : goal.returns-in-Err-clause-reply
 returns-in-Err-clause-reply g c =
     IfOk-weaker c.refusal.result (λ output. IsLineReply c.args.self.now.default c.args.number c.args.line.now output.text.items output.refused)
-    (λ output. IsLimitedReply c.args.self.now.seconds c.args.self.now.default c.args.number c.args.line.now output.text.items output.refused)
+    (λ output. IsLimitedReply (g.T.Halt.may_stop c.args.self.now.limit.now)
+    c.args.self.now.seconds c.args.self.now.default c.args.number c.args.line.now output.text.items output.refused)
     (λ output told. decided output.text.items output.refused told)
     (reply_refused c.args.self.now.default c.args.number c.args.line.now c.in-Err.fault (λ output. output.text.items)
     (λ output. output.refused) c.refusal.result
@@ -18,7 +19,8 @@ returns-in-Err-clause-reply g c =
 pub returns-in-Err-clause-marked : goal.returns-in-Err-clause-marked
 returns-in-Err-clause-marked g c =
     IfOk-weaker c.refusal.result (λ output. IsLineReply c.args.self.now.default c.args.number c.args.line.now output.text.items output.refused)
-    _ (λ output told. none_more (IsLateReply c.args.self.now.seconds c.args.self.now.default c.args.number c.args.line.now output.text.items)
+    _ (λ output told. none_more (IsLateReply (g.T.Halt.may_stop c.args.self.now.limit.now)
+    c.args.self.now.seconds c.args.self.now.default c.args.number c.args.line.now output.text.items)
     c.args.memory.now.undecided (in_time output.text.items output.refused told))
     (reply_refused c.args.self.now.default c.args.number c.args.line.now c.in-Err.fault (λ output. output.text.items)
     (λ output. output.refused) c.refusal.result
@@ -31,7 +33,8 @@ returns-then-said-clause-reply g c =
 
 pub returns-then-said-clause-marked : goal.returns-then-said-clause-marked
 returns-then-said-clause-marked g c =
-    none_more (IsLateReply c.args.self.now.seconds c.args.self.now.default c.args.number c.args.line.now c.in_ok-said-in-Ok.said.text.items)
+    none_more (IsLateReply (g.T.Halt.may_stop c.args.self.now.limit.now)
+    c.args.self.now.seconds c.args.self.now.default c.args.number c.args.line.now c.in_ok-said-in-Ok.said.text.items)
     c.args.memory.now.undecided
     (rw (c.in_ok-said-in-Ok.ensures.decided c.if-said.true)
     (in_time (answer_line c.in-Ok.record) 0 (answered c.in-Ok.record c.requires.filled c.in-Ok.ensures.reads)))
@@ -39,14 +42,15 @@ returns-then-said-clause-marked g c =
 pub returns-in-Some-clause-reply : goal.returns-in-Some-clause-reply
 returns-in-Some-clause-reply g c =
     let (none, so_far, is) = c.in_ok-said-in-Ok.ensures.undecided c.if-said.false in
-    rw is (undecided c.in-Ok.record none c.requires.filled c.in-Ok.ensures.reads so_far)
+    rw is (undecided (c.in_ok-said-in-Ok.ensures.stopped c.if-said.false) c.in-Ok.record none c.requires.filled c.in-Ok.ensures.reads so_far)
 
 pub returns-in-Some-clause-marked : goal.returns-in-Some-clause-marked
 returns-in-Some-clause-marked g c =
     let (none, so_far, is) = c.in_ok-said-in-Ok.ensures.undecided c.if-said.false in
-    one_more (IsLateReply c.args.self.now.seconds c.args.self.now.default c.args.number c.args.line.now c.in_ok-said-in-Ok.said.text.items)
+    one_more (IsLateReply (g.T.Halt.may_stop c.args.self.now.limit.now)
+    c.args.self.now.seconds c.args.self.now.default c.args.number c.args.line.now c.in_ok-said-in-Ok.said.text.items)
     c.args.memory.now.undecided c.in-Some.more c.in-Some.ensures.1
-    (rw is (late c.in-Ok.record none c.requires.filled c.in-Ok.ensures.reads so_far))
+    (rw is (late (c.in_ok-said-in-Ok.ensures.stopped c.if-said.false) c.in-Ok.record none c.requires.filled c.in-Ok.ensures.reads so_far))
 
 pub returns-in-Err-clause-grows : goal.returns-in-Err-clause-grows
 returns-in-Err-clause-grows g c = IfOk-weaker c.refusal.result _ _ (λ output one. omega arith) c.refusal.ensures.one

@@ -13,7 +13,8 @@ returns-clause-reply g c =
     (λ output. (line : List ℕ) → is_blank line ≡ false → max_line < length line
     → IsLineReply c.args.self.now.default c.args.number line output.text.items output.refused)
     (λ output. (line : List ℕ) → is_blank line ≡ false → max_line < length line
-    → IsLimitedReply c.args.self.now.seconds c.args.self.now.default c.args.number line output.text.items output.refused)
+    → IsLimitedReply (g.T.Halt.may_stop c.args.self.now.limit.now)
+    c.args.self.now.seconds c.args.self.now.default c.args.number line output.text.items output.refused)
     (λ output told line some long. decided output.text.items output.refused (told line some long))
     (long_refused c.args.self.now.default c.args.number (λ output. output.text.items)
     (λ output. output.refused) c.refusal.result c.refusal.ensures.text c.refusal.ensures.one)
@@ -24,7 +25,8 @@ returns-clause-marked g c =
     (λ output. (line : List ℕ) → is_blank line ≡ false → max_line < length line
     → IsLineReply c.args.self.now.default c.args.number line output.text.items output.refused)
     (λ output. (line : List ℕ) → is_blank line ≡ false → max_line < length line
-    → IsLateReply c.args.self.now.seconds c.args.self.now.default c.args.number line output.text.items 0)
+    → IsLateReply (g.T.Halt.may_stop c.args.self.now.limit.now)
+    c.args.self.now.seconds c.args.self.now.default c.args.number line output.text.items 0)
     (λ output told line some long. in_time output.text.items output.refused (told line some long))
     (long_refused c.args.self.now.default c.args.number (λ output. output.text.items)
     (λ output. output.refused) c.refusal.result c.refusal.ensures.text c.refusal.ensures.one)

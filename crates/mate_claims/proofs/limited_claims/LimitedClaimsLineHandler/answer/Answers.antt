@@ -6,13 +6,15 @@ use Rattle.mate_claims.proofs.limited_claims.LimitedClaimsLineHandler.answer.Goa
 
 pub returns-clause-reply : goal.returns-clause-reply
 returns-clause-reply g c =
-    limited_reply c.args.self.now.prefix.now (c.args.self.now.prefix.now ++ decimal c.args.number) c.args.self.now.limited.now.default c.args.number
+    limited_reply (g.T.Halt.may_stop c.args.self.now.limited.now.limit.now)
+    c.args.self.now.prefix.now (c.args.self.now.prefix.now ++ decimal c.args.number) c.args.self.now.limited.now.default c.args.number
     c.args.line.now c.in_ok-told.told.row.items c.in_ok-told.told.verdict c.in_ok-told.told.source
     c.refusals.result c.requires.filled refl c.in_ok-told.ensures.told c.refusals.ensures.count
 
 pub returns-clause-marked : goal.returns-clause-marked
 returns-clause-marked g c =
-    late_reply c.args.self.now.prefix.now (c.args.self.now.prefix.now ++ decimal c.args.number) c.args.self.now.limited.now.default c.args.number
+    late_reply (g.T.Halt.may_stop c.args.self.now.limited.now.limit.now)
+    c.args.self.now.prefix.now (c.args.self.now.prefix.now ++ decimal c.args.number) c.args.self.now.limited.now.default c.args.number
     c.args.line.now c.in_ok-told.told.row.items c.in_ok-told.told.verdict c.in_ok-told.told.source
     c.args.memory.now.counts c.tell.new.memory.counts c.requires.filled refl c.in_ok-told.ensures.told c.in_ok-told.ensures.counts
 
@@ -26,8 +28,9 @@ returns-clause-behind g c = λ before number known. (
   unstopped_reply (g.T.Halt.may_stop c.args.self.now.limited.now.limit.now) c.args.self.now.prefix.now
       (c.args.self.now.prefix.now ++ decimal c.args.number) c.args.self.now.limited.now.default c.args.number
       c.args.line.now c.in_ok-told.told.row.items c.in_ok-told.told.verdict c.in_ok-told.told.source
-      c.refusals.result c.requires.filled refl c.in_ok-told.ensures.unstopped c.refusals.ensures.count,
-  one_counted (comes_in_time_to c.args.self.now.limited.now.default) before c.args.line.now c.in_ok-told.told.verdict c.in_ok-told.told.source
+      c.refusals.result c.requires.filled refl c.in_ok-told.ensures.told c.refusals.ensures.count,
+  one_counted (comes_in_time_to (g.T.Halt.may_stop c.args.self.now.limited.now.limit.now)
+      c.args.self.now.limited.now.default) before c.args.line.now c.in_ok-told.told.verdict c.in_ok-told.told.source
       c.args.memory.now.counts c.tell.new.memory.counts c.requires.filled c.requires.short
       (c.args.self.now.prefix.now ++ decimal c.args.number, c.in_ok-told.told.row.items, c.in_ok-told.ensures.told)
       c.in_ok-told.ensures.counts known,

@@ -6,13 +6,15 @@ use Rattle.mate_claims.proofs.limited_claims.LimitedClaimsLineHandler.refuse_lon
 
 pub returns-clause-reply : goal.returns-clause-reply
 returns-clause-reply g c = λ line filled long.
-    long_limited c.args.self.now.prefix.now c.as_slice.result.now c.args.self.now.limited.now.default c.args.number line
+    long_limited (g.T.Halt.may_stop c.args.self.now.limited.now.limit.now)
+    c.args.self.now.prefix.now c.as_slice.result.now c.args.self.now.limited.now.default c.args.number line
     c.in_ok-refused_row.field-0.items filled long
     (c.as_slice.ensures.value ∙ c.in_ok-place.ensures) (c.in_ok-refused_row.ensures ∙ ap (refused_row c.as_slice.result.now) c.code.ensures)
 
 pub returns-clause-marked : goal.returns-clause-marked
 returns-clause-marked g c = λ line filled long.
-    long_unmarked c.args.self.now.prefix.now c.as_slice.result.now c.args.self.now.limited.now.default c.args.number line
+    long_unmarked (g.T.Halt.may_stop c.args.self.now.limited.now.limit.now)
+    c.args.self.now.prefix.now c.as_slice.result.now c.args.self.now.limited.now.default c.args.number line
     c.in_ok-refused_row.field-0.items filled long
     (c.as_slice.ensures.value ∙ c.in_ok-place.ensures) (c.in_ok-refused_row.ensures ∙ ap (refused_row c.as_slice.result.now) c.code.ensures)
 
