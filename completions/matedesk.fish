@@ -24,7 +24,7 @@ complete -c matedesk -n '__fish_seen_subcommand_from solve verify tree serve' -l
 complete -c matedesk -n '__fish_seen_subcommand_from solve verify tree sheet serve' -l bound -x -a '(seq 1 15)' -d 'Moves of a record without dm'
 complete -c matedesk -n '__fish_seen_subcommand_from solve verify sheet serve' -l memo -x -d 'Positions that are remembered'
 complete -c matedesk -n '__fish_seen_subcommand_from solve verify sheet serve' -l memory -r -d 'Memory for all that is remembered'
-complete -c matedesk -n '__fish_seen_subcommand_from solve verify' -l limit -x -d 'Seconds that a record may take'
+complete -c matedesk -n '__fish_seen_subcommand_from solve verify tree' -l limit -x -d 'Seconds that a record may take'
 complete -c matedesk -n '__fish_seen_subcommand_from solve verify tree' -l from -x -d 'Line of the first file to begin with'
 complete -c matedesk -n '__fish_seen_subcommand_from solve verify tree serve' -l progress -d 'Tell how far it is'
 complete -c matedesk -n '__fish_seen_subcommand_from solve verify tree' -l record -d 'Records themselves in place of files'

@@ -68,6 +68,7 @@ _matedesk() {
                 '--figurines[show pieces as figurines]' \
                 '--letters=[letters of men]:letters:(cs da de en es et fi fr hu is it nl no pl pt ro ru sv)' \
                 '--lines=[lines that a tree has at most]:lines: ' \
+                '--limit=[seconds that a record may take]:seconds: ' \
                 '--workers=[threads that take records side by side]:threads:(1 2 3 4 5 6 7 8 9 10 11 12 13 14 15 16)' \
                 '--json[print JSON]' \
                 '--from=[line of the first file to begin with]:line: ' \

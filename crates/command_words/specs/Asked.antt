@@ -51,6 +51,7 @@ pub data Asked : Type 0 where
   verify_limited_json : ℕ → ℕ → ℕ → ℕ → List Text → Asked
   tree : ℕ → TreeForm → Text → ℕ → List Text → Asked
   tree_on : ℕ → ℕ → TreeForm → Text → ℕ → List Text → Asked
+  tree_limited : ℕ → ℕ → TreeForm → Text → ℕ → List Text → Asked
   tree_json : ℕ → TreeForm → Text → ℕ → List Text → Asked
   sheet : ℕ → ℕ → SheetForm → Text → Text → List Text → Asked
   imports : Bool → Option ℕ → Text → List Text → Asked
@@ -262,18 +263,22 @@ tree_form_in rows = record {
   lines = some_number (option_map_or number_or_zero (one_of (codes "N") rows) 0);
 }
 
--- what `tree` asks for, as text by so many workers, or by one, or in JSON by one, with what gives the letters of men
-abbrev pub tree_at : Bool → ℕ → ℕ → TreeForm → Text → ℕ → List Text → Option Asked
-tree_at false workers bound form letters from names =
+-- what `tree` asks for, with what gives the letters of men: as text by so many workers, or by one, or by one with so many seconds at most to
+-- look for the mate of each record; or in JSON by one, which has no limit
+abbrev pub tree_at : Bool → Option ℕ → ℕ → ℕ → TreeForm → Text → ℕ → List Text → Option Asked
+tree_at false None workers bound form letters from names =
     Some (if workers == 1 then tree bound form letters from names else tree_on workers bound form letters from names)
-tree_at true workers bound form letters from names = if workers == 1 then Some (tree_json bound form letters from names) else None
+tree_at false (Some seconds) workers bound form letters from names =
+    if workers == 1 then Some (tree_limited seconds bound form letters from names) else None
+tree_at true None workers bound form letters from names = if workers == 1 then Some (tree_json bound form letters from names) else None
+tree_at true (Some seconds) workers bound form letters from names = None
 
 -- what the arguments of `tree` ask for
 unfoldable pub tree_in : List Row → Option Asked
 tree_in rows =
     option_and_then (λ workers. option_and_then (λ bound. option_and_then (λ from. option_and_then (λ letters. option_and_then
-    (λ names. tree_at (is_given (codes "json") rows) workers bound (tree_form_in rows) letters from names) (all_of (codes "FILE") rows))
-    (first_of (codes "L") rows)) (from_in rows)) (bound_in rows)) (tree_workers_in rows)
+    (λ names. tree_at (is_given (codes "json") rows) (limit_in rows) workers bound (tree_form_in rows) letters from names)
+    (all_of (codes "FILE") rows)) (first_of (codes "L") rows)) (from_in rows)) (bound_in rows)) (tree_workers_in rows)
 
 -- what a page has beside its diagrams
 unfoldable pub sheet_form_in : List Row → SheetForm
@@ -347,6 +352,7 @@ is_threaded (verify_on workers bound memo header from names) = true
 is_threaded (verify_limited seconds bound memo header from names) = true
 is_threaded (verify_limited_json seconds bound memo from names) = true
 is_threaded (tree_on workers bound form letters from names) = true
+is_threaded (tree_limited seconds bound form letters from names) = true
 is_threaded uci = true
 is_threaded _ = false
 

@@ -151,7 +151,8 @@ with_tree_options a =
 
 unfoldable pub tree_app : App
 tree_app =
-    with_lines_of_files (with_rule (with_rule (with_tree_options (new_app (codes "tree"))) tree_workers_rule) (flag_rule (codes "json")))
+    with_lines_of_files
+    (with_rule (with_rule (with_rule (with_tree_options (new_app (codes "tree"))) limit_rule) tree_workers_rule) (flag_rule (codes "json")))
 
 -- with what a page may have beside its diagrams
 unfoldable pub with_sheet_flags : App → App

@@ -2,12 +2,12 @@
 use Rattle.std.specs.Prelude.{[], map, option_map, unwrap_or}
 use Rattle.command_words.specs.Asked.{Asked, look, board, svg, play, moves, moves_json, perft, divide, lines, solve, solve_json, solve_on, solve_json_on}
 use Rattle.command_words.specs.Asked.{limited, limited_json, verify, verify_on, verify_limited, verify_limited_json, verify_json, verify_imported, tree}
-use Rattle.command_words.specs.Asked.{tree_on, tree_json, sheet, imports, serve, replay, explain, uci}
+use Rattle.command_words.specs.Asked.{tree_on, tree_limited, tree_json, sheet, imports, serve, replay, explain, uci}
 use Rattle.command_words.specs.declared.request.Request.{Request}
 use Rattle.command_words.specs.declared.request.Request.TheVariants.{Look, Board, Svg, Play, Moves, MovesJson, Perft, Divide, Lines}
 use Rattle.command_words.specs.declared.request.Request.TheVariants.{Solve, SolveJson, SolveOn, SolveJsonOn, Limited, LimitedJson, Verify, VerifyOn}
-use Rattle.command_words.specs.declared.request.Request.TheVariants.{VerifyLimited, VerifyLimitedJson, VerifyJson, VerifyImported, Tree, TreeOn, TreeJson}
-use Rattle.command_words.specs.declared.request.Request.TheVariants.{Sheet, Import, Serve, Replay, Explain, Uci}
+use Rattle.command_words.specs.declared.request.Request.TheVariants.{VerifyLimited, VerifyLimitedJson, VerifyJson, VerifyImported, Tree, TreeOn, TreeLimited}
+use Rattle.command_words.specs.declared.request.Request.TheVariants.{TreeJson, Sheet, Import, Serve, Replay, Explain, Uci}
 
 abbrev pub plan_of : Request → Asked
 plan_of (Look fen) = look fen.now
@@ -35,6 +35,8 @@ plan_of (VerifyLimitedJson asked) =
     verify_limited_json asked.seconds asked.bound asked.memo asked.files.from (map (λ s. s.now) asked.files.names.now)
 plan_of (Tree bound form letters files) = tree bound form letters.now files.from (map (λ s. s.now) files.names.now)
 plan_of (TreeOn workers bound form letters files) = tree_on workers bound form letters.now files.from (map (λ s. s.now) files.names.now)
+plan_of (TreeLimited asked) =
+    tree_limited asked.seconds asked.bound asked.form asked.letters.now asked.files.from (map (λ s. s.now) asked.files.names.now)
 plan_of (TreeJson bound form letters files) = tree_json bound form letters.now files.from (map (λ s. s.now) files.names.now)
 plan_of (Sheet bound memo form letters title names) = sheet bound memo form letters.now title.now (map (λ s. s.now) names.now)
 plan_of (Import keep bound letters names) = imports keep bound letters.now (map (λ s. s.now) names.now)

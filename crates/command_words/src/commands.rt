@@ -117,6 +117,7 @@ static TREE: Subcommand = Subcommand {
         Argument::TreeFigurines,
         Argument::Letters,
         Argument::MostLines,
+        Argument::Limit,
         Argument::TreeWorkers,
         Argument::Json,
         Argument::From,

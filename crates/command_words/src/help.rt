@@ -200,7 +200,8 @@ exactly one reply refutes: 1.Qh3? Kd5! With --json there is one object for each 
 `solve --json` has it, with the lines of the tree as strings in `tree`.
 
 With `--workers W` the records of a collection are taken side by side by W threads, each with
-a memo of its own; their trees stand in the order of its lines. Beside --json W is 1.
+a memo of its own; their trees stand in the order of its lines. Beside --json and --limit W
+is 1.
 
 Example:
   $ cat problems.epd
@@ -214,8 +215,12 @@ Example:
     1...Kh7
       2.Rh1#
 
-Moves to avoid (`am`) are left out at the first move. A tree of many moves may take longer
-than one can wait, and all memory: use --moves and --lines.
+Moves to avoid (`am`) are left out at the first move. A bound of many moves may take longer
+than one can wait: with `--limit S`, which goes without --json, the search for a record's
+mate may take S seconds. One that isn't decided in them is answered so, as `solve` does,
+without a tree; the last line on standard error then counts such records, and the status is
+5. A tree whose mate is known is written whole: of many moves it may take longer than one
+can wait, and all memory: use --moves and --lines.
 
 The FILE `-` is standard input; a file by that name is `./-`.
 
@@ -223,8 +228,9 @@ Status:
   0  every line was answered
   1  a line was refused; all others were answered
   2  the words ask for nothing
-  3  no memory; with `--workers` also no thread
+  3  no memory; with `--limit` or `--workers` also no thread
   4  a FILE can't be read, or the output can't be written
+  5  with `--limit`: every line was answered or refused, and some record was not decided
 At 3 and 4 the first of the answers may have been written.";
 
 /// `sheet` in one line.
@@ -508,7 +514,7 @@ pub const ABOUT_MEMOS: &str =
 
 /// The option `--limit` in one line.
 pub const ABOUT_LIMIT: &str =
-    "How many seconds a record may take, 1 to 86400; one that isn't decided by then is answered so";
+    "How many seconds the search of a record may take, 1 to 86400; one not decided by then is answered so";
 
 /// The option `--workers` of `solve` in one line.
 pub const ABOUT_SOLVE_WORKERS: &str =

@@ -100,6 +100,18 @@ pub struct LimitedVerify<'m, 'a> {
     pub files: Files<'m, 'a>,
 }
 
+/// What is asked where the search for the mate of each record whose tree is told may take so many seconds: the bound of records that say
+/// none, the form of a tree, a word that gives the letters of men, and the files.
+#[derive(Clone, Copy)]
+pub struct LimitedTree<'m, 'a> {
+    /// How many seconds, 1 to 86,400.
+    pub seconds: u32,
+    pub bound: Bound,
+    pub form: TreeForm,
+    pub letters: &'a str,
+    pub files: Files<'m, 'a>,
+}
+
 /// What a page has beside its diagrams.
 #[derive(Clone, Copy, Debug, PartialEq, Eq)]
 pub struct SheetForm {
@@ -160,6 +172,8 @@ pub enum Request<'m, 'a> {
     Tree(Bound, TreeForm, &'a str, Files<'m, 'a>),
     /// The same by so many workers.
     TreeOn(Workers, Bound, TreeForm, &'a str, Files<'m, 'a>),
+    /// As `Tree`, where the search for the mate of each record may take so many seconds.
+    TreeLimited(LimitedTree<'m, 'a>),
     /// As `Tree`, in JSON.
     TreeJson(Bound, TreeForm, &'a str, Files<'m, 'a>),
     /// Make a page of the records of files, in order, in such a form, and with such a title, the second word. Solutions are found over a memo
@@ -290,7 +304,7 @@ fn from_in(matches: &ArgMatches) -> Option<LineNumber>
     LineNumber::new(large_number_in(matches, "K"))
 }
 
-/// How many seconds `solve` may take for each record. `clap` has kept them to their range, and has none where none are given.
+/// How many seconds `solve`, `verify` or `tree` may take for each record. `clap` has kept them to their range, and has none where none are given.
 #[tactic(auto, unfolding(crate::specs::Asked::limit_in))]
 fn limit_in(matches: &ArgMatches) -> Option<u32>
     ensures { result ≡ limit_in (rows_of (found_of matches.now)) }
@@ -677,7 +691,7 @@ fn tree_form_in(matches: &ArgMatches) -> TreeForm
     }
 }
 
-/// What the arguments of `tree` ask for; nothing where it is to be in JSON and by several workers.
+/// What the arguments of `tree` ask for; nothing where two of these are asked for at once: JSON, several workers, and a limit.
 #[tactic(auto, unfolding(crate::specs::Asked::tree_in))]
 fn tree_in<'m, 'a>(matches: &'m ArgMatches<'a>) -> Option<Request<'m, 'a>>
     ensures { option_map plan_of result ≡ tree_in (rows_of (found_of matches.now)) }
@@ -688,12 +702,20 @@ fn tree_in<'m, 'a>(matches: &'m ArgMatches<'a>) -> Option<Request<'m, 'a>>
     let form = tree_form_in(matches);
     let letters = text_in(matches, "L")?;
     let names = names_in(matches, "FILE")?;
+    let limit = limit_in(matches);
     let files = Files { names, from };
-    match (is_given(matches, "json"), workers.get() == 1) {
-        (false, true) => Some(Request::Tree(bound, form, letters, files)),
-        (false, false) => Some(Request::TreeOn(workers, bound, form, letters, files)),
-        (true, true) => Some(Request::TreeJson(bound, form, letters, files)),
-        (true, false) => None,
+    match (is_given(matches, "json"), limit, workers.get() == 1) {
+        (false, None, true) => Some(Request::Tree(bound, form, letters, files)),
+        (false, None, false) => Some(Request::TreeOn(workers, bound, form, letters, files)),
+        (false, Some(seconds), true) => Some(Request::TreeLimited(LimitedTree {
+            seconds,
+            bound,
+            form,
+            letters,
+            files,
+        })),
+        (true, None, true) => Some(Request::TreeJson(bound, form, letters, files)),
+        _ => None,
     }
 }
 

@@ -441,7 +441,7 @@ static SIZES: [Explanation; 6] = [
     },
     Explanation {
         code: "NoThread",
-        comes: "`serve`, `uci`, `verify --workers`, `tree --workers`, `solve --limit` or `verify --limit` could start no more threads",
+        comes: "`serve`, `uci`, `verify` or `tree` with `--workers`, or `solve`, `verify` or `tree` with `--limit` could start no more threads",
         means: "The system allows no more of them: take fewer workers, or `solve`, `verify` or `tree` alone,
 which start none.",
         example: None,

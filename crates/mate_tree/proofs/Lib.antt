@@ -2,6 +2,7 @@ pub mod DefencesBelow
 pub mod LaidOutLines
 pub mod LegalMoves
 pub mod LegalReplies
+pub mod LimitedLines
 pub mod NoMovesLeft
 pub mod ParryLaws
 pub mod PassedSetups

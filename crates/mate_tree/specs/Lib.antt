@@ -12,5 +12,6 @@ pub mod SetPlay
 pub mod Tries
 pub mod Trees
 pub mod TreeReplies
+pub mod LimitedTrees
 pub mod Laws
 pub mod inside

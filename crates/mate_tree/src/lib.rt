@@ -4,8 +4,8 @@
 //! What is true of a position is `mate_search`'s business, how a move is written `chess_notation`'s, and which letters men have in a language
 //! `move_words`'s. Each definition stands in the file of `specs/` with the same name. To read: `forms`, `lines`, `continuations` and
 //! `defences`, the tree below a move; `passing` and `threats`; `parries` and `variations`, of which a magazine prints a solution; `keys`,
-//! `set_play`, `tries`; then `trees`, over `sheets` and `layouts`, and `tree_replies`, `tree_texts` and `columns`. `laws` says of the definitions what they
-//! are meant to say.
+//! `set_play`, `tries`; then `trees`, over `sheets` and `layouts`, and `tree_replies`, `tree_texts`, `limited_trees` and `columns`. `laws` says
+//! of the definitions what they are meant to say.
 #![tactic(auto)]
 
 mod columns;
@@ -15,6 +15,7 @@ mod forms;
 mod keys;
 mod laws;
 mod layouts;
+mod limited_trees;
 mod lines;
 mod parries;
 mod passing;
@@ -32,5 +33,6 @@ pub use forms::{Form, Pieces};
 pub use laws::{
     defences_answered, each_has_line, leaves_mate, line_branches, parries_read, soonest_reads,
 };
+pub use limited_trees::LimitedTrees;
 pub use passing::passed;
 pub use tree_replies::TreeReplies;

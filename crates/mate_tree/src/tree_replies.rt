@@ -6,6 +6,8 @@ ghost use Rattle.text_lines.specs.Refusals.{fault_line};
 ghost use Rattle.text_lines.specs.Writers.{BreaksOff};
 ghost use Rattle.chess_problems.specs.Outcomes.{IsPlayable};
 ghost use Rattle.chess_notation.specs.Answers.{answer_text};
+ghost use Rattle.chess_notation.specs.Records.{problem_of};
+ghost use Rattle.mate_search.specs.inside.Truth.{truth};
 ghost use Rattle.mate_tree.specs.Lines.{line};
 ghost use Rattle.mate_tree.specs.TreeReplies.{IsTreeReply, tree_reply};
 ghost use Rattle.mate_tree.specs.inside.Replies.{IsJust, IsRefusal};
@@ -45,7 +47,34 @@ fn answer_line(
     Ok(answer.into_bytes())
 }
 
-/// Writes the reply to a record: its answer, its tree, and an empty line. Memory is taken before the first byte alone.
+/// Writes the reply to a record whose outcome is known: its answer, its tree, and an empty line. Memory is taken before the first byte alone.
+pub(crate) fn write_solved<O: Write>(
+    alloc: Global,
+    shown: Shown<'_>,
+    record: &Record,
+    outcome: &Outcome,
+    memo: &mut Memo,
+    out: &mut O,
+) -> Result<(), Stop>
+    requires truth { outcome.now ≡ truth (problem_of «record».now) }
+    requires playable { IsPlayable «record».now.position outcome.now }
+    ensures ok { OnOk result (Appends (O.contents out.old) (O.contents out.new) (tree_reply shown.entry.form «record».now)) }
+    ensures err { IfErr result (BreaksOff (IsJust (tree_reply shown.entry.form «record».now) 0) (O.contents out.old) (O.contents out.new)) }
+    ensures room { memo.new.room ≡ memo.old.room }
+{
+    match answer_line(alloc, shown.rays, record, outcome) {
+        Ok(answer) => {
+            let mut sheet = Sheet::new(shown.form);
+            sheet.add(out, answer.as_slice());
+            write_tree(shown, record, outcome, memo, &mut sheet, out);
+            let closing = sheet.closing();
+            sheet.finish(out, closing)
+        }
+        Err(_) => Err(Stop::NoMemory),
+    }
+}
+
+/// Writes the reply to a record, which is solved first.
 fn write_record<O: Write>(
     alloc: Global,
     shown: Shown<'_>,
@@ -58,16 +87,7 @@ fn write_record<O: Write>(
     ensures room { memo.new.room ≡ memo.old.room }
 {
     let outcome = solve(shown.rays, &record.problem(), memo);
-    match answer_line(alloc, shown.rays, record, &outcome) {
-        Ok(answer) => {
-            let mut sheet = Sheet::new(shown.form);
-            sheet.add(out, answer.as_slice());
-            write_tree(shown, record, &outcome, memo, &mut sheet, out);
-            let closing = sheet.closing();
-            sheet.finish(out, closing)
-        }
-        Err(_) => Err(Stop::NoMemory),
-    }
+    write_solved(alloc, shown, record, &outcome, memo, out)
 }
 
 /// The reply to a line that is refused, and an empty line.

@@ -1,13 +1,12 @@
 -- What workers answer of files from one of their lines on, and how that ends.
-use Rattle.std.proofs.Common.{◌≡◌, ℕ, Bool, List, [], Option, None, Some, Result, Ok, Err, IfErr, IfOk, arith, inl, refl}
-use Rattle.std.proofs.KnownBytes.{Appends-nil, Keeps-refl}
+use Rattle.std.proofs.Common.{◌≡◌, ℕ, Bool, List, [], Option, None, Some, Result, Ok, Err, IfErr, IfOk, inl, refl}
+use Rattle.std.proofs.KnownBytes.{Appends-nil}
 use Rattle.std.specs.Io.KnownBytes.{Appends}
 use Rattle.clap.specs.Words.{Text}
 use Rattle.byte_streams.specs.Inputs.{MayBe}
 use Rattle.byte_streams.specs.Stops.{AppendsBy}
 use Rattle.byte_streams.specs.declared.stops.Stop.{Stop}
 use Rattle.byte_streams.specs.declared.stops.Stop.TheVariants as stop
-use Rattle.move_words.specs.Languages.{letters_said}
 use Rattle.command_words.specs.Asked.{tree_on, verify_on}
 use Rattle.command_words.specs.declared.request.TreeForm.{TreeForm}
 use Rattle.plain_commands.specs.Command.{Ends, EndsByStatus}
@@ -44,17 +43,3 @@ pub ends_untold_on : (holds : Text → Option (List ℕ)) (refuses : Text → Ty
 ends_untold_on holds refuses ends none workers bound form letters from names out =
     ends (tree_on workers bound form letters from names) (Err stop.NoMemory) 3 out out refl tt
     (record { gained = []; shows = none holds bound (tree_form_of form letters) from names; appends = Appends-nil out })
-
--- There are no such letters of men.
-pub ends_unlettered : (holds : Text → Option (List ℕ)) (refuses : Text → Type 0) (workers bound : ℕ) (form : TreeForm) (letters : Text)
-    (from : ℕ) (names : List Text) (out : Option (List ℕ)) → letters_said letters ≡ None
-    → Ends holds refuses (Some (tree_on workers bound form letters from names)) 2 out out
-ends_unlettered holds refuses workers bound form letters from names out none = record {
-  answered = λ is. absurd (omega (arith, is));
-  refused = λ is. absurd (omega (arith, is));
-  misused = λ is. (none, Keeps-refl out);
-  no_memory = λ is. absurd (omega (arith, is));
-  no_access = λ is. absurd (omega (arith, is));
-  in_part = λ is. absurd (omega (arith, is));
-  bounded = omega arith;
-}

@@ -8,7 +8,7 @@ use Rattle.byte_streams.specs.declared.stops.Stop.TheVariants as stop
 use Rattle.clap.specs.Words.{Text}
 use Rattle.command_words.specs.Asked.{Asked, look, board, svg, play, moves, moves_json, perft, divide, lines, solve, solve_json, solve_on, solve_json_on}
 use Rattle.command_words.specs.Asked.{limited, limited_json, verify, verify_on, verify_json, verify_imported, verify_limited, verify_limited_json}
-use Rattle.command_words.specs.Asked.{tree, tree_on, tree_json, sheet, imports, serve, replay, explain, uci, asks_threads}
+use Rattle.command_words.specs.Asked.{tree, tree_on, tree_limited, tree_json, sheet, imports, serve, replay, explain, uci, asks_threads}
 use Rattle.plain_commands.specs.Command.{Ends, EndsByStatus, EndsInPart, Shown, ShownInPart, Stops}
 use Rattle.file_answers.specs.Sources.{held, held_back}
 use Rattle.file_answers.specs.Status.{status_of}
@@ -20,6 +20,7 @@ use Rattle.mate_answers.specs.InputReplies.{IsLineReply}
 use Rattle.mate_answers.specs.LimitedReplies.{IsLimitedReply}
 use Rattle.mate_claims.specs.LimitedClaims.{IsLimitedClaim}
 use Rattle.plain_commands.specs.Told.{TellsNone, tree_form_of}
+use Rattle.plain_commands.proofs.Unopened.{tells_limited_at_once}
 use Rattle.command_words.specs.declared.request.TreeForm.{TreeForm}
 
 -- Nothing is written, and the status is that of no memory.
@@ -79,6 +80,13 @@ ends_untold holds refuses ends untold workers bound form letters from names out 
     ends (tree_on workers bound form letters from names) (Err stop.NoMemory) 3 out out refl tt
     (record { gained = []; shows = untold holds bound (tree_form_of form letters) from names; appends = Appends-nil out })
 
+pub ends_untold_in_time : (holds : Text → Option (List ℕ)) (refuses : Text → Type 0) → EndsByStatus holds refuses
+    → (seconds bound : ℕ) (form : TreeForm) (letters : Text) (from : ℕ) (names : List Text) (out : Option (List ℕ))
+    → Ends holds refuses (Some (tree_limited seconds bound form letters from names)) 3 out out
+ends_untold_in_time holds refuses ends seconds bound form letters from names out =
+    ends (tree_limited seconds bound form letters from names) (Err stop.NoMemory) 3 out out refl tt
+    (tells_limited_at_once holds refuses ⊤ seconds bound (tree_form_of form letters) from names out out (Keeps-refl out))
+
 pub ends_unstarted : (holds : Text → Option (List ℕ)) (refuses : Text → Type 0) → EndsByStatus holds refuses → LimitedNone → SolvesNone
     → TellsNone → (asks : Option Asked) → asks_threads asks ≡ true → (out : Option (List ℕ)) → Ends holds refuses asks 3 out out
 ends_unstarted holds refuses ends none unsolved untold (Some (serve workers bound memo names)) threads out =
@@ -100,6 +108,8 @@ ends_unstarted holds refuses ends none unsolved untold (Some (verify_on workers 
     ends_untaken holds refuses ends workers bound memo header from names out
 ends_unstarted holds refuses ends none unsolved untold (Some (tree_on workers bound form letters from names)) threads out =
     ends_untold holds refuses ends untold workers bound form letters from names out
+ends_unstarted holds refuses ends none unsolved untold (Some (tree_limited seconds bound form letters from names)) threads out =
+    ends_untold_in_time holds refuses ends seconds bound form letters from names out
 ends_unstarted holds refuses ends none unsolved untold (Some uci) threads out = ends uci (Err stop.NoMemory) 3 out out refl tt tt
 ends_unstarted holds refuses ends none unsolved untold None threads out = cc
 ends_unstarted holds refuses ends none unsolved untold (Some (look fen)) threads out = cc

@@ -7,6 +7,7 @@ ghost use Rattle.plain_commands.specs.Command.{EndsBy};
 
 use crate::json_solving::{solve_json_in_time, solve_json_on};
 use crate::json_verifying::verify_json_in_time;
+use crate::limited_trees::tell_in_time;
 use crate::limited_verifying::verify_in_time;
 use crate::limiting::solve_in_time;
 use crate::serving::serve;
@@ -77,6 +78,7 @@ where
         Some(Request::TreeOn(workers, bound, form, letters, files)) => tree_on(
             rt, alloc, *workers, *bound, *form, letters, files, &given, out, err,
         ),
+        Some(Request::TreeLimited(asked)) => tell_in_time(rt, alloc, asked, &given, out, err),
         Some(Request::Limited(asked)) => solve_in_time(rt, alloc, asked, &given, out, err),
         Some(Request::LimitedJson(asked)) => {
             solve_json_in_time(rt, alloc, asked, &given, out, err)

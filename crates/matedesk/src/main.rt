@@ -11,6 +11,7 @@ mod answering;
 mod counting;
 mod json_solving;
 mod json_verifying;
+mod limited_trees;
 mod limited_verifying;
 mod limiting;
 mod serving;

@@ -9,7 +9,7 @@ use Rattle.byte_streams.specs.declared.stops.Stop.{Stop}
 use Rattle.byte_streams.specs.declared.stops.Stop.TheVariants as stop
 use Rattle.command_words.specs.Asked.{Asked, look, board, svg, play, moves, moves_json, perft, divide, lines, solve, solve_json, solve_on, solve_json_on}
 use Rattle.command_words.specs.Asked.{limited, limited_json, verify, verify_on, verify_limited, verify_limited_json, verify_json, verify_imported, tree}
-use Rattle.command_words.specs.Asked.{tree_on, tree_json, sheet, imports, serve, replay, explain, uci}
+use Rattle.command_words.specs.Asked.{tree_on, tree_limited, tree_json, sheet, imports, serve, replay, explain, uci}
 use Rattle.file_answers.specs.Status.{status_of}
 use Rattle.file_solving.specs.Solved.{LimitedNone, SolvesNone}
 use Rattle.plain_commands.specs.Told.{TellsNone, tree_form_of}
@@ -21,7 +21,7 @@ use Rattle.mate_claims.specs.LimitedClaims.{IsLimitedClaim}
 use Rattle.mate_tree.specs.TreeReplies.{IsTreeReply}
 use Rattle.plain_commands.specs.Imported.{letters_in}
 use Rattle.plain_commands.specs.PositionLines.{command_of}
-use Rattle.plain_commands.proofs.Unopened.{imports_at_once, json_at_once, lines_at_once}
+use Rattle.plain_commands.proofs.Unopened.{imports_at_once, json_at_once, lines_at_once, tells_limited_at_once}
 use Rattle.plain_commands.specs.Command.{Ends, EndsByStatus, EndsInPart, Shown, Stops, StopsBy}
 
 -- Where memory gives out at once, nothing is written.
@@ -66,6 +66,8 @@ stops_unread none late untold holds refuses (Some (tree bound form letters from 
     record { gained = []; shows = untold holds bound (tree_form_of form letters) from names; appends = Appends-kept old old new [] (Appends-nil old) kept }
 stops_unread none late untold holds refuses (Some (tree_on workers bound form letters from names)) old new kept =
     record { gained = []; shows = untold holds bound (tree_form_of form letters) from names; appends = Appends-kept old old new [] (Appends-nil old) kept }
+stops_unread none late untold holds refuses (Some (tree_limited seconds bound form letters from names)) old new kept =
+    tells_limited_at_once holds refuses ⊤ seconds bound (tree_form_of form letters) from names old new kept
 stops_unread none late untold holds refuses (Some (tree_json bound form letters from names)) old new kept =
     json_at_once holds refuses Tree (IsTreeReply (tree_form_of form letters) bound) from names old new kept
 stops_unread none late untold holds refuses (Some (sheet bound memo form letters title names)) old new kept = kept
@@ -102,6 +104,7 @@ no_reader holds refuses (verify_limited seconds bound memo header from names) ol
 no_reader holds refuses (verify_limited_json seconds bound memo from names) old new stops = stops
 no_reader holds refuses (tree bound form letters from names) old new stops = stops
 no_reader holds refuses (tree_on workers bound form letters from names) old new stops = stops
+no_reader holds refuses (tree_limited seconds bound form letters from names) old new stops = stops
 no_reader holds refuses (tree_json bound form letters from names) old new stops = stops
 no_reader holds refuses (sheet bound memo form letters title names) old new stops = stops
 no_reader holds refuses (imports keep bound letters names) old new stops = stops

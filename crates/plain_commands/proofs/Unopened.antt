@@ -17,7 +17,7 @@ use Rattle.json_replies.specs.declared.replies.Form.{Form}
 use Rattle.mate_tree.specs.declared.forms.Form.{Form as TreeForm}
 use Rattle.json_commands.specs.JsonFiles.{StopsJson, first_file_replies, has_several as are_several}
 use Rattle.text_lines.specs.Replies.{LineReplies}
-use Rattle.plain_commands.specs.Told.{StopsTelling, TellsNone, first_tree_replies}
+use Rattle.plain_commands.specs.Told.{StopsTelling, StopsTellingLimited, TellsNone, first_limited_tree_replies, first_tree_replies}
 
 pub no_position_reply : (command : FenCommand) (from : ℕ) (name input : List ℕ) → first_position_replies command from name input []
 unfolding IsReplyToFirstBy
@@ -74,6 +74,19 @@ json_at_once holds refuses form replies from names old new kept = record {
 
 pub no_tree_reply : (form : TreeForm) (bound from : ℕ) (name input : List ℕ) → first_tree_replies form bound from name input []
 no_tree_reply form bound from name input = no_reply_on _ from input
+
+pub no_limited_tree_reply : (stops : Type 0) (seconds : ℕ) (form : TreeForm) (bound from : ℕ) (name input : List ℕ)
+    → first_limited_tree_replies stops seconds form bound from name input []
+no_limited_tree_reply stops seconds form bound from name input = no_reply_on _ from input
+
+pub tells_limited_at_once : (holds : List ℕ → Option (List ℕ)) (refuses : List ℕ → Type 0) (stops : Type 0) (seconds bound : ℕ)
+    (form : TreeForm) (from : ℕ) (names : List (List ℕ)) (old new : Option (List ℕ)) → Keeps old new
+    → StopsTellingLimited holds refuses stops seconds bound form from names stop.NoMemory old new
+tells_limited_at_once holds refuses stops seconds bound form from names old new kept = record {
+  gained = [];
+  shows = answers_none holds _ _ from names (no_limited_tree_reply stops seconds form bound);
+  appends = Appends-kept old old new [] (Appends-nil old) kept;
+}
 
 pub tells_none : TellsNone
 tells_none holds bound form from names = answers_none holds _ _ from names (no_tree_reply form bound)

@@ -12,7 +12,7 @@ use Rattle.chess_views.specs.Listings.{moves_text}
 use Rattle.chess_views.specs.Looks.{look_board_text, look_text}
 use Rattle.command_words.specs.Asked.{Asked, asked, records_given, look, board, svg, play, moves, moves_json, perft, divide, lines, solve, solve_json}
 use Rattle.command_words.specs.Asked.{solve_on, solve_json_on, limited, limited_json, verify, verify_on, verify_limited, verify_limited_json}
-use Rattle.command_words.specs.Asked.{verify_json, verify_imported, tree, tree_on, tree_json, sheet, imports, serve, replay, explain, uci}
+use Rattle.command_words.specs.Asked.{verify_json, verify_imported, tree, tree_on, tree_limited, tree_json, sheet, imports, serve, replay, explain, uci}
 use Rattle.move_words.specs.Languages.{letters_said}
 use Rattle.problem_sheets.specs.Diagrams.{svg_of}
 use Rattle.json_replies.specs.Moves.{moves_json as moves_object}
@@ -27,7 +27,7 @@ use Rattle.plain_commands.specs.PositionLines.{ShowsLines, StopsLines, command_o
 use Rattle.plain_commands.specs.Replayed.{ReplaysFile, StopsReplaying}
 use Rattle.file_solving.specs.Solved.{Solves, SolvesLimited, StopsLimited, StopsSolving}
 use Rattle.file_verifying.specs.Verified.{LimitedHeaded, StopsHeaded, StopsLimitedHeaded, VerifiesHeaded}
-use Rattle.plain_commands.specs.Told.{StopsTelling, Tells, tree_form_of}
+use Rattle.plain_commands.specs.Told.{StopsTelling, StopsTellingLimited, Tells, TellsLimited, tree_form_of}
 use Rattle.plain_commands.specs.Sheeted.{Sheets, StopsSheet, page_form_of}
 use Rattle.plain_commands.specs.Imported.{ImportsFiles, StopsImporting, letters_in}
 use Rattle.plain_commands.specs.Served.{AreTooManyFiles, Serves}
@@ -59,6 +59,8 @@ Shows holds (verify_limited_json seconds bound memo from names) refused text = V
 Shows holds (tree bound form letters from names) refused text = Tells holds bound (tree_form_of form letters) from names refused text
 Shows holds (tree_on workers bound form letters from names) refused text =
     Tells holds bound (tree_form_of form letters) from names refused text
+Shows holds (tree_limited seconds bound form letters from names) refused text =
+    TellsLimited holds ⊤ seconds bound (tree_form_of form letters) from names refused 0 text
 Shows holds (tree_json bound form letters from names) refused text = TellsJson holds bound (tree_form_of form letters) from names refused text
 Shows holds (sheet bound memo form letters title names) refused text = Sheets holds bound (page_form_of form letters) title names refused text
 Shows holds (imports keep bound letters names) refused text = ImportsFiles holds (letters_in letters) keep bound names refused text
@@ -72,7 +74,8 @@ abbrev pub Shown : (Text → Option (List ℕ)) → Asked → Bool → (old new 
 Shown holds uci refused old new = refused ≡ false
 Shown holds asks refused old new = Gains (Shows holds asks refused) old new
 
--- The output gained what `solve --limit` or `verify --limit` shows where some records were not decided, and whether or not a line is refused.
+-- The output gained what `solve`, `verify` or `tree` with `--limit` shows where some records were not decided, and whether or not a line is
+-- refused.
 abbrev pub ShownInPart : (Text → Option (List ℕ)) → Asked → (old new : Option (List ℕ)) → Type 0
 ShownInPart holds (limited seconds bound memo from names) old new =
     (refused : Bool) × (undecided : ℕ) × (0 < undecided) × Gains (SolvesLimited holds ⊤ seconds bound from names refused undecided) old new
@@ -82,6 +85,8 @@ ShownInPart holds (verify_limited seconds bound memo header from names) old new 
     (unsound : Bool) × (undecided : ℕ) × (0 < undecided) × Gains (LimitedHeaded holds ⊤ bound header from names unsound undecided) old new
 ShownInPart holds (verify_limited_json seconds bound memo from names) old new =
     (unsound : Bool) × (undecided : ℕ) × (0 < undecided) × Gains (VerifiesLimitedJson holds ⊤ bound from names unsound undecided) old new
+ShownInPart holds (tree_limited seconds bound form letters from names) old new = (refused : Bool) × (undecided : ℕ) × (0 < undecided)
+    × Gains (TellsLimited holds ⊤ seconds bound (tree_form_of form letters) from names refused undecided) old new
 ShownInPart holds asks old new = ⊥
 
 -- What the output gained where `serve` stops: nothing where a file can't be opened, which may be refused; else the same as where `solve` of
@@ -111,6 +116,8 @@ Stops holds refuses (tree bound form letters from names) stop old new =
     StopsTelling holds refuses bound (tree_form_of form letters) from names stop old new
 Stops holds refuses (tree_on workers bound form letters from names) stop old new =
     StopsTelling holds refuses bound (tree_form_of form letters) from names stop old new
+Stops holds refuses (tree_limited seconds bound form letters from names) stop old new =
+    StopsTellingLimited holds refuses ⊤ seconds bound (tree_form_of form letters) from names stop old new
 Stops holds refuses (tree_json bound form letters from names) stop old new =
     StopsTellingJson holds refuses bound (tree_form_of form letters) from names stop old new
 Stops holds refuses (sheet bound memo form letters title names) stop old new =
@@ -134,6 +141,7 @@ abbrev pub has_letters : Asked → Bool
 has_letters (imports keep bound letters names) = is_some (letters_said letters)
 has_letters (tree bound form letters from names) = is_some (letters_said letters)
 has_letters (tree_on workers bound form letters from names) = is_some (letters_said letters)
+has_letters (tree_limited seconds bound form letters from names) = is_some (letters_said letters)
 has_letters (tree_json bound form letters from names) = is_some (letters_said letters)
 has_letters (sheet bound memo form letters title names) = is_some (letters_said letters)
 has_letters _ = true
@@ -145,6 +153,7 @@ AsksInVain (Some (serve workers bound memo names)) = AreTooManyFiles names
 AsksInVain (Some (imports keep bound letters names)) = letters_said letters ≡ None
 AsksInVain (Some (tree bound form letters from names)) = letters_said letters ≡ None
 AsksInVain (Some (tree_on workers bound form letters from names)) = letters_said letters ≡ None
+AsksInVain (Some (tree_limited seconds bound form letters from names)) = letters_said letters ≡ None
 AsksInVain (Some (tree_json bound form letters from names)) = letters_said letters ≡ None
 AsksInVain (Some (sheet bound memo form letters title names)) = letters_said letters ≡ None
 AsksInVain (Some asks) = ⊥

@@ -1,5 +1,6 @@
 -- What `tree` shows.
 use Rattle.std.specs.Prelude.{ℕ, Bool, List, [], Option, ⊤, if◌then◌else◌}
+use Rattle.mate_tree.specs.LimitedTrees.{IsLateTree, IsLimitedTree}
 use Rattle.mate_tree.specs.TreeReplies.{IsTreeReply}
 use Rattle.mate_tree.specs.declared.forms.Form.{Form}
 use Rattle.mate_tree.specs.declared.forms.Pieces.{Pieces}
@@ -9,7 +10,7 @@ use Rattle.move_words.specs.declared.languages.Letters.{Letters as LettersOf}
 use Rattle.command_words.specs.declared.request.TreeForm.{TreeForm}
 use Rattle.plain_commands.specs.Imported.{letters_in}
 use Rattle.byte_streams.specs.declared.stops.Stop.{Stop}
-use Rattle.file_answers.specs.FileAnswers.{Answers, AnswersFirst, StopsAnswering}
+use Rattle.file_answers.specs.FileAnswers.{Answers, AnswersFirst, AnswersTold, StopsAnswering}
 use Rattle.file_answers.specs.LinesFrom.{IsReplyOn, IsReplyToFirstOn}
 
 -- what stands for pieces: figurines, which are the same in each language, or such letters
@@ -44,6 +45,33 @@ abbrev pub StopsTelling : (List ℕ → Option (List ℕ)) → (List ℕ → Typ
     → Stop → (old new : Option (List ℕ)) → Type 0
 StopsTelling holds refuses bound form from names stop old new =
     StopsAnswering holds refuses (tree_replies form bound) (first_tree_replies form bound) from names stop old new
+
+-- What they are answered where the search for each one's mate may take so many seconds, and whether it may be stopped at all.
+abbrev pub limited_tree_replies : Type 0 → ℕ → Form → ℕ → ℕ → List ℕ → List ℕ → List ℕ → ℕ → Type 0
+limited_tree_replies stops seconds form bound from name input text refusals =
+    IsReplyOn (IsLimitedTree stops seconds form bound) from input text refusals
+
+-- The same, and how many records were not decided.
+abbrev pub limited_tree_told : Type 0 → ℕ → Form → ℕ → ℕ → List ℕ → List ℕ → List ℕ → (refusals undecided : ℕ) → Type 0
+limited_tree_told stops seconds form bound from name input text refusals undecided =
+    limited_tree_replies stops seconds form bound from name input text refusals
+    × IsReplyOn (IsLateTree stops seconds form bound) from input text undecided
+
+abbrev pub first_limited_tree_replies : Type 0 → ℕ → Form → ℕ → ℕ → List ℕ → List ℕ → List ℕ → Type 0
+first_limited_tree_replies stops seconds form bound from name input text =
+    IsReplyToFirstOn (IsLimitedTree stops seconds form bound) from input text
+
+-- What `tree --limit` shows, whether a line is refused, and how many records were not decided.
+abbrev pub TellsLimited : (List ℕ → Option (List ℕ)) → (stops : Type 0) → (seconds bound : ℕ) → Form → ℕ → List (List ℕ) → Bool → ℕ
+    → List ℕ → Type 0
+TellsLimited holds stops seconds bound form from names refused undecided gained =
+    AnswersTold holds (limited_tree_told stops seconds form bound) from names refused undecided gained
+
+-- What the output gained where it stops.
+abbrev pub StopsTellingLimited : (List ℕ → Option (List ℕ)) → (List ℕ → Type 0) → (stops : Type 0) → (seconds bound : ℕ) → Form → ℕ
+    → List (List ℕ) → Stop → (old new : Option (List ℕ)) → Type 0
+StopsTellingLimited holds refuses stops seconds bound form from names stop old new = StopsAnswering holds refuses
+    (limited_tree_replies stops seconds form bound) (first_limited_tree_replies stops seconds form bound) from names stop old new
 
 -- Before a file is opened there is nothing to write.
 abbrev pub TellsNone : Type 0

@@ -18,7 +18,9 @@ use crate::telling::{tells_none, tree, tree_json};
 use byte_streams::{Stop, stop_of_output};
 use clap::error::ErrorKind;
 use clap::{ArgMatches, Error};
-use command_words::{Request, escaped, gives_records, has_memo_size, parse, request_of};
+use command_words::{
+    LimitedTree, Request, escaped, gives_records, has_memo_size, parse, request_of,
+};
 use file_answers::{ANSWERED, GivenTexts, MISUSED, Source, complain, no_memory, status_of};
 use file_solving::{limited_none, solve, solves_none};
 use file_verifying::verify;
@@ -34,7 +36,7 @@ pub const NO_LETTERS: &str =
 
 /// What is said of options that go not together.
 const NO_REQUEST: &str =
-    "--flip goes with --board or --svg, and these not with each other; verify --json goes without --header and --import, verify --import without --limit, these two and tree --json with no more than one worker, and moves --json without another form";
+    "--flip goes with --board or --svg, and these not with each other; verify --json goes without --header and --import, verify --import and tree --json without --limit, these three and tree --limit with no more than one worker, and moves --json without another form";
 
 /// What is said of a size that memos can't have.
 const NO_MEMO_SIZE: &str =
@@ -64,6 +66,7 @@ fn is_threaded(request: &Request) -> bool
             | Request::VerifyLimited(..)
             | Request::VerifyLimitedJson(..)
             | Request::TreeOn(..)
+            | Request::TreeLimited(..)
             | Request::Uci
     )
 }
@@ -76,6 +79,7 @@ fn has_letters(request: &Request) -> bool
         Request::Import(_, _, letters, _)
         | Request::Tree(_, _, letters, _)
         | Request::TreeOn(_, _, _, letters, _)
+        | Request::TreeLimited(LimitedTree { letters, .. })
         | Request::TreeJson(_, _, letters, _)
         | Request::Sheet(_, _, _, letters, _, _) => Letters::said(letters).is_some(),
         _ => true,
@@ -148,6 +152,7 @@ fn answer<S: Source, O: Write, E: Write>(
         | Request::VerifyLimited(..)
         | Request::VerifyLimitedJson(..)
         | Request::TreeOn(..)
+        | Request::TreeLimited(..)
         | Request::Uci => unreachable!(),
         Request::Replay(name) => replay(alloc, name, source, out, err),
         Request::Explain(words) => explain_given(alloc, *words, out, err),

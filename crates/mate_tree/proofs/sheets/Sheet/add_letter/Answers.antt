@@ -1,4 +1,4 @@
-use Rattle.std.proofs.Common.{◌∙◌, ◌++◌, ◌∷◌, [], ap}
+use Rattle.std.proofs.Common.{◌∙◌, ◌++◌, ◌∷◌, ap}
 use Rattle.mate_tree.specs.Layouts.{letter_for}
 use Rattle.mate_tree.proofs.WrittenLines.{takes_as, takes_more}
 use Rattle.mate_tree.proofs.sheets.Sheet.add_letter.Goals as goal
