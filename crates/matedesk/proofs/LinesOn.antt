@@ -1,5 +1,5 @@
 -- What workers answer of files from one of their lines on, and how that ends.
-use Rattle.std.proofs.Common.{◌≡◌, ℕ, Bool, List, [], Option, None, Some, Result, Ok, Err, IfErr, IfOk, inl, refl}
+use Rattle.std.proofs.Common.{ℕ, Bool, List, [], Option, Some, Result, Ok, Err, IfErr, IfOk, inl, refl}
 use Rattle.std.proofs.KnownBytes.{Appends-nil}
 use Rattle.std.specs.Io.KnownBytes.{Appends}
 use Rattle.clap.specs.Words.{Text}

@@ -15,7 +15,7 @@ use Rattle.file_answers.specs.Sources.{SomeRefused}
 use Rattle.file_answers.specs.Status.{status_of}
 use Rattle.file_answers.specs.Writing.{Gains, GainsPart}
 use Rattle.file_solving.specs.Solved.{SolvesNone, first_record_replies, record_replies}
-use Rattle.plain_commands.specs.Command.{Ends, EndsByStatus, Shown, StopsServing}
+use Rattle.plain_commands.specs.Command.{Ends, EndsByStatus, StopsServing}
 use Rattle.plain_commands.specs.Served.{AreTooManyFiles, AreFewFiles, Serves}
 use Rattle.matedesk.specs.Serving.{first_served_replies, served_replies}
 

@@ -1,6 +1,4 @@
-use Rattle.std.proofs.Common.{◌≡◌, ◌≤◌, ◌<◌, ◌∙◌, List, Bor, length, map, rules, sym, ℕ}
-use Rattle.std.proofs.lemmas.List.{length-map}
-use Rattle.plain_commands.specs.Served.{AreFewFiles}
+use Rattle.std.proofs.Common.{◌≤◌, ◌<◌, length, map, rules}
 use Rattle.matedesk.proofs.ServedFiles.{ends_served, ends_unread, ends_unserved, few_files}
 use Rattle.matedesk.proofs.serving.serve.Goals as goal
 
