@@ -14,11 +14,11 @@ use Rattle.chess_board.specs.Sets.{IsSetOf}
 use Rattle.chess_moves.specs.declared.directions.Direction.{Direction}
 use Rattle.chess_moves.specs.declared.directions.Direction.TheVariants.{North, NorthEast, East, SouthEast, South, SouthWest, West, NorthWest}
 use Rattle.chess_moves.specs.declared.directions.Leap.TheVariants.{KnightLeap, KingStep}
-use Rattle.chess_moves.specs.declared.forces.Force.{Force}
+use Rattle.chess_moves.specs.declared.side_men.SideMen.{SideMen}
 use Rattle.chess_moves.specs.inside.Directions.{toward, opposite, reaches, reaches_as_bishop, reaches_as_rook}
 use Rattle.chess_moves.specs.inside.Leaps.{leaps, capture_of, capture_back}
 use Rattle.chess_moves.specs.inside.Hits.{is_taken, hits_as, place_hits, hits_from}
-use Rattle.chess_moves.specs.inside.Forces.{is_knight_kind, StandFor, is_one, is_diagonal_kind, is_straight_kind}
+use Rattle.chess_moves.specs.inside.SideMen.{is_knight_kind, StandFor, is_one, is_diagonal_kind, is_straight_kind}
 use Rattle.chess_moves.proofs.SetBits.{has_or, has_less}
 use Rattle.chess_moves.proofs.SetParts.{part}
 use Rattle.chess_moves.proofs.AnyLemmas.{any_same}
@@ -204,17 +204,17 @@ place_by_kind taken by (Some man) a b =
     ∙ ap (λ x. is_colour by man.colour && x) (hits_by_kind taken by man.kind a b)
 
 -- the set of a square's attackers, by sets
-pub attackers_are : (occupied : ℕ) (force : Force) (by : Colour) (men : List (Option Man)) (square l1 l2 d r l3 : ℕ)
-    → IsSetOf occupied is_some men → StandFor force by men
+pub attackers_are : (occupied : ℕ) (side_men : SideMen) (by : Colour) (men : List (Option Man)) (square l1 l2 d r l3 : ℕ)
+    → IsSetOf occupied is_some men → StandFor side_men by men
     → ((t : ℕ) → t < 64 → has l1 t ≡ leaps (capture_back by) square t)
     → ((t : ℕ) → t < 64 → has l2 t ≡ leaps KnightLeap square t)
-    → ((t : ℕ) → t < 64 → has d t ≡ (has force.diagonal t && reaches_as_bishop (has occupied) square t))
-    → ((t : ℕ) → t < 64 → has r t ≡ (has force.straight t && reaches_as_rook (has occupied) square t))
+    → ((t : ℕ) → t < 64 → has d t ≡ (has side_men.diagonal t && reaches_as_bishop (has occupied) square t))
+    → ((t : ℕ) → t < 64 → has r t ≡ (has side_men.straight t && reaches_as_rook (has occupied) square t))
     → ((t : ℕ) → t < 64 → has l3 t ≡ leaps KingStep square t)
     → (s : ℕ) → s < 64
-    → has (bit_or (bit_or (bit_or (bit_or (bit_and force.pawns l1) (bit_and force.knights l2)) d) r) (bit_and force.king l3)) s
+    → has (bit_or (bit_or (bit_or (bit_or (bit_and side_men.pawns l1) (bit_and side_men.knights l2)) d) r) (bit_and side_men.king l3)) s
     ≡ hits_from men by s square
-attackers_are occupied force by men square l1 l2 d r l3 stands sets h1 h2 h3 h4 h5 s on =
+attackers_are occupied side_men by men square l1 l2 d r l3 stands sets h1 h2 h3 h4 h5 s on =
     let taken : ℕ → Bool = λ s. is_taken men s in
     let e1 : has l1 s ≡ leaps (capture_of by) s square = h1 s on ∙ capture_mirrored by s square in
     let e2 : has l2 s ≡ leaps KnightLeap s square = h2 s on ∙ knight_back s square in
@@ -223,11 +223,11 @@ attackers_are occupied force by men square l1 l2 d r l3 stands sets h1 h2 h3 h4 
     let e4 : reaches_as_rook (has occupied) square s ≡ reaches_as_rook taken s square =
     straight_same (has occupied) taken stands square s ∙ straight_back taken s square in
     let e5 : has l3 s ≡ leaps KingStep s square = h5 s on ∙ king_back s square in
-    five (bit_and force.pawns l1) (bit_and force.knights l2) d r (bit_and force.king l3) s
+    five (bit_and side_men.pawns l1) (bit_and side_men.knights l2) d r (bit_and side_men.king l3) s
     _ _ _ _ _
-    (part force.pawns l1 s _ _ (sets.pawns s on) e1) (part force.knights l2 s _ _ (sets.knights s on) e2)
+    (part side_men.pawns l1 s _ _ (sets.pawns s on) e1) (part side_men.knights l2 s _ _ (sets.knights s on) e2)
     (h3 s on ∙ and_both _ _ _ _ (sets.diagonal s on) e3) (h4 s on ∙ and_both _ _ _ _ (sets.straight s on) e4)
-    (part force.king l3 s _ _ (sets.king s on) e5)
+    (part side_men.king l3 s _ _ (sets.king s on) e5)
     ∙ place_by_kind taken by (man_at men s) s square
   where
     and_both : (x y p q : Bool) → x ≡ p → y ≡ q → (x && y) ≡ (p && q)

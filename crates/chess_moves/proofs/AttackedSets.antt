@@ -11,9 +11,9 @@ use Rattle.chess_board.specs.Sets.{IsSetOf}
 use Rattle.chess_board.specs.Squares.{any_below}
 use Rattle.chess_moves.specs.declared.directions.Leap.{Leap}
 use Rattle.chess_moves.specs.declared.directions.Leap.TheVariants.{KnightLeap, KingStep}
-use Rattle.chess_moves.specs.declared.forces.Force.{Force}
+use Rattle.chess_moves.specs.declared.side_men.SideMen.{SideMen}
 use Rattle.chess_moves.specs.inside.Directions.{reaches_as_bishop, reaches_as_rook}
-use Rattle.chess_moves.specs.inside.Forces.{StandFor}
+use Rattle.chess_moves.specs.inside.SideMen.{StandFor}
 use Rattle.chess_moves.specs.inside.Hits.{is_taken, hits_from, is_hit}
 use Rattle.chess_moves.specs.inside.Leaps.{leaps, capture_of}
 use Rattle.chess_moves.proofs.AnyLemmas.{any_same, any_or}
@@ -39,21 +39,21 @@ abbrev pub some_leap : ℕ → Leap → ℕ → Bool
 some_leap set leap t = any_below 64 (λ a. has set a && leaps leap a t)
 
 -- the squares that the five kinds of men attack are all that are attacked
-pub all_attacked : (occupied : ℕ) (force : Force) (by : Colour) (men : List (Option Man)) (t l1 l2 d r l3 : ℕ)
-    → IsSetOf occupied is_some men → StandFor force by men
-    → has l1 t ≡ some_leap force.pawns (capture_of by) t → has l2 t ≡ some_leap force.knights KnightLeap t
-    → has d t ≡ any_below 64 (λ a. has force.diagonal a && reaches_as_bishop (has occupied) a t)
-    → has r t ≡ any_below 64 (λ a. has force.straight a && reaches_as_rook (has occupied) a t)
-    → has l3 t ≡ some_leap force.king KingStep t
+pub all_attacked : (occupied : ℕ) (side_men : SideMen) (by : Colour) (men : List (Option Man)) (t l1 l2 d r l3 : ℕ)
+    → IsSetOf occupied is_some men → StandFor side_men by men
+    → has l1 t ≡ some_leap side_men.pawns (capture_of by) t → has l2 t ≡ some_leap side_men.knights KnightLeap t
+    → has d t ≡ any_below 64 (λ a. has side_men.diagonal a && reaches_as_bishop (has occupied) a t)
+    → has r t ≡ any_below 64 (λ a. has side_men.straight a && reaches_as_rook (has occupied) a t)
+    → has l3 t ≡ some_leap side_men.king KingStep t
     → has (bit_or (bit_or (bit_or (bit_or l1 l2) d) r) l3) t ≡ is_hit men t by
 unfolding is_hit
-all_attacked occupied force by men t l1 l2 d r l3 stands sets e1 e2 e3 e4 e5 =
+all_attacked occupied side_men by men t l1 l2 d r l3 stands sets e1 e2 e3 e4 e5 =
     let taken : ℕ → Bool = λ s. is_taken men s in
-    let p1 : ℕ → Bool = λ a. has force.pawns a && leaps (capture_of by) a t in
-    let p2 : ℕ → Bool = λ a. has force.knights a && leaps KnightLeap a t in
-    let p3 : ℕ → Bool = λ a. has force.diagonal a && reaches_as_bishop (has occupied) a t in
-    let p4 : ℕ → Bool = λ a. has force.straight a && reaches_as_rook (has occupied) a t in
-    let p5 : ℕ → Bool = λ a. has force.king a && leaps KingStep a t in
+    let p1 : ℕ → Bool = λ a. has side_men.pawns a && leaps (capture_of by) a t in
+    let p2 : ℕ → Bool = λ a. has side_men.knights a && leaps KnightLeap a t in
+    let p3 : ℕ → Bool = λ a. has side_men.diagonal a && reaches_as_bishop (has occupied) a t in
+    let p4 : ℕ → Bool = λ a. has side_men.straight a && reaches_as_rook (has occupied) a t in
+    let p5 : ℕ → Bool = λ a. has side_men.king a && leaps KingStep a t in
     five l1 l2 d r l3 t _ _ _ _ _ e1 e2 e3 e4 e5
     ∙ sym (any_or (λ a. p1 a || p2 a || p3 a || p4 a) p5 64
     ∙ ap (λ x. x || any_below 64 p5) (any_or (λ a. p1 a || p2 a || p3 a) p4 64

@@ -18,7 +18,7 @@ pub mod Slides
 pub mod SharedSquares
 pub mod Reaching
 pub mod AttackSets
-pub mod ForceSets
+pub mod SideSets
 pub mod Compass
 pub mod Moved
 pub mod Placed

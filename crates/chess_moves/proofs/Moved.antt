@@ -10,8 +10,8 @@ use Rattle.chess_board.specs.Men.{is_colour, is_of}
 use Rattle.chess_board.specs.inside.KindTests.{is_pawn_kind, is_king_kind}
 use Rattle.chess_board.specs.Positions.{man_at}
 use Rattle.chess_board.specs.Sets.{IsSetOf}
-use Rattle.chess_moves.specs.declared.forces.Force.{Force}
-use Rattle.chess_moves.specs.inside.Forces.{is_knight_kind, StandFor, is_one, is_diagonal_kind, is_straight_kind}
+use Rattle.chess_moves.specs.declared.side_men.SideMen.{SideMen}
+use Rattle.chess_moves.specs.inside.SideMen.{is_knight_kind, StandFor, is_one, is_diagonal_kind, is_straight_kind}
 
 -- the square that changed, and the others
 stands_after : (test : Option Man → Bool) (men : List (Option Man)) (old new square : ℕ) (place : Option Man) → length men ≡ 64 → square < 64
@@ -57,14 +57,14 @@ is_one-not_of by test None h = refl
 is_one-not_of by test (Some man) h = and_left (is_colour by man.colour) (test man.kind) h
 
 -- this side's sets stay where no man of it came or went
-pub stand_still : (force : Force) (by : Colour) (men : List (Option Man)) (square : ℕ) (place : Option Man) → length men ≡ 64 → square < 64
-    → is_of by (man_at men square) ≡ false → is_of by place ≡ false → StandFor force by men → StandFor force by (set men square place)
-stand_still force by men square place len on before now sets = record {
-  pawns = still is_pawn_kind force.pawns sets.pawns;
-  knights = still is_knight_kind force.knights sets.knights;
-  diagonal = still is_diagonal_kind force.diagonal sets.diagonal;
-  straight = still is_straight_kind force.straight sets.straight;
-  king = still is_king_kind force.king sets.king;
+pub stand_still : (side_men : SideMen) (by : Colour) (men : List (Option Man)) (square : ℕ) (place : Option Man) → length men ≡ 64 → square < 64
+    → is_of by (man_at men square) ≡ false → is_of by place ≡ false → StandFor side_men by men → StandFor side_men by (set men square place)
+stand_still side_men by men square place len on before now sets = record {
+  pawns = still is_pawn_kind side_men.pawns sets.pawns;
+  knights = still is_knight_kind side_men.knights sets.knights;
+  diagonal = still is_diagonal_kind side_men.diagonal sets.diagonal;
+  straight = still is_straight_kind side_men.straight sets.straight;
+  king = still is_king_kind side_men.king sets.king;
 }
   where
     still : (test : Kind → Bool) (word : ℕ) → IsSetOf word (is_one by test) men → IsSetOf word (is_one by test) (set men square place)

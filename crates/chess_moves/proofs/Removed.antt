@@ -12,7 +12,7 @@ use Rattle.chess_moves.specs.declared.directions.Direction.{Direction}
 use Rattle.chess_moves.specs.declared.directions.Direction.TheVariants.{North, NorthEast, East, SouthEast, South, SouthWest, West, NorthWest}
 use Rattle.chess_moves.specs.inside.Directions.{reaches, is_blocked, toward, opposite, stands_between, is_on_diagonal}
 use Rattle.chess_moves.specs.inside.Directions.{is_on_straight, reaches_as_bishop, reaches_as_rook}
-use Rattle.chess_moves.specs.inside.Forces.{is_one, is_diagonal_kind, is_straight_kind}
+use Rattle.chess_moves.specs.inside.SideMen.{is_one, is_diagonal_kind, is_straight_kind}
 use Rattle.chess_moves.specs.inside.SliderLines.{IsAlone}
 use Rattle.chess_moves.specs.inside.Hits.{is_taken, hits_as, place_hits, hits_from}
 use Rattle.std.proofs.Math.Bool.{or-true}

@@ -2,7 +2,7 @@ pub mod Directions
 pub mod Leaps
 pub mod RayTables
 pub mod Hits
-pub mod Forces
+pub mod SideMen
 pub mod LegalityInfo
 pub mod Listing
 pub mod LegalTargets

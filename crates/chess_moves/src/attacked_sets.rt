@@ -6,26 +6,26 @@ ghost use Rattle.chess_board.specs.declared.men.Man.{Man as ManValue};
 ghost use Rattle.chess_board.specs.Sets.{IsSetOf};
 ghost use Rattle.chess_board.specs.Squares.{some_square};
 ghost use Rattle.chess_moves.specs.inside.Directions.{reaches_as_bishop, reaches_as_rook};
-ghost use Rattle.chess_moves.specs.inside.Forces.{StandFor};
+ghost use Rattle.chess_moves.specs.inside.SideMen.{StandFor};
 ghost use Rattle.chess_moves.specs.inside.Hits.{is_hit};
 ghost use Rattle.chess_moves.specs.inside.Leaps.{leaps};
 
 use crate::directions::Leap;
-use crate::forces::Force;
 use crate::ray_tables::Rays;
+use crate::side_men::SideMen;
 use chess_board::Colour;
 use square_sets::squares;
 
 /// The squares that men of a colour attack, on whatever board these sets stand for.
-pub(crate) fn attacked_squares(rays: &Rays, occupied: u64, force: &Force, by: Colour) -> u64
-    ensures { (men : List (Option ManValue)) → IsSetOf occupied is_some men → StandFor force.now by men
+pub(crate) fn attacked_squares(rays: &Rays, occupied: u64, side_men: &SideMen, by: Colour) -> u64
+    ensures { (men : List (Option ManValue)) → IsSetOf occupied is_some men → StandFor side_men.now by men
         → (t : ℕ) → t < 64 → has result t ≡ is_hit men t by }
 {
-    leapt_to(rays, force.pawns, Leap::capture_of(by))
-        | leapt_to(rays, force.knights, Leap::KnightLeap)
-        | seen_by_bishops(rays, force.diagonal, occupied)
-        | seen_by_rooks(rays, force.straight, occupied)
-        | leapt_to(rays, force.king, Leap::KingStep)
+    leapt_to(rays, side_men.pawns, Leap::capture_of(by))
+        | leapt_to(rays, side_men.knights, Leap::KnightLeap)
+        | seen_by_bishops(rays, side_men.diagonal, occupied)
+        | seen_by_rooks(rays, side_men.straight, occupied)
+        | leapt_to(rays, side_men.king, Leap::KingStep)
 }
 
 /// The squares to which a leap goes from one of these.

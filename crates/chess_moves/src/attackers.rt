@@ -7,11 +7,11 @@ ghost use Rattle.chess_board.specs.Attacks.{is_attacked};
 ghost use Rattle.chess_board.specs.Sets.{IsSetOf};
 ghost use Rattle.chess_moves.specs.inside.Directions.{reaches_as_bishop, reaches_as_rook};
 ghost use Rattle.chess_moves.specs.inside.Hits.{hits_from, is_hit};
-ghost use Rattle.chess_moves.specs.inside.Forces.{StandFor};
+ghost use Rattle.chess_moves.specs.inside.SideMen.{StandFor};
 
 use crate::directions::Leap;
-use crate::forces::{Force, force_of};
 use crate::ray_tables::Rays;
+use crate::side_men::{SideMen, side_men_of};
 use chess_board::{Colour, Position, Square};
 
 /// Whether some man of the colour attacks the square, whoever stands there, and whether or not that man may move (FIDE Laws
@@ -19,8 +19,14 @@ use chess_board::{Colour, Position, Square};
 pub fn attacked(rays: &Rays, position: &Position, square: Square, by: Colour) -> bool
     ensures { result ≡ is_attacked position.now.men square by }
 {
-    let force = force_of(position, by);
-    is_hit_over(rays, position.occupied(), &force, by, square.index() as u8)
+    let side_men = side_men_of(position, by);
+    is_hit_over(
+        rays,
+        position.occupied(),
+        &side_men,
+        by,
+        square.index() as u8,
+    )
 }
 
 /// The sliders that see a square as bishops do. Where none of them stands on its diagonals nothing is scanned.
@@ -48,46 +54,58 @@ fn straight_attackers(rays: &Rays, occupied: u64, sliders: u64, square: u8) -> u
 }
 
 /// The squares from which men of a colour attack a square, on whatever board these sets stand for.
-pub(crate) fn attackers(rays: &Rays, occupied: u64, force: &Force, by: Colour, square: u8) -> u64
+pub(crate) fn attackers(
+    rays: &Rays,
+    occupied: u64,
+    side_men: &SideMen,
+    by: Colour,
+    square: u8,
+) -> u64
     requires { square < 64 }
-    ensures { (men : List (Option ManValue)) → IsSetOf occupied is_some men → StandFor force.now by men
+    ensures { (men : List (Option ManValue)) → IsSetOf occupied is_some men → StandFor side_men.now by men
         → (s : ℕ) → s < 64 → has result s ≡ hits_from men by s square }
 {
-    force.pawns & rays.leap(square, Leap::capture_back(by))
-        | force.knights & rays.leap(square, Leap::KnightLeap)
-        | diagonal_attackers(rays, occupied, force.diagonal, square)
-        | straight_attackers(rays, occupied, force.straight, square)
-        | force.king & rays.leap(square, Leap::KingStep)
+    side_men.pawns & rays.leap(square, Leap::capture_back(by))
+        | side_men.knights & rays.leap(square, Leap::KnightLeap)
+        | diagonal_attackers(rays, occupied, side_men.diagonal, square)
+        | straight_attackers(rays, occupied, side_men.straight, square)
+        | side_men.king & rays.leap(square, Leap::KingStep)
 }
 
 /// The squares from which men of a colour attack a square, where it is known which of their sliders see it on its diagonals, and on
 /// its rank and its file.
 pub(crate) fn attackers_with(
     rays: &Rays,
-    force: &Force,
+    side_men: &SideMen,
     by: Colour,
     square: u8,
     diagonal: u64,
     straight: u64,
 ) -> u64
     requires { square < 64 }
-    ensures { (men : List (Option ManValue)) (occupied : ℕ) → IsSetOf occupied is_some men → StandFor force.now by men
-        → ((t : ℕ) → t < 64 → has diagonal t ≡ (has force.now.diagonal t && reaches_as_bishop (has occupied) square t))
-        → ((t : ℕ) → t < 64 → has straight t ≡ (has force.now.straight t && reaches_as_rook (has occupied) square t))
+    ensures { (men : List (Option ManValue)) (occupied : ℕ) → IsSetOf occupied is_some men → StandFor side_men.now by men
+        → ((t : ℕ) → t < 64 → has diagonal t ≡ (has side_men.now.diagonal t && reaches_as_bishop (has occupied) square t))
+        → ((t : ℕ) → t < 64 → has straight t ≡ (has side_men.now.straight t && reaches_as_rook (has occupied) square t))
         → (s : ℕ) → s < 64 → has result s ≡ hits_from men by s square }
 {
-    force.pawns & rays.leap(square, Leap::capture_back(by))
-        | force.knights & rays.leap(square, Leap::KnightLeap)
+    side_men.pawns & rays.leap(square, Leap::capture_back(by))
+        | side_men.knights & rays.leap(square, Leap::KnightLeap)
         | diagonal
         | straight
-        | force.king & rays.leap(square, Leap::KingStep)
+        | side_men.king & rays.leap(square, Leap::KingStep)
 }
 
 /// Whether a man of the colour attacks a square, on whatever board these sets stand for.
-pub(crate) fn is_hit_over(rays: &Rays, occupied: u64, force: &Force, by: Colour, square: u8) -> bool
+pub(crate) fn is_hit_over(
+    rays: &Rays,
+    occupied: u64,
+    side_men: &SideMen,
+    by: Colour,
+    square: u8,
+) -> bool
     requires { square < 64 }
-    ensures { (men : List (Option ManValue)) → IsSetOf occupied is_some men → StandFor force.now by men
+    ensures { (men : List (Option ManValue)) → IsSetOf occupied is_some men → StandFor side_men.now by men
         → result ≡ is_hit men square by }
 {
-    attackers(rays, occupied, force, by, square) != 0
+    attackers(rays, occupied, side_men, by, square) != 0
 }

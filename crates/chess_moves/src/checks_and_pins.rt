@@ -9,13 +9,13 @@ ghost use Rattle.chess_board.specs.Positions.{Setup, man_at, moved};
 ghost use Rattle.chess_board.specs.Sets.{IsSetOf};
 ghost use Rattle.chess_moves.specs.inside.LegalityInfo.{IsLegalityInfoOf, gets_through};
 ghost use Rattle.chess_moves.specs.inside.Directions.{reaches_as_bishop, reaches_as_rook};
-ghost use Rattle.chess_moves.specs.inside.Forces.{StandFor};
+ghost use Rattle.chess_moves.specs.inside.SideMen.{StandFor};
 ghost use Rattle.chess_moves.specs.inside.Hits.{hits_from, is_hit};
 
 use crate::attackers::{attackers, attackers_with, is_hit_over};
-use crate::forces::{Force, without};
 use crate::legality_info::LegalityInfo;
 use crate::ray_tables::Rays;
+use crate::side_men::{SideMen, without};
 use chess_board::Colour;
 
 /// Whether the king is safe once it stepped to a square. Whom it captures there attacks no square of its own, so that only the king
@@ -45,19 +45,19 @@ fn capture_or_block(rays: &Rays, attackers: u64, king: u8) -> u64
 /// none. Which sliders give check is known.
 pub(crate) fn check_mask(
     rays: &Rays,
-    force: &Force,
+    side_men: &SideMen,
     by: Colour,
     king: u8,
     diagonal: u64,
     straight: u64,
 ) -> u64
     requires { king < 64 }
-    ensures { (men : List (Option ManValue)) (occupied : ℕ) → IsSetOf occupied is_some men → StandFor force.now by men
-        → ((t : ℕ) → t < 64 → has diagonal t ≡ (has force.now.diagonal t && reaches_as_bishop (has occupied) king t))
-        → ((t : ℕ) → t < 64 → has straight t ≡ (has force.now.straight t && reaches_as_rook (has occupied) king t))
+    ensures { (men : List (Option ManValue)) (occupied : ℕ) → IsSetOf occupied is_some men → StandFor side_men.now by men
+        → ((t : ℕ) → t < 64 → has diagonal t ≡ (has side_men.now.diagonal t && reaches_as_bishop (has occupied) king t))
+        → ((t : ℕ) → t < 64 → has straight t ≡ (has side_men.now.straight t && reaches_as_rook (has occupied) king t))
         → (t : ℕ) → t < 64 → has result t ≡ not (some_square (λ a. hits_from men by a king && gets_through a king t)) }
 {
-    let checkers = attackers_with(rays, force, by, king, diagonal, straight);
+    let checkers = attackers_with(rays, side_men, by, king, diagonal, straight);
     capture_or_block(rays, checkers, king)
 }
 

@@ -12,10 +12,10 @@ ghost use Rattle.chess_moves.specs.inside.LegalityInfo.{IsLegalityInfoOf};
 
 use crate::attackers::is_hit_over;
 use crate::check_squares::{CheckSquares, special_squares, squares_of};
-use crate::forces::{force_of, without};
 use crate::legality_info::LegalityInfo;
 use crate::pseudo_legal_targets::attacks_of;
 use crate::ray_tables::Rays;
+use crate::side_men::{side_men_of, without};
 use chess_board::{Man, Position};
 
 /// The squares to which a man's legal move may give check. They are all squares where it opens a line to the king, and those of
@@ -55,7 +55,7 @@ fn squares_behind(rays: &Rays, position: &Position, man: Man, origin: u8) -> u64
     let enemy = side.other();
     let square = position.king(enemy).index() as u8;
     let lifted = square_sets::without(position.occupied(), origin);
-    let others = without(&force_of(position, side), origin);
+    let others = without(&side_men_of(position, side), origin);
     if is_hit_over(rays, lifted, &others, side, square) {
         return u64::MAX;
     }

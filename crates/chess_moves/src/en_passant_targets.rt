@@ -14,9 +14,9 @@ ghost use Rattle.chess_moves.specs.inside.LegalityInfo.{IsLegalityInfoOf};
 
 use crate::attackers::is_hit_over;
 use crate::directions::Leap;
-use crate::forces::without;
 use crate::legality_info::LegalityInfo;
 use crate::ray_tables::Rays;
+use crate::side_men::without;
 use chess_board::{Colour, Man, Position, Square, captured_pawn};
 
 /// The square that the last move's double step passed over, or none.

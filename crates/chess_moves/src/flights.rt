@@ -15,9 +15,9 @@ use crate::attacked_sets::attacked_squares;
 use crate::attackers::is_hit_over;
 use crate::check_squares::special_squares;
 use crate::directions::Leap;
-use crate::forces::{force_of, without};
 use crate::legality_info::LegalityInfo;
 use crate::ray_tables::Rays;
+use crate::side_men::{side_men_of, without};
 use chess_board::{Colour, Kind, Man, Position, sound_after};
 
 /// The king of the side that is not to move, and its flights: the squares beside it that hold none of its own men and that nobody
@@ -66,7 +66,7 @@ fn flights_of(rays: &Rays, position: &Position, info: &LegalityInfo) -> Flights
     let side = info.side;
     let king = position.king(side.other()).index() as u8;
     let lifted = square_sets::without(info.occupied, king);
-    let attacked = attacked_squares(rays, lifted, &force_of(position, side), side);
+    let attacked = attacked_squares(rays, lifted, &side_men_of(position, side), side);
     let enemies = info.occupied & !info.own;
     Flights {
         king,
@@ -82,19 +82,19 @@ pub(crate) fn squares_that_cover(
     info: &LegalityInfo,
     flights: Flights,
     mover: Mover,
-    hopes: u64,
+    candidates: u64,
 ) -> u64
     requires on_board { mover.origin < 64 }
     requires info { IsLegalityInfoOf info.now position.now }
     requires flights { AreFlightsOf flights position.now }
     requires there { man_at position.now.men mover.origin ≡ Some mover.man }
-    ensures { (m : MoveValue) → is_legal position.now m ≡ true → m.origin ≡ mover.origin → m.target < 64 → has hopes m.target ≡ true
+    ensures { (m : MoveValue) → is_legal position.now m ≡ true → m.origin ≡ mover.origin → m.target < 64 → has candidates m.target ≡ true
         → has result m.target ≡ false → is_mate (after_setup position.now m) ≡ false }
 {
     // That a legal move leaves a sound position is this law.
     sound_after();
     let special = special_squares(position, info, mover.man);
-    let mut covering = hopes;
+    let mut covering = candidates;
     for flight in square_sets::squares(flights.squares) {
         if covering == 0 {
             break;
@@ -124,7 +124,7 @@ fn squares_covering(
     if square_sets::contains(lines, mover.origin) {
         let lifted = square_sets::without(info.occupied, flights.king);
         let gone = square_sets::without(lifted, mover.origin);
-        let others = without(&force_of(position, side), mover.origin);
+        let others = without(&side_men_of(position, side), mover.origin);
         if is_hit_over(rays, gone, &others, side, flight) {
             return u64::MAX;
         }

@@ -6,8 +6,8 @@ ghost use Rattle.chess_board.specs.Positions.{Setup};
 ghost use Rattle.chess_moves.specs.inside.LegalityInfo.{IsLegalityInfoOf, with_checks_and_pins};
 
 use crate::checks_and_pins::check_mask;
-use crate::forces::{Force, all_of, force_of};
 use crate::ray_tables::Rays;
+use crate::side_men::{SideMen, all_of, side_men_of};
 use crate::slider_lines::{diagonal_lines, straight_lines};
 use chess_board::{Colour, Position};
 
@@ -21,7 +21,7 @@ pub(crate) struct LegalityInfo {
     /// Where a man of the side to move stands.
     pub own: u64,
     /// The men of the other side.
-    pub enemy: Force,
+    pub enemy: SideMen,
     /// The square of the king of the side to move.
     pub king: u8,
     /// Only men on these squares can be pinned: where one stands alone between the king and a slider of the other side, or all squares
@@ -41,8 +41,8 @@ pub(crate) fn bare_info_of(position: &Position) -> LegalityInfo
     LegalityInfo {
         side,
         occupied: position.occupied(),
-        own: all_of(&force_of(position, side)),
-        enemy: force_of(position, side.other()),
+        own: all_of(&side_men_of(position, side)),
+        enemy: side_men_of(position, side.other()),
         king: position.king(side).index() as u8,
         pin_squares: u64::MAX,
         check_mask: 0,
@@ -66,7 +66,7 @@ fn checks_and_pins_of(rays: &Rays, info: &LegalityInfo) -> ChecksAndPins
     let diagonal = diagonal_lines(rays, info.occupied, info.enemy.diagonal, info.king);
     let straight = straight_lines(rays, info.occupied, info.enemy.straight, info.king);
     ChecksAndPins {
-        pin_squares: diagonal.held | straight.held,
+        pin_squares: diagonal.blockers | straight.blockers,
         check_mask: check_mask(
             rays,
             &info.enemy,

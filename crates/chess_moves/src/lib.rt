@@ -5,11 +5,11 @@
 //! found by making it: sets of squares tell where each man may go.
 //!
 //! To read: `specs/Laws.antt` (which moves the list has) and `specs/inside/Listing.antt` (how it is put together); `directions`,
-//! `ray_tables`, `forces`, `attackers` and `slider_lines` (what is seen and attacked, and what is between), `legality_info`,
+//! `ray_tables`, `side_men`, `attackers` and `slider_lines` (what is seen and attacked, and what is between), `legality_info`,
 //! `castling_targets`, `en_passant_targets`,
 //! `pseudo_legal_targets` and `checks_and_pins` (where a man goes, and where it leaves its king safe), `legal_targets` and `promotions`;
 //! then `move_generation`, `verdicts` and `verdict_of_position`, and `perft_count`; `check_squares` and `gives_check`;
-//! `discovered_checks`, `attacked_sets`, `flights`, `mate_in_one` and `mating_moves`. `laws` says what the lists hold in words that do not
+//! `discovered_checks`, `attacked_sets`, `flights`, `mating_candidates`, `mate_in_one` and `mating_moves`. `laws` says what the lists hold in words that do not
 //! speak of how they are made. No call takes memory.
 #![tactic(auto)]
 
@@ -22,18 +22,19 @@ mod directions;
 mod discovered_checks;
 mod en_passant_targets;
 mod flights;
-mod forces;
 mod gives_check;
 mod laws;
 mod legal_targets;
 mod legality_info;
 mod mate_in_one;
+mod mating_candidates;
 mod mating_moves;
 mod move_generation;
 mod perft_count;
 mod promotions;
 mod pseudo_legal_targets;
 mod ray_tables;
+mod side_men;
 mod slider_lines;
 mod verdict_of_position;
 mod verdicts;

@@ -12,11 +12,11 @@ ghost use Rattle.chess_moves.specs.inside.LegalityInfo.{IsLegalityInfoOf};
 ghost use Rattle.chess_moves.specs.inside.Listing.{moves_to, legal_moves};
 ghost use Rattle.chess_moves.specs.inside.MoveGeneration.{next_promotion, man_moves};
 
-use crate::forces::{all_of, force_of};
 use crate::legal_targets::{is_target, targets_from};
 use crate::legality_info::{LegalityInfo, bare_info_of, legality_info_of};
 use crate::promotions::{own_man, promotion_squares};
 use crate::ray_tables::Rays;
+use crate::side_men::{all_of, side_men_of};
 use arrayvec::ArrayVec;
 use chess_board::{Kind, Man, Move, Position, Square};
 use square_sets::SquareScan;
@@ -190,7 +190,7 @@ pub fn is_legal(rays: &Rays, position: &Position, m: Move) -> bool
     ensures { result ≡ is_legal_in position.now m }
 {
     let origin = m.origin.index() as u8;
-    let own = all_of(&force_of(position, position.side()));
+    let own = all_of(&side_men_of(position, position.side()));
     if !square_sets::contains(own, origin) {
         return false;
     }

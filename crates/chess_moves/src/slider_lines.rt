@@ -13,7 +13,7 @@ pub(crate) struct SliderLines {
     /// The sliders between which and the square nothing stands.
     pub clear: u64,
     /// Where a man stands alone between one of them and the square.
-    pub held: u64,
+    pub blockers: u64,
 }
 
 /// The same with one slider more, where these squares between it and the square are taken.
@@ -21,14 +21,14 @@ pub(crate) struct SliderLines {
 fn with_slider(lines: SliderLines, slider: u8, taken: u64) -> SliderLines
     requires { slider < 64 }
     ensures clear { (t : ℕ) → t < 64 → has result.clear t ≡ (has lines.clear t || t == slider && taken == 0) }
-    ensures more { (t : ℕ) → t < 64 → has lines.held t ≡ true → has result.held t ≡ true }
-    ensures held { (o : ℕ) → o < 64 → IsAloneIn taken o → has result.held o ≡ true }
+    ensures more { (t : ℕ) → t < 64 → has lines.blockers t ≡ true → has result.blockers t ≡ true }
+    ensures blockers { (o : ℕ) → o < 64 → IsAloneIn taken o → has result.blockers o ≡ true }
 {
     let mut lines = lines;
     if taken == 0 {
         lines.clear = square_sets::with(lines.clear, slider);
     } else if square_sets::without(taken, square_sets::lowest(taken)) == 0 {
-        lines.held |= taken;
+        lines.blockers |= taken;
     }
     lines
 }
@@ -38,9 +38,12 @@ fn with_slider(lines: SliderLines, slider: u8, taken: u64) -> SliderLines
 fn slider_lines(rays: &Rays, occupied: u64, sliders: u64, square: u8) -> SliderLines
     requires { square < 64 }
     ensures clear { (a : ℕ) → a < 64 → has result.clear a ≡ (has sliders a && is_open (has occupied) square a) }
-    ensures held { (a o : ℕ) → a < 64 → o < 64 → has sliders a ≡ true → IsAlone (has occupied) square a o → has result.held o ≡ true }
+    ensures blockers { (a o : ℕ) → a < 64 → o < 64 → has sliders a ≡ true → IsAlone (has occupied) square a o → has result.blockers o ≡ true }
 {
-    let mut lines = SliderLines { clear: 0, held: 0 };
+    let mut lines = SliderLines {
+        clear: 0,
+        blockers: 0,
+    };
     for slider in square_sets::squares(sliders) {
         lines = with_slider(lines, slider, rays.between(square, slider) & occupied);
     }
@@ -51,8 +54,8 @@ fn slider_lines(rays: &Rays, occupied: u64, sliders: u64, square: u8) -> SliderL
 pub(crate) fn diagonal_lines(rays: &Rays, occupied: u64, sliders: u64, square: u8) -> SliderLines
     requires { square < 64 }
     ensures clear { (a : ℕ) → a < 64 → has result.clear a ≡ (has sliders a && reaches_as_bishop (has occupied) square a) }
-    ensures held { (a o : ℕ) → a < 64 → o < 64 → has sliders a ≡ true → is_on_diagonal square a ≡ true → IsAlone (has occupied) square a o
-        → has result.held o ≡ true }
+    ensures blockers { (a o : ℕ) → a < 64 → o < 64 → has sliders a ≡ true → is_on_diagonal square a ≡ true → IsAlone (has occupied) square a o
+        → has result.blockers o ≡ true }
 {
     slider_lines(rays, occupied, sliders & rays.diagonals(square), square)
 }
@@ -61,8 +64,8 @@ pub(crate) fn diagonal_lines(rays: &Rays, occupied: u64, sliders: u64, square: u
 pub(crate) fn straight_lines(rays: &Rays, occupied: u64, sliders: u64, square: u8) -> SliderLines
     requires { square < 64 }
     ensures clear { (a : ℕ) → a < 64 → has result.clear a ≡ (has sliders a && reaches_as_rook (has occupied) square a) }
-    ensures held { (a o : ℕ) → a < 64 → o < 64 → has sliders a ≡ true → is_on_straight square a ≡ true → IsAlone (has occupied) square a o
-        → has result.held o ≡ true }
+    ensures blockers { (a o : ℕ) → a < 64 → o < 64 → has sliders a ≡ true → is_on_straight square a ≡ true → IsAlone (has occupied) square a o
+        → has result.blockers o ≡ true }
 {
     slider_lines(rays, occupied, sliders & rays.straights(square), square)
 }

@@ -10,7 +10,7 @@ use Rattle.chess_board.specs.Soundness.{IsSound}
 use Rattle.chess_moves.specs.declared.legality_info.LegalityInfo.{LegalityInfo}
 use Rattle.chess_moves.specs.inside.Directions.{stands_between}
 use Rattle.chess_moves.specs.inside.Hits.{hits_from}
-use Rattle.chess_moves.specs.inside.Forces.{StandFor}
+use Rattle.chess_moves.specs.inside.SideMen.{StandFor}
 
 -- a man on t neither takes the attacker on a nor stands between it and the king
 abbrev pub gets_through : ℕ → ℕ → ℕ → Bool

@@ -5,7 +5,7 @@ use Rattle.chess_moves.proofs.attackers.attackers.Goals as goal
 
 pub returns : goal.returns
 returns c = λ men stands sets s on.
-    attackers_are c.args.occupied c.args.force.now c.args.by men c.args.square c.leap.result c.leap-2.result
+    attackers_are c.args.occupied c.args.side_men.now c.args.by men c.args.square c.leap.result c.leap-2.result
     c.diagonal_attackers.result c.straight_attackers.result c.leap-3.result
     stands sets (λ t l. c.leap.ensures t l ∙ ap (λ k. leaps k c.args.square t) c.capture_back.ensures) c.leap-2.ensures
     c.diagonal_attackers.ensures c.straight_attackers.ensures c.leap-3.ensures s on

@@ -2,7 +2,7 @@ use Rattle.std.proofs.Common.{◌≡◌, sym, ap, ◌∙◌}
 use Rattle.chess_board.specs.declared.men.Colour.{Colour}
 use Rattle.chess_board.specs.Men.{other_side}
 use Rattle.chess_board.specs.Attacks.{is_attacked}
-use Rattle.chess_moves.specs.inside.Forces.{StandFor}
+use Rattle.chess_moves.specs.inside.SideMen.{StandFor}
 use Rattle.chess_moves.proofs.Bridge.{attacked_same}
 use Rattle.chess_moves.proofs.castling_targets.is_attacked_in.Goals as goal
 

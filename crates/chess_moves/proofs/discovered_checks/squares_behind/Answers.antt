@@ -28,7 +28,7 @@ returns c = λ m legal e t plain none.
     ∙ ap (λ colour. man_of colour King) (c.other-enemy.ensures ∙ ap other_side side) in
     let lifted = stands_without is_some p.men c.occupied.result c.without-lifted.result o None sound.squares c.requires.on_board
     c.without-lifted.ensures refl c.occupied.ensures in
-    let others = c.without-others.ensures p.men c.side-side.result None sound.squares c.force_of.ensures refl in
+    let others = c.without-others.ensures p.men c.side-side.result None sound.squares c.side_men_of.ensures refl in
     let clear : is_hit gone k p.side ≡ false =
     ap (is_hit gone k) (sym side) ∙ sym (c.is_hit_over.ensures gone lifted others) ∙ c.if-is_hit_over.false in
     let back : has c.attacks_of.result m.target ≡ hits_as (λ s. is_taken gone s) p.side kind m.target k = c.attacks_of.ensures m.target t

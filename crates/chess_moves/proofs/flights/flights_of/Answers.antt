@@ -31,7 +31,7 @@ returns c =
     c.without-lifted.ensures refl info.occupied in
     let no_man : is_of by (man_at p.men k) ≡ false =
     ap (λ (s : Colour). is_of s (man_at p.men k)) info.side ∙ ap (is_of p.side) there ∙ not_of_other p.side in
-    let still = stand_still c.force_of.result by p.men k None long c.index-king.ensures.on_board no_man refl c.force_of.ensures in
+    let still = stand_still c.side_men_of.result by p.men k None long c.index-king.ensures.on_board no_man refl c.side_men_of.ensures in
     let few : enemies < 2 ^ 64 = omega (arith, and_le_l occupied (bit_not w64 own)) in
     record {
       on_board = c.index-king.ensures.on_board;

@@ -37,7 +37,7 @@ returns c = λ t l none.
           c.requires.on_board.0 w.without-gone.ensures refl lifted in
           let no_man : is_of by (man_at p.men k) ≡ false =
           ap (λ (c : Colour). is_of c (man_at p.men k)) side ∙ ap (is_of p.side) flights.there ∙ not_of_other p.side in
-          let still = stand_still w.force_of.result by p.men k None long flights.on_board no_man refl w.force_of.ensures in
+          let still = stand_still w.side_men_of.result by p.men k None long flights.on_board no_man refl w.side_men_of.ensures in
           let others = w.without-others.ensures lifted_men by None len still refl in
           ap (is_hit gone f) (sym side) ∙ sym (w.is_hit_over.ensures gone both others) ∙ w.if-is_hit_over.false
       | else-contains w ↦

@@ -10,7 +10,7 @@ use Rattle.chess_moves.proofs.flights.squares_that_cover.Given as goal
 abbrev pub invariant-loop-flight : goal.invariant-loop-flight
 invariant-loop-flight l = record {
   dropped : (m : Move) → is_legal l.position m ≡ true → m.origin ≡ l.mover.origin → m.target < 64
-      → has l.hopes m.target ≡ true → has l.covering m.target ≡ false
+      → has l.candidates m.target ≡ true → has l.covering m.target ≡ false
       → is_mate (after_setup l.position m) ≡ false;
   left : (s : ℕ) → s < 64 → has l.flight-iterator s ≡ true → has l.flights.squares s ≡ true;
 }

@@ -3,7 +3,7 @@ use Rattle.std.proofs.lemmas.Bool.{or_parts}
 use Rattle.square_sets.specs.Members.{has}
 use Rattle.chess_board.specs.Squares.{some_square}
 use Rattle.chess_board.specs.Men.{other_side}
-use Rattle.chess_moves.specs.inside.Forces.{StandFor}
+use Rattle.chess_moves.specs.inside.SideMen.{StandFor}
 use Rattle.chess_moves.specs.inside.Hits.{is_taken, hits_from}
 use Rattle.chess_moves.specs.inside.LegalityInfo.{gets_through}
 use Rattle.chess_moves.proofs.Removed.{attacks_removed}
@@ -26,13 +26,13 @@ returns c = λ p h.
       on_board = h.on_board;
       king = h.king;
       pin_squares = λ o a o_on l off own.
-          let none = or_parts (has c.diagonal_lines-diagonal.result.held o) (has c.straight_lines-straight.result.held o)
-          (sym (has_or c.diagonal_lines-diagonal.result.held c.straight_lines-straight.result.held o) ∙ off) in
+          let none = or_parts (has c.diagonal_lines-diagonal.result.blockers o) (has c.straight_lines-straight.result.blockers o)
+          (sym (has_or c.diagonal_lines-diagonal.result.blockers c.straight_lines-straight.result.blockers o) ∙ off) in
           attacks_removed p.men s.king o (other_side p.side) a h.sound.squares o_on l own
-          (λ one line alone. let held = slants.held a o l o_on (h.enemy.diagonal a l ∙ one) line
+          (λ one line alone. let blockers = slants.blockers a o l o_on (h.enemy.diagonal a l ∙ one) line
           (alone_same (λ s. is_taken p.men s) (has s.occupied)
           (λ q l. sym (h.occupied q l)) s.king a o o_on alone) in let gone = none.0 in cc)
-          (λ one line alone. let held = lines.held a o l o_on (h.enemy.straight a l ∙ one) line
+          (λ one line alone. let blockers = lines.blockers a o l o_on (h.enemy.straight a l ∙ one) line
           (alone_same (λ s. is_taken p.men s) (has s.occupied)
           (λ q l. sym (h.occupied q l)) s.king a o o_on alone) in let gone = none.1 in cc);
       check_mask = λ o t o_on l off.

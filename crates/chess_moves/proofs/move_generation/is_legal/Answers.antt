@@ -13,7 +13,7 @@ returns-then-not-contains c =
     let o : c.index-origin.result ≡ m.origin = c.index-origin.ensures.number ∙ ap (λ m. m.origin) c.m.view_is in
     let none : is_of p.side (man_at p.men m.origin) ≡ false = ap (λ s. is_of p.side (man_at p.men s)) (sym o)
     ∙ ap (λ side. is_of side (man_at p.men c.index-origin.result)) (sym c.side.ensures.side)
-    ∙ sym (c.all_of-own.ensures p.men c.side.result c.force_of.ensures c.index-origin.result c.index-origin.ensures.on_board)
+    ∙ sym (c.all_of-own.ensures p.men c.side.result c.side_men_of.ensures c.index-origin.result c.index-origin.ensures.on_board)
     ∙ sym c.contains.ensures ∙ c.if-not-contains.true in
     sym (not_own p m none)
 

@@ -17,8 +17,8 @@ returns-clause-clear c = λ a l.
     ∙ grouped (has c.args.sliders a) (is_on_diagonal k a) free
     ∙ ap (λ x. has c.args.sliders a && x) (slants_open (has c.args.occupied) k a)
 
-pub returns-clause-held : goal.returns-clause-held
-returns-clause-held c = λ a o l on there line alone.
-    c.slider_lines.ensures.held a o l on
+pub returns-clause-blockers : goal.returns-clause-blockers
+returns-clause-blockers c = λ a o l on there line alone.
+    c.slider_lines.ensures.blockers a o l on
     (has_and c.args.sliders c.diagonals.result a
     ∙ and_from (has c.args.sliders a) (has c.diagonals.result a) there (c.diagonals.ensures a l ∙ line)) alone

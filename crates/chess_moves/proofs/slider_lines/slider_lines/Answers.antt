@@ -13,7 +13,7 @@ loop-slider-init c =
     let start = c.into_iter-slider-iterator.ensures.into_iter_gives ∙ c.squares-slider-items.ensures in
     record {
       clear = λ a l. let none = has_none 0 a refl in rw (start, none) refl;
-      held = λ a o l on there gone alone. let same : has c.into_iter-slider-iterator.result a ≡ has c.args.sliders a = ap (λ x. has x a) start in cc;
+      blockers = λ a o l on there gone alone. let same : has c.into_iter-slider-iterator.result a ≡ has c.args.sliders a = ap (λ x. has x a) start in cc;
     }
 
 pub loop-slider-preserved : goal.loop-slider-preserved
@@ -30,14 +30,14 @@ loop-slider-preserved c =
           (λ e. ap (has c.loop-slider.slider-iterator) (eqb-true a b e) ∙ split.lowest.there)
           (λ e. told ∙ ap (λ x. is_open (has c.args.occupied) k x) (sym (eqb-true a b e)))
           ∙ c.loop-slider.invariant.clear a l;
-      held = λ a o l on there gone alone. (elim (eqb a b) as (λ x. eqb a b ≡ x → has c.with_slider-lines.result.held o ≡ true) [
+      blockers = λ a o l on there gone alone. (elim (eqb a b) as (λ x. eqb a b ≡ x → has c.with_slider-lines.result.blockers o ≡ true) [
         | true ↦ λ e.
             let here : IsAlone (has c.args.occupied) k b o = (rw (eqb-true a b e) at alone) in
-            c.with_slider-lines.ensures.held o on (alone_shared c.between.result c.args.occupied k b o on c.between.ensures here)
+            c.with_slider-lines.ensures.blockers o on (alone_shared c.between.result c.args.occupied k b o on c.between.ensures here)
         | false ↦ λ e.
             let still : has c.loop-slider.slider-iterator a ≡ false =
             left (eqb a b) (has c.loop-slider.slider-iterator a) e (sym (split.others a l) ∙ gone) in
-            c.with_slider-lines.ensures.more o on (c.loop-slider.invariant.held a o l on there still alone)
+            c.with_slider-lines.ensures.more o on (c.loop-slider.invariant.blockers a o l on there still alone)
       ]) refl;
     }
   where
@@ -55,6 +55,6 @@ returns-clause-clear c = λ a l.
     let none = has_none c.loop-slider.slider-iterator a c.in-None.ensures.steps.0 in
     sym (or-false (has c.loop-slider.lines.clear a)) ∙ (rw none at (c.loop-slider.invariant.clear a l))
 
-pub returns-clause-held : goal.returns-clause-held
-returns-clause-held c = λ a o l on there alone.
-    c.loop-slider.invariant.held a o l on there (has_none c.loop-slider.slider-iterator a c.in-None.ensures.steps.0) alone
+pub returns-clause-blockers : goal.returns-clause-blockers
+returns-clause-blockers c = λ a o l on there alone.
+    c.loop-slider.invariant.blockers a o l on there (has_none c.loop-slider.slider-iterator a c.in-None.ensures.steps.0) alone

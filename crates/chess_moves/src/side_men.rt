@@ -5,13 +5,13 @@ ghost use Rattle.chess_board.specs.declared.men.Man.{Man as ManValue};
 ghost use Rattle.chess_board.specs.declared.men.Colour.{Colour as ColourValue};
 ghost use Rattle.chess_board.specs.Men.{is_of};
 ghost use Rattle.chess_board.specs.Sets.{IsSetOf};
-ghost use Rattle.chess_moves.specs.inside.Forces.{StandFor};
+ghost use Rattle.chess_moves.specs.inside.SideMen.{StandFor};
 
 use chess_board::{Colour, Kind, Position};
 
 /// One side's men, as sets of squares: a queen stands in `diagonal` and in `straight`.
 #[derive(Clone, Copy)]
-pub(crate) struct Force {
+pub(crate) struct SideMen {
     pub pawns: u64,
     pub knights: u64,
     pub diagonal: u64,
@@ -20,11 +20,11 @@ pub(crate) struct Force {
 }
 
 /// A colour's men in a position.
-pub(crate) fn force_of(position: &Position, colour: Colour) -> Force
+pub(crate) fn side_men_of(position: &Position, colour: Colour) -> SideMen
     ensures { StandFor result colour position.now.men }
 {
     let queens = position.men(colour, Kind::Queen);
-    Force {
+    SideMen {
         pawns: position.men(colour, Kind::Pawn),
         knights: position.men(colour, Kind::Knight),
         diagonal: position.men(colour, Kind::Bishop) | queens,
@@ -33,24 +33,24 @@ pub(crate) fn force_of(position: &Position, colour: Colour) -> Force
     }
 }
 
-/// The squares of a force's men.
-pub(crate) fn all_of(force: &Force) -> u64
-    ensures { (men : List (Option ManValue)) (by : ColourValue) → StandFor force.now by men → IsSetOf result (is_of by) men }
+/// The squares of one side's men.
+pub(crate) fn all_of(side_men: &SideMen) -> u64
+    ensures { (men : List (Option ManValue)) (by : ColourValue) → StandFor side_men.now by men → IsSetOf result (is_of by) men }
 {
-    force.pawns | force.knights | force.diagonal | force.straight | force.king
+    side_men.pawns | side_men.knights | side_men.diagonal | side_men.straight | side_men.king
 }
 
 /// One side's sets without what stands on a square.
-pub(crate) fn without(force: &Force, square: u8) -> Force
+pub(crate) fn without(side_men: &SideMen, square: u8) -> SideMen
     requires { square < 64 }
-    ensures { (men : List (Option ManValue)) (by : ColourValue) (place : Option ManValue) → length men ≡ 64 → StandFor force.now by men
+    ensures { (men : List (Option ManValue)) (by : ColourValue) (place : Option ManValue) → length men ≡ 64 → StandFor side_men.now by men
         → is_of by place ≡ false → StandFor result by (slice_set men square place) }
 {
-    Force {
-        pawns: square_sets::without(force.pawns, square),
-        knights: square_sets::without(force.knights, square),
-        diagonal: square_sets::without(force.diagonal, square),
-        straight: square_sets::without(force.straight, square),
-        king: square_sets::without(force.king, square),
+    SideMen {
+        pawns: square_sets::without(side_men.pawns, square),
+        knights: square_sets::without(side_men.knights, square),
+        diagonal: square_sets::without(side_men.diagonal, square),
+        straight: square_sets::without(side_men.straight, square),
+        king: square_sets::without(side_men.king, square),
     }
 }

@@ -1,9 +1,9 @@
 use Rattle.std.proofs.Common.{refl}
 use Rattle.chess_board.specs.declared.men.Kind.TheVariants.{Pawn, Knight, Bishop, Rook, Queen, King}
 use Rattle.chess_board.specs.inside.KindTests.{is_pawn_kind, is_king_kind}
-use Rattle.chess_moves.specs.inside.Forces.{is_knight_kind, is_diagonal_kind, is_straight_kind}
-use Rattle.chess_moves.proofs.ForceSets.{set_of_kind, set_of_kinds, diagonal_kinds, straight_kinds}
-use Rattle.chess_moves.proofs.forces.force_of.Goals as goal
+use Rattle.chess_moves.specs.inside.SideMen.{is_knight_kind, is_diagonal_kind, is_straight_kind}
+use Rattle.chess_moves.proofs.SideSets.{set_of_kind, set_of_kinds, diagonal_kinds, straight_kinds}
+use Rattle.chess_moves.proofs.side_men.side_men_of.Goals as goal
 
 pub returns : goal.returns
 returns c = record {

@@ -7,7 +7,7 @@ use Rattle.chess_board.specs.declared.men.Man.{Man}
 use Rattle.chess_board.specs.Men.{is_colour, is_kind}
 use Rattle.chess_board.specs.inside.KindTests.{is_pawn_kind, is_king_kind}
 use Rattle.chess_board.specs.Sets.{IsSetOf}
-use Rattle.chess_moves.specs.declared.forces.Force.{Force}
+use Rattle.chess_moves.specs.declared.side_men.SideMen.{SideMen}
 
 abbrev pub is_knight_kind : Kind → Bool
 is_knight_kind kind = is_kind Knight kind
@@ -30,9 +30,9 @@ is_one colour passes None = false
 is_one colour passes (Some man) = is_colour colour man.colour && passes man.kind
 
 -- The sets are those of the colour's men; a queen stands in two of them.
-pub record StandFor (force : Force) (by : Colour) (men : List (Option Man)) : Type 0 where
-  pub pawns : IsSetOf force.pawns (is_one by is_pawn_kind) men
-  pub knights : IsSetOf force.knights (is_one by is_knight_kind) men
-  pub diagonal : IsSetOf force.diagonal (is_one by is_diagonal_kind) men
-  pub straight : IsSetOf force.straight (is_one by is_straight_kind) men
-  pub king : IsSetOf force.king (is_one by is_king_kind) men
+pub record StandFor (side_men : SideMen) (by : Colour) (men : List (Option Man)) : Type 0 where
+  pub pawns : IsSetOf side_men.pawns (is_one by is_pawn_kind) men
+  pub knights : IsSetOf side_men.knights (is_one by is_knight_kind) men
+  pub diagonal : IsSetOf side_men.diagonal (is_one by is_diagonal_kind) men
+  pub straight : IsSetOf side_men.straight (is_one by is_straight_kind) men
+  pub king : IsSetOf side_men.king (is_one by is_king_kind) men

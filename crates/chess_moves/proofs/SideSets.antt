@@ -9,7 +9,7 @@ use Rattle.chess_board.specs.Men.{is_colour, is_of, is_man, is_kind}
 use Rattle.chess_board.specs.inside.KindTests.{is_pawn_kind, is_king_kind}
 use Rattle.chess_board.specs.Positions.{man_at}
 use Rattle.chess_board.specs.Sets.{IsSetOf}
-use Rattle.chess_moves.specs.inside.Forces.{is_knight_kind, is_one, is_diagonal_kind, is_straight_kind}
+use Rattle.chess_moves.specs.inside.SideMen.{is_knight_kind, is_one, is_diagonal_kind, is_straight_kind}
 use Rattle.chess_moves.proofs.SetBits.{has_or}
 
 -- the men of one kind
