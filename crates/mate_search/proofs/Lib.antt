@@ -13,4 +13,4 @@ pub mod FirstMoves
 pub mod Told
 pub mod AtOnce
 pub mod PlainMoves
-pub mod CampSets
+pub mod OccupancySets

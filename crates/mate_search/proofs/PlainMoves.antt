@@ -17,7 +17,7 @@ use Rattle.chess_board.specs.Castling.{castles, is_castling}
 use Rattle.chess_board.specs.PseudoLegal.{goes, suits, piece_goes, man_may, is_pseudo_legal}
 use Rattle.chess_board.specs.MakeMove.{becomes, men_after, after_setup}
 use Rattle.chess_board.specs.Legality.{is_safe, is_legal}
-use Rattle.mate_search.specs.inside.Camps.{IsPlain}
+use Rattle.mate_search.specs.inside.SideOccupancy.{IsPlain}
 
 -- A man of the side to move stands on the origin and goes to the target, and no other square changes.
 pub record IsPlainMove (p : Setup) (m : Move) (man : Man) : Type 0 where

@@ -3,5 +3,5 @@ pub mod Truth
 pub mod PartLaws
 pub mod MemoEntries
 pub mod Findings
-pub mod Transpositions
-pub mod Camps
+pub mod LastReplyTable
+pub mod SideOccupancy

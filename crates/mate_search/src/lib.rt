@@ -4,14 +4,15 @@
 //! `specs/Wins.antt`, keys and the principal variation in `specs/PrincipalVariation.antt`, and what there is to say of a problem in
 //! `specs/Laws.antt`; an outcome is exactly that.
 //!
-//! To read: `memo_entries`, `peers`, `killers`, `recent_positions`, `transpositions`, `memo`, `halting`, `searching`, `verdicts`,
-//! `principal_variation`, `findings`, `solving`, `solvers`; `laws` says of the definitions what they are meant to say. `solve` takes memory
-//! for its memo alone, and never fails for want of it; `solve_until` can be stopped.
+//! To read: `memo_entries`, `peers`, `killers`, `side_occupancy`, `recent_positions`, `last_reply_table`, `memo`, `halting`, `searching`,
+//! `verdicts`, `principal_variation`, `findings`, `solving`, `solvers`; `laws` says of the definitions what they are meant to say. `solve`
+//! takes memory for its memo alone, and never fails for want of it; `solve_until` can be stopped.
 #![tactic(auto)]
 
 mod findings;
 mod halting;
 mod killers;
+mod last_reply_table;
 mod laws;
 mod memo;
 mod memo_entries;
@@ -19,9 +20,9 @@ mod peers;
 mod principal_variation;
 mod recent_positions;
 mod searching;
+mod side_occupancy;
 mod solvers;
 mod solving;
-mod transpositions;
 mod verdicts;
 
 pub use halting::{Guide, Halt, Never, Stopped};

@@ -4,16 +4,17 @@ ghost use Rattle.std.specs.Prelude.{◌≡◌, ◌↔◌, ◌⊎◌, ◌<◌, �
 ghost use Rattle.std.specs.NonZero.{non_zero_usize_get};
 ghost use Rattle.lru.specs.LruCache.{lru_cache};
 ghost use Rattle.mate_search.specs.declared.memo.MemoFault.TheVariants.{BadSize, NoMemory};
-ghost use Rattle.mate_search.specs.inside.Camps.{AreCampsOf};
+ghost use Rattle.mate_search.specs.inside.SideOccupancy.{IsOccupancyOf};
 ghost use Rattle.mate_search.specs.inside.MemoEntries.{IsTrueOf};
 ghost use Rattle.mate_search.specs.Memos.{max_large_entries, memo_fault_name};
 ghost use Rattle.mate_search.specs.Wins.{lost};
 
 use crate::killers::Killers;
+use crate::last_reply_table::{LastReplyTable, Place};
 use crate::memo_entries::Entry;
 use crate::peers::Peers;
-use crate::recent_positions::{Camps, RecentPositions, filter_bytes};
-use crate::transpositions::{Place, Transpositions};
+use crate::recent_positions::{RecentPositions, filter_bytes};
+use crate::side_occupancy::SideOccupancy;
 use chess_board::{Move, Position, equal_reads};
 use lru::LruCache;
 use std::alloc::{AllocError, Global};
@@ -41,8 +42,8 @@ pub struct Memo {
     waiting: usize,
     /// Which positions the cache may hold: to look for one that it does not costs more than to ask this.
     recent: RecentPositions,
-    /// What was found of positions with the defender to move and one move left.
-    transpositions: Transpositions,
+    /// What was found of positions with the defender to move and one move left to the attacker.
+    last_replies: LastReplyTable,
     killers: Killers,
     /// Whom it tells what is kept, and from whom it hears.
     peers: Peers,
@@ -138,14 +139,14 @@ impl Memo {
         };
         let recent = RecentPositions::new(alloc, entries);
         let few = entries.min(FEW_ENTRIES);
-        let transpositions = Transpositions::none(alloc, few, filter_bytes(few));
+        let last_replies = LastReplyTable::none(alloc, few, filter_bytes(few));
         match cache_for(alloc, size) {
             Ok(cache) => Ok(Memo {
                 cache,
                 room: entries,
                 waiting: 0,
                 recent,
-                transpositions,
+                last_replies,
                 killers: Killers::none(),
                 peers: Peers::none(alloc),
             }),
@@ -256,22 +257,22 @@ impl Memo {
     {
         // That this position is sound is a clause of this call.
         position.side();
-        let camps = Camps::of(position);
-        if !self.may_have(camps) {
+        let occupancy = SideOccupancy::of(position);
+        if !self.may_have(occupancy) {
             return Entry::nothing();
         }
-        self.find(position, camps)
+        self.find(position, occupancy)
     }
 
     /// Whether something may be kept of a position whose men stand so.
     #[inline(always)]
-    pub(crate) fn may_have(&self, camps: Camps) -> bool {
-        self.recent.may_have(camps)
+    pub(crate) fn may_have(&self, occupancy: SideOccupancy) -> bool {
+        self.recent.may_have(occupancy)
     }
 
     /// What is known of a position whose men stand so, which becomes the one that was met last.
-    pub(crate) fn find(&mut self, position: &Position, camps: Camps) -> Entry
-        requires { AreCampsOf camps position.now.men }
+    pub(crate) fn find(&mut self, position: &Position, occupancy: SideOccupancy) -> Entry
+        requires { IsOccupancyOf occupancy position.now.men }
         ensures known { IsTrueOf position.now result }
         ensures room { self.new.room ≡ self.old.room }
     {
@@ -282,7 +283,7 @@ impl Memo {
         match self.cache.get(position) {
             Some(entry) => {
                 let known = *entry;
-                self.recent.meet(camps);
+                self.recent.mark(occupancy);
                 known
             }
             None => Entry::nothing(),
@@ -321,7 +322,7 @@ impl Memo {
         equal_reads();
         // A put that is refused loses this entry, and no outcome depends on it.
         if self.cache.put(*position, entry).is_ok() {
-            self.recent.meet(Camps::of(position));
+            self.recent.mark(SideOccupancy::of(position));
         } else {
             self.make_do();
         }
@@ -332,7 +333,7 @@ impl Memo {
     pub(crate) fn judged(&self, place: Place, position: &Position) -> Option<bool>
         ensures { IfSome result (λ is_lost. is_lost ≡ lost 1 position.now) }
     {
-        self.transpositions.judged(place, position)
+        self.last_replies.judged(place, position)
     }
 
     /// Keeps in this place whether it is. Where memory is refused, it is not kept.
@@ -341,7 +342,7 @@ impl Memo {
         ensures { self.new ≡ self.old }
     {
         let held = self.cache.len();
-        self.transpositions.keep(place, position, is_lost, held);
+        self.last_replies.keep(place, position, is_lost, held);
     }
 
     /// The two replies that refuted last with one move left to the attacker.

@@ -4,14 +4,14 @@ ghost use Rattle.std.specs.Prelude.{◌≡◌, ◌<◌, ◌≤◌, ◌-◌, true
 ghost use Rattle.chess_board.specs.Legality.{is_legal};
 ghost use Rattle.chess_board.specs.MakeMove.{after_setup};
 ghost use Rattle.mate_search.specs.Wins.{win, lost};
-ghost use Rattle.mate_search.specs.inside.Camps.{AreCampsOf, IsPlain};
+ghost use Rattle.mate_search.specs.inside.SideOccupancy.{IsOccupancyOf, IsPlain};
 
 use crate::halting::{Guide, Halt, Stopped};
+use crate::last_reply_table::place_of;
 use crate::memo::Memo;
-use crate::recent_positions::Camps;
-use crate::transpositions::place_of;
+use crate::side_occupancy::SideOccupancy;
 use chess_board::{Move, Position, after};
-use chess_moves::{Rays, attacked, has_mating_move, is_legal, is_mated, legal_listed, legal_moves};
+use chess_moves::{Rays, has_mating_move, in_check, is_legal, is_mated, legal_listed, legal_moves};
 
 /// Whether the attacker, to move, mates within `n` moves. A position one move from the end is not worth keeping.
 #[cycle(search)]
@@ -30,12 +30,6 @@ pub(crate) fn wins<H: Halt>(
         1 => Ok(mates(guide.rays, position)),
         _ => wins_longer(guide, position, n, memo),
     }
-}
-
-/// Whether the side to move is in check, as the ray tables tell it. Only the order of replies goes by it.
-fn in_check(rays: &Rays, position: &Position) -> bool {
-    let side = position.side();
-    attacked(rays, position, position.king(side), side.other())
 }
 
 /// Whether a legal move mates.
@@ -225,9 +219,9 @@ fn is_known_refuted(rays: &Rays, position: &Position, k: u8, memo: &mut Memo) ->
     ensures refuted { result ≡ true → lost k position.now ≡ false }
     ensures room { memo.new.room ≡ memo.old.room }
 {
-    let camps = Camps::of_plain(position);
+    let occupancy = SideOccupancy::of_plain(position);
     for r in legal_moves(rays, position) {
-        if is_known_to_refute(position, camps, r, k, memo) {
+        if is_known_to_refute(position, occupancy, r, k, memo) {
             return true;
         }
     }
@@ -239,20 +233,20 @@ fn is_known_refuted(rays: &Rays, position: &Position, k: u8, memo: &mut Memo) ->
 #[inline(always)]
 fn is_known_to_refute(
     position: &Position,
-    camps: Option<Camps>,
+    occupancy: Option<SideOccupancy>,
     reply: Move,
     k: u8,
     memo: &mut Memo,
 ) -> bool
-    requires plain { IsSome camps → IsPlain position.now }
-    requires camps { IfSome camps (λ camps. AreCampsOf camps position.now.men) }
+    requires plain { IsSome occupancy → IsPlain position.now }
+    requires occupancy { IfSome occupancy (λ o. IsOccupancyOf o position.now.men) }
     requires legal { is_legal position.now reply ≡ true }
     ensures refutes { result ≡ true → win k (after_setup position.now reply) ≡ false }
     ensures room { memo.new.room ≡ memo.old.room }
 {
-    let next = match camps {
-        Some(camps) => camps.after(position, reply),
-        None => Camps::of(&after(position, reply)),
+    let next = match occupancy {
+        Some(occupancy) => occupancy.after(position, reply),
+        None => SideOccupancy::of(&after(position, reply)),
     };
     if !memo.may_have(next) {
         return false;

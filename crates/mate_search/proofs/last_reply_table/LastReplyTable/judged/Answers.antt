@@ -1,6 +1,6 @@
 use Rattle.std.proofs.Common.{sym, ap, ◌∙◌}
 use Rattle.mate_search.specs.Wins.{lost}
-use Rattle.mate_search.proofs.transpositions.Transpositions.judged.Goals as goal
+use Rattle.mate_search.proofs.last_reply_table.LastReplyTable.judged.Goals as goal
 
 pub returns-then-is_same_position : goal.returns-then-is_same_position
 returns-then-is_same_position c = c.judged.invariant ∙ ap (lost 1)

@@ -1,5 +1,5 @@
-//! What was found of positions with the defender to move and one move left to the attacker, in which lines meet that differ in the order
-//! of their moves.
+//! The transposition table of the last reply: what was found of positions with the defender to move and one move left to the attacker, in
+//! which lines meet that differ in the order of their moves. It is small; the large one is the memo, of positions with the attacker to move.
 
 ghost use Rattle.std.specs.Prelude.{◌≡◌, IfSome};
 ghost use Rattle.chess_board.specs.Laws.{are_equal};
@@ -36,7 +36,7 @@ pub(crate) struct Judged {
 impl Model for Judged {
     ghost use Rattle.std.specs.Prelude.{◌≡◌};
     ghost use Rattle.mate_search.specs.Wins.{lost};
-    ghost use Rattle.mate_search.specs.inside.Transpositions.{JudgedValue};
+    ghost use Rattle.mate_search.specs.inside.LastReplyTable.{JudgedValue};
 
     ghost Value = { JudgedValue };
 
@@ -50,7 +50,7 @@ impl Model for Judged {
 /// The positions that were judged last, each in the place that its hash names, where it takes another's. Each is true, so no outcome
 /// depends on what is kept.
 #[derive(Drop)]
-pub(crate) struct Transpositions {
+pub(crate) struct LastReplyTable {
     alloc: Global,
     places: Vec<Judged>,
     /// A byte of the hash of the position in each place: most that is asked about is told to be another by it, and no place is read.
@@ -88,10 +88,10 @@ fn is_same_position(p: &Position, q: &Position) -> bool
     p == q
 }
 
-impl Transpositions {
+impl LastReplyTable {
     /// None yet, of a memo with room for so many entries, whose filter takes so many bytes.
-    pub(crate) fn none(alloc: Global, entries: usize, filter: usize) -> Transpositions {
-        Transpositions {
+    pub(crate) fn none(alloc: Global, entries: usize, filter: usize) -> LastReplyTable {
+        LastReplyTable {
             alloc,
             places: Vec::new(alloc),
             tags: Vec::new(alloc),

@@ -20,7 +20,7 @@ use Rattle.chess_board.specs.Soundness.{IsSound}
 use Rattle.chess_board.specs.Moves.{Move}
 use Rattle.chess_board.specs.MakeMove.{becomes, after_setup}
 use Rattle.chess_board.specs.Legality.{is_legal}
-use Rattle.mate_search.specs.inside.Camps.{IsPlain}
+use Rattle.mate_search.specs.inside.SideOccupancy.{IsPlain}
 use Rattle.mate_search.proofs.PlainMoves.{plain_move, becomes_colour}
 
 -- the square is in the set
@@ -120,13 +120,13 @@ test_moved test men o t man s long from to =
     ]) refl
 
 -- the side whose man went
-camp_moved : (men : List (Option Man)) (side : Colour) (o t camp : ℕ) (man : Man) → length men ≡ 64 → o < 64 → t < 64
-    → is_of side (Some man) ≡ true → IsSetOf camp (is_of side) men
-    → IsSetOf (bit_or (bit_and camp (bit_not w64 (1 * 2 ^ o % 2 ^ 64))) (1 * 2 ^ t % 2 ^ 64)) (is_of side) (moved men o t man)
-camp_moved men side o t camp man long from to own stands s l =
+side_moved : (men : List (Option Man)) (side : Colour) (o t held : ℕ) (man : Man) → length men ≡ 64 → o < 64 → t < 64
+    → is_of side (Some man) ≡ true → IsSetOf held (is_of side) men
+    → IsSetOf (bit_or (bit_and held (bit_not w64 (1 * 2 ^ o % 2 ^ 64))) (1 * 2 ^ t % 2 ^ 64)) (is_of side) (moved men o t man)
+side_moved men side o t held man long from to own stands s l =
     rw (
-      has_with (bit_and camp (bit_not w64 (1 * 2 ^ o % 2 ^ 64))) t s to,
-      has_without camp o s from l,
+      has_with (bit_and held (bit_not w64 (1 * 2 ^ o % 2 ^ 64))) t s to,
+      has_without held o s from l,
       test_moved (is_of side) men o t man s long from to,
       own,
       stands s l,
@@ -138,11 +138,11 @@ camp_moved men side o t camp man long from to own stands s l =
     same false false z = refl
 
 -- the other side
-camp_met : (men : List (Option Man)) (side : Colour) (o t camp : ℕ) (man : Man) → length men ≡ 64 → o < 64 → t < 64
-    → is_of side (Some man) ≡ false → is_of side (man_at men o) ≡ false → IsSetOf camp (is_of side) men
-    → IsSetOf (bit_and camp (bit_not w64 (1 * 2 ^ t % 2 ^ 64))) (is_of side) (moved men o t man)
-camp_met men side o t camp man long from to foreign none stands s l =
-    rw (has_without camp t s to l, test_moved (is_of side) men o t man s long from to, foreign, stands s l)
+side_taken : (men : List (Option Man)) (side : Colour) (o t held : ℕ) (man : Man) → length men ≡ 64 → o < 64 → t < 64
+    → is_of side (Some man) ≡ false → is_of side (man_at men o) ≡ false → IsSetOf held (is_of side) men
+    → IsSetOf (bit_and held (bit_not w64 (1 * 2 ^ t % 2 ^ 64))) (is_of side) (moved men o t man)
+side_taken men side o t held man long from to foreign none stands s l =
+    rw (has_without held t s to l, test_moved (is_of side) men o t man s long from to, foreign, stands s l)
     (same (eqb s t) (eqb s o) (is_of side (man_at men s)) (λ e. let here = eqb-true s o e in rw here none))
   where
     same : (x y z : Bool) → (y ≡ true → z ≡ false) → (not x && z) ≡ cond x false (cond y false z)
@@ -168,28 +168,28 @@ squares_of m o t r origin target a b seen on from to at_origin at_target = subst
 
 module _ (p : Setup) (m : Move) (origin target : ℕ) (sound : IsSound p) (squares : AreSquaresOf m origin target)
     (plain : IsPlain p) (legal : is_legal p m ≡ true) where
-  -- the camp of the side that moves
-  pub own_camp : (side : Colour) (camp : ℕ) → p.side ≡ side → IsSetOf camp (is_of side) p.men
-      → IsSetOf (bit_or (bit_and camp (bit_not w64 origin)) target) (is_of side) (after_setup p m).men
-  own_camp side camp moves stands =
+  -- the squares of the side that moves
+  pub own_side : (side : Colour) (held : ℕ) → p.side ≡ side → IsSetOf held (is_of side) p.men
+      → IsSetOf (bit_or (bit_and held (bit_not w64 origin)) target) (is_of side) (after_setup p m).men
+  own_side side held moves stands =
       let by = plain_move p m plain legal in
       let man = becomes by.0 m.promotion in
       let own : is_of side (Some man) ≡ true =
       ap (is_colour side) (becomes_colour by.0 m.promotion ∙ by.1.own ∙ moves) ∙ itself side in
       rw (by.1.men, squares.at_origin, squares.at_target)
-      (camp_moved p.men side m.origin m.target camp man sound.squares squares.from squares.to own stands)
+      (side_moved p.men side m.origin m.target held man sound.squares squares.from squares.to own stands)
     where
       itself : (colour : Colour) → is_colour colour colour ≡ true
       itself White = refl
       itself Black = refl
 
-  -- the camp of the other side
-  pub other_camp : (side : Colour) (camp : ℕ) → is_colour side p.side ≡ false → IsSetOf camp (is_of side) p.men
-      → IsSetOf (bit_and camp (bit_not w64 target)) (is_of side) (after_setup p m).men
-  other_camp side camp waits stands =
+  -- those of the other side
+  pub other_side : (side : Colour) (held : ℕ) → is_colour side p.side ≡ false → IsSetOf held (is_of side) p.men
+      → IsSetOf (bit_and held (bit_not w64 target)) (is_of side) (after_setup p m).men
+  other_side side held waits stands =
       let by = plain_move p m plain legal in
       let man = becomes by.0 m.promotion in
       let foreign : is_of side (Some man) ≡ false = ap (is_colour side) (becomes_colour by.0 m.promotion ∙ by.1.own) ∙ waits in
       let none : is_of side (man_at p.men m.origin) ≡ false = ap (is_of side) by.1.there ∙ ap (is_colour side) by.1.own ∙ waits in
       rw (by.1.men, squares.at_target)
-      (camp_met p.men side m.origin m.target camp man sound.squares squares.from squares.to foreign none stands)
+      (side_taken p.men side m.origin m.target held man sound.squares squares.from squares.to foreign none stands)

@@ -1,6 +1,6 @@
 use Rattle.std.proofs.Common.{arith}
-use Rattle.mate_search.proofs.CampSets.{rest_of}
-use Rattle.mate_search.proofs.recent_positions.Camps.of.Goals as goal
+use Rattle.mate_search.proofs.OccupancySets.{rest_of}
+use Rattle.mate_search.proofs.side_occupancy.SideOccupancy.of.Goals as goal
 
 pub returns : goal.returns
 returns c = record {

@@ -1,4 +1,4 @@
--- Not for believing: what is kept of positions with the defender to move.
+-- Not for believing: what the table of the last reply keeps.
 use Rattle.std.specs.Prelude.{Bool}
 use Rattle.chess_board.specs.Positions.{Setup}
 

@@ -1,5 +1,5 @@
-use Rattle.mate_search.proofs.CampSets.{men_of_kinds}
-use Rattle.mate_search.proofs.recent_positions.men_of.Goals as goal
+use Rattle.mate_search.proofs.OccupancySets.{men_of_kinds}
+use Rattle.mate_search.proofs.side_occupancy.men_of.Goals as goal
 
 pub returns : goal.returns
 returns c = men_of_kinds c.args.position.now.men c.args.side c.men.result c.men-2.result c.men-3.result c.men-4.result c.men-5.result c.men-6.result
