@@ -1,5 +1,5 @@
 -- The moves that the attacker may begin with.
-use Rattle.std.proofs.Common.{◌≡◌, ◌↔◌, ◌==◌, Bool, true, false, not, List, [], ◌∷◌, length, filter, refl, ap, sym, ◌∙◌, arith, subst}
+use Rattle.std.proofs.Common.{◌≡◌, ◌↔◌, ◌==◌, ℕ, Bool, true, false, not, List, [], ◌∷◌, None, length, filter, refl, ap, sym, ◌∙◌, arith, subst}
 use Rattle.std.specs.List.{All, Contains, list_any}
 use Rattle.std.proofs.lemmas.Bool.Decides.{nat_tests}
 use Rattle.std.proofs.lemmas.List.Elements.{filter_passes, All-filter, All-contains, All-contains_itself}
@@ -9,11 +9,13 @@ use Rattle.chess_moves.specs.inside.Listing.{legal_moves}
 use Rattle.chess_moves.specs.Laws.{LegalRise}
 use Rattle.chess_problems.specs.Problems.{ProblemValue}
 use Rattle.chess_problems.specs.SameProblems.{is_same_move, SameMoveReads}
-use Rattle.mate_search.specs.inside.Truth.{first_moves, truth_among, truth}
+use Rattle.mate_search.specs.Wins.{win}
+use Rattle.mate_search.specs.inside.Truth.{dist, first_moves, truth_among, truth}
 use Rattle.mate_search.specs.Laws.{AreFirstMoves}
 use Rattle.mate_search.proofs.Searches.{any_contains, contains_any, filter_keeps}
 use Rattle.mate_search.proofs.Wins.{legal_each}
 use Rattle.mate_search.proofs.MoveOrder.{rising_kept}
+use Rattle.mate_search.proofs.Known.{none_found_within}
 
 abbrev may_begin : List Move → Move → Bool
 may_begin avoid m = not (list_any (is_same_move m) avoid)
@@ -50,17 +52,23 @@ all_pass : (ms : List Move) → filter (may_begin []) ms ≡ ms
 all_pass [] = refl
 all_pass (m ∷ ms) = ap (λ rest. m ∷ rest) (all_pass ms)
 
-pub nothing_avoided : (q : ProblemValue) → q.avoid ≡ [] → first_moves q ≡ legal_moves q.position
+pub all_may_begin : (q : ProblemValue) → (length q.avoid == 0) ≡ true → first_moves q ≡ legal_moves q.position
 unfolding first_moves
-nothing_avoided q e = ap (λ avoid. filter (may_begin avoid) (legal_moves q.position)) e ∙ all_pass (legal_moves q.position)
+all_may_begin q none =
+    ap (λ avoid. filter (may_begin avoid) (legal_moves q.position)) (empty q.avoid none) ∙ all_pass (legal_moves q.position)
+  where
+    empty : (ms : List Move) → (length ms == 0) ≡ true → ms ≡ []
+    empty [] h = refl
+    empty (m ∷ ms) h = let some : (length (m ∷ ms) == 0) ≡ false = grind (arith, nat_tests) in cc
 
 -- So what there is to say of the problem is what there is to say of all of them.
-pub truth_of_all : (q : ProblemValue) → (length q.avoid == 0) ≡ true → truth_among (legal_moves q.position) q.position q.bound ≡ truth q
+pub truth_of_all : (q : ProblemValue) → first_moves q ≡ legal_moves q.position → truth_among (legal_moves q.position) q.position q.bound ≡ truth q
 unfolding truth
-truth_of_all q none = ap (λ first. truth_among first q.position q.bound) (sym (nothing_avoided q (empty q.avoid none))) where
-  empty : (ms : List Move) → (length ms == 0) ≡ true → ms ≡ []
-  empty [] h = refl
-  empty (m ∷ ms) h = let some : (length (m ∷ ms) == 0) ≡ false = grind (arith, nat_tests) in cc
+truth_of_all q all = ap (λ first. truth_among first q.position q.bound) (sym all)
+
+pub none_of_all : (q : ProblemValue) (n : ℕ) → first_moves q ≡ legal_moves q.position → win n q.position ≡ false
+    → dist (first_moves q) q.position n ≡ None
+none_of_all q n all none = rw all (none_found_within n q.position none)
 
 pub first_moves_legal : (q : ProblemValue) → All (Contains (legal_moves q.position)) (first_moves q)
 unfolding first_moves

@@ -30,7 +30,7 @@ any_kept f (x ∷ xs) = (elim (f x) as (λ b. f x ≡ b → list_any f (x ∷ xs
   | false ↦ λ t. rw t (any_kept f xs)
 ]) refl
 
-win_by_keys : (first : List Move) (p : Setup) (k : ℕ) → win_among first (k + 1) p ≡ nat_lt 0 (length (keys first p (k + 1)))
+pub win_by_keys : (first : List Move) (p : Setup) (k : ℕ) → win_among first (k + 1) p ≡ nat_lt 0 (length (keys first p (k + 1)))
 win_by_keys first p k = win_among_step first (k + 1) p (omega arith) ∙ any_kept (leaves_lost (k + 1 - 1) p) first
 
 -- Where none mates within k moves, a key of a mate in one more makes that the least number, and where there is no key, none mates so.

@@ -101,7 +101,6 @@ kept_resized old new most room before waiting is some within whole h =
       whole = whole;
     })
 
--- Within as many moves as an entry rules out, there is no mate to find.
-pub none_found_within : (p : Setup) (entry : Entry) → IsTrueOf p entry → dist (legal_moves p) p entry.none_within ≡ None
-none_found_within p entry h =
-    none_dist (legal_moves p) p entry.none_within (λ k l. all_among k p ∙ no_win_within_fewer entry.none_within k p l h.none)
+-- Where there is no mate within n moves, there is none to find.
+pub none_found_within : (n : ℕ) (p : Setup) → win n p ≡ false → dist (legal_moves p) p n ≡ None
+none_found_within n p none = none_dist (legal_moves p) p n (λ k l. all_among k p ∙ no_win_within_fewer n k p l none)

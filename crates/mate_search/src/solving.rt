@@ -9,6 +9,7 @@ ghost use Rattle.chess_problems.specs.SameProblems.{is_same_move as are_same_mov
 ghost use Rattle.chess_moves.specs.inside.Listing.{legal_moves};
 ghost use Rattle.std.specs.List.{list_any};
 ghost use Rattle.mate_search.specs.Verdicts.{AreTrueIn};
+ghost use Rattle.mate_search.specs.Wins.{win};
 ghost use Rattle.mate_search.specs.inside.MemoEntries.{IsTrueOf};
 ghost use Rattle.chess_problems.specs.Outcomes.{IsPlayable};
 
@@ -19,9 +20,7 @@ use crate::memo_entries::Entry;
 use crate::principal_variation::{push_keys, push_variation};
 use crate::verdicts::{Root, Verdict};
 use chess_board::{Move, Position};
-use chess_moves::{
-    MoveList, Rays, legal, legal_listed, legal_moves as all_legal, push_mating_moves,
-};
+use chess_moves::{MoveList, Rays, legal_listed, legal_moves, push_mating_moves};
 use chess_problems::{Bound, Outcome, Problem, is_same_move};
 
 /// What there is to say of a problem: the least number of the attacker's moves within which it mates with none of the moves to avoid
@@ -82,6 +81,7 @@ pub fn solve_told<H: Halt>(
 }
 
 /// The least number of moves with what is found of it.
+#[tactic(auto, using(crate::proofs::AtOnce::none_in_none))]
 fn find<H: Halt>(
     guide: &Guide<H>,
     problem: &Problem,
@@ -97,96 +97,50 @@ fn find<H: Halt>(
     ensures within { memo.new.kept ≤ memo.new.room }
 {
     memo.ask_again();
-    let dm = find_either(guide, problem, told, memo, found);
+    let dm = if problem.avoid.is_empty() {
+        find_of_all(guide, problem, told, memo, found)
+    } else {
+        find_beyond(guide, problem, 0, told, memo, found)
+    };
     // That a memo keeps no more than it has room for is this call's clause.
     let _kept = memo.len();
     dm
 }
 
-/// The same, by where a move is to be avoided.
-fn find_either<H: Halt>(
+/// Where nothing is to be avoided: the memo may know of the position itself, and keeps what was found of it. The mates in one are found
+/// without a list of all moves.
+fn find_of_all<H: Halt>(
     guide: &Guide<H>,
     problem: &Problem,
     told: &[Verdict],
     memo: &mut Memo,
     found: &mut Finding,
 ) -> Result<Option<Bound>, Stopped>
+    requires all { moves_to_begin problem.now ≡ legal_moves problem.now.position }
     requires told { AreTrueIn problem.now.position told.now }
     requires blank { IsBlank found.old }
     ensures truth { IfOk result (λ dm. outcome_of dm found.new ≡ truth problem.now) }
     ensures stopped { IfErr result (λ _. H.may_stop guide.now.halt.now) }
     ensures room { memo.new.room ≡ memo.old.room }
 {
-    if problem.avoid.is_empty() {
-        find_of_all(guide, &problem.position, problem.bound, told, memo, found)
-    } else {
-        find_of_rest(guide, problem, told, memo, found)
-    }
-}
-
-/// Lists the legal moves where there is room for them: a list that is handed back is copied.
-fn push_legal(rays: &Rays, position: &Position, out: &mut MoveList)
-    requires { out.old.items ≡ [] }
-    ensures { out.new.items ≡ legal_moves position.now }
-{
-    for m in all_legal(rays, position) {
-        out.push(m);
-    }
-}
-
-/// Where nothing is to be avoided: the memo may know of the position itself, and keeps what was found of it.
-fn find_of_all<H: Halt>(
-    guide: &Guide<H>,
-    position: &Position,
-    bound: Bound,
-    told: &[Verdict],
-    memo: &mut Memo,
-    found: &mut Finding,
-) -> Result<Option<Bound>, Stopped>
-    requires told { AreTrueIn position.now told.now }
-    requires blank { IsBlank found.old }
-    ensures truth { IfOk result (λ dm. outcome_of dm found.new ≡ truth_among (legal_moves position.now) position.now bound) }
-    ensures stopped { IfErr result (λ _. H.may_stop guide.now.halt.now) }
-    ensures room { memo.new.room ≡ memo.old.room }
-{
-    let known = memo.entry(position);
-    let dm = match known.none_within {
-        0 => find_from_one(guide, position, bound, told, memo, found)?,
-        none => find_beyond(guide, position, none, bound, told, memo, found)?,
-    };
-    memo.keep(position, learned(known, &dm, bound));
-    Ok(dm)
-}
-
-/// The same without the memo, where the mates in one are found without a list of all moves.
-fn find_from_one<H: Halt>(
-    guide: &Guide<H>,
-    position: &Position,
-    bound: Bound,
-    told: &[Verdict],
-    memo: &mut Memo,
-    found: &mut Finding,
-) -> Result<Option<Bound>, Stopped>
-    requires told { AreTrueIn position.now told.now }
-    requires blank { IsBlank found.old }
-    ensures least { IfOk result (λ dm. dm ≡ dist (legal_moves position.now) position.now bound) }
-    ensures truth { IfOk result (λ dm. outcome_of dm found.new ≡ truth_among (legal_moves position.now) position.now bound) }
-    ensures stopped { IfErr result (λ _. H.may_stop guide.now.halt.now) }
-    ensures room { memo.new.room ≡ memo.old.room }
-{
-    if mates_at_once(guide.rays, position, found) {
+    let known = memo.entry(&problem.position);
+    if known.none_within == 0 && mates_at_once(guide.rays, &problem.position, found) {
+        memo.keep(&problem.position, known.with(1, true));
+        // That every bound is one at least is a clause of this call.
+        problem.bound.get();
         return Ok(Bound::new(1));
     }
-    find_beyond(guide, position, 1, bound, told, memo, found)
+    let dm = find_beyond(guide, problem, known.none_within.max(1), told, memo, found)?;
+    memo.keep(&problem.position, learned(known, &dm, problem.bound));
+    Ok(dm)
 }
 
 /// Whether a move mates at once: then all that do are the keys, and the first of them is the line.
 fn mates_at_once(rays: &Rays, position: &Position, found: &mut Finding) -> bool
     requires blank { IsBlank found.old }
-    ensures least { result ≡ true → (b : ℕ) → 1 ≤ b → dist (legal_moves position.now) position.now b ≡ Some 1 }
+    ensures found { result ≡ win 1 position.now }
     ensures truth { result ≡ true → (b : ℕ) → 1 ≤ b → outcome_of (Some 1) found.new ≡ truth_among (legal_moves position.now) position.now b }
     ensures blank { result ≡ false → IsBlank found.new }
-    ensures none { result ≡ false → dist (legal_moves position.now) position.now 1 ≡ None }
 {
     let Finding { keys, pv } = found;
     push_mating_moves(rays, position, keys);
@@ -199,60 +153,41 @@ fn mates_at_once(rays: &Rays, position: &Position, found: &mut Finding) -> bool
     }
 }
 
-/// The same where no move mates within so many. Its list of moves takes room only where it is called.
+/// The same where the first moves don't mate within so many: looks for keys of a mate in one move more, two, and so on up to the bound. What is
+/// found so of a position with moves to avoid is not what a memo keeps. The list of first moves takes room only where this is called.
 #[inline(never)]
-#[tactic(auto, using(crate::proofs::Wins::legal_each))]
 fn find_beyond<H: Halt>(
     guide: &Guide<H>,
-    position: &Position,
-    none: u8,
-    bound: Bound,
-    told: &[Verdict],
-    memo: &mut Memo,
-    found: &mut Finding,
-) -> Result<Option<Bound>, Stopped>
-    requires told { AreTrueIn position.now told.now }
-    requires none { dist (legal_moves position.now) position.now none ≡ None }
-    requires blank { IsBlank found.old }
-    ensures least { IfOk result (λ dm. dm ≡ dist (legal_moves position.now) position.now bound) }
-    ensures truth { IfOk result (λ dm. outcome_of dm found.new ≡ truth_among (legal_moves position.now) position.now bound) }
-    ensures stopped { IfErr result (λ _. H.may_stop guide.now.halt.now) }
-    ensures room { memo.new.room ≡ memo.old.room }
-{
-    let mut first = MoveList::new();
-    push_legal(guide.rays, position, &mut first);
-    let root = Root {
-        position,
-        first: first.as_slice(),
-        told,
-    };
-    find_among(guide, &root, none, bound, memo, found)
-}
-
-/// Where moves are to be avoided: what is found of the position so is not what a memo keeps, so it is not asked about it. Its list of
-/// moves takes room only where it is called.
-#[inline(never)]
-#[tactic(auto, unfolding(crate::specs::inside::Truth::dist, crate::specs::inside::Truth::truth))]
-fn find_of_rest<H: Halt>(
-    guide: &Guide<H>,
     problem: &Problem,
+    none: u8,
     told: &[Verdict],
     memo: &mut Memo,
     found: &mut Finding,
 ) -> Result<Option<Bound>, Stopped>
+    requires none { dist (moves_to_begin problem.now) problem.now.position none ≡ None }
     requires told { AreTrueIn problem.now.position told.now }
     requires blank { IsBlank found.old }
+    ensures least { IfOk result (λ dm. dm ≡ dist (moves_to_begin problem.now) problem.now.position problem.now.bound) }
     ensures truth { IfOk result (λ dm. outcome_of dm found.new ≡ truth problem.now) }
     ensures stopped { IfErr result (λ _. H.may_stop guide.now.halt.now) }
     ensures room { memo.new.room ≡ memo.old.room }
 {
-    let first = first_moves(guide.rays, problem);
+    let mut first = MoveList::new();
+    push_first_moves(guide.rays, problem, &mut first);
     let root = Root {
         position: &problem.position,
         first: first.as_slice(),
         told,
     };
-    find_among(guide, &root, 0, problem.bound, memo, found)
+    let Finding { keys, pv } = found;
+    for k in none..problem.bound.get() {
+        push_keys(guide, &root, k + 1, memo, keys)?;
+        if !keys.is_empty() {
+            push_variation(guide, root.position, keys.as_slice(), k + 1, memo, pv)?;
+            return Ok(Bound::new(k + 1));
+        }
+    }
+    Ok(None)
 }
 
 /// Whether the move is one of these.
@@ -267,17 +202,16 @@ fn is_among(m: Move, moves: &[Move]) -> bool
     false
 }
 
-/// The legal moves that are not to be avoided.
-fn not_avoided(rays: &Rays, problem: &Problem) -> MoveList
-    ensures { result.items ≡ moves_to_begin problem.now }
+/// Lists the moves that the attacker may begin with where there is room for them: a list that is handed back is copied.
+fn push_first_moves(rays: &Rays, problem: &Problem, out: &mut MoveList)
+    requires { out.old.items ≡ [] }
+    ensures { out.new.items ≡ moves_to_begin problem.now }
 {
-    let mut first = MoveList::new();
-    for m in legal(rays, &problem.position).as_slice() {
-        if !is_among(*m, problem.avoid.as_slice()) {
-            first.push(*m);
+    for m in legal_moves(rays, &problem.position) {
+        if !is_among(m, problem.avoid.as_slice()) {
+            out.push(m);
         }
     }
-    first
 }
 
 /// The moves that the attacker may begin with: the legal ones that are not to be avoided.
@@ -285,7 +219,9 @@ pub fn first_moves(rays: &Rays, problem: &Problem) -> MoveList
     ensures moves { result.items ≡ moves_to_begin problem.now }
     ensures legal { All (λ m. is_legal problem.now.position m ≡ true) result.items }
 {
-    not_avoided(rays, problem)
+    let mut first = MoveList::new();
+    push_first_moves(rays, problem, &mut first);
+    first
 }
 
 /// What is known of a position once its problem is solved.
@@ -296,35 +232,4 @@ fn learned(known: Entry, dm: &Option<Bound>, bound: Bound) -> Entry
         Some(dm) => known.with(dm.get() - 1, false).with(dm.get(), true),
         None => known.with(bound.get(), false),
     }
-}
-
-/// The least number of moves where the attacker's first move is one of these, with none of which it mates within `none` moves: looks
-/// for keys of a mate in one move more, two, and so on up to the bound.
-fn find_among<H: Halt>(
-    guide: &Guide<H>,
-    root: &Root,
-    none: u8,
-    bound: Bound,
-    memo: &mut Memo,
-    found: &mut Finding,
-) -> Result<Option<Bound>, Stopped>
-    requires none { dist root.now.first.now root.now.position.now none ≡ None }
-    requires few { length root.now.first.now ≤ 1024 }
-    requires legal { All (λ m. is_legal root.now.position.now m ≡ true) root.now.first.now }
-    requires told { AreTrueIn root.now.position.now root.now.told.now }
-    requires blank { IsBlank found.old }
-    ensures least { IfOk result (λ dm. dm ≡ dist root.now.first.now root.now.position.now bound) }
-    ensures truth { IfOk result (λ dm. outcome_of dm found.new ≡ truth_among root.now.first.now root.now.position.now bound) }
-    ensures stopped { IfErr result (λ _. H.may_stop guide.now.halt.now) }
-    ensures room { memo.new.room ≡ memo.old.room }
-{
-    let Finding { keys, pv } = found;
-    for k in none..bound.get() {
-        push_keys(guide, root, k + 1, memo, keys)?;
-        if !keys.is_empty() {
-            push_variation(guide, root.position, keys.as_slice(), k + 1, memo, pv)?;
-            return Ok(Bound::new(k + 1));
-        }
-    }
-    Ok(None)
 }

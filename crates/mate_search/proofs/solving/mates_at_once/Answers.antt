@@ -1,23 +1,25 @@
-use Rattle.std.proofs.Common.{◌≡◌, ◌<◌, List, [], ◌∷◌, ◌++◌, length, get_or, refl, sym, ap, ◌∙◌, arith}
+use Rattle.std.proofs.Common.{◌≡◌, ◌<◌, List, [], ◌∷◌, ◌++◌, length, get_or, nat_lt, refl, sym, ap, ◌∙◌, arith}
+use Rattle.std.proofs.lemmas.Bool.{lt-ltb}
 use Rattle.std.proofs.lemmas.List.{nil_from_length}
 use Rattle.chess_board.specs.Moves.{Move}
 use Rattle.chess_moves.specs.inside.Listing.{legal_moves}
 use Rattle.chess_moves.specs.Verdicts.{mating_moves}
 use Rattle.mate_search.specs.inside.Truth.{truth_among}
 use Rattle.mate_search.specs.inside.Variation.{keys, variation}
-use Rattle.mate_search.proofs.AtOnce.{keys_at_once, least_at_once, line_at_once, none_at_once}
+use Rattle.mate_search.proofs.AtOnce.{keys_at_once, least_at_once, line_at_once, win_at_once}
 use Rattle.mate_search.proofs.solving.mates_at_once.Goals as goal
 
-pub returns-in-empty-clause-none : goal.returns-in-empty-clause-none
-returns-in-empty-clause-none c = λ _.
+pub returns-in-empty-clause-found : goal.returns-in-empty-clause-found
+returns-in-empty-clause-found c =
     let none : length c.push_mating_moves.new.out.items ≡ 0 = omega (arith, c.in-empty.len_below, ap length c.as_slice.ensures.value) in
-    none_at_once c.args.position.now (sym c.push_mating_moves.ensures ∙ nil_from_length c.push_mating_moves.new.out.items none)
+    sym (win_at_once c.args.position.now ∙ ap (λ (ms : List Move). nat_lt 0 (length ms))
+    (sym c.push_mating_moves.ensures ∙ nil_from_length c.push_mating_moves.new.out.items none))
 
-pub returns-in-len1-up-clause-least : goal.returns-in-len1-up-clause-least
-returns-in-len1-up-clause-least c = λ _ b.
+pub returns-in-len1-up-clause-found : goal.returns-in-len1-up-clause-found
+returns-in-len1-up-clause-found c =
     let some : 0 < length (mating_moves c.args.position.now) =
     omega (arith, c.in-len1-up.len_at_least, ap length c.as_slice.ensures.value, ap length c.push_mating_moves.ensures) in
-    least_at_once c.args.position.now b some
+    sym (win_at_once c.args.position.now ∙ lt-ltb 0 (length (mating_moves c.args.position.now)) some)
 
 pub returns-in-len1-up-clause-truth : goal.returns-in-len1-up-clause-truth
 unfolding truth_among
