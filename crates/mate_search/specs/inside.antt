@@ -1,3 +1,4 @@
+pub mod Halting
 pub mod Variation
 pub mod Truth
 pub mod PartLaws

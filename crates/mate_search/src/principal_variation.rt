@@ -1,11 +1,12 @@
 //! The keys of a mate and its principal variation, the line of play.
 
-ghost use Rattle.std.specs.Prelude.{◌≡◌, ◌+◌, ◌*◌, ◌<◌, ◌≤◌, ◌++◌, [], true, All, IfErr, IfOk, IfSome, Contains, List, Some, length};
+ghost use Rattle.std.specs.Prelude.{◌≡◌, ◌+◌, ◌*◌, ◌<◌, ◌≤◌, ◌++◌, [], true, All, IfOk, IfSome, Contains, List, Some, length};
 ghost use Rattle.chess_board.specs.Moves.{Move};
 ghost use Rattle.arrayvec.specs.ArrayVec.{array_vec_len};
 ghost use Rattle.chess_board.specs.Legality.{is_legal};
 ghost use Rattle.chess_moves.specs.inside.Listing.{legal_moves};
 ghost use Rattle.mate_search.specs.Verdicts.{AreTrueIn};
+ghost use Rattle.mate_search.specs.inside.Halting.{EndsSearch};
 ghost use Rattle.mate_search.specs.inside.Variation.{keys, least_key, longest_defence, variation};
 
 use crate::halting::{Guide, Halt, Stopped};
@@ -30,8 +31,7 @@ pub(crate) fn push_keys<H: Halt>(
     requires legal { All (λ m. is_legal root.now.position.now m ≡ true) root.now.first.now }
     requires told { AreTrueIn root.now.position.now root.now.told.now }
     ensures keys { IfOk result (λ _. out.new.items ≡ keys root.now.first.now root.now.position.now n) }
-    ensures stopped { IfErr result (λ _. H.may_stop guide.now.halt.now) }
-    ensures room { memo.new.room ≡ memo.old.room }
+    ensures ends { EndsSearch result (H.may_stop guide.now.halt.now) memo.old memo.new }
 {
     for m in root.first {
         if judge(guide, root, *m, n - 1, memo)? {
@@ -53,8 +53,7 @@ fn least_key<H: Halt>(
     requires legal { All (λ m. is_legal position.now m ≡ true) first.now }
     ensures key { IfOk result (λ found. found ≡ least_key first.now position.now n) }
     ensures legal { IfOk result (λ found. IfSome found (λ m. is_legal position.now m ≡ true)) }
-    ensures stopped { IfErr result (λ _. H.may_stop guide.now.halt.now) }
-    ensures room { memo.new.room ≡ memo.old.room }
+    ensures ends { EndsSearch result (H.may_stop guide.now.halt.now) memo.old memo.new }
 {
     for m in first {
         if loses(guide, &after(position, *m), n - 1, memo)? {
@@ -74,8 +73,7 @@ fn least_of_all<H: Halt>(
     requires some { 0 < n }
     ensures key { IfOk result (λ found. found ≡ least_key (legal_moves position.now) position.now n) }
     ensures legal { IfOk result (λ found. IfSome found (λ m. is_legal position.now m ≡ true)) }
-    ensures stopped { IfErr result (λ _. H.may_stop guide.now.halt.now) }
-    ensures room { memo.new.room ≡ memo.old.room }
+    ensures ends { EndsSearch result (H.may_stop guide.now.halt.now) memo.old memo.new }
 {
     for m in all_legal(guide.rays, position) {
         if loses(guide, &after(position, m), n - 1, memo)? {
@@ -94,8 +92,7 @@ fn longest_defence<H: Halt>(
 ) -> Result<Option<Move>, Stopped>
     ensures reply { IfOk result (λ found. found ≡ longest_defence position.now j) }
     ensures legal { IfOk result (λ found. IfSome found (λ r. is_legal position.now r ≡ true)) }
-    ensures stopped { IfErr result (λ _. H.may_stop guide.now.halt.now) }
-    ensures room { memo.new.room ≡ memo.old.room }
+    ensures ends { EndsSearch result (H.may_stop guide.now.halt.now) memo.old memo.new }
 {
     for r in all_legal(guide.rays, position) {
         if !wins(guide, &after(position, r), j, memo)? {
@@ -118,8 +115,7 @@ pub(crate) fn push_variation<H: Halt>(
     requires room { array_vec_len out.old + 2 * n ≤ 30 }
     requires legal { All (λ m. is_legal position.now m ≡ true) first.now }
     ensures variation { IfOk result (λ _. out.new.items ≡ out.old.items ++ variation first.now position.now n) }
-    ensures stopped { IfErr result (λ _. H.may_stop guide.now.halt.now) }
-    ensures room { memo.new.room ≡ memo.old.room }
+    ensures ends { EndsSearch result (H.may_stop guide.now.halt.now) memo.old memo.new }
 {
     match least_key(guide, position, first, n, memo)? {
         Some(m) => push_from(guide, position, m, n, memo, out),
@@ -141,8 +137,7 @@ fn push_from<H: Halt>(
     requires room { array_vec_len out.old + 2 * n ≤ 30 }
     requires legal { is_legal position.now key ≡ true }
     ensures variation { IfOk result (λ _. (first : List Move) → Some key ≡ least_key first position.now n → out.new.items ≡ out.old.items ++ variation first position.now n) }
-    ensures stopped { IfErr result (λ _. H.may_stop guide.now.halt.now) }
-    ensures room { memo.new.room ≡ memo.old.room }
+    ensures ends { EndsSearch result (H.may_stop guide.now.halt.now) memo.old memo.new }
 {
     out.push(key);
     if n > 1 {
@@ -167,8 +162,7 @@ fn push_next<H: Halt>(
     requires some { 0 < n }
     requires room { array_vec_len out.old + 2 * n ≤ 30 }
     ensures variation { IfOk result (λ _. out.new.items ≡ out.old.items ++ variation (legal_moves position.now) position.now n) }
-    ensures stopped { IfErr result (λ _. H.may_stop guide.now.halt.now) }
-    ensures room { memo.new.room ≡ memo.old.room }
+    ensures ends { EndsSearch result (H.may_stop guide.now.halt.now) memo.old memo.new }
 {
     match least_of_all(guide, position, n, memo)? {
         Some(m) => push_from(guide, position, m, n, memo, out),

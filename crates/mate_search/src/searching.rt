@@ -1,9 +1,10 @@
 //! Whether the side to move mates, or is mated, within so many moves of the attacker. Each search ends at once where it is to stop.
 
-ghost use Rattle.std.specs.Prelude.{◌≡◌, ◌<◌, ◌≤◌, ◌-◌, true, false, IfErr, IfOk, IfSome, IsSome, None};
+ghost use Rattle.std.specs.Prelude.{◌≡◌, ◌<◌, ◌≤◌, ◌-◌, true, false, IfOk, IfSome, IsSome, None};
 ghost use Rattle.chess_board.specs.Legality.{is_legal};
 ghost use Rattle.chess_board.specs.MakeMove.{after_setup};
 ghost use Rattle.mate_search.specs.Wins.{win, lost};
+ghost use Rattle.mate_search.specs.inside.Halting.{EndsSearch};
 ghost use Rattle.mate_search.specs.inside.SideOccupancy.{IsOccupancyOf, IsPlain};
 
 use crate::halting::{Guide, Halt, Stopped};
@@ -22,8 +23,7 @@ pub(crate) fn wins<H: Halt>(
     memo: &mut Memo,
 ) -> Result<bool, Stopped>
     ensures found { IfOk result (λ found. found ≡ win n position.now) }
-    ensures stopped { IfErr result (λ _. H.may_stop guide.now.halt.now) }
-    ensures room { memo.new.room ≡ memo.old.room }
+    ensures ends { EndsSearch result (H.may_stop guide.now.halt.now) memo.old memo.new }
 {
     match n {
         0 => Ok(false),
@@ -52,8 +52,7 @@ fn wins_longer<H: Halt>(
 ) -> Result<bool, Stopped>
     requires { 1 < n }
     ensures found { IfOk result (λ found. found ≡ win n position.now) }
-    ensures stopped { IfErr result (λ _. H.may_stop guide.now.halt.now) }
-    ensures room { memo.new.room ≡ memo.old.room }
+    ensures ends { EndsSearch result (H.may_stop guide.now.halt.now) memo.old memo.new }
 {
     if guide.halt.is_stopped() {
         return Err(Stopped);
@@ -89,8 +88,7 @@ fn least_win<H: Halt>(
     requires { win none position.now ≡ false }
     ensures least { IfOk result (λ least. IfSome least (λ k. (0 < k) × (k ≤ n) × (win (k - 1) position.now ≡ false) × (win k position.now ≡ true))) }
     ensures none { IfOk result (λ least. least ≡ None → win n position.now ≡ false) }
-    ensures stopped { IfErr result (λ _. H.may_stop guide.now.halt.now) }
-    ensures room { memo.new.room ≡ memo.old.room }
+    ensures ends { EndsSearch result (H.may_stop guide.now.halt.now) memo.old memo.new }
 {
     for k in none..n {
         if wins_by_some(guide, position, k + 1, memo)? {
@@ -110,8 +108,7 @@ fn wins_by_some<H: Halt>(
 ) -> Result<bool, Stopped>
     requires some { 0 < n }
     ensures found { IfOk result (λ found. found ≡ win n position.now) }
-    ensures stopped { IfErr result (λ _. H.may_stop guide.now.halt.now) }
-    ensures room { memo.new.room ≡ memo.old.room }
+    ensures ends { EndsSearch result (H.may_stop guide.now.halt.now) memo.old memo.new }
 {
     for m in legal_moves(guide.rays, position) {
         if loses_again(guide, &after(position, m), n - 1, memo)? {
@@ -133,8 +130,7 @@ fn loses_again<H: Halt>(
     memo: &mut Memo,
 ) -> Result<bool, Stopped>
     ensures lost { IfOk result (λ is_lost. is_lost ≡ lost k position.now) }
-    ensures stopped { IfErr result (λ _. H.may_stop guide.now.halt.now) }
-    ensures room { memo.new.room ≡ memo.old.room }
+    ensures ends { EndsSearch result (H.may_stop guide.now.halt.now) memo.old memo.new }
 {
     if k != 1 {
         return loses(guide, position, k, memo);
@@ -157,8 +153,7 @@ pub(crate) fn loses<H: Halt>(
     memo: &mut Memo,
 ) -> Result<bool, Stopped>
     ensures lost { IfOk result (λ is_lost. is_lost ≡ lost k position.now) }
-    ensures stopped { IfErr result (λ _. H.may_stop guide.now.halt.now) }
-    ensures room { memo.new.room ≡ memo.old.room }
+    ensures ends { EndsSearch result (H.may_stop guide.now.halt.now) memo.old memo.new }
 {
     if k == 0 {
         return Ok(is_mated(guide.rays, position));
@@ -179,8 +174,7 @@ fn is_refuted_first<H: Halt>(
     memo: &mut Memo,
 ) -> Result<bool, Stopped>
     ensures refuted { IfOk result (λ refuted. refuted ≡ true → lost k position.now ≡ false) }
-    ensures stopped { IfErr result (λ _. H.may_stop guide.now.halt.now) }
-    ensures room { memo.new.room ≡ memo.old.room }
+    ensures ends { EndsSearch result (H.may_stop guide.now.halt.now) memo.old memo.new }
 {
     if k == 1 {
         return is_refuted_by_killer(guide, position, k, memo);
@@ -203,8 +197,7 @@ fn is_refuted_by_killer<H: Halt>(
     memo: &mut Memo,
 ) -> Result<bool, Stopped>
     ensures refuted { IfOk result (λ refuted. refuted ≡ true → lost k position.now ≡ false) }
-    ensures stopped { IfErr result (λ _. H.may_stop guide.now.halt.now) }
-    ensures room { memo.new.room ≡ memo.old.room }
+    ensures ends { EndsSearch result (H.may_stop guide.now.halt.now) memo.old memo.new }
 {
     let (last, earlier) = memo.killers();
     if refutes(guide, position, last, k, memo)? {
@@ -263,8 +256,7 @@ fn is_refuted_by_check<H: Halt>(
     memo: &mut Memo,
 ) -> Result<bool, Stopped>
     ensures refuted { IfOk result (λ refuted. refuted ≡ true → lost k position.now ≡ false) }
-    ensures stopped { IfErr result (λ _. H.may_stop guide.now.halt.now) }
-    ensures room { memo.new.room ≡ memo.old.room }
+    ensures ends { EndsSearch result (H.may_stop guide.now.halt.now) memo.old memo.new }
 {
     for r in legal_moves(guide.rays, position) {
         let next = after(position, r);
@@ -284,8 +276,7 @@ fn is_refuted_by_capture<H: Halt>(
     memo: &mut Memo,
 ) -> Result<bool, Stopped>
     ensures refuted { IfOk result (λ refuted. refuted ≡ true → lost k position.now ≡ false) }
-    ensures stopped { IfErr result (λ _. H.may_stop guide.now.halt.now) }
-    ensures room { memo.new.room ≡ memo.old.room }
+    ensures ends { EndsSearch result (H.may_stop guide.now.halt.now) memo.old memo.new }
 {
     for r in legal_moves(guide.rays, position) {
         if position.man(r.target).is_some() && !wins(guide, &after(position, r), k, memo)? {
@@ -305,8 +296,7 @@ fn refutes<H: Halt>(
     memo: &mut Memo,
 ) -> Result<bool, Stopped>
     ensures refuted { IfOk result (λ refuted. refuted ≡ true → lost k position.now ≡ false) }
-    ensures stopped { IfErr result (λ _. H.may_stop guide.now.halt.now) }
-    ensures room { memo.new.room ≡ memo.old.room }
+    ensures ends { EndsSearch result (H.may_stop guide.now.halt.now) memo.old memo.new }
 {
     let Some(r) = reply else {
         return Ok(false);
@@ -330,8 +320,7 @@ fn loses_each<H: Halt>(
     memo: &mut Memo,
 ) -> Result<bool, Stopped>
     ensures lost { IfOk result (λ is_lost. is_lost ≡ lost k position.now) }
-    ensures stopped { IfErr result (λ _. H.may_stop guide.now.halt.now) }
-    ensures room { memo.new.room ≡ memo.old.room }
+    ensures ends { EndsSearch result (H.may_stop guide.now.halt.now) memo.old memo.new }
 {
     let mut moves = false;
     for r in legal_moves(guide.rays, position) {

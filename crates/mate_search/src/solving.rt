@@ -1,8 +1,9 @@
 //! Problems solved.
 
-ghost use Rattle.std.specs.Prelude.{◌≡◌, ◌<◌, ◌≤◌, ℕ, true, false, All, IfErr, IfOk, length, None, Some, []};
+ghost use Rattle.std.specs.Prelude.{◌≡◌, ◌≤◌, ℕ, true, false, All, IfErr, IfOk, None, Some, []};
 ghost use Rattle.chess_board.specs.Legality.{is_legal};
 ghost use Rattle.chess_board.specs.Positions.{Setup};
+ghost use Rattle.mate_search.specs.inside.Halting.{EndsSearch};
 ghost use Rattle.mate_search.specs.inside.Findings.{outcome_of, IsBlank};
 ghost use Rattle.mate_search.specs.inside.Truth.{dist, first_moves as moves_to_begin, truth, truth_among};
 ghost use Rattle.chess_problems.specs.SameProblems.{is_same_move as are_same_move};
@@ -92,8 +93,7 @@ fn find<H: Halt>(
     requires told { AreTrueIn problem.now.position told.now }
     requires blank { IsBlank found.old }
     ensures truth { IfOk result (λ dm. outcome_of dm found.new ≡ truth problem.now) }
-    ensures stopped { IfErr result (λ _. H.may_stop guide.now.halt.now) }
-    ensures room { memo.new.room ≡ memo.old.room }
+    ensures ends { EndsSearch result (H.may_stop guide.now.halt.now) memo.old memo.new }
     ensures within { memo.new.kept ≤ memo.new.room }
 {
     memo.ask_again();
@@ -107,8 +107,8 @@ fn find<H: Halt>(
     dm
 }
 
-/// Where nothing is to be avoided: the memo may know of the position itself, and keeps what was found of it. The mates in one are found
-/// without a list of all moves.
+/// The same where nothing is to be avoided: then the memo may know of the position itself, and keeps what was found of it. The mates in one
+/// are found without a list of all moves.
 fn find_of_all<H: Halt>(
     guide: &Guide<H>,
     problem: &Problem,
@@ -120,8 +120,7 @@ fn find_of_all<H: Halt>(
     requires told { AreTrueIn problem.now.position told.now }
     requires blank { IsBlank found.old }
     ensures truth { IfOk result (λ dm. outcome_of dm found.new ≡ truth problem.now) }
-    ensures stopped { IfErr result (λ _. H.may_stop guide.now.halt.now) }
-    ensures room { memo.new.room ≡ memo.old.room }
+    ensures ends { EndsSearch result (H.may_stop guide.now.halt.now) memo.old memo.new }
 {
     let known = memo.entry(&problem.position);
     if known.none_within == 0 && mates_at_once(guide.rays, &problem.position, found) {
@@ -153,8 +152,8 @@ fn mates_at_once(rays: &Rays, position: &Position, found: &mut Finding) -> bool
     }
 }
 
-/// The same where the first moves don't mate within so many: looks for keys of a mate in one move more, two, and so on up to the bound. What is
-/// found so of a position with moves to avoid is not what a memo keeps. The list of first moves takes room only where this is called.
+/// The least number of moves, with what is found of it, where none of the first moves mates within so many: looks for keys of a mate in one
+/// move more, two, and so on up to the bound. The list of first moves takes room only where this is called.
 #[inline(never)]
 fn find_beyond<H: Halt>(
     guide: &Guide<H>,
@@ -169,8 +168,7 @@ fn find_beyond<H: Halt>(
     requires blank { IsBlank found.old }
     ensures least { IfOk result (λ dm. dm ≡ dist (moves_to_begin problem.now) problem.now.position problem.now.bound) }
     ensures truth { IfOk result (λ dm. outcome_of dm found.new ≡ truth problem.now) }
-    ensures stopped { IfErr result (λ _. H.may_stop guide.now.halt.now) }
-    ensures room { memo.new.room ≡ memo.old.room }
+    ensures ends { EndsSearch result (H.may_stop guide.now.halt.now) memo.old memo.new }
 {
     let mut first = MoveList::new();
     push_first_moves(guide.rays, problem, &mut first);

@@ -4,6 +4,7 @@ ghost use Rattle.std.specs.Prelude.{◌≡◌, true, IfErr, IfOk, IfSome, is_som
 ghost use Rattle.std.specs.List.{list_any};
 ghost use Rattle.chess_board.specs.Legality.{is_legal};
 ghost use Rattle.chess_board.specs.Positions.{Setup};
+ghost use Rattle.mate_search.specs.inside.Halting.{EndsSearch};
 ghost use Rattle.mate_search.specs.Verdicts.{AreTrueIn, is_on};
 ghost use Rattle.mate_search.specs.Wins.{leaves_lost as move_leaves_lost};
 
@@ -73,9 +74,8 @@ pub(crate) fn judge<H: Halt>(
     requires legal { is_legal root.now.position.now m ≡ true }
     requires told { AreTrueIn root.now.position.now root.now.told.now }
     ensures found { IfOk result (λ found. found ≡ move_leaves_lost k root.now.position.now m) }
-    ensures stopped { IfErr result (λ _. H.may_stop guide.now.halt.now) }
     ensures unsearched { list_any (is_on m k) root.now.told.now ≡ true → memo.new ≡ memo.old }
-    ensures room { memo.new.room ≡ memo.old.room }
+    ensures ends { EndsSearch result (H.may_stop guide.now.halt.now) memo.old memo.new }
 {
     match verdict_on(root.told, m, k) {
         Some(is_lost) => Ok(is_lost),

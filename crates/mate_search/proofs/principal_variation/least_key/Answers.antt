@@ -14,7 +14,7 @@ loop-m-preserved g c = record {
   none = none_next (leaves_lost (c.args.n - 1) c.args.position.now) c.args.first.now c.loop-m.m-index c.m-item.result
       c.loop-m-test.true c.m-item.is c.loop-m.invariant.none
       (ap (lost (c.args.n - 1)) (sym c.after.ensures) ∙ sym c.in_ok-loses.ensures.lost ∙ c.if-branch.false);
-  room = c.loses.ensures.room ∙ c.loop-m.invariant.room;
+  room = c.loses.ensures.ends.room ∙ c.loop-m.invariant.room;
 }
 
 pub returns-clause-key : goal.returns-clause-key

@@ -15,13 +15,13 @@ loop-m-preserved g c =
             c.loop-m-test.true c.m-item.is (sym c.in_ok-judge.ensures.found ∙ w.if-branch.true) c.loop-m.invariant.kept
             (ap (λ o. o.items) w.out-is ∙ w.push.ensures.items);
         few = omega (arith, ap array_vec_len w.out-is, w.push.ensures.len, c.loop-m.invariant.few);
-        room = c.judge.ensures.room ∙ c.loop-m.invariant.room;
+        room = c.judge.ensures.ends.room ∙ c.loop-m.invariant.room;
       }
       | else-branch w ↦ record {
         kept = ap (λ o. o.items) w.out-is ∙ left_out leaves c.args.root.now.first.now c.loop-m.m-index c.m-item.result c.loop-m.out.items
             c.loop-m-test.true c.m-item.is (sym c.in_ok-judge.ensures.found ∙ w.if-branch.false) c.loop-m.invariant.kept;
         few = omega (arith, ap array_vec_len w.out-is, c.loop-m.invariant.few);
-        room = c.judge.ensures.room ∙ c.loop-m.invariant.room;
+        room = c.judge.ensures.ends.room ∙ c.loop-m.invariant.room;
       }
     ]
 
