@@ -84,13 +84,22 @@ pub fn solve<S: Source, O: Write, E: Write>(
 {
     let rays = Rays::new();
     let mut memo = new_memo(alloc, size.get() as usize)?;
+    // Asked once, not for each record: through `Lengthwise` an outcome of 4.2 KB is copied once more.
+    if source.follows_lengths() {
+        let answers = Answers {
+            rays: &rays,
+            default: bound,
+            solver: Lengthwise {
+                solver: OneThread,
+                source,
+            },
+        };
+        return solve_by(alloc, &answers, files, source, &mut memo, out, err);
+    }
     let answers = Answers {
         rays: &rays,
         default: bound,
-        solver: Lengthwise {
-            solver: OneThread,
-            source,
-        },
+        solver: OneThread,
     };
     solve_by(alloc, &answers, files, source, &mut memo, out, err)
 }

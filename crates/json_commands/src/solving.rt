@@ -35,13 +35,21 @@ pub fn solve_json<S: Source, O: Write, E: Write>(
 {
     let rays = Rays::new();
     let mut memo = new_memo(alloc, size.get() as usize)?;
+    if source.follows_lengths() {
+        let answers = Answers {
+            rays: &rays,
+            default: bound,
+            solver: Lengthwise {
+                solver: OneThread,
+                source,
+            },
+        };
+        return solve_json_by(alloc, &answers, files, source, &mut memo, out, err);
+    }
     let answers = Answers {
         rays: &rays,
         default: bound,
-        solver: Lengthwise {
-            solver: OneThread,
-            source,
-        },
+        solver: OneThread,
     };
     solve_json_by(alloc, &answers, files, source, &mut memo, out, err)
 }
