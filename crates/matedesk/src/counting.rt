@@ -27,6 +27,10 @@ pub(crate) enum Uncounted {
 }
 
 impl From<AllocError> for Uncounted {
+    ghost use Rattle.matedesk.specs.declared.counting.Uncounted.TheVariants.{NoMemory};
+
+    ghost from_gives = { λ _ fault. fault ≡ NoMemory };
+
     fn from(_refused: AllocError) -> Uncounted {
         Uncounted::NoMemory
     }

@@ -40,6 +40,11 @@ pub enum NoWorkers {
 }
 
 impl From<AllocError> for NoWorkers {
+    ghost use Rattle.std.specs.Prelude.{◌≡◌};
+    ghost use Rattle.parallel_answers.specs.declared.workers.NoWorkers.TheVariants.{NoMemory};
+
+    ghost from_gives = { λ _ fault. fault ≡ NoMemory };
+
     fn from(_refused: AllocError) -> NoWorkers {
         NoWorkers::NoMemory
     }

@@ -34,12 +34,23 @@ pub enum TalkFault {
 }
 
 impl From<AllocError> for TalkFault {
+    ghost use Rattle.std.specs.Prelude.{◌≡◌};
+    ghost use Rattle.byte_streams.specs.declared.stops.Stop.TheVariants.{NoMemory};
+    ghost use Rattle.uci_engine.specs.declared.engine.TalkFault.TheVariants.{Stop as Stopped};
+
+    ghost from_gives = { λ _ fault. fault ≡ Stopped NoMemory };
+
     fn from(_refused: AllocError) -> TalkFault {
         TalkFault::Stop(Stop::NoMemory)
     }
 }
 
 impl From<Stop> for TalkFault {
+    ghost use Rattle.std.specs.Prelude.{◌≡◌};
+    ghost use Rattle.uci_engine.specs.declared.engine.TalkFault.TheVariants.{Stop as Stopped};
+
+    ghost from_gives = { λ stop fault. fault ≡ Stopped stop };
+
     fn from(stop: Stop) -> TalkFault {
         TalkFault::Stop(stop)
     }

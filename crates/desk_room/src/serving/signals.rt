@@ -17,12 +17,22 @@ pub(crate) enum StopReason {
 }
 
 impl From<AllocError> for StopReason {
+    ghost use Rattle.std.specs.Prelude.{◌≡◌};
+    ghost use Rattle.desk_room.specs.declared.serving.signals.StopReason.TheVariants.{NoMemory};
+
+    ghost from_gives = { λ _ reason. reason ≡ NoMemory };
+
     fn from(_refused: AllocError) -> StopReason {
         StopReason::NoMemory
     }
 }
 
 impl From<NoMemory> for StopReason {
+    ghost use Rattle.std.specs.Prelude.{◌≡◌};
+    ghost use Rattle.desk_room.specs.declared.serving.signals.StopReason.TheVariants.{NoMemory};
+
+    ghost from_gives = { λ _ reason. reason ≡ NoMemory };
+
     fn from(_refused: NoMemory) -> StopReason {
         StopReason::NoMemory
     }
