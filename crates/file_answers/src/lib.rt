@@ -22,14 +22,10 @@ pub use files::{FileSystem, Reading, Stream};
 pub use given_texts::{Given, GivenText, GivenTexts};
 pub use lines_from::answer_lines_from;
 pub use opened_files::{answer_opened, open_files};
-pub use sources::{
-    NameKind, Source, SourceFault, complain_of, holds_reads, read_file, read_files, whole,
-};
+pub use sources::{NameKind, Source, SourceFault, holds_reads, read_file, read_files, whole};
 pub use status::{
     ANSWERED, IN_PART, MISUSED, NO_MEMORY, NO_THREAD, REFUSED, UNREADABLE, UNWRITABLE, in_part,
-    no_memory, status_of, unwritable,
+    no_memory, status_of,
 };
-pub use writing::{
-    complain, complain_faulty, complain_move, complain_undecided, complain_unreadable, show,
-};
+pub use writing::{complain, complain_faulty, complain_move, complain_unreadable, show};
 pub use written_from::write_lines_from;

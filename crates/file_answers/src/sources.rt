@@ -115,7 +115,7 @@ fn begins_as_record(name: &str) -> bool {
 
 /// Says which file can't be read, and behind that what its name is and what to type, where that is known. That it can't be written changes
 /// nothing.
-pub fn complain_of<S: Source, E: Write>(err: &mut E, source: &S, name: &str) {
+pub(crate) fn complain_of<S: Source, E: Write>(err: &mut E, source: &S, name: &str) {
     complain_unreadable(err, name);
     if begins_as_record(name) {
         complain(

@@ -42,7 +42,7 @@ pub fn in_part<E: Write>(err: &mut E, undecided: usize) -> u8
 }
 
 /// Says that the output can't be written, and gives the status.
-pub fn unwritable<E: Write>(err: &mut E) -> u8
+pub(crate) fn unwritable<E: Write>(err: &mut E) -> u8
     ensures { result ≡ 4 }
 {
     complain(err, "cannot write");

@@ -28,7 +28,7 @@ pub fn complain_unreadable<E: Write>(err: &mut E, name: &str) {
 }
 
 /// Says how many records were not decided. That it can't be written changes nothing.
-pub fn complain_undecided<E: Write>(err: &mut E, count: usize) {
+pub(crate) fn complain_undecided<E: Write>(err: &mut E, count: usize) {
     let _ = writeln!(err, "matedesk: not decided: {count}");
 }
 

@@ -20,4 +20,3 @@ pub use answers::front_of;
 pub use gathered::Gathered;
 pub use moves::moves_json;
 pub use replies::{Form, JsonReplies};
-pub use strings::push_string;

@@ -61,7 +61,7 @@ fn push_bytes(out: &mut Vec<u8>, text: &[u8]) -> Result<(), AllocError>
 
 /// Adds the string of a text.
 #[tactic(auto, unfolding(crate::specs::Strings::string))]
-pub fn push_string(out: &mut Vec<u8>, text: &[u8]) -> Result<(), AllocError>
+pub(crate) fn push_string(out: &mut Vec<u8>, text: &[u8]) -> Result<(), AllocError>
     ensures { OnOk result (out.new.items ≡ out.old.items ++ string text.now) }
 {
     out.push(b'"')?;

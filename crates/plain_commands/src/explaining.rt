@@ -46,7 +46,7 @@ fn explain_position<O: Write>(alloc: Global, words: &[&str], out: &mut O) -> Res
 /// Shows what is wrong with a FEN or a record, where words say one; else what faults mean, by the words of replies that name them, or lists all
 /// where none are given. Gives whether something is wrong, or no word names a fault, which `err` is told.
 #[tactic(auto, unfolding(crate::specs::Explained::ExplainsWords, crate::specs::Explained::ExplainsSome))]
-pub fn explain<O: Write, E: Write>(
+pub(crate) fn explain<O: Write, E: Write>(
     alloc: Global,
     words: &[&str],
     out: &mut O,

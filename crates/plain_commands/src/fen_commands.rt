@@ -22,7 +22,7 @@ use std::io::Write;
 
 /// What there is to show of a FEN.
 #[derive(Clone, Copy)]
-pub enum FenCommand {
+pub(crate) enum FenCommand {
     /// Its canonical form, and whether the side to move is in check.
     Look,
     /// The same, with the board as it is seen from a side.
@@ -89,7 +89,7 @@ pub(crate) fn shown_text(
 }
 
 /// Shows of a FEN what a command asks, or names its fault on `err`; gives whether it was refused.
-pub fn show_fen<O: Write, E: Write>(
+pub(crate) fn show_fen<O: Write, E: Write>(
     alloc: Global,
     command: FenCommand,
     fen: &str,

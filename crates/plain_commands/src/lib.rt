@@ -21,12 +21,4 @@ mod sheeting;
 mod telling;
 
 pub use answering::{NO_LETTERS, ends_by_status, ends_in_part, plain_command};
-pub use desk_scripts::{Script, ScriptFault, read_script};
-pub use explaining::explain;
-pub use fault_explanations::{Example, Explanation};
-pub use fen_commands::{FenCommand, show_fen};
-pub use playing::play_moves;
-pub use position_answers::show_lines;
-pub use replaying::replay;
-pub use sheeting::{SheetAsked, sheet};
 pub use telling::{TREE_ENTRIES, tells_none, tree_form};

@@ -31,7 +31,7 @@ fn reach<E: Write>(rays: &Rays, fen: &Fen, words: &[&str], err: &mut E) -> Optio
 
 /// Makes moves from a FEN and shows the position reached, or says on `err` what is refused of them; gives whether anything was. The FEN is
 /// read as a line of positions is, so that its counters may be left out.
-pub fn play_moves<O: Write, E: Write>(
+pub(crate) fn play_moves<O: Write, E: Write>(
     alloc: Global,
     fen: &str,
     words: &[&str],

@@ -73,7 +73,7 @@ fn command_of(view: LineView) -> FenCommand
 
 /// Shows the position on each line of each file in order, and opens a file only after the answers to those before were written; gives
 /// whether a line was refused. A file that can't be read is named on `err`.
-pub fn show_lines<S: Source, O: Write, E: Write>(
+pub(crate) fn show_lines<S: Source, O: Write, E: Write>(
     alloc: Global,
     view: LineView,
     names: &[&str],

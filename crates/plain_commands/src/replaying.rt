@@ -89,7 +89,7 @@ fn replay_text<E: Write>(alloc: Global, text: &[u8], err: &mut E) -> Result<Opti
 
 /// Runs the script of a file at a new desk, and shows the reply to each step; gives whether the script is refused. The replies
 /// are made whole before any of them is written.
-pub fn replay<S: Source, O: Write, E: Write>(
+pub(crate) fn replay<S: Source, O: Write, E: Write>(
     alloc: Global,
     name: &str,
     source: &S,

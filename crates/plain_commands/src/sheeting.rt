@@ -20,7 +20,7 @@ use std::io::Write;
 /// What a page is to be: the bound of records that say none, the size of the memo for solutions, what stands beside the diagrams, the word
 /// that gives the letters of men in solutions, and the title.
 #[derive(Clone, Copy)]
-pub struct SheetAsked<'a> {
+pub(crate) struct SheetAsked<'a> {
     pub bound: Bound,
     pub size: MemoSize,
     pub form: SheetForm,
@@ -84,7 +84,7 @@ fn page_of<S: Source, E: Write>(
 
 /// Makes one page of the records of files, in order, and writes it; gives whether a line was refused. The page is made whole before any of
 /// it is written. A file that can't be read is named on `err`.
-pub fn sheet<S: Source, O: Write, E: Write>(
+pub(crate) fn sheet<S: Source, O: Write, E: Write>(
     alloc: Global,
     asked: &SheetAsked<'_>,
     names: &[&str],
