@@ -173,9 +173,9 @@ impl Desk {
         self.queues[submitter].withdraw(n)
     }
 
-    #[tactic(auto, using(crate::proofs::Steps::none_collected))]
     /// What is owed for the first pending record of a submitter: its answer once it is finished, or its notice where it was
     /// withdrawn and its job is not out. None where there is neither.
+    #[tactic(auto, using(crate::proofs::Steps::none_collected))]
     pub fn collect(&mut self, submitter: usize) -> Result<Option<Delivery>, NoSuchSubmitter>
         ensures known { IfOk result (λ _. submitter < length self.old.queues) }
         ensures delivery { IfOk result (λ found. found ≡ delivery (ready self.old submitter)) }

@@ -150,8 +150,8 @@ impl Entry {
         self.withdrawn = true;
     }
 
-    #[tactic(auto, using(crate::proofs::OwnJobs::own_job))]
     /// Whether what was solved is of it.
+    #[tactic(auto, using(crate::proofs::OwnJobs::own_job))]
     pub(crate) fn is_solved_by(&self, done: &Done) -> bool
         ensures exact { result ≡ has_task done.now self.now }
         ensures same { result ≡ true → done.now ≡ task_of self.now }

@@ -34,7 +34,7 @@ fn answer<R: Env + AllocGlobal + Threads + Wait + Sync>(
     }
 }
 
-// A text that can't be written changes no status.
+/// A text that can't be written changes no status.
 fn main(rt: HostRuntime) -> ExitCode {
     match answer(&rt, rt.alloc()) {
         Ok(text) => {

@@ -37,7 +37,7 @@ fn answer<R: Env + AllocGlobal>(rt: &R, alloc: Global) -> Result<Digest, &'stati
     }
 }
 
-// A text that can't be written changes no status.
+/// A text that can't be written changes no status.
 fn main(rt: HostRuntime) -> ExitCode {
     match answer(&rt, rt.alloc()) {
         Ok(digest) => {
