@@ -1,13 +1,12 @@
 //! Verdicts on what a record claims.
 
 ghost use Rattle.std.specs.Prelude.{◌≡◌};
-ghost use Rattle.std.specs.List.{list_any};
-ghost use Rattle.chess_problems.specs.SameProblems.{is_same_move as are_same_move};
 ghost use Rattle.mate_claims.specs.Verdicts.{verdict_name, verdict_of, keys_verdict as verdict_by_keys};
 ghost use Rattle.mate_claims.specs.Verdicts.{are_among as are_all_among, is_cooked as is_cooked_by, verdict_of_claimed};
 
 use chess_board::Move;
-use chess_problems::{Bound, Outcome, is_same_move};
+use chess_problems::{Bound, Outcome};
+use mate_search::is_among;
 
 /// What comes of a record's claims: the first of these that applies, from the last to the first.
 #[derive(Clone, Copy, Debug, PartialEq, Eq)]
@@ -45,24 +44,12 @@ impl Verdict {
     }
 }
 
-/// Whether a move is one of these.
-fn is_among(moves: &[Move], m: Move) -> bool
-    ensures { result ≡ list_any (are_same_move m) moves.now }
-{
-    for n in moves {
-        if is_same_move(m, *n) {
-            return true;
-        }
-    }
-    false
-}
-
 /// Whether each of these moves is among the others.
 fn are_among(others: &[Move], moves: &[Move]) -> bool
     ensures { result ≡ are_all_among others.now moves.now }
 {
     for m in moves {
-        if !is_among(others, *m) {
+        if !is_among(*m, others) {
             return false;
         }
     }

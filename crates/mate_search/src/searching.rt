@@ -41,8 +41,7 @@ fn mates(rays: &Rays, position: &Position) -> bool
 }
 
 /// Whether the attacker mates within `n` moves, more than one: by the memo, or else by trying to mate within fewer moves first,
-/// since most mates of a search are short. Here, once
-/// for each position that is searched so, it is asked whether to stop.
+/// since most mates of a search are short. Here, once for each position that is searched so, it is asked whether to stop.
 #[cycle(search)]
 fn wins_longer<H: Halt>(
     guide: &Guide<H>,

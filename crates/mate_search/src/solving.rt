@@ -188,8 +188,8 @@ fn find_beyond<H: Halt>(
     Ok(None)
 }
 
-/// Whether the move is one of these.
-fn is_among(m: Move, moves: &[Move]) -> bool
+/// Whether a move is one of these.
+pub fn is_among(m: Move, moves: &[Move]) -> bool
     ensures { result ≡ list_any (are_same_move m) moves.now }
 {
     for n in moves {

@@ -1,11 +1,9 @@
 //! Tries: first moves that one defence alone refutes.
 
 ghost use Rattle.std.specs.Prelude.{◌≡◌, ◌≤◌, [], ◌∷◌, IfSome, true};
-ghost use Rattle.std.specs.List.{list_any};
 ghost use Rattle.std.specs.Option.{option_map_or};
 ghost use Rattle.chess_board.specs.Legality.{is_legal};
 ghost use Rattle.chess_board.specs.MakeMove.{after_setup};
-ghost use Rattle.chess_problems.specs.SameProblems.{is_same_move as are_same_move};
 ghost use Rattle.mate_tree.specs.Tries.{is_no_mate, refutations, sole, tries, try_line, try_lines};
 ghost use Rattle.mate_tree.specs.inside.Sheets.{Writes};
 
@@ -17,21 +15,9 @@ use crate::sheets::Sheet;
 use chess_board::{Move, Position, after};
 use chess_moves::{Rays, legal, legal_listed};
 use chess_notation::san;
-use chess_problems::{Outcome, is_same_move};
-use mate_search::Memo;
+use chess_problems::Outcome;
+use mate_search::{Memo, is_among};
 use std::io::Write;
-
-/// Whether the move is one of these.
-fn is_among(m: Move, moves: &[Move]) -> bool
-    ensures { result ≡ list_any (are_same_move m) moves.now }
-{
-    for n in moves {
-        if is_same_move(m, *n) {
-            return true;
-        }
-    }
-    false
-}
 
 /// Whether there is no mate.
 fn is_no_mate(outcome: &Outcome) -> bool
