@@ -176,7 +176,11 @@ fn is_refuted_first<H: Halt>(
     ensures ends { EndsSearch result (H.may_stop guide.now.halt.now) memo.old memo.new }
 {
     if k == 1 {
-        return is_refuted_by_killer(guide, position, k, memo);
+        let (last, earlier) = memo.killers();
+        if refutes(guide, position, last, k, memo)? {
+            return Ok(true);
+        }
+        return refutes(guide, position, earlier, k, memo);
     }
     if is_known_refuted(guide.rays, position, k, memo) {
         return Ok(true);
@@ -185,24 +189,6 @@ fn is_refuted_first<H: Halt>(
         return Ok(true);
     }
     is_refuted_by_capture(guide, position, k, memo)
-}
-
-/// Whether one of the two replies that refuted last refutes: the attacker does not mate within `k` moves after it.
-#[cycle(search)]
-fn is_refuted_by_killer<H: Halt>(
-    guide: &Guide<H>,
-    position: &Position,
-    k: u8,
-    memo: &mut Memo,
-) -> Result<bool, Stopped>
-    ensures refuted { IfOk result (λ refuted. refuted ≡ true → lost k position.now ≡ false) }
-    ensures ends { EndsSearch result (H.may_stop guide.now.halt.now) memo.old memo.new }
-{
-    let (last, earlier) = memo.killers();
-    if refutes(guide, position, last, k, memo)? {
-        return Ok(true);
-    }
-    refutes(guide, position, earlier, k, memo)
 }
 
 /// Whether the memo knows of a reply after which the attacker does not mate within `k` moves. To ask about all of them costs

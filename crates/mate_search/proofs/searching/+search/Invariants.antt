@@ -29,9 +29,6 @@ decreases-loses_again g l = 9 * l.k + 8
 abbrev pub decreases-is_refuted_first : goal.decreases-is_refuted_first
 decreases-is_refuted_first g l = 9 * l.k + 6
 
-abbrev pub decreases-is_refuted_by_killer : goal.decreases-is_refuted_by_killer
-decreases-is_refuted_by_killer g l = 9 * l.k + 5
-
 abbrev pub decreases-loses_each : goal.decreases-loses_each
 decreases-loses_each g l = 9 * l.k + 5
 
