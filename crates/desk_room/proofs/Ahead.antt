@@ -48,10 +48,6 @@ pub ahead_looked : {A : Type 0} (taken known taken_then known_then : List A) →
 ahead_looked taken known taken_then known_then p t =
     (p.0, append_assoc taken known p.0 ∙ (ap (λ r. taken ++ r) p.1 ∙ ap (λ r. r ++ known_then) (sym t)))
 
-pub ahead_same : (k : Keeper) → Ahead k k
-unfolding Ahead
-ahead_same k = λ i. prefix_same _
-
 pub ahead_then : (k l m : Keeper) → Ahead k l → Ahead l m → Ahead k m
 unfolding Ahead
 ahead_then k l m f g = λ i. prefix_then _ _ _ (f i) (g i)

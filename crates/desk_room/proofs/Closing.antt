@@ -1,11 +1,10 @@
 -- A closed desk takes no letter, and where nothing was ordered the orders stay.
-use Rattle.std.proofs.Common.{◌≡◌, true≢false, ℕ, true, List, [], ◌∷◌, length, slice_get, refl, sym, ap, ◌∙◌}
-use Rattle.desk_room.specs.Events.{RoomLists, Event, Takes, Gives, Orders, Hears, after, Leads, AllOf, is_heard, is_taken, is_ordered, is_given}
+use Rattle.std.proofs.Common.{◌≡◌, true≢false, ℕ, true, List, [], ◌∷◌, slice_get, refl, sym, ap, ◌∙◌}
+use Rattle.desk_room.specs.Events.{RoomLists, Event, Takes, Gives, Orders, Hears, Leads, AllOf, is_heard, is_taken, is_ordered, is_given}
 use Rattle.desk_room.specs.Turns.{Turned, GainFew, AreFew}
 use Rattle.desk_room.specs.Passes.{Hearing, Taking, Ordering, Giving}
 use Rattle.desk_room.proofs.Fewness.{few_same}
 use Rattle.desk_room.specs.declared.turns.Turn.{Turn}
-use Rattle.desk_room.proofs.Places.{change_length}
 use Rattle.desk_room.proofs.Ahead.{accepted_open}
 use Rattle.desk_room.proofs.Leaving.{run_same, run_keeps, heard_taken, heard_put, heard_orders, taken_put, taken_heard, taken_orders}
 use Rattle.desk_room.proofs.Leaving.{ordered_taken, ordered_put, ordered_heard, given_taken, given_heard, given_orders, closed_kept}
@@ -33,19 +32,6 @@ turned_orders s t n r h =
     ∙ (ap (λ (u : RoomLists). u.orders) h
     ∙ (run_same (λ x. x.orders) is_taken taken_orders r.taken.events r.after_hearing r.after_taking r.taken.kind r.taken.leads
     ∙ run_same (λ x. x.orders) is_heard heard_orders r.heard.events s r.after_hearing r.heard.kind r.heard.leads))
-
-benches_kept : (e : Event) (s : RoomLists) → length (after e s).heard ≡ length s.heard
-benches_kept (Hears b x) s = change_length b _ s.heard
-benches_kept (Takes n x) s = refl
-benches_kept (Orders job) s = refl
-benches_kept (Gives n d) s = refl
-
-pub turned_benches : (s t : RoomLists) (n : Turn) → Turned s t n → length t.heard ≡ length s.heard
-turned_benches s t n r =
-    run_keeps (λ x. length x.heard) benches_kept r.given.events r.after_ordering t r.given.leads
-    ∙ (run_keeps (λ x. length x.heard) benches_kept r.ordered.events r.after_taking r.after_ordering r.ordered.leads
-    ∙ (run_keeps (λ x. length x.heard) benches_kept r.taken.events r.after_hearing r.after_taking r.taken.leads
-    ∙ run_keeps (λ x. length x.heard) benches_kept r.heard.events s r.after_hearing r.heard.leads))
 
 -- each ring is used in one pass
 pub turned_few : (ring : ℕ) (s a b c t : RoomLists) (h1 h2 h3 t1 t2 t3 o g : ℕ) → Hearing s a h1 h2 h3

@@ -5,7 +5,7 @@ use Rattle.std.proofs.Common.{is_none, Option, Some, None, refl, sym, ap, ◌∙
 use Rattle.std.proofs.lemmas.Bool.Decides.{nat_tests}
 use Rattle.mate_desk.specs.Content.{Content, QueueValue, EntryValue, Phase, Waiting, Out, Finished, entries}
 use Rattle.mate_desk.specs.Content.{is_waiting, is_out, is_finished, waits, waits_as, is_out_with}
-use Rattle.mate_desk.specs.Calls.{change_at, in_queue, into_phase, with_entry, withdrawn_at, submit_refusal}
+use Rattle.mate_desk.specs.Calls.{change_at, in_queue, into_phase, with_entry, withdrawn_at}
 use Rattle.mate_desk.specs.Calls.{submit_refusal_by, ready_first, collected, collected_by}
 use Rattle.mate_desk.specs.Deliveries.{delivery}
 use Rattle.mate_desk.specs.declared.refusals.SubmitRefusal.TheVariants as refusal
@@ -19,7 +19,7 @@ use Rattle.room_ends.specs.declared.letters.Back.TheVariants.{Solved, Returned}
 use Rattle.desk_room.proofs.Places.{map_length}
 use Rattle.desk_room.proofs.Counting.{count_in, count_all, count_entries}
 use Rattle.desk_room.proofs.Queues.{ready_at, pending_map, gone, first_is, collected_is, ready_fewer}
-use Rattle.desk_room.proofs.Leaving.{run_same, run_keeps, heard_put, taken_put, ordered_next, given_next, given_orders, given_taken, closed_kept}
+use Rattle.desk_room.proofs.Leaving.{run_same, run_keeps, heard_put, taken_put, ordered_next, given_next, given_orders, closed_kept}
 
 -- What is ready neither waits nor is out.
 not_waiting : (p : Phase) (w : Bool) → (if w then not (is_out p) else is_finished p) ≡ true → (is_waiting p && not w) ≡ false
@@ -57,9 +57,6 @@ giving_waiting s t n g = count_entries waits t.content ∙ (run_same (λ x. coun
 
 pub giving_orders : (s t : RoomLists) (n : ℕ) → Giving s t n → t.orders ≡ s.orders
 giving_orders s t n g = run_same (λ x. x.orders) is_given given_orders g.events s t g.kind g.leads
-
-pub giving_taken : (s t : RoomLists) (n : ℕ) → Giving s t n → t.taken ≡ s.taken
-giving_taken s t n g = run_same (λ x. x.taken) is_given given_taken g.events s t g.kind g.leads
 
 -- Rooms stay.
 room_change : (i n : ℕ) (g : QueueValue → QueueValue) (qs : List QueueValue) → ((q : QueueValue) → (g q).room ≡ q.room)

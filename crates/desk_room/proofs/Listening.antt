@@ -17,9 +17,9 @@ unfolding BacksAhead
 backs_then k l m f g = λ b. prefix_then _ _ _ (f b) (g b)
 
 -- where nothing was done at the back rings
-pub backs_ears : (k m : Keeper) → m.receivers ≡ k.receivers → BacksAhead k m
+pub backs_equal : (k m : Keeper) → m.receivers ≡ k.receivers → BacksAhead k m
 unfolding BacksAhead
-backs_ears k m e = λ b. subst (λ v. Longer (map heard k.receivers.items) (map back_known k.receivers.items) (map heard v.items)
+backs_equal k m e = λ b. subst (λ v. Longer (map heard k.receivers.items) (map back_known k.receivers.items) (map heard v.items)
     (map back_known v.items) b) (sym e) (prefix_same _)
 
 pub none_listened : (k : Keeper) (b : ℕ) → b < 0 → get_or (backs_known k) b [] ≡ []

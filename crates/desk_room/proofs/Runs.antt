@@ -68,9 +68,6 @@ ordering_none s = record { events = []; kind = tt; leads = refl; counted = refl 
 pub ordering_one : (s t : RoomLists) (job : Task) → May (Orders job) s → t ≡ after (Orders job) s → Ordering s t 1
 ordering_one s t job m e = record { events = Orders job ∷ []; kind = (refl, tt); leads = (m, e); counted = refl }
 
-pub ordering_same : (s t : RoomLists) → t ≡ s → Ordering s t 0
-ordering_same s t e = record { events = []; kind = tt; leads = e; counted = refl }
-
 pub ordering_then : (s t u : RoomLists) (a b : ℕ) → Ordering s t a → Ordering t u b → Ordering s u (a + b)
 ordering_then s t u a b p q = record {
   events = p.events ++ q.events;

@@ -103,9 +103,19 @@ IsOf w k = (line : Line) × (slice_get k.lines.items (number_of w) ≡ Some line
 unfoldable pub SameRoom : Keeper → Keeper → Type 0
 SameRoom k m = ((w : Window) → IsOf w k → IsOf w m) × SameDeque k.producer m.producer
 
--- It has as many windows, benches and places as it had, the windows are those that they were, and the deque is the same.
+-- It has as many windows, benches and places as it had, the windows are those that they were, and the deque is the same. Of each ring
+-- what was taken and is known to lie there only grows.
 pub record Stays (k m : Keeper) : Type 0 where
   pub windows : windows_of m ≡ windows_of k
   pub benches : benches_of m ≡ benches_of k
   pub ring : ring_of m ≡ ring_of k
   pub room : SameRoom k m
+  pub ahead : Ahead k m
+  pub backs_ahead : BacksAhead k m
+
+-- It stays so, and no ring was touched: it knows of each what it knew.
+pub record SameRings (k m : Keeper) : Type 0 where
+  pub stays : Stays k m
+  pub known : known m ≡ known k
+  pub free : free m ≡ free k
+  pub backs_known : backs_known m ≡ backs_known k

@@ -6,5 +6,6 @@ pub mod Passes
 pub mod Turns
 pub mod Keepers
 pub mod RoomFaults
+pub mod Rooms
 pub mod Serving
 pub mod inside

@@ -36,8 +36,8 @@ pub struct Keeper {
     ghost sent_home: { is_home ≡ true → 0 < length (orders producer) },
 }
 
+/// How many windows said farewell.
 #[tactic(auto, using(crate::proofs::Staying::gone_more))]
-// How many windows said farewell.
 fn count_gone(lines: &[Line]) -> usize
     ensures { result ≡ count_by has_farewell lines.now }
 {
@@ -55,7 +55,7 @@ impl Keeper {
     ghost use Rattle.mate_desk.specs.Calls.{after_close, is_drained as is_drained_content};
     ghost use Rattle.room_ends.specs.DequeRule.{stops};
     ghost use Rattle.desk_room.specs.Kept.{AreOwed, AreMarked};
-    ghost use Rattle.desk_room.specs.Keepers.{lists, known, backs_known, benches_of, order_places, free, is_home, windows_gone, Stays, SameRoom};
+    ghost use Rattle.desk_room.specs.Keepers.{lists, benches_of, order_places, is_home, windows_gone, SameRings};
     ghost use Rattle.room_ends.specs.declared.deque_rule.Order.TheVariants.{Stop};
 
     /// What was taken of each window is what was delivered to it and then what it has pending, and withdrawals are marked so. It
@@ -78,16 +78,9 @@ impl Keeper {
 
     /// Closes the desk: no letter is taken from now on. All else goes on.
     pub fn close(&mut self)
-        ensures content { (lists self.new).content ≡ after_close (lists self.old).content }
-        ensures taken { (lists self.new).taken ≡ (lists self.old).taken }
-        ensures put { (lists self.new).put ≡ (lists self.old).put }
-        ensures heard { (lists self.new).heard ≡ (lists self.old).heard }
-        ensures orders { (lists self.new).orders ≡ (lists self.old).orders }
-        ensures known { known self.new ≡ known self.old }
-        ensures free { free self.new ≡ free self.old }
-        ensures backs_known { backs_known self.new ≡ backs_known self.old }
+        ensures lists { lists self.new ≡ record (lists self.old) { content = after_close (lists self.old).content } }
         ensures home { is_home self.new ≡ is_home self.old }
-        ensures stays { Stays self.old self.new }
+        ensures rings { SameRings self.old self.new }
     {
         self.desk.close();
     }
@@ -102,18 +95,11 @@ impl Keeper {
     /// Puts a stop out for each bench, behind the orders, and answers how many are still owed because memory was refused. A later
     /// call goes on. From the first call on nothing more is ordered.
     pub fn send_home(&mut self) -> usize
-        ensures stops { (n : ℕ) × ((lists self.new).orders ≡ (lists self.old).orders ++ replicate n Stop) }
+        ensures lists { (n : ℕ) × (lists self.new ≡ record (lists self.old) { orders = (lists self.old).orders ++ replicate n Stop }) }
         ensures owed { result + stops (lists self.new).orders ≡ benches_of self.new }
         ensures full { (result ≡ 0) ⊎ (order_places self.old ≤ length (lists self.new).orders) }
-        ensures content { (lists self.new).content ≡ (lists self.old).content }
-        ensures taken { (lists self.new).taken ≡ (lists self.old).taken }
-        ensures put { (lists self.new).put ≡ (lists self.old).put }
-        ensures heard { (lists self.new).heard ≡ (lists self.old).heard }
-        ensures known { known self.new ≡ known self.old }
-        ensures free { free self.new ≡ free self.old }
-        ensures backs_known { backs_known self.new ≡ backs_known self.old }
         ensures home { is_home self.new ≡ true }
-        ensures stays { Stays self.old self.new }
+        ensures rings { SameRings self.old self.new }
     {
         self.is_home = true;
         self.producer.send_home()

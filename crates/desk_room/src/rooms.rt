@@ -1,10 +1,8 @@
 //! Rooms.
 
-ghost use Rattle.std.specs.Prelude.{◌≡◌, ◌≢◌, ◌↔◌, ◌⊎◌, ◌<◌, ◌≤◌, [], codes, length, replicate, IfOk, Err, false, Some};
-ghost use Rattle.mate_desk.specs.Calls.{empty};
-ghost use Rattle.desk_room.specs.Keepers.{lists, lines_of, receivers_of, producer_of, ring_of, is_home};
+ghost use Rattle.std.specs.Prelude.{◌≡◌, ◌≢◌, ◌↔◌, ◌⊎◌, ◌<◌, ◌≤◌, codes, IfOk, Err, Some};
 ghost use Rattle.desk_room.specs.RoomFaults.{room_fault_name};
-ghost use Rattle.room_ends.specs.Opening.{AreOpened, AreIdle};
+ghost use Rattle.desk_room.specs.Rooms.{IsOpen};
 ghost use Rattle.desk_room.specs.declared.rooms.RoomFault.TheVariants as fault;
 
 use crate::keepers::Keeper;
@@ -70,19 +68,7 @@ pub fn open_room(
     ring: usize,
     default: Bound,
 ) -> Result<Room, RoomFault>
-    ensures windows { IfOk result (λ room. length room.windows.items ≡ windows) }
-    ensures benches { IfOk result (λ room. length room.benches.items ≡ benches) }
-    ensures opened { IfOk result (λ room. AreOpened ring default 0 room.windows.items (lines_of room.keeper)) }
-    ensures idle { IfOk result (λ room. AreIdle (producer_of room.keeper) ring room.benches.items (receivers_of room.keeper)) }
-    ensures lists { IfOk result (λ room. lists room.keeper ≡ record {
-      taken = replicate windows [];
-      put = replicate windows [];
-      heard = replicate benches [];
-      orders = [];
-      content = empty windows ring 0;
-    }) }
-    ensures ring { IfOk result (λ room. ring_of room.keeper ≡ ring) }
-    ensures here { IfOk result (λ room. is_home room.keeper ≡ false) }
+    ensures room { IfOk result (λ room. IsOpen windows benches ring default room) }
     ensures bad_windows { (result ≡ Err fault.BadWindows) ↔ ((windows ≡ 0) ⊎ (16 < windows)) }
     ensures bad_benches { (result ≡ Err fault.BadBenches) ↔ (((1 ≤ windows) × (windows ≤ 16)) × ((benches ≡ 0) ⊎ (16 < benches))) }
     ensures bad_ring { (result ≡ Err fault.BadRing)
@@ -115,19 +101,7 @@ fn open(
     requires windows { (1 ≤ windows) × (windows ≤ 16) }
     requires benches { (1 ≤ benches) × (benches ≤ 16) }
     requires ring { (1 ≤ ring) × (ring ≤ 64) }
-    ensures windows { IfOk result (λ room. length room.windows.items ≡ windows) }
-    ensures benches { IfOk result (λ room. length room.benches.items ≡ benches) }
-    ensures opened { IfOk result (λ room. AreOpened ring default 0 room.windows.items (lines_of room.keeper)) }
-    ensures idle { IfOk result (λ room. AreIdle (producer_of room.keeper) ring room.benches.items (receivers_of room.keeper)) }
-    ensures lists { IfOk result (λ room. lists room.keeper ≡ record {
-      taken = replicate windows [];
-      put = replicate windows [];
-      heard = replicate benches [];
-      orders = [];
-      content = empty windows ring 0;
-    }) }
-    ensures ring { IfOk result (λ room. ring_of room.keeper ≡ ring) }
-    ensures here { IfOk result (λ room. is_home room.keeper ≡ false) }
+    ensures room { IfOk result (λ room. IsOpen windows benches ring default room) }
 {
     let (window_ends, lines) = open_windows(alloc, windows, ring, default)?;
     let mut producer = OrderProducer::new(alloc)?;

@@ -4,16 +4,15 @@ use crate::keepers::Keeper;
 use room_ends::{Settled, Window};
 
 impl Keeper {
-    ghost use Rattle.std.specs.Prelude.{◌≡◌, ◌≤◌, ℕ, ◌++◌, true, length, map, get_or, []};
-    ghost use mathlib.Core.List.{IsPrefix};
+    ghost use Rattle.std.specs.Prelude.{◌≡◌, ◌++◌, true, length, map, get_or, []};
     ghost use Rattle.mate_desk.specs.Calls.{is_drained as is_drained_content};
     ghost use Rattle.room_ends.specs.Letters.{records};
     ghost use Rattle.desk_room.specs.Deliveries.{asked};
     ghost use Rattle.desk_room.specs.Kept.{asked_of};
     ghost use Rattle.desk_room.specs.Withdrawals.{marks, are_notices_marked};
     ghost use Rattle.desk_room.specs.Turns.{pending_at};
-    ghost use Rattle.room_ends.specs.Windows.{letters_sent, collected, deliveries_known, places_known, is_gone, number_of, SameWindow};
-    ghost use Rattle.desk_room.specs.Keepers.{lists, known, backs_known, is_home, IsOf, Ahead, Stays};
+    ghost use Rattle.room_ends.specs.Windows.{letters_sent, collected, deliveries_known, number_of, WindowLooked};
+    ghost use Rattle.desk_room.specs.Keepers.{lists, known, backs_known, is_home, IsOf, Stays};
 
     /// How many records lie in the record ring of a window of this room, and how many deliveries in its answer ring. It moves
     /// nothing; each end learns what lies there.
@@ -36,14 +35,8 @@ impl Keeper {
         ensures notices { are_notices_marked (collected window.new ++ deliveries_known window.new)
             (marks (get_or (lists self.new).taken (number_of window.new) [])) ≡ true }
         ensures lists { lists self.new ≡ lists self.old }
-        ensures ahead { Ahead self.old self.new }
         ensures backs_known { backs_known self.new ≡ backs_known self.old }
-        ensures behind { IsPrefix (deliveries_known window.old) (deliveries_known window.new) }
-        ensures places { places_known window.old ≤ places_known window.new }
-        ensures sent { letters_sent window.new ≡ letters_sent window.old }
-        ensures collected { collected window.new ≡ collected window.old }
-        ensures gone { is_gone window.new ≡ is_gone window.old }
-        ensures window { SameWindow window.old window.new }
+        ensures window { WindowLooked window.old window.new }
         ensures of { IsOf window.new self.new }
         ensures home { is_home self.new ≡ is_home self.old }
         ensures stays { Stays self.old self.new }

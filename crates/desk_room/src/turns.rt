@@ -31,7 +31,7 @@ pub struct Turn {
 impl Keeper {
     ghost use Rattle.std.specs.Prelude.{◌≡◌, ◌<◌, ◌≤◌, ◌+◌, ◌⊎◌, ℕ, [], length, drop, get_or, true};
     ghost use Rattle.desk_room.specs.Keepers.{lists, known, backs_known, windows_of, ring_of, order_places};
-    ghost use Rattle.desk_room.specs.Keepers.{is_home, IsServed, Ahead, BacksAhead, Stays};
+    ghost use Rattle.desk_room.specs.Keepers.{is_home, IsServed, Stays};
     ghost use Rattle.desk_room.specs.Turns.{Turned, AreGains, AreFew, IsFilled, gained, pending_at};
     ghost use Rattle.desk_room.specs.Turns.{waiting, outs, still_out, times_ordered, AreFinishedBy};
 
@@ -48,12 +48,10 @@ impl Keeper {
             (drop (length (get_or (lists self.old).put n [])) (get_or (lists self.new).put n []))
             (pending_at n (lists self.old).content.queues) (pending_at n (lists self.new).content.queues) }
         ensures served { (n : ℕ) → n < windows_of self.new → IsServed n self.new }
-        ensures ahead { Ahead self.old self.new }
         ensures read { (n : ℕ) → n < windows_of self.new → (get_or (known self.new) n [] ≡ []) ⊎ IsFilled n (lists self.old) (lists self.new) }
         ensures none_after_close { (lists self.old).content.closed ≡ true → (lists self.new).taken ≡ (lists self.old).taken }
         ensures closed { (lists self.new).content.closed ≡ (lists self.old).content.closed }
         ensures listened { (b : ℕ) → get_or (backs_known self.new) b [] ≡ [] }
-        ensures backs_ahead { BacksAhead self.old self.new }
         ensures waits { (waiting (lists self.new).content ≡ 0) ⊎ (is_home self.new ≡ true)
             ⊎ (order_places self.old ≤ length (lists self.new).orders) }
         ensures not_the_first { (waiting (lists self.new).content ≡ 0) ⊎ (0 < length (lists self.new).orders) }

@@ -1,5 +1,5 @@
 -- One more end of a room that is opened.
-use Rattle.std.proofs.Common.{◌≡◌, ℕ, zero, suc, ◌+◌, List, [], ◌∷◌, ◌++◌, length, map, replicate, refl, sym, ap, ◌∙◌, arith}
+use Rattle.std.proofs.Common.{◌≡◌, ℕ, zero, suc, ◌+◌, List, [], ◌∷◌, ◌++◌, length, map, replicate, refl, sym, ap, ◌∙◌, subst, arith}
 use Rattle.std.proofs.lemmas.List.{map-append}
 use Rattle.room_ends.specs.Opening.{IsFresh, AreOpened, IsIdle, AreIdle}
 use Rattle.room_ends.specs.Orders.{SameDeque}
@@ -29,37 +29,12 @@ rings_snoc f ring xs x n e h = all_snoc f ring xs x n (n + 1) e h refl
 
 pub opened_snoc : (ring bound n : ℕ) (ws : List Window) (ls : List Line) (w : Window) (l : Line) → AreOpened ring bound n ws ls
     → IsFresh ring bound (n + length ws) w l → AreOpened ring bound n (ws ++ w ∷ []) (ls ++ l ∷ [])
-opened_snoc ring bound n [] [] w l all one = (numbered n (n + 0) one (omega arith), tt)
-  where
-    numbered : (n m : ℕ) → IsFresh ring bound m w l → m ≡ n → IsFresh ring bound n w l
-    numbered n m f e = record {
-      number = f.number ∙ e;
-      default = f.default;
-      sent = f.sent;
-      collected = f.collected;
-      places = f.places;
-      free = f.free;
-      answers = f.answers;
-      ends = f.ends;
-    }
+opened_snoc ring bound n [] [] w l all one = let e : n + 0 ≡ n = omega arith in (subst (λ k. IsFresh ring bound k w l) e one, tt)
 opened_snoc ring bound n [] (m ∷ ms) w l all one = absurd all
 opened_snoc ring bound n (v ∷ vs) [] w l all one = absurd all
-opened_snoc ring bound n (v ∷ vs) (m ∷ ms) w l all one = (
-  all.0,
-  opened_snoc ring bound (n + 1) vs ms w l all.1 (numbered (n + 1 + length vs) (n + length (v ∷ vs)) one (omega arith)),
-)
-  where
-    numbered : (n m : ℕ) → IsFresh ring bound m w l → m ≡ n → IsFresh ring bound n w l
-    numbered n m f e = record {
-      number = f.number ∙ e;
-      default = f.default;
-      sent = f.sent;
-      collected = f.collected;
-      places = f.places;
-      free = f.free;
-      answers = f.answers;
-      ends = f.ends;
-    }
+opened_snoc ring bound n (v ∷ vs) (m ∷ ms) w l all one =
+    let e : n + length (v ∷ vs) ≡ n + 1 + length vs = omega arith in
+    (all.0, opened_snoc ring bound (n + 1) vs ms w l all.1 (subst (λ k. IsFresh ring bound k w l) e one))
 
 idle_stays : (p q : OrderProducer) → SameDeque p q → (ring : ℕ) (b : Bench) (e : BackReceiver) → IsIdle p ring b e → IsIdle q ring b e
 idle_stays p q s ring b e one = record { takes = one.takes ∙ sym s; got = one.got; given = one.given; places = one.places; ends = one.ends }

@@ -1,5 +1,5 @@
 -- What a contract sees of the two ends of the deque of orders: the keeper's, a producer, and a bench's, a stealer (own to this project).
-use Rattle.std.specs.Prelude.{◌≡◌, ℕ, List, [], ◌∷◌}
+use Rattle.std.specs.Prelude.{◌≡◌, ◌<◌, ◌≤◌, ℕ, List, [], ◌∷◌, length}
 use Rattle.crossbeam_deque.specs.Handles.{view, worker_view, worker_deque, worker_capacity, stealer_deque}
 use Rattle.room_ends.specs.declared.deque_rule.Order.{Order}
 use Rattle.room_ends.specs.declared.deque_rule.Order.TheVariants.{Solve, Stop}
@@ -37,6 +37,18 @@ IsStealerOf producer stealer = stealer_deque stealer.stealer ≡ worker_deque pr
 -- the producer still has the same deque
 abbrev pub SameDeque : OrderProducer → OrderProducer → Type 0
 SameDeque old new = worker_deque new.deque ≡ worker_deque old.deque
+
+-- It is so still, the deque has no fewer places, and no pass was handed out.
+pub record StillPuts (a b : OrderProducer) : Type 0 where
+  pub deque : SameDeque a b
+  pub places : places a ≤ places b
+  pub passes : passes b ≡ passes a
+
+-- No order was put out. So it is not the first, and as many as the deque has places were before it.
+pub record PutNone (a b : OrderProducer) : Type 0 where
+  pub not_the_first : 0 < length (orders a)
+  pub full : places a ≤ length (orders a)
+  pub orders : orders b ≡ orders a
 
 -- the stealer is still at the same deque
 abbrev pub SameStealer : OrderStealer → OrderStealer → Type 0

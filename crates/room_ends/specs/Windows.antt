@@ -1,6 +1,7 @@
 -- What a contract sees of a window: the letters that it sent, the deliveries that it collected, and what it knows of its two rings.
 -- Own to this project.
-use Rattle.std.specs.Prelude.{◌≡◌, ℕ, nat_lt, Bool, List}
+use Rattle.std.specs.Prelude.{◌≡◌, ◌≤◌, ℕ, nat_lt, Bool, List, length}
+use mathlib.Core.List.{IsPrefix}
 use Rattle.rtrb.specs.Ring.{sent, received, known_free, known_items, producer_capacity, SameProducer, SameConsumer}
 use Rattle.mate_jobs.specs.declared.deliveries.Delivery.{Delivery}
 use Rattle.room_ends.specs.Letters.{farewells}
@@ -42,3 +43,30 @@ default_of w = w.default
 -- It has the ends of the same two rings, and its number and default bound.
 abbrev pub SameWindow : Window → Window → Type 0
 SameWindow a b = SameProducer a.letters b.letters × SameConsumer a.answers b.answers × (b.number ≡ a.number) × (b.default ≡ a.default)
+
+-- Of a window and what it is after a call. At its answer ring nothing was done.
+pub record SameAnswers (a b : Window) : Type 0 where
+  pub window : SameWindow a b
+  pub collected : collected b ≡ collected a
+  pub known : deliveries_known b ≡ deliveries_known a
+
+-- At its record ring nothing was done.
+pub record SameLetters (a b : Window) : Type 0 where
+  pub window : SameWindow a b
+  pub sent : letters_sent b ≡ letters_sent a
+  pub stays : is_gone b ≡ is_gone a
+  pub places : places_known b ≡ places_known a
+
+-- Nothing was sent or collected, and it knows no fewer free places and lying deliveries.
+pub record WindowLooked (a b : Window) : Type 0 where
+  pub window : SameWindow a b
+  pub sent : letters_sent b ≡ letters_sent a
+  pub collected : collected b ≡ collected a
+  pub stays : is_gone b ≡ is_gone a
+  pub known : IsPrefix (deliveries_known a) (deliveries_known b)
+  pub places : places_known a ≤ places_known b
+
+-- It knows of no free place in its record ring, and sent as many letters as that has places.
+pub record HasNoPlace (w : Window) : Type 0 where
+  pub known : places_known w ≡ 0
+  pub filled : places_of w ≤ length (letters_sent w)

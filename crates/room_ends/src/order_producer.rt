@@ -30,7 +30,7 @@ impl OrderProducer {
     ghost use Rattle.std.specs.Prelude.{◌≡◌, ℕ, ◌+◌, ◌^◌, ◌<◌, ◌≤◌, ◌⊎◌, [], ◌∷◌, ◌++◌, length, replicate, IfOk, OnOk, IfErr, OnErr};
     ghost use Rattle.std.specs.Bool.{OnTrue, OnFalse};
     ghost use Rattle.room_ends.specs.DequeRule.{stops};
-    ghost use Rattle.room_ends.specs.Orders.{orders, passes, places, stealer_got, IsStealerOf, SameDeque};
+    ghost use Rattle.room_ends.specs.Orders.{orders, passes, places, stealer_got, IsStealerOf, SameDeque, StillPuts, PutNone};
     ghost use Rattle.room_ends.specs.declared.deque_rule.Order.TheVariants.{Solve, Stop};
 
     /// A deque of one slot, with no order and no stealer. It grows as it must.
@@ -66,20 +66,16 @@ impl OrderProducer {
         })
     }
 
-    #[tactic(auto, using(crate::proofs::DequeSteps::stops_append, crate::proofs::DequeSteps::length_orders))]
     /// Puts a job out behind the orders, or hands it back where the deque can't grow for want of memory, which is never so for the
     /// first order.
+    #[tactic(auto, using(crate::proofs::DequeSteps::stops_append, crate::proofs::DequeSteps::length_orders))]
     pub fn order(&mut self, job: Job) -> Result<(), Job>
         requires { stops (orders self.old) ≡ 0 }
         ensures put { OnOk result (orders self.new ≡ orders self.old ++ Solve job ∷ []) }
         ensures refused { IfErr result (λ back. back ≡ job) }
-        ensures orders { OnErr result (orders self.new ≡ orders self.old) }
-        ensures not_the_first { OnErr result (0 < length (orders self.old)) }
-        ensures full { OnErr result (places self.old ≤ length (orders self.old)) }
-        ensures places { places self.old ≤ places self.new }
+        ensures none { OnErr result (PutNone self.old self.new) }
         ensures no_stop { stops (orders self.new) ≡ 0 }
-        ensures passes { passes self.new ≡ passes self.old }
-        ensures deque { SameDeque self.old self.new }
+        ensures stays { StillPuts self.old self.new }
     {
         match self.deque.push_as::<Puts>(Order::Solve(job)) {
             Ok(()) => Ok(()),
@@ -88,17 +84,13 @@ impl OrderProducer {
         }
     }
 
+    /// Puts a stop out behind the orders, and says whether it did.
     #[tactic(auto, using(crate::proofs::DequeSteps::stops_append, crate::proofs::DequeSteps::length_orders))]
-    // Puts a stop out behind the orders, and says whether it did.
     fn stop(&mut self) -> bool
         requires { stops (orders self.old) < passes self.old }
         ensures put { OnTrue result (orders self.new ≡ orders self.old ++ Stop ∷ []) }
-        ensures orders { OnFalse result (orders self.new ≡ orders self.old) }
-        ensures not_the_first { OnFalse result (0 < length (orders self.old)) }
-        ensures full { OnFalse result (places self.old ≤ length (orders self.old)) }
-        ensures places { places self.old ≤ places self.new }
-        ensures passes { passes self.new ≡ passes self.old }
-        ensures deque { SameDeque self.old self.new }
+        ensures none { OnFalse result (PutNone self.old self.new) }
+        ensures stays { StillPuts self.old self.new }
     {
         match self.deque.push_as::<Puts>(Order::Stop) {
             Ok(()) => {
@@ -116,8 +108,7 @@ impl OrderProducer {
         ensures owed { result + stops (orders self.new) ≡ passes self.new }
         ensures some { 0 < passes self.old → 0 < length (orders self.new) }
         ensures full { (result ≡ 0) ⊎ (places self.old ≤ length (orders self.new)) }
-        ensures passes { passes self.new ≡ passes self.old }
-        ensures deque { SameDeque self.old self.new }
+        ensures stays { StillPuts self.old self.new }
     {
         while self.sent_home < self.stealers {
             if !self.stop() {

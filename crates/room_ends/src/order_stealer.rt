@@ -38,8 +38,8 @@ impl OrderStealer {
     ghost use Rattle.room_ends.specs.Orders.{stealer_got, taken_order, SameStealer};
     ghost use Rattle.room_ends.specs.declared.order_stealer.Taken.TheVariants.{Stop};
 
-    #[tactic(auto, using(crate::proofs::DequeSteps::stops_append))]
     /// Tries one steal, until it has answered `Stop`.
+    #[tactic(auto, using(crate::proofs::DequeSteps::stops_append))]
     pub(crate) fn take(&mut self) -> Taken
         ensures taken { stops (stealer_got self.old) ≡ 0 → stealer_got self.new ≡ stealer_got self.old ++ taken_order result }
         ensures stopped { 0 < stops (stealer_got self.old) → (result ≡ Stop) × (stealer_got self.new ≡ stealer_got self.old) }

@@ -27,16 +27,13 @@ pub struct Line {
 
 impl Line {
     ghost use Rattle.std.specs.Prelude.{◌≡◌, ◌↔◌, ◌+◌, ◌-◌, ◌^◌, ◌<◌, ◌≤◌, [], ◌∷◌, ◌++◌, length, IsTrue};
-    ghost use mathlib.Core.List.{IsPrefix};
     ghost use Rattle.room_ends.specs.Letters.{records};
-    ghost use Rattle.room_ends.specs.WindowRings.{letters_taken, letters_known, deliveries_put, places_free, ring_of, has_farewell, SameLine};
+    ghost use Rattle.room_ends.specs.WindowRings.{letters_taken, letters_known, deliveries_put, places_free, ring_of, has_farewell};
+    ghost use Rattle.room_ends.specs.WindowRings.{SamePut, SameTaken, LineLooked};
 
     /// Learns of the letters that lie in the record ring, and gives their number. It moves none.
     pub fn look(&mut self) -> usize
-        ensures line { SameLine self.old self.new }
-        ensures taken { letters_taken self.new ≡ letters_taken self.old }
-        ensures known { IsPrefix (letters_known self.old) (letters_known self.new) }
-        ensures put { deliveries_put self.new ≡ deliveries_put self.old }
+        ensures looked { LineLooked self.old self.new }
         ensures free { places_free self.new ≡ places_free self.old }
         ensures count { result ≡ length (letters_known self.new) }
         ensures few { result ≤ ring_of self.new }
@@ -49,11 +46,9 @@ impl Line {
     pub fn take_known(&mut self) -> Letter
         requires known { 0 < length (letters_known self.old) }
         requires few { length (records (letters_taken self.old)) < 2 ^ 64 - 1 }
-        ensures line { SameLine self.old self.new }
+        ensures answers { SamePut self.old self.new }
         ensures taken { letters_taken self.new ≡ letters_taken self.old ++ result ∷ [] }
         ensures known { letters_known self.old ≡ result ∷ letters_known self.new }
-        ensures put { deliveries_put self.new ≡ deliveries_put self.old }
-        ensures free { places_free self.new ≡ places_free self.old }
     {
         let letter = self.letters.pop_known();
         match &letter {
@@ -73,11 +68,8 @@ impl Line {
 
     /// Whether no place of the answer ring is free. The window may free one at any time.
     pub fn is_full(&mut self) -> bool
-        ensures line { SameLine self.old self.new }
-        ensures taken { letters_taken self.new ≡ letters_taken self.old }
+        ensures looked { LineLooked self.old self.new }
         ensures known { letters_known self.new ≡ letters_known self.old }
-        ensures put { deliveries_put self.new ≡ deliveries_put self.old }
-        ensures free { places_free self.old ≤ places_free self.new }
         ensures full { IsTrue result ↔ (places_free self.new ≡ 0) }
     {
         self.answers.is_full()
@@ -86,9 +78,7 @@ impl Line {
     /// Puts a delivery on the answer ring, of which a place is known to be free.
     pub fn put(&mut self, delivery: Delivery)
         requires { 0 < places_free self.old }
-        ensures line { SameLine self.old self.new }
-        ensures taken { letters_taken self.new ≡ letters_taken self.old }
-        ensures known { letters_known self.new ≡ letters_known self.old }
+        ensures letters { SameTaken self.old self.new }
         ensures put { deliveries_put self.new ≡ deliveries_put self.old ++ delivery ∷ [] }
         ensures free { places_free self.old ≡ places_free self.new + 1 }
     {

@@ -1,9 +1,8 @@
 //! The two rings between a window and the keeper: how they are made.
 
-ghost use Rattle.std.specs.Prelude.{◌≡◌, ◌≤◌, [], length, map, replicate, IfOk, false};
-ghost use Rattle.room_ends.specs.Windows.{letters_sent, collected, is_gone, number_of, default_of, places_known, places_of};
-ghost use Rattle.room_ends.specs.WindowRings.{letters_taken, deliveries_put, places_free, ring_of, AreEnds};
-ghost use Rattle.room_ends.specs.Opening.{AreOpened};
+ghost use Rattle.std.specs.Prelude.{◌≡◌, ◌≤◌, [], length, map, replicate, IfOk};
+ghost use Rattle.room_ends.specs.WindowRings.{letters_taken, deliveries_put, ring_of};
+ghost use Rattle.room_ends.specs.Opening.{AreOpened, IsFresh};
 
 use crate::window_ring_line::Line;
 use crate::windows::Window;
@@ -19,18 +18,10 @@ fn open_line(
     default: Bound,
 ) -> Result<(Window, Line), AllocError>
     requires { ring ≤ 64 }
-    ensures ends { IfOk result (λ r. AreEnds r.0 r.1) }
-    ensures number { IfOk result (λ r. number_of r.0 ≡ number) }
-    ensures default { IfOk result (λ r. default_of r.0 ≡ default) }
-    ensures sent { IfOk result (λ r. letters_sent r.0 ≡ []) }
-    ensures collected { IfOk result (λ r. collected r.0 ≡ []) }
-    ensures here { IfOk result (λ r. is_gone r.0 ≡ false) }
+    ensures fresh { IfOk result (λ r. IsFresh ring default number r.0 r.1) }
     ensures taken { IfOk result (λ r. letters_taken r.1 ≡ []) }
     ensures put { IfOk result (λ r. deliveries_put r.1 ≡ []) }
     ensures ring { IfOk result (λ r. ring_of r.1 ≡ ring) }
-    ensures places { IfOk result (λ r. places_of r.0 ≡ ring) }
-    ensures known { IfOk result (λ r. places_known r.0 ≡ ring) }
-    ensures free { IfOk result (λ r. places_free r.1 ≡ ring) }
 {
     let (to_keeper, letters) = RingBuffer::new(alloc, ring)?;
     let (answers, from_keeper) = RingBuffer::new(alloc, ring)?;

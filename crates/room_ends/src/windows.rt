@@ -29,14 +29,14 @@ pub struct Window {
 }
 
 impl Window {
-    ghost use Rattle.std.specs.Prelude.{◌≡◌, ◌↔◌, ◌+◌, ◌-◌, ◌^◌, ◌<◌, ◌≤◌, [], ◌∷◌, ◌++◌, length, OnOk};
-    ghost use Rattle.std.specs.Prelude.{IfErr, IfSome, IfNone, MatchResult, Err, true, false};
+    ghost use Rattle.std.specs.Prelude.{◌≡◌, ◌↔◌, ◌+◌, ◌-◌, ◌^◌, ◌<◌, ◌≤◌, [], ◌∷◌, ◌++◌, length};
+    ghost use Rattle.std.specs.Prelude.{OnOk, OnErr, IfErr, IfSome, IfNone, Err, true, false};
     ghost use mathlib.Core.List.{IsPrefix};
     ghost use Rattle.chess_notation.specs.Records.{RecordValue};
     ghost use Rattle.mate_jobs.specs.declared.deliveries.Delivery.{Delivery};
     ghost use Rattle.room_ends.specs.Letters.{records};
-    ghost use Rattle.room_ends.specs.Windows.{letters_sent, collected, deliveries_known, places_known};
-    ghost use Rattle.room_ends.specs.Windows.{places_of, is_gone, number_of, default_of, SameWindow};
+    ghost use Rattle.room_ends.specs.Windows.{letters_sent, collected, deliveries_known, places_known, is_gone, number_of, default_of};
+    ghost use Rattle.room_ends.specs.Windows.{SameAnswers, SameLetters, WindowLooked, HasNoPlace};
     ghost use Rattle.room_ends.specs.WindowFaults.{SaysOnly, RefusesLine};
 
     /// The window's number in its room, from 0.
@@ -50,22 +50,18 @@ impl Window {
     /// the line.
     #[tactic(auto, using(crate::proofs::LetterCounts::records_count, crate::proofs::LetterCounts::farewells_count, crate::proofs::LetterCounts::is_said))]
     pub fn submit(&mut self, alloc: Global, rays: &Rays, line: &[u8]) -> Result<(), WindowFault>
-        ensures window { SameWindow self.old self.new }
-        ensures collected { collected self.new ≡ collected self.old }
-        ensures known { deliveries_known self.new ≡ deliveries_known self.old }
+        ensures answers { SameAnswers self.old self.new }
         ensures stays { is_gone self.new ≡ is_gone self.old }
         ensures sent { OnOk result ((r : RecordValue) × SaysOnly line.now (default_of self.old) r
             × (letters_sent self.new ≡ letters_sent self.old ++ Letter.Record r ∷ [])) }
-        ensures unsent { IfErr result (λ _. letters_sent self.new ≡ letters_sent self.old) }
+        ensures unsent { OnErr result (WindowLooked self.old self.new) }
         ensures gone { (result ≡ Err WindowFault.Gone) ↔ (is_gone self.old ≡ true) }
         ensures line { IfErr result (λ fault. RefusesLine line.now (default_of self.old) fault) }
-        ensures busy { result ≡ Err WindowFault.Busy → places_known self.new ≡ 0 }
-        ensures filled { result ≡ Err WindowFault.Busy → places_of self.old ≤ length (letters_sent self.old) }
+        ensures busy { result ≡ Err WindowFault.Busy → HasNoPlace self.new }
         ensures exhausted { result ≡ Err WindowFault.Exhausted → length (records (letters_sent self.old)) ≡ 2 ^ 64 - 1 }
         ensures not_busy { result ≡ Err WindowFault.Exhausted → 0 < places_known self.new }
         ensures last { OnOk result (length (records (letters_sent self.old)) < 2 ^ 64 - 1) }
-        ensures places { MatchResult result (λ _. places_known self.old ≤ places_known self.new + 1)
-            (λ _. places_known self.old ≤ places_known self.new) }
+        ensures places { OnOk result (places_known self.old ≤ places_known self.new + 1) }
     {
         if self.gone {
             return Err(WindowFault::Gone);
@@ -88,18 +84,14 @@ impl Window {
     /// Withdraws the record that the window sent as its n-th, counted from 0. It takes no memory.
     #[tactic(auto, using(crate::proofs::LetterCounts::records_count, crate::proofs::LetterCounts::farewells_count, crate::proofs::LetterCounts::is_said))]
     pub fn withdraw(&mut self, n: u64) -> Result<(), WithdrawFault>
-        ensures window { SameWindow self.old self.new }
-        ensures collected { collected self.new ≡ collected self.old }
-        ensures known { deliveries_known self.new ≡ deliveries_known self.old }
+        ensures answers { SameAnswers self.old self.new }
         ensures stays { is_gone self.new ≡ is_gone self.old }
         ensures sent { OnOk result (letters_sent self.new ≡ letters_sent self.old ++ Letter.Withdrawal n ∷ []) }
-        ensures unsent { IfErr result (λ _. letters_sent self.new ≡ letters_sent self.old) }
+        ensures unsent { OnErr result (WindowLooked self.old self.new) }
         ensures gone { (result ≡ Err WithdrawFault.Gone) ↔ (is_gone self.old ≡ true) }
         ensures not_sent { (result ≡ Err WithdrawFault.NotSent) ↔ ((is_gone self.old ≡ false) × (length (records (letters_sent self.old)) ≤ n)) }
-        ensures busy { result ≡ Err WithdrawFault.Busy → places_known self.new ≡ 0 }
-        ensures filled { result ≡ Err WithdrawFault.Busy → places_of self.old ≤ length (letters_sent self.old) }
-        ensures places { MatchResult result (λ _. places_known self.old ≤ places_known self.new + 1)
-            (λ _. places_known self.old ≤ places_known self.new) }
+        ensures busy { result ≡ Err WithdrawFault.Busy → HasNoPlace self.new }
+        ensures places { OnOk result (places_known self.old ≤ places_known self.new + 1) }
     {
         if self.gone {
             return Err(WithdrawFault::Gone);
@@ -117,18 +109,13 @@ impl Window {
     /// Says farewell, after which nothing is sent. It takes one place of the record ring.
     #[tactic(auto, using(crate::proofs::LetterCounts::records_count, crate::proofs::LetterCounts::farewells_count, crate::proofs::LetterCounts::is_said))]
     pub fn bye(&mut self) -> Result<(), ByeFault>
-        ensures window { SameWindow self.old self.new }
-        ensures collected { collected self.new ≡ collected self.old }
-        ensures known { deliveries_known self.new ≡ deliveries_known self.old }
+        ensures answers { SameAnswers self.old self.new }
         ensures sent { OnOk result (letters_sent self.new ≡ letters_sent self.old ++ Letter.Farewell ∷ []) }
         ensures said { OnOk result (is_gone self.new ≡ true) }
-        ensures unsent { IfErr result (λ _. letters_sent self.new ≡ letters_sent self.old) }
-        ensures unsaid { IfErr result (λ _. is_gone self.new ≡ is_gone self.old) }
+        ensures unsent { OnErr result (WindowLooked self.old self.new) }
         ensures gone { (result ≡ Err ByeFault.Gone) ↔ (is_gone self.old ≡ true) }
-        ensures busy { result ≡ Err ByeFault.Busy → places_known self.new ≡ 0 }
-        ensures filled { result ≡ Err ByeFault.Busy → places_of self.old ≤ length (letters_sent self.old) }
-        ensures places { MatchResult result (λ _. places_known self.old ≤ places_known self.new + 1)
-            (λ _. places_known self.old ≤ places_known self.new) }
+        ensures busy { result ≡ Err ByeFault.Busy → HasNoPlace self.new }
+        ensures places { OnOk result (places_known self.old ≤ places_known self.new + 1) }
     {
         if self.gone {
             return Err(ByeFault::Gone);
@@ -143,26 +130,18 @@ impl Window {
 
     /// Whether a place of the record ring is known to be free.
     pub fn has_place(&mut self) -> bool
-        ensures window { SameWindow self.old self.new }
-        ensures sent { letters_sent self.new ≡ letters_sent self.old }
-        ensures collected { collected self.new ≡ collected self.old }
-        ensures stays { is_gone self.new ≡ is_gone self.old }
+        ensures looked { WindowLooked self.old self.new }
         ensures known { deliveries_known self.new ≡ deliveries_known self.old }
-        ensures places { places_known self.old ≤ places_known self.new }
         ensures place { result ≡ true → 0 < places_known self.new }
-        ensures no_place { result ≡ false → places_known self.new ≡ 0 }
+        ensures no_place { result ≡ false → HasNoPlace self.new }
     {
         !self.letters.is_full()
     }
 
     /// Whether a delivery is known to lie in the answer ring. It touches none, so that looking often costs little.
     pub fn has_delivery(&mut self) -> bool
-        ensures window { SameWindow self.old self.new }
-        ensures sent { letters_sent self.new ≡ letters_sent self.old }
-        ensures collected { collected self.new ≡ collected self.old }
-        ensures stays { is_gone self.new ≡ is_gone self.old }
+        ensures looked { WindowLooked self.old self.new }
         ensures places { places_known self.new ≡ places_known self.old }
-        ensures known { IsPrefix (deliveries_known self.old) (deliveries_known self.new) }
         ensures delivery { result ≡ true → 0 < length (deliveries_known self.new) }
         ensures no_delivery { result ≡ false → deliveries_known self.new ≡ [] }
     {
@@ -181,22 +160,16 @@ impl Window {
     /// not be moved.
     pub fn collect_seen(&mut self)
         requires { 0 < length (deliveries_known self.old) }
-        ensures window { SameWindow self.old self.new }
-        ensures sent { letters_sent self.new ≡ letters_sent self.old }
+        ensures letters { SameLetters self.old self.new }
         ensures collected { (d : Delivery) → IsPrefix (d ∷ []) (deliveries_known self.old) → collected self.new ≡ collected self.old ++ d ∷ [] }
         ensures known { (d : Delivery) → IsPrefix (d ∷ []) (deliveries_known self.old) → deliveries_known self.old ≡ d ∷ deliveries_known self.new }
-        ensures places { places_known self.new ≡ places_known self.old }
-        ensures stays { is_gone self.new ≡ is_gone self.old }
     {
         self.answers.pop_known();
     }
 
     /// Collects the next delivery, where one is known to lie in the answer ring.
     pub fn collect(&mut self) -> Option<Delivery>
-        ensures window { SameWindow self.old self.new }
-        ensures sent { letters_sent self.new ≡ letters_sent self.old }
-        ensures places { places_known self.new ≡ places_known self.old }
-        ensures stays { is_gone self.new ≡ is_gone self.old }
+        ensures letters { SameLetters self.old self.new }
         ensures collected { IfSome result (λ d. collected self.new ≡ collected self.old ++ d ∷ []) }
         ensures next { IfSome result (λ d. IsPrefix (deliveries_known self.old) (d ∷ deliveries_known self.new)) }
         ensures unchanged { IfNone result (collected self.new ≡ collected self.old) }

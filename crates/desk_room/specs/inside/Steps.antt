@@ -8,6 +8,7 @@ use Rattle.mate_jobs.specs.declared.deliveries.Delivery.{Delivery}
 use Rattle.room_ends.specs.Letters.{records, farewells}
 use Rattle.desk_room.specs.Passes.{Ordering}
 use Rattle.desk_room.specs.Turns.{waiting}
+use Rattle.desk_room.specs.Keepers.{is_home, Stays}
 use Rattle.desk_room.specs.Events.{RoomLists, hearing, taking, withdrawn_in, solved_in, returned_in, stranger_in}
 use Rattle.room_ends.specs.Benches.{heard, back_known}
 use Rattle.room_ends.specs.WindowRings.{letters_taken, letters_known, deliveries_put, places_free}
@@ -17,6 +18,7 @@ use Rattle.room_ends.specs.declared.deque_rule.Order.{Order}
 use Rattle.room_ends.specs.declared.deque_rule.Order.TheVariants.{Solve}
 use Rattle.room_ends.specs.declared.back_receiver.BackReceiver.{BackReceiver}
 use Rattle.room_ends.specs.declared.window_ring_line.Line.{Line}
+use Rattle.desk_room.specs.declared.keepers.Keeper.{Keeper}
 use Rattle.desk_room.specs.declared.turns.back_pass.Heard.{Heard}
 use Rattle.desk_room.specs.declared.turns.letter_pass.Took.{Took}
 use Rattle.desk_room.specs.declared.turns.order_pass.Tried.{Tried}
@@ -60,6 +62,27 @@ abbrev pub Trying : RoomLists → RoomLists → Tried → Type 0
 Trying s t Ordered = Ordering s t 1 × (waiting t.content + 1 ≡ waiting s.content)
 Trying s t Refused = (t ≡ s) × (0 < length t.orders)
 Trying s t NoneWaits = (t ≡ s) × (waiting t.content ≡ 0)
+
+-- A keeper that used, of its ends, those of the windows' rings alone.
+pub record AtLines (k m : Keeper) : Type 0 where
+  pub stays : Stays k m
+  pub home : is_home m ≡ is_home k
+  pub receivers : m.receivers ≡ k.receivers
+  pub producer : m.producer ≡ k.producer
+
+-- those of the back rings alone
+pub record AtReceivers (k m : Keeper) : Type 0 where
+  pub stays : Stays k m
+  pub home : is_home m ≡ is_home k
+  pub lines : m.lines ≡ k.lines
+  pub producer : m.producer ≡ k.producer
+
+-- that of the deque alone
+pub record AtProducer (k m : Keeper) : Type 0 where
+  pub stays : Stays k m
+  pub home : is_home m ≡ is_home k
+  pub lines : m.lines ≡ k.lines
+  pub receivers : m.receivers ≡ k.receivers
 
 -- The lists but the n-th are as they were.
 unfoldable pub Untouched : {A : Type 0} → ℕ → List (List A) → List (List A) → Type 0

@@ -88,8 +88,8 @@ impl Submitter {
         Ok(())
     }
 
-    #[tactic(auto, using(crate::proofs::RingEnds::same_window, crate::proofs::Collecting::collects_same))]
     /// Whether an answer is awaited and has come. Nothing large is touched, so that looking often costs little.
+    #[tactic(auto, using(crate::proofs::RingEnds::same_window, crate::proofs::Collecting::collects_same))]
     fn has_answer(&mut self) -> bool
         ensures window { SameWindow self.old.window self.new.window }
         ensures awaited { result ≡ true → 0 < length self.new.pending_replies.items }
@@ -104,8 +104,8 @@ impl Submitter {
         self.window.has_delivery()
     }
 
-    #[tactic(auto, using(crate::proofs::Collecting::window_then))]
     /// Takes the next answer, where one is awaited and has come. It answers whether it did.
+    #[tactic(auto, using(crate::proofs::Collecting::window_then))]
     fn collect(&mut self, alloc: Global, rays: &Rays) -> Result<bool, StopReason>
         ensures window { SameWindow self.old.window self.new.window }
         ensures took { IfOk result (λ took. took ≡ true
@@ -130,8 +130,8 @@ impl Submitter {
         self.window.has_place()
     }
 
-    #[tactic(auto, using(crate::proofs::Collecting::collects_same, crate::proofs::Collecting::window_then))]
     /// Takes answers as they come, until the record ring has a place.
+    #[tactic(auto, using(crate::proofs::Collecting::collects_same, crate::proofs::Collecting::window_then))]
     fn make_room<R: Wait>(
         &mut self,
         rt: &R,
@@ -161,8 +161,8 @@ impl Submitter {
         unreachable!()
     }
 
-    #[tactic(auto, using(crate::proofs::Collecting::collects_same, crate::proofs::Collecting::window_then))]
     /// Takes answers as they come, until none is awaited.
+    #[tactic(auto, using(crate::proofs::Collecting::collects_same, crate::proofs::Collecting::window_then))]
     pub(crate) fn collect_all<R: Wait>(
         &mut self,
         rt: &R,
@@ -254,8 +254,8 @@ impl Submitter {
         }
     }
 
-    #[tactic(auto, using(crate::proofs::Collecting::window_then))]
     /// Hands in a line, by its number in the input.
+    #[tactic(auto, using(crate::proofs::Collecting::window_then))]
     fn hand_in<R: Wait>(
         &mut self,
         rt: &R,
@@ -283,8 +283,8 @@ impl Submitter {
         sent
     }
 
-    #[tactic(auto, using(crate::proofs::RingEnds::same_window, crate::proofs::Collecting::window_then))]
     /// Hands in all lines of an input.
+    #[tactic(auto, using(crate::proofs::RingEnds::same_window, crate::proofs::Collecting::window_then))]
     pub(crate) fn hand_in_all<R: Wait>(
         &mut self,
         rt: &R,

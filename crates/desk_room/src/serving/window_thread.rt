@@ -21,8 +21,8 @@ pub(crate) struct Report {
     pub(crate) reply: Option<Output>,
 }
 
-#[tactic(auto, using(crate::proofs::RingEnds::same_window, crate::proofs::Collecting::window_then))]
 /// Says farewell, once the record ring has a place for it.
+#[tactic(auto, using(crate::proofs::RingEnds::same_window, crate::proofs::Collecting::window_then))]
 fn say_bye<R: Wait>(rt: &R, window: &mut Window, signals: &mut WindowSignals)
     ensures window { SameWindow window.old window.new }
     ensures records { records (letters_sent window.new) ≡ records (letters_sent window.old) }
@@ -42,8 +42,8 @@ fn say_bye<R: Wait>(rt: &R, window: &mut Window, signals: &mut WindowSignals)
     }
 }
 
-#[tactic(auto, using(crate::proofs::Collecting::window_then))]
 /// Has a submitter hand in all of an input and collect each answer.
+#[tactic(auto, using(crate::proofs::Collecting::window_then))]
 fn drive<R: Wait>(
     rt: &R,
     alloc: Global,

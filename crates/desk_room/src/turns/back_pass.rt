@@ -16,8 +16,8 @@ pub(crate) struct Heard {
     pub(crate) strangers: usize,
 }
 
+/// Takes one job off the ring and tells the desk.
 #[tactic(auto, using(crate::proofs::Telling::stranger_same))]
-// Takes one job off the ring and tells the desk.
 fn hear_back(receiver: &mut BackReceiver, desk: &mut Desk) -> Heard
     requires { 0 < length (back_known receiver.old) }
     ensures heard { HeardOne receiver.old receiver.new desk.old desk.new result }
@@ -43,30 +43,25 @@ fn hear_back(receiver: &mut BackReceiver, desk: &mut Desk) -> Heard
 }
 
 impl Keeper {
-    ghost use Rattle.std.specs.Prelude.{◌≡◌, ◌<◌, ◌≤◌, ◌+◌, ◌*◌, ℕ, [], length, get_or};
-    ghost use Rattle.desk_room.specs.Keepers.{lists, ring_of, backs_known, windows_of, benches_of, BacksAhead};
+    ghost use Rattle.std.specs.Prelude.{◌≡◌, ◌<◌, ◌≤◌, ◌+◌, ℕ, [], length, get_or};
+    ghost use Rattle.desk_room.specs.Keepers.{lists, ring_of, backs_known};
     ghost use Rattle.desk_room.specs.Passes.{Hearing};
-    ghost use Rattle.desk_room.specs.inside.Steps.{Untouched};
+    ghost use Rattle.desk_room.specs.inside.Steps.{Untouched, AtReceivers};
     ghost use Rattle.desk_room.specs.Turns.{GainFew};
 
-    // Learns of what lies in a bench's ring.
+    /// Learns of what lies in a bench's ring.
     fn listen(&mut self, b: usize) -> usize
         requires { b < length self.old.receivers.items }
         ensures same { lists self.new ≡ lists self.old }
         ensures known { result ≡ length (get_or (backs_known self.new) b []) }
         ensures few { result ≤ ring_of self.new }
-        ensures ahead { BacksAhead self.old self.new }
         ensures untouched { Untouched b (backs_known self.old) (backs_known self.new) }
-        ensures producer { self.new.producer ≡ self.old.producer }
-        ensures lines { self.new.lines ≡ self.old.lines }
-        ensures size { length self.new.receivers.items ≡ length self.old.receivers.items }
-        ensures ring { self.new.ring ≡ self.old.ring }
-        ensures home { self.new.is_home ≡ self.old.is_home }
+        ensures ends { AtReceivers self.old self.new }
     {
         self.receivers[b].listen()
     }
 
-    // Hears one job from a bench.
+    /// Hears one job from a bench.
     fn hear_one(&mut self, b: usize) -> Heard
         requires bench { b < length self.old.receivers.items }
         requires known { 0 < length (get_or (backs_known self.old) b []) }
@@ -75,13 +70,8 @@ impl Keeper {
         ensures known { length (get_or (backs_known self.new) b []) + 1 ≡ length (get_or (backs_known self.old) b []) }
         ensures longer { length (get_or (lists self.new).heard b []) ≡ length (get_or (lists self.old).heard b []) + 1 }
         ensures others { Untouched b (lists self.old).heard (lists self.new).heard }
-        ensures ahead { BacksAhead self.old self.new }
         ensures untouched { Untouched b (backs_known self.old) (backs_known self.new) }
-        ensures producer { self.new.producer ≡ self.old.producer }
-        ensures lines { self.new.lines ≡ self.old.lines }
-        ensures size { length self.new.receivers.items ≡ length self.old.receivers.items }
-        ensures ring { self.new.ring ≡ self.old.ring }
-        ensures home { self.new.is_home ≡ self.old.is_home }
+        ensures ends { AtReceivers self.old self.new }
     {
         let Keeper {
             receivers,
@@ -91,8 +81,8 @@ impl Keeper {
         hear_back(&mut receivers[b], desk)
     }
 
-    #[tactic(auto, using(crate::proofs::Runs::hearing_none, crate::proofs::Runs::hearing_then, crate::proofs::Fewness::untouched_same, crate::proofs::Fewness::untouched_then, crate::proofs::Listening::backs_same, crate::proofs::Listening::backs_then))]
-    // Hears what lies in a bench's ring.
+    /// Hears what lies in a bench's ring.
+    #[tactic(auto, using(crate::proofs::Runs::hearing_none, crate::proofs::Runs::hearing_then, crate::proofs::Fewness::untouched_same, crate::proofs::Fewness::untouched_then, crate::proofs::Staying::at_receivers_same, crate::proofs::Staying::at_receivers_then))]
     fn hear_from(&mut self, b: usize) -> Heard
         requires { b < length self.old.receivers.items }
         ensures heard { Hearing (lists self.old) (lists self.new) result.solved result.returned result.strangers }
@@ -100,13 +90,8 @@ impl Keeper {
         ensures listened { get_or (backs_known self.new) b [] ≡ [] }
         ensures longer { length (get_or (lists self.new).heard b []) ≤ length (get_or (lists self.old).heard b []) + ring_of self.old }
         ensures others { Untouched b (lists self.old).heard (lists self.new).heard }
-        ensures ahead { BacksAhead self.old self.new }
         ensures untouched { Untouched b (backs_known self.old) (backs_known self.new) }
-        ensures producer { self.new.producer ≡ self.old.producer }
-        ensures lines { self.new.lines ≡ self.old.lines }
-        ensures size { length self.new.receivers.items ≡ length self.old.receivers.items }
-        ensures ring { self.new.ring ≡ self.old.ring }
-        ensures home { self.new.is_home ≡ self.old.is_home }
+        ensures ends { AtReceivers self.old self.new }
     {
         let mut all = Heard {
             solved: 0,
@@ -123,17 +108,13 @@ impl Keeper {
         all
     }
 
-    #[tactic(auto, using(crate::proofs::Runs::hearing_none, crate::proofs::Runs::hearing_then, crate::proofs::Fewness::gain_none, crate::proofs::Fewness::gain_all, crate::proofs::Listening::backs_same, crate::proofs::Listening::none_listened, crate::proofs::Listening::all_listened))]
     /// Hears what lies in the back rings, bench by bench.
+    #[tactic(auto, using(crate::proofs::Runs::hearing_none, crate::proofs::Runs::hearing_then, crate::proofs::Fewness::gain_none, crate::proofs::Fewness::gain_all, crate::proofs::Staying::at_receivers_same, crate::proofs::Listening::none_listened, crate::proofs::Listening::all_listened))]
     pub(crate) fn hear_all(&mut self) -> Heard
         ensures heard { Hearing (lists self.old) (lists self.new) result.solved result.returned result.strangers }
         ensures few { GainFew (ring_of self.old) (lists self.old).heard (lists self.new).heard }
         ensures listened { (b : ℕ) → get_or (backs_known self.new) b [] ≡ [] }
-        ensures ahead { BacksAhead self.old self.new }
-        ensures producer { self.new.producer ≡ self.old.producer }
-        ensures lines { self.new.lines ≡ self.old.lines }
-        ensures ring { self.new.ring ≡ self.old.ring }
-        ensures home { self.new.is_home ≡ self.old.is_home }
+        ensures ends { AtReceivers self.old self.new }
     {
         let mut all = Heard {
             solved: 0,

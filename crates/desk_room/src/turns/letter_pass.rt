@@ -3,7 +3,7 @@
 ghost use Rattle.std.specs.Prelude.{◌≡◌, ◌<◌, ◌≤◌, ◌-◌, ◌^◌, true, length};
 ghost use Rattle.room_ends.specs.Letters.{records};
 ghost use Rattle.desk_room.specs.Events.{accepts};
-ghost use Rattle.room_ends.specs.WindowRings.{letters_taken, letters_known, deliveries_put, places_free, SameLine};
+ghost use Rattle.room_ends.specs.WindowRings.{letters_taken, letters_known, SamePut};
 ghost use Rattle.desk_room.specs.inside.Steps.{TookOne};
 
 use crate::keepers::Keeper;
@@ -18,17 +18,15 @@ pub(crate) struct Took {
     pub(crate) withdrawn: usize,
 }
 
+/// Takes a letter off the ring and tells the desk.
 #[tactic(auto, using(crate::proofs::Telling::refused_same))]
-// Takes a letter off the ring and tells the desk.
 fn take_letter(line: &mut Line, desk: &mut Desk, n: usize) -> Took
     requires known { 0 < length (letters_known line.old) }
     requires few { length (records (letters_taken line.old)) < 2 ^ 64 - 1 }
     requires accepts { accepts desk.old n ≡ true }
     ensures took { TookOne n line.old line.new desk.old desk.new result }
     ensures few { (result.accepted ≤ 1) × (result.byes ≤ 1) × (result.withdrawn ≤ 1) }
-    ensures put { deliveries_put line.new ≡ deliveries_put line.old }
-    ensures free { places_free line.new ≡ places_free line.old }
-    ensures line { SameLine line.old line.new }
+    ensures answers { SamePut line.old line.new }
 {
     let mut counts = Took {
         accepted: 0,
@@ -50,33 +48,27 @@ fn take_letter(line: &mut Line, desk: &mut Desk, n: usize) -> Took
 }
 
 impl Keeper {
-    ghost use Rattle.std.specs.Prelude.{◌≡◌, ◌≢◌, ◌<◌, ◌≤◌, ◌+◌, ◌*◌, ◌-◌, ◌^◌, ℕ, true, [], length, get_or};
+    ghost use Rattle.std.specs.Prelude.{◌≡◌, ◌<◌, ◌≤◌, ◌+◌, ◌-◌, ◌^◌, ℕ, true, [], length, get_or};
     ghost use Rattle.room_ends.specs.Letters.{records};
     ghost use Rattle.desk_room.specs.Events.{accepts};
-    ghost use Rattle.desk_room.specs.Keepers.{lists, known, ring_of, windows_of, IsRead, Ahead, OthersRead, SameRoom};
+    ghost use Rattle.desk_room.specs.Keepers.{lists, known, ring_of, IsRead, OthersRead};
     ghost use Rattle.desk_room.specs.Passes.{Taking};
-    ghost use Rattle.desk_room.specs.inside.Steps.{Untouched};
+    ghost use Rattle.desk_room.specs.inside.Steps.{Untouched, AtLines};
     ghost use Rattle.desk_room.specs.Turns.{GainFew};
 
-    // Learns of the letters in a window's ring.
+    /// Learns of the letters in a window's ring.
     fn look(&mut self, n: usize) -> usize
         requires { n < length self.old.lines.items }
         ensures same { lists self.new ≡ lists self.old }
         ensures known { result ≡ length (get_or (known self.new) n []) }
         ensures few { result ≤ ring_of self.new }
-        ensures ahead { Ahead self.old self.new }
         ensures others { OthersRead n self.old self.new }
-        ensures size { length self.new.lines.items ≡ length self.old.lines.items }
-        ensures room { SameRoom self.old self.new }
-        ensures receivers { self.new.receivers ≡ self.old.receivers }
-        ensures producer { self.new.producer ≡ self.old.producer }
-        ensures ring { self.new.ring ≡ self.old.ring }
-        ensures home { self.new.is_home ≡ self.old.is_home }
+        ensures ends { AtLines self.old self.new }
     {
         self.lines[n].look()
     }
 
-    // No window sent as many records as there are tickets, since each that was taken has one.
+    /// No window sent as many records as there are tickets, since each that was taken has one.
     fn counts(&self, n: usize)
         requires window { n < length self.now.lines.items }
         requires accepts { accepts self.now.desk n ≡ true }
@@ -85,7 +77,7 @@ impl Keeper {
         self.desk.kept();
     }
 
-    // Takes a letter of a window.
+    /// Takes a letter of a window.
     fn take_one(&mut self, n: usize) -> Took
         requires window { n < length self.old.lines.items }
         requires known { 0 < length (get_or (known self.old) n []) }
@@ -95,22 +87,16 @@ impl Keeper {
         ensures known { length (get_or (known self.new) n []) + 1 ≡ length (get_or (known self.old) n []) }
         ensures longer { length (get_or (lists self.new).taken n []) ≡ length (get_or (lists self.old).taken n []) + 1 }
         ensures untouched { Untouched n (lists self.old).taken (lists self.new).taken }
-        ensures ahead { Ahead self.old self.new }
         ensures others { OthersRead n self.old self.new }
-        ensures size { length self.new.lines.items ≡ length self.old.lines.items }
-        ensures room { SameRoom self.old self.new }
-        ensures receivers { self.new.receivers ≡ self.old.receivers }
-        ensures producer { self.new.producer ≡ self.old.producer }
-        ensures ring { self.new.ring ≡ self.old.ring }
-        ensures home { self.new.is_home ≡ self.old.is_home }
+        ensures ends { AtLines self.old self.new }
     {
         self.counts(n);
         let Keeper { lines, desk, .. } = self;
         take_letter(&mut lines[n], desk, n)
     }
 
-    #[tactic(auto, using(crate::proofs::Runs::taking_none, crate::proofs::Runs::taking_then, crate::proofs::Ahead::ahead_same, crate::proofs::Ahead::ahead_then, crate::proofs::Ahead::others_same, crate::proofs::Ahead::others_then, crate::proofs::Staying::room_same, crate::proofs::Staying::room_then, crate::proofs::Fewness::untouched_same, crate::proofs::Fewness::untouched_then))]
-    // Takes the letters of a window that lie in its ring, as long as the desk accepts a record of it.
+    /// Takes the letters of a window that lie in its ring, as long as the desk accepts a record of it.
+    #[tactic(auto, using(crate::proofs::Runs::taking_none, crate::proofs::Runs::taking_then, crate::proofs::Ahead::others_same, crate::proofs::Ahead::others_then, crate::proofs::Staying::at_lines_same, crate::proofs::Staying::at_lines_then, crate::proofs::Fewness::untouched_same, crate::proofs::Fewness::untouched_then))]
     fn take_letters(&mut self, n: usize) -> Took
         requires { n < length self.old.lines.items }
         ensures took { Taking (lists self.old) (lists self.new) result.accepted result.byes result.withdrawn }
@@ -118,14 +104,8 @@ impl Keeper {
         ensures longer { length (get_or (lists self.new).taken n []) ≤ length (get_or (lists self.old).taken n []) + ring_of self.old }
         ensures untouched { Untouched n (lists self.old).taken (lists self.new).taken }
         ensures read { IsRead n self.new }
-        ensures ahead { Ahead self.old self.new }
         ensures others { OthersRead n self.old self.new }
-        ensures size { length self.new.lines.items ≡ length self.old.lines.items }
-        ensures room { SameRoom self.old self.new }
-        ensures receivers { self.new.receivers ≡ self.old.receivers }
-        ensures producer { self.new.producer ≡ self.old.producer }
-        ensures ring { self.new.ring ≡ self.old.ring }
-        ensures home { self.new.is_home ≡ self.old.is_home }
+        ensures ends { AtLines self.old self.new }
     {
         let mut all = Took {
             accepted: 0,
@@ -145,19 +125,13 @@ impl Keeper {
         all
     }
 
-    #[tactic(auto, using(crate::proofs::Runs::taking_none, crate::proofs::Runs::taking_then, crate::proofs::Ahead::ahead_same, crate::proofs::Ahead::ahead_then, crate::proofs::Ahead::others_same, crate::proofs::Ahead::others_then, crate::proofs::Staying::room_same, crate::proofs::Staying::room_then, crate::proofs::Fewness::gain_none, crate::proofs::Fewness::gain_all))]
     /// Takes the letters of each window, as long as the desk accepts a record of it.
+    #[tactic(auto, using(crate::proofs::Runs::taking_none, crate::proofs::Runs::taking_then, crate::proofs::Ahead::others_same, crate::proofs::Ahead::others_then, crate::proofs::Staying::at_lines_same, crate::proofs::Staying::at_lines_then, crate::proofs::Fewness::gain_none, crate::proofs::Fewness::gain_all))]
     pub(crate) fn take_all(&mut self) -> Took
         ensures took { Taking (lists self.old) (lists self.new) result.accepted result.byes result.withdrawn }
         ensures few { GainFew (ring_of self.old) (lists self.old).taken (lists self.new).taken }
         ensures read { (n : ℕ) → n < length self.new.lines.items → IsRead n self.new }
-        ensures ahead { Ahead self.old self.new }
-        ensures size { length self.new.lines.items ≡ length self.old.lines.items }
-        ensures room { SameRoom self.old self.new }
-        ensures receivers { self.new.receivers ≡ self.old.receivers }
-        ensures producer { self.new.producer ≡ self.old.producer }
-        ensures ring { self.new.ring ≡ self.old.ring }
-        ensures home { self.new.is_home ≡ self.old.is_home }
+        ensures ends { AtLines self.old self.new }
     {
         let mut all = Took {
             accepted: 0,

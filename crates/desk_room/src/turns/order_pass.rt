@@ -2,7 +2,7 @@
 
 ghost use Rattle.std.specs.Prelude.{◌≡◌, ◌≤◌, length};
 ghost use Rattle.room_ends.specs.DequeRule.{stops};
-ghost use Rattle.room_ends.specs.Orders.{orders, passes, places, SameDeque};
+ghost use Rattle.room_ends.specs.Orders.{orders, places, StillPuts};
 ghost use Rattle.desk_room.specs.inside.Steps.{OrderedOne};
 ghost use Rattle.desk_room.specs.declared.turns.order_pass.Tried.TheVariants.{Refused};
 
@@ -21,15 +21,13 @@ pub(crate) enum Tried {
     NoneWaits,
 }
 
+/// Orders the job that waits under the lowest ticket, or hands it back to the desk where the deque can't grow.
 #[tactic(auto, using(crate::proofs::Telling::none_waiting))]
-// Orders the job that waits under the lowest ticket, or hands it back to the desk where the deque can't grow.
 fn order_job(desk: &mut Desk, producer: &mut OrderProducer) -> Tried
     requires { stops (orders producer.old) ≡ 0 }
     ensures tried { OrderedOne (orders producer.old) (orders producer.new) desk.old desk.new result }
     ensures full { result ≡ Refused → places producer.old ≤ length (orders producer.old) }
-    ensures places { places producer.old ≤ places producer.new }
-    ensures passes { passes producer.new ≡ passes producer.old }
-    ensures deque { SameDeque producer.old producer.new }
+    ensures stays { StillPuts producer.old producer.new }
 {
     let Some(job) = desk.take() else {
         return Tried::NoneWaits;
@@ -44,42 +42,34 @@ fn order_job(desk: &mut Desk, producer: &mut OrderProducer) -> Tried
 }
 
 impl Keeper {
-    ghost use Rattle.std.specs.Prelude.{◌≡◌, ◌<◌, ◌≤◌, ◌+◌, ◌⊎◌, true, false, length};
-    ghost use Rattle.room_ends.specs.Orders.{orders, places, SameDeque};
+    ghost use Rattle.std.specs.Prelude.{◌≡◌, ◌<◌, ◌≤◌, ◌⊎◌, true, false, length};
+    ghost use Rattle.room_ends.specs.Orders.{orders, places};
     ghost use Rattle.desk_room.specs.Keepers.{lists};
     ghost use Rattle.desk_room.specs.Turns.{waiting};
-    ghost use Rattle.desk_room.specs.inside.Steps.{Trying};
+    ghost use Rattle.desk_room.specs.inside.Steps.{Trying, AtProducer};
     ghost use Rattle.desk_room.specs.Passes.{Ordering};
     ghost use Rattle.desk_room.specs.declared.turns.order_pass.Tried.TheVariants.{Refused};
 
-    // Tries to order one job.
+    /// Tries to order one job.
     fn order_one(&mut self) -> Tried
         requires { self.old.is_home ≡ false }
         ensures tried { Trying (lists self.old) (lists self.new) result }
         ensures full { result ≡ Refused → places self.old.producer ≤ length (orders self.old.producer) }
         ensures places { places self.old.producer ≤ places self.new.producer }
-        ensures deque { SameDeque self.old.producer self.new.producer }
-        ensures receivers { self.new.receivers ≡ self.old.receivers }
-        ensures lines { self.new.lines ≡ self.old.lines }
-        ensures ring { self.new.ring ≡ self.old.ring }
-        ensures home { self.new.is_home ≡ self.old.is_home }
+        ensures ends { AtProducer self.old self.new }
     {
         let Keeper { desk, producer, .. } = self;
         order_job(desk, producer)
     }
 
-    #[tactic(auto, using(crate::proofs::Runs::ordering_none, crate::proofs::Runs::ordering_then))]
     /// Orders each job that waits, by rising ticket, until the deque can't grow. Once the benches are sent home it orders nothing.
+    #[tactic(auto, using(crate::proofs::Runs::ordering_none, crate::proofs::Runs::ordering_then, crate::proofs::Staying::at_producer_same, crate::proofs::Staying::at_producer_then))]
     pub(crate) fn order_all(&mut self) -> usize
         ensures ordered { Ordering (lists self.old) (lists self.new) result }
         ensures waits { (waiting self.new.desk ≡ 0) ⊎ ((self.new.is_home ≡ true) ⊎ (places self.old.producer ≤ length (orders self.new.producer))) }
         ensures not_the_first { (waiting self.new.desk ≡ 0) ⊎ (0 < length (orders self.new.producer)) }
         ensures none { self.old.is_home ≡ true → lists self.new ≡ lists self.old }
-        ensures deque { SameDeque self.old.producer self.new.producer }
-        ensures receivers { self.new.receivers ≡ self.old.receivers }
-        ensures lines { self.new.lines ≡ self.old.lines }
-        ensures ring { self.new.ring ≡ self.old.ring }
-        ensures home { self.new.is_home ≡ self.old.is_home }
+        ensures ends { AtProducer self.old self.new }
     {
         if self.is_home {
             return 0;

@@ -5,7 +5,7 @@ use Rattle.desk_room.proofs.serving.serve_with_memo.Goals as goal
 
 pub run-keeper-requires-clause-fresh : goal.run-keeper-requires-clause-fresh
 run-keeper-requires-clause-fresh g c κs within = opened_fresh 32 c.args.default 0 c.in_ok-room.room.windows.items
-    c.in_ok-room.room.keeper.lines.items c.in_ok-room.ensures.opened
+    c.in_ok-room.room.keeper.lines.items c.in_ok-room.ensures.room.opened
 
 pub settle_reports-requires : goal.settle_reports-requires
 settle_reports-requires g c =
@@ -13,7 +13,7 @@ settle_reports-requires g c =
     let reports : AllReport room.windows.items (map (λ v. v.items) c.args.inputs.now) c.in-Ok.reports.items =
     of_ok _ _ _ c.run-keeper.ensures.reports c.in-Ok.is in
     all_of 32 c.args.default room.windows.items room.keeper c.run-keeper.result.0 (map (λ v. v.items) c.args.inputs.now)
-    c.in-Ok.reports.items c.in_ok-room.ensures.opened c.run-keeper.ensures.keeper reports
+    c.in-Ok.reports.items c.in_ok-room.ensures.room.opened c.run-keeper.ensures.keeper reports
 
 each_ok : {A E : Type 0} {P Q : A → Type 0} (r : Result A E) → IfOk r P → ((a : A) → P a → Q a) → IfOk r Q
 each_ok (Ok a) h f = f a h
@@ -26,7 +26,7 @@ returns-clause-replies g c =
     of_ok _ _ _ c.run-keeper.ensures.reports c.in-Ok.is in
     each_ok c.settle_reports.result c.settle_reports.ensures.settled (λ outputs settled.
     are_replies 32 c.args.default 0 room.windows.items room.keeper.lines.items (map (λ v. v.items) c.args.inputs.now)
-    c.in-Ok.reports.items outputs.items c.in_ok-room.ensures.opened reports settled)
+    c.in-Ok.reports.items outputs.items c.in_ok-room.ensures.room.opened reports settled)
 
 pub returns-clause-bad_windows : goal.returns-clause-bad_windows
 returns-clause-bad_windows g c = (

@@ -14,4 +14,4 @@ returns-clause-settled c =
     let k = c.settle.new.self in
     settled_one c.args.report (deliveries_known met) (map asked_of (pending_at (number_of met) (lists k).content.queues))
     (records (get_or (known k) (number_of met) []))
-    (rw (c.settle.ensures.sent, c.settle.ensures.collected) at c.settle.ensures.settled)
+    (rw (c.settle.ensures.window.sent, c.settle.ensures.window.collected) at c.settle.ensures.settled)

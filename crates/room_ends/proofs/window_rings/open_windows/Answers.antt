@@ -1,4 +1,4 @@
-use Rattle.std.proofs.Common.{◌≡◌, ◌+◌, arith, rules, length, vec_len}
+use Rattle.std.proofs.Common.{◌≡◌, ◌+◌, arith, rules, length, vec_len, subst}
 use Rattle.room_ends.specs.WindowRings.{letters_taken, deliveries_put, ring_of}
 use Rattle.room_ends.specs.Opening.{IsFresh}
 use Rattle.room_ends.proofs.Openings.{opened_snoc, fresh_snoc, rings_snoc}
@@ -13,16 +13,8 @@ loop-number-preserved c =
     let ends = c.loop-number.ends in
     let lines = c.loop-number.lines in
     let long : length ends.items ≡ vec_len ends = search rules in
-    let fresh : IsFresh c.args.ring c.args.default (0 + length ends.items) c.in_ok-window.window c.in_ok-window.line = record {
-      number = omega (arith, e.number, i.count, long);
-      default = e.default;
-      sent = e.sent;
-      collected = e.collected;
-      places = e.places;
-      free = e.known;
-      answers = e.free;
-      ends = e.ends;
-    } in
+    let at : c.loop-number.number ≡ 0 + length ends.items = omega (arith, i.count, long) in
+    let fresh = subst (λ n. IsFresh c.args.ring c.args.default n c.in_ok-window.window c.in_ok-window.line) at e.fresh in
     record {
       count = omega (arith, w.len, i.count);
       count_lines = omega (arith, l.len, i.count_lines);

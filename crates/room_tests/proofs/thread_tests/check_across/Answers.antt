@@ -9,8 +9,8 @@ settle-requires g c =
     let s = subst (λ v. SameWindow v w) c.start-first.ensures c.join-first.ensures in
     let h = of_window c.in_ok-keeper.first w c.in_ok-keeper.keeper c.in_ok-keeper.ensures.first s in
     let k = of_then w c.in_ok-keeper.keeper c.keep-done.new.keeper h c.keep-done.ensures in
-    let l = of_then w c.keep-done.new.keeper c.close.new.self k c.close.ensures.stays.room in
-    of_then w c.close.new.self c.send_home.new.self l c.send_home.ensures.stays.room
+    let l = of_then w c.keep-done.new.keeper c.close.new.self k c.close.ensures.rings.stays.room in
+    of_then w c.close.new.self c.send_home.new.self l c.send_home.ensures.rings.stays.room
 
 pub settle-requires-2 : goal.settle-requires-2
 settle-requires-2 g c =
@@ -18,6 +18,6 @@ settle-requires-2 g c =
     let s = subst (λ v. SameWindow v w) c.start-second.ensures c.join-second.ensures in
     let h = of_window c.in_ok-keeper.second w c.in_ok-keeper.keeper c.in_ok-keeper.ensures.second s in
     let k = of_then w c.in_ok-keeper.keeper c.keep-done.new.keeper h c.keep-done.ensures in
-    let l = of_then w c.keep-done.new.keeper c.close.new.self k c.close.ensures.stays.room in
-    let m = of_then w c.close.new.self c.send_home.new.self l c.send_home.ensures.stays.room in
+    let l = of_then w c.keep-done.new.keeper c.close.new.self k c.close.ensures.rings.stays.room in
+    let m = of_then w c.close.new.self c.send_home.new.self l c.send_home.ensures.rings.stays.room in
     of_then w c.send_home.new.self c.settle.new.self m c.settle.ensures.stays.room

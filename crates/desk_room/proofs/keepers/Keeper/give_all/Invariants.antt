@@ -1,7 +1,7 @@
-use Rattle.std.proofs.Common.{ℕ, ◌≡◌, ◌≤◌, ◌<◌, ◌*◌, length}
-use Rattle.desk_room.specs.Keepers.{lists, known, IsServed, SameRoom}
+use Rattle.std.proofs.Common.{ℕ, ◌≡◌, ◌≤◌, ◌<◌, ◌*◌}
+use Rattle.desk_room.specs.Keepers.{lists, known, IsServed}
 use Rattle.desk_room.specs.Passes.{Giving}
-use Rattle.desk_room.specs.inside.Steps.{GainBefore}
+use Rattle.desk_room.specs.inside.Steps.{GainBefore, AtLines}
 use Rattle.desk_room.proofs.keepers.Keeper.give_all.Given as goal
 
 abbrev pub invariant-loop-n : goal.invariant-loop-n
@@ -11,9 +11,5 @@ invariant-loop-n l = record {
   gained : GainBefore l.n l.fn.self.ring (lists l.fn.self).put (lists l.self).put;
   served : (i : ℕ) → i < l.n → IsServed i l.self;
   known : known l.self ≡ known l.fn.self;
-  size : length l.self.lines.items ≡ length l.fn.self.lines.items;
-  room : SameRoom l.fn.self l.self;
-  receivers : l.self.receivers ≡ l.fn.self.receivers;
-  ring : l.self.ring ≡ l.fn.self.ring;
-  home : l.self.is_home ≡ l.fn.self.is_home;
+  ends : AtLines l.fn.self l.self;
 }

@@ -3,7 +3,7 @@ use Rattle.desk_room.specs.Keepers.{lists}
 use Rattle.desk_room.proofs.Fewness.{untouched_same, untouched_then}
 use Rattle.desk_room.proofs.Runs.{giving_none, giving_then}
 use Rattle.desk_room.proofs.Served.{served_same, served_then}
-use Rattle.desk_room.proofs.Staying.{room_same, room_then}
+use Rattle.desk_room.proofs.Staying.{at_lines_same, at_lines_then}
 use Rattle.desk_room.proofs.keepers.Keeper.give_answers.Goals as goal
 
 pub loop-given-init : goal.loop-given-init
@@ -16,11 +16,7 @@ loop-given-init c =
       untouched = untouched_same c.args.n (lists k).put (lists k).put refl;
       others = served_same c.args.n k;
       known = refl;
-      size = refl;
-      room = room_same k;
-      receivers = refl;
-      ring = refl;
-      home = refl;
+      ends = at_lines_same k;
     }
 
 pub loop-given-preserved : goal.loop-given-preserved
@@ -35,9 +31,5 @@ loop-given-preserved c =
       untouched = untouched_then c.args.n _ _ _ i.untouched e.untouched;
       others = served_then c.args.n _ _ _ i.others e.others;
       known = e.known ∙ i.known;
-      size = e.size ∙ i.size;
-      room = room_then _ _ _ i.room e.room;
-      receivers = e.receivers ∙ i.receivers;
-      ring = e.ring ∙ i.ring;
-      home = e.home ∙ i.home;
+      ends = at_lines_then _ _ _ i.ends e.ends;
     }

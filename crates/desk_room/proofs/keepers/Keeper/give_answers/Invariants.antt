@@ -1,8 +1,8 @@
 use Rattle.std.proofs.Common.{◌≡◌, ◌≤◌, ◌+◌, length, get_or, []}
 use Rattle.desk_room.specs.Turns.{pending_at}
-use Rattle.desk_room.specs.Keepers.{lists, known, OthersServed, SameRoom}
+use Rattle.desk_room.specs.Keepers.{lists, known, OthersServed}
 use Rattle.desk_room.specs.Passes.{Giving}
-use Rattle.desk_room.specs.inside.Steps.{Untouched}
+use Rattle.desk_room.specs.inside.Steps.{Untouched, AtLines}
 use Rattle.desk_room.proofs.keepers.Keeper.give_answers.Given as goal
 
 abbrev pub invariant-loop-given : goal.invariant-loop-given
@@ -13,9 +13,5 @@ invariant-loop-given l = record {
   untouched : Untouched l.n (lists l.fn.self).put (lists l.self).put;
   others : OthersServed l.n l.fn.self l.self;
   known : known l.self ≡ known l.fn.self;
-  size : length l.self.lines.items ≡ length l.fn.self.lines.items;
-  room : SameRoom l.fn.self l.self;
-  receivers : l.self.receivers ≡ l.fn.self.receivers;
-  ring : l.self.ring ≡ l.fn.self.ring;
-  home : l.self.is_home ≡ l.fn.self.is_home;
+  ends : AtLines l.fn.self l.self;
 }

@@ -1,11 +1,12 @@
-use Rattle.std.proofs.Common.{arith, refl, ◌∙◌, inl, inr, ⊎_elim, length-set}
+use Rattle.std.proofs.Common.{arith, refl, sym, ◌∙◌, inl, inr, ⊎_elim, length-set, []}
 use Rattle.room_ends.specs.Orders.{orders}
 use Rattle.room_ends.specs.WindowRings.{letters_known, deliveries_put, places_free, ring_of}
 use Rattle.desk_room.specs.Keepers.{OthersServed}
-use Rattle.desk_room.proofs.Places.{at_other, map_same}
+use Rattle.desk_room.proofs.Places.{at_other, map_same, nil_append}
+use Rattle.desk_room.proofs.Ahead.{ahead_looked}
 use Rattle.desk_room.proofs.Stepping.{gave_step, gave_owed, gave_marked, rooms_given, queues_by_rooms, rooms_still, rings_set}
 use Rattle.desk_room.proofs.Served.{gave_stuck, gave_fewer, gave_other, gave_longer}
-use Rattle.desk_room.proofs.Staying.{room_set}
+use Rattle.desk_room.proofs.Staying.{at_lines}
 use Rattle.desk_room.proofs.Fewness.{untouched_set}
 use Rattle.desk_room.proofs.keepers.Keeper.give_one.Goals as goal
 
@@ -26,7 +27,7 @@ invariant_of-self-clause-few_windows c = let k = c.args.self.now in
 
 pub invariant_of-self-clause-line_rings : goal.invariant_of-self-clause-line_rings
 invariant_of-self-clause-line_rings c = let k = c.args.self.now in rings_set ring_of k.lines.items c.args.n c.index_mut.result.now
-    c.give_delivery.new.line k.ring c.requires c.index_mut.ensures.value c.give_delivery.ensures.line.2 k.line_rings
+    c.give_delivery.new.line k.ring c.requires c.index_mut.ensures.value c.give_delivery.ensures.letters.line.2 k.line_rings
 
 pub invariant_of-self-clause-rooms : goal.invariant_of-self-clause-rooms
 invariant_of-self-clause-rooms c =
@@ -39,21 +40,21 @@ invariant_of-self-clause-kept c =
     let k = c.args.self.now in
     gave_owed c.give_delivery.result k.lines.items c.args.n c.index_mut.result.now c.give_delivery.new.line k.receivers.items
     (orders k.producer) k.desk c.give_delivery.new.desk c.requires c.index_mut.ensures.value
-    c.give_delivery.ensures.taken c.give_delivery.ensures.gave k.kept
+    c.give_delivery.ensures.letters.taken c.give_delivery.ensures.gave k.kept
 
 pub invariant_of-self-clause-marked : goal.invariant_of-self-clause-marked
 invariant_of-self-clause-marked c =
     let k = c.args.self.now in
     gave_marked c.give_delivery.result k.lines.items c.args.n c.index_mut.result.now c.give_delivery.new.line k.receivers.items
     (orders k.producer) k.desk c.give_delivery.new.desk c.requires c.index_mut.ensures.value
-    c.give_delivery.ensures.taken c.give_delivery.ensures.gave k.marked
+    c.give_delivery.ensures.letters.taken c.give_delivery.ensures.gave k.marked
 
 pub returns-clause-step : goal.returns-clause-step
 returns-clause-step c =
     let k = c.args.self.now in
     gave_step c.give_delivery.result k.lines.items c.args.n c.index_mut.result.now c.give_delivery.new.line k.receivers.items
     (orders k.producer) k.desk c.give_delivery.new.desk c.requires c.index_mut.ensures.value
-    c.give_delivery.ensures.taken c.give_delivery.ensures.gave
+    c.give_delivery.ensures.letters.taken c.give_delivery.ensures.gave
 
 pub returns-clause-stuck : goal.returns-clause-stuck
 returns-clause-stuck c = gave_stuck c.give_delivery.result c.args.self.now.lines.items c.args.n c.index_mut.result.now
@@ -73,11 +74,13 @@ returns-clause-others c =
 
 pub returns-clause-known : goal.returns-clause-known
 returns-clause-known c = let k = c.args.self.now in map_same letters_known k.lines.items c.args.n c.index_mut.result.now
-    c.give_delivery.new.line c.requires c.index_mut.ensures.value c.give_delivery.ensures.known
+    c.give_delivery.new.line c.requires c.index_mut.ensures.value c.give_delivery.ensures.letters.known
 
-pub returns-clause-room : goal.returns-clause-room
-returns-clause-room c = room_set c.args.self.now _ c.args.n c.index_mut.result.now c.give_delivery.new.line c.requires
-    c.index_mut.ensures.value c.give_delivery.ensures.line refl refl
+pub returns-clause-ends : goal.returns-clause-ends
+returns-clause-ends c =
+    let e = c.give_delivery.ensures.letters in
+    at_lines c.args.self.now _ c.args.n c.index_mut.result.now c.give_delivery.new.line c.requires c.index_mut.ensures.value e.line
+    (ahead_looked _ _ _ _ ([], nil_append _ ∙ sym e.known) e.taken) refl refl refl refl refl
 
 pub returns-clause-longer : goal.returns-clause-longer
 returns-clause-longer c =

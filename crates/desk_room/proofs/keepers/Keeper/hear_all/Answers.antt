@@ -1,8 +1,9 @@
-use Rattle.std.proofs.Common.{arith, refl, ◌∙◌}
+use Rattle.std.proofs.Common.{arith}
 use Rattle.desk_room.specs.Keepers.{lists}
 use Rattle.desk_room.proofs.Fewness.{gain_none, gain_more}
 use Rattle.desk_room.proofs.Runs.{hearing_none, hearing_then}
-use Rattle.desk_room.proofs.Listening.{backs_same, backs_then, none_listened, listened_more}
+use Rattle.desk_room.proofs.Listening.{none_listened, listened_more}
+use Rattle.desk_room.proofs.Staying.{at_receivers_same, at_receivers_then}
 use Rattle.desk_room.proofs.keepers.Keeper.hear_all.Goals as goal
 
 pub loop-b-preserved : goal.loop-b-preserved
@@ -13,14 +14,9 @@ loop-b-preserved c =
       heard = hearing_then _ _ _ _ _ _ _ _ _ i.heard e.heard;
       few = omega (arith, i.few, e.few, c.loop-b.self.small);
       gained = gain_more c.loop-b.b c.args.self.now.ring (lists c.args.self.now).heard (lists c.loop-b.self).heard
-          (lists c.hear_from-one.new.self).heard i.gained e.others (omega (arith, e.longer, i.ring));
+          (lists c.hear_from-one.new.self).heard i.gained e.others (omega (arith, e.longer, i.ends.stays.ring));
       listened = listened_more c.loop-b.b c.loop-b.self c.hear_from-one.new.self i.listened e.untouched e.listened;
-      ahead = backs_then _ _ _ i.ahead e.ahead;
-      producer = e.producer ∙ i.producer;
-      lines = e.lines ∙ i.lines;
-      size = e.size ∙ i.size;
-      ring = e.ring ∙ i.ring;
-      home = e.home ∙ i.home;
+      ends = at_receivers_then _ _ _ i.ends e.ends;
     }
 
 pub loop-b-init : goal.loop-b-init
@@ -31,10 +27,5 @@ loop-b-init c =
       few = omega arith;
       gained = gain_none k.ring (lists k).heard;
       listened = none_listened k;
-      ahead = backs_same k;
-      producer = refl;
-      lines = refl;
-      size = refl;
-      ring = refl;
-      home = refl;
+      ends = at_receivers_same k;
     }

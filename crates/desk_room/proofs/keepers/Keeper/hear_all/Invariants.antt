@@ -1,7 +1,7 @@
-use Rattle.std.proofs.Common.{◌≡◌, ◌<◌, ◌≤◌, ◌+◌, ◌*◌, ℕ, [], length, get_or}
-use Rattle.desk_room.specs.Keepers.{lists, backs_known, BacksAhead}
+use Rattle.std.proofs.Common.{◌≡◌, ◌<◌, ◌≤◌, ◌+◌, ◌*◌, ℕ, [], get_or}
+use Rattle.desk_room.specs.Keepers.{lists, backs_known}
 use Rattle.desk_room.specs.Passes.{Hearing}
-use Rattle.desk_room.specs.inside.Steps.{GainBefore}
+use Rattle.desk_room.specs.inside.Steps.{GainBefore, AtReceivers}
 use Rattle.desk_room.proofs.keepers.Keeper.hear_all.Given as goal
 
 abbrev pub invariant-loop-b : goal.invariant-loop-b
@@ -10,10 +10,5 @@ invariant-loop-b l = record {
   few : l.all.solved + (l.all.returned + l.all.strangers) ≤ 64 * l.b;
   gained : GainBefore l.b l.fn.self.ring (lists l.fn.self).heard (lists l.self).heard;
   listened : (i : ℕ) → i < l.b → get_or (backs_known l.self) i [] ≡ [];
-  ahead : BacksAhead l.fn.self l.self;
-  producer : l.self.producer ≡ l.fn.self.producer;
-  lines : l.self.lines ≡ l.fn.self.lines;
-  size : length l.self.receivers.items ≡ length l.fn.self.receivers.items;
-  ring : l.self.ring ≡ l.fn.self.ring;
-  home : l.self.is_home ≡ l.fn.self.is_home;
+  ends : AtReceivers l.fn.self l.self;
 }

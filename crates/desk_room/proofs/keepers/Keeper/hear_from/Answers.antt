@@ -1,10 +1,10 @@
-use Rattle.std.proofs.Common.{arith, ◌∙◌, sym, subst, ap, length, get_or, []}
+use Rattle.std.proofs.Common.{arith, sym, subst, ap, length, get_or, []}
 use Rattle.desk_room.specs.Keepers.{lists}
 use Rattle.desk_room.specs.Events.{RoomLists}
 use Rattle.desk_room.specs.Passes.{Hearing}
 use Rattle.desk_room.proofs.Fewness.{untouched_same, untouched_then}
 use Rattle.desk_room.proofs.Runs.{hearing_none, hearing_then}
-use Rattle.desk_room.proofs.Listening.{backs_then}
+use Rattle.desk_room.proofs.Staying.{at_receivers_then}
 use Rattle.desk_room.proofs.keepers.Keeper.hear_from.Goals as goal
 
 pub loop-init : goal.loop-init
@@ -17,13 +17,8 @@ loop-init c =
       longer = omega (arith, ap (λ (s : RoomLists). length (get_or s.heard c.args.b [])) e.same);
       others = untouched_same c.args.b (lists k).heard _ (ap (λ (s : RoomLists). s.heard) e.same);
       known = omega (arith, e.known);
-      ahead = e.ahead;
       untouched = e.untouched;
-      producer = e.producer;
-      lines = e.lines;
-      size = e.size;
-      ring = e.ring;
-      home = e.home;
+      ends = e.ends;
     }
 
 pub loop-preserved : goal.loop-preserved
@@ -36,11 +31,6 @@ loop-preserved c =
       longer = omega (arith, i.longer, e.longer);
       others = untouched_then c.args.b _ _ _ i.others e.others;
       known = omega (arith, i.known, e.known);
-      ahead = backs_then _ _ _ i.ahead e.ahead;
       untouched = untouched_then c.args.b _ _ _ i.untouched e.untouched;
-      producer = e.producer ∙ i.producer;
-      lines = e.lines ∙ i.lines;
-      size = e.size ∙ i.size;
-      ring = e.ring ∙ i.ring;
-      home = e.home ∙ i.home;
+      ends = at_receivers_then _ _ _ i.ends e.ends;
     }

@@ -1,7 +1,7 @@
 use Rattle.std.proofs.Common.{◌≡◌, ◌≤◌, ◌+◌, length, get_or, []}
-use Rattle.desk_room.specs.Keepers.{lists, backs_known, BacksAhead}
+use Rattle.desk_room.specs.Keepers.{lists, backs_known}
 use Rattle.desk_room.specs.Passes.{Hearing}
-use Rattle.desk_room.specs.inside.Steps.{Untouched}
+use Rattle.desk_room.specs.inside.Steps.{Untouched, AtReceivers}
 use Rattle.desk_room.proofs.keepers.Keeper.hear_from.Given as goal
 
 abbrev pub invariant-loop : goal.invariant-loop
@@ -11,11 +11,6 @@ invariant-loop l = record {
   longer : length (get_or (lists l.self).heard l.b []) ≤ length (get_or (lists l.fn.self).heard l.b []) + l.counter;
   others : Untouched l.b (lists l.fn.self).heard (lists l.self).heard;
   known : length (get_or (backs_known l.self) l.b []) + l.counter ≡ l.lying;
-  ahead : BacksAhead l.fn.self l.self;
   untouched : Untouched l.b (backs_known l.fn.self) (backs_known l.self);
-  producer : l.self.producer ≡ l.fn.self.producer;
-  lines : l.self.lines ≡ l.fn.self.lines;
-  size : length l.self.receivers.items ≡ length l.fn.self.receivers.items;
-  ring : l.self.ring ≡ l.fn.self.ring;
-  home : l.self.is_home ≡ l.fn.self.is_home;
+  ends : AtReceivers l.fn.self l.self;
 }

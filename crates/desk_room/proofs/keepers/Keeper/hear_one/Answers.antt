@@ -1,10 +1,10 @@
-use Rattle.std.proofs.Common.{arith, sym, ap, ◌∙◌, length, length-set, []}
+use Rattle.std.proofs.Common.{arith, sym, ap, ◌∙◌, refl, length, length-set, []}
 use Rattle.room_ends.specs.Orders.{orders}
 use Rattle.room_ends.specs.Benches.{heard, back_known, receiver_ring}
-use Rattle.desk_room.specs.Keepers.{BacksAhead}
 use Rattle.desk_room.proofs.Places.{at_same, at_old}
 use Rattle.desk_room.proofs.Stepping.{heard_step, heard_owed, heard_marked, heard_rooms, queues_by_rooms, rooms_still, rings_set}
-use Rattle.desk_room.proofs.Ahead.{ahead_at, ahead_taken}
+use Rattle.desk_room.proofs.Ahead.{ahead_taken}
+use Rattle.desk_room.proofs.Staying.{at_receivers}
 use Rattle.desk_room.proofs.Fewness.{one_longer, untouched_set}
 use Rattle.desk_room.proofs.keepers.Keeper.hear_one.Goals as goal
 
@@ -74,12 +74,11 @@ returns-clause-longer c =
 pub returns-clause-others : goal.returns-clause-others
 returns-clause-others c = untouched_set heard c.args.self.now.receivers.items c.args.b c.hear_back.new.receiver
 
-pub returns-clause-ahead : goal.returns-clause-ahead
-unfolding BacksAhead
-returns-clause-ahead c =
+pub returns-clause-ends : goal.returns-clause-ends
+returns-clause-ends c =
     let t = c.hear_back.ensures.heard in
-    ahead_at heard back_known c.args.self.now.receivers.items c.args.b c.index_mut.result.now c.hear_back.new.receiver
-    c.requires.bench c.index_mut.ensures.value (ahead_taken _ _ _ _ t.back t.known t.heard)
+    at_receivers c.args.self.now _ c.args.b c.index_mut.result.now c.hear_back.new.receiver c.requires.bench c.index_mut.ensures.value
+    (ahead_taken _ _ _ _ t.back t.known t.heard) refl refl refl refl refl
 
 pub returns-clause-untouched : goal.returns-clause-untouched
 returns-clause-untouched c = untouched_set back_known c.args.self.now.receivers.items c.args.b c.hear_back.new.receiver

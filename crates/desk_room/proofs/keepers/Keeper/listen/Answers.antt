@@ -1,10 +1,10 @@
-use Rattle.std.proofs.Common.{arith, sym, ap, ◌∙◌, length, length-set, []}
+use Rattle.std.proofs.Common.{arith, sym, ap, ◌∙◌, refl, length, length-set, []}
 use Rattle.room_ends.specs.Orders.{orders}
-use Rattle.room_ends.specs.Benches.{heard, back_known, receiver_ring}
-use Rattle.desk_room.specs.Keepers.{BacksAhead}
+use Rattle.room_ends.specs.Benches.{back_known, receiver_ring}
 use Rattle.desk_room.proofs.Places.{at_same}
 use Rattle.desk_room.proofs.Stepping.{receivers_same, rings_set, ring_at}
-use Rattle.desk_room.proofs.Ahead.{ahead_at, ahead_looked}
+use Rattle.desk_room.proofs.Ahead.{ahead_looked}
+use Rattle.desk_room.proofs.Staying.{at_receivers}
 use Rattle.desk_room.proofs.Fewness.{untouched_set}
 use Rattle.desk_room.proofs.keepers.Keeper.listen.Goals as goal
 
@@ -46,10 +46,9 @@ invariant_of-self-clause-stealers c = let k = c.args.self.now in k.stealers ∙ 
 pub invariant_of-self-clause-a_bench : goal.invariant_of-self-clause-a_bench
 invariant_of-self-clause-a_bench c = let k = c.args.self.now in omega (arith, k.a_bench, length-set k.receivers.items c.args.b c.listen.new.self)
 
-pub returns-clause-ahead : goal.returns-clause-ahead
-unfolding BacksAhead
-returns-clause-ahead c = ahead_at heard back_known c.args.self.now.receivers.items c.args.b c.index_mut.result.now
-    c.listen.new.self c.requires c.index_mut.ensures.value (ahead_looked _ _ _ _ c.listen.ensures.more c.listen.ensures.heard)
+pub returns-clause-ends : goal.returns-clause-ends
+returns-clause-ends c = at_receivers c.args.self.now _ c.args.b c.index_mut.result.now c.listen.new.self c.requires c.index_mut.ensures.value
+    (ahead_looked _ _ _ _ c.listen.ensures.more c.listen.ensures.heard) refl refl refl refl refl
 
 pub returns-clause-untouched : goal.returns-clause-untouched
 returns-clause-untouched c = untouched_set back_known c.args.self.now.receivers.items c.args.b c.listen.new.self

@@ -1,6 +1,7 @@
-use Rattle.std.proofs.Common.{arith, ◌∙◌, refl}
+use Rattle.std.proofs.Common.{arith, ◌∙◌}
 use Rattle.desk_room.specs.Keepers.{lists}
 use Rattle.desk_room.proofs.Runs.{ordering_none, ordering_then}
+use Rattle.desk_room.proofs.Staying.{at_producer_same, at_producer_then}
 use Rattle.desk_room.proofs.keepers.Keeper.order_all.Goals as goal
 
 pub loop-ordered-init : goal.loop-ordered-init
@@ -8,10 +9,7 @@ loop-ordered-init c = record {
   ordered = ordering_none (lists c.args.self.now);
   fewer = omega (arith, c.waiting-waiting.ensures);
   places = omega arith;
-  deque = refl;
-  receivers = refl;
-  lines = refl;
-  ring = refl;
+  ends = at_producer_same c.args.self.now;
   before = c.if-self.false;
   home = c.if-self.false;
 }
@@ -25,10 +23,7 @@ loop-ordered-preserved c =
       ordered = ordering_then _ _ _ _ _ i.ordered tried.0;
       fewer = omega (arith, i.fewer, tried.1);
       places = omega (arith, i.places, e.places);
-      deque = e.deque ∙ i.deque;
-      receivers = e.receivers ∙ i.receivers;
-      lines = e.lines ∙ i.lines;
-      ring = e.ring ∙ i.ring;
+      ends = at_producer_then _ _ _ i.ends e.ends;
       before = i.before;
-      home = e.home ∙ i.home;
+      home = e.ends.home ∙ i.home;
     }

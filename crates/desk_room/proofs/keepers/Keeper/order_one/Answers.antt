@@ -1,8 +1,9 @@
-use Rattle.std.proofs.Common.{arith, sym, ◌∙◌, map, true≢false}
+use Rattle.std.proofs.Common.{arith, sym, refl, ◌∙◌, map, true≢false}
 use Rattle.room_ends.specs.Orders.{orders}
 use Rattle.room_ends.specs.Benches.{heard}
 use Rattle.room_ends.specs.WindowRings.{letters_taken, deliveries_put}
 use Rattle.desk_room.proofs.Stepping.{ordered_tried, ordered_owed, ordered_marked, ordered_stops, rooms_ordered, queues_by_rooms, rooms_still}
+use Rattle.desk_room.proofs.Staying.{at_producer}
 use Rattle.desk_room.proofs.keepers.Keeper.order_one.Goals as goal
 
 pub invariant_of-self-clause-windows : goal.invariant_of-self-clause-windows
@@ -48,3 +49,6 @@ returns-clause-tried c =
     ordered_tried c.order_job.result (map letters_taken k.lines.items) (map deliveries_put k.lines.items)
     (map heard k.receivers.items) (orders k.producer)
     (orders c.order_job.new.producer) k.desk c.order_job.new.desk c.order_job.ensures.tried
+
+pub returns-clause-ends : goal.returns-clause-ends
+returns-clause-ends c = at_producer c.args.self.now _ refl refl refl refl c.order_job.ensures.stays.deque

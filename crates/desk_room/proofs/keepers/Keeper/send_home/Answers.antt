@@ -1,6 +1,6 @@
 use Rattle.std.proofs.Common.{refl}
-use Rattle.desk_room.proofs.Staying.{stays_lines}
+use Rattle.desk_room.proofs.Staying.{rings_same}
 use Rattle.desk_room.proofs.keepers.Keeper.send_home.Goals as goal
 
-pub returns-clause-stays : goal.returns-clause-stays
-returns-clause-stays c = stays_lines _ _ refl refl refl c.send_home.ensures.deque
+pub returns-clause-rings : goal.returns-clause-rings
+returns-clause-rings c = rings_same _ _ refl refl refl c.send_home.ensures.stays.deque

@@ -7,15 +7,14 @@ use Rattle.room_ends.specs.WindowRings.{AreEnds, letters_taken, letters_known, d
 use Rattle.room_ends.specs.Windows.{letters_sent, collected, deliveries_known, number_of}
 use Rattle.desk_room.specs.Withdrawals.{marks, are_notices_marked}
 use Rattle.desk_room.specs.Kept.{AreOwed}
-use Rattle.desk_room.specs.Keepers.{Ahead}
 use Rattle.room_ends.specs.declared.window_ring_line.Line.{Line}
 use Rattle.desk_room.proofs.Places.{map_length}
-use Rattle.desk_room.proofs.Ahead.{ahead_at, ahead_looked}
+use Rattle.desk_room.proofs.Ahead.{ahead_looked}
 use Rattle.desk_room.proofs.Stepping.{of_same, rings_set}
 use Rattle.desk_room.proofs.Marking.{marked_same}
 use Rattle.desk_room.proofs.Settlements.{at_number, settled_at, drained_at, marked_notices}
 use Rattle.desk_room.proofs.RingEnds.{ends_stay}
-use Rattle.desk_room.proofs.Staying.{got_is, got_inside, got_same, room_set}
+use Rattle.desk_room.proofs.Staying.{got_is, got_inside, got_same, at_lines}
 use Rattle.desk_room.proofs.keepers.Keeper.settle.Goals as goal
 
 pub index_mut-requires : goal.index_mut-requires
@@ -39,36 +38,28 @@ invariant_of-self-clause-line_rings c =
     let k = c.args.self.now in
     rings_set ring_of k.lines.items c.number.result c.index_mut.result.now c.settle.new.self k.ring
     (got_inside c.number.result k.lines.items c.requires.0 (ap (slice_get c.args.self.now.lines.items) c.number.ensures
-    ∙ c.requires.1)) c.index_mut.ensures.value c.settle.ensures.line.2 k.line_rings
+    ∙ c.requires.1)) c.index_mut.ensures.value c.settle.ensures.line.line.2 k.line_rings
 
 pub invariant_of-self-clause-kept : goal.invariant_of-self-clause-kept
 invariant_of-self-clause-kept c =
     let k = c.args.self.now in
     subst AreOwed (sym (of_same k.lines.items c.number.result c.index_mut.result.now c.settle.new.self k.receivers.items (orders
     k.producer) k.desk (got_inside c.number.result k.lines.items c.requires.0 (ap (slice_get c.args.self.now.lines.items)
-    c.number.ensures ∙ c.requires.1)) c.index_mut.ensures.value c.settle.ensures.taken c.settle.ensures.put)) k.kept
+    c.number.ensures ∙ c.requires.1)) c.index_mut.ensures.value c.settle.ensures.line.taken c.settle.ensures.line.put)) k.kept
 
 pub invariant_of-self-clause-marked : goal.invariant_of-self-clause-marked
 invariant_of-self-clause-marked c =
     let k = c.args.self.now in
     marked_same _ _ (of_same k.lines.items c.number.result c.index_mut.result.now c.settle.new.self k.receivers.items (orders
     k.producer) k.desk (got_inside c.number.result k.lines.items c.requires.0 (ap (slice_get c.args.self.now.lines.items)
-    c.number.ensures ∙ c.requires.1)) c.index_mut.ensures.value c.settle.ensures.taken c.settle.ensures.put) k.marked
+    c.number.ensures ∙ c.requires.1)) c.index_mut.ensures.value c.settle.ensures.line.taken c.settle.ensures.line.put) k.marked
 
 pub returns-clause-lists : goal.returns-clause-lists
 returns-clause-lists c =
     let k = c.args.self.now in
     of_same k.lines.items c.number.result c.index_mut.result.now c.settle.new.self k.receivers.items (orders k.producer) k.desk
     (got_inside c.number.result k.lines.items c.requires.0 (ap (slice_get c.args.self.now.lines.items) c.number.ensures
-    ∙ c.requires.1)) c.index_mut.ensures.value c.settle.ensures.taken c.settle.ensures.put
-
-pub returns-clause-ahead : goal.returns-clause-ahead
-unfolding Ahead
-returns-clause-ahead c =
-    let k = c.args.self.now in
-    ahead_at letters_taken letters_known k.lines.items c.number.result c.index_mut.result.now c.settle.new.self
-    (got_inside c.number.result k.lines.items c.requires.0 (ap (slice_get c.args.self.now.lines.items) c.number.ensures
-    ∙ c.requires.1)) c.index_mut.ensures.value (ahead_looked _ _ _ _ c.settle.ensures.ahead c.settle.ensures.taken)
+    ∙ c.requires.1)) c.index_mut.ensures.value c.settle.ensures.line.taken c.settle.ensures.line.put
 
 pub returns-clause-letters : goal.returns-clause-letters
 returns-clause-letters c =
@@ -76,23 +67,23 @@ returns-clause-letters c =
     let inside = got_inside c.number.result k.lines.items c.requires.0 (ap (slice_get c.args.self.now.lines.items) c.number.ensures ∙ c.requires.1) in
     c.settle.ensures.letters
     ∙ (ap (λ xs. xs ++ letters_known c.settle.new.self) (sym (at_number letters_taken k.lines.items c.number.result
-    (number_of c.settle.new.window) c.settle.new.self [] (c.settle.ensures.window.2 ∙ sym c.number.ensures) inside))
+    (number_of c.settle.new.window) c.settle.new.self [] (c.settle.ensures.window.window.2 ∙ sym c.number.ensures) inside))
     ∙ ap (λ xs. get_or (map letters_taken (set k.lines.items c.number.result c.settle.new.self))
     (number_of c.settle.new.window) [] ++ xs) (sym (at_number letters_known k.lines.items c.number.result
-    (number_of c.settle.new.window) c.settle.new.self [] (c.settle.ensures.window.2 ∙ sym c.number.ensures) inside)))
+    (number_of c.settle.new.window) c.settle.new.self [] (c.settle.ensures.window.window.2 ∙ sym c.number.ensures) inside)))
 
 pub returns-clause-deliveries : goal.returns-clause-deliveries
 returns-clause-deliveries c =
     let k = c.args.self.now in
     at_number deliveries_put k.lines.items c.number.result (number_of c.settle.new.window) c.settle.new.self []
-    (c.settle.ensures.window.2 ∙ sym c.number.ensures) (got_inside c.number.result k.lines.items c.requires.0
+    (c.settle.ensures.window.window.2 ∙ sym c.number.ensures) (got_inside c.number.result k.lines.items c.requires.0
     (ap (slice_get c.args.self.now.lines.items) c.number.ensures ∙ c.requires.1)) ∙ c.settle.ensures.deliveries
 
 pub returns-clause-left : goal.returns-clause-left
 returns-clause-left c =
     let k = c.args.self.now in
     c.settle.ensures.left ∙ ap (λ xs. length (records xs)) (sym (at_number letters_known k.lines.items c.number.result
-    (number_of c.settle.new.window) c.settle.new.self [] (c.settle.ensures.window.2 ∙ sym c.number.ensures) (got_inside
+    (number_of c.settle.new.window) c.settle.new.self [] (c.settle.ensures.window.window.2 ∙ sym c.number.ensures) (got_inside
     c.number.result k.lines.items c.requires.0 (ap (slice_get c.args.self.now.lines.items) c.number.ensures ∙ c.requires.1))))
 
 pub returns-clause-settled : goal.returns-clause-settled
@@ -105,12 +96,12 @@ returns-clause-settled c =
     (omega (
       arith,
       inside,
-      (c.settle.ensures.window.2 ∙ sym c.number.ensures),
+      (c.settle.ensures.window.window.2 ∙ sym c.number.ensures),
       map_length letters_taken lines,
       length-set k.lines.items c.number.result c.settle.new.self,
     ))
     (subst AreOwed (sym (of_same k.lines.items c.number.result c.index_mut.result.now c.settle.new.self k.receivers.items
-    (orders k.producer) k.desk inside c.index_mut.ensures.value c.settle.ensures.taken c.settle.ensures.put)) k.kept)
+    (orders k.producer) k.desk inside c.index_mut.ensures.value c.settle.ensures.line.taken c.settle.ensures.line.put)) k.kept)
     (returns-clause-letters c) (returns-clause-deliveries c)
 
 pub returns-clause-drained : goal.returns-clause-drained
@@ -126,7 +117,7 @@ returns-clause-notices c =
     let n = number_of c.settle.new.window in
     let inside = got_inside c.number.result k.lines.items c.requires.0 (ap (slice_get c.args.self.now.lines.items) c.number.ensures ∙ c.requires.1) in
     ∥∥₁_elim (marked_same _ _ (of_same k.lines.items c.number.result c.index_mut.result.now c.settle.new.self k.receivers.items
-    (orders k.producer) k.desk inside c.index_mut.ensures.value c.settle.ensures.taken c.settle.ensures.put) k.marked)
+    (orders k.producer) k.desk inside c.index_mut.ensures.value c.settle.ensures.line.taken c.settle.ensures.line.put) k.marked)
     (Coded-set coded_bool _ _)
     (λ a. ap (λ ds. are_notices_marked ds (marks (get_or (map letters_taken lines) n []))) (sym (returns-clause-deliveries c))
     ∙ marked_notices n (map letters_taken lines) (map deliveries_put lines) k.desk.queues a)
@@ -137,22 +128,18 @@ returns-clause-of c =
     let inside = got_inside c.number.result k.lines.items c.requires.0
     (ap (slice_get c.args.self.now.lines.items) c.number.ensures ∙ c.requires.1) in (
       c.settle.new.self,
-      ap (slice_get (set k.lines.items c.number.result c.settle.new.self)) (c.settle.ensures.window.2 ∙ sym c.number.ensures)
+      ap (slice_get (set k.lines.items c.number.result c.settle.new.self)) (c.settle.ensures.window.window.2 ∙ sym c.number.ensures)
           ∙ got_same c.number.result k.lines.items c.settle.new.self inside,
       ends_stay c.args.window.now c.settle.new.window c.index_mut.result.now c.settle.new.self
           (subst (λ (l : Line). AreEnds c.args.window.now l) (got_is c.number.result k.lines.items c.index_mut.result.now
           c.requires.0 (ap (slice_get c.args.self.now.lines.items) c.number.ensures ∙ c.requires.1) c.index_mut.ensures.value)
-          c.requires.2) c.settle.ensures.window c.settle.ensures.line,
+          c.requires.2) c.settle.ensures.window.window c.settle.ensures.line.line,
     )
 
 pub returns-clause-stays : goal.returns-clause-stays
 returns-clause-stays c =
     let k = c.args.self.now in
-    record {
-      windows = length-set k.lines.items c.number.result c.settle.new.self;
-      benches = refl;
-      ring = refl;
-      room = room_set k _ c.number.result c.index_mut.result.now c.settle.new.self
-          (got_inside c.number.result k.lines.items c.requires.0 (ap (slice_get c.args.self.now.lines.items) c.number.ensures
-          ∙ c.requires.1)) c.index_mut.ensures.value c.settle.ensures.line refl refl;
-    }
+    let e = c.settle.ensures.line in
+    (at_lines k _ c.number.result c.index_mut.result.now c.settle.new.self
+    (got_inside c.number.result k.lines.items c.requires.0 (ap (slice_get k.lines.items) c.number.ensures ∙ c.requires.1))
+    c.index_mut.ensures.value e.line (ahead_looked _ _ _ _ e.known e.taken) refl refl refl refl refl).stays

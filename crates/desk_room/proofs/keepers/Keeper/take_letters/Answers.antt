@@ -1,11 +1,11 @@
-use Rattle.std.proofs.Common.{arith, ◌∙◌, sym, subst, ap, length, get_or, []}
+use Rattle.std.proofs.Common.{arith, sym, subst, ap, length, get_or, []}
 use Rattle.desk_room.specs.Keepers.{lists}
 use Rattle.desk_room.specs.Events.{RoomLists}
 use Rattle.desk_room.specs.Passes.{Taking}
 use Rattle.desk_room.proofs.Fewness.{untouched_same, untouched_then}
 use Rattle.desk_room.proofs.Runs.{taking_none, taking_then}
-use Rattle.desk_room.proofs.Ahead.{ahead_then, others_then}
-use Rattle.desk_room.proofs.Staying.{room_then}
+use Rattle.desk_room.proofs.Ahead.{others_then}
+use Rattle.desk_room.proofs.Staying.{at_lines_then}
 use Rattle.desk_room.proofs.keepers.Keeper.take_letters.Goals as goal
 
 pub loop-init : goal.loop-init
@@ -20,14 +20,8 @@ loop-init c =
       longer = omega (arith, ap (λ (s : RoomLists). length (get_or s.taken c.args.n [])) e.same);
       untouched = untouched_same c.args.n (lists k).taken _ (ap (λ (s : RoomLists). s.taken) e.same);
       known = omega (arith, e.known);
-      ahead = e.ahead;
       others = e.others;
-      size = e.size;
-      room = e.room;
-      receivers = e.receivers;
-      producer = e.producer;
-      ring = e.ring;
-      home = e.home;
+      ends = e.ends;
     }
 
 pub loop-preserved : goal.loop-preserved
@@ -42,12 +36,6 @@ loop-preserved c =
       longer = omega (arith, i.longer, e.longer);
       untouched = untouched_then c.args.n _ _ _ i.untouched e.untouched;
       known = omega (arith, i.known, e.known);
-      ahead = ahead_then _ _ _ i.ahead e.ahead;
       others = others_then c.args.n _ _ _ i.others e.others;
-      size = e.size ∙ i.size;
-      room = room_then _ _ _ i.room e.room;
-      receivers = e.receivers ∙ i.receivers;
-      producer = e.producer ∙ i.producer;
-      ring = e.ring ∙ i.ring;
-      home = e.home ∙ i.home;
+      ends = at_lines_then _ _ _ i.ends e.ends;
     }

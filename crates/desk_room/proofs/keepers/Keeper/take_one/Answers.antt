@@ -2,11 +2,11 @@ use Rattle.std.proofs.Common.{arith, ap, refl, ◌∙◌, inl, inr, ⊎_elim, le
 use Rattle.room_ends.specs.Letters.{records}
 use Rattle.room_ends.specs.Orders.{orders}
 use Rattle.room_ends.specs.WindowRings.{letters_taken, letters_known, ring_of}
-use Rattle.desk_room.specs.Keepers.{Ahead, OthersRead}
+use Rattle.desk_room.specs.Keepers.{OthersRead}
 use Rattle.desk_room.proofs.Places.{at_other, at_same, at_old}
 use Rattle.desk_room.proofs.Stepping.{took_step, took_owed, took_marked, took_rooms, queues_by_rooms, rooms_still, rings_set}
-use Rattle.desk_room.proofs.Ahead.{ahead_at, ahead_taken, refused_still}
-use Rattle.desk_room.proofs.Staying.{room_set}
+use Rattle.desk_room.proofs.Ahead.{ahead_taken, refused_still}
+use Rattle.desk_room.proofs.Staying.{at_lines}
 use Rattle.desk_room.proofs.Fewness.{one_longer, untouched_set}
 use Rattle.desk_room.proofs.keepers.Keeper.take_one.Goals as goal
 
@@ -37,7 +37,7 @@ invariant_of-self-clause-few_windows c = let k = c.args.self.now in
 
 pub invariant_of-self-clause-line_rings : goal.invariant_of-self-clause-line_rings
 invariant_of-self-clause-line_rings c = let k = c.args.self.now in rings_set ring_of k.lines.items c.args.n c.index_mut.result.now
-    c.take_letter.new.line k.ring c.requires.window c.index_mut.ensures.value c.take_letter.ensures.line.2 k.line_rings
+    c.take_letter.new.line k.ring c.requires.window c.index_mut.ensures.value c.take_letter.ensures.answers.line.2 k.line_rings
 
 pub invariant_of-self-clause-rooms : goal.invariant_of-self-clause-rooms
 invariant_of-self-clause-rooms c =
@@ -50,21 +50,21 @@ invariant_of-self-clause-kept c =
     let k = c.args.self.now in
     took_owed k.lines.items c.args.n c.index_mut.result.now c.take_letter.new.line k.receivers.items
     (orders k.producer) k.desk c.take_letter.new.desk c.take_letter.result c.requires.window c.index_mut.ensures.value
-    c.requires.accepts c.take_letter.ensures.took c.take_letter.ensures.put k.kept
+    c.requires.accepts c.take_letter.ensures.took c.take_letter.ensures.answers.put k.kept
 
 pub invariant_of-self-clause-marked : goal.invariant_of-self-clause-marked
 invariant_of-self-clause-marked c =
     let k = c.args.self.now in
     took_marked k.lines.items c.args.n c.index_mut.result.now c.take_letter.new.line k.receivers.items
     (orders k.producer) k.desk c.take_letter.new.desk c.take_letter.result c.requires.window c.index_mut.ensures.value
-    c.requires.accepts c.take_letter.ensures.took c.take_letter.ensures.put k.marked
+    c.requires.accepts c.take_letter.ensures.took c.take_letter.ensures.answers.put k.marked
 
 pub returns-clause-step : goal.returns-clause-step
 returns-clause-step c =
     let k = c.args.self.now in
     took_step k.lines.items c.args.n c.index_mut.result.now c.take_letter.new.line k.receivers.items
     (orders k.producer) k.desk c.take_letter.new.desk c.take_letter.result c.requires.window c.index_mut.ensures.value
-    c.requires.accepts c.take_letter.ensures.took c.take_letter.ensures.put
+    c.requires.accepts c.take_letter.ensures.took c.take_letter.ensures.answers.put
 
 pub returns-clause-known : goal.returns-clause-known
 returns-clause-known c =
@@ -72,13 +72,6 @@ returns-clause-known c =
     let o = at_old letters_known k.lines.items c.args.n c.index_mut.result.now [] c.requires.window c.index_mut.ensures.value in
     let p = at_same letters_known k.lines.items c.args.n c.take_letter.new.line [] c.requires.window in
     omega (arith, ap length o, ap length p, ap length c.take_letter.ensures.took.known)
-
-pub returns-clause-ahead : goal.returns-clause-ahead
-unfolding Ahead
-returns-clause-ahead c =
-    let t = c.take_letter.ensures.took in
-    ahead_at letters_taken letters_known c.args.self.now.lines.items c.args.n c.index_mut.result.now c.take_letter.new.line
-    c.requires.window c.index_mut.ensures.value (ahead_taken _ _ _ _ t.letter t.known t.taken)
 
 pub returns-clause-others : goal.returns-clause-others
 unfolding OthersRead
@@ -88,9 +81,11 @@ returns-clause-others c =
     λ i h. ⊎_elim (λ r. inl (at_other letters_known k.lines.items c.args.n i c.take_letter.new.line [] h ∙ r))
     (λ r. inr (rw (t.content) (refused_still c.args.n i t.letter k.desk c.requires.accepts r)))
 
-pub returns-clause-room : goal.returns-clause-room
-returns-clause-room c = room_set c.args.self.now _ c.args.n c.index_mut.result.now c.take_letter.new.line c.requires.window
-    c.index_mut.ensures.value c.take_letter.ensures.line refl refl
+pub returns-clause-ends : goal.returns-clause-ends
+returns-clause-ends c =
+    let t = c.take_letter.ensures.took in
+    at_lines c.args.self.now _ c.args.n c.index_mut.result.now c.take_letter.new.line c.requires.window c.index_mut.ensures.value
+    c.take_letter.ensures.answers.line (ahead_taken _ _ _ _ t.letter t.known t.taken) refl refl refl refl refl
 
 pub returns-clause-longer : goal.returns-clause-longer
 returns-clause-longer c = let t = c.take_letter.ensures.took in one_longer letters_taken c.args.self.now.lines.items c.args.n

@@ -1,18 +1,15 @@
-use Rattle.std.proofs.Common.{arith, true, ◌≡◌, ◌<◌, ◌≤◌, inl, inr, ⊎_elim, sym, ap, ◌∙◌, subst, length, map, get_or, []}
+use Rattle.std.proofs.Common.{arith, true, ◌≡◌, ◌<◌, ◌≤◌, inl, inr, ⊎_elim, ap, ◌∙◌, subst, length, map, get_or, []}
 use Rattle.room_ends.specs.WindowRings.{letters_known}
 use Rattle.room_ends.specs.Orders.{orders, places}
 use Rattle.desk_room.specs.Turns.{waiting, GainFew}
 use Rattle.desk_room.specs.Keepers.{lists, known}
-use Rattle.desk_room.proofs.Ahead.{ahead_then, ahead_lines, ahead_equal}
 use Rattle.desk_room.proofs.Gains.{gains, turned_closed}
-use Rattle.desk_room.proofs.Filling.{giving_waiting, giving_orders, giving_taken, filled}
+use Rattle.desk_room.proofs.Filling.{giving_waiting, giving_orders, filled}
 use Rattle.desk_room.proofs.Finishing.{turned_finished}
 use Rattle.desk_room.proofs.Outs.{turned_out}
-use Rattle.desk_room.proofs.Closing.{turned_none, turned_orders, turned_benches, turned_few}
-use Rattle.desk_room.proofs.Places.{map_length}
-use Rattle.room_ends.specs.Benches.{heard, back_known}
-use Rattle.desk_room.proofs.Listening.{backs_then, backs_ears}
-use Rattle.desk_room.proofs.Staying.{deque_same, room_then, room_lines}
+use Rattle.desk_room.proofs.Closing.{turned_none, turned_orders, turned_few}
+use Rattle.room_ends.specs.Benches.{back_known}
+use Rattle.desk_room.proofs.Staying.{stays_then}
 use Rattle.desk_room.proofs.keepers.Keeper.turn.Goals as goal
 
 pub returns-clause-passes : goal.returns-clause-passes
@@ -44,14 +41,14 @@ returns-clause-none_after_close c = turned_none _ _ _ (returns-clause-passes c)
 pub returns-clause-none_once_home : goal.returns-clause-none_once_home
 unfolding returns-clause-passes
 returns-clause-none_once_home c = λ h. turned_orders _ _ _ (returns-clause-passes c)
-    (c.order_all-ordered.ensures.none (c.take_all-took.ensures.home ∙ (c.hear_all-heard.ensures.home ∙ h)))
+    (c.order_all-ordered.ensures.none (c.take_all-took.ensures.ends.home ∙ (c.hear_all-heard.ensures.ends.home ∙ h)))
 
 pub returns-clause-waits : goal.returns-clause-waits
 returns-clause-waits c =
     let g = c.give_all-delivered.ensures.gave in
-    let same : c.take_all-took.new.self.producer ≡ c.args.self.now.producer = c.take_all-took.ensures.producer ∙ c.hear_all-heard.ensures.producer in
+    let same : c.take_all-took.new.self.producer ≡ c.args.self.now.producer = c.take_all-took.ensures.ends.producer ∙ c.hear_all-heard.ensures.ends.producer in
     ⊎_elim (λ (w : waiting c.order_all-ordered.new.self.desk ≡ 0). inl (giving_waiting _ _ _ g ∙ w))
-    (⊎_elim (λ (h : c.order_all-ordered.new.self.is_home ≡ true). inr (inl (c.give_all-delivered.ensures.home ∙ h)))
+    (⊎_elim (λ (h : c.order_all-ordered.new.self.is_home ≡ true). inr (inl (c.give_all-delivered.ensures.ends.home ∙ h)))
     (λ (o : places c.take_all-took.new.self.producer ≤ length (orders c.order_all-ordered.new.self.producer)).
     inr (inr (omega (arith, o, ap places same, ap length (giving_orders _ _ _ g)))))) c.order_all-ordered.ensures.waits
 
@@ -65,50 +62,20 @@ returns-clause-not_the_first c =
 pub returns-clause-listened : goal.returns-clause-listened
 returns-clause-listened c =
     let same : c.give_all-delivered.new.self.receivers ≡ c.hear_all-heard.new.self.receivers =
-    c.give_all-delivered.ensures.receivers ∙ (c.order_all-ordered.ensures.receivers ∙ c.take_all-took.ensures.receivers) in
+    c.give_all-delivered.ensures.ends.receivers ∙ (c.order_all-ordered.ensures.ends.receivers ∙ c.take_all-took.ensures.ends.receivers) in
     λ b. ap (λ v. get_or (map back_known v.items) b []) same ∙ c.hear_all-heard.ensures.listened b
-
-pub returns-clause-backs_ahead : goal.returns-clause-backs_ahead
-returns-clause-backs_ahead c =
-    let same : c.give_all-delivered.new.self.receivers ≡ c.hear_all-heard.new.self.receivers =
-    c.give_all-delivered.ensures.receivers ∙ (c.order_all-ordered.ensures.receivers ∙ c.take_all-took.ensures.receivers) in
-    backs_then _ _ _ c.hear_all-heard.ensures.ahead (backs_ears c.hear_all-heard.new.self c.give_all-delivered.new.self same)
-
-pub returns-clause-ahead : goal.returns-clause-ahead
-returns-clause-ahead c =
-    ahead_then _ _ _ (ahead_lines c.args.self.now c.hear_all-heard.new.self c.hear_all-heard.ensures.lines)
-    (ahead_then _ _ _ c.take_all-took.ensures.ahead
-    (ahead_then _ _ _ (ahead_lines c.take_all-took.new.self c.order_all-ordered.new.self c.order_all-ordered.ensures.lines)
-    (ahead_equal c.order_all-ordered.new.self c.give_all-delivered.new.self
-    (giving_taken _ _ _ c.give_all-delivered.ensures.gave) c.give_all-delivered.ensures.known)))
 
 pub returns-clause-read : goal.returns-clause-read
 returns-clause-read c =
     let same : known c.give_all-delivered.new.self ≡ known c.take_all-took.new.self =
-    c.give_all-delivered.ensures.known ∙ ap (λ v. map letters_known v.items) c.order_all-ordered.ensures.lines in
+    c.give_all-delivered.ensures.known ∙ ap (λ v. map letters_known v.items) c.order_all-ordered.ensures.ends.lines in
     let size : length c.give_all-delivered.new.self.lines.items ≡ length c.take_all-took.new.self.lines.items =
-    c.give_all-delivered.ensures.size ∙ ap (λ v. length v.items) c.order_all-ordered.ensures.lines in
+    c.give_all-delivered.ensures.ends.stays.windows ∙ c.order_all-ordered.ensures.ends.stays.windows in
     λ n h. ⊎_elim (λ e. inl (ap (λ xs. get_or xs n []) same ∙ e))
     (λ e. inr (filled _ _ _ _ _ n _ _ _ _ _ _ _ _ c.hear_all-heard.ensures.heard c.take_all-took.ensures.took
     c.order_all-ordered.ensures.ordered c.give_all-delivered.ensures.gave
     (omega (arith, h, size, c.take_all-took.new.self.windows)) e))
     (c.take_all-took.ensures.read n (omega (arith, h, size)))
-
-pub returns-clause-stays : goal.returns-clause-stays
-returns-clause-stays c =
-    let h = c.hear_all-heard in
-    let t = c.take_all-took in
-    let o = c.order_all-ordered in
-    let g = c.give_all-delivered in
-    record {
-      windows = g.ensures.size ∙ (ap (λ v. length v.items) o.ensures.lines ∙ (t.ensures.size ∙ ap (λ v. length v.items) h.ensures.lines));
-      benches = sym (map_length heard g.new.self.receivers.items)
-          ∙ (turned_benches _ _ _ (returns-clause-passes c) ∙ map_length heard c.args.self.now.receivers.items);
-      ring = g.ensures.ring ∙ (o.ensures.ring ∙ (t.ensures.ring ∙ h.ensures.ring));
-      room = room_then _ _ _ (room_lines c.args.self.now h.new.self h.ensures.lines
-          (deque_same c.args.self.now.producer h.new.self.producer h.ensures.producer)) (room_then _ _ _ t.ensures.room
-          (room_then _ _ _ (room_lines t.new.self o.new.self o.ensures.lines o.ensures.deque) g.ensures.room));
-    }
 
 pub returns-clause-few : goal.returns-clause-few
 returns-clause-few c =
@@ -118,5 +85,9 @@ returns-clause-few c =
     let g = c.give_all-delivered in
     turned_few c.args.self.now.ring (lists c.args.self.now) (lists h.new.self) (lists t.new.self) (lists o.new.self)
     (lists g.new.self) _ _ _ _ _ _ _ _ h.ensures.heard t.ensures.took o.ensures.ordered g.ensures.gave
-    h.ensures.few (subst (λ r. GainFew r (lists h.new.self).taken (lists t.new.self).taken) h.ensures.ring t.ensures.few)
-    (subst (λ r. GainFew r (lists o.new.self).put (lists g.new.self).put) (o.ensures.ring ∙ (t.ensures.ring ∙ h.ensures.ring)) g.ensures.few)
+    h.ensures.few (subst (λ r. GainFew r (lists h.new.self).taken (lists t.new.self).taken) h.ensures.ends.stays.ring t.ensures.few)
+    (subst (λ r. GainFew r (lists o.new.self).put (lists g.new.self).put) (o.ensures.ends.stays.ring ∙ (t.ensures.ends.stays.ring ∙ h.ensures.ends.stays.ring)) g.ensures.few)
+
+pub returns-clause-stays : goal.returns-clause-stays
+returns-clause-stays c = stays_then _ _ _ c.hear_all-heard.ensures.ends.stays (stays_then _ _ _ c.take_all-took.ensures.ends.stays
+    (stays_then _ _ _ c.order_all-ordered.ensures.ends.stays c.give_all-delivered.ensures.ends.stays))

@@ -9,8 +9,8 @@ returns-in-Ok-hand_back-clause-tried c =
     let e = c.in-Err.ensures in
     let t = c.in-Some.ensures in
     let h = c.in-Ok-hand_back.ensures in (
-      e.orders,
+      e.none.orders,
       h.back ∙ (ap (λ j. after_return c.take.new.self j Waiting) e.refused ∙ (ap (λ (d : Content).
           after_return d c.in-Some.job Waiting) t.out ∙ undone c.in-Some.job c.args.desk.now t.none_was_out)),
-      e.not_the_first,
+      e.none.not_the_first,
     )

@@ -17,7 +17,7 @@ loop-self-smaller c =
       c.stop.new.self.handed,
       c.loop-self.self.handed,
       c.loop-self.self.told,
-      c.stop.ensures.passes,
+      c.stop.ensures.stays.passes,
       c.loop-self-test.true,
     )
 
@@ -26,13 +26,13 @@ loop-self-preserved c =
     let put : orders c.stop.new.self ≡ orders c.loop-self.self ++ Stop ∷ [] = c.if-not-stop.ensures.put in
     let before = c.loop-self.invariant.so_far in
     let n = before.0 in
+    let i = c.loop-self.invariant.stays in
+    let e = c.stop.ensures.stays in
     record {
       so_far = (
         n + 1,
         put ∙ (ap (λ l. l ++ Stop ∷ []) before.1 ∙ (append_assoc (orders c.args.self.now) (replicate n Stop)
             (Stop ∷ []) ∙ ap (λ l. orders c.args.self.now ++ l) (replicate_more n Stop))),
       );
-      passes = c.stop.ensures.passes ∙ c.loop-self.invariant.passes;
-      places = omega (arith, c.stop.ensures.places, c.loop-self.invariant.places);
-      deque = c.stop.ensures.deque ∙ c.loop-self.invariant.deque;
+      stays = record { deque = e.deque ∙ i.deque; places = omega (arith, e.places, i.places); passes = e.passes ∙ i.passes };
     }

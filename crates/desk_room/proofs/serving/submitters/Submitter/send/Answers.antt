@@ -12,7 +12,7 @@ pub returns-else-is_err-clause-handled : goal.returns-else-is_err-clause-handled
 returns-else-is_err-clause-handled c lines whole at is blank old =
     let sent = c.in-Ok.ensures.sent in
     handled_record c.replies_go_on.ensures c.args.self.now c.submit.new.self c.push_back.new.self.items lines whole
-    c.args.line.now c.args.number sent.0 c.new.result c.submit.ensures.window c.submit.ensures.collected sent.2
+    c.args.line.now c.args.number sent.0 c.new.result c.submit.ensures.answers.window c.submit.ensures.answers.collected sent.2
     (search rules) c.new.ensures.items is blank sent.1 old
 
 pub returns-in_ok-refusal-in-Err-BadRecord-clause-handled : goal.returns-in_ok-refusal-in-Err-BadRecord-clause-handled
@@ -27,5 +27,5 @@ returns-in_ok-refusal-in-Err-BadRecord-clause-handled c =
     c.as_slice.ensures.value ∙ (told ∙ ap (λ (n : ℕ). fault_line n fault) (sym at)) in
     let reply = refused_line default (length lines + 1) whole c.args.line.now c.as_slice.result.now fault is blank faulty other text in
     handled lines whole (subst (λ (d : ℕ). IsLineReply d (length lines + 1) (without_cr whole) c.as_slice.result.now 1)
-    (sym c.submit.ensures.window.3) reply)
-    (handled_same c.args.self.now c.submit.new.self lines c.submit.ensures.window c.submit.ensures.collected c.in-Err-BadRecord.ensures.unsent old))
+    (sym c.submit.ensures.answers.window.3) reply)
+    (handled_same c.args.self.now c.submit.new.self lines c.submit.ensures.answers.window c.submit.ensures.answers.collected c.in-Err-BadRecord.ensures.unsent.sent old))

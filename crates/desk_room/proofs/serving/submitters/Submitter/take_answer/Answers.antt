@@ -14,5 +14,5 @@ returns-clause-collects c =
     c.as_slice.ensures.value c.in_ok-write_answer.ensures in
     let first : IsPrefix (Answer c.in-Answer.answer ∷ []) (deliveries_known c.args.self.now.window) =
     subst (λ (d : Delivery). IsPrefix (d ∷ []) (deliveries_known c.args.self.now.window)) c.in-Answer.is c.first_known.ensures in
-    collects_one c.args.self.now _ c.in-Answer.answer c.in-Some.replies c.collect_seen.ensures.window c.collect_seen.ensures.sent
+    collects_one c.args.self.now _ c.in-Answer.answer c.in-Some.replies c.collect_seen.ensures.letters.window c.collect_seen.ensures.letters.sent
     (c.collect_seen.ensures.collected (Answer c.in-Answer.answer) first) c.in-Some.ensures.items text refl
