@@ -9,7 +9,7 @@ passed=0 failed=0
 # Sets `program` to the one that is named, or else to the built one.
 find_program() {
     program=$(readlink -m -- "${1:-$top/out/matedesk}")
-    (($#)) || "$top/build" || exit
+    (($#)) || "$top/scripts/build" || exit
 }
 
 # Sets `room` to a new folder, which goes when the script ends.
