@@ -1,6 +1,6 @@
 -- A list that grows by those of the moves to come that pass a test.
-use Rattle.std.proofs.Common.{◌≡◌, Bool, true, false, ◌||◌, cond, List, [], ◌∷◌, ◌++◌, filter, refl, sym, ap, ◌∙◌, append-nil, append_assoc}
-use Rattle.std.specs.List.{list_all, list_any}
+use Rattle.std.proofs.Common.{◌≡◌, Bool, true, false, List, [], ◌∷◌, ◌++◌, filter, refl, sym, ap, ◌∙◌, append-nil, append_assoc}
+use Rattle.std.specs.List.{list_all}
 use Rattle.std.proofs.lemmas.Bool.{and_parts}
 use Rattle.chess_board.specs.Moves.{Move}
 
@@ -29,16 +29,3 @@ all_first f m left rest step all = (and_parts (f m) (list_all f rest) (sym (ap (
 
 pub all_others : (f : Move → Bool) (m : Move) (left rest : List Move) → left ≡ m ∷ rest → list_all f left ≡ true → list_all f rest ≡ true
 all_others f m left rest step all = (and_parts (f m) (list_all f rest) (sym (ap (list_all f) step) ∙ all)).1
-
--- One of a list passes a test where one of those that pass it does.
-any_kept : (f : Move → Bool) (xs : List Move) → list_any f xs ≡ list_any f (filter f xs)
-any_kept f [] = refl
-any_kept f (x ∷ xs) =
-    (elim (f x) as (λ b. f x ≡ b → (b || list_any f xs) ≡ list_any f (cond b (x ∷ filter f xs) (filter f xs))) [
-      | true ↦ λ e. rw e refl
-      | false ↦ λ e. any_kept f xs
-    ]) refl
-
--- So it is the same of lists of which the same pass.
-pub any_same : (f : Move → Bool) (xs ys : List Move) → filter f xs ≡ filter f ys → list_any f xs ≡ list_any f ys
-any_same f xs ys same = any_kept f xs ∙ ap (list_any f) same ∙ sym (any_kept f ys)

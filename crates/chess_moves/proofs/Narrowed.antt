@@ -1,8 +1,10 @@
 -- A man's moves to some of its targets, where no other passes a test.
-use Rattle.std.proofs.Common.{◌≡◌, ℕ, zero, suc, ◌<◌, Bool, true, false, ◌&&◌, cond}
-use Rattle.std.proofs.Common.{[], filter, Some, refl, sym, ap, ◌∙◌, arith, bit_and}
-use Rattle.std.specs.List.{list_all, flat_map}
-use Rattle.std.proofs.lemmas.List.Folds.{list_all-append}
+use Rattle.std.proofs.Common.{◌≡◌, ℕ, zero, suc, ◌<◌, Bool, true, false, ◌&&◌, ◌||◌, cond, List}
+use Rattle.std.proofs.Common.{[], ◌∷◌, filter, Some, refl, sym, ap, ◌∙◌, arith, bit_and}
+use Rattle.std.specs.Prelude.{Contains}
+use Rattle.std.specs.List.{list_any, list_all, flat_map}
+use Rattle.std.proofs.lemmas.List.Folds.{list_any-append, list_all-append}
+use Rattle.std.proofs.lemmas.List.Elements.{Contains-append_right}
 use Rattle.square_sets.specs.Members.{has, members_below, members}
 use Rattle.chess_board.specs.declared.men.Man.{Man}
 use Rattle.chess_board.specs.MakeMove.{after_setup}
@@ -11,18 +13,47 @@ use Rattle.chess_board.specs.Legality.{is_legal}
 use Rattle.chess_board.specs.Moves.{Move}
 use Rattle.chess_board.specs.Positions.{Setup, man_at}
 use Rattle.chess_moves.specs.GivesCheck.{gives_check}
-use Rattle.chess_moves.specs.inside.Listing.{moves_between}
+use Rattle.chess_moves.specs.inside.Listing.{moves_between, moves_to}
 use Rattle.chess_moves.specs.inside.LegalTargets.{ways, AreTargets}
 use Rattle.chess_moves.specs.Verdicts.{is_mate}
-use Rattle.chess_moves.proofs.Listed.{all_kept}
+use Rattle.chess_moves.proofs.Listed.{between_in, to_in, all_kept}
 use Rattle.chess_moves.proofs.Mates.{no_mate}
-use Rattle.chess_moves.proofs.Members.{flat_map-below_suc, no_members}
+use Rattle.chess_moves.proofs.Members.{flat_map-below_suc}
 use Rattle.chess_moves.proofs.Played.{played}
-use Rattle.chess_moves.proofs.SetBits.{has_and}
+use Rattle.chess_moves.proofs.SetBits.{has_and, has_none}
+use Rattle.chess_moves.proofs.Walks.{legal_to}
 
--- To no target no move goes.
-pub no_ways : (man : Man) (o : ℕ) → flat_map (ways man o) (members 0) ≡ []
-no_ways man o = ap (flat_map (ways man o)) (no_members 0 refl)
+-- No move of the list that passes the one test passes the other.
+none_kept : (f g : Move → Bool) (xs : List Move) → ((m : Move) → Contains xs m → g m ≡ true → f m ≡ false) → list_any f (filter g xs) ≡ false
+none_kept f g [] h = refl
+none_kept f g (x ∷ xs) h =
+    let rest = none_kept f g xs (λ m c. h m (Contains-append_right (x ∷ []) xs m c)) in
+    (elim (g x) as (λ b. g x ≡ b → list_any f (cond b (x ∷ filter g xs) (filter g xs)) ≡ false) [
+      | true ↦ λ e. let here = h x (0, omega arith, refl) e in rw (here, rest) refl
+      | false ↦ λ e. rest
+    ]) refl
+
+any_narrowed : (f : Move → Bool) (man : Man) (o set targets n : ℕ)
+    → ((t : ℕ) → t < n → has targets t ≡ true → has set t ≡ false → list_any f (ways man o t) ≡ false)
+    → list_any f (flat_map (ways man o) (members_below (bit_and set targets) n)) ≡ list_any f (flat_map (ways man o) (members_below targets n))
+unfolding members_below
+any_narrowed f man o set targets zero h = refl
+any_narrowed f man o set targets (suc n) h =
+    ap (list_any f) (flat_map-below_suc (ways man o) (bit_and set targets) n)
+    ∙ list_any-append f (flat_map (ways man o) (members_below (bit_and set targets) n)) (cond (has (bit_and set targets) n) (ways man o n) [])
+    ∙ ap (λ x. x || list_any f (cond (has (bit_and set targets) n) (ways man o n) [])) (any_narrowed f man o set targets n (λ t l. h t (omega arith)))
+    ∙ ap (λ x. list_any f (flat_map (ways man o) (members_below targets n)) || x) last
+    ∙ sym (ap (list_any f) (flat_map-below_suc (ways man o) targets n)
+    ∙ list_any-append f (flat_map (ways man o) (members_below targets n)) (cond (has targets n) (ways man o n) []))
+  where
+    cases : (s t : Bool) → (t ≡ true → s ≡ false → list_any f (ways man o n) ≡ false)
+        → list_any f (cond (s && t) (ways man o n) []) ≡ list_any f (cond t (ways man o n) [])
+    cases true t k = refl
+    cases false true k = sym (k refl refl)
+    cases false false k = refl
+
+    last : list_any f (cond (has (bit_and set targets) n) (ways man o n) []) ≡ list_any f (cond (has targets n) (ways man o n) [])
+    last = ap (λ x. list_any f (cond x (ways man o n) [])) (has_and set targets n) ∙ cases (has set n) (has targets n) (h n (omega arith))
 
 all_narrowed : (f : Move → Bool) (man : Man) (o set targets n : ℕ) → ((t : ℕ) → t < n → has targets t ≡ true → list_all f (ways man o t) ≡ true)
     → list_all f (flat_map (ways man o) (members_below (bit_and set targets) n)) ≡ true
@@ -77,6 +108,25 @@ fewer_squares p o candidates set all dropped m legal at t_on out =
     ]) refl
 
 module _ (p : Setup) (man : Man) (o set targets : ℕ) (quiet : AreMateSquares set p o) where
+  -- Where there are none, the man does not mate.
+  pub none_mates : set ≡ 0 → list_any (λ m. is_mate (after_setup p m)) (filter (is_legal p) (moves_to o 64)) ≡ false
+  none_mates none = none_kept (λ m. is_mate (after_setup p m)) (is_legal p) (moves_to o 64) (λ m c legal.
+      let at = to_in o 64 m c in
+      quiet m legal at.0 at.1 (has_none set m.target none))
+
+  -- It mates exactly where a move to one of them does.
+  pub narrowed_mates : AreTargets targets p man o
+      → list_any (λ m. is_mate (after_setup p m)) (flat_map (ways man o) (members (bit_and set targets)))
+      ≡ list_any (λ m. is_mate (after_setup p m)) (filter (is_legal p) (moves_to o 64))
+  unfolding members
+  narrowed_mates are =
+      any_narrowed (λ m. is_mate (after_setup p m)) man o set targets 64 (λ t l there out.
+      let kept : filter (is_legal p) (moves_between o t) ≡ ways man o t = rw there at (are t l) in
+      rw (← kept) (none_kept (λ m. is_mate (after_setup p m)) (is_legal p) (moves_between o t) (λ m c legal.
+      let at = between_in o t m c in
+      quiet m legal at.0 (rw at.1 l) (ap (has set) at.1 ∙ out))))
+      ∙ sym (ap (list_any (λ m. is_mate (after_setup p m))) (legal_to p man o targets are))
+
   pub narrowed_legal : AreTargets targets p man o → list_all (is_legal p) (flat_map (ways man o) (members (bit_and set targets))) ≡ true
   unfolding members
   narrowed_legal are = all_narrowed (is_legal p) man o set targets 64 (λ t l there.

@@ -9,7 +9,7 @@
 //! `castling_targets`, `en_passant_targets`,
 //! `pseudo_legal_targets` and `checks_and_pins` (where a man goes, and where it leaves its king safe), `legal_targets` and `promotions`;
 //! then `move_generation`, `verdicts` and `verdict_of_position`, and `perft_count`; `check_squares` and `gives_check`;
-//! `discovered_checks`, `attacked_sets`, `flights`, `mating_candidates`, `mate_in_one` and `mating_moves`. `laws` says what the lists hold in words that do not
+//! `discovered_checks`, `attacked_sets`, `flights`, `mate_in_one` and `mating_moves`. `laws` says what the lists hold in words that do not
 //! speak of how they are made. No call takes memory.
 #![tactic(auto)]
 
@@ -27,7 +27,6 @@ mod laws;
 mod legal_targets;
 mod legality_info;
 mod mate_in_one;
-mod mating_candidates;
 mod mating_moves;
 mod move_generation;
 mod perft_count;

@@ -6,8 +6,7 @@ use Rattle.chess_board.specs.MakeMove.{after_setup}
 use Rattle.chess_board.specs.Legality.{is_legal}
 use Rattle.chess_moves.specs.inside.Listing.{moves_to}
 use Rattle.chess_moves.specs.Verdicts.{is_mate, has_mating_move}
-use Rattle.chess_moves.specs.inside.MoveGeneration.{man_moves, moves_of_men}
-use Rattle.chess_moves.proofs.KeptMoves.{any_same}
+use Rattle.chess_moves.specs.inside.MoveGeneration.{moves_of_men}
 use Rattle.chess_moves.proofs.Members.{no_members}
 use Rattle.chess_moves.proofs.Walks.{first_man, legal_of_men, own_all, own_others}
 use Rattle.chess_moves.proofs.mate_in_one.has_mating_move.Goals as goal
@@ -23,17 +22,15 @@ loop-origin-init c =
       flights = cc;
     }
 
-pub returns-then-some_mates : goal.returns-then-some_mates
+pub returns-then-man_mates : goal.returns-then-man_mates
 unfolding has_mating_move
-returns-then-some_mates c =
+returns-then-man_mates c =
     let p = c.args.position.now in
     let o = c.in-Some.origin in
     let rest = c.next.new.self in
     let first = ap (list_any (λ m. is_mate (after_setup p m))) (first_man p c.loop-origin.origin-iterator o rest c.in-Some.ensures.steps)
     ∙ list_any-append (λ m. is_mate (after_setup p m)) (filter (is_legal p) (moves_to o 64)) (moves_of_men p (members rest)) in
-    let same = any_same (λ m. is_mate (after_setup p m)) (man_moves c.moves_that_may_mate-moves.result) (filter (is_legal p) (moves_to o 64))
-    c.moves_that_may_mate-moves.ensures.mates in
-    let found = sym same ∙ sym c.some_mates.ensures ∙ c.if-some_mates.true in
+    let found = sym c.man_mates.ensures.mates ∙ c.if-man_mates.true in
     sym (sym c.loop-origin.invariant.any ∙ first ∙ ap (λ x. x || list_any (λ m. is_mate (after_setup p m)) (moves_of_men p (members rest))) found)
 
 pub loop-origin-preserved : goal.loop-origin-preserved
@@ -43,14 +40,12 @@ loop-origin-preserved c =
     let rest = c.next.new.self in
     let first = ap (list_any (λ m. is_mate (after_setup p m))) (first_man p c.loop-origin.origin-iterator o rest c.in-Some.ensures.steps)
     ∙ list_any-append (λ m. is_mate (after_setup p m)) (filter (is_legal p) (moves_to o 64)) (moves_of_men p (members rest)) in
-    let same = any_same (λ m. is_mate (after_setup p m)) (man_moves c.moves_that_may_mate-moves.result) (filter (is_legal p) (moves_to o 64))
-    c.moves_that_may_mate-moves.ensures.mates in
-    let none = sym same ∙ sym c.some_mates.ensures ∙ c.if-some_mates.false in
+    let none = sym c.man_mates.ensures.mates ∙ c.if-man_mates.false in
     record {
       any = sym (ap (λ x. x || list_any (λ m. is_mate (after_setup p m)) (moves_of_men p (members rest))) none)
           ∙ sym first ∙ c.loop-origin.invariant.any;
       own = own_others p c.loop-origin.origin-iterator o rest c.in-Some.ensures.steps c.loop-origin.invariant.own;
-      flights = c.moves_that_may_mate-moves.ensures.flights;
+      flights = c.man_mates.ensures.flights;
     }
 
 pub returns : goal.returns
@@ -66,14 +61,14 @@ own_man-requires-clause-own c =
     let lowest = c.in-Some.ensures.steps.lowest in
     c.loop-origin.invariant.own c.in-Some.origin lowest.on_board lowest.there
 
-pub moves_that_may_mate-moves-requires-clause-on_board : goal.moves_that_may_mate-moves-requires-clause-on_board
-moves_that_may_mate-moves-requires-clause-on_board c = c.in-Some.ensures.steps.lowest.on_board
+pub man_mates-requires-clause-on_board : goal.man_mates-requires-clause-on_board
+man_mates-requires-clause-on_board c = c.in-Some.ensures.steps.lowest.on_board
 
-pub moves_that_may_mate-moves-requires-clause-there : goal.moves_that_may_mate-moves-requires-clause-there
-moves_that_may_mate-moves-requires-clause-there c = c.own_man.ensures.there
+pub man_mates-requires-clause-there : goal.man_mates-requires-clause-there
+man_mates-requires-clause-there c = c.own_man.ensures.there
 
-pub moves_that_may_mate-moves-requires-clause-own : goal.moves_that_may_mate-moves-requires-clause-own
-moves_that_may_mate-moves-requires-clause-own c = c.own_man.ensures.own
+pub man_mates-requires-clause-own : goal.man_mates-requires-clause-own
+man_mates-requires-clause-own c = c.own_man.ensures.own
 
 pub loop-origin-smaller : goal.loop-origin-smaller
 loop-origin-smaller c = omega (arith, ap length c.in-Some.ensures.steps.rising)

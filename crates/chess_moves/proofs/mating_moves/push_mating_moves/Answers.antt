@@ -21,8 +21,8 @@ loop-origin-init c =
       flights = cc;
     }
 
-pub push_mates-requires-clause-room : goal.push_mates-requires-clause-room
-push_mates-requires-clause-room c =
+pub push_mates_of-requires-clause-room : goal.push_mates_of-requires-clause-room
+push_mates_of-requires-clause-room c =
     let p = c.args.position.now in
     let o = c.in-Some.origin in
     let rest = filter (λ m. is_mate (after_setup p m)) (moves_of_men p (members c.next.new.self)) in
@@ -32,7 +32,6 @@ push_mates-requires-clause-room c =
       arith,
       all,
       few_mates p c.bare_info_of-info.ensures.sound,
-      ap length c.moves_that_may_mate-moves.ensures.mates,
       length-append c.loop-origin.out.items (mates_of p o ++ rest),
       length-append (mates_of p o) rest,
     )
@@ -44,12 +43,12 @@ loop-origin-preserved c =
     let rest = filter (λ m. is_mate (after_setup p m)) (moves_of_men p (members c.next.new.self)) in
     let parts = first_mates p c.loop-origin.origin-iterator o c.next.new.self c.in-Some.ensures.steps in
     record {
-      kept = ap (λ (ms : List Move). ms ++ rest) (c.push_mates.ensures ∙ ap (λ (ms : List Move). c.loop-origin.out.items ++ ms) c.moves_that_may_mate-moves.ensures.mates)
+      kept = ap (λ (ms : List Move). ms ++ rest) c.push_mates_of.ensures.mates
           ∙ append_assoc c.loop-origin.out.items (mates_of p o) rest
           ∙ sym (ap (λ (ms : List Move). c.loop-origin.out.items ++ ms) parts)
           ∙ c.loop-origin.invariant.kept;
       own = own_others p c.loop-origin.origin-iterator o c.next.new.self c.in-Some.ensures.steps c.loop-origin.invariant.own;
-      flights = c.moves_that_may_mate-moves.ensures.flights;
+      flights = c.push_mates_of.ensures.flights;
     }
 
 pub returns : goal.returns
@@ -69,14 +68,14 @@ own_man-requires-clause-own c =
     let lowest = c.in-Some.ensures.steps.lowest in
     c.loop-origin.invariant.own c.in-Some.origin lowest.on_board lowest.there
 
-pub moves_that_may_mate-moves-requires-clause-on_board : goal.moves_that_may_mate-moves-requires-clause-on_board
-moves_that_may_mate-moves-requires-clause-on_board c = c.in-Some.ensures.steps.lowest.on_board
+pub push_mates_of-requires-clause-on_board : goal.push_mates_of-requires-clause-on_board
+push_mates_of-requires-clause-on_board c = c.in-Some.ensures.steps.lowest.on_board
 
-pub moves_that_may_mate-moves-requires-clause-there : goal.moves_that_may_mate-moves-requires-clause-there
-moves_that_may_mate-moves-requires-clause-there c = c.own_man.ensures.there
+pub push_mates_of-requires-clause-there : goal.push_mates_of-requires-clause-there
+push_mates_of-requires-clause-there c = c.own_man.ensures.there
 
-pub moves_that_may_mate-moves-requires-clause-own : goal.moves_that_may_mate-moves-requires-clause-own
-moves_that_may_mate-moves-requires-clause-own c = c.own_man.ensures.own
+pub push_mates_of-requires-clause-own : goal.push_mates_of-requires-clause-own
+push_mates_of-requires-clause-own c = c.own_man.ensures.own
 
 pub loop-origin-smaller : goal.loop-origin-smaller
 loop-origin-smaller c = omega (arith, ap length c.in-Some.ensures.steps.rising)

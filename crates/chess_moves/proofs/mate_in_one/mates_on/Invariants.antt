@@ -1,16 +1,17 @@
-use Rattle.std.proofs.Common.{◌≡◌, ◌<◌, true, length}
+use Rattle.std.proofs.Common.{◌≡◌, ◌<◌, true, filter, length}
 use Rattle.std.specs.List.{list_any, list_all}
 use Rattle.chess_board.specs.MakeMove.{after_setup}
 use Rattle.chess_board.specs.Legality.{is_legal}
+use Rattle.chess_moves.specs.inside.Listing.{moves_to}
 use Rattle.chess_moves.specs.Verdicts.{is_mate}
 use Rattle.chess_moves.specs.inside.MoveGeneration.{man_moves}
-use Rattle.chess_moves.proofs.mate_in_one.some_mates.Given as goal
+use Rattle.chess_moves.proofs.mate_in_one.mates_on.Given as goal
 
 -- no move so far mates
 abbrev pub invariant-loop-left : goal.invariant-loop-left
 invariant-loop-left l = record {
   any : list_any (λ m. is_mate (after_setup l.position m)) (man_moves l.left)
-      ≡ list_any (λ m. is_mate (after_setup l.position m)) (man_moves l.fn.moves);
+      ≡ list_any (λ m. is_mate (after_setup l.position m)) (filter (is_legal l.position) (moves_to l.origin 64));
   legal : list_all (is_legal l.position) (man_moves l.left) ≡ true;
   on_board : l.left.origin < 64;
 }

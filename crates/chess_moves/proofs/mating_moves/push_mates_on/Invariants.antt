@@ -4,14 +4,14 @@ use Rattle.arrayvec.specs.ArrayVec.{array_vec_len}
 use Rattle.chess_board.specs.MakeMove.{after_setup}
 use Rattle.chess_board.specs.Legality.{is_legal}
 use Rattle.chess_moves.specs.Verdicts.{is_mate}
+use Rattle.chess_moves.specs.inside.MateInOne.{mates_of}
 use Rattle.chess_moves.specs.inside.MoveGeneration.{man_moves}
-use Rattle.chess_moves.proofs.mating_moves.push_mates.Given as goal
+use Rattle.chess_moves.proofs.mating_moves.push_mates_on.Given as goal
 
 -- those listed, and those that are still to come
 abbrev pub invariant-loop-left : goal.invariant-loop-left
 invariant-loop-left l = record {
-  kept : l.out.items ++ filter (λ m. is_mate (after_setup l.position m)) (man_moves l.left)
-      ≡ l.fn.out.items ++ filter (λ m. is_mate (after_setup l.position m)) (man_moves l.fn.moves);
+  kept : l.out.items ++ filter (λ m. is_mate (after_setup l.position m)) (man_moves l.left) ≡ l.fn.out.items ++ mates_of l.position l.origin;
   room : array_vec_len l.out + length (filter (λ m. is_mate (after_setup l.position m)) (man_moves l.left)) ≤ 1024;
   legal : list_all (is_legal l.position) (man_moves l.left) ≡ true;
   on_board : l.left.origin < 64;
