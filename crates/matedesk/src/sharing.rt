@@ -1,6 +1,6 @@
 //! The command `solve --workers`.
 
-ghost use Rattle.std.specs.Prelude.{◌≡◌, IfOk, Some, map};
+ghost use Rattle.std.specs.Prelude.{◌≡◌, IfErr, IfOk, Some, map};
 ghost use Rattle.command_words.specs.Asked.{solve_on as solve_on_asked};
 ghost use Rattle.plain_commands.specs.Command.{Ends};
 
@@ -24,6 +24,7 @@ pub(crate) fn thread_memory(
     size: MemoSize,
 ) -> Result<ThreadMemory, Stop>
     ensures room { IfOk result (λ memory. memory.memo.room ≡ size) }
+    ensures err { IfErr result (λ stop. stop ≡ Stop.NoMemory) }
 {
     let entries = size.get() as usize;
     let memo = new_memo(alloc, entries)?;
