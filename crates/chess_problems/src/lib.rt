@@ -10,4 +10,6 @@ mod same_problems;
 
 pub use outcomes::{Outcome, Variation};
 pub use problems::{AvoidList, Bound, Problem};
-pub use same_problems::{are_same_moves, is_same_move, same_move_reads, same_problem_reads};
+pub use same_problems::{
+    are_same_moves, is_among, is_same_move, same_move_reads, same_problem_reads,
+};

@@ -1,6 +1,7 @@
 //! Whether two moves, two lists of moves or two problems are one.
 
 ghost use Rattle.std.specs.Prelude.{◌≡◌, ◌↔◌, IsTrue};
+ghost use Rattle.std.specs.List.{list_any};
 ghost use Rattle.chess_problems.specs.SameProblems.{are_same_moves as are_same_lists, is_same_move as are_one, SameMoveReads, SameProblemReads};
 
 use chess_board::{Move, equal_reads};
@@ -10,6 +11,18 @@ pub fn is_same_move(m: Move, n: Move) -> bool
     ensures { result ≡ are_one m n }
 {
     m == n
+}
+
+/// Whether a move is one of these.
+pub fn is_among(m: Move, moves: &[Move]) -> bool
+    ensures { result ≡ list_any (are_one m) moves.now }
+{
+    for n in moves {
+        if is_same_move(m, *n) {
+            return true;
+        }
+    }
+    false
 }
 
 /// Whether two lists of moves are one.

@@ -5,8 +5,7 @@ ghost use Rattle.mate_claims.specs.Verdicts.{verdict_name, verdict_of, keys_verd
 ghost use Rattle.mate_claims.specs.Verdicts.{are_among as are_all_among, is_cooked as is_cooked_by, verdict_of_claimed};
 
 use chess_board::Move;
-use chess_problems::{Bound, Outcome};
-use mate_search::is_among;
+use chess_problems::{Bound, Outcome, is_among};
 
 /// What comes of a record's claims: the first of these that applies, from the last to the first.
 #[derive(Clone, Copy, Debug, PartialEq, Eq)]

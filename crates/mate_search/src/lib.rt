@@ -33,5 +33,5 @@ pub use laws::{
 pub use memo::{MAX_LARGE_ENTRIES, Memo, MemoFault};
 pub use peers::{Peers, connect_peers};
 pub use solvers::{OneThread, Solver};
-pub use solving::{first_moves, is_among, solve, solve_told, solve_until};
+pub use solving::{first_moves, solve, solve_told, solve_until};
 pub use verdicts::{Verdict, leaves_lost, verdict_on};

@@ -6,9 +6,7 @@ ghost use Rattle.chess_board.specs.Positions.{Setup};
 ghost use Rattle.mate_search.specs.inside.Halting.{EndsSearch};
 ghost use Rattle.mate_search.specs.inside.Findings.{outcome_of, IsBlank};
 ghost use Rattle.mate_search.specs.inside.Truth.{dist, first_moves as moves_to_begin, truth, truth_among};
-ghost use Rattle.chess_problems.specs.SameProblems.{is_same_move as are_same_move};
 ghost use Rattle.chess_moves.specs.inside.Listing.{legal_moves};
-ghost use Rattle.std.specs.List.{list_any};
 ghost use Rattle.mate_search.specs.Verdicts.{AreTrueIn};
 ghost use Rattle.mate_search.specs.Wins.{win};
 ghost use Rattle.mate_search.specs.inside.MemoEntries.{IsTrueOf};
@@ -22,7 +20,7 @@ use crate::principal_variation::{push_keys, push_variation};
 use crate::verdicts::{Root, Verdict};
 use chess_board::{Move, Position};
 use chess_moves::{MoveList, Rays, legal_listed, legal_moves, push_mating_moves};
-use chess_problems::{Bound, Outcome, Problem, is_same_move};
+use chess_problems::{Bound, Outcome, Problem, is_among};
 
 /// What there is to say of a problem: the least number of the attacker's moves within which it mates with none of the moves to avoid
 /// for its first, all keys in the order of moves, and one line of play; or that there is no mate within the bound. It never fails.
@@ -186,18 +184,6 @@ fn find_beyond<H: Halt>(
         }
     }
     Ok(None)
-}
-
-/// Whether a move is one of these.
-pub fn is_among(m: Move, moves: &[Move]) -> bool
-    ensures { result ≡ list_any (are_same_move m) moves.now }
-{
-    for n in moves {
-        if is_same_move(m, *n) {
-            return true;
-        }
-    }
-    false
 }
 
 /// Lists the moves that the attacker may begin with where there is room for them: a list that is handed back is copied.

@@ -15,8 +15,8 @@ use crate::sheets::Sheet;
 use chess_board::{Move, Position, after};
 use chess_moves::{Rays, legal, legal_listed};
 use chess_notation::san;
-use chess_problems::Outcome;
-use mate_search::{Memo, is_among};
+use chess_problems::{Outcome, is_among};
+use mate_search::Memo;
 use std::io::Write;
 
 /// Whether there is no mate.

@@ -1,17 +1,15 @@
 //! The moves that a search is kept to, and the problem that it asks then.
 
 ghost use Rattle.std.specs.Prelude.{◌≡◌, ◌<◌, IfNone, IfSome, codes, length, map};
-ghost use Rattle.std.specs.List.{list_any};
 ghost use Rattle.chess_board.specs.Moves.{move_text};
 ghost use Rattle.chess_moves.specs.Laws.{IsRising};
-ghost use Rattle.chess_problems.specs.SameProblems.{is_same_move as are_one};
 ghost use Rattle.uci_commands.specs.Marks.{behind as words_behind, says as does_say};
 ghost use Rattle.uci_commands.specs.MoveSearches.{all_but, max_avoided, moves_said};
 
 use crate::marks::{behind, says};
 use chess_board::{Move, Position};
 use chess_moves::{MoveList, Rays, legal, legal_rise};
-use chess_problems::{AvoidList, Bound, Problem, is_same_move};
+use chess_problems::{AvoidList, Bound, Problem, is_among};
 
 /// Whether one of the words is the move by its coordinates.
 fn is_said(m: Move, words: &[&str]) -> bool
@@ -34,18 +32,6 @@ pub fn searched_moves(rays: &Rays, position: &Position, words: &[&str]) -> MoveL
         }
     }
     moves
-}
-
-/// Whether the move is one of these.
-fn is_among(m: Move, moves: &[Move]) -> bool
-    ensures { result ≡ list_any (are_one m) moves.now }
-{
-    for n in moves {
-        if is_same_move(m, *n) {
-            return true;
-        }
-    }
-    false
 }
 
 /// The legal moves that are none of these; none where there are more than a problem can avoid.
