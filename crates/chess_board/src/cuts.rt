@@ -18,10 +18,11 @@ fn first_at(text: &[u8], byte: u8) -> Option<usize>
 ///
 /// It parts the six fields of a FEN, which one space separates, and the eight ranks of its first field, which a
 /// slash separates (PGN Specification, 16.1.3).
-pub(crate) fn cut_at(text: &[u8], byte: u8) -> Option<(&[u8], &[u8])>
+pub fn cut_at(text: &[u8], byte: u8) -> Option<(&[u8], &[u8])>
     ensures none { IfNone result (slice_split (λ b. b == byte) text.now ≡ text.now ∷ []) }
     ensures cut { IfSome result (λ cut. slice_split (λ b. b == byte) text.now
         ≡ cut.0.now ∷ slice_split (λ b. b == byte) cut.1.now) }
+    ensures shorter { IfSome result (λ cut. length cut.1.now < length text.now) }
 {
     let at = first_at(text, byte)?;
     Some((&text[..at], &text[at + 1..]))

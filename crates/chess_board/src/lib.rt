@@ -28,6 +28,7 @@ mod soundness;
 mod squares;
 
 pub use castling::{is_castling, king_goal, king_home, rook_home, wing_of};
+pub use cuts::cut_at;
 pub use en_passant::{captured_pawn, is_en_passant};
 pub use faults::FenFault;
 pub use fens::{Fen, read_fen, read_fields, reads_back};

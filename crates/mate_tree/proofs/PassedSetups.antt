@@ -1,9 +1,8 @@
 -- A side passes: the fields of the position it leaves.
-use Rattle.std.proofs.Common.{◌≡◌, ◌≢◌, ◌∙◌, Result, Ok, Err, ℕ, ◌+◌, ◌-◌, ◌<◌, ◌≤◌, ◌==◌, List, [], ◌∷◌, ◌++◌, true, false}
-use Rattle.std.proofs.Common.{Some, None, length, take, drop, get_or, refl, sym, ap, arith, append_assoc, take-append-drop}
+use Rattle.std.proofs.Common.{◌≡◌, ◌≢◌, ◌∙◌, Result, Ok, Err, ℕ, ◌<◌, ◌≤◌, ◌==◌, List, [], ◌∷◌, ◌++◌, true, false}
+use Rattle.std.proofs.Common.{Some, None, length, drop, get_or, refl, sym, ap, arith, append_assoc}
 use Rattle.std.specs.List.{slice_split, All}
 use Rattle.std.proofs.lemmas.Bool.Decides.{nat_tests}
-use Rattle.std.proofs.lemmas.List.{drop_more, take_rest}
 use Rattle.std.proofs.lemmas.List.Splits.{slice_split_none, slice_split_at}
 use Rattle.chess_board.specs.declared.men.Colour.{Colour}
 use Rattle.chess_board.specs.declared.men.Colour.TheVariants.{White, Black}
@@ -22,22 +21,6 @@ words text = slice_split (λ b. b == 32) text
 
 other_byte : (a b : ℕ) → a ≢ b → (a == b) ≡ false
 other_byte a b other = grind (arith, nat_tests)
-
-same_byte : (a b : ℕ) → a ≡ b → (a == b) ≡ true
-same_byte a b same = grind (arith, nat_tests)
-
-pub words_one : (text : List ℕ) → All (λ b. b ≢ 32) text → words text ≡ text ∷ []
-words_one text lacks = slice_split_none (λ b. b == 32) text (λ k d inside. other_byte (get_or text k d) 32 (lacks k d inside))
-
-pub words_cut : (text : List ℕ) (at : ℕ) → at < length text → All (λ b. b ≢ 32) (take at text) → get_or text at 0 ≡ 32
-    → words text ≡ take at text ∷ words (take (length text - (at + 1)) (drop (at + 1) text))
-words_cut text at inside lacks here =
-    let whole : take at text ++ get_or text at 0 ∷ drop (at + 1) text ≡ text =
-    ap (λ t. take at text ++ t) (sym (drop_more text at 0 inside)) ∙ take-append-drop at text in
-    ap words (sym whole)
-    ∙ slice_split_at (λ b. b == 32) (take at text) (get_or text at 0) (drop (at + 1) text)
-    (λ k d below. other_byte (get_or (take at text) k d) 32 (lacks k d below)) (same_byte (get_or text at 0) 32 here)
-    ∙ ap (λ t. take at text ∷ words t) (sym (take_rest text (at + 1)))
 
 visible_apart : (word : List ℕ) → IsVisibleWord word → All (λ b. (b == 32) ≡ false) word
 visible_apart word visible = λ k d inside. other_byte (get_or word k d) 32 (visible_other (get_or word k d) (visible.1 k d inside))

@@ -1,31 +1,11 @@
 //! A side that passes.
 
-ghost use Rattle.std.specs.Prelude.{◌≡◌, ◌≢◌, ◌==◌, ◌<◌, [], ◌∷◌, All, IfSome, IfNone, length, slice_index, take};
-ghost use Rattle.std.specs.List.{slice_split};
+ghost use Rattle.std.specs.Prelude.{◌≡◌};
 ghost use Rattle.chess_board.specs.Fields.{side_text};
 ghost use Rattle.chess_board.specs.Men.{other_side};
 ghost use Rattle.mate_tree.specs.Passing.{passed};
 
-use chess_board::{Colour, Position, printed_spells, read_fields};
-
-/// Where the first space stands.
-fn first_space(text: &[u8]) -> Option<usize>
-    ensures none { IfNone result (All (λ b. b ≢ 32) text.now) }
-    ensures before { IfSome result (λ at. All (λ b. b ≢ 32) (take at text.now)) }
-    ensures inside { IfSome result (λ at. at < length text.now) }
-    ensures here { IfSome result (λ at. slice_index text.now at ≡ 32) }
-{
-    text.iter().position(|found| *found == b' ')
-}
-
-/// What stands before the first space of a text, and what stands behind it; none where there is no space.
-fn cut_word(text: &[u8]) -> Option<(&[u8], &[u8])>
-    ensures none { IfNone result (slice_split (λ b. b == 32) text.now ≡ text.now ∷ []) }
-    ensures cut { IfSome result (λ cut. slice_split (λ b. b == 32) text.now ≡ cut.0.now ∷ slice_split (λ b. b == 32) cut.1.now) }
-{
-    let at = first_space(text)?;
-    Some((&text[..at], &text[at + 1..]))
-}
+use chess_board::{Colour, Position, cut_at, printed_spells, read_fields};
 
 /// The letter of the other side.
 fn other_letter(side: Colour) -> &'static [u8]
@@ -49,9 +29,9 @@ pub fn passed(position: &Position) -> Option<Position>
     // That what is printed of a position spells it is this law.
     printed_spells();
     let text = position.text();
-    let (placement, rest) = cut_word(text.as_str().as_bytes())?;
-    let (_, rest) = cut_word(rest)?;
-    let (castling, _) = cut_word(rest)?;
+    let (placement, rest) = cut_at(text.as_str().as_bytes(), b' ')?;
+    let (_, rest) = cut_at(rest, b' ')?;
+    let (castling, _) = cut_at(rest, b' ')?;
     match read_fields(placement, other_letter(position.side()), castling, b"-") {
         Ok(other) => Some(other),
         Err(_) => None,

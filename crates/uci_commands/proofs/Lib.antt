@@ -2,6 +2,5 @@ pub mod MovesKept
 pub mod NamesAlike
 pub mod NumberValues
 pub mod PositionsSaid
-pub mod SpaceCuts
 pub mod WordTexts
 pub mod WordsBehind

@@ -1,37 +1,13 @@
 //! The words of a line.
 
-ghost use Rattle.std.specs.Prelude.{◌≡◌, ◌<◌, IfNone, IfOk, IfSome, [], ◌∷◌, ◌++◌, false, filter, length, map, true};
+ghost use Rattle.std.specs.Prelude.{◌≡◌, IfNone, IfOk, IfSome, [], ◌∷◌, ◌++◌, false, filter, map, true};
 ghost use Rattle.std.specs.List.{list_all};
 ghost use Rattle.std.specs.Str.{is_utf8};
 ghost use Rattle.chess_notation.specs.Words.{words_in};
-ghost use Rattle.uci_commands.specs.inside.LineWords.{HasNoSpace, is_some_word, parts_of};
+ghost use Rattle.uci_commands.specs.inside.LineWords.{is_some_word};
 
+use chess_board::cut_at;
 use std::alloc::{AllocError, Global};
-
-/// What stands before the first space, and behind it; none where there is no space.
-fn cut_at_space(text: &[u8]) -> Option<(&[u8], &[u8])>
-    ensures none { IfNone result (HasNoSpace text.now) }
-    ensures word { IfSome result (λ cut. HasNoSpace cut.0.now) }
-    ensures cut { IfSome result (λ cut. text.now ≡ cut.0.now ++ 32 ∷ cut.1.now) }
-{
-    for (index, byte) in text.iter().enumerate() {
-        if *byte == b' ' {
-            let (word, _) = text.split_at(index);
-            let (_, more) = text.split_at(index + 1);
-            return Some((word, more));
-        }
-    }
-    None
-}
-
-/// The first part of a text and what follows it; none where the text is one part.
-fn first_part(text: &[u8]) -> Option<(&[u8], &[u8])>
-    ensures none { IfNone result (parts_of text.now ≡ text.now ∷ []) }
-    ensures cut { IfSome result (λ cut. parts_of text.now ≡ cut.0.now ∷ parts_of cut.1.now) }
-    ensures shorter { IfSome result (λ cut. length cut.1.now < length text.now) }
-{
-    cut_at_space(text)
-}
 
 /// Adds a word, where it is not empty. It answers whether that is a text in UTF-8.
 fn push_word<'a>(words: &mut Vec<&'a str>, word: &'a [u8]) -> Result<bool, AllocError>
@@ -58,7 +34,7 @@ pub fn words_of<'a>(alloc: Global, line: &'a [u8]) -> Result<Option<Vec<&'a str>
 {
     let mut words = Vec::new(alloc);
     let mut rest = line;
-    while let Some((word, more)) = first_part(rest) {
+    while let Some((word, more)) = cut_at(rest, b' ') {
         if !push_word(&mut words, word)? {
             return Ok(None);
         }
