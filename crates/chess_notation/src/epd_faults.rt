@@ -18,7 +18,7 @@ ghost use Rattle.chess_notation.specs.inside.RecordReading.{IsClearTo};
 use crate::opcodes::{is_opcode, is_same_text};
 use crate::problem_operations::have_numbers;
 use crate::quoting::strings_fit;
-use crate::record_fields::{are_printable, operations_in, parts_of};
+use crate::record_fields::{are_printable, four_words, operations_in};
 use crate::segments::{first_segment, last_rest};
 use crate::words::{is_blank, word_at};
 use chess_board::{FenFault, Position, read_fields, spells_one};
@@ -217,11 +217,11 @@ fn position_of_fields(line: &[u8]) -> Result<Position, EpdFault>
 {
     // That the fields spell no other position is the clause of `spells_one`.
     spells_one();
-    let parts = parts_of(line);
-    if parts.target.is_empty() {
+    let words = four_words(line);
+    if words.target.is_empty() {
         return Err(EpdFault::Fen(FenFault::FieldCount));
     }
-    match read_fields(parts.placement, parts.side, parts.castling, parts.target) {
+    match read_fields(words.placement, words.side, words.castling, words.target) {
         Ok(position) => Ok(position),
         Err(fault) => Err(EpdFault::Fen(fault)),
     }

@@ -34,7 +34,7 @@ pub use claims::{ClaimFault, bound_claimed, claimed_moves, claims_text};
 pub use epd_faults::EpdFault;
 pub use move_reading::read_move;
 pub use operations::kept_operands;
-pub use record_fields::are_digits;
+pub use record_fields::{FourWords, are_digits, four_words, operations_in};
 pub use record_laws::{answer_reads, claims_read, records_clear, says_one};
 pub use record_reading::read_record;
 pub use records::{Operation, Record};
@@ -42,4 +42,5 @@ pub use san_laws::{
     bare_texts_apart, named_read, names_one, tells_one, texts_apart, texts_read, texts_short,
 };
 pub use san_text::san;
-pub use words::is_blank;
+pub use segments::first_segment;
+pub use words::{after_spaces, is_blank, word_at};

@@ -10,14 +10,14 @@ ghost use Rattle.chess_notation.specs.RecordFields.{behind_counters as text_behi
 use crate::opcodes::is_digit;
 use crate::words::word_at;
 
-/// The four fields of a line, and what follows them.
+/// The first four words of a line, and what follows them.
 #[derive(Clone, Copy)]
-pub(crate) struct Parts<'a> {
-    pub(crate) placement: &'a [u8],
-    pub(crate) side: &'a [u8],
-    pub(crate) castling: &'a [u8],
-    pub(crate) target: &'a [u8],
-    rest: &'a [u8],
+pub struct FourWords<'a> {
+    pub placement: &'a [u8],
+    pub side: &'a [u8],
+    pub castling: &'a [u8],
+    pub target: &'a [u8],
+    pub behind: &'a [u8],
 }
 
 /// Whether each byte of a text is a decimal digit.
@@ -58,23 +58,23 @@ pub(crate) fn are_printable(text: &[u8]) -> bool
     true
 }
 
-/// The first four words of a line, of which any may be empty, and what follows them.
+/// The four fields that a line begins with, of which any may be empty, and what follows them.
 #[tactic(auto, unfolding(crate::specs::RecordFields::fourth_word, crate::specs::RecordFields::line_fields, crate::specs::RecordFields::behind_fields))]
-pub(crate) fn parts_of(line: &[u8]) -> Parts<'_>
+pub fn four_words(line: &[u8]) -> FourWords<'_>
     ensures fields { line_fields line.now
         ≡ record { placement = result.placement.now; side = result.side.now; castling = result.castling.now; target = result.target.now } }
-    ensures rest { result.rest.now ≡ behind_fields line.now }
+    ensures behind { result.behind.now ≡ behind_fields line.now }
 {
     let (placement, rest) = word_at(line);
     let (side, rest) = word_at(rest);
     let (castling, rest) = word_at(rest);
-    let (target, rest) = word_at(rest);
-    Parts {
+    let (target, behind) = word_at(rest);
+    FourWords {
         placement,
         side,
         castling,
         target,
-        rest,
+        behind,
     }
 }
 
@@ -91,8 +91,8 @@ fn behind_counters(text: &[u8]) -> &[u8]
 
 /// The text of the operations.
 #[tactic(auto, unfolding(crate::specs::RecordFields::operations_in))]
-pub(crate) fn operations_in(line: &[u8]) -> &[u8]
+pub fn operations_in(line: &[u8]) -> &[u8]
     ensures { result.now ≡ text_of_operations line.now }
 {
-    behind_counters(parts_of(line).rest)
+    behind_counters(four_words(line).behind)
 }

@@ -18,7 +18,7 @@ pub(crate) fn inside_after(is_inside: bool, byte: u8) -> bool
 }
 
 /// What stands before the first semicolon outside a string, and what stands after it.
-pub(crate) fn first_segment(text: &[u8]) -> Option<(&[u8], &[u8])>
+pub fn first_segment(text: &[u8]) -> Option<(&[u8], &[u8])>
     ensures none { IfNone result (segments_of text.now ≡ record { ended = []; rest = text.now }) }
     ensures cut { IfSome result (λ cut. segments_of text.now ≡ with_segment cut.0.now (segments_of cut.1.now)) }
     ensures parts { IfSome result (λ cut. text.now ≡ cut.0.now ++ 59 ∷ cut.1.now) }

@@ -5,7 +5,7 @@ ghost use Rattle.chess_notation.specs.Words.{after_spaces as text_after_spaces, 
 ghost use Rattle.chess_notation.specs.Words.{word_at as word_of_text, behind, is_blank as is_all_blank};
 
 /// The text from its first byte that is no space.
-fn after_spaces(text: &[u8]) -> &[u8]
+pub fn after_spaces(text: &[u8]) -> &[u8]
     ensures { result.now ≡ text_after_spaces text.now }
 {
     let mut rest = text;
@@ -28,9 +28,9 @@ fn front_word(text: &[u8]) -> (&[u8], &[u8])
     (text, &[])
 }
 
-/// The first word, and what follows it.
+/// The first word of a text, empty where there is none, and what follows it.
 #[tactic(auto, unfolding(crate::specs::Words::word_at, crate::specs::Words::behind))]
-pub(crate) fn word_at(text: &[u8]) -> (&[u8], &[u8])
+pub fn word_at(text: &[u8]) -> (&[u8], &[u8])
     ensures word { result.0.now ≡ word_of_text text.now }
     ensures rest { result.1.now ≡ behind text.now }
 {

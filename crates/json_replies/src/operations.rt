@@ -1,44 +1,14 @@
 //! The operations of an answer.
 
-ghost use Rattle.std.specs.Prelude.{◌≡◌, ◌<◌, ◌∷◌, [], codes, IfNone, IfOk, IfSome, length, map};
+ghost use Rattle.std.specs.Prelude.{◌≡◌, codes, IfOk, map};
 ghost use Rattle.std.specs.List.{list_any};
 ghost use Rattle.chess_notation.specs.Opcodes.{same_text};
-ghost use Rattle.chess_notation.specs.Segments.{ends_segment as does_end, inside_after as is_inside_after, segments_of};
+ghost use Rattle.chess_notation.specs.Segments.{segments_of};
 ghost use Rattle.json_replies.specs.Answers.{are_keys, opcode_of as opcode_in, operands_of as operands_in, tells_mate as does_tell_mate};
 
 use crate::cuts::{cut, without_first};
+use chess_notation::first_segment;
 use std::alloc::{AllocError, Global};
-
-fn ends_segment(is_inside: bool, byte: u8) -> bool
-    ensures { result ≡ does_end is_inside byte }
-{
-    !is_inside && byte == b';'
-}
-
-/// Whether a string is open behind the byte.
-fn inside_after(is_inside: bool, byte: u8) -> bool
-    ensures { result ≡ is_inside_after is_inside byte }
-{
-    if byte == b'"' { !is_inside } else { is_inside }
-}
-
-/// What stands before the first semicolon outside a string, and what stands after it.
-fn first_operation(text: &[u8]) -> Option<(&[u8], &[u8])>
-    ensures none { IfNone result ((segments_of text.now).ended ≡ []) }
-    ensures cut { IfSome result (λ cut. (segments_of text.now).ended ≡ cut.0.now ∷ (segments_of cut.1.now).ended) }
-    ensures shorter { IfSome result (λ cut. length cut.1.now < length text.now) }
-{
-    let mut is_inside = false;
-    for (index, byte) in text.iter().enumerate() {
-        if ends_segment(is_inside, *byte) {
-            let (front, _) = text.split_at(index);
-            let (_, back) = text.split_at(index + 1);
-            return Some((front, back));
-        }
-        is_inside = inside_after(is_inside, *byte);
-    }
-    None
-}
 
 /// The operations of a text, without their semicolons.
 pub(crate) fn operations_of(alloc: Global, text: &[u8]) -> Result<Vec<&[u8]>, AllocError>
@@ -46,7 +16,7 @@ pub(crate) fn operations_of(alloc: Global, text: &[u8]) -> Result<Vec<&[u8]>, Al
 {
     let mut operations = Vec::new(alloc);
     let mut rest = text;
-    while let Some((operation, back)) = first_operation(rest) {
+    while let Some((operation, back)) = first_segment(rest) {
         operations.push(operation)?;
         rest = back;
     }

@@ -3,6 +3,5 @@ pub mod ClaimReplies
 pub mod CountedLines
 pub mod ListedKeys
 pub mod MovesTested
-pub mod PlaySegments
 pub mod TextBytes
 pub mod UndecidedClaims

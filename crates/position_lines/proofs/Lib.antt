@@ -1,3 +1,2 @@
 pub mod FenLines
 pub mod PositionLines
-pub mod WordFronts

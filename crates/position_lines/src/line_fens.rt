@@ -3,7 +3,7 @@
 ghost use Rattle.std.specs.Prelude.{◌≡◌, ◌++◌, IfOk};
 ghost use Rattle.position_lines.specs.LineFens.{FensRead, begins_with_digit as does_begin_with_digit, counters_text, line_fen as fen_of_line, spaced};
 
-use crate::words::word_at;
+use chess_notation::{four_words, word_at};
 use std::alloc::{AllocError, Global};
 
 fn begins_with_digit(word: &[u8]) -> bool
@@ -46,19 +46,16 @@ fn push_counters(text: &mut Vec<u8>, behind: &[u8]) -> Result<(), AllocError>
 pub fn line_fen(alloc: Global, line: &[u8]) -> Result<Vec<u8>, AllocError>
     ensures { IfOk result (λ text. text.items ≡ fen_of_line line.now) }
 {
-    let (placement, rest) = word_at(line);
-    let (side, rest) = word_at(rest);
-    let (castling, rest) = word_at(rest);
-    let (target, rest) = word_at(rest);
+    let words = four_words(line);
     let mut text = Vec::new(alloc);
-    if target.is_empty() {
+    if words.target.is_empty() {
         return Ok(text);
     }
-    push_word(&mut text, placement)?;
-    push_word(&mut text, side)?;
-    push_word(&mut text, castling)?;
-    push_word(&mut text, target)?;
-    push_counters(&mut text, rest)?;
+    push_word(&mut text, words.placement)?;
+    push_word(&mut text, words.side)?;
+    push_word(&mut text, words.castling)?;
+    push_word(&mut text, words.target)?;
+    push_counters(&mut text, words.behind)?;
     Ok(text)
 }
 
