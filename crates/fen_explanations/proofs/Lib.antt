@@ -1,4 +1,3 @@
 mod Below
 mod EachBelow
 mod KnownCodes
-mod WordFronts

@@ -7,8 +7,7 @@ ghost use Rattle.fen_explanations.specs.Asked.{say_position as do_say_position};
 
 use crate::fields::times;
 use crate::told::{Told, tell};
-use crate::words::word_at;
-use chess_notation::NoMemory;
+use chess_notation::{NoMemory, word_at};
 use std::alloc::{AllocError, Global};
 
 /// Whether a word begins with a placement, or something like it.

@@ -2,8 +2,7 @@
 //!
 //! Whether anything is wrong is what `read_fen` and `read_record` say; here is told what. To read: `specs/Told.antt`, which says all that is
 //! told, and `told`; `placements`, what a placement says of each square, right or wrong; `sentences`, of which lines are made; then `ranks`,
-//! `men`, `fields`, `checks`, a file for each part, and `warnings`, of what can't come about by play; `words`, the words of a text; and `asked`,
-//! which words are one.
+//! `men`, `fields`, `checks`, a file for each part, and `warnings`, of what can't come about by play; and `asked`, which words are one.
 #![tactic(auto)]
 
 mod asked;
@@ -15,7 +14,6 @@ mod ranks;
 mod sentences;
 mod told;
 mod warnings;
-mod words;
 
 pub use asked::{say_position, tell_words};
 pub use told::{Told, tell};

@@ -21,10 +21,11 @@ use crate::placements::{men_in, ranks_of};
 use crate::ranks::push_ranks;
 use crate::sentences::{push_if, push_sentence};
 use crate::warnings::push_side_warned;
-use crate::words::{FourWords, four_words, word_at};
 use chess_board::{Colour, FenFault, read_fen};
 use chess_moves::Rays;
-use chess_notation::{Bound, EpdFault, NoMemory, is_blank, read_record};
+use chess_notation::{
+    Bound, EpdFault, FourWords, NoMemory, four_words, is_blank, read_record, word_at,
+};
 use fault_explanations::push_code;
 use std::alloc::{AllocError, Global};
 
