@@ -11,13 +11,12 @@ ghost use Rattle.problem_import.specs.PopeyeProblems.{square_of as square_of_tex
 ghost use Rattle.problem_import.specs.SetUps.{is_right};
 ghost use Rattle.problem_import.specs.inside.ReadProblems.{IsSet, IsSetAs};
 
-use crate::fields::field_words;
 use crate::import_faults::ImportFault;
 use crate::texts::{push_bound_operation, push_byte};
 use chess_board::{
     Colour, FenFault, Kind, Man, Position, Square, Wing, king_home, read_fields, rook_home,
 };
-use chess_notation::EpdFault;
+use chess_notation::{EpdFault, four_words};
 use std::alloc::AllocError;
 
 /// The men on the 64 squares, a1 first.
@@ -359,7 +358,7 @@ impl Diagram {
     pub(crate) fn is_said_by(&self, text: &[u8]) -> bool
         ensures { IsTrue result → IsSetAs self.now.men text.now }
     {
-        let fields = field_words(text);
+        let fields = four_words(text);
         match read_fields(
             fields.placement,
             fields.side,

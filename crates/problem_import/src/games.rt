@@ -15,9 +15,8 @@ use crate::fields::has_fields;
 use crate::import_faults::ImportFault;
 use crate::moves::is_position;
 use crate::tag_pairs::begins_with;
-use crate::texts::{
-    is_same, is_word, push_bound_operation, push_byte, trimmed, without_first, word_at,
-};
+use crate::texts::{is_same, is_word, push_bound_operation, push_byte, trimmed, without_first};
+use chess_notation::word_at;
 use lettered_placements::line_read;
 use move_words::Letters;
 use std::alloc::{AllocError, Global};

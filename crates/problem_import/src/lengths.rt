@@ -6,7 +6,8 @@ ghost use Rattle.chess_notation.specs.Claims.{is_length as is_length_word};
 ghost use Rattle.problem_import.specs.Numbers.{bound_of_word as bound_of_text};
 ghost use Rattle.stipulations.specs.Stipulations.{asked};
 
-use crate::texts::{are_digits, is_word, trimmed, without_first, word_at};
+use crate::texts::{are_digits, is_word, trimmed, without_first};
+use chess_notation::word_at;
 use stipulations::{Asked, moves_asked};
 
 /// Whether a word is `#N`.

@@ -14,10 +14,11 @@ ghost use Rattle.problem_import.specs.Numbers.{parts_of, said};
 ghost use Rattle.problem_import.specs.Numbers.{said_by};
 
 use crate::changes::Changes;
-use crate::fields::{behind_counters, field_words, push_counters};
+use crate::fields::{behind_counters, push_counters, text_before};
 use crate::lengths::{bound_of_word, is_length, length_digits, mate_digits};
-use crate::texts::{is_same, push_bound_operation, push_byte, trimmed, word_at};
+use crate::texts::{is_same, push_bound_operation, push_byte, trimmed};
 use crate::tokens::{Kind, Token, part_at, segment_at, token_at};
+use chess_notation::{four_words, word_at};
 use std::alloc::{AllocError, Global};
 use stipulations::{Asked, moves_asked};
 
@@ -438,7 +439,7 @@ pub(crate) fn mended_line(
     ensures fields { IfOk result (λ mended. line_fields mended.text.items ≡ line_fields line.now) }
     ensures said { IfOk result (λ mended. mended.said ≡ said line.now) }
 {
-    let fields = field_words(line);
+    let fields = four_words(line);
     let said = said_in(behind_counters(fields.behind));
     if fields.target.is_empty() {
         let text = Vec::from_slice(alloc, line)?;
@@ -456,6 +457,6 @@ pub(crate) fn mended_line(
     mending.comments = next_comment(operations);
     mending.push_operations(operations)?;
     mending.push_asked(said)?;
-    let mended = fields.text_before(alloc, mending.text.as_slice())?;
+    let mended = text_before(alloc, &fields, mending.text.as_slice())?;
     Ok(Mended { text: mended, said })
 }

@@ -5,13 +5,13 @@ ghost use Rattle.chess_notation.specs.RecordFields.{fourth_word, line_fields};
 ghost use Rattle.problem_import.specs.inside.MendedMoves.{IsMeant};
 
 use crate::changes::{Changes, Form};
-use crate::fields::{behind_counters, field_words, has_fields, push_counters};
-use crate::texts::{is_same, push_byte, push_word, trimmed, word_at};
+use crate::fields::{behind_counters, has_fields, position_of, push_counters, text_before};
+use crate::texts::{is_same, push_byte, push_word, trimmed};
 use crate::tokens::{Kind, segment_at, token_at};
 use arrayvec::ArrayString;
 use chess_board::Position;
 use chess_moves::Rays;
-use chess_notation::{claimed_moves, san};
+use chess_notation::{claimed_moves, four_words, san, word_at};
 use move_words::{Letters, Named, is_aside, named_move};
 use std::alloc::{AllocError, Global};
 
@@ -150,8 +150,8 @@ pub(crate) fn is_position(text: &[u8]) -> bool
     if !has_fields(text) {
         return false;
     }
-    let fields = field_words(text);
-    fields.position().is_some() && trimmed(behind_counters(fields.behind)).is_empty()
+    let fields = four_words(text);
+    position_of(&fields).is_some() && trimmed(behind_counters(fields.behind)).is_empty()
 }
 
 /// A text whose moves are mended, or none where none wants it.
@@ -163,7 +163,7 @@ fn mended(
 ) -> Result<Option<Vec<u8>>, AllocError>
     ensures { IfOk result (λ made. IfSome made (λ new. line_fields new.items ≡ line_fields text.now)) }
 {
-    let fields = field_words(text);
+    let fields = four_words(text);
     let mut counters = Vec::new(alloc);
     let operations = push_counters(&mut counters, fields.behind)?;
     if fields.target.is_empty() {
@@ -172,7 +172,7 @@ fn mended(
     if !have_moves(operations) {
         return Ok(None);
     }
-    let Some(position) = fields.position() else {
+    let Some(position) = position_of(&fields) else {
         return Ok(None);
     };
     let mut moves = Moves {
@@ -186,7 +186,7 @@ fn mended(
     if !moves.is_mended {
         return Ok(None);
     }
-    Ok(Some(fields.text_before(alloc, moves.text.as_slice())?))
+    Ok(Some(text_before(alloc, &fields, moves.text.as_slice())?))
 }
 
 /// A text in which each move that it claims or avoids is named in SAN, as far as one legal move can be meant; a move's number and `ep` are

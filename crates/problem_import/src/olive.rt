@@ -16,9 +16,9 @@ use crate::games::{is_key, push_id, push_id_operation};
 use crate::import_faults::ImportFault;
 use crate::lengths::moves_signed;
 use crate::popeye_words::is_harmless_option;
-use crate::texts::{are_digits, is_same, push_byte, word_at};
+use crate::texts::{are_digits, is_same, push_byte};
 use chess_board::Colour;
-use chess_notation::is_blank;
+use chess_notation::{is_blank, word_at};
 use std::alloc::{AllocError, Global};
 
 /// What a key says, and the lines behind it.

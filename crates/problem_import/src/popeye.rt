@@ -15,9 +15,9 @@ use crate::lengths::moves_signed;
 use crate::popeye_words::{
     Command, begins_next, colour_of, command_of, ends_line, is_harmless_option,
 };
-use crate::texts::{are_digits, trimmed, word_at};
+use crate::texts::{are_digits, trimmed};
 use chess_board::Colour;
-use chess_notation::is_blank;
+use chess_notation::{is_blank, word_at};
 use std::alloc::{AllocError, Global};
 
 /// What the next word is for.

@@ -7,7 +7,8 @@ ghost use Rattle.problem_import.specs.TagPairs.{begins_with_name as does_begin_w
 ghost use Rattle.problem_import.specs.TagPairs.{is_bracket as is_bracket_text, is_named as is_named_text};
 ghost use Rattle.problem_import.specs.TagPairs.{is_tag_pair as is_tag_pair_text, is_value as is_value_text};
 
-use crate::texts::{after_spaces, without_first};
+use crate::texts::without_first;
+use chess_notation::after_spaces;
 
 /// Whether a text begins with a byte.
 pub(crate) fn begins_with(byte: u8, text: &[u8]) -> bool

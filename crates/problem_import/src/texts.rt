@@ -4,8 +4,6 @@ ghost use Rattle.std.specs.Prelude.{◌≡◌, ◌↔◌, ◌++◌, ◌∷◌, �
 ghost use Rattle.std.specs.Str.{bytes_eq};
 ghost use Rattle.chess_board.specs.Characters.{char};
 ghost use Rattle.chess_notation.specs.RecordFields.{is_number};
-ghost use Rattle.chess_notation.specs.Words.{after_spaces as text_after_spaces, after_word, behind, front_word as word_in_front};
-ghost use Rattle.chess_notation.specs.Words.{word_at as word_of_text};
 ghost use Rattle.problem_import.specs.Letters.{trimmed as trimmed_text};
 ghost use Rattle.problem_import.specs.inside.FieldTexts.{GoesOn};
 ghost use Rattle.problem_import.specs.Sources.{IsNamed};
@@ -18,39 +16,6 @@ pub(crate) fn trimmed(text: &[u8]) -> &[u8]
     ensures { result.now ≡ trimmed_text text.now }
 {
     text.trim_ascii()
-}
-
-/// The text up to its first space, and what stands behind.
-fn front_word(text: &[u8]) -> (&[u8], &[u8])
-    ensures word { result.0.now ≡ word_in_front text.now }
-    ensures rest { result.1.now ≡ after_word text.now }
-{
-    for (index, byte) in text.iter().enumerate() {
-        if *byte == b' ' {
-            return text.split_at(index);
-        }
-    }
-    (text, &[])
-}
-
-/// The first word of a text, empty where there is none, and what stands behind.
-#[tactic(auto, unfolding(chess_notation::specs::Words::word_at, chess_notation::specs::Words::behind))]
-pub(crate) fn word_at(text: &[u8]) -> (&[u8], &[u8])
-    ensures word { result.0.now ≡ word_of_text text.now }
-    ensures rest { result.1.now ≡ behind text.now }
-{
-    front_word(after_spaces(text))
-}
-
-/// The text from its first byte that is no space.
-pub(crate) fn after_spaces(text: &[u8]) -> &[u8]
-    ensures { result.now ≡ text_after_spaces text.now }
-{
-    let mut rest = text;
-    while let [b' ', more @ ..] = rest {
-        rest = more;
-    }
-    rest
 }
 
 /// Whether a text is one or more digits.

@@ -4,7 +4,8 @@ ghost use Rattle.std.specs.Prelude.{◌≡◌, ◌<◌, ◌∷◌, [], IfNone, I
 ghost use Rattle.problem_import.specs.Numbers.{begins_string as does_begin_string, ends_part as does_end_part, ends_string as does_end_string};
 ghost use Rattle.problem_import.specs.Numbers.{has_end as does_have_end, is_edge as is_edge_text, mark_behind as mark_of_text, parts_of};
 
-use crate::texts::{after_spaces, without_first, word_at};
+use crate::texts::without_first;
+use chess_notation::{after_spaces, word_at};
 
 /// Words, and strings by their quotation marks.
 #[derive(Clone, Copy)]
