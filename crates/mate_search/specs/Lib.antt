@@ -1,6 +1,6 @@
 pub mod Wins
 pub mod PrincipalVariation
 pub mod Memos
-pub mod Verdicts
+pub mod RootResults
 pub mod Laws
 pub mod inside

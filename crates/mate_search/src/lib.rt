@@ -5,7 +5,7 @@
 //! `specs/Laws.antt`; an outcome is exactly that.
 //!
 //! To read: `memo_entries`, `peers`, `killers`, `side_occupancy`, `recent_positions`, `last_reply_table`, `memo`, `halting`, `searching`,
-//! `verdicts`, `principal_variation`, `findings`, `solving`, `solvers`; `laws` says of the definitions what they are meant to say. `solve`
+//! `root_results`, `principal_variation`, `findings`, `solving`, `solvers`; `laws` says of the definitions what they are meant to say. `solve`
 //! takes memory for its memo alone, and never fails for want of it; `solve_until` can be stopped.
 #![tactic(auto)]
 
@@ -19,11 +19,11 @@ mod memo_entries;
 mod peers;
 mod principal_variation;
 mod recent_positions;
+mod root_results;
 mod searching;
 mod side_occupancy;
 mod solvers;
 mod solving;
-mod verdicts;
 
 pub use halting::{Guide, Halt, Never, Stopped};
 pub use laws::{
@@ -32,6 +32,6 @@ pub use laws::{
 };
 pub use memo::{MAX_LARGE_ENTRIES, Memo, MemoFault};
 pub use peers::{Peers, connect_peers};
+pub use root_results::{RootResult, leaves_lost, result_on};
 pub use solvers::{OneThread, Solver};
 pub use solving::{first_moves, solve, solve_told, solve_until};
-pub use verdicts::{Verdict, leaves_lost, verdict_on};

@@ -5,14 +5,14 @@ ghost use Rattle.chess_board.specs.Moves.{Move};
 ghost use Rattle.arrayvec.specs.ArrayVec.{array_vec_len};
 ghost use Rattle.chess_board.specs.Legality.{is_legal};
 ghost use Rattle.chess_moves.specs.inside.Listing.{legal_moves};
-ghost use Rattle.mate_search.specs.Verdicts.{AreTrueIn};
+ghost use Rattle.mate_search.specs.RootResults.{AreTrueIn};
 ghost use Rattle.mate_search.specs.inside.Halting.{EndsSearch};
 ghost use Rattle.mate_search.specs.inside.Variation.{keys, least_key, longest_defence, variation};
 
 use crate::halting::{Guide, Halt, Stopped};
 use crate::memo::Memo;
+use crate::root_results::{Root, judge};
 use crate::searching::{loses, wins};
-use crate::verdicts::{Root, judge};
 use chess_board::{Move, Position, after};
 use chess_moves::{MoveList, legal_moves as all_legal};
 use chess_problems::Variation;

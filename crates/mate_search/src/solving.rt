@@ -7,7 +7,7 @@ ghost use Rattle.mate_search.specs.inside.Halting.{EndsSearch};
 ghost use Rattle.mate_search.specs.inside.Findings.{outcome_of, IsBlank};
 ghost use Rattle.mate_search.specs.inside.Truth.{dist, first_moves as moves_to_begin, truth, truth_among};
 ghost use Rattle.chess_moves.specs.inside.Listing.{legal_moves};
-ghost use Rattle.mate_search.specs.Verdicts.{AreTrueIn};
+ghost use Rattle.mate_search.specs.RootResults.{AreTrueIn};
 ghost use Rattle.mate_search.specs.Wins.{win};
 ghost use Rattle.mate_search.specs.inside.MemoEntries.{IsTrueOf};
 ghost use Rattle.chess_problems.specs.Outcomes.{IsPlayable};
@@ -17,7 +17,7 @@ use crate::halting::{Guide, Halt, Never, Stopped};
 use crate::memo::Memo;
 use crate::memo_entries::Entry;
 use crate::principal_variation::{push_keys, push_variation};
-use crate::verdicts::{Root, Verdict};
+use crate::root_results::{Root, RootResult};
 use chess_board::{Move, Position};
 use chess_moves::{MoveList, Rays, legal_listed, legal_moves, push_mating_moves};
 use chess_problems::{Bound, Outcome, Problem, is_among};
@@ -58,11 +58,11 @@ pub fn solve_until<H: Halt>(
     solve_told(&Guide { rays, halt }, problem, &[], memo)
 }
 
-/// The same, where some first moves have been judged before: each verdict is true in the problem's position.
+/// The same, where some first moves have been judged before: each result is true in the problem's position.
 pub fn solve_told<H: Halt>(
     guide: &Guide<H>,
     problem: &Problem,
-    told: &[Verdict],
+    told: &[RootResult],
     memo: &mut Memo,
 ) -> Result<Outcome, Stopped>
     requires told { AreTrueIn problem.now.position told.now }
@@ -84,7 +84,7 @@ pub fn solve_told<H: Halt>(
 fn find<H: Halt>(
     guide: &Guide<H>,
     problem: &Problem,
-    told: &[Verdict],
+    told: &[RootResult],
     memo: &mut Memo,
     found: &mut Finding,
 ) -> Result<Option<Bound>, Stopped>
@@ -110,7 +110,7 @@ fn find<H: Halt>(
 fn find_of_all<H: Halt>(
     guide: &Guide<H>,
     problem: &Problem,
-    told: &[Verdict],
+    told: &[RootResult],
     memo: &mut Memo,
     found: &mut Finding,
 ) -> Result<Option<Bound>, Stopped>
@@ -157,7 +157,7 @@ fn find_beyond<H: Halt>(
     guide: &Guide<H>,
     problem: &Problem,
     none: u8,
-    told: &[Verdict],
+    told: &[RootResult],
     memo: &mut Memo,
     found: &mut Finding,
 ) -> Result<Option<Bound>, Stopped>

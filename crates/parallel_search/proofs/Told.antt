@@ -1,24 +1,24 @@
--- What the verdicts of workers tell.
+-- What the results of workers tell.
 use Rattle.std.proofs.Common.{◌≡◌, ℕ, ◌<◌, ◌++◌, List, [], ◌∷◌, length, get_or, sym, subst}
 use Rattle.std.proofs.lemmas.List.Elements.{All-get_or, All-nil, All-push, All-append}
 use Rattle.chess_board.specs.Positions.{Setup}
 use Rattle.mate_search.specs.Wins.{leaves_lost}
-use Rattle.mate_search.specs.declared.verdicts.Verdict.{Verdict}
-use Rattle.mate_search.specs.Verdicts.{AreTrueIn}
+use Rattle.mate_search.specs.declared.root_results.RootResult.{RootResult}
+use Rattle.mate_search.specs.RootResults.{AreTrueIn}
 use Rattle.parallel_search.specs.declared.workers.Worker.{Worker}
-use Rattle.parallel_search.specs.inside.Verdicts.{AreAllTrueIn}
+use Rattle.parallel_search.specs.inside.RootResults.{AreAllTrueIn}
 
 -- none, one more, and those of others
 pub none_true : (p : Setup) → AreTrueIn p []
 unfolding AreTrueIn
 none_true p = All-nil (λ v. v.is_lost ≡ leaves_lost v.k p v.m)
 
-pub one_more_true : (p : Setup) (verdicts : List Verdict) (v : Verdict) → AreTrueIn p verdicts
-    → v.is_lost ≡ leaves_lost v.k p v.m → AreTrueIn p (verdicts ++ v ∷ [])
+pub one_more_true : (p : Setup) (results : List RootResult) (v : RootResult) → AreTrueIn p results
+    → v.is_lost ≡ leaves_lost v.k p v.m → AreTrueIn p (results ++ v ∷ [])
 unfolding AreTrueIn
-one_more_true p verdicts v all told = All-push (λ u. u.is_lost ≡ leaves_lost u.k p u.m) verdicts v all told
+one_more_true p results v all told = All-push (λ u. u.is_lost ≡ leaves_lost u.k p u.m) results v all told
 
-pub both_true : (p : Setup) (some others : List Verdict) → AreTrueIn p some → AreTrueIn p others → AreTrueIn p (some ++ others)
+pub both_true : (p : Setup) (some others : List RootResult) → AreTrueIn p some → AreTrueIn p others → AreTrueIn p (some ++ others)
 unfolding AreTrueIn
 both_true p some others = All-append (λ v. v.is_lost ≡ leaves_lost v.k p v.m) some others
 

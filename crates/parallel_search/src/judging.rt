@@ -2,8 +2,8 @@
 
 ghost use Rattle.std.specs.Prelude.{◌≡◌, ◌<◌, ◌≤◌, ℕ, true, All, length, slice_index_or};
 ghost use Rattle.chess_board.specs.Legality.{is_legal};
-ghost use Rattle.mate_search.specs.Verdicts.{AreTrueIn};
-ghost use Rattle.parallel_search.specs.inside.Verdicts.{AreAllTrueIn};
+ghost use Rattle.mate_search.specs.RootResults.{AreTrueIn};
+ghost use Rattle.parallel_search.specs.inside.RootResults.{AreAllTrueIn};
 
 use crate::turns::Turns;
 use crate::workers::{Question, Worker};

@@ -3,8 +3,8 @@
 ghost use Rattle.std.specs.Prelude.{◌≡◌, ◌<◌, ◌≤◌, true, All, IfSome, length};
 ghost use Rattle.chess_board.specs.Legality.{is_legal};
 ghost use Rattle.chess_board.specs.Positions.{Setup};
-ghost use Rattle.mate_search.specs.Verdicts.{AreTrueIn};
-ghost use Rattle.parallel_search.specs.inside.Verdicts.{AreAllTrueIn};
+ghost use Rattle.mate_search.specs.RootResults.{AreTrueIn};
+ghost use Rattle.parallel_search.specs.inside.RootResults.{AreAllTrueIn};
 
 use crate::judging::judge_all;
 use crate::workers::{Question, Worker, exchange_memos};
@@ -12,7 +12,7 @@ use arrayvec::ArrayVec;
 use chess_board::Move;
 use chess_problems::Problem;
 use mate_search::{
-    Guide, Halt, Memo, Verdict, connect_peers, first_moves, leaves_lost, verdict_on,
+    Guide, Halt, Memo, RootResult, connect_peers, first_moves, leaves_lost, result_on,
 };
 use std::alloc::Global;
 use std::thread::Threads;
@@ -25,7 +25,7 @@ const ALONE: u8 = 2;
 pub(crate) struct Workers {
     workers: Vec<Worker>,
     order: ArrayVec<usize, 1024>,
-    pub(crate) told: Vec<Verdict>,
+    pub(crate) told: Vec<RootResult>,
 }
 
 impl Workers {
@@ -64,7 +64,7 @@ fn join_memos(alloc: Global, workers: &mut [Worker]) {
 
 /// Keeps what the workers found. What is not kept for want of memory is judged once more.
 #[tactic(auto, using(crate::proofs::Told::both_true, crate::proofs::Told::worker_true))]
-fn keep_found(workers: &[Worker], told: &mut Vec<Verdict>)
+fn keep_found(workers: &[Worker], told: &mut Vec<RootResult>)
     ensures { (p : Setup) → AreAllTrueIn p workers.now → AreTrueIn p told.old.items → AreTrueIn p told.new.items }
 {
     for worker in workers {
@@ -79,7 +79,7 @@ fn finder_of(workers: &[Worker], m: Move, k: u8) -> Option<usize>
     ensures { IfSome result (λ n. n < length workers.now) }
 {
     for n in 0..workers.len() {
-        if verdict_on(workers[n].found.as_slice(), m, k) == Some(true) {
+        if result_on(workers[n].found.as_slice(), m, k) == Some(true) {
             return Some(n);
         }
     }
@@ -140,7 +140,7 @@ fn costliest_first(workers: &[Worker], first: &[Move], order: &mut ArrayVec<usiz
 fn judge_here<H: Halt>(
     guide: &Guide<H>,
     asked: &Question,
-    told: &mut Vec<Verdict>,
+    told: &mut Vec<RootResult>,
     memo: &mut Memo,
 ) -> bool
     requires legal { All (λ m. is_legal asked.now.position.now m ≡ true) asked.now.first.now }
@@ -154,7 +154,7 @@ fn judge_here<H: Halt>(
         let Ok(is_lost) = leaves_lost(guide, asked.position, *m, k, memo) else {
             return false;
         };
-        if told.push(Verdict { m: *m, k, is_lost }).is_err() {
+        if told.push(RootResult { m: *m, k, is_lost }).is_err() {
             return false;
         }
         has_key |= is_lost;

@@ -2,20 +2,20 @@
 
 ghost use Rattle.std.specs.Prelude.{◌≡◌, ◌≤◌, true, All, length};
 ghost use Rattle.chess_board.specs.Legality.{is_legal};
-ghost use Rattle.mate_search.specs.Verdicts.{AreTrueIn};
+ghost use Rattle.mate_search.specs.RootResults.{AreTrueIn};
 
 use crate::turns::Turns;
 use arrayvec::ArrayVec;
 use chess_board::{Move, Position};
 use chess_problems::is_same_move;
-use mate_search::{Guide, Halt, Memo, Verdict, leaves_lost};
+use mate_search::{Guide, Halt, Memo, RootResult, leaves_lost};
 use std::cell::Cell;
 
-/// A memo, what was found with it of the first moves in one round, and how many positions were searched for each of these verdicts.
+/// A memo, what was found with it of the first moves in one round, and how many positions were searched for each of these results.
 #[derive(Drop)]
 pub(crate) struct Worker {
     pub(crate) memo: Memo,
-    pub(crate) found: ArrayVec<Verdict, 1024>,
+    pub(crate) found: ArrayVec<RootResult, 1024>,
     pub(crate) costs: ArrayVec<u64, 1024>,
 }
 
@@ -82,7 +82,7 @@ impl Worker {
             let Ok(is_lost) = leaves_lost(&counted, asked.position, m, k, &mut self.memo) else {
                 return;
             };
-            self.found.push(Verdict { m, k, is_lost });
+            self.found.push(RootResult { m, k, is_lost });
             self.costs.push(halt.count.get());
         }
     }

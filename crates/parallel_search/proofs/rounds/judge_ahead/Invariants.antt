@@ -1,5 +1,5 @@
 use Rattle.std.proofs.Common.{◌≡◌}
-use Rattle.mate_search.specs.Verdicts.{AreTrueIn}
+use Rattle.mate_search.specs.RootResults.{AreTrueIn}
 use Rattle.parallel_search.proofs.rounds.judge_ahead.Given as goal
 
 abbrev pub invariant-loop-k : goal.invariant-loop-k

@@ -1,5 +1,5 @@
 use Rattle.std.proofs.Common.{◌≡◌}
-use Rattle.mate_search.specs.Verdicts.{AreTrueIn}
+use Rattle.mate_search.specs.RootResults.{AreTrueIn}
 use Rattle.parallel_search.proofs.rounds.judge_here.Given as goal
 
 abbrev pub invariant-loop-m : goal.invariant-loop-m

@@ -1,5 +1,5 @@
-use Rattle.mate_search.specs.Verdicts.{AreTrueIn}
-use Rattle.parallel_search.specs.inside.Verdicts.{AreAllTrueIn}
+use Rattle.mate_search.specs.RootResults.{AreTrueIn}
+use Rattle.parallel_search.specs.inside.RootResults.{AreAllTrueIn}
 use Rattle.chess_board.specs.Positions.{Setup}
 use Rattle.parallel_search.proofs.rounds.keep_found.Given as goal
 

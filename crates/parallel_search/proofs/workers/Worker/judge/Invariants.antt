@@ -1,6 +1,6 @@
 use Rattle.std.proofs.Common.{◌≤◌}
 use Rattle.arrayvec.specs.ArrayVec.{array_vec_len}
-use Rattle.mate_search.specs.Verdicts.{AreTrueIn}
+use Rattle.mate_search.specs.RootResults.{AreTrueIn}
 use Rattle.parallel_search.proofs.workers.Worker.judge.Given as goal
 
 abbrev pub invariant-loop : goal.invariant-loop
