@@ -3,12 +3,12 @@
 ghost use Rattle.std.specs.Prelude.{◌≡◌, ◌↔◌, ℕ, List, [], Option, IfOk, Some, true};
 ghost use Rattle.mate_claims.specs.ClaimReplies.{IsTold};
 ghost use Rattle.mate_claims.specs.declared.bound_sources.BoundSource.{BoundSource};
-ghost use Rattle.mate_claims.specs.declared.verdicts.Verdict.{Verdict as VerdictValue};
+ghost use Rattle.mate_claims.specs.declared.claim_verdicts.ClaimVerdict.{ClaimVerdict as VerdictValue};
 
 use chess_moves::Rays;
 use chess_notation::NoMemory;
 use chess_problems::Bound;
-use mate_claims::{Verdict, told_of};
+use mate_claims::{ClaimVerdict, told_of};
 use mate_search::Memo;
 use std::alloc::Global;
 
@@ -25,5 +25,5 @@ pub fn is_sound(
         × ((sound ≡ true) ↔ (verdict ≡ Some VerdictValue.Sound))) }
 {
     let told = told_of(alloc, rays, b"", line, default, memo)?;
-    Ok(matches!(told.verdict, Some(Verdict::Sound)))
+    Ok(matches!(told.verdict, Some(ClaimVerdict::Sound)))
 }

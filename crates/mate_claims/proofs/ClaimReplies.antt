@@ -10,7 +10,7 @@ use Rattle.chess_notation.specs.EpdFaults.{IsAmissBy, IsFaultOf, epd_fault_name,
 use Rattle.chess_problems.specs.declared.outcomes.Outcome.{Outcome}
 use Rattle.mate_search.specs.inside.Truth.{truth}
 use Rattle.mate_claims.specs.declared.bound_sources.BoundSource.{BoundSource}
-use Rattle.mate_claims.specs.declared.verdicts.Verdict.{Verdict}
+use Rattle.mate_claims.specs.declared.claim_verdicts.ClaimVerdict.{ClaimVerdict}
 use Rattle.mate_claims.specs.Rows.{refused_row, row_of}
 use Rattle.mate_claims.specs.Said.{Said, said_by, said_of}
 use Rattle.mate_claims.specs.BoundSources.{IsSource, ReadsClaimed}
@@ -18,7 +18,7 @@ use Rattle.mate_claims.specs.ClaimReplies.{IsClaimReply, IsTold, IsToldBy, refus
 
 -- A line with this fault, which is not want of memory, says no record.
 pub fault_told : {X E : Type 0} (place : List ℕ) (default bound : ℕ) (line : List ℕ) (kind : EpdFault) (row : X → List ℕ)
-    (verdict : X → Option Verdict) (source : X → Option BoundSource) (r : Result X E)
+    (verdict : X → Option ClaimVerdict) (source : X → Option BoundSource) (r : Result X E)
     → IsFaultOf line kind ⊎ ((kind ≡ fault.NoMemory) × ((r : RecordValue) × Reads line bound r × (r.rest ≢ [])))
     → IfOk r (λ x. kind ≢ fault.NoMemory) → IfOk r (λ x. row x ≡ refused_row place (epd_fault_name kind)) → IfOk r (λ x. verdict x ≡ None)
     → IfOk r (λ x. source x ≡ None) → IfOk r (λ x. IsTold place default line (row x) (verdict x) (source x))
@@ -27,8 +27,8 @@ fault_told place default bound line kind row verdict source (Ok x) (inr memory) 
 fault_told place default bound line kind row verdict source (Err e) why other is none nowhere = tt
 
 -- What is told of a record of whose claims this comes, by what was found.
-pub told_by_said : {X E : Type 0} (place : List ℕ) (r : RecordValue) (source : BoundSource) (word claims : List ℕ) (v : Option Verdict)
-    (found outcome : Outcome) (said : Outcome → Said) (row : X → List ℕ) (verdict : X → Option Verdict) (result : Result X E) → found ≡ outcome
+pub told_by_said : {X E : Type 0} (place : List ℕ) (r : RecordValue) (source : BoundSource) (word claims : List ℕ) (v : Option ClaimVerdict)
+    (found outcome : Outcome) (said : Outcome → Said) (row : X → List ℕ) (verdict : X → Option ClaimVerdict) (result : Result X E) → found ≡ outcome
     → record { word = word; claims = claims; verdict = v } ≡ said found → IfOk result (λ x. row x ≡ row_of place r source word found claims)
     → IfOk result (λ x. verdict x ≡ v)
     → IfOk result (λ x. (row x ≡ row_of place r source (said outcome).word outcome (said outcome).claims) × (verdict x ≡ (said outcome).verdict))
@@ -38,8 +38,8 @@ told_by_said place r source word claims v found outcome said row verdict (Ok x) 
 told_by_said place r source word claims v found outcome said row verdict (Err e) same is at of = tt
 
 -- What is told of a record that a line says.
-pub told_record : (place : List ℕ) (default : ℕ) (line : List ℕ) (r : RecordValue) (source : BoundSource) (words row : List ℕ) (verdict : Option Verdict)
-    → ReadsClaimed line default r → IsSource line r source → words ≡ claims_text line
+pub told_record : (place : List ℕ) (default : ℕ) (line : List ℕ) (r : RecordValue) (source : BoundSource) (words row : List ℕ)
+    (verdict : Option ClaimVerdict) → ReadsClaimed line default r → IsSource line r source → words ≡ claims_text line
     → IsToldBy place r source (said_by line words (words_in words) r (truth (problem_of r))) row verdict
     → IsTold place default line row verdict (Some source)
 unfolding said_of claim_words
@@ -48,7 +48,7 @@ told_record place default line r source words row verdict reads from same is =
     (subst (λ t. IsToldBy place r source (said_by line t (words_in t) r (truth (problem_of r))) row verdict) same is)
 
 pub told_of_one : {X E : Type 0} (place : List ℕ) (default : ℕ) (line : List ℕ) (r : RecordValue) (source : BoundSource) (words : List ℕ)
-    (row : X → List ℕ) (verdict : X → Option Verdict) (from : X → Option BoundSource) (result : Result X E) → ReadsClaimed line default r
+    (row : X → List ℕ) (verdict : X → Option ClaimVerdict) (from : X → Option BoundSource) (result : Result X E) → ReadsClaimed line default r
     → IsSource line r source → words ≡ claims_text line
     → IfOk result (λ x. IsToldBy place r source (said_by line words (words_in words) r (truth (problem_of r))) (row x) (verdict x))
     → IfOk result (λ x. from x ≡ Some source) → IfOk result (λ x. IsTold place default line (row x) (verdict x) (from x))
@@ -57,7 +57,7 @@ told_of_one place default line r source words row verdict from (Ok x) reads come
 told_of_one place default line r source words row verdict from (Err e) reads comes same is known = tt
 
 -- What is told of a line is its reply.
-pub told_reply : (prefix place : List ℕ) (default number : ℕ) (line row : List ℕ) (verdict : Option Verdict) (source : Option BoundSource)
+pub told_reply : (prefix place : List ℕ) (default number : ℕ) (line row : List ℕ) (verdict : Option ClaimVerdict) (source : Option BoundSource)
     (refusals : ℕ) → is_blank line ≡ false → place ≡ prefix ++ decimal number
     → IsTold place default line row verdict source → refusals ≡ refusals_of verdict → IsClaimReply prefix default number line row refusals
 told_reply prefix place default number line row verdict source refusals filled at is count =

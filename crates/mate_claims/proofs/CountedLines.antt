@@ -4,11 +4,11 @@ use Rattle.chess_notation.specs.Records.{max_line}
 use Rattle.chess_notation.specs.Words.{is_blank}
 use Rattle.mate_claims.specs.declared.bound_sources.BoundSource.{BoundSource}
 use Rattle.mate_claims.specs.declared.counts.Counts.{Counts}
-use Rattle.mate_claims.specs.declared.verdicts.Verdict.{Verdict}
+use Rattle.mate_claims.specs.declared.claim_verdicts.ClaimVerdict.{ClaimVerdict}
 use Rattle.mate_claims.specs.CountedLines.{AreCounted, LineVerdicts, counted}
 use Rattle.mate_claims.specs.Counts.{with_one}
 
-pub one_counted : (comes : LineVerdicts) (before : List (List ℕ)) (line : List ℕ) (verdict : Option Verdict) (source : Option BoundSource)
+pub one_counted : (comes : LineVerdicts) (before : List (List ℕ)) (line : List ℕ) (verdict : Option ClaimVerdict) (source : Option BoundSource)
     (old new : Counts) → is_blank line ≡ false → length line ≤ max_line → comes line verdict source → new ≡ with_one verdict source old
     → AreCounted comes before old → AreCounted comes (before ++ line ∷ []) new
 one_counted comes before line verdict source old new filled short told is known =

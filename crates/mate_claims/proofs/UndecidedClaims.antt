@@ -12,8 +12,8 @@ use Rattle.mate_answers.specs.LimitedReplies.{IsNoneSoFar}
 use Rattle.mate_claims.specs.declared.bound_sources.BoundSource.{BoundSource}
 use Rattle.mate_claims.specs.declared.bound_sources.BoundSource.TheVariants as source
 use Rattle.mate_claims.specs.declared.counts.Counts.{Counts}
-use Rattle.mate_claims.specs.declared.verdicts.Verdict.{Verdict}
-use Rattle.mate_claims.specs.declared.verdicts.Verdict.TheVariants as verdict
+use Rattle.mate_claims.specs.declared.claim_verdicts.ClaimVerdict.{ClaimVerdict}
+use Rattle.mate_claims.specs.declared.claim_verdicts.ClaimVerdict.TheVariants as verdict
 use Rattle.mate_claims.specs.BoundSources.{IsSource, ReadsClaimed}
 use Rattle.mate_claims.specs.ClaimReplies.{IsClaimReply, IsTold, IsToldBy, no_record, refusals_of}
 use Rattle.mate_claims.specs.Counts.{count_of, with_count, with_one, with_source}
@@ -21,22 +21,22 @@ use Rattle.mate_claims.specs.LimitedClaims.{IsLateClaim, IsLimitedClaim, IsToldI
 use Rattle.mate_claims.specs.LimitedClaims.{in_time, late, marked, told, undecided_of, unjudged}
 use Rattle.mate_claims.specs.Rows.{refused_row}
 use Rattle.mate_claims.specs.Said.{Said, said_by, said_of}
-use Rattle.mate_claims.specs.Verdicts.{verdict_name}
+use Rattle.mate_claims.specs.ClaimVerdicts.{verdict_name}
 use Rattle.mate_claims.proofs.ClaimReplies.{none_before, told_record, told_reply}
 
 -- ---- what comes of claims without an outcome
 
-abbrev said_as : List ℕ → List ℕ → Option Verdict → Said
+abbrev said_as : List ℕ → List ℕ → Option ClaimVerdict → Said
 said_as word claims v = record { word = word; claims = claims; verdict = v }
 
-pub unjudged_some : (word claims new : List ℕ) (v : Option Verdict) (x : Verdict) (said : Said)
+pub unjudged_some : (word claims new : List ℕ) (v : Option ClaimVerdict) (x : ClaimVerdict) (said : Said)
     → record { word = word; claims = claims; verdict = v } ≡ said → v ≡ Some x
     → new ≡ verdict_name verdict.Undecided → record { word = new; claims = claims; verdict = Some verdict.Undecided } ≡ unjudged said
 unjudged_some word claims new None x said is some named = cc
 unjudged_some word claims new (Some y) x said is some named =
     ap (λ n. said_as n claims (Some verdict.Undecided)) named ∙ ap unjudged is
 
-pub unjudged_none : (word claims : List ℕ) (v : Option Verdict) (said : Said)
+pub unjudged_none : (word claims : List ℕ) (v : Option ClaimVerdict) (said : Said)
     → record { word = word; claims = claims; verdict = v } ≡ said → v ≡ None → record { word = word; claims = claims; verdict = v } ≡ unjudged said
 unjudged_none word claims (Some x) said is none = cc
 unjudged_none word claims None said is none = ap unjudged is
@@ -45,7 +45,7 @@ unjudged_none word claims None said is none = ap unjudged is
 
 -- What is told of a record that a line says, decided or not.
 told_either : (stops : Type 0) (place : List ℕ) (default : ℕ) (line : List ℕ) (r : RecordValue) (from : BoundSource) (words row : List ℕ)
-    (v : Option Verdict)
+    (v : Option ClaimVerdict)
     → ReadsClaimed line default r → IsSource line r from → words ≡ claims_text line
     → IsToldBy place r from (said_by line words (words_in words) r (truth (problem_of r))) row v
     ⊎ (stops × (none : ℕ) × IsNoneSoFar r none × IsToldLate place r from (unjudged (said_by line words (words_in words) r NoMate)) row v)
@@ -59,7 +59,7 @@ told_either stops place default line r from words row v reads comes same (inr (m
 
 pub told_of_either : {X E : Type 0} (stops : Type 0) (place : List ℕ) (default : ℕ) (line : List ℕ) (r : RecordValue) (from : BoundSource)
     (words : List ℕ)
-    (row : X → List ℕ) (v : X → Option Verdict) (source : X → Option BoundSource) (result : Result X E) → ReadsClaimed line default r
+    (row : X → List ℕ) (v : X → Option ClaimVerdict) (source : X → Option BoundSource) (result : Result X E) → ReadsClaimed line default r
     → IsSource line r from → words ≡ claims_text line
     → IfOk result (λ x. IsToldBy place r from (said_by line words (words_in words) r (truth (problem_of r))) (row x) (v x)
     ⊎ (stops × (none : ℕ) × IsNoneSoFar r none
@@ -70,7 +70,7 @@ told_of_either stops place default line r from words row v source (Ok x) reads c
 told_of_either stops place default line r from words row v source (Err e) reads comes same is known = tt
 
 -- The same as without a limit, unless it may be stopped.
-told_unless : (stops : Type 0) (place : List ℕ) (default : ℕ) (line row : List ℕ) (v : Option Verdict) (from : Option BoundSource)
+told_unless : (stops : Type 0) (place : List ℕ) (default : ℕ) (line row : List ℕ) (v : Option ClaimVerdict) (from : Option BoundSource)
     → IsToldInTime stops place default line row v from → stops ⊎ IsTold place default line row v from
 told_unless stops place default line _ _ _ (in_time row v from is) = inr is
 told_unless stops place default line _ _ _ (late may r from none row v reads comes so_far is) = inl may
@@ -85,7 +85,7 @@ kept_by_source (Some source.Default) c = refl
 as_many : (n : ℕ) → n ≡ n + 0
 as_many n = omega arith
 
-more_by_verdict : (v : Option Verdict) (c : Counts) → (with_count v (count_of v c + 1) c).undecided ≡ c.undecided + undecided_of v
+more_by_verdict : (v : Option ClaimVerdict) (c : Counts) → (with_count v (count_of v c + 1) c).undecided ≡ c.undecided + undecided_of v
 more_by_verdict None c = as_many c.undecided
 more_by_verdict (Some verdict.Sound) c = as_many c.undecided
 more_by_verdict (Some verdict.Unclaimed) c = as_many c.undecided
@@ -95,20 +95,20 @@ more_by_verdict (Some verdict.Short) c = as_many c.undecided
 more_by_verdict (Some verdict.Unsolvable) c = as_many c.undecided
 more_by_verdict (Some verdict.Undecided) c = refl
 
-counted_undecided : (v : Option Verdict) (from : Option BoundSource) (old new : Counts) → new ≡ with_one v from old
+counted_undecided : (v : Option ClaimVerdict) (from : Option BoundSource) (old new : Counts) → new ≡ with_one v from old
     → new.undecided ≡ old.undecided + undecided_of v
 counted_undecided v from old new is =
     ap (λ (c : Counts). c.undecided) is ∙ kept_by_source from (with_count v (count_of v old + 1) old) ∙ more_by_verdict v old
 
-pub no_fewer_undecided : (v : Option Verdict) (from : Option BoundSource) (old new : Counts) → new ≡ with_one v from old
+pub no_fewer_undecided : (v : Option ClaimVerdict) (from : Option BoundSource) (old new : Counts) → new ≡ with_one v from old
     → old.undecided ≤ new.undecided
 no_fewer_undecided v from old new is = omega (arith, counted_undecided v from old new is)
 
 -- ---- replies
 
 -- What is told of a line is its reply.
-pub limited_reply : (stops : Type 0) (prefix place : List ℕ) (default number : ℕ) (line row : List ℕ) (v : Option Verdict) (from : Option BoundSource)
-    (refusals : ℕ) → is_blank line ≡ false → place ≡ prefix ++ decimal number
+pub limited_reply : (stops : Type 0) (prefix place : List ℕ) (default number : ℕ) (line row : List ℕ) (v : Option ClaimVerdict)
+    (from : Option BoundSource) (refusals : ℕ) → is_blank line ≡ false → place ≡ prefix ++ decimal number
     → IsToldInTime stops place default line row v from → refusals ≡ refusals_of v → IsLimitedClaim stops prefix default number line row refusals
 limited_reply stops prefix place default number line row v from refusals filled at is count =
     rw count (told row v from filled (subst (λ p. IsToldInTime stops p default line row v from) at is))
@@ -118,7 +118,7 @@ unless stops A B f (inl may) = inl may
 unless stops A B f (inr a) = inr (f a)
 
 -- What is told of it without a limit is its reply without one.
-pub unstopped_reply : (stops : Type 0) (prefix place : List ℕ) (default number : ℕ) (line row : List ℕ) (v : Option Verdict)
+pub unstopped_reply : (stops : Type 0) (prefix place : List ℕ) (default number : ℕ) (line row : List ℕ) (v : Option ClaimVerdict)
     (from : Option BoundSource) (refusals : ℕ) → is_blank line ≡ false → place ≡ prefix ++ decimal number
     → IsToldInTime stops place default line row v from → refusals ≡ refusals_of v → stops ⊎ IsClaimReply prefix default number line row refusals
 unstopped_reply stops prefix place default number line row v from refusals filled at is count =
@@ -127,8 +127,9 @@ unstopped_reply stops prefix place default number line row v from refusals fille
     (told_unless stops place default line row v from is)
 
 -- So many records more were not decided.
-pub late_reply : (stops : Type 0) (prefix place : List ℕ) (default number : ℕ) (line row : List ℕ) (v : Option Verdict) (from : Option BoundSource)
-    (old new : Counts) → is_blank line ≡ false → place ≡ prefix ++ decimal number → IsToldInTime stops place default line row v from
+pub late_reply : (stops : Type 0) (prefix place : List ℕ) (default number : ℕ) (line row : List ℕ) (v : Option ClaimVerdict)
+    (from : Option BoundSource) (old new : Counts) → is_blank line ≡ false → place ≡ prefix ++ decimal number
+    → IsToldInTime stops place default line row v from
     → new ≡ with_one v from old → IsLateClaim stops prefix default number line row (new.undecided - old.undecided)
 late_reply stops prefix place default number line row v from old new filled at is count =
     let more : undecided_of v ≡ new.undecided - old.undecided = omega (arith, counted_undecided v from old new count) in

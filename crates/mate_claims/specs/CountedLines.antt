@@ -4,14 +4,14 @@ use Rattle.chess_notation.specs.Records.{max_line}
 use Rattle.chess_notation.specs.Words.{is_blank}
 use Rattle.mate_claims.specs.declared.bound_sources.BoundSource.{BoundSource}
 use Rattle.mate_claims.specs.declared.counts.Counts.{Counts}
-use Rattle.mate_claims.specs.declared.verdicts.Verdict.{Verdict}
+use Rattle.mate_claims.specs.declared.claim_verdicts.ClaimVerdict.{ClaimVerdict}
 use Rattle.mate_claims.specs.ClaimReplies.{IsTold}
 use Rattle.mate_claims.specs.Counts.{no_counts, with_one}
 use Rattle.mate_claims.specs.LimitedClaims.{IsToldInTime}
 
 -- What a line may come to: its verdict, if it isn't refused, and where the number of moves of a record comes from.
 abbrev pub LineVerdicts : Type 1
-LineVerdicts = List ℕ → Option Verdict → Option BoundSource → Type 0
+LineVerdicts = List ℕ → Option ClaimVerdict → Option BoundSource → Type 0
 
 -- what is told of a line in some place
 abbrev pub comes_to : ℕ → LineVerdicts
@@ -27,6 +27,6 @@ pub data AreCounted (comes : LineVerdicts) : List (List ℕ) → Counts → Type
   none : AreCounted comes [] no_counts
   passed : (lines : List (List ℕ)) (line : List ℕ) (counts : Counts) → (is_blank line ≡ true) ⊎ (max_line < length line)
       → AreCounted comes lines counts → AreCounted comes (lines ++ line ∷ []) counts
-  counted : (lines : List (List ℕ)) (line : List ℕ) (counts : Counts) (verdict : Option Verdict) (source : Option BoundSource)
+  counted : (lines : List (List ℕ)) (line : List ℕ) (counts : Counts) (verdict : Option ClaimVerdict) (source : Option BoundSource)
       → is_blank line ≡ false → length line ≤ max_line → comes line verdict source
       → AreCounted comes lines counts → AreCounted comes (lines ++ line ∷ []) (with_one verdict source counts)

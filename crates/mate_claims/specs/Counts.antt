@@ -2,15 +2,15 @@
 use Rattle.std.specs.Prelude.{ℕ, ◌+◌, ◌-◌, ◌==◌, List, [], ◌++◌, codes, decimal, min, Option, Some, None, if◌then◌else◌}
 use Rattle.mate_claims.specs.declared.bound_sources.BoundSource.{BoundSource}
 use Rattle.mate_claims.specs.declared.bound_sources.BoundSource.TheVariants.{Default}
-use Rattle.mate_claims.specs.declared.verdicts.Verdict.{Verdict}
-use Rattle.mate_claims.specs.declared.verdicts.Verdict.TheVariants.{Sound, Unclaimed, Cooked, Wrong, Short, Unsolvable, Undecided}
+use Rattle.mate_claims.specs.declared.claim_verdicts.ClaimVerdict.{ClaimVerdict}
+use Rattle.mate_claims.specs.declared.claim_verdicts.ClaimVerdict.TheVariants.{Sound, Unclaimed, Cooked, Wrong, Short, Unsolvable, Undecided}
 use Rattle.mate_claims.specs.declared.counts.Counts.{Counts}
 
 abbrev pub no_counts : Counts
 no_counts = record { sound = 0; unclaimed = 0; cooked = 0; wrong = 0; short = 0; unsolvable = 0; undecided = 0; refused = 0; unnumbered = 0 }
 
 -- how many lines came to this verdict, or were refused
-abbrev pub count_of : Option Verdict → Counts → ℕ
+abbrev pub count_of : Option ClaimVerdict → Counts → ℕ
 count_of (Some Sound) c = c.sound
 count_of (Some Unclaimed) c = c.unclaimed
 count_of (Some Cooked) c = c.cooked
@@ -20,7 +20,7 @@ count_of (Some Unsolvable) c = c.unsolvable
 count_of (Some Undecided) c = c.undecided
 count_of None c = c.refused
 
-abbrev pub with_count : Option Verdict → ℕ → Counts → Counts
+abbrev pub with_count : Option ClaimVerdict → ℕ → Counts → Counts
 with_count (Some Sound) count c = record c { sound = count }
 with_count (Some Unclaimed) count c = record c { unclaimed = count }
 with_count (Some Cooked) count c = record c { cooked = count }
@@ -36,7 +36,7 @@ with_source (Some Default) c = record c { unnumbered = c.unnumbered + 1 }
 with_source _ c = c
 
 -- one line more: of this verdict, or refused; and of a record where its number of moves comes from
-abbrev pub with_one : Option Verdict → Option BoundSource → Counts → Counts
+abbrev pub with_one : Option ClaimVerdict → Option BoundSource → Counts → Counts
 with_one verdict source c = with_source source (with_count verdict (count_of verdict c + 1) c)
 
 -- so many refused lines more, as far as a count goes

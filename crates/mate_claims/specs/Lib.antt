@@ -1,4 +1,4 @@
-pub mod Verdicts
+pub mod ClaimVerdicts
 pub mod BoundSources
 pub mod Rows
 pub mod Counts

@@ -10,22 +10,22 @@ use Rattle.chess_notation.specs.MoveReading.{move_named}
 use Rattle.chess_notation.specs.AvoidMoves.{named}
 use Rattle.chess_notation.specs.Claims.{claim_words, claims_text, length_claimed, claims_fault, claim_fault_name}
 use Rattle.chess_notation.specs.Records.{RecordValue}
-use Rattle.mate_claims.specs.declared.verdicts.Verdict.{Verdict}
-use Rattle.mate_claims.specs.Verdicts.{verdict_of, verdict_name}
+use Rattle.mate_claims.specs.declared.claim_verdicts.ClaimVerdict.{ClaimVerdict}
+use Rattle.mate_claims.specs.ClaimVerdicts.{claim_verdict, verdict_name}
 use Rattle.mate_claims.specs.PlayWords.{play_word}
 use Rattle.mate_claims.specs.Rows.{listed}
 
 pub record Said : Type 0 where
   pub word : List ℕ  -- the verdict, or the name of what is amiss
   pub claims : List ℕ  -- as the row has them, each word behind a space
-  pub verdict : Option Verdict
+  pub verdict : Option ClaimVerdict
 
 -- of these moves, whose text is this
 abbrev pub judged : ℕ → Outcome → List Move → List ℕ → Said
 judged asked outcome moves text = record {
-  word = verdict_name (verdict_of asked moves outcome);
+  word = verdict_name (claim_verdict asked moves outcome);
   claims = text;
-  verdict = Some (verdict_of asked moves outcome);
+  verdict = Some (claim_verdict asked moves outcome);
 }
 
 -- of claims of which nothing can be said, for a reason of this name

@@ -12,9 +12,9 @@ ghost use Rattle.mate_claims.specs.Rows.{keys_found as keys_found_in, listed, re
 ghost use Rattle.mate_claims.specs.Said.{said_by};
 
 use crate::bound_sources::{BoundSource, bound_source};
+use crate::claim_verdicts::ClaimVerdict;
 use crate::rows::{Found, keys_text, push_row, refused_row};
 use crate::said::{Said, said_of_record};
-use crate::verdicts::Verdict;
 use byte_streams::NoMemory;
 use chess_moves::Rays;
 use chess_notation::{EpdFault, Record, bound_claimed, claims_text, read_record};
@@ -26,7 +26,7 @@ use std::alloc::Global;
 #[derive(Drop)]
 pub struct Told {
     pub row: Vec<u8>,
-    pub verdict: Option<Verdict>,
+    pub verdict: Option<ClaimVerdict>,
     pub source: Option<BoundSource>,
 }
 

@@ -6,9 +6,9 @@ ghost use Rattle.mate_claims.specs.ClaimReplies.{IsClaimReply, IsTold, refusals_
 ghost use Rattle.mate_claims.specs.Counts.{with_one, with_unread};
 
 use crate::claim_replies::{Told, told_of, told_unsolved};
+use crate::claim_verdicts::ClaimVerdict;
 use crate::counts::Counts;
 use crate::rows::refused_row;
-use crate::verdicts::Verdict;
 use byte_streams::NoMemory;
 use chess_moves::Rays;
 use chess_notation::EpdFault;
@@ -53,12 +53,12 @@ pub(crate) fn place_of(alloc: Global, prefix: &[u8], number: usize) -> Result<Ve
 }
 
 /// How many refusals a verdict is, or none.
-pub fn refusals(verdict: Option<Verdict>) -> usize
+pub fn refusals(verdict: Option<ClaimVerdict>) -> usize
     ensures count { result ≡ refusals_of verdict }
     ensures few { result ≤ 1 }
 {
     match verdict {
-        Some(Verdict::Sound | Verdict::Undecided) => 0,
+        Some(ClaimVerdict::Sound | ClaimVerdict::Undecided) => 0,
         _ => 1,
     }
 }

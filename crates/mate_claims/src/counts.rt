@@ -5,7 +5,7 @@ ghost use Rattle.mate_claims.specs.Counts.{no_counts, count_of as count_in, with
 ghost use Rattle.mate_claims.specs.Counts.{with_one, with_refusals, with_unread as with_unread_of, not_sound_in, count_text, counts_text, some_text};
 
 use crate::bound_sources::BoundSource;
-use crate::verdicts::Verdict;
+use crate::claim_verdicts::ClaimVerdict;
 use byte_streams::NoMemory;
 use std::alloc::{AllocError, Global};
 
@@ -43,51 +43,51 @@ impl Counts {
     }
 
     /// How many lines came to this verdict, or were refused where there is none.
-    fn count_of(&self, verdict: Option<Verdict>) -> usize
+    fn count_of(&self, verdict: Option<ClaimVerdict>) -> usize
         ensures { result ≡ count_in verdict self.now }
     {
         match verdict {
-            Some(Verdict::Sound) => self.sound,
-            Some(Verdict::Unclaimed) => self.unclaimed,
-            Some(Verdict::Cooked) => self.cooked,
-            Some(Verdict::Wrong) => self.wrong,
-            Some(Verdict::Short) => self.short,
-            Some(Verdict::Unsolvable) => self.unsolvable,
-            Some(Verdict::Undecided) => self.undecided,
+            Some(ClaimVerdict::Sound) => self.sound,
+            Some(ClaimVerdict::Unclaimed) => self.unclaimed,
+            Some(ClaimVerdict::Cooked) => self.cooked,
+            Some(ClaimVerdict::Wrong) => self.wrong,
+            Some(ClaimVerdict::Short) => self.short,
+            Some(ClaimVerdict::Unsolvable) => self.unsolvable,
+            Some(ClaimVerdict::Undecided) => self.undecided,
             None => self.refused,
         }
     }
 
     /// With this count of them.
-    fn with_count(self, verdict: Option<Verdict>, count: usize) -> Counts
+    fn with_count(self, verdict: Option<ClaimVerdict>, count: usize) -> Counts
         ensures { result ≡ with_count_of verdict count self }
     {
         match verdict {
-            Some(Verdict::Sound) => Counts {
+            Some(ClaimVerdict::Sound) => Counts {
                 sound: count,
                 ..self
             },
-            Some(Verdict::Unclaimed) => Counts {
+            Some(ClaimVerdict::Unclaimed) => Counts {
                 unclaimed: count,
                 ..self
             },
-            Some(Verdict::Cooked) => Counts {
+            Some(ClaimVerdict::Cooked) => Counts {
                 cooked: count,
                 ..self
             },
-            Some(Verdict::Wrong) => Counts {
+            Some(ClaimVerdict::Wrong) => Counts {
                 wrong: count,
                 ..self
             },
-            Some(Verdict::Short) => Counts {
+            Some(ClaimVerdict::Short) => Counts {
                 short: count,
                 ..self
             },
-            Some(Verdict::Unsolvable) => Counts {
+            Some(ClaimVerdict::Unsolvable) => Counts {
                 unsolvable: count,
                 ..self
             },
-            Some(Verdict::Undecided) => Counts {
+            Some(ClaimVerdict::Undecided) => Counts {
                 undecided: count,
                 ..self
             },
@@ -113,7 +113,7 @@ impl Counts {
 
     /// With one line more: of this verdict, or refused where there is none; and where the number of moves of a record comes from. None where a
     /// count has no room for it.
-    pub fn with(self, verdict: Option<Verdict>, source: Option<BoundSource>) -> Option<Counts>
+    pub fn with(self, verdict: Option<ClaimVerdict>, source: Option<BoundSource>) -> Option<Counts>
         ensures { IfSome result (λ counts. counts ≡ with_one verdict source self) }
     {
         let count = self.count_of(verdict).checked_add(1)?;

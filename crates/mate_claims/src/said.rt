@@ -14,9 +14,9 @@ ghost use Rattle.mate_claims.specs.Rows.{listed, keys_found as keys_found_in};
 ghost use Rattle.mate_claims.specs.Said.{claims_refusal, marked as marked_text, play_claimed as play_claimed_in, unread as unread_of};
 ghost use Rattle.mate_claims.specs.Said.{said_by, said_of_moves as said_by_moves, said_of_play as said_by_play};
 
+use crate::claim_verdicts::{ClaimVerdict, judge};
 use crate::play_words::play_word;
 use crate::rows::{Found, keys_found};
-use crate::verdicts::{Verdict, judge};
 use byte_streams::NoMemory;
 use chess_board::Move;
 use chess_moves::{Rays, legal_listed};
@@ -33,7 +33,7 @@ pub(crate) struct Said {
     pub(crate) word: &'static str,
     /// The claims as the row has them, each word behind a space.
     pub(crate) claims: Vec<u8>,
-    pub(crate) verdict: Option<Verdict>,
+    pub(crate) verdict: Option<ClaimVerdict>,
 }
 
 /// A claim of the line of play, marked as such.
@@ -168,9 +168,9 @@ pub(crate) fn said_undecided(
     let said = said_of_words(alloc, rays, line, record, &Outcome::NoMate, words)?;
     match said.verdict {
         Some(_) => Ok(Said {
-            word: Verdict::Undecided.code(),
+            word: ClaimVerdict::Undecided.code(),
             claims: said.claims,
-            verdict: Some(Verdict::Undecided),
+            verdict: Some(ClaimVerdict::Undecided),
         }),
         None => Ok(said),
     }

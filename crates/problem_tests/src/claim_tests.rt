@@ -2,7 +2,7 @@
 
 use crate::test_rows::{bound_of, memo_of, same};
 use chess_moves::Rays;
-use mate_claims::{BoundSource, ClaimMemory, ClaimRows, Counts, Verdict, told_of};
+use mate_claims::{BoundSource, ClaimMemory, ClaimRows, ClaimVerdict, Counts, told_of};
 use mate_search::Memo;
 use std::alloc::Global;
 use std::process::Abort;
@@ -125,17 +125,17 @@ fn check_counts(rt: &impl Abort, alloc: Global, counts: &Counts, wanted: &str) {
 
 #[test]
 fn counts_each_verdict(rt: HostRuntime) {
-    static VERDICTS: [Option<Verdict>; 13] = [
-        Some(Verdict::Sound),
-        Some(Verdict::Sound),
-        Some(Verdict::Unclaimed),
-        Some(Verdict::Unclaimed),
-        Some(Verdict::Unclaimed),
-        Some(Verdict::Unclaimed),
-        Some(Verdict::Cooked),
-        Some(Verdict::Wrong),
-        Some(Verdict::Short),
-        Some(Verdict::Unsolvable),
+    static VERDICTS: [Option<ClaimVerdict>; 13] = [
+        Some(ClaimVerdict::Sound),
+        Some(ClaimVerdict::Sound),
+        Some(ClaimVerdict::Unclaimed),
+        Some(ClaimVerdict::Unclaimed),
+        Some(ClaimVerdict::Unclaimed),
+        Some(ClaimVerdict::Unclaimed),
+        Some(ClaimVerdict::Cooked),
+        Some(ClaimVerdict::Wrong),
+        Some(ClaimVerdict::Short),
+        Some(ClaimVerdict::Unsolvable),
         None,
         None,
         None,
@@ -153,8 +153,8 @@ fn counts_each_verdict(rt: HostRuntime) {
         "sound 2, unclaimed 4, cooked 1, wrong 1, short 1, unsolvable 1, refused 3",
     );
     // Two that say no number of moves, one of them with a fault of its claims, and a line that is no record.
-    static MORE: [(Option<Verdict>, Option<BoundSource>); 3] = [
-        (Some(Verdict::Short), Some(BoundSource::Default)),
+    static MORE: [(Option<ClaimVerdict>, Option<BoundSource>); 3] = [
+        (Some(ClaimVerdict::Short), Some(BoundSource::Default)),
         (None, Some(BoundSource::Default)),
         (None, None),
     ];

@@ -9,7 +9,7 @@ use Rattle.chess_notation.specs.Words.{is_blank}
 use Rattle.mate_search.specs.inside.Truth.{truth}
 use Rattle.mate_claims.specs.declared.bound_sources.BoundSource.{BoundSource}
 use Rattle.mate_claims.specs.declared.bound_sources.BoundSource.TheVariants.{Default, Line}
-use Rattle.mate_claims.specs.declared.verdicts.Verdict.{Verdict}
+use Rattle.mate_claims.specs.declared.claim_verdicts.ClaimVerdict.{ClaimVerdict}
 use Rattle.mate_claims.specs.BoundSources.{IsSource, ReadsClaimed, SaysClaimed}
 use Rattle.mate_claims.specs.ClaimReplies.{IsClaimReply, IsTold, IsToldBy, no_record, of_record, refusals_of, skipped, told}
 use Rattle.mate_claims.specs.Rows.{row_of}
@@ -33,7 +33,7 @@ IsRowOf prefix number line r source text n =
     (text ≡ row (prefix ++ decimal number) line r source) × (n ≡ refusals_of (said line r).verdict)
 
 -- What is told of a line that says a record.
-told_row : RecordsClear → SaysOne → (place : List ℕ) (default : ℕ) (line text : List ℕ) (verdict : Option Verdict) (from : Option BoundSource)
+told_row : RecordsClear → SaysOne → (place : List ℕ) (default : ℕ) (line text : List ℕ) (verdict : Option ClaimVerdict) (from : Option BoundSource)
     (r : RecordValue) (source : BoundSource) → ReadsClaimed line default r → IsSource line r source → IsTold place default line text verdict from
     → IsToldBy place r source (said line r) text verdict
 unfolding HasNoFault
@@ -60,7 +60,7 @@ claimed_joins clear one prefix default number line text n filled (r, source, rea
     (of_record r source text (said line r).verdict reads is (both.0, refl)))
 
 -- What is told of a line is its reply.
-pub reply_told : (prefix before : List ℕ) (default bound number : ℕ) (line row text : List ℕ) (verdict : Option Verdict)
+pub reply_told : (prefix before : List ℕ) (default bound number : ℕ) (line row text : List ℕ) (verdict : Option ClaimVerdict)
     (source : Option BoundSource) (n : ℕ) → before ≡ prefix → bound ≡ default → text ≡ row → n ≡ refusals_of verdict → is_blank line ≡ false
     → IsTold (before ++ decimal number) bound line row verdict source → IsClaimReply prefix default number line text n
 reply_told prefix before default bound number line row text verdict source n same is same_text count filled tells =

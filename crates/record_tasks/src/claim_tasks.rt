@@ -8,7 +8,7 @@ use byte_streams::NoMemory;
 use chess_moves::Rays;
 use chess_notation::{records_clear, says_one};
 use chess_problems::Bound;
-use mate_claims::{BoundSource, ClaimRows, Counts, Told, Verdict, refusals};
+use mate_claims::{BoundSource, ClaimRows, ClaimVerdict, Counts, Told, refusals};
 use mate_search::Memo;
 use parallel_answers::{LineTask, NoWorkers, Prepared, Reply, Workers, prepare};
 use std::alloc::Global;
@@ -28,7 +28,7 @@ pub struct ClaimTask {
 /// What is counted of a line: its verdict, if it isn't refused, and of a record where its bound comes from.
 #[derive(Clone, Copy, Debug, PartialEq, Eq)]
 pub struct LineVerdict {
-    pub verdict: Option<Verdict>,
+    pub verdict: Option<ClaimVerdict>,
     pub source: Option<BoundSource>,
 }
 

@@ -1,15 +1,15 @@
 //! Verdicts on what a record claims.
 
 ghost use Rattle.std.specs.Prelude.{◌≡◌};
-ghost use Rattle.mate_claims.specs.Verdicts.{verdict_name, verdict_of, keys_verdict as verdict_by_keys};
-ghost use Rattle.mate_claims.specs.Verdicts.{are_among as are_all_among, is_cooked as is_cooked_by, verdict_of_claimed};
+ghost use Rattle.mate_claims.specs.ClaimVerdicts.{verdict_name, claim_verdict, keys_verdict as verdict_by_keys};
+ghost use Rattle.mate_claims.specs.ClaimVerdicts.{are_among as are_all_among, is_cooked as is_cooked_by, verdict_of_claimed};
 
 use chess_board::Move;
 use chess_problems::{Bound, Outcome, is_among};
 
 /// What comes of a record's claims: the first of these that applies, from the last to the first.
 #[derive(Clone, Copy, Debug, PartialEq, Eq)]
-pub enum Verdict {
+pub enum ClaimVerdict {
     /// The mate is as long as was asked for, and its keys are those claimed.
     Sound,
     /// The mate is as long as was asked for and there is one key, but no move is claimed.
@@ -26,19 +26,19 @@ pub enum Verdict {
     Undecided,
 }
 
-impl Verdict {
+impl ClaimVerdict {
     /// The verdict's word.
     pub fn code(&self) -> &'static str
         ensures { result.now ≡ verdict_name self.now }
     {
         match self {
-            Verdict::Sound => "sound",
-            Verdict::Unclaimed => "unclaimed",
-            Verdict::Cooked => "cooked",
-            Verdict::Wrong => "wrong",
-            Verdict::Short => "short",
-            Verdict::Unsolvable => "unsolvable",
-            Verdict::Undecided => "undecided",
+            ClaimVerdict::Sound => "sound",
+            ClaimVerdict::Unclaimed => "unclaimed",
+            ClaimVerdict::Cooked => "cooked",
+            ClaimVerdict::Wrong => "wrong",
+            ClaimVerdict::Short => "short",
+            ClaimVerdict::Unsolvable => "unsolvable",
+            ClaimVerdict::Undecided => "undecided",
         }
     }
 }
@@ -66,23 +66,23 @@ fn is_cooked(claimed: &[Move], keys: &[Move]) -> bool
 }
 
 /// The verdict where the keys are those claimed, or there is one and none is claimed.
-fn verdict_of_claimed(claimed: &[Move]) -> Verdict
+fn verdict_of_claimed(claimed: &[Move]) -> ClaimVerdict
     ensures { result ≡ verdict_of_claimed claimed.now }
 {
     match claimed {
-        [] => Verdict::Unclaimed,
-        [_, ..] => Verdict::Sound,
+        [] => ClaimVerdict::Unclaimed,
+        [_, ..] => ClaimVerdict::Sound,
     }
 }
 
 /// The verdict where the shortest mate is as long as was asked for.
-fn keys_verdict(claimed: &[Move], keys: &[Move]) -> Verdict
+fn keys_verdict(claimed: &[Move], keys: &[Move]) -> ClaimVerdict
     ensures { result ≡ verdict_by_keys claimed.now keys.now }
 {
     if !are_among(keys, claimed) {
-        Verdict::Wrong
+        ClaimVerdict::Wrong
     } else if is_cooked(claimed, keys) {
-        Verdict::Cooked
+        ClaimVerdict::Cooked
     } else {
         verdict_of_claimed(claimed)
     }
@@ -90,18 +90,18 @@ fn keys_verdict(claimed: &[Move], keys: &[Move]) -> Verdict
 
 /// The verdict on a record by which mate was asked for within so many moves and these moves are claimed for its keys, by what there
 /// is to say of its problem. In which order moves are claimed makes no difference, nor whether one is claimed twice.
-#[tactic(auto, unfolding(crate::specs::Verdicts::verdict_of))]
-pub fn judge(asked: Bound, claimed: &[Move], outcome: &Outcome) -> Verdict
-    ensures { result ≡ verdict_of asked claimed.now outcome.now }
+#[tactic(auto, unfolding(crate::specs::ClaimVerdicts::claim_verdict))]
+pub fn judge(asked: Bound, claimed: &[Move], outcome: &Outcome) -> ClaimVerdict
+    ensures { result ≡ claim_verdict asked claimed.now outcome.now }
 {
     match outcome {
         Outcome::Mate { dm, keys, .. } => {
             if dm.get() < asked.get() {
-                Verdict::Short
+                ClaimVerdict::Short
             } else {
                 keys_verdict(claimed, keys.as_slice())
             }
         }
-        Outcome::NoMate => Verdict::Unsolvable,
+        Outcome::NoMate => ClaimVerdict::Unsolvable,
     }
 }

@@ -2,7 +2,7 @@ use Rattle.std.proofs.Common.{◌∙◌, sym}
 use Rattle.std.specs.List.{list_any}
 use Rattle.chess_problems.specs.SameProblems.{is_same_move}
 use Rattle.mate_claims.proofs.MovesTested.{all_more, all_whole, not_here}
-use Rattle.mate_claims.proofs.verdicts.are_among.Goals as goal
+use Rattle.mate_claims.proofs.claim_verdicts.are_among.Goals as goal
 
 pub loop-m-preserved : goal.loop-m-preserved
 loop-m-preserved c =

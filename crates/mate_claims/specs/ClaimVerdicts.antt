@@ -5,11 +5,11 @@ use Rattle.chess_board.specs.Moves.{Move}
 use Rattle.chess_problems.specs.declared.outcomes.Outcome.{Outcome}
 use Rattle.chess_problems.specs.declared.outcomes.Outcome.TheVariants.{Mate, NoMate}
 use Rattle.chess_problems.specs.SameProblems.{is_same_move}
-use Rattle.mate_claims.specs.declared.verdicts.Verdict.{Verdict}
-use Rattle.mate_claims.specs.declared.verdicts.Verdict.TheVariants.{Sound, Unclaimed, Cooked, Wrong, Short, Unsolvable, Undecided}
+use Rattle.mate_claims.specs.declared.claim_verdicts.ClaimVerdict.{ClaimVerdict}
+use Rattle.mate_claims.specs.declared.claim_verdicts.ClaimVerdict.TheVariants.{Sound, Unclaimed, Cooked, Wrong, Short, Unsolvable, Undecided}
 
 -- A verdict is printed as a word.
-abbrev pub verdict_name : Verdict → List ℕ
+abbrev pub verdict_name : ClaimVerdict → List ℕ
 verdict_name Sound = codes "sound"
 verdict_name Unclaimed = codes "unclaimed"
 verdict_name Cooked = codes "cooked"
@@ -28,15 +28,15 @@ is_cooked [] keys = nat_lt 1 (length keys)
 is_cooked (m ∷ ms) keys = not (are_among (m ∷ ms) keys)
 
 -- Where no move is claimed, nothing is found to be as claimed.
-abbrev pub verdict_of_claimed : List Move → Verdict
+abbrev pub verdict_of_claimed : List Move → ClaimVerdict
 verdict_of_claimed [] = Unclaimed
 verdict_of_claimed (m ∷ ms) = Sound
 
 -- the verdict where the shortest mate is as long as was asked for: a claimed move is no key, or a key isn't claimed, or neither
-abbrev pub keys_verdict : List Move → List Move → Verdict
+abbrev pub keys_verdict : List Move → List Move → ClaimVerdict
 keys_verdict claimed keys = if not (are_among keys claimed) then Wrong else (if is_cooked claimed keys then Cooked else verdict_of_claimed claimed)
 
 -- the first that applies: there is no mate, there is one in fewer moves, or the verdict by its keys
-unfoldable pub verdict_of : ℕ → List Move → Outcome → Verdict
-verdict_of asked claimed (Mate n keys pv) = if nat_lt n asked then Short else keys_verdict claimed keys.items
-verdict_of asked claimed NoMate = Unsolvable
+unfoldable pub claim_verdict : ℕ → List Move → Outcome → ClaimVerdict
+claim_verdict asked claimed (Mate n keys pv) = if nat_lt n asked then Short else keys_verdict claimed keys.items
+claim_verdict asked claimed NoMate = Unsolvable
