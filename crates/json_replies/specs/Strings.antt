@@ -1,8 +1,8 @@
 -- Strings of JSON (RFC 8259, section 7), and operands as an array of them.
 use Rattle.std.specs.Prelude.{ℕ, ◌+◌, ◌-◌, ◌==◌, nat_lt, List, [], ◌∷◌, ◌++◌, codes, drop, flat_map, if◌then◌else◌}
 use Rattle.chess_board.specs.Characters.{char}
-use Rattle.json_replies.specs.declared.strings.Place.{Place}
-use Rattle.json_replies.specs.declared.strings.Place.TheVariants.{Between, Word, Text}
+use Rattle.json_replies.specs.declared.strings.ScanState.{ScanState}
+use Rattle.json_replies.specs.declared.strings.ScanState.TheVariants.{Between, Word, Text}
 
 -- of 0 to 15
 abbrev pub hex_digit : ℕ → ℕ
@@ -25,26 +25,26 @@ string text = char "\"" ∷ (flat_map escaped text ++ char "\"" ∷ [])
 -- ---- operands, parted by spaces, of which some stand between quotation marks
 
 -- Where a byte leads to: a string ends at its second quotation mark, and a word at a space.
-abbrev pub next_place : Place → ℕ → Place
-next_place Between b = if b == char " " then Between else (if b == char "\"" then Text else Word)
-next_place Word b = if b == char " " then Between else Word
-next_place Text b = if b == char "\"" then Between else Text
+abbrev pub next_state : ScanState → ℕ → ScanState
+next_state Between b = if b == char " " then Between else (if b == char "\"" then Text else Word)
+next_state Word b = if b == char " " then Between else Word
+next_state Text b = if b == char "\"" then Between else Text
 
 -- what is written of a byte: a comma and a quotation mark before the first of an operand, and a quotation mark where it ends
-abbrev pub written : Place → ℕ → List ℕ
+abbrev pub written : ScanState → ℕ → List ℕ
 written Between b = if b == char " " then [] else (if b == char "\"" then codes ",\"" else codes ",\"" ++ escaped b)
 written Word b = if b == char " " then codes "\"" else escaped b
 written Text b = if b == char "\"" then codes "\"" else escaped b
 
 -- what is written where they end
-abbrev pub closed : Place → List ℕ
+abbrev pub closed : ScanState → List ℕ
 closed Between = []
 closed Word = codes "\""
 closed Text = codes "\""
 
-abbrev pub strings_from : Place → List ℕ → List ℕ
-strings_from place [] = closed place
-strings_from place (b ∷ bs) = written place b ++ strings_from (next_place place b) bs
+abbrev pub strings_from : ScanState → List ℕ → List ℕ
+strings_from state [] = closed state
+strings_from state (b ∷ bs) = written state b ++ strings_from (next_state state b) bs
 
 -- the strings of operands, each behind a comma
 unfoldable pub strings : List ℕ → List ℕ

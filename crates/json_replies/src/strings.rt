@@ -1,8 +1,8 @@
 //! Strings of JSON, and operands as an array of them.
 
 ghost use Rattle.std.specs.Prelude.{◌≡◌, ◌<◌, ◌++◌, ◌∷◌, [], IfOk, OnOk, flat_map};
-ghost use Rattle.json_replies.specs.declared.strings.Place.TheVariants.{Between};
-ghost use Rattle.json_replies.specs.Strings.{array, closed as closed_of, control, escaped, hex_digit, next_place as next_place_of};
+ghost use Rattle.json_replies.specs.declared.strings.ScanState.TheVariants.{Between};
+ghost use Rattle.json_replies.specs.Strings.{array, closed as closed_of, control, escaped, hex_digit, next_state as next_state_of};
 ghost use Rattle.json_replies.specs.Strings.{string, strings as strings_of, written};
 
 use crate::cuts::without_first;
@@ -71,7 +71,7 @@ pub(crate) fn push_string(out: &mut Vec<u8>, text: &[u8]) -> Result<(), AllocErr
 
 /// Where a byte of operands stands.
 #[derive(Clone, Copy)]
-enum Place {
+enum ScanState {
     /// Between two operands.
     Between,
     /// In one that is no string.
@@ -81,15 +81,15 @@ enum Place {
 }
 
 /// Where a byte leads to.
-fn next_place(place: Place, byte: u8) -> Place
-    ensures { result ≡ next_place_of place byte }
+fn next_state(state: ScanState, byte: u8) -> ScanState
+    ensures { result ≡ next_state_of state byte }
 {
-    match place {
-        Place::Between | Place::Word if byte == b' ' => Place::Between,
-        Place::Between if byte == b'"' => Place::Text,
-        Place::Between | Place::Word => Place::Word,
-        Place::Text if byte == b'"' => Place::Between,
-        Place::Text => Place::Text,
+    match state {
+        ScanState::Between | ScanState::Word if byte == b' ' => ScanState::Between,
+        ScanState::Between if byte == b'"' => ScanState::Text,
+        ScanState::Between | ScanState::Word => ScanState::Word,
+        ScanState::Text if byte == b'"' => ScanState::Between,
+        ScanState::Text => ScanState::Text,
     }
 }
 
@@ -108,24 +108,24 @@ fn push_first(out: &mut Vec<u8>, byte: u8) -> Result<(), AllocError>
 }
 
 /// Adds what is written of a byte of operands.
-fn push_written(out: &mut Vec<u8>, place: Place, byte: u8) -> Result<(), AllocError>
-    ensures { OnOk result (out.new.items ≡ out.old.items ++ written place byte) }
+fn push_written(out: &mut Vec<u8>, state: ScanState, byte: u8) -> Result<(), AllocError>
+    ensures { OnOk result (out.new.items ≡ out.old.items ++ written state byte) }
 {
-    match place {
-        Place::Between => push_first(out, byte),
-        Place::Word if byte == b' ' => push_byte(out, b'"'),
-        Place::Text if byte == b'"' => push_byte(out, b'"'),
-        Place::Word | Place::Text => push_escaped(out, byte),
+    match state {
+        ScanState::Between => push_first(out, byte),
+        ScanState::Word if byte == b' ' => push_byte(out, b'"'),
+        ScanState::Text if byte == b'"' => push_byte(out, b'"'),
+        ScanState::Word | ScanState::Text => push_escaped(out, byte),
     }
 }
 
 /// Adds what is written where operands end.
-fn push_closed(out: &mut Vec<u8>, place: Place) -> Result<(), AllocError>
-    ensures { OnOk result (out.new.items ≡ out.old.items ++ closed_of place) }
+fn push_closed(out: &mut Vec<u8>, state: ScanState) -> Result<(), AllocError>
+    ensures { OnOk result (out.new.items ≡ out.old.items ++ closed_of state) }
 {
-    match place {
-        Place::Between => Ok(()),
-        Place::Word | Place::Text => push_byte(out, b'"'),
+    match state {
+        ScanState::Between => Ok(()),
+        ScanState::Word | ScanState::Text => push_byte(out, b'"'),
     }
 }
 
@@ -135,12 +135,12 @@ fn strings(alloc: Global, operands: &[u8]) -> Result<Vec<u8>, AllocError>
     ensures { IfOk result (λ text. text.items ≡ strings_of operands.now) }
 {
     let mut text = Vec::new(alloc);
-    let mut place = Place::Between;
+    let mut state = ScanState::Between;
     for byte in operands {
-        push_written(&mut text, place, *byte)?;
-        place = next_place(place, *byte);
+        push_written(&mut text, state, *byte)?;
+        state = next_state(state, *byte);
     }
-    push_closed(&mut text, place)?;
+    push_closed(&mut text, state)?;
     Ok(text)
 }
 

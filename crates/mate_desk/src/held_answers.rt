@@ -36,16 +36,16 @@ impl HeldAnswer {
 
 /// A place for an answer, with its memory, and no answer there yet.
 #[derive(Drop)]
-pub(crate) struct Place {
+pub(crate) struct AnswerPlace {
     room: Vec<Answer>,
     ghost empty: { vec_len room ≡ 0 },
     ghost roomy: { 0 < vec_capacity room },
 }
 
-impl Place {
+impl AnswerPlace {
     /// A place, where there is memory for one.
-    fn new(alloc: Global) -> Result<Place, AllocError> {
-        Ok(Place {
+    fn new(alloc: Global) -> Result<AnswerPlace, AllocError> {
+        Ok(AnswerPlace {
             room: Vec::with_capacity(alloc, 1)?,
         })
     }
@@ -54,26 +54,26 @@ impl Place {
     fn hold(self, answer: Answer) -> HeldAnswer
         ensures { result ≡ answer }
     {
-        let Place { mut room } = self;
+        let AnswerPlace { mut room } = self;
         room.push_reserved(answer);
         HeldAnswer { place: room }
     }
 }
 
 /// So many places. Only a growth that is refused is an error.
-pub(crate) fn new_places(alloc: Global, count: usize) -> Result<Vec<Place>, AllocError>
+pub(crate) fn new_places(alloc: Global, count: usize) -> Result<Vec<AnswerPlace>, AllocError>
     ensures { IfOk result (λ places. vec_len places ≡ count) }
 {
     let mut places = Vec::with_capacity(alloc, count)?;
     for _ in 0..count {
-        let place = Place::new(alloc)?;
+        let place = AnswerPlace::new(alloc)?;
         places.push_reserved(place);
     }
     Ok(places)
 }
 
 /// Holds an answer in one of the places.
-pub(crate) fn hold(places: &mut Vec<Place>, answer: Answer) -> HeldAnswer
+pub(crate) fn hold(places: &mut Vec<AnswerPlace>, answer: Answer) -> HeldAnswer
     requires { 0 < vec_len places.old }
     ensures held { result ≡ answer }
     ensures left { vec_len places.new + 1 ≡ vec_len places.old }

@@ -13,7 +13,7 @@ ghost use Rattle.mate_desk.specs.inside.Stepping.{collects, finishes};
 ghost use Rattle.mate_desk.specs.declared.runs.RunFault.TheVariants as fault;
 
 use crate::desks::Desk;
-use crate::held_answers::{Place, new_places};
+use crate::held_answers::{AnswerPlace, new_places};
 use crate::held_jobs::Hand;
 use crate::refusals::DeskFault;
 use crate::stepping::{Reader, make};
@@ -90,7 +90,7 @@ struct Held {
     desk: Desk,
     replies: Vec<Reply>,
     hand: Hand,
-    places: Vec<Place>,
+    places: Vec<AnswerPlace>,
 }
 
 /// A new desk, or why a run has none.

@@ -8,7 +8,7 @@ ghost use Rattle.mate_desk.specs.inside.Stepping.{delivery_reply, found_reply, a
 ghost use Rattle.mate_desk.specs.declared.steps_and_replies.Step.TheVariants as step;
 
 use crate::desks::Desk;
-use crate::held_answers::{Place, hold};
+use crate::held_answers::{AnswerPlace, hold};
 use crate::held_jobs::Hand;
 use crate::steps_and_replies::{Reply, Step};
 use chess_moves::Rays;
@@ -31,7 +31,7 @@ pub(crate) fn make(
     reader: &Reader,
     desk: &mut Desk,
     hand: &mut Hand,
-    places: &mut Vec<Place>,
+    places: &mut Vec<AnswerPlace>,
     step: &Step,
     memo: &mut Memo,
 ) -> Reply
@@ -147,7 +147,7 @@ fn hand_back(desk: &mut Desk, hand: &mut Hand, i: usize) -> Reply
 }
 
 /// Collects what is owed for a submitter's first pending record.
-fn collect(desk: &mut Desk, places: &mut Vec<Place>, s: usize) -> Reply
+fn collect(desk: &mut Desk, places: &mut Vec<AnswerPlace>, s: usize) -> Reply
     requires { 0 < count_done desk.old → 0 < vec_len places.old }
     ensures makes { (default : ℕ) (jobs : List Task) → Makes default (step.Collect s) result desk.old jobs desk.new jobs }
     ensures few { desk.new.next ≤ desk.old.next + 1 }
@@ -161,7 +161,7 @@ fn collect(desk: &mut Desk, places: &mut Vec<Place>, s: usize) -> Reply
 }
 
 /// The reply that hands on what was found.
-fn collected(found: Option<Delivery>, places: &mut Vec<Place>) -> Reply
+fn collected(found: Option<Delivery>, places: &mut Vec<AnswerPlace>) -> Reply
     requires { answers (found_reply found) ≤ vec_len places.old }
     ensures reply { result ≡ found_reply found }
     ensures left { vec_len places.new + answers result ≡ vec_len places.old }
@@ -173,7 +173,7 @@ fn collected(found: Option<Delivery>, places: &mut Vec<Place>) -> Reply
 }
 
 /// The reply that hands a delivery on.
-fn delivered(delivery: Delivery, places: &mut Vec<Place>) -> Reply
+fn delivered(delivery: Delivery, places: &mut Vec<AnswerPlace>) -> Reply
     requires { answers (delivery_reply delivery) ≤ vec_len places.old }
     ensures reply { result ≡ delivery_reply delivery }
     ensures left { vec_len places.new + answers result ≡ vec_len places.old }

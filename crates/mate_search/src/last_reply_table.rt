@@ -65,16 +65,16 @@ pub(crate) struct LastReplyTable {
 
 /// Where a position is kept, by a number that its hash names, and its tag.
 #[derive(Clone, Copy)]
-pub(crate) struct Place {
+pub(crate) struct TablePlace {
     number: usize,
     tag: u8,
 }
 
 /// The place that a position's hash names.
 #[inline(always)]
-pub(crate) fn place_of(position: &Position) -> Place {
+pub(crate) fn place_of(position: &Position) -> TablePlace {
     let hash = BuildHasherDefault::<FoldHasher>::new().hash_one(position);
-    Place {
+    TablePlace {
         number: (hash >> 40) as usize,
         tag: (hash >> 32 & 255) as u8,
     }
@@ -104,13 +104,13 @@ impl LastReplyTable {
 
     /// The index of a place among those that there are: so many 2^24ths of their number.
     #[inline(always)]
-    fn index_of(&self, place: Place) -> usize {
+    fn index_of(&self, place: TablePlace) -> usize {
         place.number.wrapping_mul(self.tags.len()) >> 24
     }
 
     /// Whether the defender is lost in a position with one move left to the attacker, where that is kept in this place.
     #[inline(always)]
-    pub(crate) fn judged(&self, place: Place, position: &Position) -> Option<bool>
+    pub(crate) fn judged(&self, place: TablePlace, position: &Position) -> Option<bool>
         ensures { IfSome result (λ is_lost. is_lost ≡ lost 1 position.now) }
     {
         let index = self.index_of(place);
@@ -133,7 +133,13 @@ impl LastReplyTable {
     }
 
     /// Keeps what was found of a position, in this place, where the memo holds so many entries. Where memory is refused, it is not kept.
-    pub(crate) fn keep(&mut self, place: Place, position: &Position, is_lost: bool, held: usize)
+    pub(crate) fn keep(
+        &mut self,
+        place: TablePlace,
+        position: &Position,
+        is_lost: bool,
+        held: usize,
+    )
         requires { is_lost ≡ lost 1 position.now }
     {
         let judged = Judged {

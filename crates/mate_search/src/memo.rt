@@ -10,7 +10,7 @@ ghost use Rattle.mate_search.specs.Memos.{max_large_entries, memo_fault_name};
 ghost use Rattle.mate_search.specs.Wins.{lost};
 
 use crate::killers::Killers;
-use crate::last_reply_table::{LastReplyTable, Place};
+use crate::last_reply_table::{LastReplyTable, TablePlace};
 use crate::memo_entries::Entry;
 use crate::peers::Peers;
 use crate::recent_positions::{RecentPositions, filter_bytes};
@@ -330,14 +330,14 @@ impl Memo {
 
     /// Whether the defender is lost in a position with one move left to the attacker, where that is kept in this place.
     #[inline(always)]
-    pub(crate) fn judged(&self, place: Place, position: &Position) -> Option<bool>
+    pub(crate) fn judged(&self, place: TablePlace, position: &Position) -> Option<bool>
         ensures { IfSome result (λ is_lost. is_lost ≡ lost 1 position.now) }
     {
         self.last_replies.judged(place, position)
     }
 
     /// Keeps in this place whether it is. Where memory is refused, it is not kept.
-    pub(crate) fn keep_judged(&mut self, place: Place, position: &Position, is_lost: bool)
+    pub(crate) fn keep_judged(&mut self, place: TablePlace, position: &Position, is_lost: bool)
         requires { is_lost ≡ lost 1 position.now }
         ensures { self.new ≡ self.old }
     {
