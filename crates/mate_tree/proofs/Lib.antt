@@ -1,3 +1,4 @@
+pub mod AddedLines
 pub mod DefencesBelow
 pub mod LaidOutLines
 pub mod LegalMoves

@@ -1,6 +1,6 @@
 -- Lines written one by one.
-use Rattle.std.proofs.Common.{◌≡◌, ◌∙◌, ℕ, suc, ◌+◌, ◌<◌, ◌≤◌, ◌==◌, Bool, true, false, ◌&&◌, ◌||◌, List, [], ◌∷◌, ◌++◌, Option, Some}
-use Rattle.std.proofs.Common.{None, length, take, drop, get_or, refl, sym, ap, subst, arith, append_assoc, append-nil, take-append-drop}
+use Rattle.std.proofs.Common.{◌≡◌, ◌∙◌, ℕ, suc, ◌+◌, ◌<◌, ◌≤◌, ◌==◌, Bool, true, false, ◌&&◌, List, [], ◌∷◌, ◌++◌, Option, Some}
+use Rattle.std.proofs.Common.{None, length, take, get_or, refl, sym, ap, subst, arith, append_assoc, append-nil}
 use Rattle.std.specs.Prelude.{cond, ⊤}
 use Rattle.std.specs.List.{flat_map}
 use Rattle.std.proofs.lemmas.Bool.Decides.{nat_tests}
@@ -10,9 +10,8 @@ use Rattle.byte_streams.specs.declared.stops.Stop.{Stop}
 use Rattle.mate_tree.specs.Layouts.{figured, figurine, lettered, unindented}
 use Rattle.mate_tree.specs.declared.forms.Pieces.{Pieces}
 use Rattle.mate_tree.specs.declared.forms.Pieces.TheVariants as pieces
-use Rattle.mate_tree.specs.SetPlay.{headed}
-use Rattle.mate_tree.specs.inside.Sheets.{GoesBy, Room, SheetValue, Begins, Ends, Says, Takes, Writes, behind, ending, headed_on, is_closed}
-use Rattle.mate_tree.specs.inside.Sheets.{is_some_line, mark, name_lines, next, part, past, said, shown, stays_fresh}
+use Rattle.mate_tree.specs.inside.Sheets.{GoesBy, Room, SheetValue, Begins, Ends, Says, Takes, Writes, behind, ending, is_closed}
+use Rattle.mate_tree.specs.inside.Sheets.{mark, next, part, past, said, shown, stays_fresh}
 use Rattle.mate_tree.proofs.Steps.{by_as, by_closed, by_none, by_on}
 
 -- ---- texts
@@ -280,10 +279,6 @@ writes_more {a} {b} {c} {s} {t} {u} {xs} {ys} first second = record {
       (λ same. (ap (λ r. said r ys) same, λ later. later ∙ ap (λ r. behind r ys) same)) first.goes second.goes);
 }
 
-pub writes_first : {a b c : Option (List ℕ)} {s t u : SheetValue} {l : List ℕ} {ls : List (List ℕ)} → Writes a s b t (l ∷ []) → Writes b t c u ls
-    → Writes a s c u (l ∷ ls)
-writes_first first second = writes_more first second
-
 -- ---- once a line was left out
 
 next_cut : (r : Room) → r.cut ≡ true → next r ≡ r
@@ -324,75 +319,3 @@ writes_closed {a} {b} {s} {t} {xs} ys closed before = record {
       (λ same cut. let cut' : (behind s.room xs).cut ≡ true = ap (λ (r : Room). r.cut) (sym same) ∙ cut in
       (said_cut (behind s.room xs) ys cut', same ∙ sym (behind_cut (behind s.room xs) ys cut'))) before.goes);
 }
-
--- ---- the lines of each of a list, one after the other
-
-module _ {X : Type 0} (f : X → List (List ℕ)) (xs : List X) where
-  lines_more : (i : ℕ) (d : X) → i < length xs → flat_map f (take (i + 1) xs) ≡ flat_map f (take i xs) ++ f (get_or xs i d)
-  lines_more i d here = ap (flat_map f) (take_more xs i d here) ∙ sym (flat_map_more f [] (take i xs) (get_or xs i d))
-
-  lines_split : (i : ℕ) → flat_map f xs ≡ flat_map f (take i xs) ++ flat_map f (drop i xs)
-  lines_split i = ap (flat_map f) (sym (take-append-drop i xs)) ∙ flat_map-append f (take i xs) (drop i xs)
-
-  pub each_more : {a b c : Option (List ℕ)} {s t u : SheetValue} (i : ℕ) (d : X) → i < length xs → Writes a s b t (flat_map f (take i xs))
-      → Writes b t c u (f (get_or xs i d)) → Writes a s c u (flat_map f (take (i + 1) xs))
-  each_more {a} {b} {c} {s} {t} {u} i d here before is = subst (Writes a s c u) (sym (lines_more i d here)) (writes_more before is)
-
-  pub each_all : {a b : Option (List ℕ)} {s t : SheetValue} (i : ℕ) → length xs ≤ i → Writes a s b t (flat_map f (take i xs))
-      → Writes a s b t (flat_map f xs)
-  each_all {a} {b} {s} {t} i past before = subst (λ ys. Writes a s b t (flat_map f ys)) (take_all i xs past) before
-
-  pub each_closed : {a b : Option (List ℕ)} {s t : SheetValue} (i : ℕ) → is_closed t ≡ true → Writes a s b t (flat_map f (take i xs))
-      → Writes a s b t (flat_map f xs)
-  each_closed {a} {b} {s} {t} i closed before =
-      subst (Writes a s b t) (sym (lines_split i)) (writes_closed (flat_map f (drop i xs)) closed before)
-
--- ---- the same below a name
-
-headed_append : (name : List ℕ) (xs ys : List (List ℕ)) → headed name (xs ++ ys) ≡ headed name xs ++ headed_on name (is_some_line xs) ys
-headed_append name [] ys = refl
-headed_append name (x ∷ xs) ys = refl
-
-some_append : (xs ys : List (List ℕ)) → is_some_line (xs ++ ys) ≡ (is_some_line xs || is_some_line ys)
-some_append [] ys = refl
-some_append (x ∷ xs) ys = refl
-
-named : (name : List ℕ) (is_open has : Bool) (ls : List (List ℕ)) → has ≡ is_some_line ls
-    → name_lines name is_open has ++ ls ≡ headed_on name is_open ls
-named name true has ls is = refl
-named name false has [] is = rw is refl
-named name false has (l ∷ ls) is = rw is refl
-
--- the name where it is wanted, and lines below it
-pub writes_named : {a b c : Option (List ℕ)} {s t u : SheetValue} (name : List ℕ) (is_open has : Bool) (ls : List (List ℕ)) → has ≡ is_some_line ls
-    → Writes a s b t (name_lines name is_open has) → Writes b t c u ls → Writes a s c u (headed_on name is_open ls)
-writes_named {a} {b} {c} {s} {t} {u} name is_open has ls is first second =
-    subst (Writes a s c u) (named name is_open has ls is) (writes_more first second)
-
-module _ {X : Type 0} (name : List ℕ) (f : X → List (List ℕ)) (xs : List X) where
-  pub headed_more : {a b c : Option (List ℕ)} {s t u : SheetValue} (is_open : Bool) (i : ℕ) (d : X) → i < length xs
-      → is_open ≡ is_some_line (flat_map f (take i xs)) → Writes a s b t (headed name (flat_map f (take i xs)))
-      → Writes b t c u (headed_on name is_open (f (get_or xs i d))) → Writes a s c u (headed name (flat_map f (take (i + 1) xs)))
-  headed_more {a} {b} {c} {s} {t} {u} is_open i d here open_is before is =
-      let first = flat_map f (take i xs) in
-      let after = f (get_or xs i d) in
-      subst (Writes a s c u) (ap (λ o. headed name first ++ headed_on name o after) open_is ∙ sym (headed_append name first after)
-      ∙ ap (headed name) (sym (lines_more f xs i d here))) (writes_more before is)
-
-  pub open_more : (is_open opened : Bool) (i : ℕ) (d : X) → i < length xs → is_open ≡ is_some_line (flat_map f (take i xs))
-      → opened ≡ (is_open || is_some_line (f (get_or xs i d))) → opened ≡ is_some_line (flat_map f (take (i + 1) xs))
-  open_more is_open opened i d here open_is is =
-      is ∙ ap (λ o. o || is_some_line (f (get_or xs i d))) open_is ∙ sym (some_append (flat_map f (take i xs)) (f (get_or xs i d)))
-      ∙ ap is_some_line (sym (lines_more f xs i d here))
-
-  pub headed_all : {a b : Option (List ℕ)} {s t : SheetValue} (i : ℕ) → length xs ≤ i → Writes a s b t (headed name (flat_map f (take i xs)))
-      → Writes a s b t (headed name (flat_map f xs))
-  headed_all {a} {b} {s} {t} i past before = subst (λ ys. Writes a s b t (headed name (flat_map f ys))) (take_all i xs past) before
-
-  pub headed_closed : {a b : Option (List ℕ)} {s t : SheetValue} (i : ℕ) → is_closed t ≡ true → Writes a s b t (headed name (flat_map f (take i xs)))
-      → Writes a s b t (headed name (flat_map f xs))
-  headed_closed {a} {b} {s} {t} i closed before =
-      let first = flat_map f (take i xs) in
-      let rest = flat_map f (drop i xs) in
-      subst (Writes a s b t) (sym (headed_append name first rest) ∙ ap (headed name) (sym (lines_split f xs i)))
-      (writes_closed (headed_on name (is_some_line first) rest) closed before)

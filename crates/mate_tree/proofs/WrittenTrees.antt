@@ -22,21 +22,23 @@ use Rattle.mate_tree.specs.Tries.{tries}
 use Rattle.mate_tree.specs.Layouts.{column_text}
 use Rattle.mate_tree.specs.Trees.{mate_lines, printed, shown_lines, tree_lines}
 use Rattle.mate_tree.specs.TreeReplies.{tree_reply}
+use Rattle.mate_tree.specs.declared.writers.TreeWriter.{TreeWriter}
 use Rattle.mate_tree.specs.inside.Replies.{IsJust}
 use Rattle.mate_tree.specs.inside.Sheets.{GoesBy, SheetValue, Takes, Writes, behind, closing, room_for, said}
+use Rattle.mate_tree.specs.inside.Writers.{Adds}
+use Rattle.mate_tree.proofs.AddedLines.{adds_as, adds_more}
 use Rattle.mate_tree.proofs.Steps.{by_as, by_on}
 use Rattle.mate_tree.proofs.LaidOutLines.{column_is, printed_is}
-use Rattle.mate_tree.proofs.WrittenLines.{writes_more}
 
-pub mate_written : {a b c d : Option (List ℕ)} {s t u v : SheetValue} (form : Form) (q : ProblemValue) (p : Setup) (n shown : ℕ) (keys : List Move)
-    → p ≡ q.position → shown ≡ moves_shown form.moves n - 1
-    → Writes a s b t (if form.set_play then set_play form.column (n - 1) p else []) → Writes b t c u (key_lines form.defences shown n p keys)
-    → Writes c u d v (if form.tries then tries form.column (n - 1) q.position q.avoid else []) → Writes a s d v (mate_lines form q n keys)
-mate_written {a} {b} {c} {d} {s} {t} {u} {v} form q p n shown keys at is first second third =
-    let keyed : key_lines form.defences shown n p keys ≡ key_lines form.defences (moves_shown form.moves n - 1) n q.position keys =
-    ap (λ r. key_lines form.defences shown n r keys) at ∙ ap (λ d. key_lines form.defences d n q.position keys) is in
-    writes_more (writes_more (subst (λ r. Writes a s b t (if form.set_play then set_play form.column (n - 1) r else [])) at first)
-    (subst (Writes b t c u) keyed second)) third
+pub mate_written : {D : Type 0} {contents : D → Option (List ℕ)} {s t u v : TreeWriter D} (form : Form) (q : ProblemValue) (p : Setup) (n shown : ℕ)
+    (keys : List Move) → p ≡ q.position → shown ≡ moves_shown form.moves n - 1
+    → Adds contents s t (if form.set_play then set_play form.column (n - 1) p else [])
+    → Adds contents t u (key_lines form.defences shown n p keys)
+    → Adds contents u v (if form.tries then tries form.column (n - 1) q.position q.avoid else [])
+    → Adds contents s v (mate_lines form q n keys)
+mate_written form q p n shown keys at is first second third =
+    let keyed = ap (λ r. key_lines form.defences shown n r keys) at ∙ ap (λ d. key_lines form.defences d n q.position keys) is in
+    adds_more (adds_more (adds_as (ap (λ r. if form.set_play then set_play form.column (n - 1) r else []) at) first) (adds_as keyed second)) third
 
 -- what is written on a fresh sheet, by another word for it
 fresh_goes : (form : Form) (end : Option Stop) (a d : Option (List ℕ)) (s : SheetValue) (x y : List ℕ) → x ≡ y

@@ -8,7 +8,8 @@ ghost use Rattle.mate_tree.specs.Trees.{shown_lines, tree_lines};
 
 use crate::forms::Form;
 use crate::sheets::Sheet;
-use crate::trees::{Shown, write_tree};
+use crate::trees::write_tree;
+use crate::writers::TreeWriter;
 use byte_streams::NoMemory;
 use chess_moves::Rays;
 use chess_notation::Record;
@@ -31,16 +32,14 @@ pub fn push_column(
         ++ column_text (shown_lines form (tree_lines form (problem_of «record».now) outcome.now))) }
     ensures room { memo.new.room ≡ memo.old.room }
 {
-    let mut sheet = Sheet::new(form);
-    write_tree(
-        Shown { rays, form },
-        record,
-        outcome,
+    let mut writer = TreeWriter {
+        rays,
         memo,
-        &mut sheet,
-        text,
-    );
-    match sheet.finish(text, b"") {
+        sheet: Sheet::new(form),
+        out: text,
+    };
+    write_tree(&mut writer, &form, record, outcome);
+    match writer.finish(b"") {
         Ok(()) => Ok(()),
         Err(_) => Err(NoMemory),
     }

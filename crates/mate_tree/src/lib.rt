@@ -4,8 +4,8 @@
 //! What is true of a position is `mate_search`'s business, how a move is written `chess_notation`'s, and which letters men have in a language
 //! `move_words`'s. Each definition stands in the file of `specs/` with the same name. To read: `forms`, `lines`, `continuations` and
 //! `defences`, the tree below a move; `passing` and `threats`; `parries` and `variations`, of which a magazine prints a solution; `keys`,
-//! `set_play`, `tries`; then `trees`, over `sheets` and `layouts`, and `tree_replies`, `tree_texts`, `limited_trees` and `columns`. `laws` says
-//! of the definitions what they are meant to say.
+//! `set_play`, `tries`; then `trees`; below them `writers`, over `sheets` and `layouts`; and `tree_replies`, `tree_texts`, `limited_trees` and
+//! `columns`. `laws` says of the definitions what they are meant to say.
 #![tactic(auto)]
 
 mod columns;
@@ -27,6 +27,7 @@ mod tree_texts;
 mod trees;
 mod tries;
 mod variations;
+mod writers;
 
 pub use columns::push_column;
 pub use forms::{Form, Pieces};

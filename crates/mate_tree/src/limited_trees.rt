@@ -10,8 +10,7 @@ ghost use Rattle.mate_tree.specs.LimitedTrees.{undecided_tree as undecided_tree_
 ghost use Rattle.mate_tree.specs.TreeReplies.{tree_reply};
 
 use crate::forms::Form;
-use crate::tree_replies::{refused_text, write_solved};
-use crate::trees::Shown;
+use crate::tree_replies::{Shown, refused_text, write_solved};
 use byte_streams::NoMemory;
 use chess_notation::{EpdFault, Record, read_record, undecided_text};
 use chess_problems::Outcome;
@@ -36,7 +35,6 @@ struct Told {
 
 /// The reply to a record whose outcome is known, as a text.
 fn solved_text(
-    alloc: Global,
     shown: Shown<'_>,
     record: &Record,
     outcome: &Outcome,
@@ -47,8 +45,8 @@ fn solved_text(
     ensures text { IfOk result (λ text. text.items ≡ tree_reply shown.entry.form «record».now) }
     ensures room { memo.new.room ≡ memo.old.room }
 {
-    let mut text = Vec::new(alloc);
-    match write_solved(alloc, shown, record, outcome, memo, &mut text) {
+    let mut text = Vec::new(shown.alloc);
+    match write_solved(shown, record, outcome, memo, &mut text) {
         Ok(()) => Ok(text),
         // A list refuses to be written for want of memory alone.
         Err(_) => Err(NoMemory),
@@ -89,10 +87,11 @@ impl<T: TimeLimit> LimitedTrees<'_, '_, T> {
         match decide(&guide, &limited.solver, record, memo) {
             Ok(outcome) => {
                 let shown = Shown {
+                    alloc,
                     rays,
                     form: self.form,
                 };
-                let text = solved_text(alloc, shown, record, &outcome, memo)?;
+                let text = solved_text(shown, record, &outcome, memo)?;
                 Ok(Told {
                     text,
                     is_decided: true,

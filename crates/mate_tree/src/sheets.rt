@@ -3,8 +3,8 @@
 ghost use Rattle.std.specs.Prelude.{◌≡◌, ◌++◌, ◌&&◌, [], IfErr, None, OnOk, Some, codes, ⊤};
 ghost use Rattle.std.specs.List.{flat_map};
 ghost use Rattle.mate_tree.specs.Layouts.{figured, figurine as figurine_of, lettered};
-ghost use Rattle.mate_tree.specs.inside.Sheets.{Begins, Ends, GoesBy, Says, Takes, Writes, closing, ending, gap, is_closed};
-ghost use Rattle.mate_tree.specs.inside.Sheets.{line_end as line_end_of, mark, name_lines, next, part as part_of, room_for};
+ghost use Rattle.mate_tree.specs.inside.Sheets.{Begins, Ends, GoesBy, Says, Takes, closing, ending, gap, is_closed};
+ghost use Rattle.mate_tree.specs.inside.Sheets.{line_end as line_end_of, mark, next, part as part_of, room_for};
 
 use crate::forms::{Form, Pieces};
 use crate::layouts::{behind_letter, figurine, letter_for, line_end, part};
@@ -283,26 +283,6 @@ impl Sheet {
     {
         let ending = self.ending();
         self.add(out, ending);
-    }
-
-    /// Writes a name, where it does not stand there and something is to stand below it.
-    pub(crate) fn write_name<O: Write>(
-        &mut self,
-        out: &mut O,
-        name: &[u8],
-        is_open: bool,
-        has: bool,
-    )
-        ensures { Writes (O.contents out.old) self.old (O.contents out.new) self.new (name_lines name.now is_open has) }
-    {
-        if is_open {
-            return;
-        }
-        if has {
-            self.begin(out);
-            self.push(out, name);
-            self.end(out);
-        }
     }
 
     /// What ends a column, and an empty line.

@@ -14,7 +14,8 @@ ghost use Rattle.mate_tree.specs.inside.Replies.{IsJust, IsRefusal};
 
 use crate::forms::Form;
 use crate::sheets::Sheet;
-use crate::trees::{Shown, write_tree};
+use crate::trees::write_tree;
+use crate::writers::TreeWriter;
 use byte_streams::{NoMemory, Stop, put};
 use chess_moves::Rays;
 use chess_notation::{EpdFault, Record, answer_text, read_record};
@@ -29,6 +30,14 @@ use text_lines::{LineWriter, Output, refusal};
 pub struct TreeReplies<'a> {
     pub rays: &'a Rays,
     pub default: Bound,
+    pub form: Form,
+}
+
+/// What the replies to records are made by: where memory is taken, the table to find moves by, and what is shown of each tree.
+#[derive(Clone, Copy)]
+pub(crate) struct Shown<'a> {
+    pub alloc: Global,
+    pub rays: &'a Rays,
     pub form: Form,
 }
 
@@ -49,7 +58,6 @@ fn answer_line(
 
 /// Writes the reply to a record whose outcome is known: its answer, its tree, and an empty line. Memory is taken before the first byte alone.
 pub(crate) fn write_solved<O: Write>(
-    alloc: Global,
     shown: Shown<'_>,
     record: &Record,
     outcome: &Outcome,
@@ -62,13 +70,18 @@ pub(crate) fn write_solved<O: Write>(
     ensures err { IfErr result (BreaksOff (IsJust (tree_reply shown.entry.form «record».now) 0) (O.contents out.old) (O.contents out.new)) }
     ensures room { memo.new.room ≡ memo.old.room }
 {
-    match answer_line(alloc, shown.rays, record, outcome) {
+    match answer_line(shown.alloc, shown.rays, record, outcome) {
         Ok(answer) => {
-            let mut sheet = Sheet::new(shown.form);
-            sheet.add(out, answer.as_slice());
-            write_tree(shown, record, outcome, memo, &mut sheet, out);
-            let closing = sheet.closing();
-            sheet.finish(out, closing)
+            let mut writer = TreeWriter {
+                rays: shown.rays,
+                memo,
+                sheet: Sheet::new(shown.form),
+                out,
+            };
+            writer.add(answer.as_slice());
+            write_tree(&mut writer, &shown.form, record, outcome);
+            let closing = writer.sheet.closing();
+            writer.finish(closing)
         }
         Err(_) => Err(Stop::NoMemory),
     }
@@ -76,7 +89,6 @@ pub(crate) fn write_solved<O: Write>(
 
 /// Writes the reply to a record, which is solved first.
 fn write_record<O: Write>(
-    alloc: Global,
     shown: Shown<'_>,
     record: &Record,
     memo: &mut Memo,
@@ -87,7 +99,7 @@ fn write_record<O: Write>(
     ensures room { memo.new.room ≡ memo.old.room }
 {
     let outcome = solve(shown.rays, &record.problem(), memo);
-    write_solved(alloc, shown, record, &outcome, memo, out)
+    write_solved(shown, record, &outcome, memo, out)
 }
 
 /// The reply to a line that is refused, and an empty line.
@@ -144,11 +156,12 @@ impl LineWriter for TreeReplies<'_> {
         out: &mut O,
     ) -> Result<usize, Stop> {
         let shown = Shown {
+            alloc,
             rays: self.rays,
             form: self.form,
         };
         match read_record(alloc, self.rays, line, self.default) {
-            Ok(record) => match write_record(alloc, shown, &record, memory, out) {
+            Ok(record) => match write_record(shown, &record, memory, out) {
                 Ok(()) => Ok(0),
                 Err(stop) => Err(stop),
             },

@@ -5,13 +5,12 @@ ghost use Rattle.std.specs.Option.{option_map_or};
 ghost use Rattle.chess_board.specs.Legality.{is_legal};
 ghost use Rattle.chess_board.specs.MakeMove.{after_setup};
 ghost use Rattle.mate_tree.specs.Tries.{is_no_mate, refutations, sole, tries, try_line, try_lines};
-ghost use Rattle.mate_tree.specs.inside.Sheets.{Writes};
+ghost use Rattle.mate_tree.specs.inside.Writers.{Adds};
 
 use crate::continuations::soonest;
-use crate::defences::Place;
 use crate::layouts::tries_heading;
 use crate::lines::push_attack;
-use crate::sheets::Sheet;
+use crate::writers::TreeWriter;
 use chess_board::{Move, Position, after};
 use chess_moves::{Rays, legal, legal_listed};
 use chess_notation::san;
@@ -53,48 +52,45 @@ fn sole_refutation(rays: &Rays, position: &Position, left: u8, memo: &mut Memo) 
 }
 
 /// The refutation of a try; none where the move is none.
-fn refutation(
-    rays: &Rays,
+fn refutation<O: Write>(
+    writer: &mut TreeWriter<'_, O>,
     position: &Position,
     m: Move,
     left: u8,
     avoid: &[Move],
-    memo: &mut Memo,
 ) -> Option<Move>
     requires legal { is_legal position.now m ≡ true }
     requires left { left ≤ 15 }
     ensures lines { option_map_or (λ r. try_line position.now m r ∷ []) result [] ≡ try_lines left position.now avoid.now m }
     ensures legal { IfSome result (λ r. is_legal (after_setup position.now m) r ≡ true) }
-    ensures room { memo.new.room ≡ memo.old.room }
+    ensures nothing { Adds O.contents writer.old writer.new [] }
 {
     if is_among(m, avoid) {
         return None;
     }
-    sole_refutation(rays, &after(position, m), left, memo)
+    sole_refutation(writer.rays, &after(position, m), left, writer.memo)
 }
 
 /// Writes a move with its refutation, where it has one.
 fn write_try<O: Write>(
-    rays: &Rays,
+    writer: &mut TreeWriter<'_, O>,
     position: &Position,
     m: Move,
     refuted: Option<Move>,
-    sheet: &mut Sheet,
-    out: &mut O,
 )
     requires legal { is_legal position.now m ≡ true }
     requires refutes { IfSome refuted (λ r. is_legal (after_setup position.now m) r ≡ true) }
-    ensures { Writes (O.contents out.old) sheet.old (O.contents out.new) sheet.new (option_map_or (λ r. try_line position.now m r ∷ []) refuted []) }
+    ensures { Adds O.contents writer.old writer.new (option_map_or (λ r. try_line position.now m r ∷ []) refuted []) }
 {
     match refuted {
         Some(r) => {
-            sheet.begin(out);
-            sheet.push(out, b"  ");
-            push_attack(sheet, out, rays, position, m, 1);
-            sheet.push(out, b"? ");
-            sheet.push(out, san(rays, &after(position, m), r).as_str().as_bytes());
-            sheet.push(out, b"!");
-            sheet.end(out);
+            writer.begin();
+            writer.push(b"  ");
+            push_attack(writer, position, m, 1);
+            writer.push(b"? ");
+            writer.push(san(writer.rays, &after(position, m), r).as_str().as_bytes());
+            writer.push(b"!");
+            writer.end();
         }
         None => {}
     }
@@ -103,32 +99,28 @@ fn write_try<O: Write>(
 /// Writes all tries, in move order: moves after which there is no mate within the moves that are left.
 #[tactic(auto, unfolding(crate::specs::Tries::tries))]
 pub(crate) fn write_tries<O: Write>(
+    writer: &mut TreeWriter<'_, O>,
     position: &Position,
     avoid: &[Move],
     column: bool,
-    at: Place<'_>,
-    memo: &mut Memo,
-    sheet: &mut Sheet,
-    out: &mut O,
+    left: u8,
 )
-    requires { at.left ≤ 15 }
-    ensures lines { Writes (O.contents out.old) sheet.old (O.contents out.new) sheet.new
-        (tries column at.entry.left position.now avoid.now) }
-    ensures room { memo.new.room ≡ memo.old.room }
+    requires { left ≤ 15 }
+    ensures { Adds O.contents writer.old writer.new (tries column left position.now avoid.now) }
 {
     // That each of them is legal by itself, as `after` asks.
     legal_listed();
-    let moves = legal(at.rays, position);
+    let moves = legal(writer.rays, position);
     let heading = tries_heading(column);
     let mut is_open = false;
     for m in moves.as_slice() {
-        if sheet.is_closed() {
+        if writer.sheet.is_closed() {
             return;
         }
-        let refuted = refutation(at.rays, position, *m, at.left, avoid, memo);
+        let refuted = refutation(writer, position, *m, left, avoid);
         let has = refuted.is_some();
-        sheet.write_name(out, heading, is_open, has);
-        write_try(at.rays, position, *m, refuted, sheet, out);
+        writer.write_name(heading, is_open, has);
+        write_try(writer, position, *m, refuted);
         is_open |= has;
     }
 }

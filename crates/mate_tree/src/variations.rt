@@ -13,19 +13,20 @@ ghost use Rattle.chess_problems.specs.Outcomes.{AreLegal};
 ghost use Rattle.mate_tree.specs.Variations.{answered, are_alike as are_answered_alike, follows as does_follow, is_told as is_reply_told};
 ghost use Rattle.mate_tree.specs.Variations.{mates_line, move_line as move_line_of, next_move, next_moves, replies_text, reply_word, same_texts};
 ghost use Rattle.mate_tree.specs.Variations.{variation, variations};
-ghost use Rattle.mate_tree.specs.inside.Sheets.{Says, Writes};
+ghost use Rattle.mate_tree.specs.inside.Writers.{Adds, AddsText};
 
 use crate::continuations::{has_dual, soonest};
-use crate::defences::{Place, write_defence_line};
-use crate::lines::{push_attack, push_attacks, push_defence, push_dual, push_length, push_spaces};
+use crate::defences::write_defence_line;
+use crate::lines::{
+    Level, push_attack, push_attacks, push_defence, push_dual, push_length, push_spaces,
+};
 use crate::parries::parrying;
-use crate::sheets::Sheet;
 use crate::threats::push_idea;
+use crate::writers::TreeWriter;
 use chess_board::{Move, Position, after, comes_before};
 use chess_moves::{MoveList, Rays, legal_listed, push_mating_moves};
 use chess_notation::san;
 use chess_problems::Outcome;
-use mate_search::Memo;
 use std::io::Write;
 
 /// All moves that mate at once.
@@ -117,135 +118,109 @@ fn is_told(rays: &Rays, position: &Position, replies: &[Move], s: Move) -> bool
 }
 
 /// Adds a reply behind this one, where it is answered alike.
-fn push_reply<O: Write>(
-    sheet: &mut Sheet,
-    out: &mut O,
-    rays: &Rays,
-    position: &Position,
-    r: Move,
-    s: Move,
-)
+fn push_reply<O: Write>(writer: &mut TreeWriter<'_, O>, position: &Position, r: Move, s: Move)
     requires first { is_legal position.now r ≡ true }
     requires second { is_legal position.now s ≡ true }
-    ensures { Says (O.contents out.old) sheet.old (O.contents out.new) sheet.new (reply_word position.now r s) }
+    ensures { AddsText O.contents writer.old writer.new (reply_word position.now r s) }
 {
-    if follows(rays, position, r, s) {
-        sheet.push(out, b", ");
-        sheet.push(out, san(rays, position, s).as_str().as_bytes());
+    if follows(writer.rays, position, r, s) {
+        writer.push(b", ");
+        writer.push(san(writer.rays, position, s).as_str().as_bytes());
     }
 }
 
 /// Adds all replies that are answered like this one behind it.
 fn push_replies<O: Write>(
-    sheet: &mut Sheet,
-    out: &mut O,
-    rays: &Rays,
+    writer: &mut TreeWriter<'_, O>,
     position: &Position,
     replies: &[Move],
     r: Move,
 )
     requires legal { AreLegal position.now replies.now }
     requires own { is_legal position.now r ≡ true }
-    ensures { Says (O.contents out.old) sheet.old (O.contents out.new) sheet.new (flat_map (reply_word position.now r) replies.now) }
+    ensures { AddsText O.contents writer.old writer.new (flat_map (reply_word position.now r) replies.now) }
 {
     // That a move of the list is legal is the clause of `legal_listed`.
     legal_listed();
     for index in 0..replies.len() {
-        push_reply(sheet, out, rays, position, r, replies[index]);
+        push_reply(writer, position, r, replies[index]);
     }
 }
 
 /// Writes the line of replies that the same moves answer, which mate at once.
 fn write_mates_line<O: Write>(
+    writer: &mut TreeWriter<'_, O>,
     position: &Position,
     replies: &[Move],
     r: Move,
     moves: &[Move],
-    at: Place<'_>,
-    sheet: &mut Sheet,
-    out: &mut O,
+    at: Level,
 )
     requires legal { AreLegal position.now replies.now }
     requires own { is_legal position.now r ≡ true }
     requires answers { AreLegal (after_setup position.now r) moves.now }
     requires number { (1 ≤ at.number) × (at.number ≤ 255) }
-    ensures { Writes (O.contents out.old) sheet.old (O.contents out.new) sheet.new
-        (mates_line at.entry.number position.now replies.now r moves.now ∷ []) }
+    ensures { Adds O.contents writer.old writer.new (mates_line at.number position.now replies.now r moves.now ∷ []) }
 {
-    sheet.begin(out);
-    push_spaces(sheet, out, 4 * (at.number as usize) - 2);
-    push_defence(sheet, out, at.rays, position, r, at.number);
-    push_replies(sheet, out, at.rays, position, replies, r);
-    push_attacks(
-        sheet,
-        out,
-        at.rays,
-        &after(position, r),
-        moves,
-        at.number + 1,
-    );
-    push_dual(sheet, out, 1 < moves.len());
-    sheet.end(out);
+    writer.begin();
+    push_spaces(writer, 4 * (at.number as usize) - 2);
+    push_defence(writer, position, r, at.number);
+    push_replies(writer, position, replies, r);
+    push_attacks(writer, &after(position, r), moves, at.number + 1);
+    push_dual(writer, 1 < moves.len());
+    writer.end();
 }
 
 /// Writes the line of an attacker's move, with which it mates in as many moves as are left, and what it threatens.
 fn write_move_line<O: Write>(
+    writer: &mut TreeWriter<'_, O>,
     position: &Position,
     m: Move,
-    at: Place<'_>,
-    memo: &mut Memo,
-    sheet: &mut Sheet,
-    out: &mut O,
+    at: Level,
 )
     requires legal { is_legal position.now m ≡ true }
     requires number { (1 ≤ at.number) × (at.number ≤ 255) }
     requires left { (1 ≤ at.left) × (at.left ≤ 15) }
-    ensures line { Writes (O.contents out.old) sheet.old (O.contents out.new) sheet.new
-        (move_line_of at.entry.shown at.entry.number at.entry.left position.now m ∷ []) }
-    ensures room { memo.new.room ≡ memo.old.room }
+    ensures { Adds O.contents writer.old writer.new (move_line_of at.shown at.number at.left position.now m ∷ []) }
 {
-    let threat = Place {
+    let threat = Level {
         number: at.number + 1,
         left: at.left - 1,
         ..at
     };
-    sheet.begin(out);
-    push_spaces(sheet, out, 4 * (at.number as usize) - 4);
-    push_attack(sheet, out, at.rays, position, m, at.number);
-    push_idea(sheet, out, &after(position, m), threat, memo);
-    push_length(sheet, out, at.shown, at.left);
-    sheet.end(out);
+    writer.begin();
+    push_spaces(writer, 4 * (at.number as usize) - 4);
+    push_attack(writer, position, m, at.number);
+    push_idea(writer, &after(position, m), threat);
+    push_length(writer, at.shown, at.left);
+    writer.end();
 }
 
 /// Writes all replies that parry in move order, those together that the same mates answer, and below each how the attacker goes on.
 #[tactic(auto, unfolding(chess_problems::specs::Outcomes::IsPlayable))]
 #[cycle(play)]
 pub(crate) fn write_variations<O: Write>(
+    writer: &mut TreeWriter<'_, O>,
     position: &Position,
-    at: Place<'_>,
-    memo: &mut Memo,
-    sheet: &mut Sheet,
-    out: &mut O,
+    at: Level,
 )
     requires some { 1 ≤ at.number }
     requires left { at.left ≤ 15 }
     requires few { at.number + at.shown ≤ 255 }
-    ensures lines { Writes (O.contents out.old) sheet.old (O.contents out.new) sheet.new
-        (variations at.entry.shown at.entry.number at.entry.left position.now) }
-    ensures room { memo.new.room ≡ memo.old.room }
+    ensures { Adds O.contents writer.old writer.new (variations at.shown at.number at.left position.now) }
 {
     if at.shown == 0 {
         return;
     }
     // That a move of the list is legal is the clause of `legal_listed`.
     legal_listed();
-    let list = parrying(at.rays, position, at.left, memo);
+    let list = parrying(writer.rays, position, at.left, writer.memo);
     let replies = list.as_slice();
     for index in 0..replies.len() {
-        if sheet.is_closed() {
+        if writer.sheet.is_closed() {
             return;
         }
-        write_variation(position, replies, replies[index], at, memo, sheet, out);
+        write_variation(writer, position, replies, replies[index], at);
     }
 }
 
@@ -253,13 +228,11 @@ pub(crate) fn write_variations<O: Write>(
 #[tactic(auto, unfolding(chess_problems::specs::Outcomes::IsPlayable))]
 #[cycle(play)]
 fn write_variation<O: Write>(
+    writer: &mut TreeWriter<'_, O>,
     position: &Position,
     replies: &[Move],
     r: Move,
-    at: Place<'_>,
-    memo: &mut Memo,
-    sheet: &mut Sheet,
-    out: &mut O,
+    at: Level,
 )
     requires legal { AreLegal position.now replies.now }
     requires own { is_legal position.now r ≡ true }
@@ -267,54 +240,42 @@ fn write_variation<O: Write>(
     requires left { at.left ≤ 15 }
     requires shown { 0 < at.shown }
     requires few { at.number + at.shown ≤ 255 }
-    ensures lines { Writes (O.contents out.old) sheet.old (O.contents out.new) sheet.new
-        (variation (variations (at.entry.shown - 1) (at.entry.number + 1)) (at.entry.shown - 1) at.entry.number at.entry.left
-        position.now replies.now r) }
-    ensures room { memo.new.room ≡ memo.old.room }
+    ensures { Adds O.contents writer.old writer.new
+        (variation (variations (at.shown - 1) (at.number + 1)) (at.shown - 1) at.number at.left position.now replies.now r) }
 {
-    if is_told(at.rays, position, replies, r) {
+    if is_told(writer.rays, position, replies, r) {
         return;
     }
-    let list = mates(at.rays, &after(position, r));
+    let list = mates(writer.rays, &after(position, r));
     match list.as_slice() {
-        [] => write_sequels(position, r, at, memo, sheet, out),
-        moves => write_mates_line(position, replies, r, moves, at, sheet, out),
+        [] => write_sequels(writer, position, r, at),
+        moves => write_mates_line(writer, position, replies, r, moves, at),
     }
 }
 
 /// Writes a reply after which no move mates at once, and below it how the attacker goes on.
 #[tactic(auto, unfolding(chess_problems::specs::Outcomes::IsPlayable))]
 #[cycle(play)]
-fn write_sequels<O: Write>(
-    position: &Position,
-    r: Move,
-    at: Place<'_>,
-    memo: &mut Memo,
-    sheet: &mut Sheet,
-    out: &mut O,
-)
+fn write_sequels<O: Write>(writer: &mut TreeWriter<'_, O>, position: &Position, r: Move, at: Level)
     requires own { is_legal position.now r ≡ true }
     requires some { 1 ≤ at.number }
     requires left { at.left ≤ 15 }
     requires shown { 0 < at.shown }
     requires few { at.number + at.shown ≤ 255 }
-    ensures lines { Writes (O.contents out.old) sheet.old (O.contents out.new) sheet.new
-        (answered (variations (at.entry.shown - 1) (at.entry.number + 1)) (at.entry.shown - 1) at.entry.number at.entry.left
-        position.now [] r []) }
-    ensures room { memo.new.room ≡ memo.old.room }
+    ensures { Adds O.contents writer.old writer.new
+        (answered (variations (at.shown - 1) (at.number + 1)) (at.shown - 1) at.number at.left position.now [] r []) }
 {
     let next = after(position, r);
-    let outcome = soonest(at.rays, &next, at.left, memo);
-    write_defence_line(position, r, at, has_dual(&outcome), sheet, out);
+    let outcome = soonest(writer.rays, &next, at.left, writer.memo);
+    write_defence_line(writer, position, r, at, has_dual(&outcome));
     match &outcome {
         Outcome::Mate { dm, keys, .. } => {
-            let below = Place {
-                rays: at.rays,
+            let below = Level {
                 number: at.number + 1,
                 left: dm.get(),
                 shown: at.shown - 1,
             };
-            write_next_moves(&next, keys.as_slice(), below, memo, sheet, out);
+            write_next_moves(writer, &next, keys.as_slice(), below);
         }
         Outcome::NoMate => {}
     }
@@ -324,28 +285,24 @@ fn write_sequels<O: Write>(
 #[tactic(auto, unfolding(chess_problems::specs::Outcomes::IsPlayable))]
 #[cycle(play)]
 fn write_next_moves<O: Write>(
+    writer: &mut TreeWriter<'_, O>,
     position: &Position,
     moves: &[Move],
-    at: Place<'_>,
-    memo: &mut Memo,
-    sheet: &mut Sheet,
-    out: &mut O,
+    at: Level,
 )
     requires legal { AreLegal position.now moves.now }
     requires some { 1 ≤ at.number }
     requires left { (1 ≤ at.left) × (at.left ≤ 15) }
     requires few { at.number + at.shown ≤ 255 }
-    ensures lines { Writes (O.contents out.old) sheet.old (O.contents out.new) sheet.new
-        (next_moves (variations at.entry.shown at.entry.number) at.entry.shown at.entry.number at.entry.left position.now moves.now) }
-    ensures room { memo.new.room ≡ memo.old.room }
+    ensures { Adds O.contents writer.old writer.new (next_moves (variations at.shown at.number) at.shown at.number at.left position.now moves.now) }
 {
     // That a move of the list is legal is the clause of `legal_listed`.
     legal_listed();
     for index in 0..moves.len() {
-        if sheet.is_closed() {
+        if writer.sheet.is_closed() {
             return;
         }
-        write_next_move(position, moves[index], at, memo, sheet, out);
+        write_next_move(writer, position, moves[index], at);
     }
 }
 
@@ -353,25 +310,21 @@ fn write_next_moves<O: Write>(
 #[tactic(auto, unfolding(chess_problems::specs::Outcomes::IsPlayable))]
 #[cycle(play)]
 fn write_next_move<O: Write>(
+    writer: &mut TreeWriter<'_, O>,
     position: &Position,
     m: Move,
-    at: Place<'_>,
-    memo: &mut Memo,
-    sheet: &mut Sheet,
-    out: &mut O,
+    at: Level,
 )
     requires legal { is_legal position.now m ≡ true }
     requires some { 1 ≤ at.number }
     requires left { (1 ≤ at.left) × (at.left ≤ 15) }
     requires few { at.number + at.shown ≤ 255 }
-    ensures lines { Writes (O.contents out.old) sheet.old (O.contents out.new) sheet.new
-        (next_move (variations at.entry.shown at.entry.number) at.entry.shown at.entry.number at.entry.left position.now m) }
-    ensures room { memo.new.room ≡ memo.old.room }
+    ensures { Adds O.contents writer.old writer.new (next_move (variations at.shown at.number) at.shown at.number at.left position.now m) }
 {
-    write_move_line(position, m, at, memo, sheet, out);
-    let below = Place {
+    write_move_line(writer, position, m, at);
+    let below = Level {
         left: at.left - 1,
         ..at
     };
-    write_variations(&after(position, m), below, memo, sheet, out);
+    write_variations(writer, &after(position, m), below);
 }

@@ -1,23 +1,22 @@
-use Rattle.std.proofs.Common.{◌+◌, ◌-◌, sym, subst, ◌∙◌, refl, rules}
+use Rattle.std.proofs.Common.{◌+◌, ◌-◌, sym, ap, ◌∙◌, rules}
 use Rattle.mate_tree.specs.Defences.{attack, defence, defences}
-use Rattle.mate_tree.specs.inside.Sheets.{Writes}
+use Rattle.mate_tree.proofs.AddedLines.{adds_as, adds_asked, adds_first, adds_none, each_all, each_closed, each_more}
 use Rattle.mate_tree.proofs.DefencesBelow.{defences_closed, defences_nothing, defences_whole}
 use Rattle.mate_tree.proofs.LegalMoves.{legal_at}
-use Rattle.mate_tree.proofs.WrittenLines.{each_all, each_closed, each_more, writes_first, writes_none}
 use Rattle.mate_tree.proofs.defences.+tree.Goals as goal
 
 pub write_attacks-loop-index-init : goal.write_attacks-loop-index-init
-write_attacks-loop-index-init t g c = record { lines = writes_none (t.O.Write.contents c.args.out.now) c.args.sheet.now; room = refl }
+write_attacks-loop-index-init t g c = adds_none c.args.writer.now
 
-pub write_attacks-returns-then-is_closed-clause-lines : goal.write_attacks-returns-then-is_closed-clause-lines
-write_attacks-returns-then-is_closed-clause-lines t g c =
+pub write_attacks-returns-then-is_closed : goal.write_attacks-returns-then-is_closed
+write_attacks-returns-then-is_closed t g c =
     each_closed (attack (defences c.args.at.shown c.args.at.number) c.args.at.shown c.args.at.number c.args.at.left c.args.position.now)
-    c.args.moves.now c.loop-index.index (sym c.is_closed.ensures ∙ c.if-is_closed.true) c.loop-index.invariant.lines
+    c.args.moves.now c.loop-index.index (sym c.is_closed.ensures ∙ c.if-is_closed.true) c.loop-index.invariant
 
-pub write_attacks-returns-clause-lines : goal.write_attacks-returns-clause-lines
-write_attacks-returns-clause-lines t g c =
+pub write_attacks-returns : goal.write_attacks-returns
+write_attacks-returns t g c =
     each_all (attack (defences c.args.at.shown c.args.at.number) c.args.at.shown c.args.at.number c.args.at.left c.args.position.now) c.args.moves.now
-    c.loop-index.index c.loop-index-test.false c.loop-index.invariant.lines
+    c.loop-index.index c.loop-index-test.false c.loop-index.invariant
 
 pub write_attacks-write_attack-requires : goal.write_attacks-write_attack-requires
 write_attacks-write_attack-requires t g c =
@@ -26,25 +25,18 @@ write_attacks-write_attack-requires t g c =
     search (rules, legal)
 
 pub write_attacks-loop-index-preserved : goal.write_attacks-loop-index-preserved
-write_attacks-loop-index-preserved t g c = record {
-  lines = each_more (attack (defences c.args.at.shown c.args.at.number) c.args.at.shown c.args.at.number
-      c.args.at.left c.args.position.now) c.args.moves.now c.loop-index.index c.index-moves-index.result
-      c.loop-index-test.true c.loop-index.invariant.lines
-      (subst (λ m. Writes (t.O.Write.contents c.loop-index.out) c.loop-index.sheet
-      (t.O.Write.contents c.write_attack.new.out) c.write_attack.new.sheet
-      (attack (defences c.args.at.shown c.args.at.number) c.args.at.shown c.args.at.number c.args.at.left c.args.position.now m))
-      c.index-moves-index.is c.write_attack.ensures.lines);
-  room = c.write_attack.ensures.room ∙ c.loop-index.invariant.room;
-}
+write_attacks-loop-index-preserved t g c =
+    each_more (attack (defences c.args.at.shown c.args.at.number) c.args.at.shown c.args.at.number c.args.at.left c.args.position.now)
+    c.args.moves.now c.loop-index.index c.index-moves-index.result c.loop-index-test.true c.index-moves-index.is
+    c.loop-index.invariant c.write_attack.ensures
 
-pub write_attack-returns-clause-lines : goal.write_attack-returns-clause-lines
-write_attack-returns-clause-lines t g c =
-    writes_first c.write_attack_line.ensures (subst (λ q. Writes (t.O.Write.contents c.write_attack_line.new.out) c.write_attack_line.new.sheet
-    (t.O.Write.contents c.write_defences.new.out) c.write_defences.new.sheet (defences c.args.at.shown c.args.at.number (c.args.at.left - 1) q))
-    c.after.ensures c.write_defences.ensures.lines)
+pub write_attack-returns : goal.write_attack-returns
+write_attack-returns t g c =
+    adds_first c.write_attack_line.ensures
+    (adds_as (ap (defences c.args.at.shown c.args.at.number (c.args.at.left - 1)) c.after.ensures) c.write_defences.ensures)
 
-pub write_defence-returns-in-Mate-clause-lines : goal.write_defence-returns-in-Mate-clause-lines
-write_defence-returns-in-Mate-clause-lines t g c =
+pub write_defence-returns-in-Mate : goal.write_defence-returns-in-Mate
+write_defence-returns-in-Mate t g c =
     rw (
       ← c.after-next.ensures,
       ← c.soonest-outcome.ensures.truth,
@@ -53,35 +45,30 @@ write_defence-returns-in-Mate-clause-lines t g c =
       ← c.get.ensures.moves,
       ← c.as_slice.ensures.value,
     )
-    (writes_first c.write_defence_line.ensures c.write_attacks.ensures.lines)
+    (adds_asked c.args.writer.now c.soonest-outcome.new.memo c.soonest-outcome.ensures.room
+    (adds_first c.write_defence_line.ensures c.write_attacks.ensures))
 
 pub write_defences-loop-r-init : goal.write_defences-loop-r-init
-write_defences-loop-r-init t g c = record { lines = writes_none (t.O.Write.contents c.args.out.now) c.args.sheet.now; room = refl }
+write_defences-loop-r-init t g c = adds_none c.args.writer.now
 
-pub write_defences-returns-then-at-eq0-clause-lines : goal.write_defences-returns-then-at-eq0-clause-lines
-write_defences-returns-then-at-eq0-clause-lines t g c =
-    defences_nothing c.args.at.shown c.args.at.number c.args.at.left c.args.position.now
-    (t.O.Write.contents c.args.out.now) c.args.sheet.now c.if-at-eq0.true
+pub write_defences-returns-then-at-eq0 : goal.write_defences-returns-then-at-eq0
+write_defences-returns-then-at-eq0 t g c =
+    defences_nothing c.args.at.shown c.args.at.number c.args.at.left c.args.position.now c.args.writer.now c.if-at-eq0.true
 
-pub write_defences-returns-then-is_closed-clause-lines : goal.write_defences-returns-then-is_closed-clause-lines
-write_defences-returns-then-is_closed-clause-lines t g c =
+pub write_defences-returns-then-is_closed : goal.write_defences-returns-then-is_closed
+write_defences-returns-then-is_closed t g c =
     defences_closed c.args.at.shown c.args.at.number c.args.at.left c.args.position.now
     c.as_slice-r-items.result.now c.loop-r.r-index c.if-at-eq0.false
-    (c.as_slice-r-items.ensures.value ∙ c.legal-replies.ensures) (sym c.is_closed.ensures ∙ c.if-is_closed.true) c.loop-r.invariant.lines
+    (c.as_slice-r-items.ensures.value ∙ c.legal-replies.ensures) (sym c.is_closed.ensures ∙ c.if-is_closed.true) c.loop-r.invariant
 
 pub write_defences-loop-r-preserved : goal.write_defences-loop-r-preserved
-write_defences-loop-r-preserved t g c = record {
-  lines = each_more (defence (defences (c.args.at.shown - 1) (c.args.at.number + 1))
-      (c.args.at.shown - 1) c.args.at.number c.args.at.left c.args.position.now) c.as_slice-r-items.result.now
-      c.loop-r.r-index c.r-item.result c.loop-r-test.true c.loop-r.invariant.lines
-      (subst (λ r. Writes (t.O.Write.contents c.loop-r.out) c.loop-r.sheet (t.O.Write.contents c.write_defence.new.out) c.write_defence.new.sheet
-      (defence (defences (c.args.at.shown - 1) (c.args.at.number + 1)) (c.args.at.shown - 1) c.args.at.number c.args.at.left c.args.position.now r))
-      c.r-item.is c.write_defence.ensures.lines);
-  room = c.write_defence.ensures.room ∙ c.loop-r.invariant.room;
-}
+write_defences-loop-r-preserved t g c =
+    each_more (defence (defences (c.args.at.shown - 1) (c.args.at.number + 1))
+    (c.args.at.shown - 1) c.args.at.number c.args.at.left c.args.position.now) c.as_slice-r-items.result.now
+    c.loop-r.r-index c.r-item.result c.loop-r-test.true c.r-item.is c.loop-r.invariant c.write_defence.ensures
 
-pub write_defences-returns-clause-lines : goal.write_defences-returns-clause-lines
-write_defences-returns-clause-lines t g c =
+pub write_defences-returns : goal.write_defences-returns
+write_defences-returns t g c =
     defences_whole c.args.at.shown c.args.at.number c.args.at.left c.args.position.now
     c.as_slice-r-items.result.now c.loop-r.r-index c.if-at-eq0.false
-    (c.as_slice-r-items.ensures.value ∙ c.legal-replies.ensures) c.loop-r-test.false c.loop-r.invariant.lines
+    (c.as_slice-r-items.ensures.value ∙ c.legal-replies.ensures) c.loop-r-test.false c.loop-r.invariant

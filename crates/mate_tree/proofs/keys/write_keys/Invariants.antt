@@ -1,12 +1,9 @@
-use Rattle.std.proofs.Common.{◌≡◌, take}
+use Rattle.std.proofs.Common.{take}
 use Rattle.mate_tree.specs.Keys.{key_lines}
-use Rattle.mate_tree.specs.inside.Sheets.{Writes}
+use Rattle.mate_tree.specs.inside.Writers.{Adds}
 use Rattle.mate_tree.proofs.keys.write_keys.Given as goal
 
 -- the keys so far
 abbrev pub invariant-loop-index : goal.invariant-loop-index
-invariant-loop-index g l = record {
-  lines : Writes (g.O.Write.contents l.initial.out) l.initial.sheet (g.O.Write.contents l.out) l.sheet
-      (key_lines l.alone l.at.shown l.at.left l.position (take l.index l.keys));
-  room : l.memo.room ≡ l.fn.memo.room;
-}
+invariant-loop-index g l =
+    Adds g.O.Write.contents l.initial.writer l.writer (key_lines l.alone l.at.shown l.at.left l.position (take l.index l.keys))

@@ -1,5 +1,5 @@
-use Rattle.mate_tree.proofs.WrittenLines.{writes_none}
+use Rattle.mate_tree.proofs.AddedLines.{adds_none}
 use Rattle.mate_tree.proofs.trees.write_tries_if_asked.Goals as goal
 
-pub returns-else-form-clause-lines : goal.returns-else-form-clause-lines
-returns-else-form-clause-lines g c = rw (c.if-form.false) (writes_none (g.O.Write.contents c.args.out.now) c.args.sheet.now)
+pub returns-else-form : goal.returns-else-form
+returns-else-form g c = rw (c.if-form.false) (adds_none c.args.writer.now)

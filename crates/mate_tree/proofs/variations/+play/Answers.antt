@@ -1,24 +1,23 @@
-use Rattle.std.proofs.Common.{◌+◌, ◌-◌, sym, subst, ◌∙◌, refl, rules}
+use Rattle.std.proofs.Common.{◌+◌, ◌-◌, sym, ap, subst, ◌∙◌, rules}
 use Rattle.chess_problems.specs.Outcomes.{AreLegal}
 use Rattle.mate_tree.specs.Variations.{next_move, variation, variations}
-use Rattle.mate_tree.specs.inside.Sheets.{Writes}
+use Rattle.mate_tree.proofs.AddedLines.{adds_as, adds_asked, adds_first, adds_none, each_all, each_closed, each_more}
 use Rattle.mate_tree.proofs.LegalMoves.{legal_at}
-use Rattle.mate_tree.proofs.VariationsBelow.{variation_told, variations_closed, variations_nothing, variations_whole}
-use Rattle.mate_tree.proofs.WrittenLines.{each_all, each_closed, each_more, writes_first, writes_none}
+use Rattle.mate_tree.proofs.VariationsBelow.{told_is, variations_closed, variations_nothing, variations_whole}
 use Rattle.mate_tree.proofs.variations.+play.Goals as goal
 
 pub write_next_moves-loop-index-init : goal.write_next_moves-loop-index-init
-write_next_moves-loop-index-init t g c = record { lines = writes_none (t.O.Write.contents c.args.out.now) c.args.sheet.now; room = refl }
+write_next_moves-loop-index-init t g c = adds_none c.args.writer.now
 
-pub write_next_moves-returns-then-is_closed-clause-lines : goal.write_next_moves-returns-then-is_closed-clause-lines
-write_next_moves-returns-then-is_closed-clause-lines t g c =
+pub write_next_moves-returns-then-is_closed : goal.write_next_moves-returns-then-is_closed
+write_next_moves-returns-then-is_closed t g c =
     each_closed (next_move (variations c.args.at.shown c.args.at.number) c.args.at.shown c.args.at.number c.args.at.left c.args.position.now)
-    c.args.moves.now c.loop-index.index (sym c.is_closed.ensures ∙ c.if-is_closed.true) c.loop-index.invariant.lines
+    c.args.moves.now c.loop-index.index (sym c.is_closed.ensures ∙ c.if-is_closed.true) c.loop-index.invariant
 
-pub write_next_moves-returns-clause-lines : goal.write_next_moves-returns-clause-lines
-write_next_moves-returns-clause-lines t g c =
+pub write_next_moves-returns : goal.write_next_moves-returns
+write_next_moves-returns t g c =
     each_all (next_move (variations c.args.at.shown c.args.at.number) c.args.at.shown c.args.at.number c.args.at.left c.args.position.now)
-    c.args.moves.now c.loop-index.index c.loop-index-test.false c.loop-index.invariant.lines
+    c.args.moves.now c.loop-index.index c.loop-index-test.false c.loop-index.invariant
 
 pub write_next_moves-write_next_move-requires : goal.write_next_moves-write_next_move-requires
 write_next_moves-write_next_move-requires t g c =
@@ -27,25 +26,18 @@ write_next_moves-write_next_move-requires t g c =
     search (rules, legal)
 
 pub write_next_moves-loop-index-preserved : goal.write_next_moves-loop-index-preserved
-write_next_moves-loop-index-preserved t g c = record {
-  lines = each_more (next_move (variations c.args.at.shown c.args.at.number) c.args.at.shown c.args.at.number
-      c.args.at.left c.args.position.now) c.args.moves.now c.loop-index.index c.index-moves-index.result
-      c.loop-index-test.true c.loop-index.invariant.lines
-      (subst (λ m. Writes (t.O.Write.contents c.loop-index.out) c.loop-index.sheet
-      (t.O.Write.contents c.write_next_move.new.out) c.write_next_move.new.sheet
-      (next_move (variations c.args.at.shown c.args.at.number) c.args.at.shown c.args.at.number c.args.at.left c.args.position.now m))
-      c.index-moves-index.is c.write_next_move.ensures.lines);
-  room = c.write_next_move.ensures.room ∙ c.loop-index.invariant.room;
-}
+write_next_moves-loop-index-preserved t g c =
+    each_more (next_move (variations c.args.at.shown c.args.at.number) c.args.at.shown c.args.at.number c.args.at.left c.args.position.now)
+    c.args.moves.now c.loop-index.index c.index-moves-index.result c.loop-index-test.true c.index-moves-index.is
+    c.loop-index.invariant c.write_next_move.ensures
 
-pub write_next_move-returns-clause-lines : goal.write_next_move-returns-clause-lines
-write_next_move-returns-clause-lines t g c =
-    writes_first c.write_move_line.ensures.line (subst (λ q. Writes (t.O.Write.contents c.write_move_line.new.out) c.write_move_line.new.sheet
-    (t.O.Write.contents c.write_variations.new.out) c.write_variations.new.sheet (variations c.args.at.shown c.args.at.number (c.args.at.left - 1) q))
-    c.after.ensures c.write_variations.ensures.lines)
+pub write_next_move-returns : goal.write_next_move-returns
+write_next_move-returns t g c =
+    adds_first c.write_move_line.ensures
+    (adds_as (ap (variations c.args.at.shown c.args.at.number (c.args.at.left - 1)) c.after.ensures) c.write_variations.ensures)
 
-pub write_sequels-returns-in-Mate-clause-lines : goal.write_sequels-returns-in-Mate-clause-lines
-write_sequels-returns-in-Mate-clause-lines t g c =
+pub write_sequels-returns-in-Mate : goal.write_sequels-returns-in-Mate
+write_sequels-returns-in-Mate t g c =
     rw (
       ← c.after-next.ensures,
       ← c.soonest-outcome.ensures.truth,
@@ -54,30 +46,27 @@ write_sequels-returns-in-Mate-clause-lines t g c =
       ← c.get.ensures.moves,
       ← c.as_slice.ensures.value,
     )
-    (writes_first c.write_defence_line.ensures c.write_next_moves.ensures.lines)
+    (adds_asked c.args.writer.now c.soonest-outcome.new.memo c.soonest-outcome.ensures.room
+    (adds_first c.write_defence_line.ensures c.write_next_moves.ensures))
 
-pub write_variation-returns-then-is_told-clause-lines : goal.write_variation-returns-then-is_told-clause-lines
-write_variation-returns-then-is_told-clause-lines t g c =
-    variation_told (variations (c.args.at.shown - 1) (c.args.at.number + 1)) (c.args.at.shown - 1) c.args.at.number c.args.at.left
-    c.args.position.now c.args.replies.now c.args.r (t.O.Write.contents c.args.out.now) c.args.sheet.now
-    (sym c.is_told.ensures ∙ c.if-is_told.true)
+pub write_variation-returns-then-is_told : goal.write_variation-returns-then-is_told
+write_variation-returns-then-is_told t g c =
+    adds_as (told_is (variations (c.args.at.shown - 1) (c.args.at.number + 1)) (c.args.at.shown - 1) c.args.at.number c.args.at.left
+    c.args.position.now c.args.replies.now c.args.r (sym c.is_told.ensures ∙ c.if-is_told.true)) (adds_none c.args.writer.now)
 
 pub write_variations-loop-index-init : goal.write_variations-loop-index-init
-write_variations-loop-index-init t g c = record {
-  lines = writes_none (t.O.Write.contents c.args.out.now) c.args.sheet.now;
-  room = c.parrying-list.ensures.room;
-}
+write_variations-loop-index-init t g c = adds_none _
 
-pub write_variations-returns-then-at-eq0-clause-lines : goal.write_variations-returns-then-at-eq0-clause-lines
-write_variations-returns-then-at-eq0-clause-lines t g c =
-    variations_nothing c.args.at.shown c.args.at.number c.args.at.left c.args.position.now
-    (t.O.Write.contents c.args.out.now) c.args.sheet.now c.if-at-eq0.true
+pub write_variations-returns-then-at-eq0 : goal.write_variations-returns-then-at-eq0
+write_variations-returns-then-at-eq0 t g c =
+    variations_nothing c.args.at.shown c.args.at.number c.args.at.left c.args.position.now c.args.writer.now c.if-at-eq0.true
 
-pub write_variations-returns-then-is_closed-clause-lines : goal.write_variations-returns-then-is_closed-clause-lines
-write_variations-returns-then-is_closed-clause-lines t g c =
-    variations_closed c.args.at.shown c.args.at.number c.args.at.left c.args.position.now
+pub write_variations-returns-then-is_closed : goal.write_variations-returns-then-is_closed
+write_variations-returns-then-is_closed t g c =
+    adds_asked c.args.writer.now c.parrying-list.new.memo c.parrying-list.ensures.room
+    (variations_closed c.args.at.shown c.args.at.number c.args.at.left c.args.position.now
     c.as_slice-replies.result.now c.loop-index.index c.if-at-eq0.false
-    (c.as_slice-replies.ensures.value ∙ c.parrying-list.ensures.list) (sym c.is_closed.ensures ∙ c.if-is_closed.true) c.loop-index.invariant.lines
+    (c.as_slice-replies.ensures.value ∙ c.parrying-list.ensures.list) (sym c.is_closed.ensures ∙ c.if-is_closed.true) c.loop-index.invariant)
 
 pub write_variations-write_variation-requires : goal.write_variations-write_variation-requires
 write_variations-write_variation-requires t g c =
@@ -87,20 +76,15 @@ write_variations-write_variation-requires t g c =
     search (rules, legal, own)
 
 pub write_variations-loop-index-preserved : goal.write_variations-loop-index-preserved
-write_variations-loop-index-preserved t g c = record {
-  lines = each_more (variation (variations (c.args.at.shown - 1) (c.args.at.number + 1))
-      (c.args.at.shown - 1) c.args.at.number c.args.at.left c.args.position.now c.as_slice-replies.result.now) c.as_slice-replies.result.now
-      c.loop-index.index c.index-replies-index.result c.loop-index-test.true c.loop-index.invariant.lines
-      (subst (λ r. Writes (t.O.Write.contents c.loop-index.out) c.loop-index.sheet
-      (t.O.Write.contents c.write_variation.new.out) c.write_variation.new.sheet
-      (variation (variations (c.args.at.shown - 1) (c.args.at.number + 1)) (c.args.at.shown - 1) c.args.at.number c.args.at.left
-      c.args.position.now c.as_slice-replies.result.now r))
-      c.index-replies-index.is c.write_variation.ensures.lines);
-  room = c.write_variation.ensures.room ∙ c.loop-index.invariant.room;
-}
+write_variations-loop-index-preserved t g c =
+    each_more (variation (variations (c.args.at.shown - 1) (c.args.at.number + 1))
+    (c.args.at.shown - 1) c.args.at.number c.args.at.left c.args.position.now c.as_slice-replies.result.now) c.as_slice-replies.result.now
+    c.loop-index.index c.index-replies-index.result c.loop-index-test.true c.index-replies-index.is
+    c.loop-index.invariant c.write_variation.ensures
 
-pub write_variations-returns-clause-lines : goal.write_variations-returns-clause-lines
-write_variations-returns-clause-lines t g c =
-    variations_whole c.args.at.shown c.args.at.number c.args.at.left c.args.position.now
+pub write_variations-returns : goal.write_variations-returns
+write_variations-returns t g c =
+    adds_asked c.args.writer.now c.parrying-list.new.memo c.parrying-list.ensures.room
+    (variations_whole c.args.at.shown c.args.at.number c.args.at.left c.args.position.now
     c.as_slice-replies.result.now c.loop-index.index c.if-at-eq0.false
-    (c.as_slice-replies.ensures.value ∙ c.parrying-list.ensures.list) c.loop-index-test.false c.loop-index.invariant.lines
+    (c.as_slice-replies.ensures.value ∙ c.parrying-list.ensures.list) c.loop-index-test.false c.loop-index.invariant)

@@ -1,0 +1,74 @@
+//! What writes the lines of trees.
+
+ghost use Rattle.std.specs.Prelude.{IfErr, None, OnOk, Some};
+ghost use Rattle.mate_tree.specs.inside.Sheets.{Takes, name_lines};
+ghost use Rattle.mate_tree.specs.inside.Writers.{Adds, AddsText, BeginsLine, EndsLine, Finishes, Stays};
+
+use crate::sheets::Sheet;
+use byte_streams::Stop;
+use chess_moves::Rays;
+use mate_search::Memo;
+use std::io::Write;
+
+/// What goes through all that writes a tree: the table to find moves by, the memo, and the sheet before the output.
+#[derive(Drop)]
+pub(crate) struct TreeWriter<'a, O> {
+    pub rays: &'a Rays,
+    pub memo: &'a mut Memo,
+    pub sheet: Sheet,
+    pub out: &'a mut O,
+}
+
+impl<O: Write> TreeWriter<'_, O> {
+    /// Begins a line.
+    pub(crate) fn begin(&mut self)
+        ensures { BeginsLine O.contents self.old self.new }
+    {
+        self.sheet.begin(self.out);
+    }
+
+    /// Adds a part of a line that was begun.
+    pub(crate) fn push(&mut self, text: &[u8])
+        ensures { AddsText O.contents self.old self.new text.now }
+    {
+        self.sheet.push(self.out, text);
+    }
+
+    /// Ends a line.
+    pub(crate) fn end(&mut self)
+        ensures { EndsLine O.contents self.old self.new }
+    {
+        self.sheet.end(self.out);
+    }
+
+    /// Writes a name, where it does not stand there and something is to stand below it.
+    pub(crate) fn write_name(&mut self, name: &[u8], is_open: bool, has: bool)
+        ensures { Adds O.contents self.old self.new (name_lines name.now is_open has) }
+    {
+        if is_open {
+            return;
+        }
+        if has {
+            self.begin();
+            self.push(name);
+            self.end();
+        }
+    }
+
+    /// Adds a text that stands before the lines.
+    pub(crate) fn add(&mut self, text: &[u8])
+        ensures takes { Takes (O.contents self.old.out.now) self.old.sheet (O.contents self.new.out.now) self.new.sheet text.now }
+        ensures stays { Stays self.old self.new }
+    {
+        self.sheet.add(self.out, text);
+    }
+
+    /// Writes a last text, and all that is pending; says whether all was written.
+    pub(crate) fn finish(&mut self, last: &[u8]) -> Result<(), Stop>
+        ensures ok { OnOk result (Finishes O.contents self.old self.new None last.now) }
+        ensures err { IfErr result (λ stop. Finishes O.contents self.old self.new (Some stop) last.now) }
+        ensures stays { Stays self.old self.new }
+    {
+        self.sheet.finish(self.out, last)
+    }
+}
