@@ -1,6 +1,7 @@
 -- The variations below a move, step by step.
 use Rattle.std.proofs.Common.{◌≡◌, ◌≢◌, ◌∙◌, ℕ, zero, suc, ◌+◌, ◌-◌, ◌≤◌, Bool, true, false, List, [], ◌++◌, Option, length, take, codes, refl}
-use Rattle.std.proofs.Common.{ap, arith}
+use Rattle.std.proofs.Common.{◌∷◌, ap, arith, nat_lt, sym}
+use Rattle.std.proofs.lemmas.Bool.Decides.{nat_tests}
 use Rattle.std.specs.Prelude.{if◌then◌else◌}
 use Rattle.std.specs.List.{flat_map}
 use Rattle.chess_board.specs.MakeMove.{after_setup}
@@ -9,7 +10,7 @@ use Rattle.chess_board.specs.Positions.{Setup}
 use Rattle.chess_moves.specs.Verdicts.{mating_moves}
 use Rattle.chess_notation.specs.SanText.{san_text}
 use Rattle.mate_tree.specs.Parries.{parrying}
-use Rattle.mate_tree.specs.Variations.{answered, follows, is_told, reply_word, variation, variations}
+use Rattle.mate_tree.specs.Variations.{answered, follows, is_told, mates_line, reply_word, variation, variations}
 use Rattle.mate_tree.specs.declared.writers.TreeWriter.{TreeWriter}
 use Rattle.mate_tree.specs.inside.Sheets.{is_closed}
 use Rattle.mate_tree.specs.inside.Writers.{Adds}
@@ -61,3 +62,30 @@ told_is below d i k q rs r told = by (is_told q rs r) told
     by : (yes : Bool) → yes ≡ true → [] ≡ (if yes then [] else answered below d i k q rs r (mating_moves (after_setup q r)))
     by true is = refl
     by false is = cc
+
+module _ (below : ℕ → Setup → List (List ℕ)) (d i k : ℕ) (q : Setup) (rs : List Move) (r : Move) where
+  own_is : is_told q rs r ≡ false → answered below d i k q rs r (mating_moves (after_setup q r)) ≡ variation below d i k q rs r
+  own_is own = by (is_told q rs r) own
+    where
+      by : (yes : Bool) → yes ≡ false → answered below d i k q rs r (mating_moves (after_setup q r))
+          ≡ (if yes then [] else answered below d i k q rs r (mating_moves (after_setup q r)))
+      by true is = cc
+      by false is = refl
+
+  some_is : (ms : List Move) → nat_lt 0 (length ms) ≡ true → mates_line i q rs r ms ∷ [] ≡ answered below d i k q rs r ms
+  some_is [] some = cc
+  some_is (m ∷ ms) some = refl
+
+  none_is : (ms : List Move) → nat_lt 0 (length ms) ≡ false → answered below d i k q [] r [] ≡ answered below d i k q rs r ms
+  none_is [] none = refl
+  none_is (m ∷ ms) none = absurd (grind (arith, nat_tests, none))
+
+  -- the line of a reply after which a move mates at once, or what stands there where none does
+  pub mated_is : (some : Bool) → is_told q rs r ≡ false → some ≡ nat_lt 0 (length (mating_moves (after_setup q r))) → some ≡ true
+      → (if some then mates_line i q rs r (mating_moves (after_setup q r)) ∷ [] else []) ≡ variation below d i k q rs r
+  mated_is some own is mates = rw mates (some_is (mating_moves (after_setup q r)) (sym is ∙ mates) ∙ own_is own)
+
+  pub sequels_are : (some : Bool) → is_told q rs r ≡ false → some ≡ nat_lt 0 (length (mating_moves (after_setup q r))) → some ≡ false
+      → (if some then mates_line i q rs r (mating_moves (after_setup q r)) ∷ [] else []) ++ answered below d i k q [] r []
+      ≡ variation below d i k q rs r
+  sequels_are some own is none = rw none (none_is (mating_moves (after_setup q r)) (sym is ∙ none) ∙ own_is own)

@@ -1,7 +1,8 @@
 //! The parts of a tree's lines, and where lines stand.
 
-ghost use Rattle.std.specs.Prelude.{◌≡◌, true};
+ghost use Rattle.std.specs.Prelude.{◌≡◌, ◌++◌, decimal, true};
 ghost use Rattle.chess_board.specs.Legality.{is_legal};
+ghost use Rattle.chess_notation.specs.SanText.{san_text};
 ghost use Rattle.chess_problems.specs.Outcomes.{AreLegal};
 ghost use Rattle.mate_tree.specs.Lines.{attack_text, attack_words, defence_text, dual_text, length_text, spaces};
 ghost use Rattle.mate_tree.specs.inside.Writers.{AddsText};
@@ -33,6 +34,23 @@ pub(crate) fn push_spaces<O: Write>(writer: &mut TreeWriter<'_, O>, count: usize
     }
 }
 
+/// Adds a move behind its number and these dots.
+fn push_move<O: Write>(
+    writer: &mut TreeWriter<'_, O>,
+    position: &Position,
+    m: Move,
+    number: u16,
+    dots: &[u8],
+)
+    requires { is_legal position.now m ≡ true }
+    ensures { AddsText O.contents writer.old writer.new (decimal number ++ dots.now ++ san_text position.now m) }
+{
+    let mut digits = Buffer::new();
+    writer.push(digits.format(number).as_bytes());
+    writer.push(dots);
+    writer.push(san(writer.rays, position, m).as_str().as_bytes());
+}
+
 /// Adds an attacker's move behind its number.
 pub(crate) fn push_attack<O: Write>(
     writer: &mut TreeWriter<'_, O>,
@@ -43,10 +61,7 @@ pub(crate) fn push_attack<O: Write>(
     requires { is_legal position.now m ≡ true }
     ensures { AddsText O.contents writer.old writer.new (attack_text number position.now m) }
 {
-    let mut digits = Buffer::new();
-    writer.push(digits.format(number).as_bytes());
-    writer.push(b".");
-    writer.push(san(writer.rays, position, m).as_str().as_bytes());
+    push_move(writer, position, m, number, b".");
 }
 
 /// Adds a defender's move behind its number.
@@ -59,10 +74,7 @@ pub(crate) fn push_defence<O: Write>(
     requires { is_legal position.now m ≡ true }
     ensures { AddsText O.contents writer.old writer.new (defence_text number position.now m) }
 {
-    let mut digits = Buffer::new();
-    writer.push(digits.format(number).as_bytes());
-    writer.push(b"...");
-    writer.push(san(writer.rays, position, m).as_str().as_bytes());
+    push_move(writer, position, m, number, b"...");
 }
 
 /// Adds an attacker's moves of one number, each behind a space.

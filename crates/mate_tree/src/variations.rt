@@ -1,7 +1,7 @@
 //! The solution as chess magazines print it: below a move of the attacker's the replies that parry, those together that the same mates
 //! answer.
 
-ghost use Rattle.std.specs.Prelude.{◌≡◌, ◌+◌, ◌-◌, ◌<◌, ◌≤◌, [], ◌∷◌, map, nat_lt, true};
+ghost use Rattle.std.specs.Prelude.{◌≡◌, ◌+◌, ◌-◌, ◌<◌, ◌≤◌, [], ◌∷◌, if◌then◌else◌, length, map, nat_lt, true};
 ghost use Rattle.std.specs.Str.{bytes_eq};
 ghost use Rattle.std.specs.List.{flat_map};
 ghost use Rattle.chess_board.specs.Legality.{is_legal};
@@ -147,28 +147,35 @@ fn push_replies<O: Write>(
     }
 }
 
-/// Writes the line of replies that the same moves answer, which mate at once.
+/// Writes the line of replies that the same moves answer, which mate at once, where there are such moves; says whether there are.
 fn write_mates_line<O: Write>(
     writer: &mut TreeWriter<'_, O>,
     position: &Position,
     replies: &[Move],
     r: Move,
-    moves: &[Move],
     at: Level,
-)
+) -> bool
     requires legal { AreLegal position.now replies.now }
     requires own { is_legal position.now r ≡ true }
-    requires answers { AreLegal (after_setup position.now r) moves.now }
     requires number { (1 ≤ at.number) × (at.number ≤ 255) }
-    ensures { Adds O.contents writer.old writer.new (mates_line at.number position.now replies.now r moves.now ∷ []) }
+    ensures some { result ≡ nat_lt 0 (length (mating_moves (after_setup position.now r))) }
+    ensures line { Adds O.contents writer.old writer.new
+        (if result then mates_line at.number position.now replies.now r (mating_moves (after_setup position.now r)) ∷ [] else []) }
 {
+    let next = after(position, r);
+    let list = mates(writer.rays, &next);
+    let moves = list.as_slice();
+    if moves.is_empty() {
+        return false;
+    }
     writer.begin();
     push_spaces(writer, 4 * (at.number as usize) - 2);
     push_defence(writer, position, r, at.number);
     push_replies(writer, position, replies, r);
-    push_attacks(writer, &after(position, r), moves, at.number + 1);
+    push_attacks(writer, &next, moves, at.number + 1);
     push_dual(writer, 1 < moves.len());
     writer.end();
+    true
 }
 
 /// Writes the line of an attacker's move, with which it mates in as many moves as are left, and what it threatens.
@@ -246,10 +253,8 @@ fn write_variation<O: Write>(
     if is_told(writer.rays, position, replies, r) {
         return;
     }
-    let list = mates(writer.rays, &after(position, r));
-    match list.as_slice() {
-        [] => write_sequels(writer, position, r, at),
-        moves => write_mates_line(writer, position, replies, r, moves, at),
+    if !write_mates_line(writer, position, replies, r, at) {
+        write_sequels(writer, position, r, at);
     }
 }
 

@@ -1,9 +1,9 @@
 use Rattle.std.proofs.Common.{◌+◌, ◌-◌, sym, ap, subst, ◌∙◌, rules}
 use Rattle.chess_problems.specs.Outcomes.{AreLegal}
 use Rattle.mate_tree.specs.Variations.{next_move, variation, variations}
-use Rattle.mate_tree.proofs.AddedLines.{adds_as, adds_asked, adds_first, adds_none, each_all, each_closed, each_more}
+use Rattle.mate_tree.proofs.AddedLines.{adds_as, adds_asked, adds_first, adds_more, adds_none, each_all, each_closed, each_more}
 use Rattle.mate_tree.proofs.LegalMoves.{legal_at}
-use Rattle.mate_tree.proofs.VariationsBelow.{told_is, variations_closed, variations_nothing, variations_whole}
+use Rattle.mate_tree.proofs.VariationsBelow.{mated_is, sequels_are, told_is, variations_closed, variations_nothing, variations_whole}
 use Rattle.mate_tree.proofs.variations.+play.Goals as goal
 
 pub write_next_moves-loop-index-init : goal.write_next_moves-loop-index-init
@@ -53,6 +53,20 @@ pub write_variation-returns-then-is_told : goal.write_variation-returns-then-is_
 write_variation-returns-then-is_told t g c =
     adds_as (told_is (variations (c.args.at.shown - 1) (c.args.at.number + 1)) (c.args.at.shown - 1) c.args.at.number c.args.at.left
     c.args.position.now c.args.replies.now c.args.r (sym c.is_told.ensures ∙ c.if-is_told.true)) (adds_none c.args.writer.now)
+
+pub write_variation-returns-then-not-write_mates_line : goal.write_variation-returns-then-not-write_mates_line
+write_variation-returns-then-not-write_mates_line t g c =
+    adds_as (sequels_are (variations (c.args.at.shown - 1) (c.args.at.number + 1)) (c.args.at.shown - 1) c.args.at.number c.args.at.left
+    c.args.position.now c.args.replies.now c.args.r c.write_mates_line.result (sym c.is_told.ensures ∙ c.if-is_told.false)
+    c.write_mates_line.ensures.some c.if-not-write_mates_line.true)
+    (adds_more c.write_mates_line.ensures.line c.write_sequels.ensures)
+
+pub write_variation-returns-else-not-write_mates_line : goal.write_variation-returns-else-not-write_mates_line
+write_variation-returns-else-not-write_mates_line t g c =
+    adds_as (mated_is (variations (c.args.at.shown - 1) (c.args.at.number + 1)) (c.args.at.shown - 1) c.args.at.number c.args.at.left
+    c.args.position.now c.args.replies.now c.args.r c.write_mates_line.result (sym c.is_told.ensures ∙ c.if-is_told.false)
+    c.write_mates_line.ensures.some c.if-not-write_mates_line.false)
+    c.write_mates_line.ensures.line
 
 pub write_variations-loop-index-init : goal.write_variations-loop-index-init
 write_variations-loop-index-init t g c = adds_none _

@@ -1,7 +1,7 @@
 use Rattle.std.proofs.Common.{◌≡◌, decimal, rules}
 use Rattle.chess_notation.specs.SanText.{san_text}
 use Rattle.mate_tree.proofs.AddedLines.{text_more}
-use Rattle.mate_tree.proofs.lines.push_attack.Goals as goal
+use Rattle.mate_tree.proofs.lines.push_move.Goals as goal
 
 pub returns : goal.returns
 returns g c =
