@@ -7,9 +7,11 @@ use Rattle.std.proofs.lemmas.Grind.{flat_map-append}
 use Rattle.mate_search.specs.Memos.{MemoValue}
 use Rattle.mate_tree.specs.SetPlay.{headed}
 use Rattle.mate_tree.specs.declared.writers.TreeWriter.{TreeWriter}
-use Rattle.mate_tree.specs.inside.Sheets.{headed_on, is_closed, is_some_line, name_lines}
-use Rattle.mate_tree.specs.inside.Writers.{Adds, AddsText, BeginsLine, EndsLine, Stays}
-use Rattle.mate_tree.proofs.WrittenLines.{says_more, says_none, writes_closed, writes_more, writes_none, writes_one}
+use Rattle.mate_tree.specs.inside.Sheets.{Room, behind, ending, headed_on, is_closed, is_some_line, name_lines, past, said, shown}
+use Rattle.mate_tree.specs.inside.Writers.{Adds, AddsText, BeginsLine, Brings, EndsLine, Stays}
+use Rattle.mate_tree.proofs.Steps.{by_closed, by_none, by_on}
+use Rattle.mate_tree.proofs.WrittenLines.{behind_append, behind_cut, behind_one, nothing_behind, nothing_said, past_append, past_none, said_append}
+use Rattle.mate_tree.proofs.WrittenLines.{said_cut, said_one, shown_append, shown_none}
 
 module _ {D : Type 0} where
   stays_none : (s : TreeWriter D) → Stays s s
@@ -26,13 +28,43 @@ module _ {D : Type 0} where
   stays_asked s m same stays = record { room = stays.room ∙ same; memo = stays.memo; out = stays.out }
 
 module _ {D : Type 0} {contents : D → Option (List ℕ)} where
+  -- ---- texts
+
+  brings_none : (s : TreeWriter D) → Brings contents s s [] s.sheet.room
+  brings_none s = record {
+    goes = by_none s.sheet.stop (contents s.out.now) s.sheet.pending (s.sheet.room ≡ s.sheet.room) refl;
+    stays = stays_none s;
+  }
+
+  -- the same by another word for the text and the room
+  brings_as : {s t : TreeWriter D} {x y : List ℕ} {r q : Room} → x ≡ y → r ≡ q → Brings contents s t x r → Brings contents s t y q
+  brings_as {s} {t} {x} {y} {r} {q} same room brings = subst (Brings contents s t y) room (subst (λ z. Brings contents s t z r) same brings)
+
+  -- a text, and another that goes by the room that the first leaves
+  brings_on : {s t u : TreeWriter D} {x : List ℕ} {r : Room} (text : Room → List ℕ) (room : Room → Room) → Brings contents s t x r
+      → Brings contents t u (text t.sheet.room) (room t.sheet.room) → Brings contents s u (x ++ text r) (room r)
+  brings_on {s} {t} {u} {x} {r} text room first second = record {
+    goes = by_on s.sheet.stop t.sheet.stop u.sheet.stop (contents s.out.now) (contents t.out.now) (contents u.out.now)
+        s.sheet.pending t.sheet.pending u.sheet.pending x (text t.sheet.room) (text r)
+        (t.sheet.room ≡ r) (u.sheet.room ≡ room t.sheet.room) (u.sheet.room ≡ room r)
+        (λ same. (ap text same, λ later. later ∙ ap room same)) first.goes second.goes;
+    stays = stays_on first.stays second.stays;
+  }
+
+  brings_asked : {t : TreeWriter D} {x : List ℕ} {r : Room} (s : TreeWriter D) (m : MemoValue) → m.room ≡ s.memo.now.room
+      → Brings contents (asked s m) t x r → Brings contents s t x r
+  brings_asked s m same brings = record { goes = brings.goes; stays = stays_asked s m same brings.stays }
+
   -- ---- parts of a line
 
   pub text_none : (s : TreeWriter D) → AddsText contents s s []
-  text_none s = record { says = says_none (contents s.out.now) s.sheet; stays = stays_none s }
+  text_none s = record { brings = brings_as (shown_none s.sheet.room) (past_none s.sheet.room) (brings_none s) }
 
   pub text_more : {s t u : TreeWriter D} {x y : List ℕ} → AddsText contents s t x → AddsText contents t u y → AddsText contents s u (x ++ y)
-  text_more first second = record { says = says_more first.says second.says; stays = stays_on first.stays second.stays }
+  text_more {s} {t} {u} {x} {y} first second = record {
+    brings = brings_as (shown_append s.sheet.room x y) (past_append s.sheet.room x y)
+        (brings_on (λ r. shown r y) (λ r. past r y) first.brings second.brings);
+  }
 
   -- the same by another word for the text
   pub text_as : {s t : TreeWriter D} {x y : List ℕ} → x ≡ y → AddsText contents s t x → AddsText contents s t y
@@ -40,23 +72,27 @@ module _ {D : Type 0} {contents : D → Option (List ℕ)} where
 
   pub text_asked : {t : TreeWriter D} {x : List ℕ} (s : TreeWriter D) (m : MemoValue) → m.room ≡ s.memo.now.room
       → AddsText contents (asked s m) t x → AddsText contents s t x
-  text_asked s m same adds = record { says = adds.says; stays = stays_asked s m same adds.stays }
+  text_asked s m same adds = record { brings = brings_asked s m same adds.brings }
 
   -- ---- lines
 
   pub adds_none : (s : TreeWriter D) → Adds contents s s []
-  adds_none s = record { writes = writes_none (contents s.out.now) s.sheet; stays = stays_none s }
+  adds_none s = record { brings = brings_as (nothing_said s.sheet.room) (nothing_behind s.sheet.room) (brings_none s) }
 
   -- a line that was begun and ended
   pub adds_line : {s t u v : TreeWriter D} {l : List ℕ} → BeginsLine contents s t → AddsText contents t u l → EndsLine contents u v
       → Adds contents s v (l ∷ [])
-  adds_line first second third = record {
-    writes = writes_one first.begins second.says third.ends;
-    stays = stays_on first.stays (stays_on second.stays third.stays);
+  adds_line {s} {t} {u} {v} {l} first second third = record {
+    brings = brings_as (said_one s.sheet.room l) (behind_one s.sheet.room l)
+        (brings_on (λ r. shown r l ++ ending (past r l)) (λ r. past r l) first.brings
+        (brings_on ending (λ r. r) second.brings third.brings));
   }
 
   pub adds_more : {s t u : TreeWriter D} {xs ys : List (List ℕ)} → Adds contents s t xs → Adds contents t u ys → Adds contents s u (xs ++ ys)
-  adds_more first second = record { writes = writes_more first.writes second.writes; stays = stays_on first.stays second.stays }
+  adds_more {s} {t} {u} {xs} {ys} first second = record {
+    brings = brings_as (said_append s.sheet.room xs ys) (behind_append s.sheet.room xs ys)
+        (brings_on (λ r. said r ys) (λ r. behind r ys) first.brings second.brings);
+  }
 
   pub adds_first : {s t u : TreeWriter D} {l : List ℕ} {ls : List (List ℕ)} → Adds contents s t (l ∷ []) → Adds contents t u ls
       → Adds contents s u (l ∷ ls)
@@ -68,11 +104,25 @@ module _ {D : Type 0} {contents : D → Option (List ℕ)} where
 
   pub adds_asked : {t : TreeWriter D} {ls : List (List ℕ)} (s : TreeWriter D) (m : MemoValue) → m.room ≡ s.memo.now.room
       → Adds contents (asked s m) t ls → Adds contents s t ls
-  adds_asked s m same adds = record { writes = adds.writes; stays = stays_asked s m same adds.stays }
+  adds_asked s m same adds = record { brings = brings_asked s m same adds.brings }
 
+  -- Once a line was left out, or writing stopped, nothing more is written.
   adds_closed : {s t : TreeWriter D} {xs : List (List ℕ)} (ys : List (List ℕ)) → is_closed t.sheet ≡ true → Adds contents s t xs
       → Adds contents s t (xs ++ ys)
-  adds_closed ys closed adds = record { writes = writes_closed ys closed adds.writes; stays = adds.stays }
+  adds_closed {s} {t} {xs} ys closed adds =
+      let room = behind s.sheet.room xs in
+      let rest : (t.sheet.room ≡ room) → t.sheet.room.cut ≡ true → (said room ys ≡ []) × (t.sheet.room ≡ behind room ys) =
+      λ same cut. let cut' : room.cut ≡ true = ap (λ (r : Room). r.cut) (sym same) ∙ cut in
+      (said_cut room ys cut', same ∙ sym (behind_cut room ys cut')) in
+      record {
+        brings = brings_as (said_append s.sheet.room xs ys) (behind_append s.sheet.room xs ys) (record {
+          goes = by_closed s.sheet.stop t.sheet.stop t.sheet.room.cut (contents s.out.now) (contents t.out.now) s.sheet.pending t.sheet.pending
+              (said s.sheet.room xs) (said room ys) (t.sheet.room ≡ room) (t.sheet.room ≡ behind room ys) closed rest adds.brings.goes;
+          stays = adds.brings.stays;
+        });
+      }
+
+-- ---- what is shown of each of a list, one after the other
 
 module _ {X Y : Type 0} (f : X → List Y) (xs : List X) where
   -- one more of a list

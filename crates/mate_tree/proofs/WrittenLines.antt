@@ -10,9 +10,9 @@ use Rattle.byte_streams.specs.declared.stops.Stop.{Stop}
 use Rattle.mate_tree.specs.Layouts.{figured, figurine, lettered, unindented}
 use Rattle.mate_tree.specs.declared.forms.Pieces.{Pieces}
 use Rattle.mate_tree.specs.declared.forms.Pieces.TheVariants as pieces
-use Rattle.mate_tree.specs.inside.Sheets.{GoesBy, Room, SheetValue, Begins, Ends, Says, Takes, Writes, behind, ending, is_closed}
+use Rattle.mate_tree.specs.inside.Sheets.{Goes, GoesBy, Room, SheetValue, Takes, behind, ending}
 use Rattle.mate_tree.specs.inside.Sheets.{mark, next, part, past, said, shown, stays_fresh}
-use Rattle.mate_tree.proofs.Steps.{by_as, by_closed, by_none, by_on}
+use Rattle.mate_tree.proofs.Steps.{by_as, by_none, by_on}
 
 -- ---- texts
 
@@ -101,7 +101,7 @@ shown_none_at left false column pieces.Figurines begun false = refl
 shown_none_at left false column (pieces.Letters l) begun true = refl
 shown_none_at left false column (pieces.Letters l) begun false = refl
 
-shown_none : (r : Room) → [] ≡ shown r []
+pub shown_none : (r : Room) → [] ≡ shown r []
 shown_none r = shown_none_at r.left r.cut r.column r.pieces r.begun r.fresh
 
 past_none_at : (left : Option ℕ) (cut column : Bool) (shows : Pieces) (begun fresh : Bool)
@@ -110,7 +110,7 @@ past_none_at left true column shows begun fresh = refl
 past_none_at left false column shows begun true = refl
 past_none_at left false column shows begun false = refl
 
-past_none : (r : Room) → r ≡ past r []
+pub past_none : (r : Room) → r ≡ past r []
 past_none r = past_none_at r.left r.cut r.column r.pieces r.begun r.fresh
 
 shown_append_at : (left : Option ℕ) (cut column : Bool) (shows : Pieces) (begun fresh : Bool) (xs ys : List ℕ)
@@ -120,7 +120,7 @@ shown_append_at left true column shows begun fresh xs ys = refl
 shown_append_at left false column shows begun fresh xs ys =
     figured_append shows (part fresh xs) (part (stays_fresh fresh xs) ys) ∙ ap (figured shows) (part_append fresh xs ys)
 
-shown_append : (r : Room) (xs ys : List ℕ) → shown r xs ++ shown (past r xs) ys ≡ shown r (xs ++ ys)
+pub shown_append : (r : Room) (xs ys : List ℕ) → shown r xs ++ shown (past r xs) ys ≡ shown r (xs ++ ys)
 shown_append r xs ys = shown_append_at r.left r.cut r.column r.pieces r.begun r.fresh xs ys
 
 past_append_at : (left : Option ℕ) (cut column : Bool) (shows : Pieces) (begun fresh : Bool) (xs ys : List ℕ)
@@ -128,7 +128,7 @@ past_append_at : (left : Option ℕ) (cut column : Bool) (shows : Pieces) (begun
 past_append_at left true column shows begun fresh xs ys = refl
 past_append_at left false column shows begun fresh xs ys = ap (room_of left false column shows begun) (fresh_append fresh xs ys)
 
-past_append : (r : Room) (xs ys : List ℕ) → past (past r xs) ys ≡ past r (xs ++ ys)
+pub past_append : (r : Room) (xs ys : List ℕ) → past (past r xs) ys ≡ past r (xs ++ ys)
 past_append r xs ys = past_append_at r.left r.cut r.column r.pieces r.begun r.fresh xs ys
 
 past_open_at : (left : Option ℕ) (cut column : Bool) (shows : Pieces) (begun before fresh : Bool) (text : List ℕ) → cut ≡ false → fresh ≡ stays_fresh before text
@@ -148,59 +148,39 @@ past_cut r x cut = rw cut refl
 shown_cut : (r : Room) (x : List ℕ) → r.cut ≡ true → shown r x ≡ []
 shown_cut r x cut = rw cut refl
 
-pub says_none : (a : Option (List ℕ)) (s : SheetValue) → Says a s a s []
-says_none a s = record {
-  goes = by_as s.stop s.stop a a s.pending s.pending [] (shown s.room []) (s.room ≡ s.room) (s.room ≡ past s.room [])
-      (shown_none s.room) (λ same. past_none s.room) (by_none s.stop a s.pending (s.room ≡ s.room) refl);
-}
-
-pub says_more : {a b c : Option (List ℕ)} {s t u : SheetValue} {x y : List ℕ} → Says a s b t x → Says b t c u y → Says a s c u (x ++ y)
-says_more {a} {b} {c} {s} {t} {u} {x} {y} first second = record {
-  goes = by_as s.stop u.stop a c s.pending u.pending (shown s.room x ++ shown (past s.room x) y) (shown s.room (x ++ y))
-      (u.room ≡ past (past s.room x) y) (u.room ≡ past s.room (x ++ y))
-      (shown_append s.room x y) (λ same. same ∙ past_append s.room x y)
-      (by_on s.stop t.stop u.stop a b c s.pending t.pending u.pending (shown s.room x) (shown t.room y) (shown (past s.room x) y)
-      (t.room ≡ past s.room x) (u.room ≡ past t.room y) (u.room ≡ past (past s.room x) y)
-      (λ same. (ap (λ r. shown r y) same, λ later. later ∙ ap (λ r. past r y) same)) first.goes second.goes);
-}
-
 -- A part is written, where what is shown of it is.
 pub says_part : {a b : Option (List ℕ)} {t v : SheetValue} {shows : List ℕ} (s : SheetValue) (text : List ℕ) (none : Bool) → s.room.cut ≡ false
     → shows ≡ part s.room.fresh text → none ≡ (length shows == 0) → v ≡ record s { room = record s.room { fresh = s.room.fresh && none } }
-    → Takes a v b t (figured v.room.pieces shows) → Says a s b t text
+    → Takes a v b t (figured v.room.pieces shows) → Goes a s b t (shown s.room text) (past s.room text)
 says_part {a} {b} {t} {v} {shows} s text none cut is nothing passed takes =
     let fresh = s.room.fresh && none in
     let stays : fresh ≡ stays_fresh s.room.fresh text =
     ap (λ n. s.room.fresh && n) (nothing ∙ ap (λ l. length l == 0) is) in
     let own = subst (λ w. Takes a w b t (figured w.room.pieces shows)) passed takes in
-    record {
-      goes = by_as s.stop t.stop a b s.pending t.pending (figured s.room.pieces shows) (shown s.room text)
-          (t.room ≡ record s.room { fresh = fresh }) (t.room ≡ past s.room text)
-          (shown_open s.room shows text cut is) (λ same. same ∙ past_open s.room fresh text cut stays) own.goes;
-    }
+    by_as s.stop t.stop a b s.pending t.pending (figured s.room.pieces shows) (shown s.room text)
+    (t.room ≡ record s.room { fresh = fresh }) (t.room ≡ past s.room text)
+    (shown_open s.room shows text cut is) (λ same. same ∙ past_open s.room fresh text cut stays) own.goes
 
 -- Nothing is, where a line was left out.
-pub says_cut : (a : Option (List ℕ)) (s : SheetValue) (text : List ℕ) → s.room.cut ≡ true → Says a s a s text
-says_cut a s text cut = record {
-  goes = by_as s.stop s.stop a a s.pending s.pending [] (shown s.room text) (s.room ≡ s.room) (s.room ≡ past s.room text)
-      (sym (shown_cut s.room text cut)) (λ same. sym (past_cut s.room text cut)) (by_none s.stop a s.pending (s.room ≡ s.room) refl);
-}
+pub says_cut : (a : Option (List ℕ)) (s : SheetValue) (text : List ℕ) → s.room.cut ≡ true → Goes a s a s (shown s.room text) (past s.room text)
+says_cut a s text cut =
+    by_as s.stop s.stop a a s.pending s.pending [] (shown s.room text) (s.room ≡ s.room) (s.room ≡ past s.room text)
+    (sym (shown_cut s.room text cut)) (λ same. sym (past_cut s.room text cut)) (by_none s.stop a s.pending (s.room ≡ s.room) refl)
 
 pub figured_by : (shows own : Pieces) (x : List ℕ) → own ≡ shows → figured own x ≡ figured shows x
 figured_by shows own x is = rw is refl
 
 -- A line is begun, where what stands before it is written, and it is counted.
 pub begins_by : {a b : Option (List ℕ)} {s t u : SheetValue} {text : List ℕ} → text ≡ mark s.room → Takes a s b t text
-    → u ≡ record t { room = next t.room } → Begins a s b u
-begins_by {a} {b} {s} {t} {u} {text} is takes counted = subst (λ v. Begins a s b v) (sym counted) (record {
-  goes = by_as s.stop t.stop a b s.pending t.pending text (mark s.room) (t.room ≡ s.room) (next t.room ≡ next s.room)
-      is (λ same. ap next same) takes.goes;
-})
+    → u ≡ record t { room = next t.room } → Goes a s b u (mark s.room) (next s.room)
+begins_by {a} {b} {s} {t} {u} {text} is takes counted =
+    subst (λ v. Goes a s b v (mark s.room) (next s.room)) (sym counted)
+    (by_as s.stop t.stop a b s.pending t.pending text (mark s.room) (t.room ≡ s.room) (next t.room ≡ next s.room)
+    is (λ same. ap next same) takes.goes)
 
-pub ends_by : {a b : Option (List ℕ)} {s t : SheetValue} {text : List ℕ} → text ≡ ending s.room → Takes a s b t text → Ends a s b t
-ends_by {a} {b} {s} {t} {text} is takes = record {
-  goes = by_as s.stop t.stop a b s.pending t.pending text (ending s.room) (t.room ≡ s.room) (t.room ≡ s.room) is (λ same. same) takes.goes;
-}
+pub ends_by : {a b : Option (List ℕ)} {s t : SheetValue} {text : List ℕ} → text ≡ ending s.room → Takes a s b t text → Goes a s b t (ending s.room) s.room
+ends_by {a} {b} {s} {t} {text} is takes =
+    by_as s.stop t.stop a b s.pending t.pending text (ending s.room) (t.room ≡ s.room) (t.room ≡ s.room) is (λ same. same) takes.goes
 
 -- texts of bytes, one after the other
 pub bytes_more : {a b c : Option (List ℕ)} {s t u : SheetValue} {x : List ℕ} (f : ℕ → List ℕ) (xs : List ℕ) (i : ℕ) → i < length xs
@@ -215,47 +195,23 @@ bytes_all f xs i past takes = takes_as (ap (flat_map f) (take_all i xs past)) ta
 
 -- ---- lines
 
-said_one : (r : Room) (l : List ℕ) → mark r ++ (shown (next r) l ++ ending (past (next r) l)) ≡ said r (l ∷ [])
+pub said_one : (r : Room) (l : List ℕ) → mark r ++ (shown (next r) l ++ ending (past (next r) l)) ≡ said r (l ∷ [])
 unfolding said
 said_one r l = sym (append-nil (mark r ++ (shown (next r) l ++ ending (past (next r) l))))
 
-behind_one : (r : Room) (l : List ℕ) → past (next r) l ≡ behind r (l ∷ [])
+pub behind_one : (r : Room) (l : List ℕ) → past (next r) l ≡ behind r (l ∷ [])
 unfolding behind
 behind_one r l = refl
 
--- a line that was begun and ended
-pub writes_one : {a b c d : Option (List ℕ)} {s t u v : SheetValue} {l : List ℕ} → Begins a s b t → Says b t c u l → Ends c u d v
-    → Writes a s d v (l ∷ [])
-writes_one {a} {b} {c} {d} {s} {t} {u} {v} {l} first second third =
-    let text = shown t.room l ++ ending (past t.room l) in
-    let rest = by_on t.stop u.stop v.stop b c d t.pending u.pending v.pending (shown t.room l) (ending u.room) (ending (past t.room l))
-    (u.room ≡ past t.room l) (v.room ≡ u.room) (v.room ≡ past t.room l)
-    (λ same. (ap ending same, λ later. later ∙ same)) second.goes third.goes in
-    let whole = shown (next s.room) l ++ ending (past (next s.room) l) in
-    record {
-      goes = by_as s.stop v.stop a d s.pending v.pending (mark s.room ++ whole) (said s.room (l ∷ []))
-          (v.room ≡ past (next s.room) l) (v.room ≡ behind s.room (l ∷ []))
-          (said_one s.room l) (λ same. same ∙ behind_one s.room l)
-          (by_on s.stop t.stop v.stop a b d s.pending t.pending v.pending (mark s.room) text whole
-          (t.room ≡ next s.room) (v.room ≡ past t.room l) (v.room ≡ past (next s.room) l)
-          (λ same. (ap (λ r. shown r l ++ ending (past r l)) same, λ later. later ∙ ap (λ r. past r l) same)) first.goes rest);
-    }
-
-nothing_said : (r : Room) → [] ≡ said r []
+pub nothing_said : (r : Room) → [] ≡ said r []
 unfolding said
 nothing_said r = refl
 
-nothing_behind : (r : Room) → r ≡ behind r []
+pub nothing_behind : (r : Room) → r ≡ behind r []
 unfolding behind
 nothing_behind r = refl
 
-pub writes_none : (a : Option (List ℕ)) (s : SheetValue) → Writes a s a s []
-writes_none a s = record {
-  goes = by_as s.stop s.stop a a s.pending s.pending [] (said s.room []) (s.room ≡ s.room) (s.room ≡ behind s.room [])
-      (nothing_said s.room) (λ same. nothing_behind s.room) (by_none s.stop a s.pending (s.room ≡ s.room) refl);
-}
-
-said_append : (r : Room) (xs ys : List (List ℕ)) → said r xs ++ said (behind r xs) ys ≡ said r (xs ++ ys)
+pub said_append : (r : Room) (xs ys : List (List ℕ)) → said r xs ++ said (behind r xs) ys ≡ said r (xs ++ ys)
 unfolding said behind
 said_append r [] ys = refl
 said_append r (x ∷ xs) ys =
@@ -263,21 +219,10 @@ said_append r (x ∷ xs) ys =
     append_assoc first (said (past (next r) x) xs) (said (behind (past (next r) x) xs) ys)
     ∙ ap (λ t. first ++ t) (said_append (past (next r) x) xs ys)
 
-behind_append : (r : Room) (xs ys : List (List ℕ)) → behind (behind r xs) ys ≡ behind r (xs ++ ys)
+pub behind_append : (r : Room) (xs ys : List (List ℕ)) → behind (behind r xs) ys ≡ behind r (xs ++ ys)
 unfolding behind
 behind_append r [] ys = refl
 behind_append r (x ∷ xs) ys = behind_append (past (next r) x) xs ys
-
-pub writes_more : {a b c : Option (List ℕ)} {s t u : SheetValue} {xs ys : List (List ℕ)} → Writes a s b t xs → Writes b t c u ys
-    → Writes a s c u (xs ++ ys)
-writes_more {a} {b} {c} {s} {t} {u} {xs} {ys} first second = record {
-  goes = by_as s.stop u.stop a c s.pending u.pending (said s.room xs ++ said (behind s.room xs) ys) (said s.room (xs ++ ys))
-      (u.room ≡ behind (behind s.room xs) ys) (u.room ≡ behind s.room (xs ++ ys))
-      (said_append s.room xs ys) (λ same. same ∙ behind_append s.room xs ys)
-      (by_on s.stop t.stop u.stop a b c s.pending t.pending u.pending (said s.room xs) (said t.room ys) (said (behind s.room xs) ys)
-      (t.room ≡ behind s.room xs) (u.room ≡ behind t.room ys) (u.room ≡ behind (behind s.room xs) ys)
-      (λ same. (ap (λ r. said r ys) same, λ later. later ∙ ap (λ r. behind r ys) same)) first.goes second.goes);
-}
 
 -- ---- once a line was left out
 
@@ -306,16 +251,3 @@ pub behind_cut : (r : Room) (ls : List (List ℕ)) → r.cut ≡ true → behind
 unfolding behind
 behind_cut r [] cut = refl
 behind_cut r (l ∷ ls) cut = ap (λ q. behind q ls) (behind_line r l cut) ∙ behind_cut r ls cut
-
--- Once a line was left out, or writing stopped, nothing more is written.
-pub writes_closed : {a b : Option (List ℕ)} {s t : SheetValue} {xs : List (List ℕ)} (ys : List (List ℕ)) → is_closed t ≡ true → Writes a s b t xs
-    → Writes a s b t (xs ++ ys)
-writes_closed {a} {b} {s} {t} {xs} ys closed before = record {
-  goes = by_as s.stop t.stop a b s.pending t.pending (said s.room xs ++ said (behind s.room xs) ys) (said s.room (xs ++ ys))
-      (t.room ≡ behind (behind s.room xs) ys) (t.room ≡ behind s.room (xs ++ ys))
-      (said_append s.room xs ys) (λ same. same ∙ behind_append s.room xs ys)
-      (by_closed s.stop t.stop t.room.cut a b s.pending t.pending (said s.room xs) (said (behind s.room xs) ys)
-      (t.room ≡ behind s.room xs) (t.room ≡ behind (behind s.room xs) ys) closed
-      (λ same cut. let cut' : (behind s.room xs).cut ≡ true = ap (λ (r : Room). r.cut) (sym same) ∙ cut in
-      (said_cut (behind s.room xs) ys cut', same ∙ sym (behind_cut (behind s.room xs) ys cut'))) before.goes);
-}

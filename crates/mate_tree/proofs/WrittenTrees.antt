@@ -24,7 +24,7 @@ use Rattle.mate_tree.specs.Trees.{mate_lines, printed, shown_lines, tree_lines}
 use Rattle.mate_tree.specs.TreeReplies.{tree_reply}
 use Rattle.mate_tree.specs.declared.writers.TreeWriter.{TreeWriter}
 use Rattle.mate_tree.specs.inside.Replies.{IsJust}
-use Rattle.mate_tree.specs.inside.Sheets.{GoesBy, SheetValue, Takes, Writes, behind, closing, room_for, said}
+use Rattle.mate_tree.specs.inside.Sheets.{Goes, GoesBy, SheetValue, Takes, behind, closing, room_for, said}
 use Rattle.mate_tree.specs.inside.Writers.{Adds}
 use Rattle.mate_tree.proofs.AddedLines.{adds_as, adds_more}
 use Rattle.mate_tree.proofs.Steps.{by_as, by_on}
@@ -52,7 +52,7 @@ fresh_goes form end a d s x y same fresh goes =
 pub reply_goes : (form : Form) (r : RecordValue) (o : Outcome) (answer last : List ℕ) (end : Option Stop) (a b c d : Option (List ℕ))
     (s t u : SheetValue) → o ≡ truth (problem_of r) → answer ≡ line (answer_text r o)
     → s ≡ record { pending = []; room = room_for form; stop = None }
-    → Takes a s b t answer → Writes b t c u (tree_lines form (problem_of r) o) → last ≡ closing u.room
+    → Takes a s b t answer → Goes b t c u (said t.room (tree_lines form (problem_of r) o)) (behind t.room (tree_lines form (problem_of r) o)) → last ≡ closing u.room
     → GoesBy u.stop end c u.pending d [] last ⊤ → GoesBy None end a [] d [] (tree_reply form r) ⊤
 reply_goes form r o answer last end a b c d s t u told answered fresh first tree closes finish =
     let lines = tree_lines form (problem_of r) o in
@@ -60,7 +60,7 @@ reply_goes form r o answer last end a b c d s t u told answered fresh first tree
     let close = closing (behind s.room lines) in
     let head = by_on s.stop t.stop u.stop a b c s.pending t.pending u.pending answer (said t.room lines) text
     (t.room ≡ s.room) (u.room ≡ behind t.room lines) (u.room ≡ behind s.room lines)
-    (λ same. (ap (λ r. said r lines) same, λ later. later ∙ ap (λ r. behind r lines) same)) first.goes tree.goes in
+    (λ same. (ap (λ r. said r lines) same, λ later. later ∙ ap (λ r. behind r lines) same)) first.goes tree in
     let all = by_on s.stop u.stop end a c d s.pending u.pending [] (answer ++ text) last close (u.room ≡ behind s.room lines) ⊤ ⊤
     (λ same. (closes ∙ ap closing same, λ _. tt)) head finish in
     let shown : text ++ close ≡ printed form lines ++ line [] =
@@ -86,7 +86,7 @@ part_breaks old new text stop.NoReader (broken, part) = (text, 0, (refl, refl), 
 module _ (form : Form) (r : RecordValue) (o : Outcome) (answer last : List ℕ) (a b c d : Option (List ℕ)) (s t u : SheetValue) where
   pub finished_ok : {X E : Type 0} (end : Result X E) → o ≡ truth (problem_of r) → answer ≡ line (answer_text r o)
       → s ≡ record { pending = []; room = room_for form; stop = None }
-      → Takes a s b t answer → Writes b t c u (tree_lines form (problem_of r) o) → last ≡ closing u.room
+      → Takes a s b t answer → Goes b t c u (said t.room (tree_lines form (problem_of r) o)) (behind t.room (tree_lines form (problem_of r) o)) → last ≡ closing u.room
       → OnOk end (GoesBy u.stop None c u.pending d [] last ⊤) → OnOk end (Appends a d (tree_reply form r))
   finished_ok (Ok x) told answered fresh first tree closes finish =
       whole_appends a d (tree_reply form r) (reply_goes form r o answer last None a b c d s t u told answered fresh first tree closes finish)
@@ -94,7 +94,7 @@ module _ (form : Form) (r : RecordValue) (o : Outcome) (answer last : List ℕ) 
 
   pub finished_err : {X : Type 0} (end : Result X Stop) → o ≡ truth (problem_of r) → answer ≡ line (answer_text r o)
       → s ≡ record { pending = []; room = room_for form; stop = None }
-      → Takes a s b t answer → Writes b t c u (tree_lines form (problem_of r) o) → last ≡ closing u.room
+      → Takes a s b t answer → Goes b t c u (said t.room (tree_lines form (problem_of r) o)) (behind t.room (tree_lines form (problem_of r) o)) → last ≡ closing u.room
       → IfErr end (λ why. GoesBy u.stop (Some why) c u.pending d [] last ⊤) → IfErr end (BreaksOff (IsJust (tree_reply form r) 0) a d)
   finished_err (Ok x) told answered fresh first tree closes finish = tt
   finished_err (Err why) told answered fresh first tree closes finish =
@@ -102,11 +102,11 @@ module _ (form : Form) (r : RecordValue) (o : Outcome) (answer last : List ℕ) 
 
 -- lines in a column behind a text
 pub column_added : (form : Form) (ls : List (List ℕ)) (old new : List ℕ) (c : Option (List ℕ)) (s u : SheetValue) → form.column ≡ true
-    → s ≡ record { pending = []; room = room_for form; stop = None } → Writes (Some old) s c u ls
+    → s ≡ record { pending = []; room = room_for form; stop = None } → Goes (Some old) s c u (said s.room ls) (behind s.room ls)
     → GoesBy u.stop None c u.pending (Some new) [] [] ⊤ → new ≡ old ++ column_text (shown_lines form ls)
 column_added form ls old new c s u column fresh tree finish =
     let all = by_on s.stop u.stop None (Some old) c (Some new) s.pending u.pending [] (said s.room ls) [] [] (u.room ≡ behind s.room ls) ⊤ ⊤
-    (λ _. (refl, λ _. tt)) tree.goes finish in
+    (λ _. (refl, λ _. tt)) tree finish in
     whole_appends (Some old) (Some new) (column_text (shown_lines form ls))
     (fresh_goes form None (Some old) (Some new) s (said s.room ls ++ []) (column_text (shown_lines form ls))
     (append-nil (said s.room ls) ∙ ap (λ (v : SheetValue). said v.room ls) fresh ∙ column_is form ls column) fresh all)

@@ -3,8 +3,8 @@
 ghost use Rattle.std.specs.Prelude.{◌≡◌, ◌++◌, ◌&&◌, [], IfErr, None, OnOk, Some, codes, ⊤};
 ghost use Rattle.std.specs.List.{flat_map};
 ghost use Rattle.mate_tree.specs.Layouts.{figured, figurine as figurine_of, lettered};
-ghost use Rattle.mate_tree.specs.inside.Sheets.{Begins, Ends, GoesBy, Says, Takes, closing, ending, gap, is_closed};
-ghost use Rattle.mate_tree.specs.inside.Sheets.{line_end as line_end_of, mark, next, part as part_of, room_for};
+ghost use Rattle.mate_tree.specs.inside.Sheets.{Goes, GoesBy, Takes, closing, ending, gap, is_closed};
+ghost use Rattle.mate_tree.specs.inside.Sheets.{line_end as line_end_of, mark, next, part as part_of, past, room_for, shown};
 
 use crate::forms::{Form, Pieces};
 use crate::layouts::{behind_letter, figurine, letter_for, line_end, part};
@@ -185,7 +185,7 @@ impl Sheet {
 
     /// Begins a line.
     pub(crate) fn begin<O: Write>(&mut self, out: &mut O)
-        ensures { Begins (O.contents out.old) self.old (O.contents out.new) self.new }
+        ensures { Goes (O.contents out.old) self.old (O.contents out.new) self.new (mark self.old.room) (next self.old.room) }
     {
         let mark = self.mark();
         self.add(out, mark);
@@ -260,7 +260,7 @@ impl Sheet {
 
     /// Adds a part of a line that was begun.
     pub(crate) fn push<O: Write>(&mut self, out: &mut O, text: &[u8])
-        ensures { Says (O.contents out.old) self.old (O.contents out.new) self.new text.now }
+        ensures { Goes (O.contents out.old) self.old (O.contents out.new) self.new (shown self.old.room text.now) (past self.old.room text.now) }
     {
         if self.is_cut() {
             return;
@@ -279,7 +279,7 @@ impl Sheet {
 
     /// Ends a line.
     pub(crate) fn end<O: Write>(&mut self, out: &mut O)
-        ensures { Ends (O.contents out.old) self.old (O.contents out.new) self.new }
+        ensures { Goes (O.contents out.old) self.old (O.contents out.new) self.new (ending self.old.room) self.old.room }
     {
         let ending = self.ending();
         self.add(out, ending);

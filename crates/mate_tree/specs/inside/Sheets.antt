@@ -128,22 +128,6 @@ Goes old s new t text room = GoesBy s.stop t.stop old s.pending new t.pending te
 pub record Takes (old : Option (List ℕ)) (s : SheetValue) (new : Option (List ℕ)) (t : SheetValue) (text : List ℕ) : Type 0 where
   pub goes : Goes old s new t text s.room
 
--- A line is begun.
-pub record Begins (old : Option (List ℕ)) (s : SheetValue) (new : Option (List ℕ)) (t : SheetValue) : Type 0 where
-  pub goes : Goes old s new t (mark s.room) (next s.room)
-
--- A part of a line is written, where there is room for the line.
-pub record Says (old : Option (List ℕ)) (s : SheetValue) (new : Option (List ℕ)) (t : SheetValue) (text : List ℕ) : Type 0 where
-  pub goes : Goes old s new t (shown s.room text) (past s.room text)
-
--- A line is ended.
-pub record Ends (old : Option (List ℕ)) (s : SheetValue) (new : Option (List ℕ)) (t : SheetValue) : Type 0 where
-  pub goes : Goes old s new t (ending s.room) s.room
-
--- Lines are written.
-pub record Writes (old : Option (List ℕ)) (s : SheetValue) (new : Option (List ℕ)) (t : SheetValue) (ls : List (List ℕ)) : Type 0 where
-  pub goes : Goes old s new t (said s.room ls) (behind s.room ls)
-
 -- ---- lines below a name
 
 abbrev pub is_some_line : List (List ℕ) → Bool

@@ -11,4 +11,4 @@ returns-in-Ok-clause-text c =
     let lines = tree_lines c.args.form (problem_of c.args.record.now) c.args.outcome.now in
     subst (λ (new : List ℕ). new ≡ c.args.text.now.items ++ column_text (shown_lines c.args.form lines)) (search rules)
     (column_added c.args.form lines c.args.text.now.items c.finish.new.self.out.now.items _ c.new.result c.write_tree.new.writer.sheet
-    c.requires.column c.new.ensures c.write_tree.ensures.writes c.in-Ok.ensures.ok)
+    c.requires.column c.new.ensures c.write_tree.ensures.brings.goes c.in-Ok.ensures.ok)
