@@ -41,7 +41,7 @@ module _ {D : Type 0} {contents : D → Option (List ℕ)} where
   brings_as {s} {t} {x} {y} {r} {q} same room brings = subst (Brings contents s t y) room (subst (λ z. Brings contents s t z r) same brings)
 
   -- a text, and another that goes by the room that the first leaves
-  brings_on : {s t u : TreeWriter D} {x : List ℕ} {r : Room} (text : Room → List ℕ) (room : Room → Room) → Brings contents s t x r
+  pub brings_on : {s t u : TreeWriter D} {x : List ℕ} {r : Room} (text : Room → List ℕ) (room : Room → Room) → Brings contents s t x r
       → Brings contents t u (text t.sheet.room) (room t.sheet.room) → Brings contents s u (x ++ text r) (room r)
   brings_on {s} {t} {u} {x} {r} text room first second = record {
     goes = by_on s.sheet.stop t.sheet.stop u.sheet.stop (contents s.out.now) (contents t.out.now) (contents u.out.now)
@@ -140,7 +140,8 @@ module _ {D : Type 0} {contents : D → Option (List ℕ)} {X : Type 0} (f : X �
       → AddsText contents t u (f x) → AddsText contents s u (flat_map f (take (i + 1) xs))
   words_more i x here is before adds = text_as (more f xs i x here is) (text_more before adds)
 
-  pub words_all : {s t : TreeWriter D} (i : ℕ) → length xs ≤ i → AddsText contents s t (flat_map f (take i xs)) → AddsText contents s t (flat_map f xs)
+  pub words_all : {s t : TreeWriter D} (i : ℕ) → length xs ≤ i → AddsText contents s t (flat_map f (take i xs))
+      → AddsText contents s t (flat_map f xs)
   words_all i past before = text_as (ap (flat_map f) (take_all i xs past)) before
 
 -- ---- the lines of each of a list, one after the other

@@ -178,7 +178,8 @@ begins_by {a} {b} {s} {t} {u} {text} is takes counted =
     (by_as s.stop t.stop a b s.pending t.pending text (mark s.room) (t.room ≡ s.room) (next t.room ≡ next s.room)
     is (λ same. ap next same) takes.goes)
 
-pub ends_by : {a b : Option (List ℕ)} {s t : SheetValue} {text : List ℕ} → text ≡ ending s.room → Takes a s b t text → Goes a s b t (ending s.room) s.room
+pub ends_by : {a b : Option (List ℕ)} {s t : SheetValue} {text : List ℕ} → text ≡ ending s.room → Takes a s b t text
+    → Goes a s b t (ending s.room) s.room
 ends_by {a} {b} {s} {t} {text} is takes =
     by_as s.stop t.stop a b s.pending t.pending text (ending s.room) (t.room ≡ s.room) (t.room ≡ s.room) is (λ same. same) takes.goes
 

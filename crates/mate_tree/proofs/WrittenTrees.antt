@@ -24,9 +24,9 @@ use Rattle.mate_tree.specs.Trees.{mate_lines, printed, shown_lines, tree_lines}
 use Rattle.mate_tree.specs.TreeReplies.{tree_reply}
 use Rattle.mate_tree.specs.declared.writers.TreeWriter.{TreeWriter}
 use Rattle.mate_tree.specs.inside.Replies.{IsJust}
-use Rattle.mate_tree.specs.inside.Sheets.{Goes, GoesBy, SheetValue, Takes, behind, closing, room_for, said}
-use Rattle.mate_tree.specs.inside.Writers.{Adds}
-use Rattle.mate_tree.proofs.AddedLines.{adds_as, adds_more}
+use Rattle.mate_tree.specs.inside.Sheets.{Goes, GoesBy, SheetValue, behind, closing, room_for, said}
+use Rattle.mate_tree.specs.inside.Writers.{Adds, AddsPlain, Brings, Finishes, Stays}
+use Rattle.mate_tree.proofs.AddedLines.{adds_as, adds_more, brings_on}
 use Rattle.mate_tree.proofs.Steps.{by_as, by_on}
 use Rattle.mate_tree.proofs.LaidOutLines.{column_is, printed_is}
 
@@ -49,27 +49,27 @@ fresh_goes form end a d s x y same fresh goes =
     (subst (λ p. GoesBy s.stop end a p d [] x ⊤) (ap (λ (v : SheetValue). v.pending) fresh) goes))
 
 -- the answer, the tree, and the empty line
-pub reply_goes : (form : Form) (r : RecordValue) (o : Outcome) (answer last : List ℕ) (end : Option Stop) (a b c d : Option (List ℕ))
-    (s t u : SheetValue) → o ≡ truth (problem_of r) → answer ≡ line (answer_text r o)
-    → s ≡ record { pending = []; room = room_for form; stop = None }
-    → Takes a s b t answer → Goes b t c u (said t.room (tree_lines form (problem_of r) o)) (behind t.room (tree_lines form (problem_of r) o)) → last ≡ closing u.room
-    → GoesBy u.stop end c u.pending d [] last ⊤ → GoesBy None end a [] d [] (tree_reply form r) ⊤
-reply_goes form r o answer last end a b c d s t u told answered fresh first tree closes finish =
+reply_goes : {D : Type 0} {contents : D → Option (List ℕ)} {s t u : TreeWriter D} (form : Form) (r : RecordValue) (o : Outcome) (answer last : List ℕ)
+    (end : Option Stop) (d : Option (List ℕ)) → o ≡ truth (problem_of r) → answer ≡ line (answer_text r o)
+    → s.sheet ≡ record { pending = []; room = room_for form; stop = None }
+    → AddsPlain contents s t answer → Adds contents t u (tree_lines form (problem_of r) o) → last ≡ closing u.sheet.room
+    → GoesBy u.sheet.stop end (contents u.out.now) u.sheet.pending d [] last ⊤
+    → GoesBy None end (contents s.out.now) [] d [] (tree_reply form r) ⊤
+reply_goes {D} {contents} {s} {t} {u} form r o answer last end d told answered fresh first tree closes finish =
     let lines = tree_lines form (problem_of r) o in
-    let text = said s.room lines in
-    let close = closing (behind s.room lines) in
-    let head = by_on s.stop t.stop u.stop a b c s.pending t.pending u.pending answer (said t.room lines) text
-    (t.room ≡ s.room) (u.room ≡ behind t.room lines) (u.room ≡ behind s.room lines)
-    (λ same. (ap (λ r. said r lines) same, λ later. later ∙ ap (λ r. behind r lines) same)) first.goes tree in
-    let all = by_on s.stop u.stop end a c d s.pending u.pending [] (answer ++ text) last close (u.room ≡ behind s.room lines) ⊤ ⊤
-    (λ same. (closes ∙ ap closing same, λ _. tt)) head finish in
-    let shown : text ++ close ≡ printed form lines ++ line [] =
+    let room = behind s.sheet.room lines in
+    let text = answer ++ said s.sheet.room lines in
+    let head : Brings contents s u text room = brings_on (λ q. said q lines) (λ q. behind q lines) first.brings tree.brings in
+    let all = by_on s.sheet.stop u.sheet.stop end (contents s.out.now) (contents u.out.now) d s.sheet.pending u.sheet.pending []
+    text last (closing room) (u.sheet.room ≡ room) ⊤ ⊤ (λ same. (closes ∙ ap closing same, λ _. tt)) head.goes finish in
+    let shown : said s.sheet.room lines ++ closing room ≡ printed form lines ++ line [] =
     ap (λ (v : SheetValue). said v.room lines ++ closing (behind v.room lines)) fresh ∙ printed_is form lines in
-    let whole : (answer ++ text) ++ close ≡ tree_reply form r =
-    append_assoc answer text close ∙ ap (λ x. answer ++ x) shown ∙ sym (append_assoc answer (printed form lines) (line []))
+    let whole : text ++ closing room ≡ tree_reply form r =
+    append_assoc answer (said s.sheet.room lines) (closing room) ∙ ap (λ x. answer ++ x) shown
+    ∙ sym (append_assoc answer (printed form lines) (line []))
     ∙ ap (λ x. x ++ printed form lines ++ line []) answered
     ∙ ap (λ x. line (answer_text r x) ++ printed form (tree_lines form (problem_of r) x) ++ line []) told in
-    fresh_goes form end a d s ((answer ++ text) ++ close) (tree_reply form r) whole fresh all
+    fresh_goes form end (contents s.out.now) d s.sheet (text ++ closing room) (tree_reply form r) whole fresh all
 
 pub whole_appends : (old new : Option (List ℕ)) (text : List ℕ) → GoesBy None None old [] new [] text ⊤ → Appends old new text
 whole_appends old new text (a, gone, is, on) = subst (Appends old new) (sym (is ∙ append-nil gone)) on
@@ -83,22 +83,25 @@ part_breaks old new text stop.NoReader (broken, part) = (text, 0, (refl, refl), 
 
 -- ---- what has come of it where the reply is finished
 
-module _ (form : Form) (r : RecordValue) (o : Outcome) (answer last : List ℕ) (a b c d : Option (List ℕ)) (s t u : SheetValue) where
+module _ {D : Type 0} {contents : D → Option (List ℕ)} {s t u v : TreeWriter D} (form : Form) (r : RecordValue) (o : Outcome) (answer last : List ℕ) where
   pub finished_ok : {X E : Type 0} (end : Result X E) → o ≡ truth (problem_of r) → answer ≡ line (answer_text r o)
-      → s ≡ record { pending = []; room = room_for form; stop = None }
-      → Takes a s b t answer → Goes b t c u (said t.room (tree_lines form (problem_of r) o)) (behind t.room (tree_lines form (problem_of r) o)) → last ≡ closing u.room
-      → OnOk end (GoesBy u.stop None c u.pending d [] last ⊤) → OnOk end (Appends a d (tree_reply form r))
-  finished_ok (Ok x) told answered fresh first tree closes finish =
-      whole_appends a d (tree_reply form r) (reply_goes form r o answer last None a b c d s t u told answered fresh first tree closes finish)
-  finished_ok (Err e) told answered fresh first tree closes finish = tt
+      → s.sheet ≡ record { pending = []; room = room_for form; stop = None }
+      → AddsPlain contents s t answer → Adds contents t u (tree_lines form (problem_of r) o) → last ≡ closing u.sheet.room
+      → Stays u v → OnOk end (Finishes contents u v None last) → OnOk end (Appends (contents s.out.now) (contents v.out.now) (tree_reply form r))
+  finished_ok (Ok x) told answered fresh first tree closes stays finish =
+      whole_appends (contents s.out.now) (contents v.out.now) (tree_reply form r)
+      (reply_goes form r o answer last None (contents v.out.now) told answered fresh first tree closes finish)
+  finished_ok (Err e) told answered fresh first tree closes stays finish = tt
 
   pub finished_err : {X : Type 0} (end : Result X Stop) → o ≡ truth (problem_of r) → answer ≡ line (answer_text r o)
-      → s ≡ record { pending = []; room = room_for form; stop = None }
-      → Takes a s b t answer → Goes b t c u (said t.room (tree_lines form (problem_of r) o)) (behind t.room (tree_lines form (problem_of r) o)) → last ≡ closing u.room
-      → IfErr end (λ why. GoesBy u.stop (Some why) c u.pending d [] last ⊤) → IfErr end (BreaksOff (IsJust (tree_reply form r) 0) a d)
-  finished_err (Ok x) told answered fresh first tree closes finish = tt
-  finished_err (Err why) told answered fresh first tree closes finish =
-      part_breaks a d (tree_reply form r) why (reply_goes form r o answer last (Some why) a b c d s t u told answered fresh first tree closes finish)
+      → s.sheet ≡ record { pending = []; room = room_for form; stop = None }
+      → AddsPlain contents s t answer → Adds contents t u (tree_lines form (problem_of r) o) → last ≡ closing u.sheet.room
+      → Stays u v → IfErr end (λ why. Finishes contents u v (Some why) last)
+      → IfErr end (BreaksOff (IsJust (tree_reply form r) 0) (contents s.out.now) (contents v.out.now))
+  finished_err (Ok x) told answered fresh first tree closes stays finish = tt
+  finished_err (Err why) told answered fresh first tree closes stays finish =
+      part_breaks (contents s.out.now) (contents v.out.now) (tree_reply form r) why
+      (reply_goes form r o answer last (Some why) (contents v.out.now) told answered fresh first tree closes finish)
 
 -- lines in a column behind a text
 pub column_added : (form : Form) (ls : List (List ℕ)) (old new : List ℕ) (c : Option (List ℕ)) (s u : SheetValue) → form.column ≡ true

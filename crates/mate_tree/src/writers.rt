@@ -1,8 +1,8 @@
 //! What writes the lines of trees.
 
 ghost use Rattle.std.specs.Prelude.{IfErr, None, OnOk, Some};
-ghost use Rattle.mate_tree.specs.inside.Sheets.{Takes, name_lines};
-ghost use Rattle.mate_tree.specs.inside.Writers.{Adds, AddsText, BeginsLine, EndsLine, Finishes, Stays};
+ghost use Rattle.mate_tree.specs.inside.Sheets.{name_lines};
+ghost use Rattle.mate_tree.specs.inside.Writers.{Adds, AddsPlain, AddsText, BeginsLine, EndsLine, Finishes, Stays};
 
 use crate::sheets::Sheet;
 use byte_streams::Stop;
@@ -57,8 +57,7 @@ impl<O: Write> TreeWriter<'_, O> {
 
     /// Adds a text that stands before the lines.
     pub(crate) fn add(&mut self, text: &[u8])
-        ensures takes { Takes (O.contents self.old.out.now) self.old.sheet (O.contents self.new.out.now) self.new.sheet text.now }
-        ensures stays { Stays self.old self.new }
+        ensures { AddsPlain O.contents self.old self.new text.now }
     {
         self.sheet.add(self.out, text);
     }

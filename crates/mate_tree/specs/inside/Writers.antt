@@ -16,6 +16,10 @@ module _ {D : Type 0} (contents : D → Option (List ℕ)) (s t : TreeWriter D) 
     pub goes : Goes (contents s.out.now) s.sheet (contents t.out.now) t.sheet text room
     pub stays : Stays s t
 
+  -- A text is written as it is, whatever the room.
+  pub record AddsPlain (text : List ℕ) : Type 0 where
+    pub brings : Brings text s.sheet.room
+
   -- A line is begun.
   pub record BeginsLine : Type 0 where
     pub brings : Brings (mark s.sheet.room) (next s.sheet.room)

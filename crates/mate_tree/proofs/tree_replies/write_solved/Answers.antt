@@ -11,17 +11,17 @@ pub returns-in-Ok-clause-ok : goal.returns-in-Ok-clause-ok
 returns-in-Ok-clause-ok g c =
     subst (λ out. OnOk c.finish.result (Appends (g.O.Write.contents c.args.out.now) (g.O.Write.contents out)
     (tree_reply c.args.shown.form c.args.record.now))) (search rules)
-    (finished_ok c.args.shown.form c.args.record.now c.args.outcome.now c.as_slice.result.now c.closing-closing.result.now _ _ _ _
-    c.new.result c.add.new.self.sheet c.write_tree.new.writer.sheet c.finish.result c.requires.truth (c.as_slice.ensures.value ∙ c.in-Ok.ensures)
-    c.new.ensures c.add.ensures.takes c.write_tree.ensures.brings.goes c.closing-closing.ensures c.finish.ensures.ok)
+    (finished_ok c.args.shown.form c.args.record.now c.args.outcome.now c.as_slice.result.now c.closing-closing.result.now
+    c.finish.result c.requires.truth (c.as_slice.ensures.value ∙ c.in-Ok.ensures) c.new.ensures c.add.ensures c.write_tree.ensures
+    c.closing-closing.ensures c.finish.ensures.stays c.finish.ensures.ok)
 
 pub returns-in-Ok-clause-err : goal.returns-in-Ok-clause-err
 returns-in-Ok-clause-err g c =
     subst (λ out. IfErr c.finish.result (BreaksOff (IsJust (tree_reply c.args.shown.form c.args.record.now) 0)
     (g.O.Write.contents c.args.out.now) (g.O.Write.contents out))) (search rules)
-    (finished_err c.args.shown.form c.args.record.now c.args.outcome.now c.as_slice.result.now c.closing-closing.result.now _ _ _ _
-    c.new.result c.add.new.self.sheet c.write_tree.new.writer.sheet c.finish.result c.requires.truth (c.as_slice.ensures.value ∙ c.in-Ok.ensures)
-    c.new.ensures c.add.ensures.takes c.write_tree.ensures.brings.goes c.closing-closing.ensures c.finish.ensures.err)
+    (finished_err c.args.shown.form c.args.record.now c.args.outcome.now c.as_slice.result.now c.closing-closing.result.now
+    c.finish.result c.requires.truth (c.as_slice.ensures.value ∙ c.in-Ok.ensures) c.new.ensures c.add.ensures c.write_tree.ensures
+    c.closing-closing.ensures c.finish.ensures.stays c.finish.ensures.err)
 
 pub returns-in-Err-clause-err : goal.returns-in-Err-clause-err
 returns-in-Err-clause-err g c = Keeps-refl (g.O.Write.contents c.args.out.now)
