@@ -133,30 +133,44 @@ module _ {X Y : Type 0} (f : X → List Y) (xs : List X) where
   split : (i : ℕ) → flat_map f (take i xs) ++ flat_map f (drop i xs) ≡ flat_map f xs
   split i = sym (flat_map-append f (take i xs) (drop i xs)) ∙ ap (flat_map f) (take-append-drop i xs)
 
--- ---- the words of each of a list, one after the other
+module _ {D : Type 0} (contents : D → Option (List ℕ)) (s t : TreeWriter D) {X : Type 0} where
+  -- the words of the first of a list
+  pub record SomeWords (f : X → List ℕ) (xs : List X) (i : ℕ) : Type 0 where
+    pub adds : AddsText contents s t (flat_map f (take i xs))
 
-module _ {D : Type 0} {contents : D → Option (List ℕ)} {X : Type 0} (f : X → List ℕ) (xs : List X) where
-  pub words_more : {s t u : TreeWriter D} (i : ℕ) (x : X) → i < length xs → x ≡ get_or xs i x → AddsText contents s t (flat_map f (take i xs))
-      → AddsText contents t u (f x) → AddsText contents s u (flat_map f (take (i + 1) xs))
-  words_more i x here is before adds = text_as (more f xs i x here is) (text_more before adds)
+  -- their lines
+  pub record SomeLines (f : X → List (List ℕ)) (xs : List X) (i : ℕ) : Type 0 where
+    pub adds : Adds contents s t (flat_map f (take i xs))
 
-  pub words_all : {s t : TreeWriter D} (i : ℕ) → length xs ≤ i → AddsText contents s t (flat_map f (take i xs))
-      → AddsText contents s t (flat_map f xs)
-  words_all i past before = text_as (ap (flat_map f) (take_all i xs past)) before
+  -- their lines below a name, which stands there once there is a line
+  pub record SomeHeaded (name : List ℕ) (f : X → List (List ℕ)) (xs : List X) (i : ℕ) (is_open : Bool) : Type 0 where
+    pub adds : Adds contents s t (headed name (flat_map f (take i xs)))
+    pub opens : is_open ≡ is_some_line (flat_map f (take i xs))
 
--- ---- the lines of each of a list, one after the other
+module _ {D : Type 0} {contents : D → Option (List ℕ)} {X : Type 0} {f : X → List ℕ} {xs : List X} where
+  pub words_none : (s : TreeWriter D) → SomeWords contents s s f xs 0
+  words_none s = record { adds = text_none s }
 
-module _ {D : Type 0} {contents : D → Option (List ℕ)} {X : Type 0} (f : X → List (List ℕ)) (xs : List X) where
-  pub each_more : {s t u : TreeWriter D} (i : ℕ) (x : X) → i < length xs → x ≡ get_or xs i x → Adds contents s t (flat_map f (take i xs))
-      → Adds contents t u (f x) → Adds contents s u (flat_map f (take (i + 1) xs))
-  each_more i x here is before adds = adds_as (more f xs i x here is) (adds_more before adds)
+  pub words_more : {s t u : TreeWriter D} {i : ℕ} {x : X} → i < length xs → x ≡ get_or xs i x → SomeWords contents s t f xs i
+      → AddsText contents t u (f x) → SomeWords contents s u f xs (i + 1)
+  words_more {i = i} {x = x} here is before adds = record { adds = text_as (more f xs i x here is) (text_more before.adds adds) }
 
-  pub each_all : {s t : TreeWriter D} (i : ℕ) → length xs ≤ i → Adds contents s t (flat_map f (take i xs)) → Adds contents s t (flat_map f xs)
-  each_all i past before = adds_as (ap (flat_map f) (take_all i xs past)) before
+  pub words_all : {s t : TreeWriter D} {i : ℕ} → length xs ≤ i → SomeWords contents s t f xs i → AddsText contents s t (flat_map f xs)
+  words_all {i = i} whole before = text_as (ap (flat_map f) (take_all i xs whole)) before.adds
 
-  pub each_closed : {s t : TreeWriter D} (i : ℕ) → is_closed t.sheet ≡ true → Adds contents s t (flat_map f (take i xs))
-      → Adds contents s t (flat_map f xs)
-  each_closed i closed before = adds_as (split f xs i) (adds_closed (flat_map f (drop i xs)) closed before)
+module _ {D : Type 0} {contents : D → Option (List ℕ)} {X : Type 0} {f : X → List (List ℕ)} {xs : List X} where
+  pub lines_none : (s : TreeWriter D) → SomeLines contents s s f xs 0
+  lines_none s = record { adds = adds_none s }
+
+  pub lines_more : {s t u : TreeWriter D} {i : ℕ} {x : X} → i < length xs → x ≡ get_or xs i x → SomeLines contents s t f xs i
+      → Adds contents t u (f x) → SomeLines contents s u f xs (i + 1)
+  lines_more {i = i} {x = x} here is before adds = record { adds = adds_as (more f xs i x here is) (adds_more before.adds adds) }
+
+  pub lines_all : {s t : TreeWriter D} {i : ℕ} → length xs ≤ i → SomeLines contents s t f xs i → Adds contents s t (flat_map f xs)
+  lines_all {i = i} whole before = adds_as (ap (flat_map f) (take_all i xs whole)) before.adds
+
+  pub lines_closed : {s t : TreeWriter D} {i : ℕ} → is_closed t.sheet ≡ true → SomeLines contents s t f xs i → Adds contents s t (flat_map f xs)
+  lines_closed {i = i} closed before = adds_as (split f xs i) (adds_closed (flat_map f (drop i xs)) closed before.adds)
 
 -- ---- the same below a name
 
@@ -174,30 +188,31 @@ named name true has ls is = refl
 named name false has [] is = rw is refl
 named name false has (l ∷ ls) is = rw is refl
 
-module _ {X : Type 0} (f : X → List (List ℕ)) (xs : List X) where
-  pub open_more : (is_open opened : Bool) (i : ℕ) (x : X) → i < length xs → x ≡ get_or xs i x → is_open ≡ is_some_line (flat_map f (take i xs))
-      → opened ≡ (is_open || is_some_line (f x)) → opened ≡ is_some_line (flat_map f (take (i + 1) xs))
-  open_more is_open opened i x here is open_is opens =
-      opens ∙ ap (λ o. o || is_some_line (f x)) open_is ∙ some_append (flat_map f (take i xs)) (f x) ∙ ap is_some_line (more f xs i x here is)
+module _ {D : Type 0} {contents : D → Option (List ℕ)} {X : Type 0} {name : List ℕ} {f : X → List (List ℕ)} {xs : List X} where
+  pub headed_none : (s : TreeWriter D) → SomeHeaded contents s s name f xs 0 false
+  headed_none s = record { adds = adds_none s; opens = refl }
 
-module _ {D : Type 0} {contents : D → Option (List ℕ)} {X : Type 0} (name : List ℕ) (f : X → List (List ℕ)) (xs : List X) where
   -- the name where it is wanted, and lines below it
-  pub headed_more : {s t u v : TreeWriter D} (is_open has : Bool) (i : ℕ) (x : X) → i < length xs → x ≡ get_or xs i x
-      → is_open ≡ is_some_line (flat_map f (take i xs)) → has ≡ is_some_line (f x) → Adds contents s t (headed name (flat_map f (take i xs)))
-      → Adds contents t u (name_lines name is_open has) → Adds contents u v (f x) → Adds contents s v (headed name (flat_map f (take (i + 1) xs)))
-  headed_more is_open has i x here is open_is has_is before first second =
+  pub headed_more : {s t u v : TreeWriter D} {is_open has : Bool} {i : ℕ} {x : X} → i < length xs → x ≡ get_or xs i x → has ≡ is_some_line (f x)
+      → SomeHeaded contents s t name f xs i is_open → Adds contents t u (name_lines name is_open has) → Adds contents u v (f x)
+      → SomeHeaded contents s v name f xs (i + 1) (is_open || has)
+  headed_more {is_open = is_open} {has = has} {i = i} {x = x} here is has_is before first second =
       let lines = flat_map f (take i xs) in
-      adds_as (ap (λ o. headed name lines ++ headed_on name o (f x)) open_is ∙ headed_append name lines (f x)
-      ∙ ap (headed name) (more f xs i x here is))
-      (adds_more before (adds_as (named name is_open has (f x) has_is) (adds_more first second)))
+      record {
+        adds = adds_as (ap (λ o. headed name lines ++ headed_on name o (f x)) before.opens ∙ headed_append name lines (f x)
+            ∙ ap (headed name) (more f xs i x here is))
+            (adds_more before.adds (adds_as (named name is_open has (f x) has_is) (adds_more first second)));
+        opens = ap (λ o. o || has) before.opens ∙ ap (λ h. is_some_line lines || h) has_is ∙ some_append lines (f x)
+            ∙ ap is_some_line (more f xs i x here is);
+      }
 
-  pub headed_all : {s t : TreeWriter D} (i : ℕ) → length xs ≤ i → Adds contents s t (headed name (flat_map f (take i xs)))
+  pub headed_all : {s t : TreeWriter D} {i : ℕ} {is_open : Bool} → length xs ≤ i → SomeHeaded contents s t name f xs i is_open
       → Adds contents s t (headed name (flat_map f xs))
-  headed_all i past before = adds_as (ap (λ ys. headed name (flat_map f ys)) (take_all i xs past)) before
+  headed_all {i = i} whole before = adds_as (ap (λ ys. headed name (flat_map f ys)) (take_all i xs whole)) before.adds
 
-  pub headed_closed : {s t : TreeWriter D} (i : ℕ) → is_closed t.sheet ≡ true → Adds contents s t (headed name (flat_map f (take i xs)))
+  pub headed_closed : {s t : TreeWriter D} {i : ℕ} {is_open : Bool} → is_closed t.sheet ≡ true → SomeHeaded contents s t name f xs i is_open
       → Adds contents s t (headed name (flat_map f xs))
-  headed_closed i closed before =
+  headed_closed {i = i} closed before =
       let lines = flat_map f (take i xs) in
       adds_as (headed_append name lines (flat_map f (drop i xs)) ∙ ap (headed name) (split f xs i))
-      (adds_closed (headed_on name (is_some_line lines) (flat_map f (drop i xs))) closed before)
+      (adds_closed (headed_on name (is_some_line lines) (flat_map f (drop i xs))) closed before.adds)

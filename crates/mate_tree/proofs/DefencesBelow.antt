@@ -1,5 +1,5 @@
 -- The tree below a move, step by step.
-use Rattle.std.proofs.Common.{◌≡◌, ◌≢◌, ◌∙◌, ℕ, zero, suc, ◌+◌, ◌-◌, ◌≤◌, true, List, Option, length, take, refl, ap, arith}
+use Rattle.std.proofs.Common.{◌≡◌, ◌≢◌, ◌∙◌, ℕ, zero, suc, ◌+◌, ◌-◌, ◌≤◌, true, List, Option, length, refl, ap, arith}
 use Rattle.std.specs.List.{flat_map}
 use Rattle.chess_board.specs.Moves.{Move}
 use Rattle.chess_board.specs.Positions.{Setup}
@@ -8,7 +8,7 @@ use Rattle.mate_tree.specs.Defences.{defence, defences}
 use Rattle.mate_tree.specs.declared.writers.TreeWriter.{TreeWriter}
 use Rattle.mate_tree.specs.inside.Sheets.{is_closed}
 use Rattle.mate_tree.specs.inside.Writers.{Adds}
-use Rattle.mate_tree.proofs.AddedLines.{adds_as, adds_none, each_all, each_closed}
+use Rattle.mate_tree.proofs.AddedLines.{SomeLines, adds_as, adds_none, lines_all, lines_closed}
 
 module _ {D : Type 0} {contents : D → Option (List ℕ)} where
   pub defences_nothing : (d i k : ℕ) (q : Setup) (s : TreeWriter D) → d ≡ 0 → Adds contents s s (defences d i k q)
@@ -27,12 +27,11 @@ defences_some (suc d) i k q some = let e : suc d - 1 ≡ d = omega arith in rw e
 all_defences : (d i k : ℕ) (q : Setup) (ms : List Move) → d ≢ 0 → ms ≡ legal_moves q → flat_map (each d i k q) ms ≡ defences d i k q
 all_defences d i k q ms some all = ap (flat_map (each d i k q)) all ∙ defences_some d i k q some
 
-module _ {D : Type 0} {contents : D → Option (List ℕ)} {s t : TreeWriter D} where
-  pub defences_whole : (d i k : ℕ) (q : Setup) (ms : List Move) (j : ℕ) → d ≢ 0 → ms ≡ legal_moves q → length ms ≤ j
-      → Adds contents s t (flat_map (each d i k q) (take j ms)) → Adds contents s t (defences d i k q)
-  defences_whole d i k q ms j some all past before = adds_as (all_defences d i k q ms some all) (each_all (each d i k q) ms j past before)
+module _ {D : Type 0} {contents : D → Option (List ℕ)} {s t : TreeWriter D} (d i k : ℕ) (q : Setup) {ms : List Move} {j : ℕ} where
+  pub defences_whole : d ≢ 0 → ms ≡ legal_moves q → length ms ≤ j → SomeLines contents s t (each d i k q) ms j
+      → Adds contents s t (defences d i k q)
+  defences_whole some all whole before = adds_as (all_defences d i k q ms some all) (lines_all whole before)
 
-  pub defences_closed : (d i k : ℕ) (q : Setup) (ms : List Move) (j : ℕ) → d ≢ 0 → ms ≡ legal_moves q → is_closed t.sheet ≡ true
-      → Adds contents s t (flat_map (each d i k q) (take j ms)) → Adds contents s t (defences d i k q)
-  defences_closed d i k q ms j some all closed before =
-      adds_as (all_defences d i k q ms some all) (each_closed (each d i k q) ms j closed before)
+  pub defences_closed : d ≢ 0 → ms ≡ legal_moves q → is_closed t.sheet ≡ true → SomeLines contents s t (each d i k q) ms j
+      → Adds contents s t (defences d i k q)
+  defences_closed some all closed before = adds_as (all_defences d i k q ms some all) (lines_closed closed before)

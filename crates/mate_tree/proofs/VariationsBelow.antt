@@ -1,5 +1,5 @@
 -- The variations below a move, step by step.
-use Rattle.std.proofs.Common.{◌≡◌, ◌≢◌, ◌∙◌, ℕ, zero, suc, ◌+◌, ◌-◌, ◌≤◌, Bool, true, false, List, [], ◌++◌, Option, length, take, codes, refl}
+use Rattle.std.proofs.Common.{◌≡◌, ◌≢◌, ◌∙◌, ℕ, zero, suc, ◌+◌, ◌-◌, ◌≤◌, Bool, true, false, List, [], ◌++◌, Option, length, codes, refl}
 use Rattle.std.proofs.Common.{◌∷◌, ap, arith, nat_lt, sym}
 use Rattle.std.proofs.lemmas.Bool.Decides.{nat_tests}
 use Rattle.std.specs.Prelude.{if◌then◌else◌}
@@ -14,7 +14,7 @@ use Rattle.mate_tree.specs.Variations.{answered, follows, is_told, mates_line, r
 use Rattle.mate_tree.specs.declared.writers.TreeWriter.{TreeWriter}
 use Rattle.mate_tree.specs.inside.Sheets.{is_closed}
 use Rattle.mate_tree.specs.inside.Writers.{Adds}
-use Rattle.mate_tree.proofs.AddedLines.{adds_as, adds_none, each_all, each_closed}
+use Rattle.mate_tree.proofs.AddedLines.{SomeLines, adds_as, adds_none, lines_all, lines_closed}
 
 module _ {D : Type 0} {contents : D → Option (List ℕ)} where
   pub variations_nothing : (d i k : ℕ) (q : Setup) (s : TreeWriter D) → d ≡ 0 → Adds contents s s (variations d i k q)
@@ -35,16 +35,14 @@ variations_some (suc d) i k q some =
 all_variations : (d i k : ℕ) (q : Setup) (rs : List Move) → d ≢ 0 → rs ≡ parrying k q → flat_map (each d i k q rs) rs ≡ variations d i k q
 all_variations d i k q rs some all = ap (λ xs. flat_map (each d i k q xs) xs) all ∙ variations_some d i k q some
 
-module _ {D : Type 0} {contents : D → Option (List ℕ)} {s t : TreeWriter D} where
-  pub variations_whole : (d i k : ℕ) (q : Setup) (rs : List Move) (j : ℕ) → d ≢ 0 → rs ≡ parrying k q → length rs ≤ j
-      → Adds contents s t (flat_map (each d i k q rs) (take j rs)) → Adds contents s t (variations d i k q)
-  variations_whole d i k q rs j some all past before =
-      adds_as (all_variations d i k q rs some all) (each_all (each d i k q rs) rs j past before)
+module _ {D : Type 0} {contents : D → Option (List ℕ)} {s t : TreeWriter D} (d i k : ℕ) (q : Setup) {rs : List Move} {j : ℕ} where
+  pub variations_whole : d ≢ 0 → rs ≡ parrying k q → length rs ≤ j → SomeLines contents s t (each d i k q rs) rs j
+      → Adds contents s t (variations d i k q)
+  variations_whole some all whole before = adds_as (all_variations d i k q rs some all) (lines_all whole before)
 
-  pub variations_closed : (d i k : ℕ) (q : Setup) (rs : List Move) (j : ℕ) → d ≢ 0 → rs ≡ parrying k q → is_closed t.sheet ≡ true
-      → Adds contents s t (flat_map (each d i k q rs) (take j rs)) → Adds contents s t (variations d i k q)
-  variations_closed d i k q rs j some all closed before =
-      adds_as (all_variations d i k q rs some all) (each_closed (each d i k q rs) rs j closed before)
+  pub variations_closed : d ≢ 0 → rs ≡ parrying k q → is_closed t.sheet ≡ true → SomeLines contents s t (each d i k q rs) rs j
+      → Adds contents s t (variations d i k q)
+  variations_closed some all closed before = adds_as (all_variations d i k q rs some all) (lines_closed closed before)
 
 -- ---- one reply
 

@@ -1,7 +1,6 @@
-use Rattle.std.proofs.Common.{◌+◌, ◌-◌, ◌*◌, take}
-use Rattle.std.specs.List.{flat_map}
+use Rattle.std.proofs.Common.{◌+◌, ◌-◌, ◌*◌}
 use Rattle.mate_tree.specs.Defences.{attack, defence, defences}
-use Rattle.mate_tree.specs.inside.Writers.{Adds}
+use Rattle.mate_tree.proofs.AddedLines.{SomeLines}
 use Rattle.mate_tree.proofs.defences.+tree.Given as goal
 
 abbrev pub decreases-write_defences : goal.decreases-write_defences
@@ -19,12 +18,12 @@ decreases-write_attack g l = 4 * l.at.shown + 1
 -- the defences so far
 abbrev pub invariant-write_defences-loop-r : goal.invariant-write_defences-loop-r
 invariant-write_defences-loop-r g l =
-    Adds g.O.Write.contents l.initial.writer l.writer
-    (flat_map (defence (defences (l.at.shown - 1) (l.at.number + 1))
-    (l.at.shown - 1) l.at.number l.at.left l.position) (take l.r-index l.r-items))
+    SomeLines g.O.Write.contents l.initial.writer l.writer
+    (defence (defences (l.at.shown - 1) (l.at.number + 1))
+    (l.at.shown - 1) l.at.number l.at.left l.position) l.r-items l.r-index
 
 -- the moves so far
 abbrev pub invariant-write_attacks-loop-index : goal.invariant-write_attacks-loop-index
 invariant-write_attacks-loop-index g l =
-    Adds g.O.Write.contents l.initial.writer l.writer
-    (flat_map (attack (defences l.at.shown l.at.number) l.at.shown l.at.number l.at.left l.position) (take l.index l.moves))
+    SomeLines g.O.Write.contents l.initial.writer l.writer
+    (attack (defences l.at.shown l.at.number) l.at.shown l.at.number l.at.left l.position) l.moves l.index

@@ -1,23 +1,21 @@
 use Rattle.std.proofs.Common.{◌+◌, ◌-◌, sym, ap, subst, ◌∙◌, rules}
 use Rattle.chess_problems.specs.Outcomes.{AreLegal}
-use Rattle.mate_tree.specs.Variations.{next_move, variation, variations}
-use Rattle.mate_tree.proofs.AddedLines.{adds_as, adds_asked, adds_first, adds_more, adds_none, each_all, each_closed, each_more}
+use Rattle.mate_tree.specs.Variations.{variations}
+use Rattle.mate_tree.proofs.AddedLines.{adds_as, adds_asked, adds_first, adds_more, adds_none, lines_all, lines_closed, lines_more, lines_none}
 use Rattle.mate_tree.proofs.LegalMoves.{legal_at}
 use Rattle.mate_tree.proofs.VariationsBelow.{mated_is, sequels_are, told_is, variations_closed, variations_nothing, variations_whole}
 use Rattle.mate_tree.proofs.variations.+play.Goals as goal
 
 pub write_next_moves-loop-index-init : goal.write_next_moves-loop-index-init
-write_next_moves-loop-index-init t g c = adds_none c.args.writer.now
+write_next_moves-loop-index-init t g c = lines_none c.args.writer.now
 
 pub write_next_moves-returns-then-is_closed : goal.write_next_moves-returns-then-is_closed
 write_next_moves-returns-then-is_closed t g c =
-    each_closed (next_move (variations c.args.at.shown c.args.at.number) c.args.at.shown c.args.at.number c.args.at.left c.args.position.now)
-    c.args.moves.now c.loop-index.index (sym c.is_closed.ensures ∙ c.if-is_closed.true) c.loop-index.invariant
+    lines_closed (sym c.is_closed.ensures ∙ c.if-is_closed.true) c.loop-index.invariant
 
 pub write_next_moves-returns : goal.write_next_moves-returns
 write_next_moves-returns t g c =
-    each_all (next_move (variations c.args.at.shown c.args.at.number) c.args.at.shown c.args.at.number c.args.at.left c.args.position.now)
-    c.args.moves.now c.loop-index.index c.loop-index-test.false c.loop-index.invariant
+    lines_all c.loop-index-test.false c.loop-index.invariant
 
 pub write_next_moves-write_next_move-requires : goal.write_next_moves-write_next_move-requires
 write_next_moves-write_next_move-requires t g c =
@@ -27,8 +25,7 @@ write_next_moves-write_next_move-requires t g c =
 
 pub write_next_moves-loop-index-preserved : goal.write_next_moves-loop-index-preserved
 write_next_moves-loop-index-preserved t g c =
-    each_more (next_move (variations c.args.at.shown c.args.at.number) c.args.at.shown c.args.at.number c.args.at.left c.args.position.now)
-    c.args.moves.now c.loop-index.index c.index-moves-index.result c.loop-index-test.true c.index-moves-index.is
+    lines_more c.loop-index-test.true c.index-moves-index.is
     c.loop-index.invariant c.write_next_move.ensures
 
 pub write_next_move-returns : goal.write_next_move-returns
@@ -69,7 +66,7 @@ write_variation-returns-else-not-write_mates_line t g c =
     c.write_mates_line.ensures.line
 
 pub write_variations-loop-index-init : goal.write_variations-loop-index-init
-write_variations-loop-index-init t g c = adds_none _
+write_variations-loop-index-init t g c = lines_none _
 
 pub write_variations-returns-then-at-eq0 : goal.write_variations-returns-then-at-eq0
 write_variations-returns-then-at-eq0 t g c =
@@ -78,8 +75,7 @@ write_variations-returns-then-at-eq0 t g c =
 pub write_variations-returns-then-is_closed : goal.write_variations-returns-then-is_closed
 write_variations-returns-then-is_closed t g c =
     adds_asked c.args.writer.now c.parrying-list.new.memo c.parrying-list.ensures.room
-    (variations_closed c.args.at.shown c.args.at.number c.args.at.left c.args.position.now
-    c.as_slice-replies.result.now c.loop-index.index c.if-at-eq0.false
+    (variations_closed _ _ _ _ c.if-at-eq0.false
     (c.as_slice-replies.ensures.value ∙ c.parrying-list.ensures.list) (sym c.is_closed.ensures ∙ c.if-is_closed.true) c.loop-index.invariant)
 
 pub write_variations-write_variation-requires : goal.write_variations-write_variation-requires
@@ -91,14 +87,11 @@ write_variations-write_variation-requires t g c =
 
 pub write_variations-loop-index-preserved : goal.write_variations-loop-index-preserved
 write_variations-loop-index-preserved t g c =
-    each_more (variation (variations (c.args.at.shown - 1) (c.args.at.number + 1))
-    (c.args.at.shown - 1) c.args.at.number c.args.at.left c.args.position.now c.as_slice-replies.result.now) c.as_slice-replies.result.now
-    c.loop-index.index c.index-replies-index.result c.loop-index-test.true c.index-replies-index.is
+    lines_more c.loop-index-test.true c.index-replies-index.is
     c.loop-index.invariant c.write_variation.ensures
 
 pub write_variations-returns : goal.write_variations-returns
 write_variations-returns t g c =
     adds_asked c.args.writer.now c.parrying-list.new.memo c.parrying-list.ensures.room
-    (variations_whole c.args.at.shown c.args.at.number c.args.at.left c.args.position.now
-    c.as_slice-replies.result.now c.loop-index.index c.if-at-eq0.false
+    (variations_whole _ _ _ _ c.if-at-eq0.false
     (c.as_slice-replies.ensures.value ∙ c.parrying-list.ensures.list) c.loop-index-test.false c.loop-index.invariant)

@@ -1,7 +1,6 @@
-use Rattle.std.proofs.Common.{◌+◌, ◌-◌, ◌*◌, take}
-use Rattle.std.specs.List.{flat_map}
+use Rattle.std.proofs.Common.{◌+◌, ◌-◌, ◌*◌}
 use Rattle.mate_tree.specs.Variations.{next_move, variation, variations}
-use Rattle.mate_tree.specs.inside.Writers.{Adds}
+use Rattle.mate_tree.proofs.AddedLines.{SomeLines}
 use Rattle.mate_tree.proofs.variations.+play.Given as goal
 
 abbrev pub decreases-write_variations : goal.decreases-write_variations
@@ -22,12 +21,12 @@ decreases-write_next_move g l = 5 * l.at.shown + 1
 -- the replies so far
 abbrev pub invariant-write_variations-loop-index : goal.invariant-write_variations-loop-index
 invariant-write_variations-loop-index g l =
-    Adds g.O.Write.contents l.initial.writer l.writer
-    (flat_map (variation (variations (l.at.shown - 1) (l.at.number + 1))
-    (l.at.shown - 1) l.at.number l.at.left l.position l.replies) (take l.index l.replies))
+    SomeLines g.O.Write.contents l.initial.writer l.writer
+    (variation (variations (l.at.shown - 1) (l.at.number + 1))
+    (l.at.shown - 1) l.at.number l.at.left l.position l.replies) l.replies l.index
 
 -- the moves so far
 abbrev pub invariant-write_next_moves-loop-index : goal.invariant-write_next_moves-loop-index
 invariant-write_next_moves-loop-index g l =
-    Adds g.O.Write.contents l.initial.writer l.writer
-    (flat_map (next_move (variations l.at.shown l.at.number) l.at.shown l.at.number l.at.left l.position) (take l.index l.moves))
+    SomeLines g.O.Write.contents l.initial.writer l.writer
+    (next_move (variations l.at.shown l.at.number) l.at.shown l.at.number l.at.left l.position) l.moves l.index
