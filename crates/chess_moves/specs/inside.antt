@@ -4,6 +4,7 @@ pub mod RayTables
 pub mod Hits
 pub mod SideMen
 pub mod LegalityInfo
+pub mod Movers
 pub mod Listing
 pub mod LegalTargets
 pub mod MoveGeneration

@@ -72,29 +72,6 @@ pub(crate) fn attackers(
         | side_men.king & rays.leap(square, Leap::KingStep)
 }
 
-/// The squares from which men of a colour attack a square, where it is known which of their sliders see it on its diagonals, and on
-/// its rank and its file.
-pub(crate) fn attackers_with(
-    rays: &Rays,
-    side_men: &SideMen,
-    by: Colour,
-    square: u8,
-    diagonal: u64,
-    straight: u64,
-) -> u64
-    requires { square < 64 }
-    ensures { (men : List (Option ManValue)) (occupied : ℕ) → IsSetOf occupied is_some men → StandFor side_men.now by men
-        → ((t : ℕ) → t < 64 → has diagonal t ≡ (has side_men.now.diagonal t && reaches_as_bishop (has occupied) square t))
-        → ((t : ℕ) → t < 64 → has straight t ≡ (has side_men.now.straight t && reaches_as_rook (has occupied) square t))
-        → (s : ℕ) → s < 64 → has result s ≡ hits_from men by s square }
-{
-    side_men.pawns & rays.leap(square, Leap::capture_back(by))
-        | side_men.knights & rays.leap(square, Leap::KnightLeap)
-        | diagonal
-        | straight
-        | side_men.king & rays.leap(square, Leap::KingStep)
-}
-
 /// Whether a man of the colour attacks a square, on whatever board these sets stand for.
 pub(crate) fn is_hit_over(
     rays: &Rays,

@@ -6,8 +6,8 @@ ghost use Rattle.square_sets.specs.Members.{has};
 ghost use Rattle.chess_board.specs.Legality.{is_legal};
 ghost use Rattle.chess_board.specs.Moves.{Move as MoveValue};
 ghost use Rattle.chess_board.specs.Positions.{man_at};
-ghost use Rattle.chess_moves.specs.inside.LegalityInfo.{IsLegalityInfoOf};
 ghost use Rattle.chess_moves.specs.inside.CheckSquares.{AreCheckSquaresOf, squares_of as squares_for, is_special as is_special_move};
+ghost use Rattle.chess_moves.specs.inside.LegalityInfo.{IsLegalityInfo};
 
 use crate::castling_targets::castling_goals;
 use crate::directions::Leap;
@@ -88,13 +88,13 @@ pub(crate) fn is_told(position: &Position, check_squares: &CheckSquares, man: Ma
 
 /// The squares to which a man's special moves go; a king's that castles, whether or not it may.
 #[inline(always)]
-pub(crate) fn special_squares(position: &Position, info: &LegalityInfo, man: Man) -> u64
-    requires info { IsLegalityInfoOf info.now position.now }
-    ensures { (m : MoveValue) → is_legal position.now m ≡ true → man_at position.now.men m.origin ≡ Some man → m.origin < 64
-        → m.target < 64 → has result m.target ≡ false → is_special_move position.now man m ≡ false }
+pub(crate) fn special_squares(info: &LegalityInfo, man: Man) -> u64
+    requires info { IsLegalityInfo info.now }
+    ensures { (m : MoveValue) → is_legal info.now.position.now m ≡ true → man_at info.now.position.now.men m.origin ≡ Some man
+        → m.origin < 64 → m.target < 64 → has result m.target ≡ false → is_special_move info.now.position.now man m ≡ false }
 {
     match man.kind {
-        Kind::Pawn => promotion_squares(man) | en_passant_square(position),
+        Kind::Pawn => promotion_squares(man) | en_passant_square(info.position),
         Kind::King => castling_goals(info),
         Kind::Knight | Kind::Bishop | Kind::Rook | Kind::Queen => 0,
     }

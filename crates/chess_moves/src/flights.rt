@@ -5,20 +5,21 @@ ghost use Rattle.square_sets.specs.Members.{has};
 ghost use Rattle.chess_board.specs.MakeMove.{after_setup};
 ghost use Rattle.chess_board.specs.Legality.{is_legal};
 ghost use Rattle.chess_board.specs.Moves.{Move as MoveValue};
-ghost use Rattle.chess_board.specs.Positions.{man_at};
 ghost use Rattle.chess_moves.specs.inside.Flights.{AreFlightsOf, leaves_flight};
 ghost use Rattle.chess_moves.specs.inside.Hits.{hits_as};
-ghost use Rattle.chess_moves.specs.inside.LegalityInfo.{IsLegalityInfoOf};
 ghost use Rattle.chess_moves.specs.Verdicts.{is_mate};
+ghost use Rattle.chess_moves.specs.inside.LegalityInfo.{IsLegalityInfo};
+ghost use Rattle.chess_moves.specs.inside.Movers.{IsMoverOf};
 
 use crate::attacked_sets::attacked_squares;
 use crate::attackers::is_hit_over;
 use crate::check_squares::special_squares;
 use crate::directions::Leap;
 use crate::legality_info::LegalityInfo;
+use crate::movers::Mover;
 use crate::ray_tables::Rays;
 use crate::side_men::{side_men_of, without};
-use chess_board::{Colour, Kind, Man, Position, sound_after};
+use chess_board::{Colour, Kind, sound_after};
 
 /// The king of the side that is not to move, and its flights: the squares beside it that hold none of its own men and that nobody
 /// attacks once it is lifted off the board.
@@ -28,30 +29,18 @@ pub(crate) struct Flights {
     pub squares: u64,
 }
 
-/// A man that is to move, and its square.
-#[derive(Clone, Copy)]
-pub(crate) struct Mover {
-    pub man: Man,
-    pub origin: u8,
-}
-
 /// The flights of a position, found at the first question about them.
 #[inline(always)]
-pub(crate) fn flights_once(
-    rays: &Rays,
-    position: &Position,
-    info: &LegalityInfo,
-    found: &mut Option<Flights>,
-) -> Flights
-    requires info { IsLegalityInfoOf info.now position.now }
-    requires found { IfSome found.old (λ f. AreFlightsOf f position.now) }
-    ensures flights { AreFlightsOf result position.now }
-    ensures found { IfSome found.new (λ f. AreFlightsOf f position.now) }
+pub(crate) fn flights_once(info: &LegalityInfo, found: &mut Option<Flights>) -> Flights
+    requires info { IsLegalityInfo info.now }
+    requires found { IfSome found.old (λ f. AreFlightsOf f info.now.position.now) }
+    ensures flights { AreFlightsOf result info.now.position.now }
+    ensures found { IfSome found.new (λ f. AreFlightsOf f info.now.position.now) }
 {
     match *found {
         Some(flights) => flights,
         None => {
-            let flights = flights_of(rays, position, info);
+            let flights = flights_of(info);
             *found = Some(flights);
             flights
         }
@@ -59,77 +48,68 @@ pub(crate) fn flights_once(
 }
 
 /// The flights of a position.
-fn flights_of(rays: &Rays, position: &Position, info: &LegalityInfo) -> Flights
-    requires info { IsLegalityInfoOf info.now position.now }
-    ensures { AreFlightsOf result position.now }
+fn flights_of(info: &LegalityInfo) -> Flights
+    requires info { IsLegalityInfo info.now }
+    ensures { AreFlightsOf result info.now.position.now }
 {
     let side = info.side;
-    let king = position.king(side.other()).index() as u8;
+    let king = info.position.king(side.other()).index() as u8;
     let lifted = square_sets::without(info.occupied, king);
-    let attacked = attacked_squares(rays, lifted, &side_men_of(position, side), side);
+    let attacked = attacked_squares(info.rays, lifted, &side_men_of(info.position, side), side);
     let enemies = info.occupied & !info.own;
     Flights {
         king,
-        squares: rays.leap(king, Leap::KingStep) & !enemies & !attacked,
+        squares: info.rays.leap(king, Leap::KingStep) & !enemies & !attacked,
     }
 }
 
 /// Of these squares those to which a man's legal move may mate: it attacks each flight from there, opens a line, or is special.
 #[inline(always)]
 pub(crate) fn squares_that_cover(
-    rays: &Rays,
-    position: &Position,
     info: &LegalityInfo,
     flights: Flights,
     mover: Mover,
     candidates: u64,
 ) -> u64
-    requires on_board { mover.origin < 64 }
-    requires info { IsLegalityInfoOf info.now position.now }
-    requires flights { AreFlightsOf flights position.now }
-    requires there { man_at position.now.men mover.origin ≡ Some mover.man }
-    ensures { (m : MoveValue) → is_legal position.now m ≡ true → m.origin ≡ mover.origin → m.target < 64 → has candidates m.target ≡ true
-        → has result m.target ≡ false → is_mate (after_setup position.now m) ≡ false }
+    requires info { IsLegalityInfo info.now }
+    requires flights { AreFlightsOf flights info.now.position.now }
+    requires mover { IsMoverOf mover info.now.position.now }
+    ensures { (m : MoveValue) → is_legal info.now.position.now m ≡ true → m.origin ≡ mover.origin → m.target < 64 → has candidates m.target ≡ true
+        → has result m.target ≡ false → is_mate (after_setup info.now.position.now m) ≡ false }
 {
     // That a legal move leaves a sound position is this law.
     sound_after();
-    let special = special_squares(position, info, mover.man);
+    let special = special_squares(info, mover.man);
     let mut covering = candidates;
     for flight in square_sets::squares(flights.squares) {
         if covering == 0 {
             break;
         }
-        covering &= special | squares_covering(rays, position, info, flights, mover, flight);
+        covering &= special | squares_covering(info, flights, mover, flight);
     }
     covering
 }
 
 /// The squares from which a man may attack a flight once it moved: all where it opens a line to it.
-fn squares_covering(
-    rays: &Rays,
-    position: &Position,
-    info: &LegalityInfo,
-    flights: Flights,
-    mover: Mover,
-    flight: u8,
-) -> u64
-    requires on_board { (mover.origin < 64) × (flight < 64) }
-    requires info { IsLegalityInfoOf info.now position.now }
-    requires flights { AreFlightsOf flights position.now }
+fn squares_covering(info: &LegalityInfo, flights: Flights, mover: Mover, flight: u8) -> u64
+    requires on_board { flight < 64 }
+    requires info { IsLegalityInfo info.now }
+    requires flights { AreFlightsOf flights info.now.position.now }
+    requires mover { IsMoverOf mover info.now.position.now }
     requires flight { has flights.squares flight ≡ true }
-    ensures { (t : ℕ) → t < 64 → has result t ≡ false → leaves_flight position.now flights.king mover.origin mover.man.kind t flight ≡ true }
+    ensures { (t : ℕ) → t < 64 → has result t ≡ false → leaves_flight info.now.position.now flights.king mover.origin mover.man.kind t flight ≡ true }
 {
     let side = info.side;
-    let lines = lines_to(rays, Kind::Queen, side, flight);
+    let lines = lines_to(info.rays, Kind::Queen, side, flight);
     if square_sets::contains(lines, mover.origin) {
         let lifted = square_sets::without(info.occupied, flights.king);
         let gone = square_sets::without(lifted, mover.origin);
-        let others = without(&side_men_of(position, side), mover.origin);
-        if is_hit_over(rays, gone, &others, side, flight) {
+        let others = without(&side_men_of(info.position, side), mover.origin);
+        if is_hit_over(info.rays, gone, &others, side, flight) {
             return u64::MAX;
         }
     }
-    lines_to(rays, mover.man.kind, side, flight)
+    lines_to(info.rays, mover.man.kind, side, flight)
 }
 
 /// The squares from which a man of a kind would attack a square on an empty board.

@@ -5,8 +5,8 @@
 //! found by making it: sets of squares tell where each man may go.
 //!
 //! To read: `specs/Laws.antt` (which moves the list has) and `specs/inside/Listing.antt` (how it is put together); `directions`,
-//! `ray_tables`, `side_men`, `attackers` and `slider_lines` (what is seen and attacked, and what is between), `legality_info`,
-//! `castling_targets`, `en_passant_targets`,
+//! `ray_tables`, `side_men`, `attackers` and `slider_lines` (what is seen and attacked, and what is between), `legality_info` and
+//! `movers` (a position with all that its moves are asked about, and a man to move), `castling_targets`, `en_passant_targets`,
 //! `pseudo_legal_targets` and `checks_and_pins` (where a man goes, and where it leaves its king safe), `legal_targets` and `promotions`;
 //! then `move_generation`, `verdicts` and `verdict_of_position`, and `perft_count`; `check_squares` and `gives_check`;
 //! `discovered_checks`, `attacked_sets`, `flights`, `mate_in_one` and `mating_moves`. `laws` says what the lists hold in words that do not
@@ -29,6 +29,7 @@ mod legality_info;
 mod mate_in_one;
 mod mating_moves;
 mod move_generation;
+mod movers;
 mod perft_count;
 mod promotions;
 mod pseudo_legal_targets;

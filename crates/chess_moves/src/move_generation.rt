@@ -8,13 +8,14 @@ ghost use Rattle.chess_board.specs.Legality.{is_legal as is_legal_in};
 ghost use Rattle.chess_board.specs.Men.{is_of};
 ghost use Rattle.chess_board.specs.Positions.{man_at};
 ghost use Rattle.square_sets.specs.Members.{has};
-ghost use Rattle.chess_moves.specs.inside.LegalityInfo.{IsLegalityInfoOf};
 ghost use Rattle.chess_moves.specs.inside.Listing.{moves_to, legal_moves};
 ghost use Rattle.chess_moves.specs.inside.MoveGeneration.{next_promotion, man_moves};
+ghost use Rattle.chess_moves.specs.inside.LegalityInfo.{IsLegalityInfo};
 
 use crate::legal_targets::{is_target, targets_from};
 use crate::legality_info::{LegalityInfo, bare_info_of, legality_info_of};
-use crate::promotions::{own_man, promotion_squares};
+use crate::movers::{Mover, king_of, mover_on};
+use crate::promotions::promotion_squares;
 use crate::ray_tables::Rays;
 use crate::side_men::{all_of, side_men_of};
 use arrayvec::ArrayVec;
@@ -26,9 +27,7 @@ use std::marker::Model;
 /// The legal moves of a position that are still to come, in the order of moves. A contract sees the list of them.
 #[derive(Drop)]
 pub struct LegalMoves<'a> {
-    rays: &'a Rays,
-    position: &'a Position,
-    info: LegalityInfo,
+    info: LegalityInfo<'a>,
     /// The squares of the men that have not had their turn.
     origins: SquareScan,
     turn: ManMoves,
@@ -54,16 +53,10 @@ pub fn legal_moves<'a>(rays: &'a Rays, position: &'a Position) -> LegalMoves<'a>
 {
     let info = legality_info_of(rays, position);
     LegalMoves {
-        rays,
-        position,
         info,
         origins: square_sets::squares(info.own),
         turn: ManMoves {
-            man: Man {
-                colour: info.side,
-                kind: Kind::King,
-            },
-            origin: 0,
+            mover: king_of(&info),
             targets: 0,
             promotion: Kind::Knight,
         },
@@ -76,16 +69,10 @@ pub fn legal_moves_of<'a>(rays: &'a Rays, position: &'a Position, men: u64) -> L
 {
     let info = legality_info_of(rays, position);
     LegalMoves {
-        rays,
-        position,
         info,
         origins: square_sets::squares(info.own & men),
         turn: ManMoves {
-            man: Man {
-                colour: info.side,
-                kind: Kind::King,
-            },
-            origin: 0,
+            mover: king_of(&info),
             targets: 0,
             promotion: Kind::Knight,
         },
@@ -103,7 +90,7 @@ impl<'a> Iterator for LegalMoves<'a> {
     fn next(&mut self) -> Option<Move> {
         while self.turn.targets == 0 {
             let origin = self.origins.next()?;
-            self.turn = moves_of_man(self.rays, self.position, &self.info, origin);
+            self.turn = moves_of_man(&self.info, origin);
         }
         Some(self.turn.take())
     }
@@ -114,26 +101,24 @@ impl<'a> FusedIterator for LegalMoves<'a> {}
 /// One man's legal moves that are still to come.
 #[derive(Clone, Copy)]
 pub(crate) struct ManMoves {
-    pub man: Man,
-    pub origin: u8,
     pub targets: u64,
+    pub mover: Mover,
     /// What the man becomes first on the lowest of its targets, if it is promoted there.
     pub promotion: Kind,
 }
 
 /// The legal moves of the man of the side to move on a square.
-fn moves_of_man(rays: &Rays, position: &Position, info: &LegalityInfo, origin: u8) -> ManMoves
+fn moves_of_man(info: &LegalityInfo, origin: u8) -> ManMoves
     requires on_board { origin < 64 }
-    requires info { IsLegalityInfoOf info.now position.now }
-    requires own { is_of position.now.side (man_at position.now.men origin) ≡ true }
-    ensures moves { man_moves result ≡ filter (is_legal_in position.now) (moves_to origin 64) }
-    ensures on_board { result.origin < 64 }
+    requires info { IsLegalityInfo info.now }
+    requires own { is_of info.now.position.now.side (man_at info.now.position.now.men origin) ≡ true }
+    ensures moves { man_moves result ≡ filter (is_legal_in info.now.position.now) (moves_to origin 64) }
+    ensures on_board { result.mover.origin < 64 }
 {
-    let man = own_man(position, origin);
+    let mover = mover_on(info.position, origin);
     ManMoves {
-        man,
-        origin,
-        targets: targets_from(rays, position, info, man, origin),
+        mover,
+        targets: targets_from(info, mover),
         promotion: Kind::Knight,
     }
 }
@@ -142,14 +127,14 @@ impl ManMoves {
     /// Takes the first of the moves.
     #[inline(always)]
     pub(crate) fn take(&mut self) -> Move
-        requires on_board { self.old.origin < 64 }
+        requires on_board { self.old.mover.origin < 64 }
         requires some { 0 < self.old.targets }
         ensures moves { man_moves self.old ≡ result ∷ man_moves self.new }
-        ensures origin { self.new.origin ≡ self.old.origin }
+        ensures mover { self.new.mover ≡ self.old.mover }
     {
         let target = square_sets::lowest(self.targets);
         let others = square_sets::without_lowest(self.targets);
-        let promotion = if square_sets::contains(promotion_squares(self.man), target) {
+        let promotion = if square_sets::contains(promotion_squares(self.mover.man), target) {
             Some(self.promotion)
         } else {
             None
@@ -162,7 +147,7 @@ impl ManMoves {
             }
         }
         Move {
-            origin: Square::numbered(self.origin),
+            origin: Square::numbered(self.mover.origin),
             target: Square::numbered(target),
             promotion,
         }
@@ -194,13 +179,13 @@ pub fn is_legal(rays: &Rays, position: &Position, m: Move) -> bool
     if !square_sets::contains(own, origin) {
         return false;
     }
-    let man = own_man(position, origin);
-    if !is_suited(man, m) {
+    let mover = mover_on(position, origin);
+    if !is_suited(mover.man, m) {
         return false;
     }
-    let info = bare_info_of(position);
+    let info = bare_info_of(rays, position);
     let target = m.target.index() as u8;
-    is_target(rays, position, &info, man, origin, target)
+    is_target(&info, mover, target)
 }
 
 /// Whether a man is promoted as a move says: a pawn on its last rank is, and no other man (FIDE Laws of Chess, article 3.7).

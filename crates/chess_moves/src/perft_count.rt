@@ -4,9 +4,8 @@
 ghost use Rattle.std.specs.Prelude.{◌≡◌, ℕ, ◌≤◌, ◌<◌, ◌&&◌, ◌==◌, ◌^◌, filter, length};
 ghost use Rattle.square_sets.specs.Members.{has, members};
 ghost use Rattle.chess_board.specs.declared.men.Kind.TheVariants as kind;
-ghost use Rattle.chess_board.specs.Positions.{Setup};
 ghost use Rattle.chess_board.specs.Squares.{file_of, rank_of};
-ghost use Rattle.chess_moves.specs.inside.LegalityInfo.{IsLegalityInfoOf};
+ghost use Rattle.chess_moves.specs.inside.LegalityInfo.{IsLegalityInfo};
 ghost use Rattle.chess_board.specs.Legality.{is_legal};
 ghost use Rattle.chess_moves.specs.inside.Listing.{legal_moves, moves_to};
 ghost use Rattle.chess_moves.specs.inside.MoveGeneration.{moves_of_men, HaveMenOf};
@@ -18,6 +17,7 @@ use crate::en_passant_targets::en_passant_origins;
 use crate::legal_targets::{targets_at_once, targets_of_king};
 use crate::legality_info::{LegalityInfo, legality_info_of};
 use crate::move_generation::legal_moves;
+use crate::movers::{Mover, king_of};
 use crate::promotions::count_ways;
 use crate::ray_tables::Rays;
 use chess_board::{Colour, Kind, Man, Position, after};
@@ -59,49 +59,46 @@ fn count_moves(rays: &Rays, position: &Position) -> u64
     ensures few { result ≤ 1024 }
 {
     let info = legality_info_of(rays, position);
-    let pawns = position.men(info.side, Kind::Pawn);
-    let knights = position.men(info.side, Kind::Knight);
-    let bishops = position.men(info.side, Kind::Bishop);
-    let rooks = position.men(info.side, Kind::Rook);
-    let queens = position.men(info.side, Kind::Queen);
-    count_pawns(rays, position, &info, pawns)
-        + count_from(rays, position, &info, Kind::Knight, knights)
-        + count_from(rays, position, &info, Kind::Bishop, bishops)
-        + count_from(rays, position, &info, Kind::Rook, rooks)
-        + count_from(rays, position, &info, Kind::Queen, queens)
-        + count_king(rays, position, &info)
+    let pawns = info.position.men(info.side, Kind::Pawn);
+    let knights = info.position.men(info.side, Kind::Knight);
+    let bishops = info.position.men(info.side, Kind::Bishop);
+    let rooks = info.position.men(info.side, Kind::Rook);
+    let queens = info.position.men(info.side, Kind::Queen);
+    count_pawns(&info, pawns)
+        + count_from(&info, Kind::Knight, knights)
+        + count_from(&info, Kind::Bishop, bishops)
+        + count_from(&info, Kind::Rook, rooks)
+        + count_from(&info, Kind::Queen, queens)
+        + count_king(&info)
 }
 
 /// How many legal moves the king has.
-fn count_king(rays: &Rays, position: &Position, info: &LegalityInfo) -> u64
-    requires info { IsLegalityInfoOf info.now position.now }
-    ensures count { result ≡ length (filter (is_legal position.now) (moves_to info.now.king 64)) }
+fn count_king(info: &LegalityInfo) -> u64
+    requires info { IsLegalityInfo info.now }
+    ensures count { result ≡ length (filter (is_legal info.now.position.now) (moves_to info.now.king 64)) }
     ensures few { result ≤ 256 }
 {
-    let king = Man {
-        colour: info.side,
-        kind: Kind::King,
-    };
-    count_ways(king, targets_of_king(rays, position, info, king, info.king))
+    let king = king_of(info);
+    count_ways(king.man, targets_of_king(info, king))
 }
 
 /// How many legal moves pawns have together. Those that might be pinned or capture en passant are asked one by one.
-fn count_pawns(rays: &Rays, position: &Position, info: &LegalityInfo, pawns: u64) -> u64
-    requires info { IsLegalityInfoOf info.now position.now }
-    requires men { HaveMenOf kind.Pawn pawns position.now }
-    ensures count { result ≡ length (moves_of_men position.now (members pawns)) }
+fn count_pawns(info: &LegalityInfo, pawns: u64) -> u64
+    requires info { IsLegalityInfo info.now }
+    requires men { HaveMenOf kind.Pawn pawns info.now.position.now }
+    ensures count { result ≡ length (moves_of_men info.now.position.now (members pawns)) }
     ensures few { result ≤ 1024 }
 {
-    let alone = pawns & (info.pin_squares | en_passant_origins(rays, position, info.side));
-    count_from(rays, position, info, Kind::Pawn, alone) + count_free_pawns(info, pawns & !alone)
+    let alone = pawns & (info.pin_squares | en_passant_origins(info));
+    count_from(info, Kind::Pawn, alone) + count_free_pawns(info, pawns & !alone)
 }
 
 /// How many legal moves men of one kind have together. It is laid into its callers, once for each kind.
 #[inline(always)]
-fn count_from(rays: &Rays, position: &Position, info: &LegalityInfo, kind: Kind, men: u64) -> u64
-    requires info { IsLegalityInfoOf info.now position.now }
-    requires men { HaveMenOf kind men position.now }
-    ensures count { result ≡ length (moves_of_men position.now (members men)) }
+fn count_from(info: &LegalityInfo, kind: Kind, men: u64) -> u64
+    requires info { IsLegalityInfo info.now }
+    requires men { HaveMenOf kind men info.now.position.now }
+    ensures count { result ≡ length (moves_of_men info.now.position.now (members men)) }
     ensures few { result ≤ 1024 }
 {
     let man = Man {
@@ -110,15 +107,17 @@ fn count_from(rays: &Rays, position: &Position, info: &LegalityInfo, kind: Kind,
     };
     let mut total = 0;
     for origin in square_sets::squares(men) {
-        total += count_ways(man, targets_at_once(rays, position, info, man, origin));
+        total += count_ways(man, targets_at_once(info, Mover { man, origin }));
     }
     total
 }
 
 /// How many legal moves pawns have together, none of which can be pinned or captures en passant.
 fn count_free_pawns(info: &LegalityInfo, pawns: u64) -> u64
-    ensures count { (p : Setup) → IsLegalityInfoOf info.now p → HaveMenOf kind.Pawn pawns p → AreFree pawns info.now p
-        → result ≡ length (moves_of_men p (members pawns)) }
+    requires info { IsLegalityInfo info.now }
+    requires men { HaveMenOf kind.Pawn pawns info.now.position.now }
+    requires free { AreFree pawns info.now info.now.position.now }
+    ensures count { result ≡ length (moves_of_men info.now.position.now (members pawns)) }
     ensures few { result ≤ 1024 }
 {
     let side = info.side;

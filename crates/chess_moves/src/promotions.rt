@@ -1,27 +1,12 @@
-//! Promotions: the man that makes a move, where it is promoted, and how many moves it has.
+//! Promotions: where a man is promoted, and how many moves it has.
 
-ghost use Rattle.std.specs.Prelude.{◌≡◌, ℕ, ◌<◌, ◌≤◌, true, Some, length};
+ghost use Rattle.std.specs.Prelude.{◌≡◌, ℕ, ◌<◌, ◌≤◌, length};
 ghost use Rattle.std.specs.List.{flat_map};
 ghost use Rattle.square_sets.specs.Members.{has, members};
-ghost use Rattle.chess_board.specs.Men.{is_of};
-ghost use Rattle.chess_board.specs.Positions.{man_at};
 ghost use Rattle.chess_board.specs.PseudoLegal.{promotes};
 ghost use Rattle.chess_moves.specs.inside.LegalTargets.{ways};
 
-use chess_board::{Colour, Kind, Man, Position, Square};
-
-/// The man of the side to move on a square where one stands.
-pub(crate) fn own_man(position: &Position, square: u8) -> Man
-    requires on_board { square < 64 }
-    requires own { is_of position.now.side (man_at position.now.men square) ≡ true }
-    ensures there { man_at position.now.men square ≡ Some result }
-    ensures own { result.colour ≡ position.now.side }
-{
-    match position.man(Square::numbered(square)) {
-        Some(man) => man,
-        None => unreachable!(),
-    }
-}
+use chess_board::{Colour, Kind, Man};
 
 /// The squares on which the man is promoted: a pawn's last rank (FIDE Laws of Chess, article 3.7).
 pub(crate) fn promotion_squares(man: Man) -> u64

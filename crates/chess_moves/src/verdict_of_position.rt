@@ -3,15 +3,16 @@
 ghost use Rattle.std.specs.Prelude.{◌≡◌, length, nat_lt};
 ghost use Rattle.square_sets.specs.Members.{members};
 ghost use Rattle.chess_board.specs.Attacks.{is_in_check};
-ghost use Rattle.chess_moves.specs.inside.LegalityInfo.{IsLegalityInfoOf};
 ghost use Rattle.chess_moves.specs.Verdicts.{verdict_of, is_mate};
 ghost use Rattle.chess_moves.specs.inside.MoveGeneration.{moves_of_men, HaveOwnMen};
+ghost use Rattle.chess_moves.specs.inside.LegalityInfo.{IsLegalityInfo};
 
 use crate::attackers::attacked;
 use crate::legal_targets::{king_can_move, targets_from};
 use crate::legality_info::{LegalityInfo, bare_info_of, with_checks_and_pins};
 use crate::move_generation::legal_moves;
-use crate::promotions::{count_ways, own_man};
+use crate::movers::mover_on;
+use crate::promotions::count_ways;
 use crate::ray_tables::Rays;
 use crate::verdicts::Verdict;
 use chess_board::Position;
@@ -47,24 +48,24 @@ pub fn is_mated(rays: &Rays, position: &Position) -> bool
     if !in_check(rays, position) {
         return false;
     }
-    let bare = bare_info_of(position);
-    if king_can_move(rays, position, &bare) {
+    let bare = bare_info_of(rays, position);
+    if king_can_move(&bare) {
         return false;
     }
-    let info = with_checks_and_pins(rays, bare);
+    let info = with_checks_and_pins(bare);
     let king = square_sets::single(bare.king);
-    !can_move(rays, position, &info, bare.own & !king)
+    !can_move(&info, bare.own & !king)
 }
 
 /// Whether one of these men of the side to move has a legal move.
-fn can_move(rays: &Rays, position: &Position, info: &LegalityInfo, men: u64) -> bool
-    requires info { IsLegalityInfoOf info.now position.now }
-    requires men { HaveOwnMen men position.now }
-    ensures { result ≡ nat_lt 0 (length (moves_of_men position.now (members men))) }
+fn can_move(info: &LegalityInfo, men: u64) -> bool
+    requires info { IsLegalityInfo info.now }
+    requires men { HaveOwnMen men info.now.position.now }
+    ensures { result ≡ nat_lt 0 (length (moves_of_men info.now.position.now (members men))) }
 {
     for origin in square_sets::squares(men) {
-        let man = own_man(position, origin);
-        if count_ways(man, targets_from(rays, position, info, man, origin)) != 0 {
+        let mover = mover_on(info.position, origin);
+        if count_ways(mover.man, targets_from(info, mover)) != 0 {
             return true;
         }
     }

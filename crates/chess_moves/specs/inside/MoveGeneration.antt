@@ -14,7 +14,7 @@ use Rattle.chess_moves.specs.declared.move_generation.ManMoves.{ManMoves}
 use Rattle.chess_moves.specs.declared.move_generation.LegalMoves.TheInside.{Inside}
 use Rattle.chess_moves.specs.inside.Listing.{move_of, promotions, moves_to}
 use Rattle.chess_moves.specs.inside.LegalTargets.{ways}
-use Rattle.chess_moves.specs.inside.LegalityInfo.{IsLegalityInfoOf}
+use Rattle.chess_moves.specs.inside.LegalityInfo.{IsLegalityInfo}
 
 -- the promotion that comes after this one, if it is one and not the last
 abbrev pub next_promotion : Option Kind → Option Kind
@@ -39,7 +39,7 @@ moves_from first man origin (target ∷ targets) =
 
 -- one man's moves that are still to come
 abbrev pub man_moves : ManMoves → List Move
-man_moves left = moves_from left.promotion left.man left.origin (members left.targets)
+man_moves left = moves_from left.promotion left.mover.man left.mover.origin (members left.targets)
 
 -- the legal moves from these squares
 abbrev pub moves_of_men : Setup → List ℕ → List Move
@@ -47,7 +47,7 @@ moves_of_men p origins = flat_map (λ origin. filter (is_legal p) (moves_to orig
 
 -- all the moves that are still to come: those of the man that has its turn, then those of the men after it
 abbrev pub moves_left : Inside → List Move
-moves_left left = man_moves left.turn ++ moves_of_men left.position.now (members left.origins)
+moves_left left = man_moves left.turn ++ moves_of_men left.info.position.now (members left.origins)
 
 -- A man of the side to move stands on each square of the set.
 abbrev pub HaveOwnMen : ℕ → Setup → Type 0
@@ -58,6 +58,6 @@ abbrev pub HaveMenOf : Kind → ℕ → Setup → Type 0
 HaveMenOf kind set p = (s : ℕ) → s < 64 → has set s ≡ true → man_at p.men s ≡ man_of p.side kind
 
 pub record IsUnderWay (left : Inside) : Type 0 where
-  pub info : IsLegalityInfoOf left.info left.position.now
-  pub origins : HaveOwnMen left.origins left.position.now
-  pub on_board : left.turn.origin < 64
+  pub info : IsLegalityInfo left.info
+  pub origins : HaveOwnMen left.origins left.info.position.now
+  pub on_board : left.turn.mover.origin < 64

@@ -10,14 +10,18 @@ use Rattle.chess_moves.proofs.SetBits.{has_or}
 use Rattle.chess_moves.proofs.castling_targets.castling_goals.Goals as goal
 
 pub returns-then-info-index : goal.returns-then-info-index
-returns-then-info-index c = λ p t info l out.
+returns-then-info-index c = λ t l out.
+    let p = c.args.info.now.position.now in
+    let info = c.requires in
     let none = λ (wing : Wing). false_from_ne_true (castles_to p p.side wing c.args.info.now.king t) (λ h.
     c.if-info-index.true ((castles_says p p.side wing c.args.info.now.king t h).home ∙ ap king_home (sym info.side)
     ∙ sym (c.index.ensures.number ∙ c.king_home.ensures))) in
     rw (none KingSide, none QueenSide) refl
 
 pub returns : goal.returns
-returns c = λ p t info l out.
+returns c = λ t l out.
+    let p = c.args.info.now.position.now in
+    let info = c.requires in
     let king = c.args.info.now.king in
     let both = or_parts (has c.single-king_side.result t) (has c.single-queen_side.result t)
     (sym (has_or c.single-king_side.result c.single-queen_side.result t) ∙ out) in

@@ -18,7 +18,7 @@ use Rattle.chess_moves.proofs.castling_targets.castling_target.Goals.{
 
 pub returns-then-between-info-ne0-clause-targets : goal.returns-then-between-info-ne0-clause-targets
 returns-then-between-info-ne0-clause-targets c = λ t l.
-    let p = c.args.position.now in
+    let p = c.args.info.now.position.now in
     let king : ℕ = c.args.info.now.king in
     let side_is = c.requires.info.side in
     let way = clear_way p.men p.side c.args.wing (king_home c.args.info.now.side)
@@ -34,7 +34,7 @@ returns-then-between-info-ne0-clause-targets c = λ t l.
 
 pub returns-then-is_checked_once-clause-targets : goal.returns-then-is_checked_once-clause-targets
 returns-then-is_checked_once-clause-targets c = λ t l.
-    let p = c.args.position.now in
+    let p = c.args.info.now.position.now in
     let by : Colour = other_side p.side in
     let king : ℕ = c.args.info.now.king in
     let home : ℕ = c.index-home.result in
@@ -52,18 +52,18 @@ returns-then-is_checked_once-clause-targets c = λ t l.
           cc
       | then-is_checked_once-via-else-is_checked_once+then-is_attacked_in w ↦
           let safe = x.safe_way in
-          let hit = ap (λ (s : ℕ). is_attacked p.men s by) midway ∙ sym (w.is_attacked_in.ensures p info) ∙ w.if-is_attacked_in.true in
+          let hit = ap (λ (s : ℕ). is_attacked p.men s by) midway ∙ sym (w.is_attacked_in.ensures) ∙ w.if-is_attacked_in.true in
           cc
       | then-is_checked_once-via-else-is_checked_once+else-is_attacked_in+then-is_attacked_in-2 w ↦
           let safe = x.safe_goal in
           let hit = ap (λ (s : ℕ). is_attacked p.men s by) at_goal
-          ∙ sym (w.is_attacked_in-else-is_attacked_in.ensures p info) ∙ w.if-is_attacked_in-2.true in
+          ∙ sym (w.is_attacked_in-else-is_attacked_in.ensures) ∙ w.if-is_attacked_in-2.true in
           cc
     ]))
 
 pub returns-clause-targets : goal.returns-clause-targets
 returns-clause-targets c = λ t l.
-    let p = c.args.position.now in
+    let p = c.args.info.now.position.now in
     let by : Colour = other_side p.side in
     let king : ℕ = c.args.info.now.king in
     let home : ℕ = c.index-home.result in
@@ -91,9 +91,9 @@ returns-clause-targets c = λ t l.
                 (at_home ∙ (c.index-home.ensures.number ∙ c.king_home.ensures)) ∙ way
                 ∙ eq-eqb (bit_and c.castling_way-between.result c.args.info.now.occupied) 0 c.if-between-info-ne0.false;
             safe = sym (c.is_checked_once.ensures.check) ∙ c.if-is_checked_once.false;
-            safe_way = ap (λ (s : ℕ). is_attacked p.men s by) midway ∙ sym (c.is_attacked_in.ensures p info) ∙ c.if-is_attacked_in.false;
+            safe_way = ap (λ (s : ℕ). is_attacked p.men s by) midway ∙ sym (c.is_attacked_in.ensures) ∙ c.if-is_attacked_in.false;
             safe_goal = ap (λ (s : ℕ). is_attacked p.men s by) at_goal
-                ∙ sym (c.is_attacked_in-else-is_attacked_in.ensures p info) ∙ c.if-is_attacked_in-2.false;
+                ∙ sym (c.is_attacked_in-else-is_attacked_in.ensures) ∙ c.if-is_attacked_in-2.false;
           }))
       | false ↦ λ e. sym (false_from_ne_true (castles_to p p.side c.args.wing king t) (λ h.
           let x = castles_says p p.side c.args.wing king t h in

@@ -9,7 +9,7 @@ use Rattle.chess_moves.proofs.castling_targets.castling_targets.Goals as goal
 
 pub returns-then-info-index : goal.returns-then-info-index
 returns-then-info-index c = λ t l.
-    let p = c.args.position.now in
+    let p = c.args.info.now.position.now in
     let king = c.args.info.now.king in
     let none = λ (wing : Wing). false_from_ne_true (castles_to p p.side wing king t) (λ h.
     c.if-info-index.true ((castles_says p p.side wing king t h).home ∙ ap king_home (sym c.requires.info.side)

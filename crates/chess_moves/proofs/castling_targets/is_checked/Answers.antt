@@ -6,9 +6,12 @@ use Rattle.chess_moves.proofs.Arrivals.{hit_through}
 use Rattle.chess_moves.proofs.castling_targets.is_checked.Goals as goal
 
 pub returns : goal.returns
-returns c = λ p info.
+returns c =
+    let p = c.args.info.now.position.now in
+    let info = c.requires in
+    let on = info.on_board in
     let k = c.args.info.now.king in
-    ap not (c.contains-2.ensures ∙ info.check_mask k k c.requires c.requires (sym c.contains.ensures ∙ c.if-contains.false))
+    ap not (c.contains-2.ensures ∙ info.check_mask k k on on (sym c.contains.ensures ∙ c.if-contains.false))
     ∙ not_not _
     ∙ hit_through p.men (other_side p.side) k
-    ∙ sym (attacked_same p.men k (other_side p.side) c.requires)
+    ∙ sym (attacked_same p.men k (other_side p.side) on)

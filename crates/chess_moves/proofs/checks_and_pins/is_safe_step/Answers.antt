@@ -8,15 +8,17 @@ use Rattle.chess_moves.proofs.OwnColours.{own_not_other}
 use Rattle.chess_moves.proofs.checks_and_pins.is_safe_step.Goals as goal
 
 pub returns : goal.returns
-returns c = λ p own h own_is.
+returns c = λ own own_is.
     let s = c.args.info.now in
+    let p = s.position.now in
+    let h = c.requires.info in
     let by : c.other.result ≡ other_side p.side = c.other.ensures ∙ ap other_side h.side in
     let len = h.sound.squares in
     let gone : List (Option Man) = set p.men s.king None in
     let len1 : length gone ≡ 64 = simp length-set len in
-    let cleared = stands_without is_some p.men s.occupied c.without-lifted.result s.king None len c.requires.0
+    let cleared = stands_without is_some p.men s.occupied c.without-lifted.result s.king None len h.on_board
     c.without-lifted.ensures refl h.occupied in
-    let still = stand_still s.enemy (other_side p.side) p.men s.king None len c.requires.0
+    let still = stand_still s.enemy (other_side p.side) p.men s.king None len h.on_board
     (own_not_other p (king p.side) s.king h.king refl) refl h.enemy in
     let hit = rw by at c.is_hit_over.ensures in
-    ap not (hit gone cleared still ∙ sym (hit_on_arrival gone c.args.target own (other_side p.side) len1 c.requires.1 own_is))
+    ap not (hit gone cleared still ∙ sym (hit_on_arrival gone c.args.target own (other_side p.side) len1 c.requires.on_board own_is))

@@ -14,31 +14,31 @@ returns-then-passing-eq0 c = λ t on.
 
 pub returns-then-is_safe_en_passant : goal.returns-then-is_safe_en_passant
 returns-then-is_safe_en_passant c = λ t on.
-    let p = c.args.position.now in
-    let man = c.args.man in
-    let o = c.args.origin in
+    let p = c.args.info.now.position.now in
+    let man = c.args.mover.man in
+    let o = c.args.mover.origin in
     let r = c.requires in
     let h = c.requires.info in
     let passing = c.en_passant_targets-passing.result in
     let taken = c.index.ensures.number ∙ c.captured_pawn-captured.ensures
     ∙ ap (λ a. captured_pawn a c.numbered-2.result) c.numbered.ensures ∙ ap (λ b. captured_pawn o b) c.numbered-2.ensures in
     let told = rw (c.if-is_safe_en_passant.true, taken) at c.is_safe_en_passant.ensures in
-    let safe = told p man h (own_not_other p man o r.there r.own) (other_colour man.colour p.side r.own) in
-    sym (and-true (has passing t)) ∙ en_passant_goes_safely c.args.info.now p man o passing c.lowest-target.result true h r.there
-    r.own r.pawn c.en_passant_targets-passing.ensures c.lowest-target.ensures.on_board c.lowest-target.ensures.there safe t on
+    let safe = told man (own_not_other p man o r.mover.there r.mover.own) (other_colour man.colour p.side r.mover.own) in
+    sym (and-true (has passing t)) ∙ en_passant_goes_safely c.args.info.now p man o passing c.lowest-target.result true h r.mover.there
+    r.mover.own r.pawn c.en_passant_targets-passing.ensures c.lowest-target.ensures.on_board c.lowest-target.ensures.there safe t on
 
 pub returns-else-is_safe_en_passant : goal.returns-else-is_safe_en_passant
 returns-else-is_safe_en_passant c = λ t on.
-    let p = c.args.position.now in
-    let man = c.args.man in
-    let o = c.args.origin in
+    let p = c.args.info.now.position.now in
+    let man = c.args.mover.man in
+    let o = c.args.mover.origin in
     let r = c.requires in
     let h = c.requires.info in
     let passing = c.en_passant_targets-passing.result in
     let taken = c.index.ensures.number ∙ c.captured_pawn-captured.ensures
     ∙ ap (λ a. captured_pawn a c.numbered-2.result) c.numbered.ensures ∙ ap (λ b. captured_pawn o b) c.numbered-2.ensures in
     let told = rw (c.if-is_safe_en_passant.false, taken) at c.is_safe_en_passant.ensures in
-    let safe = told p man h (own_not_other p man o r.there r.own) (other_colour man.colour p.side r.own) in
+    let safe = told man (own_not_other p man o r.mover.there r.mover.own) (other_colour man.colour p.side r.mover.own) in
     has_none 0 t refl ∙ sym (and-false (has passing t))
-    ∙ en_passant_goes_safely c.args.info.now p man o passing c.lowest-target.result false h r.there r.own r.pawn
+    ∙ en_passant_goes_safely c.args.info.now p man o passing c.lowest-target.result false h r.mover.there r.mover.own r.pawn
     c.en_passant_targets-passing.ensures c.lowest-target.ensures.on_board c.lowest-target.ensures.there safe t on

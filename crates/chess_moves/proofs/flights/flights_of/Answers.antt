@@ -15,7 +15,7 @@ use Rattle.chess_moves.proofs.flights.flights_of.Goals as goal
 
 pub returns : goal.returns
 returns c =
-    let p = c.args.position.now in
+    let p = c.args.info.now.position.now in
     let info = c.requires.info in
     let by : Colour = c.args.info.now.side in
     let k : ℕ = c.index-king.result in

@@ -15,7 +15,7 @@ squares_covering-requires-clause-flight c =
 
 pub loop-flight-preserved : goal.loop-flight-preserved
 loop-flight-preserved c =
-    let p = c.args.position.now in
+    let p = c.args.info.now.position.now in
     let flights = c.requires.flights in
     let f : ℕ = c.in-Some.flight in
     let split = c.in-Some.ensures.steps in
@@ -29,8 +29,8 @@ loop-flight-preserved c =
                 let now : (true && has (bit_or special from) m.target) ≡ false = ap (λ x. x && has (bit_or special from) m.target)
                 (sym e) ∙ sym (has_and c.loop-flight.covering (bit_or special from) m.target) ∙ out in
                 let both = or_parts (has special m.target) (has from m.target) (sym (has_or special from m.target) ∙ now) in
-                let o_on : m.origin < 64 = subst (λ s. s < 64) (sym at) c.requires.on_board in
-                let here = ap (man_at p.men) at ∙ c.requires.there in
+                let o_on : m.origin < 64 = subst (λ s. s < 64) (sym at) c.requires.mover.on_board in
+                let here = ap (man_at p.men) at ∙ c.requires.mover.there in
                 let plain = c.special_squares-special.ensures m legal here o_on t_on both.0 in
                 let leaves = ap (λ s. leaves_flight p c.args.flights.king s c.args.mover.man.kind m.target f) at
                 ∙ c.squares_covering.ensures m.target t_on both.1 in

@@ -10,18 +10,18 @@ use Rattle.chess_moves.proofs.legal_targets.is_target_of_pawn.Goals as goal
 
 pub returns-then-not-contains : goal.returns-then-not-contains
 returns-then-not-contains c =
-    let p = c.args.position.now in
-    let man = c.args.man in
-    let o = c.args.origin in
+    let p = c.args.info.now.position.now in
+    let man = c.args.mover.man in
+    let o = c.args.mover.origin in
     let t = c.args.target in
     let r = c.requires in
-    let on = r.on_board.1 in
+    let on = r.on_board in
     let out = sym (c.pawn_targets-goes.ensures t on) ∙ (sym c.contains.ensures ∙ c.if-not-contains.true) in
-    ways_kept p man o t _ r.there r.own (λ x suited.
+    ways_kept p man o t _ r.mover.there r.mover.own (λ x suited.
     pawn_goes_safely c.args.info.now p man o t x (not (is_hit (moved p.men o t (becomes man x)) c.args.info.now.king (other_side p.side)))
-    r.info r.there r.own r.pawn suited refl
+    r.info r.mover.there r.mover.own r.pawn suited refl
     ∙ rw out (sym (c.contains-then-not-contains.ensures ∙ c.safe_en_passant-passing.ensures t on)))
 
 pub returns : goal.returns
-returns c = subst (λ b. IsTarget b c.args.position.now c.args.man c.args.origin c.args.target) (sym c.contains-2.ensures)
-    (c.targets_of_pawn.ensures c.args.target c.requires.on_board.1)
+returns c = subst (λ b. IsTarget b c.args.info.now.position.now c.args.mover.man c.args.mover.origin c.args.target) (sym c.contains-2.ensures)
+    (c.targets_of_pawn.ensures c.args.target c.requires.on_board)

@@ -40,7 +40,7 @@ loop-target-init c = let start = c.into_iter-target-iterator.ensures.into_iter_g
 
 pub returns-then-is_safe_step : goal.returns-then-is_safe_step
 returns-then-is_safe_step c =
-    let p = c.args.position.now in
+    let p = c.args.info.now.position.now in
     let k : ℕ = c.args.info.now.king in
     let h = c.requires.info in
     let man : Man = record { colour = c.args.info.now.side; kind = King } in
@@ -49,15 +49,15 @@ returns-then-is_safe_step c =
     let lowest = c.in-Some.ensures.steps.lowest in
     let on = lowest.on_board in
     let step = step_safe c.args.info.now p man k c.piece_targets-steps.result t h on h.side refl refl
-    (c.piece_targets-steps.ensures t on) (c.loop-target.invariant.within t on lowest.there) in
+    (rw c.king_of.ensures.king at (c.piece_targets-steps.ensures t on)) (c.loop-target.invariant.within t on lowest.there) in
     let safe : safe_at p k t ≡ true =
-    sym (c.is_safe_step.ensures p (king p.side) h (other_colour p.side p.side refl) ∙ step.1) ∙ c.if-is_safe_step.true in
+    sym (c.is_safe_step.ensures (king p.side) (other_colour p.side p.side refl) ∙ step.1) ∙ c.if-is_safe_step.true in
     sym (some_legal p man k t on refl (ways_kept p man k t true there h.side (λ x suited.
     king_goes_safely p man k k t x h.side refl refl suited ∙ and_from (goes p p.side King k t) (safe_at p k t) step.0 safe)))
 
 pub loop-target-preserved : goal.loop-target-preserved
 loop-target-preserved c =
-    let p = c.args.position.now in
+    let p = c.args.info.now.position.now in
     let k : ℕ = c.args.info.now.king in
     let h = c.requires.info in
     let man : Man = record { colour = c.args.info.now.side; kind = King } in
@@ -65,15 +65,15 @@ loop-target-preserved c =
     let t : ℕ = c.in-Some.target in
     let split = c.in-Some.ensures.steps in
     let on = split.lowest.on_board in
-    let step = step_safe c.args.info.now p man k steps t h on h.side refl refl (c.piece_targets-steps.ensures t on)
+    let step = step_safe c.args.info.now p man k steps t h on h.side refl refl (rw c.king_of.ensures.king at (c.piece_targets-steps.ensures t on))
     (c.loop-target.invariant.within t on split.lowest.there) in
-    let safe = c.is_safe_step.ensures p (king p.side) h (other_colour p.side p.side refl) ∙ step.1 in
+    let safe = c.is_safe_step.ensures (king p.side) (other_colour p.side p.side refl) ∙ step.1 in
     sifted_out steps c.loop-target.target-iterator c.next.new.self 0 t
     (safe_at p k) c.loop-target.invariant split (sym safe ∙ c.if-is_safe_step.false)
 
 pub returns : goal.returns
 returns c =
-    let p = c.args.position.now in
+    let p = c.args.info.now.position.now in
     let k : ℕ = c.args.info.now.king in
     let h = c.requires.info in
     let man : Man = record { colour = c.args.info.now.side; kind = King } in
@@ -83,6 +83,6 @@ returns c =
     let fits : castlings < 2 ^ 64 = omega arith in
     some_target p man k castlings fits (λ t. refl) (targets_where_safe p man k castlings there h.side (λ t x on suited.
     let none = sifted_all steps c.loop-target.target-iterator 0 (safe_at p k) c.in-None.ensures.steps.0 c.loop-target.invariant t on in
-    king_goes_safely_there c.args.info.now p man k steps castlings t x h on h.side refl refl (c.piece_targets-steps.ensures t on)
+    king_goes_safely_there c.args.info.now p man k steps castlings t x h on h.side refl refl (rw c.king_of.ensures.king at (c.piece_targets-steps.ensures t on))
     (c.castling_targets.ensures t on) suited
     ∙ ap (λ b. b || has castlings t) (sym none ∙ has_none 0 t refl)))

@@ -12,47 +12,47 @@ loop-target-init c = let start = c.into_iter-target-iterator.ensures.into_iter_g
 
 pub loop-target-preserved-then-is_safe_step : goal.loop-target-preserved-then-is_safe_step
 loop-target-preserved-then-is_safe_step c =
-    let p = c.args.position.now in
+    let p = c.args.info.now.position.now in
     let r = c.requires in
     let steps = c.piece_targets-steps.result in
     let t : ℕ = c.in-Some.target in
     let split = c.in-Some.ensures.steps in
     let on = split.lowest.on_board in
-    let at = king_origin c.args.info.now p c.args.man c.args.origin r.info r.on_board r.there r.own r.king in
-    let step = step_safe c.args.info.now p c.args.man c.args.origin steps t r.info on r.own r.king at
+    let at = king_origin c.args.info.now p c.args.mover.man c.args.mover.origin r.info r.mover.on_board r.mover.there r.mover.own r.king in
+    let step = step_safe c.args.info.now p c.args.mover.man c.args.mover.origin steps t r.info on r.mover.own r.king at
     (c.piece_targets-steps.ensures t on) (c.loop-target.invariant.within t on split.lowest.there) in
-    let safe = c.is_safe_step.ensures p (king p.side) r.info (other_colour p.side p.side refl) ∙ step.1 in
+    let safe = c.is_safe_step.ensures (king p.side) (other_colour p.side p.side refl) ∙ step.1 in
     sifted_in steps c.loop-target.target-iterator c.next.new.self c.loop-target.safe t (safe_at p c.args.info.now.king)
     c.loop-target.invariant split c.with-safe.result c.with-safe.ensures (sym safe ∙ c.if-is_safe_step.true)
 
 pub loop-target-preserved : goal.loop-target-preserved
 loop-target-preserved c =
-    let p = c.args.position.now in
+    let p = c.args.info.now.position.now in
     let r = c.requires in
     let steps = c.piece_targets-steps.result in
     let t : ℕ = c.in-Some.target in
     let split = c.in-Some.ensures.steps in
     let on = split.lowest.on_board in
-    let at = king_origin c.args.info.now p c.args.man c.args.origin r.info r.on_board r.there r.own r.king in
-    let step = step_safe c.args.info.now p c.args.man c.args.origin steps t r.info on r.own r.king at
+    let at = king_origin c.args.info.now p c.args.mover.man c.args.mover.origin r.info r.mover.on_board r.mover.there r.mover.own r.king in
+    let step = step_safe c.args.info.now p c.args.mover.man c.args.mover.origin steps t r.info on r.mover.own r.king at
     (c.piece_targets-steps.ensures t on) (c.loop-target.invariant.within t on split.lowest.there) in
-    let safe = c.is_safe_step.ensures p (king p.side) r.info (other_colour p.side p.side refl) ∙ step.1 in
+    let safe = c.is_safe_step.ensures (king p.side) (other_colour p.side p.side refl) ∙ step.1 in
     sifted_out steps c.loop-target.target-iterator c.next.new.self c.loop-target.safe t
     (safe_at p c.args.info.now.king) c.loop-target.invariant split (sym safe ∙ c.if-is_safe_step.false)
 
 pub returns : goal.returns
 returns c =
-    let p = c.args.position.now in
+    let p = c.args.info.now.position.now in
     let r = c.requires in
-    let man = c.args.man in
-    let o : ℕ = c.args.origin in
+    let man = c.args.mover.man in
+    let o : ℕ = c.args.mover.origin in
     let steps = c.piece_targets-steps.result in
     let castlings = c.castling_targets.result in
     let safe = c.loop-target.safe in
-    let at = king_origin c.args.info.now p man o r.info r.on_board r.there r.own r.king in
-    targets_where_safe p man o _ r.there r.own (λ t x on suited.
+    let at = king_origin c.args.info.now p man o r.info r.mover.on_board r.mover.there r.mover.own r.king in
+    targets_where_safe p man o _ r.mover.there r.mover.own (λ t x on suited.
     let passed = sifted_all steps c.loop-target.target-iterator safe
     (safe_at p c.args.info.now.king) c.in-None.ensures.steps.0 c.loop-target.invariant t on in
-    king_goes_safely_there c.args.info.now p man o steps castlings t x r.info on r.own r.king at
+    king_goes_safely_there c.args.info.now p man o steps castlings t x r.info on r.mover.own r.king at
     (c.piece_targets-steps.ensures t on) (c.castling_targets.ensures t on) suited
     ∙ ap (λ b. b || has castlings t) (sym passed) ∙ sym (has_or safe castlings t))

@@ -10,14 +10,14 @@ use Rattle.chess_moves.proofs.legal_targets.targets_of_piece.Goals as goal
 
 pub returns : goal.returns
 returns c =
-    let p = c.args.position.now in
-    let man = c.args.man in
-    let o = c.args.origin in
+    let p = c.args.info.now.position.now in
+    let man = c.args.mover.man in
+    let o = c.args.mover.origin in
     let r = c.requires in
     let h = c.requires.info in
     let free = c.legal_mask-allowed.result in
-    targets_where_safe p man o _ r.there r.own (λ t x on suited.
-    let own = other_colour (becomes man x).colour p.side (becomes_colour man x ∙ r.own) in
-    let safe = c.legal_mask-allowed.ensures p (becomes man x) h (own_not_other p man o r.there r.own) own t on in
+    targets_where_safe p man o _ r.mover.there r.mover.own (λ t x on suited.
+    let own = other_colour (becomes man x).colour p.side (becomes_colour man x ∙ r.mover.own) in
+    let safe = c.legal_mask-allowed.ensures (becomes man x) (own_not_other p man o r.mover.there r.mover.own) own t on in
     rw (has_and c.piece_targets.result free t, c.piece_targets.ensures t on)
-    (piece_goes_safely c.args.info.now p man o t x (has free t) h r.there r.own r.no_pawn r.no_king suited safe))
+    (piece_goes_safely c.args.info.now p man o t x (has free t) h r.mover.there r.mover.own r.no_pawn r.no_king suited safe))

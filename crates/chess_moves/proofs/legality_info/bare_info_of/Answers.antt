@@ -7,8 +7,8 @@ use Rattle.chess_moves.specs.inside.SideMen.{StandFor}
 use Rattle.chess_moves.proofs.Kept.{has_all}
 use Rattle.chess_moves.proofs.legality_info.bare_info_of.Goals as goal
 
-pub returns : goal.returns
-returns c =
+pub returns-clause-info : goal.returns-clause-info
+returns-clause-info c =
     let p = c.args.position.now in
     let side = c.side-side.ensures.side in
     let by = c.other.ensures ∙ ap other_side side in

@@ -1,21 +1,18 @@
-use Rattle.std.proofs.Common.{not, ◌&&◌, sym, ap, ◌∙◌}
+use Rattle.std.proofs.Common.{sym, ◌∙◌}
 use Rattle.std.proofs.lemmas.Bool.{or_parts}
 use Rattle.square_sets.specs.Members.{has}
-use Rattle.chess_board.specs.Squares.{some_square}
 use Rattle.chess_board.specs.Men.{other_side}
-use Rattle.chess_moves.specs.inside.SideMen.{StandFor}
-use Rattle.chess_moves.specs.inside.Hits.{is_taken, hits_from}
-use Rattle.chess_moves.specs.inside.LegalityInfo.{gets_through}
+use Rattle.chess_moves.specs.inside.Hits.{is_taken}
 use Rattle.chess_moves.proofs.Removed.{attacks_removed}
 use Rattle.chess_moves.proofs.SetBits.{has_or}
 use Rattle.chess_moves.proofs.SliderSights.{alone_same}
 use Rattle.chess_moves.proofs.legality_info.checks_and_pins_of.Goals as goal
 
 pub returns : goal.returns
-returns c = λ p h.
+returns c =
     let s = c.args.info.now in
-    let by = c.other-by.ensures ∙ ap other_side h.side in
-    let stand : StandFor s.enemy c.other-by.result p.men = rw by h.enemy in
+    let p = s.position.now in
+    let h = c.requires in
     let slants = c.diagonal_lines-diagonal.ensures in
     let lines = c.straight_lines-straight.ensures in
     record {
@@ -35,8 +32,6 @@ returns c = λ p h.
           (λ one line alone. let blockers = lines.blockers a o l o_on (h.enemy.straight a l ∙ one) line
           (alone_same (λ s. is_taken p.men s) (has s.occupied)
           (λ q l. sym (h.occupied q l)) s.king a o o_on alone) in let gone = none.1 in cc);
-      check_mask = λ o t o_on l off.
-          c.check_mask.ensures p.men s.occupied h.occupied stand slants.clear lines.clear t l
-          ∙ ap (λ b. not (some_square (λ a. hits_from p.men b a s.king && gets_through a s.king t))) by;
+      check_mask = λ o t o_on l off. c.check_mask.ensures t l;
       sound = h.sound;
     }

@@ -13,8 +13,8 @@ use Rattle.chess_moves.proofs.mate_in_one.has_mating_move.Goals as goal
 
 pub loop-origin-init : goal.loop-origin-init
 loop-origin-init c =
-    let p = c.args.position.now in
-    let h = c.bare_info_of-info.ensures in
+    let p = c.bare_info_of-info.result.position.now in
+    let h = c.bare_info_of-info.ensures.info in
     let start = c.into_iter-origin-iterator.ensures.into_iter_gives ∙ c.squares-origin-items.ensures in
     record {
       any = rw start (ap (list_any (λ m. is_mate (after_setup p m))) (sym (legal_of_men p c.bare_info_of-info.result.own h.own)));
@@ -25,22 +25,23 @@ loop-origin-init c =
 pub returns-then-man_mates : goal.returns-then-man_mates
 unfolding has_mating_move
 returns-then-man_mates c =
-    let p = c.args.position.now in
+    let p = c.bare_info_of-info.result.position.now in
     let o = c.in-Some.origin in
     let rest = c.next.new.self in
     let first = ap (list_any (λ m. is_mate (after_setup p m))) (first_man p c.loop-origin.origin-iterator o rest c.in-Some.ensures.steps)
     ∙ list_any-append (λ m. is_mate (after_setup p m)) (filter (is_legal p) (moves_to o 64)) (moves_of_men p (members rest)) in
-    let found = sym c.man_mates.ensures.mates ∙ c.if-man_mates.true in
+    let found = sym (rw c.mover_on-mover.ensures.origin at c.man_mates.ensures.mates) ∙ c.if-man_mates.true in
     sym (sym c.loop-origin.invariant.any ∙ first ∙ ap (λ x. x || list_any (λ m. is_mate (after_setup p m)) (moves_of_men p (members rest))) found)
+    ∙ ap has_mating_move c.bare_info_of-info.ensures.position
 
 pub loop-origin-preserved : goal.loop-origin-preserved
 loop-origin-preserved c =
-    let p = c.args.position.now in
+    let p = c.bare_info_of-info.result.position.now in
     let o = c.in-Some.origin in
     let rest = c.next.new.self in
     let first = ap (list_any (λ m. is_mate (after_setup p m))) (first_man p c.loop-origin.origin-iterator o rest c.in-Some.ensures.steps)
     ∙ list_any-append (λ m. is_mate (after_setup p m)) (filter (is_legal p) (moves_to o 64)) (moves_of_men p (members rest)) in
-    let none = sym c.man_mates.ensures.mates ∙ c.if-man_mates.false in
+    let none = sym (rw c.mover_on-mover.ensures.origin at c.man_mates.ensures.mates) ∙ c.if-man_mates.false in
     record {
       any = sym (ap (λ x. x || list_any (λ m. is_mate (after_setup p m)) (moves_of_men p (members rest))) none)
           ∙ sym first ∙ c.loop-origin.invariant.any;
@@ -50,25 +51,19 @@ loop-origin-preserved c =
 
 pub returns : goal.returns
 unfolding has_mating_move
-returns c = sym (ap (list_any (λ m. is_mate (after_setup c.args.position.now m))) (ap (moves_of_men c.args.position.now)
-    (no_members c.loop-origin.origin-iterator c.in-None.ensures.steps.0))) ∙ c.loop-origin.invariant.any
+returns c =
+    let p = c.bare_info_of-info.result.position.now in
+    sym (ap (list_any (λ m. is_mate (after_setup p m))) (ap (moves_of_men p)
+    (no_members c.loop-origin.origin-iterator c.in-None.ensures.steps.0)))
+    ∙ c.loop-origin.invariant.any ∙ ap has_mating_move c.bare_info_of-info.ensures.position
 
-pub own_man-requires-clause-on_board : goal.own_man-requires-clause-on_board
-own_man-requires-clause-on_board c = c.in-Some.ensures.steps.lowest.on_board
+pub mover_on-mover-requires-clause-on_board : goal.mover_on-mover-requires-clause-on_board
+mover_on-mover-requires-clause-on_board c = c.in-Some.ensures.steps.lowest.on_board
 
-pub own_man-requires-clause-own : goal.own_man-requires-clause-own
-own_man-requires-clause-own c =
+pub mover_on-mover-requires-clause-own : goal.mover_on-mover-requires-clause-own
+mover_on-mover-requires-clause-own c =
     let lowest = c.in-Some.ensures.steps.lowest in
     c.loop-origin.invariant.own c.in-Some.origin lowest.on_board lowest.there
-
-pub man_mates-requires-clause-on_board : goal.man_mates-requires-clause-on_board
-man_mates-requires-clause-on_board c = c.in-Some.ensures.steps.lowest.on_board
-
-pub man_mates-requires-clause-there : goal.man_mates-requires-clause-there
-man_mates-requires-clause-there c = c.own_man.ensures.there
-
-pub man_mates-requires-clause-own : goal.man_mates-requires-clause-own
-man_mates-requires-clause-own c = c.own_man.ensures.own
 
 pub loop-origin-smaller : goal.loop-origin-smaller
 loop-origin-smaller c = omega (arith, ap length c.in-Some.ensures.steps.rising)

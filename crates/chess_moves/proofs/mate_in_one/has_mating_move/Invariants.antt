@@ -12,8 +12,8 @@ use Rattle.chess_moves.proofs.mate_in_one.has_mating_move.Given as goal
 -- no man so far mates
 abbrev pub invariant-loop-origin : goal.invariant-loop-origin
 invariant-loop-origin l = record {
-  any : list_any (λ m. is_mate (after_setup l.position m)) (moves_of_men l.position (members l.origin-iterator))
-      ≡ list_any (λ m. is_mate (after_setup l.position m)) (legal_moves l.position);
-  own : HaveOwnMen l.origin-iterator l.position;
-  flights : IfSome l.flights (λ f. AreFlightsOf f l.position);
+  any : list_any (λ m. is_mate (after_setup l.info.position.now m)) (moves_of_men l.info.position.now (members l.origin-iterator))
+      ≡ list_any (λ m. is_mate (after_setup l.info.position.now m)) (legal_moves l.info.position.now);
+  own : HaveOwnMen l.origin-iterator l.info.position.now;
+  flights : IfSome l.flights (λ f. AreFlightsOf f l.info.position.now);
 }

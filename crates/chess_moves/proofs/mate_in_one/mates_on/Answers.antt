@@ -10,7 +10,7 @@ use Rattle.chess_moves.proofs.mate_in_one.mates_on.Goals as goal
 
 pub returns-then-squares-eq0-clause-mates : goal.returns-then-squares-eq0-clause-mates
 returns-then-squares-eq0-clause-mates c =
-    let p = c.args.position.now in
+    let p = c.args.info.now.position.now in
     let man = c.args.mover.man in
     let o = c.args.mover.origin in
     let set = c.squares_that_cover-squares.result in
@@ -19,7 +19,7 @@ returns-then-squares-eq0-clause-mates c =
 
 pub loop-left-init : goal.loop-left-init
 loop-left-init c =
-    let p = c.args.position.now in
+    let p = c.args.info.now.position.now in
     let man = c.args.mover.man in
     let o = c.args.mover.origin in
     let set = c.squares_that_cover-squares.result in
@@ -29,12 +29,12 @@ loop-left-init c =
     record {
       any = ap (list_any (λ m. is_mate (after_setup p m))) all ∙ narrowed_mates p man o set targets quiet c.targets_from.ensures;
       legal = ap (list_all (is_legal p)) all ∙ narrowed_legal p man o set targets quiet c.targets_from.ensures;
-      on_board = c.requires.on_board;
+      on_board = c.requires.mover.on_board;
     }
 
 pub returns-clause-mates : goal.returns-clause-mates
 returns-clause-mates c =
     let left = c.loop-left.left in
-    ap (list_any (λ m. is_mate (after_setup c.args.position.now m)))
-    (sym (no_moves left.promotion left.man left.origin left.targets (omega (arith, c.loop-left-test.false))))
+    ap (list_any (λ m. is_mate (after_setup c.args.info.now.position.now m)))
+    (sym (no_moves left.promotion left.mover.man left.mover.origin left.targets (omega (arith, c.loop-left-test.false))))
     ∙ c.loop-left.invariant.any

@@ -10,10 +10,10 @@ use Rattle.chess_moves.proofs.mate_in_one.mates_on.Given as goal
 -- no move so far mates
 abbrev pub invariant-loop-left : goal.invariant-loop-left
 invariant-loop-left l = record {
-  any : list_any (λ m. is_mate (after_setup l.position m)) (man_moves l.left)
-      ≡ list_any (λ m. is_mate (after_setup l.position m)) (filter (is_legal l.position) (moves_to l.origin 64));
-  legal : list_all (is_legal l.position) (man_moves l.left) ≡ true;
-  on_board : l.left.origin < 64;
+  any : list_any (λ m. is_mate (after_setup l.info.position.now m)) (man_moves l.left)
+      ≡ list_any (λ m. is_mate (after_setup l.info.position.now m)) (filter (is_legal l.info.position.now) (moves_to l.fn.mover.origin 64));
+  legal : list_all (is_legal l.info.position.now) (man_moves l.left) ≡ true;
+  on_board : l.left.mover.origin < 64;
 }
 
 abbrev pub decreases-loop-left : goal.decreases-loop-left

@@ -14,7 +14,7 @@ use Rattle.chess_moves.proofs.mating_moves.push_mates_on.Goals as goal
 
 pub returns-then-squares-eq0-clause-mates : goal.returns-then-squares-eq0-clause-mates
 returns-then-squares-eq0-clause-mates c =
-    let p = c.args.position.now in
+    let p = c.args.info.now.position.now in
     let man = c.args.mover.man in
     let o = c.args.mover.origin in
     let set = c.squares_that_cover-squares.result in
@@ -24,7 +24,7 @@ returns-then-squares-eq0-clause-mates c =
 
 pub loop-left-init : goal.loop-left-init
 loop-left-init c =
-    let p = c.args.position.now in
+    let p = c.args.info.now.position.now in
     let man = c.args.mover.man in
     let o = c.args.mover.origin in
     let set = c.squares_that_cover-squares.result in
@@ -36,21 +36,21 @@ loop-left-init c =
       kept = ap (λ (ms : List Move). c.args.out.now.items ++ ms) mates;
       room = omega (arith, c.requires.room, ap length mates);
       legal = ap (list_all (is_legal p)) all ∙ narrowed_legal p man o set targets quiet c.targets_from.ensures;
-      on_board = c.requires.on_board;
+      on_board = c.requires.mover.on_board;
     }
 
 pub returns-clause-mates : goal.returns-clause-mates
 returns-clause-mates c =
     let left = c.loop-left.left in
-    let mates = λ (m : Move). is_mate (after_setup c.args.position.now m) in
+    let mates = λ (m : Move). is_mate (after_setup c.args.info.now.position.now m) in
     sym (append-nil c.loop-left.out.items)
     ∙ ap (λ (ms : List Move). c.loop-left.out.items ++ filter mates ms)
-    (sym (no_moves left.promotion left.man left.origin left.targets (omega (arith, c.loop-left-test.false))))
+    (sym (no_moves left.promotion left.mover.man left.mover.origin left.targets (omega (arith, c.loop-left-test.false))))
     ∙ c.loop-left.invariant.kept
 
 pub loop-left-preserved-then-is_mated : goal.loop-left-preserved-then-is_mated
 loop-left-preserved-then-is_mated c =
-    let p = c.args.position.now in
+    let p = c.args.info.now.position.now in
     let m = c.take-m.result in
     let list = c.loop-left.out.items in
     let left = man_moves c.loop-left.left in
@@ -63,5 +63,5 @@ loop-left-preserved-then-is_mated c =
       kept = filter_kept mates m left rest list c.push.new.self.items _ step mated c.push.ensures.items c.loop-left.invariant.kept;
       room = omega (arith, c.loop-left.invariant.room, ap length first, ap length c.push.ensures.items, length-append list (m ∷ []));
       legal = all_others (is_legal p) m left rest step c.loop-left.invariant.legal;
-      on_board = omega (arith, c.loop-left.invariant.on_board, c.take-m.ensures.origin);
+      on_board = omega (arith, c.loop-left.invariant.on_board, ap (λ mover. mover.origin) c.take-m.ensures.mover);
     }

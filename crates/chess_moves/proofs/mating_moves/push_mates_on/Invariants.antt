@@ -11,10 +11,10 @@ use Rattle.chess_moves.proofs.mating_moves.push_mates_on.Given as goal
 -- those listed, and those that are still to come
 abbrev pub invariant-loop-left : goal.invariant-loop-left
 invariant-loop-left l = record {
-  kept : l.out.items ++ filter (λ m. is_mate (after_setup l.position m)) (man_moves l.left) ≡ l.fn.out.items ++ mates_of l.position l.origin;
-  room : array_vec_len l.out + length (filter (λ m. is_mate (after_setup l.position m)) (man_moves l.left)) ≤ 1024;
-  legal : list_all (is_legal l.position) (man_moves l.left) ≡ true;
-  on_board : l.left.origin < 64;
+  kept : l.out.items ++ filter (λ m. is_mate (after_setup l.info.position.now m)) (man_moves l.left) ≡ l.fn.out.items ++ mates_of l.info.position.now l.fn.mover.origin;
+  room : array_vec_len l.out + length (filter (λ m. is_mate (after_setup l.info.position.now m)) (man_moves l.left)) ≤ 1024;
+  legal : list_all (is_legal l.info.position.now) (man_moves l.left) ≡ true;
+  on_board : l.left.mover.origin < 64;
 }
 
 abbrev pub decreases-loop-left : goal.decreases-loop-left

@@ -10,7 +10,7 @@ use Rattle.chess_moves.proofs.mating_moves.push_mating_moves.Given as goal
 -- those listed, and those of the men that are still to come
 abbrev pub invariant-loop-origin : goal.invariant-loop-origin
 invariant-loop-origin l = record {
-  kept : l.out.items ++ filter (λ m. is_mate (after_setup l.position m)) (moves_of_men l.position (members l.origin-iterator)) ≡ mating_moves l.position;
-  own : HaveOwnMen l.origin-iterator l.position;
-  flights : IfSome l.flights (λ f. AreFlightsOf f l.position);
+  kept : l.out.items ++ filter (λ m. is_mate (after_setup l.info.position.now m)) (moves_of_men l.info.position.now (members l.origin-iterator)) ≡ mating_moves l.info.position.now;
+  own : HaveOwnMen l.origin-iterator l.info.position.now;
+  flights : IfSome l.flights (λ f. AreFlightsOf f l.info.position.now);
 }

@@ -22,7 +22,7 @@ returns-then-not-is_suited c =
     let p : Setup = c.args.position.now in
     let m : Move = c.args.m in
     let o : c.index-origin.result ≡ m.origin = c.index-origin.ensures.number ∙ ap (λ m. m.origin) c.m.view_is in
-    sym (not_suited p m c.own_man-man.result (ap (man_at p.men) (sym o) ∙ c.own_man-man.ensures.there)
+    sym (not_suited p m c.mover_on-mover.result.man (ap (man_at p.men) (sym (c.mover_on-mover.ensures.origin ∙ o)) ∙ c.mover_on-mover.ensures.mover.there)
     (sym c.is_suited.ensures ∙ c.if-not-is_suited.true))
 
 pub returns : goal.returns
@@ -31,5 +31,5 @@ returns c =
     let m : Move = c.args.m in
     let o : c.index-origin.result ≡ m.origin = c.index-origin.ensures.number ∙ ap (λ m. m.origin) c.m.view_is in
     let t : c.index-target.result ≡ m.target = c.index-target.ensures.number ∙ ap (λ m. m.target) c.m-2.view_is in
-    sym (legal_target p c.own_man-man.result m.origin m.target m.promotion c.is_target.result
-    (sym c.is_suited.ensures ∙ c.if-not-is_suited.false) (rw (o, t) at c.is_target.ensures))
+    sym (legal_target p c.mover_on-mover.result.man m.origin m.target m.promotion c.is_target.result
+    (sym c.is_suited.ensures ∙ c.if-not-is_suited.false) (rw (c.bare_info_of-info.ensures.position, c.mover_on-mover.ensures.origin, o, t) at c.is_target.ensures))

@@ -15,8 +15,10 @@ use Rattle.chess_moves.proofs.PawnCounts.{free_pawns}
 use Rattle.chess_moves.proofs.perft_count.count_free_pawns.Goals as goal
 
 pub returns-clause-count : goal.returns-clause-count
-returns-clause-count c = λ p h men free.
+returns-clause-count c =
     let info = c.args.info.now in
+    let p = info.position.now in
+    let h = c.requires.info in
     let side = info.side in
     let occupied : ℕ = info.occupied in
     let own : ℕ = info.own in
@@ -43,7 +45,7 @@ returns-clause-count c = λ p h men free.
     (back side 9 t)) (has pawns (back side 9 t) && not (eqb (file_of (back side 9 t)) (right_file side))) (λ e.
     let s_on = back_on side 9 t l e in has_less pawns c.right_file.result (back side 9 t) right_fits s_on
     ∙ ap (λ (x : Bool). has pawns (back side 9 t) && not x) (c.right_file.ensures (back side 9 t) s_on)) in
-    let counted = free_pawns info p pawns once twice (bit_and c.shifted-3.result enemies) (bit_and c.shifted-4.result enemies) h men free
+    let counted = free_pawns info p pawns once twice (bit_and c.shifted-3.result enemies) (bit_and c.shifted-4.result enemies) h c.requires.men c.requires.free
     (λ t l. parted c.shifted.result occupied t _ _ fits l (c.shifted.ensures t l) (h.occupied t l))
     (λ t l. parted c.shifted-2.result occupied t _ _ fits l (c.shifted-2.ensures t l ∙ third t l) (h.occupied t l))
     (λ t l. part c.shifted-3.result enemies t _ _ (c.shifted-3.ensures t l ∙ lefts t l) (enemies_are t l))

@@ -9,10 +9,10 @@ use Rattle.chess_moves.proofs.pseudo_legal_targets.piece_targets.Goals as goal
 
 pub returns : goal.returns
 returns c = λ t l.
-    let men = c.args.position.now.men in
-    let side = c.args.man.colour in
+    let men = c.args.info.now.position.now.men in
+    let side = c.args.mover.man.colour in
     let fits : c.args.info.now.own < 2 ^ 64 = omega arith in
-    parted c.attacks_of.result c.args.info.now.own t (attacks_as men side c.args.man.kind c.args.origin t) (is_of side (man_at men t)) fits l
+    parted c.attacks_of.result c.args.info.now.own t (attacks_as men side c.args.mover.man.kind c.args.mover.origin t) (is_of side (man_at men t)) fits l
     (c.attacks_of.ensures t l ∙ hits_by_set men c.args.info.now.occupied c.requires.info.occupied side
-    c.args.man.kind c.args.origin t c.requires.on_board l)
-    (c.requires.info.own t l ∙ ap (λ (colour : Colour). is_of colour (man_at men t)) (sym c.requires.own))
+    c.args.mover.man.kind c.args.mover.origin t c.requires.mover.on_board l)
+    (c.requires.info.own t l ∙ ap (λ (colour : Colour). is_of colour (man_at men t)) (sym c.requires.mover.own))

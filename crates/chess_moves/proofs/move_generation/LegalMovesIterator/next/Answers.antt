@@ -26,7 +26,7 @@ loop-self-smaller c = omega (arith, ap length c.in_ok-origin.ensures.steps.risin
 pub loop-self-preserved : goal.loop-self-preserved
 loop-self-preserved c =
     let now = c.loop-self.self-inside in
-    let p = now.position.now in
+    let p = now.info.position.now in
     let split = c.in_ok-origin.ensures.steps in
     let left : ℕ = c.next.new.self in
     let rest = moves_of_men p (members left) in
@@ -39,6 +39,6 @@ loop-self-preserved c =
       left = ap (λ ms. ms ++ rest) c.moves_of_man-self-inside.ensures.moves
           ∙ sym (first_man p now.origins c.in_ok-origin.origin left split)
           ∙ ap (λ ms. ms ++ moves_of_men p (members now.origins))
-          (sym (no_moves now.turn.promotion now.turn.man now.turn.origin now.turn.targets c.loop-self-test.true))
+          (sym (no_moves now.turn.promotion now.turn.mover.man now.turn.mover.origin now.turn.targets c.loop-self-test.true))
           ∙ c.loop-self.invariant.left;
     }

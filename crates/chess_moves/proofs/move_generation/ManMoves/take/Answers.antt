@@ -10,11 +10,11 @@ returns-clause-moves c =
     let target : ℕ = c.lowest-target.result in
     let lowest = c.lowest-target.ensures in
     let test = sym (c.promotion_squares.ensures target lowest.on_board) ∙ sym c.contains.ensures in
-    let promotion : c.if-contains.promotion ≡ promotion_at now.promotion now.man target = elim c.if-contains.branch [
+    let promotion : c.if-contains.promotion ≡ promotion_at now.promotion now.mover.man target = elim c.if-contains.branch [
       | then-contains w ↦ let yes' = test ∙ w.if-contains.true in rw yes' w.promotion-is
       | else-contains w ↦ let no' = test ∙ w.if-contains.false in rw no' w.promotion-is
     ] in
-    let first = rw (← promotion) at (first_move now.promotion now.man now.origin now.targets target c.without_lowest-others.result
+    let first = rw (← promotion) at (first_move now.promotion now.mover.man now.mover.origin now.targets target c.without_lowest-others.result
     (c.without_lowest-others.ensures target lowest)) in
     elim c.match-next_promotion.branch [
       | in-Some w ↦
