@@ -19,7 +19,7 @@ use Rattle.chess_notation.specs.declared.epd_faults.EpdFault.TheVariants as faul
 use Rattle.clap.specs.Words.{Text}
 use Rattle.byte_streams.specs.Inputs.{MayBe}
 use Rattle.file_answers.specs.FileAnswers.{AreReplies}
-use Rattle.file_answers.specs.LinesFrom.{IsReplyOn}
+use Rattle.text_lines.specs.LinesFrom.{IsReplyOn}
 use Rattle.file_solving.specs.Solved.{Solves, record_replies}
 use Rattle.file_answers.specs.Sources.{Holds, held, held_back}
 use Rattle.text_lines.specs.Refusals.{fault_line}

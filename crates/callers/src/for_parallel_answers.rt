@@ -7,22 +7,17 @@ ghost use Rattle.mate_answers.specs.InputReplies.{IsReply};
 use byte_streams::Stop;
 use chess_moves::Rays;
 use chess_problems::Bound;
-use parallel_answers::{Watcher, answer_in_order};
+use parallel_answers::answer_in_order;
 use record_tasks::{SolveTask, start_solving};
 use std::alloc::Global;
 use std::io::Write;
 use std::sync::Wait;
 use std::thread::Threads;
 use std::time::Clock;
-
-/// Is told nothing.
-struct Nobody;
-
-impl Watcher for Nobody {
-    fn wrote(&self, _replies: &[u8], _next: usize) {}
-}
+use text_lines::LinesFrom;
 
 /// The replies to an input of records, each written once it and all before it are there, by four workers; how many lines are refused.
+#[tactic(auto, unfolding(text_lines::specs::LinesFrom::IsReplyOn, text_lines::specs::Replies::IsReply))]
 pub fn answer_by_four<R: Threads + Wait + Clock + Clone + Drop + Send + 'static, O: Write>(
     rt: &R,
     alloc: Global,
@@ -37,8 +32,13 @@ pub fn answer_by_four<R: Threads + Wait + Clock + Clone + Drop + Send + 'static,
         return Err(Stop::NoMemory);
     };
     let rays = Rays::new();
-    let task = SolveTask { default };
-    let refused = answer_in_order(rt, alloc, &rays, &task, &mut workers, input, out, &Nobody)?;
+    // From the first line on, of which nobody is told.
+    let lines = LinesFrom {
+        by: &SolveTask { default },
+        from: 1,
+        progress: &(),
+    };
+    let refused = answer_in_order(rt, alloc, &rays, &lines, &mut workers, input, out)?;
     workers.end(rt);
     Ok(refused)
 }

@@ -9,9 +9,13 @@ use chess_notation::records_clear;
 use file_answers::{Source, SourceFault, whole};
 use plain_commands::plain_command;
 use std::alloc::{AllocError, Global};
+use text_lines::Progress;
 
 /// Two files, `one` and `two`, and under every other name what `two` holds. None is refused, and none breaks off.
 struct TwoFiles;
+
+/// Nobody is told how far they are answered.
+impl Progress for TwoFiles {}
 
 impl Source for TwoFiles {
     ghost use Rattle.std.specs.Prelude.{Some, if◌then◌else◌};

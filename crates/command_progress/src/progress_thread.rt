@@ -1,7 +1,7 @@
 //! The thread that tells on standard error how far a command is.
 
 use crate::console::Console;
-use crate::progress::{MOST_OF_NAME, Progress, TICKS_A_SECOND};
+use crate::progress_counts::{MOST_OF_NAME, ProgressCounts, TICKS_A_SECOND};
 use file_answers::MISUSED;
 use std::alloc::Global;
 use std::io::Write;
@@ -29,7 +29,7 @@ const OVER: &str = "\x1b[K\r";
 /// What a command has done, and the thread that tells of it.
 #[derive(Drop)]
 pub struct Telling {
-    pub progress: Arc<Progress, Global>,
+    pub progress: Arc<ProgressCounts, Global>,
     thread: JoinHandle<()>,
     is_terminal: bool,
 }
@@ -40,7 +40,7 @@ fn is_due(tick: u64, is_terminal: bool) -> bool {
 }
 
 /// Tells once how far all is. That memory is refused, or nothing can be written, changes nothing.
-fn tell<N: Write>(progress: &Progress, alloc: Global, notes: &mut N, is_terminal: bool) {
+fn tell<N: Write>(progress: &ProgressCounts, alloc: Global, notes: &mut N, is_terminal: bool) {
     let (begin, most, end) = if is_terminal {
         ("", MOST_ON_TERMINAL, OVER)
     } else {
@@ -61,7 +61,7 @@ fn tell<N: Write>(progress: &Progress, alloc: Global, notes: &mut N, is_terminal
 fn tell_on<R: Wait, N: Write>(
     rt: &R,
     alloc: Global,
-    progress: &Progress,
+    progress: &ProgressCounts,
     notes: &mut N,
     is_terminal: bool,
 ) {
@@ -80,15 +80,15 @@ fn tell_on<R: Wait, N: Write>(
 }
 
 /// What the command and the thread share.
-fn shared(alloc: Global, words: &[String]) -> Option<Arc<Progress, Global>> {
-    Arc::new(alloc, Progress::new(alloc, words).ok()?).ok()
+fn shared(alloc: Global, words: &[String]) -> Option<Arc<ProgressCounts, Global>> {
+    Arc::new(alloc, ProgressCounts::new(alloc, words).ok()?).ok()
 }
 
 /// Starts the thread that tells of this.
 fn start_thread<R: Threads + Wait + Console + Clone + Drop + Send + 'static>(
     rt: &R,
     alloc: Global,
-    progress: Arc<Progress, Global>,
+    progress: Arc<ProgressCounts, Global>,
     is_terminal: bool,
 ) -> Option<JoinHandle<()>> {
     let own: R = rt.clone().ok()?;

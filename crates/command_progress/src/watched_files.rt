@@ -1,17 +1,17 @@
 //! Files of which it is told how far they are answered.
 
-use crate::progress::Progress;
+use crate::progress_counts::ProgressCounts;
 use crate::said::{Said, said_by};
 use byte_streams::{Input, InputFault};
 use file_answers::{NameKind, Source, SourceFault};
 use std::alloc::Global;
-use text_lines::first_line;
+use text_lines::{Progress, first_line};
 
 /// A file of which is counted how much was read.
 #[derive(Drop)]
 pub struct WatchedFile<'a, I: Drop> {
     input: I,
-    progress: &'a Progress,
+    progress: &'a ProgressCounts,
 }
 
 impl<I: Input + Drop> Input for WatchedFile<'_, I> {
@@ -30,37 +30,10 @@ impl<I: Input + Drop> Input for WatchedFile<'_, I> {
 #[derive(Drop)]
 pub struct WatchedFiles<'a, S> {
     pub source: &'a S,
-    pub progress: &'a Progress,
+    pub progress: &'a ProgressCounts,
 }
 
-impl<'a, S: Source> Source for WatchedFiles<'a, S> {
-    type File = WatchedFile<'a, S::File>;
-
-    ghost holds = { λ files. S.holds files.source.now };
-
-    ghost refuses = { λ files. S.refuses files.source.now };
-
-    fn open(&self, alloc: Global, name: &str) -> Result<Self::File, SourceFault> {
-        let input = self.source.open(alloc, name)?;
-        self.progress.open(name, self.source.size(name));
-        Ok(WatchedFile {
-            input,
-            progress: self.progress,
-        })
-    }
-
-    fn read(&self, alloc: Global, name: &str) -> Result<Vec<u8>, SourceFault> {
-        self.source.read(alloc, name)
-    }
-
-    fn size(&self, name: &str) -> Option<u64> {
-        self.source.size(name)
-    }
-
-    fn kind(&self, name: &str) -> NameKind {
-        self.source.kind(name)
-    }
-
+impl<S: Source> Progress for WatchedFiles<'_, S> {
     fn turns_to(&self, name: &str) {
         self.source.turns_to(name);
         self.progress.open(name, self.source.size(name));
@@ -96,5 +69,34 @@ impl<'a, S: Source> Source for WatchedFiles<'a, S> {
         } else {
             Said::Row
         });
+    }
+}
+
+impl<'a, S: Source> Source for WatchedFiles<'a, S> {
+    type File = WatchedFile<'a, S::File>;
+
+    ghost holds = { λ files. S.holds files.source.now };
+
+    ghost refuses = { λ files. S.refuses files.source.now };
+
+    fn open(&self, alloc: Global, name: &str) -> Result<Self::File, SourceFault> {
+        let input = self.source.open(alloc, name)?;
+        self.progress.open(name, self.source.size(name));
+        Ok(WatchedFile {
+            input,
+            progress: self.progress,
+        })
+    }
+
+    fn read(&self, alloc: Global, name: &str) -> Result<Vec<u8>, SourceFault> {
+        self.source.read(alloc, name)
+    }
+
+    fn size(&self, name: &str) -> Option<u64> {
+        self.source.size(name)
+    }
+
+    fn kind(&self, name: &str) -> NameKind {
+        self.source.kind(name)
     }
 }

@@ -1,7 +1,5 @@
 mod HeldFiles
 mod OpenedFiles
-pub mod LinesFrom
-mod WrittenFrom
 mod Opened
 mod KeptBytes
 mod Parts

@@ -10,7 +10,7 @@ use Rattle.byte_streams.specs.declared.inputs.InputFault.TheVariants as fault
 use Rattle.byte_streams.specs.declared.stops.Stop.{Stop}
 use Rattle.byte_streams.specs.declared.stops.Stop.TheVariants as stop
 use Rattle.file_answers.specs.FileAnswers.{AnswersFirst, FileReplies, FirstReplies, IsReplyIn}
-use Rattle.file_answers.specs.LinesFrom.{IsReplyToFirstOn}
+use Rattle.text_lines.specs.LinesFrom.{IsReplyToFirstOn}
 
 some_input : (known : Option (List ℕ)) → (input : List ℕ) × MayBe known input
 some_input None = ([], tt)

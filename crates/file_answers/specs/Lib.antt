@@ -2,6 +2,5 @@ pub mod Sources
 pub mod OpenedFiles
 pub mod Writing
 pub mod Status
-pub mod LinesFrom
 pub mod FileAnswers
 pub mod inside

@@ -1,3 +1,2 @@
-pub mod LinesFrom
 pub mod GivenTexts
 pub mod Files

@@ -10,15 +10,15 @@ ghost use Rattle.file_answers.specs.FileAnswers.{Answers, AnswersTold, FileRepli
 
 use crate::sources::{Source, holds_reads, open_file, stop_at};
 use byte_streams::{Input, Stop};
-use command_words::{Files, LineNumber};
+use command_words::Files;
 use std::alloc::Global;
 use std::io::Write;
 
 /// A file that is to be answered: its name, the number of the line that is answered first, and the source that it is of.
-#[derive(Drop)]
+#[derive(Clone, Copy)]
 pub struct FileStart<'a, S> {
     pub name: &'a str,
-    pub from: LineNumber,
+    pub from: usize,
     pub source: &'a S,
 }
 
@@ -55,6 +55,7 @@ pub trait FileAnswers {
         out: &mut O,
     ) -> Result<usize, Stop>
         requires ready { ready self.now }
+        requires from { 1 ≤ start.now.from }
         ensures ok { IfOk result (λ count. (bytes : List ℕ) × (text : List ℕ) × MayBe (I.left input) bytes
             × told self.now start.now.from start.now.name.now bytes text count (tally memory.new - tally memory.old)
             × Appends (O.contents out.old) (O.contents out.new) text) }
@@ -81,6 +82,7 @@ pub(crate) fn answer_file<A: FileAnswers, S: Source, O: Write, E: Write>(
     err: &mut E,
 ) -> Result<usize, Stop>
     requires ready { A.ready answers.now }
+    requires from { 1 ≤ start.now.from }
     requires left { HasAll (S.holds start.now.source.now start.now.name.now) (S.File.Input.left file) }
     requires breaks { S.File.Input.breaks file → S.refuses start.now.source.now start.now.name.now }
     ensures ok { IfOk result (λ count. (input : List ℕ) × (text : List ℕ) × MayBe (S.holds start.now.source.now start.now.name.now) input
@@ -123,13 +125,13 @@ pub fn answer_files<A: FileAnswers, S: Source, O: Write, E: Write>(
     holds_reads();
     answers.begins_with_nothing();
     let mut refused = false;
-    let mut from = files.from;
+    let mut from = files.from.get() as usize;
     for name in files.names {
         let start = FileStart { name, from, source };
         let file = open_file(alloc, name, source, err)?;
         let count = answer_file(alloc, answers, &start, file, memory, out, err)?;
         refused |= count > 0;
-        from = LineNumber::first();
+        from = 1;
     }
     Ok(refused)
 }

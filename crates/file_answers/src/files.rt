@@ -9,6 +9,7 @@ use std::alloc::Global;
 use std::io::{Read, Stdin};
 use std::rt::Files;
 use std::{fs, io};
+use text_lines::Progress;
 
 /// What a reader gives, to its end; that it breaks off is not shut out. What a signal interrupts is tried again.
 #[derive(Drop)]
@@ -61,6 +62,9 @@ pub struct FileSystem<'r, R> {
     pub rt: &'r R,
     pub stdin: Stdin,
 }
+
+/// The system isn't told.
+impl<R> Progress for FileSystem<'_, R> {}
 
 impl<'r, R: Files + AllocGlobal> Source for FileSystem<'r, R> {
     type File = Reading<Stream<R::File>>;

@@ -6,6 +6,7 @@ use crate::sources::{NameKind, Source, SourceFault};
 use byte_streams::{Input, InputFault};
 use std::alloc::{AllocError, Global};
 use std::io::Read;
+use text_lines::Progress;
 
 /// A text, of which so many bytes were read.
 #[derive(Drop)]
@@ -78,6 +79,32 @@ impl<I: Input + Drop> Input for Given<I> {
     }
 }
 
+impl<S: Source> Progress for GivenTexts<'_, S> {
+    fn turns_to(&self, name: &str) {
+        self.source.turns_to(name);
+    }
+
+    fn begins(&self, number: usize) {
+        self.source.begins(number);
+    }
+
+    fn follows_lengths(&self) -> bool {
+        self.source.follows_lengths()
+    }
+
+    fn searches(&self, moves: u8) {
+        self.source.searches(moves);
+    }
+
+    fn ends(&self, replies: &[u8]) {
+        self.source.ends(replies);
+    }
+
+    fn wrote(&self, refused: usize) {
+        self.source.wrote(refused);
+    }
+}
+
 impl<'a, S: Source> Source for GivenTexts<'a, S> {
     ghost use Rattle.file_answers.specs.Sources.{held, held_back};
 
@@ -109,29 +136,5 @@ impl<'a, S: Source> Source for GivenTexts<'a, S> {
 
     fn kind(&self, name: &str) -> NameKind {
         self.source.kind(name)
-    }
-
-    fn turns_to(&self, name: &str) {
-        self.source.turns_to(name);
-    }
-
-    fn begins(&self, number: usize) {
-        self.source.begins(number);
-    }
-
-    fn follows_lengths(&self) -> bool {
-        self.source.follows_lengths()
-    }
-
-    fn searches(&self, moves: u8) {
-        self.source.searches(moves);
-    }
-
-    fn ends(&self, replies: &[u8]) {
-        self.source.ends(replies);
-    }
-
-    fn wrote(&self, refused: usize) {
-        self.source.wrote(refused);
     }
 }

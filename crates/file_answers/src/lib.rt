@@ -3,24 +3,21 @@
 //!
 //! What a line is answered is the business of a `LineHandler` or a `LineWriter` of `text_lines`, and what a command answers its files that of
 //! `FileAnswers`. To read: `sources` (a `Source` is the files that a command may read) and `files` (those of the system), `given_texts` (texts in
-//! place of files); `writing` and `status`; then `file_answers`, where `answer_files` goes from file to file, `opened_files`, where all are
-//! opened first, with `lines_from` and `written_from` (the lines from one on).
+//! place of files); `writing` and `status`; then `file_answers`, where `answer_files` goes from file to file, and `opened_files`, where all are
+//! opened first.
 #![tactic(auto)]
 
 mod file_answers;
 mod files;
 mod given_texts;
-mod lines_from;
 mod opened_files;
 mod sources;
 mod status;
 mod writing;
-mod written_from;
 
 pub use file_answers::{FileAnswers, FileStart, answer_files};
 pub use files::{FileSystem, Reading, Stream};
 pub use given_texts::{Given, GivenText, GivenTexts};
-pub use lines_from::answer_lines_from;
 pub use opened_files::{answer_opened, open_files};
 pub use sources::{NameKind, Source, SourceFault, holds_reads, read_file, read_files, whole};
 pub use status::{
@@ -28,4 +25,3 @@ pub use status::{
     no_memory, status_of,
 };
 pub use writing::{complain, complain_faulty, complain_move, complain_unreadable, show};
-pub use written_from::write_lines_from;

@@ -9,7 +9,6 @@ ghost use Rattle.file_answers.specs.Writing.{Gains};
 use crate::file_answers::{FileAnswers, FileStart, answer_file};
 use crate::sources::{Source, holds_reads, open_file};
 use byte_streams::Stop;
-use command_words::LineNumber;
 use std::alloc::Global;
 use std::io::Write;
 
@@ -61,14 +60,17 @@ pub fn answer_opened<A: FileAnswers, S: Source, O: Write, E: Write>(
     // How the files that are answered so far go on with the next.
     holds_reads();
     let mut refused = false;
-    let from = LineNumber::first();
     let mut rest = files.into_iter();
     for name in names {
         let Some(file) = rest.next() else {
             unreachable!()
         };
         source.turns_to(name);
-        let start = FileStart { name, from, source };
+        let start = FileStart {
+            name,
+            from: 1,
+            source,
+        };
         let count = answer_file(alloc, answers, &start, file, memory, out, err)?;
         refused |= count > 0;
     }

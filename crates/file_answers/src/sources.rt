@@ -8,6 +8,7 @@ use crate::writing::{complain, complain_unreadable};
 use byte_streams::{Input, Stop};
 use std::alloc::Global;
 use std::io::Write;
+use text_lines::Progress;
 
 /// How many bytes are asked for at once.
 const PIECE: usize = 4096;
@@ -26,8 +27,8 @@ pub enum NameKind {
     Forbidden,
 }
 
-/// Files by their names. It may have itself told of their lines while these are answered; no answer depends on that.
-pub trait Source {
+/// Files by their names, which is told how far they are answered.
+pub trait Source: Progress {
     /// A file that was opened.
     type File: Input + Drop;
 
@@ -57,26 +58,6 @@ pub trait Source {
     fn kind(&self, _name: &str) -> NameKind {
         NameKind::Unknown
     }
-
-    /// Is told that the file of this name, which was opened before, is answered next.
-    fn turns_to(&self, _name: &str) {}
-
-    /// Is told that the line of this number is begun, of the file that was opened or turned to last.
-    fn begins(&self, _number: usize) {}
-
-    /// Whether it wants to be told which length is searched.
-    fn follows_lengths(&self) -> bool {
-        false
-    }
-
-    /// Is told that mate in so many moves is searched, of the line that was begun last.
-    fn searches(&self, _moves: u8) {}
-
-    /// Is told the replies to lines, from one that was begun on.
-    fn ends(&self, _replies: &[u8]) {}
-
-    /// Is told that the reply to a line that was begun is written, and how many lines it refuses.
-    fn wrote(&self, _refused: usize) {}
 }
 
 /// Reads a file to its end.

@@ -4,7 +4,7 @@ use Rattle.mate_answers.specs.InputReplies.{IsLineReply}
 use Rattle.mate_answers.specs.LimitedReplies.{IsLateReply, IsLimitedReply}
 use Rattle.byte_streams.specs.declared.stops.Stop.{Stop}
 use Rattle.file_answers.specs.FileAnswers.{Answers, AnswersFirst, AnswersTold, StopsAnswering}
-use Rattle.file_answers.specs.LinesFrom.{IsReplyOn, IsReplyToFirstOn}
+use Rattle.text_lines.specs.LinesFrom.{IsReplyOn, IsReplyToFirstOn}
 
 -- What records are answered where they ask for no bound but this, whatever their file is called.
 abbrev pub record_replies : ℕ → ℕ → List ℕ → List ℕ → List ℕ → ℕ → Type 0

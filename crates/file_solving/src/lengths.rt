@@ -1,4 +1,4 @@
-//! Solvers that tell a source which length they search.
+//! Solvers that tell which length they search.
 
 ghost use Rattle.std.specs.Prelude.{◌≡◌, ◌≢◌, ◌<◌, ◌+◌, IfErr, IfOk, false, true};
 ghost use Rattle.chess_problems.specs.Outcomes.{IsPlayable};
@@ -6,17 +6,17 @@ ghost use Rattle.chess_problems.specs.declared.outcomes.Outcome.TheVariants.{NoM
 ghost use Rattle.mate_search.specs.inside.Truth.{truth};
 
 use chess_problems::{AvoidList, Bound, Outcome, Problem};
-use file_answers::Source;
 use mate_search::{Guide, Halt, Solver, Stopped, dist_reads};
+use text_lines::Progress;
 
-/// Solves as another does, and tells a source first in how many moves mate is asked for.
+/// Solves as another does, and tells first in how many moves mate is asked for.
 #[derive(Clone, Copy)]
-pub struct ToldLength<'a, V, S> {
+pub struct ToldLength<'a, V, P> {
     pub solver: V,
-    pub source: &'a S,
+    pub progress: &'a P,
 }
 
-impl<H: Halt, V: Solver<H>, S: Source> Solver<H> for ToldLength<'_, V, S> {
+impl<H: Halt, V: Solver<H>, P: Progress> Solver<H> for ToldLength<'_, V, P> {
     type Memory = V::Memory;
 
     ghost ready = { λ told. V.ready told.solver };
@@ -29,16 +29,16 @@ impl<H: Halt, V: Solver<H>, S: Source> Solver<H> for ToldLength<'_, V, S> {
         problem: &Problem,
         memory: &mut V::Memory,
     ) -> Result<Outcome, Stopped> {
-        self.source.searches(problem.bound.get());
+        self.progress.searches(problem.bound.get());
         self.solver.solve(guide, problem, memory)
     }
 }
 
-/// Solves as another does. Where a source follows lengths, that one is asked for one length after the other, and the source is told of each.
+/// Solves as another does. Where lengths are followed, that one is asked for one length after the other, and each is told.
 #[derive(Clone, Copy)]
-pub struct Lengthwise<'a, V, S> {
+pub struct Lengthwise<'a, V, P> {
     pub solver: V,
-    pub source: &'a S,
+    pub progress: &'a P,
 }
 
 /// The bound of one move more.
@@ -78,11 +78,11 @@ fn within(bound: Bound, problem: &Problem) -> Problem
     }
 }
 
-/// What there is to say of a problem: mate is asked for within one move more at a time, and the source is told so first. What was found
+/// What there is to say of a problem: mate is asked for within one move more at a time, and that is told first. What was found
 /// before stands in the memory.
 #[tactic(auto, unfolding(chess_problems::specs::Outcomes::IsPlayable))]
-fn solve_by_length<H: Halt, V: Solver<H>, S: Source>(
-    told: &Lengthwise<V, S>,
+fn solve_by_length<H: Halt, V: Solver<H>, P: Progress>(
+    told: &Lengthwise<V, P>,
     guide: &Guide<H>,
     problem: &Problem,
     memory: &mut V::Memory,
@@ -97,7 +97,7 @@ fn solve_by_length<H: Halt, V: Solver<H>, S: Source>(
     dist_reads();
     for none in 0..problem.bound.get() {
         let bound = one_more(none);
-        told.source.searches(bound.get());
+        told.progress.searches(bound.get());
         let outcome = told.solver.solve(guide, &within(bound, problem), memory)?;
         if !is_no_mate(&outcome) {
             return Ok(outcome);
@@ -106,7 +106,7 @@ fn solve_by_length<H: Halt, V: Solver<H>, S: Source>(
     Ok(Outcome::NoMate)
 }
 
-impl<H: Halt, V: Solver<H>, S: Source> Solver<H> for Lengthwise<'_, V, S> {
+impl<H: Halt, V: Solver<H>, P: Progress> Solver<H> for Lengthwise<'_, V, P> {
     type Memory = V::Memory;
 
     ghost ready = { λ lengthwise. V.ready lengthwise.solver };
@@ -119,7 +119,7 @@ impl<H: Halt, V: Solver<H>, S: Source> Solver<H> for Lengthwise<'_, V, S> {
         problem: &Problem,
         memory: &mut V::Memory,
     ) -> Result<Outcome, Stopped> {
-        if self.source.follows_lengths() {
+        if self.progress.follows_lengths() {
             solve_by_length(self, guide, problem, memory)
         } else {
             self.solver.solve(guide, problem, memory)

@@ -6,11 +6,12 @@ ghost use Rattle.file_solving.specs.Solved.{LimitedNone, SolvesLimited, StopsLim
 
 use byte_streams::{Input, Stop};
 use command_words::Files;
-use file_answers::{FileAnswers, FileStart, Source, answer_files, answer_lines_from};
+use file_answers::{FileAnswers, FileStart, Source, answer_files};
 use mate_answers::{Limited, LimitedMemory, TimeLimit};
 use mate_search::Solver;
 use std::alloc::Global;
 use std::io::Write;
+use text_lines::{LinesFrom, answer_lines};
 
 /// Answers files of records so.
 #[derive(Clone, Copy)]
@@ -46,7 +47,17 @@ impl<T: TimeLimit, V: Solver<T>> FileAnswers for LimitedRecords<'_, '_, T, V> {
         memory: &mut LimitedMemory<V::Memory>,
         out: &mut O,
     ) -> Result<usize, Stop> {
-        answer_lines_from(alloc, self.limited, start, input, memory, out)
+        answer_lines(
+            alloc,
+            &LinesFrom {
+                by: self.limited,
+                from: start.from,
+                progress: start.source,
+            },
+            input,
+            memory,
+            out,
+        )
     }
 
     fn begins_with_nothing(&self) {}

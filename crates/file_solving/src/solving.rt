@@ -10,11 +10,12 @@ use byte_streams::{Input, Stop};
 use chess_moves::Rays;
 use chess_problems::Bound;
 use command_words::{Files, MemoSize};
-use file_answers::{FileAnswers, FileStart, Source, answer_files, answer_lines_from};
+use file_answers::{FileAnswers, FileStart, Source, answer_files};
 use mate_answers::Answers;
 use mate_search::{Memo, MemoFault, Never, OneThread, Solver};
 use std::alloc::Global;
 use std::io::Write;
+use text_lines::{LinesFrom, answer_lines};
 
 /// An empty memo with room for so many entries, 1 to 268,435,456.
 pub fn new_memo(alloc: Global, entries: usize) -> Result<Memo, Stop>
@@ -59,7 +60,17 @@ impl<V: Solver<Never>> FileAnswers for RecordAnswers<'_, '_, V> {
         memory: &mut V::Memory,
         out: &mut O,
     ) -> Result<usize, Stop> {
-        answer_lines_from(alloc, self.answers, start, input, memory, out)
+        answer_lines(
+            alloc,
+            &LinesFrom {
+                by: self.answers,
+                from: start.from,
+                progress: start.source,
+            },
+            input,
+            memory,
+            out,
+        )
     }
 
     #[tactic(auto, using(crate::proofs::Unopened::no_record_reply))]
@@ -91,7 +102,7 @@ pub fn solve<S: Source, O: Write, E: Write>(
             default: bound,
             solver: Lengthwise {
                 solver: OneThread,
-                source,
+                progress: source,
             },
         };
         return solve_by(alloc, &answers, files, source, &mut memo, out, err);

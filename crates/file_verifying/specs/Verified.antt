@@ -5,7 +5,7 @@ use Rattle.mate_claims.specs.LimitedClaims.{IsLateClaim, IsLimitedClaim}
 use Rattle.byte_streams.specs.declared.stops.Stop.{Stop}
 use Rattle.byte_streams.specs.declared.stops.Stop.TheVariants.{NoMemory, Unreadable, Unwritable, NoReader}
 use Rattle.file_answers.specs.FileAnswers.{Answers, AnswersFirst, AnswersTold, FileReplies, FirstRefused, FirstReplies, StopsAnswering}
-use Rattle.file_answers.specs.LinesFrom.{IsReplyOn, IsReplyToFirstOn}
+use Rattle.text_lines.specs.LinesFrom.{IsReplyOn, IsReplyToFirstOn}
 use Rattle.file_answers.specs.Writing.{Gains, GainsPart}
 
 -- A row names its file where there are several.

@@ -8,13 +8,14 @@ use crate::headings::{prefix_of, put_header};
 use byte_streams::{Input, Stop};
 use command_words::Files;
 use file_answers::{
-    FileAnswers, FileStart, Source, answer_files, answer_lines_from, complain, holds_reads,
+    FileAnswers, FileStart, Source, answer_files, complain, holds_reads,
 };
 use mate_answers::{Limited, TimeLimit};
 use mate_claims::{LimitedClaimMemory, LimitedClaims};
 use mate_search::Solver;
 use std::alloc::Global;
 use std::io::Write;
+use text_lines::{LinesFrom, answer_lines};
 
 /// Holds records against their claims so.
 #[derive(Clone, Copy)]
@@ -55,7 +56,7 @@ impl<T: TimeLimit, V: Solver<T>> FileAnswers for LimitedAnswers<'_, '_, T, V> {
             prefix: prefix.as_slice(),
         };
         let before = memory.counts.not_sound();
-        let unsound = answer_lines_from(alloc, &claims, start, input, memory, out)?;
+        let unsound = answer_lines(alloc, &LinesFrom { by: &claims, from: start.from, progress: start.source }, input, memory, out)?;
         memory.counts = memory.counts.with_unread(before, unsound);
         Ok(unsound)
     }

@@ -4,7 +4,7 @@ ghost use Rattle.std.specs.Prelude.{◌≡◌, ℕ, List, IfErr, IfOk, map};
 ghost use Rattle.std.specs.Io.KnownBytes.{Appends};
 ghost use Rattle.byte_streams.specs.Inputs.{MayBe};
 ghost use Rattle.byte_streams.specs.Stops.{AppendsBy};
-ghost use Rattle.file_answers.specs.LinesFrom.{IsReplyOn, IsReplyToFirstOn};
+ghost use Rattle.text_lines.specs.LinesFrom.{IsReplyOn, IsReplyToFirstOn};
 ghost use Rattle.file_answers.specs.Writing.{Gains};
 ghost use Rattle.mate_claims.specs.ClaimReplies.{IsClaimReply};
 ghost use Rattle.file_verifying.specs.Verified.{StopsHeaded, StopsVerifying, Verifies, VerifiesHeaded};
@@ -15,12 +15,13 @@ use chess_moves::Rays;
 use chess_problems::Bound;
 use command_words::{Files, MemoSize};
 use file_answers::{
-    FileAnswers, FileStart, Source, answer_files, answer_lines_from, complain, holds_reads,
+    FileAnswers, FileStart, Source, answer_files, complain, holds_reads,
 };
 use file_solving::new_memo;
 use mate_claims::{ClaimMemory, ClaimRows, Counts};
 use std::alloc::Global;
 use std::io::Write;
+use text_lines::{LinesFrom, answer_lines};
 
 /// Who holds the lines of files against their claims.
 pub trait Verifier {
@@ -80,7 +81,7 @@ impl Verifier for OneVerifier<'_> {
             prefix,
         };
         let before = memory.counts.not_sound();
-        let unsound = answer_lines_from(alloc, &rows, start, input, memory, out)?;
+        let unsound = answer_lines(alloc, &LinesFrom { by: &rows, from: start.from, progress: start.source }, input, memory, out)?;
         memory.count_unread(before, unsound);
         Ok(unsound)
     }

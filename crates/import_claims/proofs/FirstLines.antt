@@ -3,7 +3,7 @@ use Rattle.std.proofs.Common.{◌-◌, ℕ, List, drop, length, subst, sym}
 use Rattle.std.proofs.Math.Seq.{take-length}
 use Rattle.text_lines.specs.Lines.{lines_of}
 use Rattle.text_lines.specs.Replies.{IsReplyFrom, LineReplies}
-use Rattle.file_answers.specs.LinesFrom.{IsReplyOn, IsReplyToFirstOn}
+use Rattle.text_lines.specs.LinesFrom.{IsReplyOn, IsReplyToFirstOn}
 
 pub first_of_all : (R : LineReplies) (from : ℕ) (input text : List ℕ) (n : ℕ) → IsReplyOn R from input text n → IsReplyToFirstOn R from input text
 unfolding IsReplyOn IsReplyToFirstOn

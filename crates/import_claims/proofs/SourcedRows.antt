@@ -11,7 +11,7 @@ use Rattle.byte_streams.specs.declared.stops.Stop.{Stop}
 use Rattle.move_words.specs.Languages.{english}
 use Rattle.text_lines.specs.Lines.{lines_of, texts_of, without_cr}
 use Rattle.text_lines.specs.Replies.{IsReplyFrom, LineReplies, behind}
-use Rattle.file_answers.specs.LinesFrom.{IsReplyOn, IsReplyToFirstOn, lines_from, blanked_first}
+use Rattle.text_lines.specs.LinesFrom.{IsReplyOn, IsReplyToFirstOn, lines_from, blanked_first}
 use Rattle.problem_import.specs.Imports.{one_if}
 use Rattle.problem_import.specs.Problems.{AnswersSourced, IsEnded, IsEndedFirst, IsProblemReply, RefusalRows, no_problem}
 use Rattle.problem_import.specs.declared.reading.Reading.{Reading}

@@ -5,7 +5,7 @@ use Rattle.std.proofs.KnownBytes.{Appends-kept, Appends-nil}
 use Rattle.std.specs.Io.KnownBytes.{Keeps}
 use Rattle.byte_streams.specs.declared.stops.Stop.TheVariants as stop
 use Rattle.file_answers.proofs.Unopened.{answers_none, no_reply_on}
-use Rattle.file_answers.specs.LinesFrom.{lines_from}
+use Rattle.text_lines.specs.LinesFrom.{lines_from}
 use Rattle.text_lines.specs.Lines.{texts_of}
 use Rattle.problem_import.specs.Problems.{no_problem}
 use Rattle.import_claims.proofs.SourcedRows.{none_sourced}

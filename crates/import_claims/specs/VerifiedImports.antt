@@ -7,7 +7,7 @@ use Rattle.move_words.specs.Languages.{english}
 use Rattle.problem_import.specs.Problems.{AnswersSourced, IsEnded, IsEndedFirst, IsProblemReply}
 use Rattle.text_lines.specs.Lines.{texts_of}
 use Rattle.file_answers.specs.FileAnswers.{Answers, AnswersFirst, FirstRefused, StopsAnswering}
-use Rattle.file_answers.specs.LinesFrom.{IsReplyOn, IsReplyToFirstOn, lines_from}
+use Rattle.text_lines.specs.LinesFrom.{IsReplyOn, IsReplyToFirstOn, lines_from}
 use Rattle.file_answers.specs.Writing.{Gains, GainsPart}
 use Rattle.import_claims.specs.ImportedRows.{IsRefusedRow}
 

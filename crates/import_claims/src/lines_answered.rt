@@ -1,19 +1,20 @@
 //! The problems of an input from one of its lines on.
 
-ghost use Rattle.std.specs.Prelude.{◌≡◌, ℕ, List, IfErr, IfOk};
+ghost use Rattle.std.specs.Prelude.{◌≡◌, ◌≤◌, ℕ, List, IfErr, IfOk};
 ghost use Rattle.std.specs.Io.KnownBytes.{Appends};
 ghost use Rattle.byte_streams.specs.Inputs.{MayBe};
 ghost use Rattle.byte_streams.specs.Stops.{AppendsBy};
 ghost use Rattle.move_words.specs.Languages.{english};
 ghost use Rattle.text_lines.specs.Lines.{texts_of};
 ghost use Rattle.problem_import.specs.Problems.{AnswersSourced, IsEnded, IsEndedFirst, IsProblemReply};
-ghost use Rattle.file_answers.specs.LinesFrom.{IsReplyOn, IsReplyToFirstOn, lines_from};
+ghost use Rattle.text_lines.specs.LinesFrom.{IsReplyOn, IsReplyToFirstOn, lines_from};
 
 use byte_streams::{Input, Stop};
-use file_answers::{FileStart, Source, answer_lines_from};
+use file_answers::{FileStart, Source};
 use problem_import::{ProblemHandler, ProblemLines, ProblemMemory};
 use std::alloc::Global;
 use std::io::Write;
+use text_lines::{LinesFrom, answer_lines};
 
 /// Answers the problems of an input that its lines from that of a number on say. Gives at how many lines, the end of the input for one, a
 /// refusal is among it.
@@ -25,6 +26,7 @@ pub(crate) fn answer_problems_from<H: ProblemHandler, S: Source, I: Input + Drop
     memory: &mut ProblemMemory<H::Memory>,
     out: &mut O,
 ) -> Result<usize, Stop>
+    requires from { 1 ≤ start.now.from }
     ensures ok { IfOk result (λ count. (bytes : List ℕ) × (text : List ℕ) × MayBe (I.left input) bytes
         × (IsEnded lines.now.bound (H.records lines.now.handler.now) (H.rows lines.now.handler.now)
         (IsReplyOn (IsProblemReply lines.now.bound (H.records lines.now.handler.now) (H.rows lines.now.handler.now)) start.now.from bytes)
@@ -42,10 +44,8 @@ pub(crate) fn answer_problems_from<H: ProblemHandler, S: Source, I: Input + Drop
         × AppendsBy stop (O.contents out.old) (O.contents out.new) text) }
     ensures unreadable { IfErr result (λ stop. stop ≡ Stop.Unreadable → I.breaks input) }
 {
-    // That lines are numbered from 1 on is this call's clause.
-    let _number = start.from.get();
     memory.begin();
-    match answer_lines_from(alloc, lines, start, input, memory, out) {
+    match answer_lines(alloc, &LinesFrom { by: lines, from: start.from, progress: start.source }, input, memory, out) {
         Ok(count) => lines.put_last(alloc, count, memory, out),
         Err(stop) => Err(stop),
     }

@@ -2,7 +2,7 @@
 use Rattle.std.specs.Prelude.{ℕ, Bool, List, Option, length, nat_lt}
 use Rattle.byte_streams.specs.declared.stops.Stop.{Stop}
 use Rattle.file_answers.specs.FileAnswers.{Answers, FileReplies, FileTold, FirstReplies, StopsAnswering}
-use Rattle.file_answers.specs.LinesFrom.{IsReplyOn, IsReplyToFirstOn}
+use Rattle.text_lines.specs.LinesFrom.{IsReplyOn, IsReplyToFirstOn}
 use Rattle.text_lines.specs.Replies.{LineReplies}
 use Rattle.json_replies.specs.Answers.{front_of}
 use Rattle.json_replies.specs.Replies.{InJson}

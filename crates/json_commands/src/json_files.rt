@@ -7,11 +7,11 @@ ghost use Rattle.json_commands.specs.JsonFiles.{AnswersJson, StopsJson, file_tol
 
 use byte_streams::{Input, Stop};
 use command_words::Files;
-use file_answers::{FileAnswers, FileStart, Source, answer_files, answer_lines_from};
+use file_answers::{FileAnswers, FileStart, Source, answer_files};
 use json_replies::{Form, JsonReplies, front_of};
 use std::alloc::Global;
 use std::io::Write;
-use text_lines::LineHandler;
+use text_lines::{LineHandler, LinesFrom, answer_lines};
 
 /// Answers the lines of files so, in JSON.
 #[derive(Clone, Copy)]
@@ -53,7 +53,7 @@ impl<H: LineHandler> FileAnswers for JsonFiles<'_, H> {
             form: self.form,
             front: front.as_slice(),
         };
-        answer_lines_from(alloc, &json, start, input, memory, out)
+        answer_lines(alloc, &LinesFrom { by: &json, from: start.from, progress: start.source }, input, memory, out)
     }
 
     #[tactic(auto, using(crate::proofs::Unopened::no_file_reply))]

@@ -8,7 +8,7 @@ use crate::json_files::has_several;
 use byte_streams::{Input, Stop};
 use command_words::Files;
 use file_answers::{
-    FileAnswers, FileStart, Source, answer_files, answer_lines_from, complain, holds_reads,
+    FileAnswers, FileStart, Source, answer_files, complain, holds_reads,
 };
 use json_replies::{Form, JsonReplies, front_of};
 use mate_answers::{Limited, TimeLimit};
@@ -16,6 +16,7 @@ use mate_claims::{LimitedClaimMemory, LimitedClaims};
 use mate_search::Solver;
 use std::alloc::Global;
 use std::io::Write;
+use text_lines::{LinesFrom, answer_lines};
 
 /// Holds records against their claims so.
 #[derive(Clone, Copy)]
@@ -68,7 +69,7 @@ impl<T: TimeLimit, V: Solver<T>> FileAnswers for LimitedJsonClaims<'_, '_, T, V>
             front: front.as_slice(),
         };
         let before = memory.counts.not_sound();
-        let unsound = answer_lines_from(alloc, &json, start, input, memory, out)?;
+        let unsound = answer_lines(alloc, &LinesFrom { by: &json, from: start.from, progress: start.source }, input, memory, out)?;
         memory.counts = memory.counts.with_unread(before, unsound);
         Ok(unsound)
     }

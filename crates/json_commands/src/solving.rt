@@ -41,7 +41,7 @@ pub fn solve_json<S: Source, O: Write, E: Write>(
             default: bound,
             solver: Lengthwise {
                 solver: OneThread,
-                source,
+                progress: source,
             },
         };
         return solve_json_by(alloc, &answers, files, source, &mut memo, out, err);

@@ -10,13 +10,14 @@ use chess_moves::Rays;
 use chess_problems::Bound;
 use command_words::{Files, MemoSize};
 use file_answers::{
-    FileAnswers, FileStart, Source, answer_files, answer_lines_from, complain, holds_reads,
+    FileAnswers, FileStart, Source, answer_files, complain, holds_reads,
 };
 use file_solving::new_memo;
 use json_replies::{Form, JsonReplies, front_of};
 use mate_claims::{ClaimMemory, ClaimRows, Counts};
 use std::alloc::Global;
 use std::io::Write;
+use text_lines::{LinesFrom, answer_lines};
 
 /// Holds records against their claims, with the bound of those that say none.
 #[derive(Clone, Copy)]
@@ -64,7 +65,7 @@ impl FileAnswers for JsonClaims<'_> {
             front: front.as_slice(),
         };
         let before = memory.counts.not_sound();
-        let unsound = answer_lines_from(alloc, &json, start, input, memory, out)?;
+        let unsound = answer_lines(alloc, &LinesFrom { by: &json, from: start.from, progress: start.source }, input, memory, out)?;
         memory.count_unread(before, unsound);
         Ok(unsound)
     }

@@ -1,3 +1,3 @@
-mod LinesOn
+mod NoWorkers
 mod ServedFiles
 mod Uncounted

@@ -1,122 +1,50 @@
 -- What `serve` shows, and where it stops.
-use Rattle.std.proofs.Common.{◌≡◌, ◌<◌, ◌≤◌, ◌⊎◌, ℕ, Bool, List, [], ◌∷◌, Option, Some, Result}
-use Rattle.std.proofs.Common.{Ok, Err, IfErr, IfOk, inl, inr, refl, arith, length, map, take, drop}
+use Rattle.std.proofs.Common.{◌≡◌, ◌<◌, ◌≤◌, ◌⊎◌, ℕ, Bool, List, [], Option, Some, Result}
+use Rattle.std.proofs.Common.{Ok, Err, IfErr, IfOk, inl, inr, refl, arith, length, map}
 use Rattle.std.proofs.KnownBytes.{Appends-nil, Keeps-refl}
 use Rattle.std.proofs.lemmas.List.{length-map}
 use Rattle.clap.specs.Words.{Text}
 use Rattle.byte_streams.specs.declared.stops.Stop.{Stop}
 use Rattle.byte_streams.specs.declared.stops.Stop.TheVariants as stop
-use Rattle.text_lines.specs.Replies.{IsReply as IsReplyBy, IsReplyToFirst as IsReplyToFirstBy}
-use Rattle.mate_answers.specs.InputReplies.{IsLineReply, IsReply, IsReplyToFirst}
 use Rattle.command_words.specs.Asked.{serve}
-use Rattle.file_answers.specs.FileAnswers.{Answers, AnswersFirst, AreReplies, IsReplyIn, StopsAnswering, from_behind}
-use Rattle.file_answers.specs.LinesFrom.{IsReplyOn, IsReplyToFirstOn}
+use Rattle.file_answers.specs.FileAnswers.{Answers, StopsAnswering}
 use Rattle.file_answers.specs.Sources.{SomeRefused}
 use Rattle.file_answers.specs.Status.{status_of}
-use Rattle.file_answers.specs.Writing.{Gains, GainsPart}
+use Rattle.file_answers.specs.Writing.{Gains}
 use Rattle.file_solving.specs.Solved.{SolvesNone, first_record_replies, record_replies}
 use Rattle.plain_commands.specs.Command.{Ends, EndsByStatus, StopsServing}
 use Rattle.plain_commands.specs.Served.{AreTooManyFiles, AreFewFiles, Serves}
-use Rattle.matedesk.specs.Serving.{first_served_replies, served_replies}
-
--- ---- a file is answered from its first line on
-
-pub no_served_reply : (bound from : ℕ) (name input : List ℕ) → first_served_replies bound from name input []
-unfolding IsReplyToFirstBy
-no_served_reply bound from name input = (0, 0, (refl, refl))
-
-reply_on_all : (bound : ℕ) (input text : List ℕ) (n : ℕ) → IsReply bound input text n → IsReplyOn (IsLineReply bound) 1 input text n
-unfolding IsReplyBy IsReplyOn
-reply_on_all bound input text n reply = reply
-
-first_on_all : (bound : ℕ) (input text : List ℕ) → IsReplyToFirst bound input text → IsReplyToFirstOn (IsLineReply bound) 1 input text
-unfolding IsReplyToFirstBy IsReplyToFirstOn
-first_on_all bound input text reply = reply
-
-replies_of : (bound : ℕ) (names inputs : List (List ℕ)) (text : List ℕ) (n : ℕ) → AreReplies (served_replies bound) 1 names inputs text n
-    → AreReplies (record_replies bound) 1 names inputs text n
-replies_of bound [] [] text n are = are
-replies_of bound [] (input ∷ inputs) text n are = absurd are
-replies_of bound (name ∷ names) [] text n are = absurd are
-replies_of bound (name ∷ names) (input ∷ inputs) text n (here, count, more, others, one, rest, is, all) =
-    (here, count, more, others, reply_on_all bound input here count one, replies_of bound names inputs more others rest, is, all)
-
-next_of : (holds : Text → Option (List ℕ)) (bound : ℕ) (inputs names : List (List ℕ)) (text : List ℕ)
-    → IsReplyIn holds (first_served_replies bound) (from_behind 1 inputs) names text
-    → IsReplyIn holds (first_record_replies bound) (from_behind 1 inputs) names text
-next_of holds bound inputs [] text next = next
-next_of holds bound [] (name ∷ names) text (input, may, first) = (input, may, first_on_all bound input text first)
-next_of holds bound (i ∷ is) (name ∷ names) text (input, may, first) = (input, may, first_on_all bound input text first)
-
-first_of : (holds : Text → Option (List ℕ)) (bound : ℕ) (names : List (List ℕ)) (Stops : List (List ℕ) → Type 0) (text : List ℕ)
-    → AnswersFirst holds (served_replies bound) (first_served_replies bound) 1 names Stops text
-    → AnswersFirst holds (record_replies bound) (first_record_replies bound) 1 names Stops text
-first_of holds bound names Stops text first = record {
-  inputs = first.inputs;
-  whole = first.whole;
-  refusals = first.refusals;
-  part = first.part;
-  given = first.given;
-  are_replies = replies_of bound (take (length first.inputs) names) first.inputs first.whole first.refusals first.are_replies;
-  next = next_of holds bound first.inputs (drop (length first.inputs) names) first.part first.next;
-  text_is = first.text_is;
-  stops = first.stops;
-}
 
 -- ---- what is shown
 
 shown : (holds : Text → Option (List ℕ)) (bound : ℕ) (names : List Text) (r : Result Bool Stop) (old new : Option (List ℕ)) → AreFewFiles names
-    → IfOk r (λ refused. Gains (Answers holds (served_replies bound) 1 names refused) old new)
+    → IfOk r (λ refused. Gains (Answers holds (record_replies bound) 1 names refused) old new)
     → IfOk r (λ refused. Gains (Serves holds bound names refused) old new)
 shown holds bound names (Err s) old new few ok = tt
 shown holds bound names (Ok refused) old new few ok = record {
   gained = ok.gained;
   shows = record {
     few = few;
-    solves = record {
-      inputs = ok.shows.inputs;
-      refusals = ok.shows.refusals;
-      given = ok.shows.given;
-      are_replies = replies_of bound names ok.shows.inputs ok.gained ok.shows.refusals ok.shows.are_replies;
-      refusal = ok.shows.refusal;
-    };
+    solves = ok.shows;
   };
   appends = ok.appends;
 }
 
-gains_first : (holds : Text → Option (List ℕ)) (bound : ℕ) (names : List Text) (Stops : List (List ℕ) → Type 0) (old new : Option (List ℕ))
-    → Gains (AnswersFirst holds (served_replies bound) (first_served_replies bound) 1 names Stops) old new
-    → Gains (AnswersFirst holds (record_replies bound) (first_record_replies bound) 1 names Stops) old new
-gains_first holds bound names Stops old new gains = record {
-  gained = gains.gained;
-  shows = first_of holds bound names Stops gains.gained gains.shows;
-  appends = gains.appends;
-}
-
-part_first : (holds : Text → Option (List ℕ)) (bound : ℕ) (names : List Text) (Stops : List (List ℕ) → Type 0) (old new : Option (List ℕ))
-    → GainsPart (AnswersFirst holds (served_replies bound) (first_served_replies bound) 1 names Stops) old new
-    → GainsPart (AnswersFirst holds (record_replies bound) (first_record_replies bound) 1 names Stops) old new
-part_first holds bound names Stops old new part = record {
-  whole = part.whole;
-  shows = first_of holds bound names Stops part.whole part.shows;
-  appends = part.appends;
-}
-
 stopped : (holds : Text → Option (List ℕ)) (refuses : Text → Type 0) (bound : ℕ) (names : List Text) (r : Result Bool Stop)
     (old new : Option (List ℕ))
-    → IfErr r (λ s. StopsAnswering holds refuses (served_replies bound) (first_served_replies bound) 1 names s old new)
+    → IfErr r (λ s. StopsAnswering holds refuses (record_replies bound) (first_record_replies bound) 1 names s old new)
     → IfErr r (λ s. StopsServing holds refuses bound names s old new)
 stopped holds refuses bound names (Ok refused) old new err = tt
-stopped holds refuses bound names (Err stop.NoMemory) old new err = gains_first holds bound names _ old new err
-stopped holds refuses bound names (Err stop.Unreadable) old new err = inr (gains_first holds bound names _ old new err)
-stopped holds refuses bound names (Err stop.Unwritable) old new err = part_first holds bound names _ old new err
-stopped holds refuses bound names (Err stop.NoReader) old new err = part_first holds bound names _ old new err
+stopped holds refuses bound names (Err stop.NoMemory) old new err = err
+stopped holds refuses bound names (Err stop.Unreadable) old new err = inr err
+stopped holds refuses bound names (Err stop.Unwritable) old new err = err
+stopped holds refuses bound names (Err stop.NoReader) old new err = err
 
 -- The files were opened and answered.
 pub ends_served : (holds : Text → Option (List ℕ)) (refuses : Text → Type 0) → EndsByStatus holds refuses
     → (workers bound memo : ℕ) (names : List Text) (r : Result Bool Stop) (status : ℕ) (old new : Option (List ℕ)) → status ≡ status_of r
-    → AreFewFiles names → IfOk r (λ refused. Gains (Answers holds (served_replies bound) 1 names refused) old new)
-    → IfErr r (λ s. StopsAnswering holds refuses (served_replies bound) (first_served_replies bound) 1 names s old new)
+    → AreFewFiles names → IfOk r (λ refused. Gains (Answers holds (record_replies bound) 1 names refused) old new)
+    → IfErr r (λ s. StopsAnswering holds refuses (record_replies bound) (first_record_replies bound) 1 names s old new)
     → Ends holds refuses (Some (serve workers bound memo names)) status old new
 ends_served holds refuses ends_by workers bound memo names r status old new is few ok err =
     ends_by (serve workers bound memo names) r status old new is (shown holds bound names r old new few ok)

@@ -21,6 +21,7 @@ use Rattle.mate_answers.specs.LimitedReplies.{IsLimitedReply}
 use Rattle.mate_claims.specs.LimitedClaims.{IsLimitedClaim}
 use Rattle.plain_commands.specs.Told.{TellsNone, tree_form_of}
 use Rattle.plain_commands.proofs.Unopened.{tells_limited_at_once}
+use Rattle.matedesk.specs.InTime.{ShownInTime}
 use Rattle.command_words.specs.declared.request.TreeForm.{TreeForm}
 
 -- Nothing is written, and the status is that of no memory.
@@ -140,31 +141,39 @@ pub ends_given : (are_texts : Bool) (holds : Text → Option (List ℕ)) (refuse
 ends_given true holds refuses texts files = texts
 ends_given false holds refuses texts files = files
 
--- All is shown, whether or not some records were not decided, or it stopped.
-ends_in_time_by : (holds : Text → Option (List ℕ)) (refuses : Text → Type 0) → EndsByStatus holds refuses → EndsInPart holds refuses
-    → (a : Asked) (Shows : Bool → ℕ → List ℕ → Type 0) (old new : Option (List ℕ))
+-- ---- with a limit of time
+
+-- What a command shows by how many records were not decided is shown.
+pub in_time : (holds : Text → Option (List ℕ)) (a : Asked) (Shows : Bool → ℕ → List ℕ → Type 0) (old new : Option (List ℕ)) (n : ℕ)
     → ((refused : Bool) → Gains (Shows refused 0) old new → Shown holds a refused old new)
     → ((refused : Bool) (n : ℕ) → 0 < n → Gains (Shows refused n) old new → ShownInPart holds a old new)
-    → (ended : Result Bool Stop) (undecided status : ℕ)
+    → (ended : Result Bool Stop) → IfOk ended (λ refused. Gains (Shows refused n) old new)
+    → IfOk ended (λ refused. ShownInTime holds a refused n old new)
+in_time holds a Shows old new n whole part (Ok refused) gains = record {
+  whole = λ none. whole refused (subst (λ m. Gains (Shows refused m) old new) none gains);
+  part = λ some. part refused n some gains;
+}
+in_time holds a Shows old new n whole part (Err stop) gains = tt
+
+ends_by : (holds : Text → Option (List ℕ)) (refuses : Text → Type 0) → EndsByStatus holds refuses → EndsInPart holds refuses
+    → (a : Asked) (old new : Option (List ℕ)) (ended : Result Bool Stop) (undecided status : ℕ)
     → IfOk ended (λ _. 0 < undecided → status ≡ 5) → (undecided ≡ 0 → status ≡ status_of ended) → IfErr ended (λ _. status ≡ status_of ended)
-    → IfOk ended (λ refused. Gains (Shows refused undecided) old new) → IfErr ended (λ stop. Stops holds refuses a stop old new)
+    → IfOk ended (λ refused. ShownInTime holds a refused undecided old new) → IfErr ended (λ stop. Stops holds refuses a stop old new)
     → Ends holds refuses (Some a) status old new
-ends_in_time_by holds refuses ends in_part a Shows old new whole part (Ok refused) zero status late decided stopped ok err =
-    ends a (Ok refused) status old new (decided refl) (whole refused ok) tt
-ends_in_time_by holds refuses ends in_part a Shows old new whole part (Ok refused) (suc n) status late decided stopped ok err =
-    rw (late (omega arith)) (in_part a old new (part refused (suc n) (omega arith) ok))
-ends_in_time_by holds refuses ends in_part a Shows old new whole part (Err stop) undecided status late decided stopped ok err =
+ends_by holds refuses ends in_part a old new (Ok refused) zero status late decided stopped ok err =
+    ends a (Ok refused) status old new (decided refl) (ok.whole refl) tt
+ends_by holds refuses ends in_part a old new (Ok refused) (suc n) status late decided stopped ok err =
+    rw (late (omega arith)) (in_part a old new (ok.part (omega arith)))
+ends_by holds refuses ends in_part a old new (Err stop) undecided status late decided stopped ok err =
     ends a (Err stop) status old new stopped tt err
 
+-- All is shown, whether or not some records were not decided, or it stopped.
 pub ends_in_time : (holds : Text → Option (List ℕ)) (refuses : Text → Type 0) → EndsByStatus holds refuses → EndsInPart holds refuses
-    → (a : Asked) (Shows : Bool → ℕ → List ℕ → Type 0) (old new : Option (List ℕ))
-    → ((refused : Bool) → Gains (Shows refused 0) old new → Shown holds a refused old new)
-    → ((refused : Bool) (n : ℕ) → 0 < n → Gains (Shows refused n) old new → ShownInPart holds a old new)
-    → (ended : Result Bool Stop) (before undecided status : ℕ)
+    → (a : Asked) (old new : Option (List ℕ)) (ended : Result Bool Stop) (before undecided status : ℕ)
     → before ≡ 0 → IfOk ended (λ _. 0 < undecided → status ≡ 5) → (undecided ≡ 0 → status ≡ status_of ended)
-    → IfErr ended (λ _. status ≡ status_of ended) → IfOk ended (λ refused. Gains (Shows refused (undecided - before)) old new)
+    → IfErr ended (λ _. status ≡ status_of ended) → IfOk ended (λ refused. ShownInTime holds a refused (undecided - before) old new)
     → IfErr ended (λ stop. Stops holds refuses a stop old new) → Ends holds refuses (Some a) status old new
-ends_in_time holds refuses ends in_part a Shows old new whole part ended before undecided status none late decided stopped ok err =
+ends_in_time holds refuses ends in_part a old new ended before undecided status none late decided stopped ok err =
     let all : undecided - before ≡ undecided = omega (arith, none) in
-    ends_in_time_by holds refuses ends in_part a Shows old new whole part ended undecided status late decided stopped
-    (subst (λ n. IfOk ended (λ refused. Gains (Shows refused n) old new)) all ok) err
+    ends_by holds refuses ends in_part a old new ended undecided status late decided stopped
+    (subst (λ n. IfOk ended (λ refused. ShownInTime holds a refused n old new)) all ok) err

@@ -5,15 +5,14 @@ ghost use Rattle.std.specs.String.{string_bytes};
 ghost use Rattle.command_words.specs.Asked.{asked, asks_display, asks_threads, may_display};
 ghost use Rattle.plain_commands.specs.Command.{EndsBy};
 
-use crate::json_solving::{solve_json_in_time, solve_json_on};
-use crate::json_verifying::verify_json_in_time;
-use crate::limited_trees::tell_in_time;
-use crate::limited_verifying::verify_in_time;
-use crate::limiting::solve_in_time;
+use crate::in_time::answer_in_time;
 use crate::serving::serve;
-use crate::sharing::solve_on;
+use crate::solving_in_time::{SolveInTime, SolveJsonInTime};
+use crate::solving_on::{solve_json_on, solve_on};
 use crate::talking::talk;
+use crate::telling_in_time::tell_in_time;
 use crate::trees_on::tree_on;
+use crate::verifying_in_time::{VerifyInTime, VerifyJsonInTime};
 use crate::verifying_on::verify_on;
 use command_progress::{Console, Telling, WatchedFiles};
 use command_words::{Request, asks_progress, escaped, gives_records, parse, request_of};
@@ -79,13 +78,17 @@ where
             rt, alloc, *workers, *bound, *form, letters, files, &given, out, err,
         ),
         Some(Request::TreeLimited(asked)) => tell_in_time(rt, alloc, asked, &given, out, err),
-        Some(Request::Limited(asked)) => solve_in_time(rt, alloc, asked, &given, out, err),
-        Some(Request::LimitedJson(asked)) => {
-            solve_json_in_time(rt, alloc, asked, &given, out, err)
+        Some(Request::Limited(asked)) => {
+            answer_in_time(rt, alloc, &SolveInTime { rt, asked }, &given, out, err)
         }
-        Some(Request::VerifyLimited(asked)) => verify_in_time(rt, alloc, asked, &given, out, err),
+        Some(Request::LimitedJson(asked)) => {
+            answer_in_time(rt, alloc, &SolveJsonInTime { rt, asked }, &given, out, err)
+        }
+        Some(Request::VerifyLimited(asked)) => {
+            answer_in_time(rt, alloc, &VerifyInTime { rt, asked }, &given, out, err)
+        }
         Some(Request::VerifyLimitedJson(asked)) => {
-            verify_json_in_time(rt, alloc, asked, &given, out, err)
+            answer_in_time(rt, alloc, &VerifyJsonInTime { asked }, &given, out, err)
         }
         Some(Request::Uci) => talk(rt, alloc, &given, out, err),
         _ => unreachable!(),

@@ -1,25 +1,23 @@
 //! The program `matedesk`: it answers the words that it was called with, from the files and to the outputs of the system.
 //!
 //! Read `answering` first, where the contract of `command` is the program's, then the commands that start threads: `serving`, `verifying_on`
-//! and `trees_on` over `told_sources`, `talking`, `sharing`, and `limiting` and `limited_verifying` over `counting` and `tick_limit`;
-//! `json_solving` and `json_verifying` do in JSON what these and `sharing` do.
+//! and `trees_on`, whose workers take lines; `solving_on`, whose workers take first moves; `talking`; and with a limit of time `solving_in_time`,
+//! `verifying_in_time` and `telling_in_time`, over `in_time`, `counting` and `tick_limit`.
 //! What a word means is the business of `command_words`, what all other commands answer that of `plain_commands`, and how it is told how far a
 //! command is that of `command_progress`.
 #![tactic(auto)]
 
 mod answering;
 mod counting;
-mod json_solving;
-mod json_verifying;
-mod limited_trees;
-mod limited_verifying;
-mod limiting;
+mod in_time;
 mod serving;
-mod sharing;
+mod solving_in_time;
+mod solving_on;
 mod talking;
+mod telling_in_time;
 mod tick_limit;
-mod told_sources;
 mod trees_on;
+mod verifying_in_time;
 mod verifying_on;
 
 use answering::command;

@@ -4,7 +4,6 @@ ghost use Rattle.std.specs.Prelude.{◌≡◌, Some, map};
 ghost use Rattle.command_words.specs.Asked.{serve as serve_asked};
 ghost use Rattle.plain_commands.specs.Command.{Ends};
 
-use crate::told_sources::ToldSource;
 use byte_streams::{Input, Stop};
 use chess_moves::Rays;
 use chess_problems::Bound;
@@ -22,6 +21,7 @@ use std::io::Write;
 use std::sync::Wait;
 use std::thread::Threads;
 use std::time::Clock;
+use text_lines::LinesFrom;
 
 /// How many files may be served.
 const MOST_FILES: usize = 16;
@@ -36,17 +36,17 @@ struct ServedRecords<'a, R: Wait> {
 
 impl<R: Wait> FileAnswers for ServedRecords<'_, R> {
     ghost use Rattle.file_answers.specs.FileAnswers.{unmarked};
-    ghost use Rattle.matedesk.specs.Serving.{served_replies, first_served_replies};
+    ghost use Rattle.file_solving.specs.Solved.{record_replies, first_record_replies};
 
     type Memory = Workers<SolveTask>;
 
-    ghost replies = { λ records. served_replies records.task.now.default };
+    ghost replies = { λ records. record_replies records.task.now.default };
 
-    ghost told = { λ records. unmarked (served_replies records.task.now.default) };
+    ghost told = { λ records. unmarked (record_replies records.task.now.default) };
 
     ghost tells = { λ _ _ _ _ _ _ _ told. told };
 
-    ghost first = { λ records. first_served_replies records.task.now.default };
+    ghost first = { λ records. first_record_replies records.task.now.default };
 
     fn answer<S: Source, I: Input + Drop, O: Write>(
         &self,
@@ -56,16 +56,15 @@ impl<R: Wait> FileAnswers for ServedRecords<'_, R> {
         memory: &mut Workers<SolveTask>,
         out: &mut O,
     ) -> Result<usize, Stop> {
-        start.source.begins(1);
-        let told = ToldSource {
-            source: start.source,
+        let lines = LinesFrom {
+            by: self.task,
+            from: start.from,
+            progress: start.source,
         };
-        answer_in_order(
-            self.rt, alloc, self.rays, self.task, memory, input, out, &told,
-        )
+        answer_in_order(self.rt, alloc, self.rays, &lines, memory, input, out)
     }
 
-    #[tactic(auto, using(crate::proofs::ServedFiles::no_served_reply))]
+    #[tactic(auto, using(file_solving::proofs::Unopened::no_record_reply))]
     fn begins_with_nothing(&self) {}
 }
 

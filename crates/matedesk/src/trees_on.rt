@@ -5,7 +5,6 @@ ghost use Rattle.command_words.specs.Asked.{tree_on as tree_on_asked};
 ghost use Rattle.plain_commands.specs.Command.{Ends};
 
 use crate::serving::unserved;
-use crate::told_sources::ToldSource;
 use byte_streams::{Input, Stop};
 use chess_moves::Rays;
 use chess_problems::Bound;
@@ -15,12 +14,13 @@ use mate_tree::Form;
 use move_words::Letters;
 use parallel_answers::{Workers, answer_in_order};
 use plain_commands::{NO_LETTERS, TREE_ENTRIES, ends_by_status, tells_none, tree_form};
-use record_tasks::{TaskFrom, TreeTask, start_telling};
+use record_tasks::{TreeTask, start_telling};
 use std::alloc::Global;
 use std::io::Write;
 use std::sync::Wait;
 use std::thread::Threads;
 use std::time::Clock;
+use text_lines::LinesFrom;
 
 /// Workers tell the trees of the records of files.
 #[derive(Clone, Copy)]
@@ -35,7 +35,7 @@ impl<R: Wait> FileAnswers for TreesOn<'_, R> {
     ghost use Rattle.file_answers.specs.FileAnswers.{unmarked};
     ghost use Rattle.plain_commands.specs.Told.{tree_replies, first_tree_replies};
 
-    type Memory = Workers<TaskFrom<TreeTask>>;
+    type Memory = Workers<TreeTask>;
 
     ghost replies = { λ trees. tree_replies trees.form trees.bound };
 
@@ -50,23 +50,19 @@ impl<R: Wait> FileAnswers for TreesOn<'_, R> {
         alloc: Global,
         start: &FileStart<S>,
         input: I,
-        memory: &mut Workers<TaskFrom<TreeTask>>,
+        memory: &mut Workers<TreeTask>,
         out: &mut O,
     ) -> Result<usize, Stop> {
-        let task = TaskFrom {
-            task: TreeTask {
-                default: self.bound,
-                form: self.form,
-            },
+        let task = TreeTask {
+            default: self.bound,
+            form: self.form,
+        };
+        let lines = LinesFrom {
+            by: &task,
             from: start.from,
+            progress: start.source,
         };
-        // That the file is answered from that line on is this law.
-        task.answers_on();
-        start.source.begins(start.from.get() as usize);
-        let told = ToldSource {
-            source: start.source,
-        };
-        answer_in_order(self.rt, alloc, self.rays, &task, memory, input, out, &told)
+        answer_in_order(self.rt, alloc, self.rays, &lines, memory, input, out)
     }
 
     #[tactic(auto, using(plain_commands::proofs::Unopened::no_tree_reply))]

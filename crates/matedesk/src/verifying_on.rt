@@ -5,7 +5,6 @@ ghost use Rattle.command_words.specs.Asked.{verify_on as verify_on_asked};
 ghost use Rattle.plain_commands.specs.Command.{Ends};
 
 use crate::serving::unserved;
-use crate::told_sources::ToldSource;
 use byte_streams::{Input, Stop};
 use chess_moves::Rays;
 use chess_problems::Bound;
@@ -15,12 +14,13 @@ use file_verifying::{Verifier, verify_by};
 use mate_claims::Counts;
 use parallel_answers::{Workers, answer_in_order};
 use plain_commands::ends_by_status;
-use record_tasks::{ClaimTask, TaskFrom, start_verifying};
+use record_tasks::{ClaimTask, start_verifying};
 use std::alloc::Global;
 use std::io::Write;
 use std::sync::Wait;
 use std::thread::Threads;
 use std::time::Clock;
+use text_lines::LinesFrom;
 
 /// Workers hold the lines of files against their claims.
 #[derive(Clone, Copy)]
@@ -31,7 +31,7 @@ struct VerifierOn<'a, R: Wait> {
 }
 
 impl<R: Wait> Verifier for VerifierOn<'_, R> {
-    type Memory = Workers<TaskFrom<ClaimTask>>;
+    type Memory = Workers<ClaimTask>;
 
     ghost default = { λ on. on.bound };
 
@@ -41,26 +41,22 @@ impl<R: Wait> Verifier for VerifierOn<'_, R> {
         prefix: &[u8],
         start: &FileStart<S>,
         input: I,
-        memory: &mut Workers<TaskFrom<ClaimTask>>,
+        memory: &mut Workers<ClaimTask>,
         out: &mut O,
     ) -> Result<usize, Stop> {
-        let task = TaskFrom {
-            task: ClaimTask {
-                default: self.bound,
-                prefix: Vec::from_slice(alloc, prefix)?,
-            },
+        let task = ClaimTask {
+            default: self.bound,
+            prefix: Vec::from_slice(alloc, prefix)?,
+        };
+        let lines = LinesFrom {
+            by: &task,
             from: start.from,
+            progress: start.source,
         };
-        // That the file is answered from that line on is this law.
-        task.answers_on();
-        start.source.begins(start.from.get() as usize);
-        let told = ToldSource {
-            source: start.source,
-        };
-        answer_in_order(self.rt, alloc, self.rays, &task, memory, input, out, &told)
+        answer_in_order(self.rt, alloc, self.rays, &lines, memory, input, out)
     }
 
-    fn counts(&self, memory: &Workers<TaskFrom<ClaimTask>>) -> Counts {
+    fn counts(&self, memory: &Workers<ClaimTask>) -> Counts {
         *memory.tally()
     }
 }

@@ -1,5 +1,5 @@
 -- What is written of open replies, one after the other, and where that stops.
-use Rattle.std.proofs.Common.{◌≡◌, ◌∙◌, ◌+◌, ◌++◌, ℕ, List, [], ◌∷◌, Option, Result, Ok, Err, OnOk, ap, arith, append-nil, append_assoc, length, length-append, refl, subst, sym, true}
+use Rattle.std.proofs.Common.{◌≡◌, ◌≤◌, ◌∙◌, ◌+◌, ◌++◌, ℕ, List, [], ◌∷◌, Option, Result, Ok, Err, OnOk, ap, arith, append-nil, append_assoc, length, length-append, refl, subst, sym, true}
 use Rattle.std.proofs.KnownBytes.{Appends-nil, Appends-trans}
 use Rattle.std.specs.Io.KnownBytes.{Appends}
 use Rattle.byte_streams.specs.Stops.{AppendsBy, AppendsPart, is_of_output}
@@ -7,7 +7,10 @@ use Rattle.byte_streams.specs.declared.stops.Stop.{Stop}
 use Rattle.byte_streams.specs.declared.stops.Stop.TheVariants as stop
 use Rattle.text_lines.specs.Lines.{without_cr}
 use Rattle.text_lines.specs.Replies.{IsReplyFrom, LineReplies}
-use Rattle.parallel_answers.specs.inside.OpenReplies.{AreOpen, Breaks, Gains, GainsOf, IsOpen}
+use Rattle.text_lines.specs.inside.LinesFrom.{RepliesFrom}
+use Rattle.text_lines.proofs.PassedLines.{answered_on}
+use Rattle.parallel_answers.specs.inside.OpenReplies.{AreOpen, Breaks, Gains, GainsOf, IsOpen, LineWaits, WaitsFrom}
+use Rattle.parallel_answers.specs.declared.open_replies.OpenReply.TheVariants as variant
 use Rattle.parallel_answers.specs.declared.line_tasks.Reply.{Reply}
 use Rattle.parallel_answers.specs.declared.open_replies.OpenReply.{OpenReply}
 use Rattle.parallel_answers.specs.declared.open_replies.OpenReplies.{OpenReplies}
@@ -35,7 +38,12 @@ replies_append R number (x ∷ xs) ys t u n m (here, count, more, others, one, o
       omega (arith, all),
     )
 
--- ---- replies that are taken
+-- ---- lines that aren't passed over
+
+pub open_on : {M : Type 0} (R : LineReplies) (W : List ℕ → Type 0) (from number : ℕ) (reply : OpenReply M) (line : List ℕ) → from ≤ number
+    → IsOpen R (λ _. W) number reply line → IsOpen (RepliesFrom R from) (WaitsFrom W from) number reply line
+open_on R W from number (variant.Said reply) line on is = answered_on R from number (without_cr line) reply.text.items reply.refused on is
+open_on R W from number (variant.Awaited text) line on (filled, is, waits) = (filled, is, (on, waits))
 
 -- ---- texts behind texts
 
@@ -53,7 +61,7 @@ pub on_ok : {A E : Type 0} (r : Result A E) (P Q : Type 0) → OnOk r P → (P �
 on_ok (Ok a) P Q ok then = then ok
 on_ok (Err e) P Q ok then = tt
 
-module _ {M : Type 0} (R : LineReplies) (W : List ℕ → Type 0) where
+module _ {M : Type 0} (R : LineReplies) (W : LineWaits) where
   pub gains_none : (o : OpenReplies M) → Gains R W o o []
   unfolding Gains
   gains_none o lines left = record {

@@ -1,7 +1,7 @@
 -- An input of which lines are taken, and the replies to them written in order.
 use Rattle.std.proofs.Common.{◌≡◌, ◌≤◌, ◌∙◌, ◌+◌, ◌++◌, ℕ, List, [], ◌∷◌, Option, ap, append-nil, append_assoc, arith, length, length-append, refl, subst, sym, take}
 use Rattle.std.proofs.KnownBytes.{Appends-nil, Appends-trans}
-use Rattle.std.proofs.Math.Seq.{take-append_seam, take-length}
+use Rattle.std.proofs.Math.Seq.{take-append_seam}
 use Rattle.std.specs.Io.KnownBytes.{Appends}
 use Rattle.byte_streams.specs.Inputs.{MayBe}
 use Rattle.byte_streams.specs.Stops.{AppendsBy, stop_of}
@@ -11,14 +11,14 @@ use Rattle.byte_streams.specs.declared.stops.Stop.{Stop}
 use Rattle.byte_streams.specs.declared.stops.Stop.TheVariants as stop
 use Rattle.text_lines.specs.Lines.{lines_of}
 use Rattle.text_lines.specs.Replies.{IsReply, IsReplyFrom, IsReplyToFirst, LineReplies}
-use Rattle.text_lines.specs.TakenLines.{AreAllOf, HasTaken, LinesBegin}
-use Rattle.parallel_answers.specs.inside.OpenReplies.{AreOpen, Breaks, Gains}
+use Rattle.text_lines.specs.TakenLines.{AreAllOf}
+use Rattle.parallel_answers.specs.inside.OpenReplies.{AreOpen, Breaks, Gains, LineWaits}
 use Rattle.parallel_answers.specs.declared.open_replies.OpenReplies.{OpenReplies}
 use Rattle.parallel_answers.specs.declared.open_replies.OpenReply.{OpenReply}
 use Rattle.parallel_answers.proofs.Gaining.{appends_behind, replies_append}
 
 -- These lines were taken: the replies to the first of them are written, and those to the others are open.
-pub record Between {M : Type 0} (R : LineReplies) (W : List ℕ → Type 0) (lines : List (List ℕ)) (o : OpenReplies M) (old new : Option (List ℕ)) : Type 0 where
+pub record Between {M : Type 0} (R : LineReplies) (W : LineWaits) (lines : List (List ℕ)) (o : OpenReplies M) (old new : Option (List ℕ)) : Type 0 where
   pub done : List (List ℕ)
   pub rest : List (List ℕ)
   pub text : List ℕ
@@ -48,11 +48,11 @@ first_lines R bytes text done more n is replies =
     let front : take (length done) (lines_of bytes) ≡ done = ap (take (length done)) is ∙ take-append_seam done more in
     (length done, n, subst (λ ls. IsReplyFrom R 1 ls text n) (sym front) replies)
 
-none_open : (M : Type 0) (R : LineReplies) (W : List ℕ → Type 0) (number : ℕ) (lines : List (List ℕ)) → AreOpen {M = M} R W number [] lines → lines ≡ []
+none_open : (M : Type 0) (R : LineReplies) (W : LineWaits) (number : ℕ) (lines : List (List ℕ)) → AreOpen {M = M} R W number [] lines → lines ≡ []
 none_open M R W number [] left = refl
 none_open M R W number (l ∷ ls) left = absurd left
 
-module _ {M : Type 0} (R : LineReplies) (W : List ℕ → Type 0) where
+module _ {M : Type 0} (R : LineReplies) (W : LineWaits) where
   pub between_none : (o : OpenReplies M) (old : Option (List ℕ)) → o.replies.items ≡ [] → o.first ≡ 1 → o.refused ≡ 0
       → Between R W [] o old old
   between_none o old none first refused = record {

@@ -3,7 +3,8 @@
 ghost use Rattle.std.specs.Prelude.{◌≡◌, ◌∷◌, ◌++◌, ◌+◌, ℕ, List, [], IfErr, IfNone, IfOk, IfSome, OnOk};
 ghost use Rattle.text_lines.specs.Lines.{without_cr};
 ghost use Rattle.text_lines.specs.TakenLines.{IsTakenAs};
-ghost use Rattle.parallel_answers.specs.inside.OpenReplies.{AreOpen, Gains, IsOpen};
+ghost use Rattle.text_lines.specs.inside.LinesFrom.{RepliesFrom};
+ghost use Rattle.parallel_answers.specs.inside.OpenReplies.{Gains, IsOpen, WaitsFrom};
 
 use crate::answered_lines::AnsweredLine;
 use crate::line_tasks::{LineTask, Reply};
@@ -12,7 +13,7 @@ use byte_streams::Stop;
 use chess_moves::Rays;
 use std::alloc::Global;
 use std::collections::VecDeque;
-use text_lines::TakenLine;
+use text_lines::{LinesFrom, TakenLine};
 
 /// The reply to a line: it is there, or the line, without its CR, waits for an answer.
 #[derive(Drop)]
@@ -30,8 +31,20 @@ pub(crate) struct OpenReplies<M: Drop> {
     pub(crate) refused: usize,
 }
 
+/// A reply to a line that says nothing: it is neither answered nor refused.
+fn nothing<M: Drop>(alloc: Global) -> Reply<M>
+    ensures text { result.text.items ≡ [] }
+    ensures none { result.refused ≡ 0 }
+{
+    Reply {
+        text: Vec::new(alloc),
+        refused: 0,
+        mark: None,
+    }
+}
+
 /// What there is to say to a line before anybody answers it.
-pub(crate) fn open_reply<T: LineTask>(
+fn looked_at<T: LineTask>(
     alloc: Global,
     rays: &Rays,
     task: &T,
@@ -39,17 +52,11 @@ pub(crate) fn open_reply<T: LineTask>(
     line: TakenLine,
 ) -> Result<OpenReply<T::Mark>, Stop>
     ensures open { IfOk result (λ reply. (whole : List ℕ) → IsTakenAs line whole
-        → IsOpen (T.replies task.now) (T.waits task.now) number reply whole) }
+        → IsOpen (T.replies task.now) (λ _. T.waits task.now) number reply whole) }
     ensures memory { IfErr result (λ stop. stop ≡ Stop.NoMemory) }
 {
     let text = match line {
-        TakenLine::Blank => {
-            return Ok(OpenReply::Said(Reply {
-                text: Vec::new(alloc),
-                refused: 0,
-                mark: None,
-            }));
-        }
+        TakenLine::Blank => return Ok(OpenReply::Said(nothing(alloc))),
         TakenLine::Long => return Ok(OpenReply::Said(task.refuse_long(alloc, rays, number)?)),
         TakenLine::Text(text) => text,
     };
@@ -57,6 +64,24 @@ pub(crate) fn open_reply<T: LineTask>(
         Some(reply) => Ok(OpenReply::Said(reply)),
         None => Ok(OpenReply::Awaited(text)),
     }
+}
+
+/// The same where the first lines are passed over.
+pub(crate) fn open_reply<T: LineTask, P>(
+    alloc: Global,
+    rays: &Rays,
+    lines: &LinesFrom<T, P>,
+    number: usize,
+    line: TakenLine,
+) -> Result<OpenReply<T::Mark>, Stop>
+    ensures open { IfOk result (λ reply. (whole : List ℕ) → IsTakenAs line whole → IsOpen (RepliesFrom (T.replies lines.now.by.now) lines.now.from)
+        (WaitsFrom (T.waits lines.now.by.now) lines.now.from) number reply whole) }
+    ensures memory { IfErr result (λ stop. stop ≡ Stop.NoMemory) }
+{
+    if number < lines.from {
+        return Ok(OpenReply::Said(nothing(alloc)));
+    }
+    looked_at(alloc, rays, lines.by, number, line)
 }
 
 /// The reply to a line that awaits it. One to another line, or by another task, is none.
@@ -79,21 +104,22 @@ fn reply_to<T: LineTask>(
 }
 
 /// A reply that is there, or has arrived.
-fn said<T: LineTask>(
-    task: &T,
+fn said<T: LineTask, P>(
+    lines: &LinesFrom<T, P>,
     number: usize,
     reply: OpenReply<T::Mark>,
     answered: Option<AnsweredLine<T>>,
 ) -> Result<Reply<T::Mark>, Stop>
-    ensures reply { IfOk result (λ said. (line : List ℕ) → IsOpen (T.replies task.now) (T.waits task.now) number reply line
-        → T.replies task.now number (without_cr line) said.text.items said.refused) }
+    ensures reply { IfOk result (λ said. (line : List ℕ) → IsOpen (RepliesFrom (T.replies lines.now.by.now) lines.now.from)
+        (WaitsFrom (T.waits lines.now.by.now) lines.now.from) number reply line
+        → RepliesFrom (T.replies lines.now.by.now) lines.now.from number (without_cr line) said.text.items said.refused) }
     ensures memory { IfErr result (λ stop. stop ≡ Stop.NoMemory) }
 {
     // That a reply which somebody has made is the line's is this law.
-    task.joins();
+    lines.by.joins();
     match reply {
         OpenReply::Said(reply) => Ok(reply),
-        OpenReply::Awaited(line) => reply_to(task, number, line.as_slice(), answered),
+        OpenReply::Awaited(line) => reply_to(lines.by, number, line.as_slice(), answered),
     }
 }
 
@@ -146,14 +172,15 @@ impl<M: Drop> OpenReplies<M> {
 }
 
 /// Takes the first, where it is there.
-pub(crate) fn take_first<T: LineTask>(
-    task: &T,
+pub(crate) fn take_first<T: LineTask, P>(
+    lines: &LinesFrom<T, P>,
     replies: &mut OpenReplies<T::Mark>,
     arrived: &mut Arrived<T>,
 ) -> Result<Option<Reply<T::Mark>>, Stop>
     ensures none { IfOk result (λ first. IfNone first (replies.new ≡ replies.old)) }
     ensures some { IfOk result (λ first. IfSome first
-        (λ reply. Gains (T.replies task.now) (T.waits task.now) replies.old replies.new reply.text.items)) }
+        (λ reply. Gains (RepliesFrom (T.replies lines.now.by.now) lines.now.from) (WaitsFrom (T.waits lines.now.by.now) lines.now.from)
+        replies.old replies.new reply.text.items)) }
     ensures memory { IfErr result (λ stop. stop ≡ Stop.NoMemory) }
 {
     if !replies.has_first(arrived) {
@@ -162,7 +189,7 @@ pub(crate) fn take_first<T: LineTask>(
     let Some(open) = replies.replies.pop_front() else {
         return Err(Stop::NoMemory);
     };
-    let reply = said(task, replies.first, open, arrived.take(replies.first))?;
+    let reply = said(lines, replies.first, open, arrived.take(replies.first))?;
     replies.first = sum(replies.first, 1)?;
     replies.refused = sum(replies.refused, reply.refused)?;
     Ok(Some(reply))

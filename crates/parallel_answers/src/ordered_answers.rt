@@ -4,9 +4,11 @@ ghost use Rattle.std.specs.Prelude.{◌≡◌, ◌≢◌, ◌≤◌, ◌+◌, �
 ghost use Rattle.std.specs.Io.KnownBytes.{Appends};
 ghost use Rattle.byte_streams.specs.Inputs.{MayBe};
 ghost use Rattle.byte_streams.specs.Stops.{AppendsBy};
+ghost use Rattle.text_lines.specs.LinesFrom.{IsReplyOn, IsReplyToFirstOn};
 ghost use Rattle.text_lines.specs.Replies.{IsReply, IsReplyToFirst};
 ghost use Rattle.text_lines.specs.TakenLines.{IsTakenAs};
-ghost use Rattle.parallel_answers.specs.inside.OpenReplies.{AreOpen, Breaks, Gains};
+ghost use Rattle.text_lines.specs.inside.LinesFrom.{RepliesFrom};
+ghost use Rattle.parallel_answers.specs.inside.OpenReplies.{AreOpen, Breaks, Gains, WaitsFrom};
 
 use crate::line_tasks::LineTask;
 use crate::open_replies::{OpenReplies, OpenReply, open_reply};
@@ -17,28 +19,21 @@ use chess_moves::Rays;
 use std::alloc::Global;
 use std::io::Write;
 use std::sync::Wait;
-use text_lines::{TakenLine, TakenLines, lines_begin};
+use text_lines::{LinesFrom, Progress, TakenLine, TakenLines, lines_begin};
 
 /// How many bytes are asked for at once. All answers to them are written before more is asked for, since that may have to wait.
 const PIECE: usize = 262_144;
 
-/// What is told how far the answers are. No answer depends on it.
-pub trait Watcher {
-    /// These replies were written, of which the next is that to the line of such a number.
-    fn wrote(&self, replies: &[u8], next: usize);
-}
-
 /// What replies are written over: what is asked of each line, and who is told.
 #[derive(Drop)]
-struct Answering<'a, R, T, W> {
+struct Answering<'a, R, T, P> {
     rt: &'a R,
     alloc: Global,
     rays: &'a Rays,
-    task: &'a T,
-    watcher: &'a W,
+    lines: &'a LinesFrom<'a, T, P>,
 }
 
-impl<R: Wait, T: LineTask, W: Watcher> Answering<'_, R, T, W> {
+impl<R: Wait, T: LineTask, P: Progress> Answering<'_, R, T, P> {
     /// Opens the reply to a line, and hands one that waits for an answer to the workers.
     fn hand_in(
         &self,
@@ -48,17 +43,17 @@ impl<R: Wait, T: LineTask, W: Watcher> Answering<'_, R, T, W> {
         line: TakenLine,
     ) -> Result<(), Stop>
         ensures opened { OnOk result ((whole : List ℕ) (lines : List (List ℕ)) → IsTakenAs line whole
-            → replies.old.first + length lines ≡ number → AreOpen (T.replies self.now.task.now) (T.waits self.now.task.now) replies.old.first replies.old.replies.items lines
-            → AreOpen (T.replies self.now.task.now) (T.waits self.now.task.now) replies.old.first replies.new.replies.items (lines ++ whole ∷ [])) }
+            → replies.old.first + length lines ≡ number → AreOpen (RepliesFrom (T.replies self.now.lines.now.by.now) self.now.lines.now.from) (WaitsFrom (T.waits self.now.lines.now.by.now) self.now.lines.now.from) replies.old.first replies.old.replies.items lines
+            → AreOpen (RepliesFrom (T.replies self.now.lines.now.by.now) self.now.lines.now.from) (WaitsFrom (T.waits self.now.lines.now.by.now) self.now.lines.now.from) replies.old.first replies.new.replies.items (lines ++ whole ∷ [])) }
         ensures first { replies.new.first ≡ replies.old.first }
         ensures refused { replies.new.refused ≡ replies.old.refused }
         ensures memory { IfErr result (λ stop. stop ≡ Stop.NoMemory) }
     {
-        let reply = open_reply(self.alloc, self.rays, self.task, number, line)?;
+        let reply = open_reply(self.alloc, self.rays, self.lines, number, line)?;
         match &reply {
             OpenReply::Said(known) => workers.count(known),
             OpenReply::Awaited(text) => {
-                workers.hand_out(self.rt, self.alloc, self.task, number, text.as_slice())?;
+                workers.hand_out(self.rt, self.alloc, self.lines.by, number, text.as_slice())?;
             }
         }
         replies.add(reply)
@@ -71,15 +66,16 @@ impl<R: Wait, T: LineTask, W: Watcher> Answering<'_, R, T, W> {
         replies: &mut OpenReplies<T::Mark>,
         out: &mut O,
     ) -> Result<(), Stop>
-        ensures gains { OnOk result ((text : List ℕ) × Gains (T.replies self.now.task.now) (T.waits self.now.task.now) replies.old replies.new text
+        ensures gains { OnOk result ((text : List ℕ) × Gains (RepliesFrom (T.replies self.now.lines.now.by.now) self.now.lines.now.from) (WaitsFrom (T.waits self.now.lines.now.by.now) self.now.lines.now.from) replies.old replies.new text
             × Appends (O.contents out.old) (O.contents out.new) text) }
-        ensures breaks { IfErr result (λ stop. Breaks (T.replies self.now.task.now) (T.waits self.now.task.now) replies.old stop (O.contents out.old) (O.contents out.new)) }
+        ensures breaks { IfErr result (λ stop. Breaks (RepliesFrom (T.replies self.now.lines.now.by.now) self.now.lines.now.from) (WaitsFrom (T.waits self.now.lines.now.by.now) self.now.lines.now.from) replies.old stop (O.contents out.old) (O.contents out.new)) }
         ensures readable { IfErr result (λ stop. stop ≢ Stop.Unreadable) }
     {
         let first = replies.first;
-        let text = write_ready(self.alloc, self.task, replies, &mut workers.arrived, out)?;
+        let text = write_ready(self.alloc, self.lines, replies, &mut workers.arrived, out)?;
         if replies.first != first {
-            self.watcher.wrote(text.as_slice(), replies.first);
+            self.lines.progress.ends(text.as_slice());
+            self.lines.progress.begins(replies.first);
         }
         Ok(())
     }
@@ -92,10 +88,10 @@ impl<R: Wait, T: LineTask, W: Watcher> Answering<'_, R, T, W> {
         most: usize,
         out: &mut O,
     ) -> Result<(), Stop>
-        ensures gains { OnOk result ((text : List ℕ) × Gains (T.replies self.now.task.now) (T.waits self.now.task.now) replies.old replies.new text
+        ensures gains { OnOk result ((text : List ℕ) × Gains (RepliesFrom (T.replies self.now.lines.now.by.now) self.now.lines.now.from) (WaitsFrom (T.waits self.now.lines.now.by.now) self.now.lines.now.from) replies.old replies.new text
             × Appends (O.contents out.old) (O.contents out.new) text) }
         ensures few { OnOk result (length replies.new.replies.items ≤ most) }
-        ensures breaks { IfErr result (λ stop. Breaks (T.replies self.now.task.now) (T.waits self.now.task.now) replies.old stop (O.contents out.old) (O.contents out.new)) }
+        ensures breaks { IfErr result (λ stop. Breaks (RepliesFrom (T.replies self.now.lines.now.by.now) self.now.lines.now.from) (WaitsFrom (T.waits self.now.lines.now.by.now) self.now.lines.now.from) replies.old stop (O.contents out.old) (O.contents out.new)) }
         ensures readable { IfErr result (λ stop. stop ≢ Stop.Unreadable) }
     {
         for _ in self.rt.forever() {
@@ -109,43 +105,30 @@ impl<R: Wait, T: LineTask, W: Watcher> Answering<'_, R, T, W> {
     }
 }
 
-/// Answers an input line by line, in order, by workers, who are asked nothing else at the time. Each reply is written once it and all before
-/// it are there; before more is read, all are.
-///
-/// Gives how many lines are refused. Where it stops before the end, the replies to some of the first lines are written. A line is taken into
-/// memory no further than a record is long, and no more lines than may be open, or were read at once.
-pub fn answer_in_order<R: Wait, T: LineTask, I: Input + Drop, O: Write, W: Watcher>(
-    rt: &R,
-    alloc: Global,
-    rays: &Rays,
-    task: &T,
+/// Takes all lines of an input, hands those to workers that aren't passed over, and writes all replies in order; gives how many are refused.
+fn answer_each<R: Wait, T: LineTask, P: Progress, I: Input + Drop, O: Write>(
+    answering: &Answering<R, T, P>,
     workers: &mut Workers<T>,
     input: I,
     out: &mut O,
-    watcher: &W,
 ) -> Result<usize, Stop>
     ensures ok { IfOk result (λ refused. (bytes : List ℕ) × (text : List ℕ) × MayBe (I.left input) bytes
-        × IsReply (T.replies task.now) bytes text refused × Appends (O.contents out.old) (O.contents out.new) text) }
+        × IsReply (RepliesFrom (T.replies answering.now.lines.now.by.now) answering.now.lines.now.from) bytes text refused
+        × Appends (O.contents out.old) (O.contents out.new) text) }
     ensures err { IfErr result (λ stop. (bytes : List ℕ) × (text : List ℕ) × MayBe (I.left input) bytes
-        × IsReplyToFirst (T.replies task.now) bytes text × AppendsBy stop (O.contents out.old) (O.contents out.new) text) }
+        × IsReplyToFirst (RepliesFrom (T.replies answering.now.lines.now.by.now) answering.now.lines.now.from) bytes text
+        × AppendsBy stop (O.contents out.old) (O.contents out.new) text) }
     ensures unreadable { IfErr result (λ stop. stop ≡ Stop.Unreadable → I.breaks input) }
 {
     // That lines which were taken are the first of the input is this law.
     lines_begin();
-    let answering = Answering {
-        rt,
-        alloc,
-        rays,
-        task,
-        watcher,
-    };
-    let mut lines = TakenLines::new(alloc, input, PIECE);
-    let mut replies = OpenReplies::new(alloc);
+    let mut lines = TakenLines::new(answering.alloc, input, PIECE);
+    let mut replies = OpenReplies::new(answering.alloc);
     for number in 1..usize::MAX {
         // To read on may have to wait.
         let most = if lines.has_line() { MOST_OPEN } else { 0 };
         answering.write_on(workers, &mut replies, most, out)?;
-        let taken = lines.take(alloc)?;
+        let taken = lines.take(answering.alloc)?;
         answering.hand_in(workers, &mut replies, number, taken.line)?;
         if taken.is_last {
             answering.write_on(workers, &mut replies, 0, out)?;
@@ -153,4 +136,35 @@ pub fn answer_in_order<R: Wait, T: LineTask, I: Input + Drop, O: Write, W: Watch
         }
     }
     Err(Stop::NoMemory)
+}
+
+/// Answers an input line by line from that of a number on, in order, by workers, who are asked nothing else at the time. Each reply is written
+/// once it and all before it are there; before more is read, all are.
+///
+/// Gives how many lines are refused. Where it stops before the end, the replies to some of the first lines are written. A line is taken into
+/// memory no further than a record is long, and no more lines than may be open, or were read at once.
+pub fn answer_in_order<R: Wait, T: LineTask, P: Progress, I: Input + Drop, O: Write>(
+    rt: &R,
+    alloc: Global,
+    rays: &Rays,
+    lines: &LinesFrom<T, P>,
+    workers: &mut Workers<T>,
+    input: I,
+    out: &mut O,
+) -> Result<usize, Stop>
+    requires from { 1 ≤ lines.now.from }
+    ensures ok { IfOk result (λ refused. (bytes : List ℕ) × (text : List ℕ) × MayBe (I.left input) bytes
+        × IsReplyOn (T.replies lines.now.by.now) lines.now.from bytes text refused × Appends (O.contents out.old) (O.contents out.new) text) }
+    ensures err { IfErr result (λ stop. (bytes : List ℕ) × (text : List ℕ) × MayBe (I.left input) bytes
+        × IsReplyToFirstOn (T.replies lines.now.by.now) lines.now.from bytes text × AppendsBy stop (O.contents out.old) (O.contents out.new) text) }
+    ensures unreadable { IfErr result (λ stop. stop ≡ Stop.Unreadable → I.breaks input) }
+{
+    lines.progress.begins(lines.from);
+    let answering = Answering {
+        rt,
+        alloc,
+        rays,
+        lines,
+    };
+    answer_each(&answering, workers, input, out)
 }

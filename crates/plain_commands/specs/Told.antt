@@ -11,7 +11,7 @@ use Rattle.command_words.specs.declared.request.TreeForm.{TreeForm}
 use Rattle.plain_commands.specs.Imported.{letters_in}
 use Rattle.byte_streams.specs.declared.stops.Stop.{Stop}
 use Rattle.file_answers.specs.FileAnswers.{Answers, AnswersFirst, AnswersTold, StopsAnswering}
-use Rattle.file_answers.specs.LinesFrom.{IsReplyOn, IsReplyToFirstOn}
+use Rattle.text_lines.specs.LinesFrom.{IsReplyOn, IsReplyToFirstOn}
 
 -- what stands for pieces: figurines, which are the same in each language, or such letters
 abbrev pub pieces_of : Bool → LettersOf → Pieces

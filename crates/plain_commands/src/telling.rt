@@ -10,13 +10,14 @@ use byte_streams::{Input, Stop};
 use chess_moves::Rays;
 use chess_problems::Bound;
 use command_words::{Files, TreeForm};
-use file_answers::{FileAnswers, FileStart, Source, answer_files, write_lines_from};
+use file_answers::{FileAnswers, FileStart, Source, answer_files};
 use file_solving::new_memo;
 use json_commands::tell_json;
 use mate_search::Memo;
 use mate_tree::{Form, TreeReplies};
 use std::alloc::Global;
 use std::io::Write;
+use text_lines::{LinesFrom, write_replies};
 
 /// How many positions a memo for trees has room for.
 pub const TREE_ENTRIES: usize = 65_536;
@@ -71,7 +72,7 @@ impl<'a> FileAnswers for TreeAnswers<'a> {
             default: self.bound,
             form: self.form,
         };
-        write_lines_from(alloc, &trees, start, input, memo, out)
+        write_replies(alloc, &LinesFrom { by: &trees, from: start.from, progress: start.source }, input, memo, out)
     }
 
     #[tactic(auto, using(crate::proofs::Unopened::no_tree_reply))]

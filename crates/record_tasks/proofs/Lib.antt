@@ -1,4 +1,3 @@
 mod Claimed
-mod JoinsFrom
 mod Solving
 mod Told

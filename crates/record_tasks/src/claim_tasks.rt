@@ -3,7 +3,6 @@
 ghost use Rattle.std.specs.Prelude.{◌≡◌};
 ghost use Rattle.mate_claims.specs.ClaimReplies.{refusals_of};
 
-use crate::tasks_from::TaskFrom;
 use byte_streams::NoMemory;
 use chess_moves::Rays;
 use chess_notation::{records_clear, says_one};
@@ -148,7 +147,7 @@ pub fn start_verifying<R: Threads + Wait + Clock + Clone + Drop + Send + 'static
     alloc: Global,
     count: usize,
     entries: usize,
-) -> Result<Workers<TaskFrom<ClaimTask>>, NoWorkers> {
+) -> Result<Workers<ClaimTask>, NoWorkers> {
     let Prepared {
         mut workers,
         waiting,

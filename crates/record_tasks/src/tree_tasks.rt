@@ -3,7 +3,6 @@
 ghost use Rattle.std.specs.Prelude.{◌≡◌, true};
 
 use crate::solve_tasks::uncounted;
-use crate::tasks_from::TaskFrom;
 use byte_streams::NoMemory;
 use chess_moves::Rays;
 use chess_notation::{records_clear, says_one};
@@ -124,7 +123,7 @@ pub fn start_telling<R: Threads + Wait + Clock + Clone + Drop + Send + 'static>(
     alloc: Global,
     count: usize,
     entries: usize,
-) -> Result<Workers<TaskFrom<TreeTask>>, NoWorkers> {
+) -> Result<Workers<TreeTask>, NoWorkers> {
     let Prepared {
         mut workers,
         waiting,

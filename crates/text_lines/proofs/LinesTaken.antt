@@ -1,10 +1,8 @@
 -- What is taken of an input, line by line.
-use Rattle.std.proofs.Common.{◌≡◌, ◌+◌, ◌-◌, ◌==◌, ℕ, Bool, true, false, Option, List, [], ◌∷◌, ◌++◌, cond, get_or, length, take, refl, ap, sym, ◌∙◌}
-use Rattle.std.proofs.Common.{arith, subst, min}
-use Rattle.std.proofs.lemmas.List.{length-take, take_all, take_min}
+use Rattle.std.proofs.Common.{◌≡◌, ◌-◌, ◌==◌, ℕ, Bool, true, false, Option, List, [], ◌∷◌, ◌++◌, cond, get_or, length, take, refl, ap, ◌∙◌}
+use Rattle.std.proofs.Common.{arith, min}
+use Rattle.std.proofs.lemmas.List.{length-take, take_all}
 use Rattle.std.proofs.KnownBytes.{Consumes-nil, Consumes-trans}
-use Rattle.std.specs.Io.KnownBytes.{Consumes}
-use Rattle.byte_streams.specs.Inputs.{MayBe}
 use Rattle.text_lines.specs.Lines.{lines_of, without_cr}
 use Rattle.text_lines.specs.TakenLines.{AreAllOf, HasTaken, LinesBegin}
 use Rattle.text_lines.specs.inside.InputLines.{TakesLine}

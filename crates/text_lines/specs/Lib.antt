@@ -1,4 +1,5 @@
 pub mod Lines
+pub mod LinesFrom
 pub mod Refusals
 pub mod Replies
 pub mod TakenLines

@@ -1,1 +1,2 @@
 pub mod InputLines
+pub mod LinesFrom

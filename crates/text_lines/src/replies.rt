@@ -7,10 +7,12 @@ ghost use Rattle.byte_streams.specs.Stops.{AppendsBy, AppendsPart, is_of_output}
 ghost use Rattle.chess_notation.specs.Records.{max_line};
 ghost use Rattle.chess_notation.specs.Words.{is_blank};
 ghost use Rattle.text_lines.specs.Lines.{texts_of};
+ghost use Rattle.text_lines.specs.LinesFrom.{IsReplyOn, IsReplyToFirstOn, lines_from};
 ghost use Rattle.text_lines.specs.Replies.{IsReply, IsReplyToFirst, RepliesGoOn, behind};
 ghost use Rattle.text_lines.specs.Writers.{Knows};
 
-use crate::writers::{LineWriter, write_replies};
+use crate::progress::Progress;
+use crate::writers::{LineWriter, LinesFrom, write_replies};
 use byte_streams::{Input, NoMemory, Stop, put};
 use std::alloc::Global;
 use std::io::Write;
@@ -93,13 +95,14 @@ pub trait LineHandler {
         → is_blank line ≡ true → follows handler before number line [] 0 };
 }
 
-/// A handler's replies, each of which is whole before it is written.
-#[derive(Drop)]
-struct Whole<'a, H> {
+/// A handler's replies, each of which is whole, and told, before it is written.
+#[derive(Clone, Copy)]
+struct Whole<'a, H, P> {
     handler: &'a H,
+    progress: &'a P,
 }
 
-impl<H: LineHandler> LineWriter for Whole<'_, H> {
+impl<H: LineHandler, P: Progress> LineWriter for Whole<'_, H, P> {
     type Memory = H::Memory;
 
     ghost ready = { λ whole. H.ready whole.handler.now };
@@ -124,8 +127,9 @@ impl<H: LineHandler> LineWriter for Whole<'_, H> {
         memory: &mut H::Memory,
         out: &mut O,
     ) -> Result<usize, Stop> {
+        self.progress.begins(number);
         match self.handler.answer(alloc, number, line, memory) {
-            Ok(output) => put_reply(out, &output),
+            Ok(output) => put_reply(out, self.progress, &output),
             Err(_) => Err(Stop::NoMemory),
         }
     }
@@ -136,8 +140,9 @@ impl<H: LineHandler> LineWriter for Whole<'_, H> {
         number: usize,
         out: &mut O,
     ) -> Result<usize, Stop> {
+        self.progress.begins(number);
         match self.handler.refuse_long(alloc, number) {
-            Ok(output) => put_reply(out, &output),
+            Ok(output) => put_reply(out, self.progress, &output),
             Err(_) => Err(Stop::NoMemory),
         }
     }
@@ -151,22 +156,74 @@ impl<H: LineHandler> LineWriter for Whole<'_, H> {
     ghost skips_behind = { λ whole before number line blank. H.skips_behind whole.handler.now before number line blank };
 }
 
-/// Writes a reply; gives how many lines it refuses.
-fn put_reply<O: Write>(out: &mut O, output: &Output) -> Result<usize, Stop>
+/// Tells a reply, and writes it; gives how many lines it refuses.
+fn put_reply<P: Progress, O: Write>(
+    out: &mut O,
+    progress: &P,
+    output: &Output,
+) -> Result<usize, Stop>
     ensures ok { IfOk result (λ refused. (refused ≡ output.now.refused) × Appends (O.contents out.old) (O.contents out.new) output.now.text.items) }
     ensures err { IfErr result (λ stop. (is_of_output stop ≡ true) × AppendsPart (O.contents out.old) (O.contents out.new) output.now.text.items) }
 {
+    progress.ends(output.text.as_slice());
     match put(out, output.text.as_slice()) {
         Ok(()) => Ok(output.refused),
         Err(stop) => Err(stop),
     }
 }
 
-/// Answers an input line by line: each line before the next is waited for. Gives how many lines are refused; how many marks there are
-/// more, the memory tells.
+/// Answers an input line by line, from that of a number on: each line before the next is waited for. Gives how many lines are refused; how
+/// many marks there are more, the memory tells.
 ///
 /// Where it stops before the end, the replies to some of the first lines are written. A line is taken into memory no further
 /// than a record is long.
+pub fn answer_lines<H: LineHandler, P: Progress, I: Input + Drop, O: Write>(
+    alloc: Global,
+    lines: &LinesFrom<H, P>,
+    input: I,
+    memory: &mut H::Memory,
+    out: &mut O,
+) -> Result<usize, Stop>
+    requires ready { H.ready lines.now.by.now }
+    requires from { 1 ≤ lines.now.from }
+    ensures ok { IfOk result (λ refused. (bytes : List ℕ) × (text : List ℕ) × MayBe (I.left input) bytes
+        × IsReplyOn (H.replies lines.now.by.now) lines.now.from bytes text refused
+        × Appends (O.contents out.old) (O.contents out.new) text) }
+    ensures marked { IfOk result (λ refused. (bytes : List ℕ) × (text : List ℕ) × MayBe (I.left input) bytes
+        × (IsReplyOn (H.replies lines.now.by.now) lines.now.from bytes text refused
+        × IsReplyOn (H.marks lines.now.by.now) lines.now.from bytes text (H.tally memory.new - H.tally memory.old))
+        × Appends (O.contents out.old) (O.contents out.new) text) }
+    ensures followed { IfOk result (λ refused. H.knows lines.now.by.now memory.old [] → (bytes : List ℕ) × (text : List ℕ)
+        × MayBe (I.left input) bytes
+        × (IsReplyOn (behind (H.follows lines.now.by.now) (lines_from lines.now.from (texts_of bytes))) lines.now.from bytes text refused
+        × H.knows lines.now.by.now memory.new (lines_from lines.now.from (texts_of bytes)))
+        × Appends (O.contents out.old) (O.contents out.new) text) }
+    ensures grows { IfOk result (λ _. H.tally memory.old ≤ H.tally memory.new) }
+    ensures err { IfErr result (λ stop. (bytes : List ℕ) × (text : List ℕ) × MayBe (I.left input) bytes
+        × IsReplyToFirstOn (H.replies lines.now.by.now) lines.now.from bytes text
+        × AppendsBy stop (O.contents out.old) (O.contents out.new) text) }
+    ensures broken { IfErr result (λ stop. H.knows lines.now.by.now memory.old [] → (bytes : List ℕ) × (text : List ℕ)
+        × MayBe (I.left input) bytes
+        × IsReplyToFirstOn (behind (H.follows lines.now.by.now) (lines_from lines.now.from (texts_of bytes))) lines.now.from bytes text
+        × AppendsBy stop (O.contents out.old) (O.contents out.new) text) }
+    ensures unreadable { IfErr result (λ stop. stop ≡ Stop.Unreadable → I.breaks input) }
+    ensures room { H.room memory.new ≡ H.room memory.old }
+{
+    let whole = Whole {
+        handler: lines.by,
+        progress: lines.progress,
+    };
+    // Whoever is told is told by `Whole`.
+    let lines = LinesFrom {
+        by: &whole,
+        from: lines.from,
+        progress: &(),
+    };
+    write_replies(alloc, &lines, input, memory, out)
+}
+
+/// The same from the first line on, of which nobody is told.
+#[tactic(auto, unfolding(crate::specs::Replies::IsReply, crate::specs::Replies::IsReplyToFirst, crate::specs::LinesFrom::IsReplyOn, crate::specs::LinesFrom::IsReplyToFirstOn))]
 pub fn answer_input<H: LineHandler, I: Input + Drop, O: Write>(
     alloc: Global,
     handler: &H,
@@ -196,7 +253,12 @@ pub fn answer_input<H: LineHandler, I: Input + Drop, O: Write>(
     ensures unreadable { IfErr result (λ stop. stop ≡ Stop.Unreadable → I.breaks input) }
     ensures room { H.room memory.new ≡ H.room memory.old }
 {
-    write_replies(alloc, &Whole { handler }, input, memory, out)
+    let lines = LinesFrom {
+        by: handler,
+        from: 1,
+        progress: &(),
+    };
+    answer_lines(alloc, &lines, input, memory, out)
 }
 
 /// What an input that is there already is answered, and how many of its lines are refused. Want of memory leaves no part of the

@@ -7,11 +7,14 @@ ghost use Rattle.byte_streams.specs.Stops.{AppendsBy, AppendsPart, is_of_output}
 ghost use Rattle.chess_notation.specs.Records.{max_line};
 ghost use Rattle.chess_notation.specs.Words.{is_blank};
 ghost use Rattle.text_lines.specs.Lines.{texts_of, without_cr as text_without_cr};
+ghost use Rattle.text_lines.specs.LinesFrom.{IsReplyOn, IsReplyToFirstOn, lines_from};
 ghost use Rattle.text_lines.specs.Replies.{IsReply, IsReplyToFirst, behind};
 ghost use Rattle.text_lines.specs.Writers.{BreaksOff, Follows, Knows, Marked, Replied};
 ghost use Rattle.text_lines.specs.inside.InputLines.{IsKept, TakesLine, left_of};
+ghost use Rattle.text_lines.specs.inside.LinesFrom.{FollowsFrom, KnowsFrom, RepliesFrom};
 
 use crate::input_lines::{Kept, Lines, MAX_LINE, without_cr};
+use crate::progress::Progress;
 use byte_streams::{Input, Stop};
 use std::alloc::Global;
 use std::io::Write;
@@ -97,25 +100,35 @@ pub trait LineWriter {
         → is_blank line ≡ true → follows writer before number line [] 0 };
 }
 
+/// Who answers the lines of an input, from that of a number on, and who is told of each. The lines before it keep their numbers, are read no
+/// further than to their ends, and are neither answered nor refused.
+#[derive(Clone, Copy)]
+pub struct LinesFrom<'a, W, P> {
+    pub by: &'a W,
+    /// The number of the first line that is answered, 1 at least.
+    pub from: usize,
+    pub progress: &'a P,
+}
+
 /// Writes the reply to a line by what is kept of it: a line of which bytes are left out is blank or too long.
-fn answer_kept<W: LineWriter, O: Write>(
+fn answer_kept<W: LineWriter, P: Progress, O: Write>(
     alloc: Global,
-    writer: &W,
+    lines: &LinesFrom<W, P>,
     number: usize,
     kept: &Kept,
     memory: &mut W::Memory,
     out: &mut O,
 ) -> Result<usize, Stop>
-    requires ready { W.ready writer.now }
+    requires ready { W.ready lines.now.by.now }
     requires kept { (line : List ℕ) × IsKept kept.now line }
     ensures reply { IfOk result (Replied (Marked (λ text refusals. (line : List ℕ) → IsKept kept.now line
-        → W.replies writer.now number (text_without_cr line) text refusals) (λ text count. (line : List ℕ) → IsKept kept.now line
-        → W.marks writer.now number (text_without_cr line) text count) (λ text refusals. (line : List ℕ) → IsKept kept.now line
-        → Knows (W.knows writer.now) (λ before. W.follows writer.now before number) number (text_without_cr line) memory.old memory.new
+        → W.replies lines.now.by.now number (text_without_cr line) text refusals) (λ text count. (line : List ℕ) → IsKept kept.now line
+        → W.marks lines.now.by.now number (text_without_cr line) text count) (λ text refusals. (line : List ℕ) → IsKept kept.now line
+        → Knows (W.knows lines.now.by.now) (λ before. W.follows lines.now.by.now before number) number (text_without_cr line) memory.old memory.new
         text refusals) (W.tally memory.new - W.tally memory.old)) (O.contents out.old) (O.contents out.new)) }
     ensures err { IfErr result (BreaksOff (λ text refusals. (line : List ℕ) → IsKept kept.now line
-        → W.replies writer.now number (text_without_cr line) text refusals
-        × Follows (W.knows writer.now) (λ before. W.follows writer.now before number) number (text_without_cr line) memory.old text refusals)
+        → W.replies lines.now.by.now number (text_without_cr line) text refusals
+        × Follows (W.knows lines.now.by.now) (λ before. W.follows lines.now.by.now before number) number (text_without_cr line) memory.old text refusals)
         (O.contents out.old) (O.contents out.new)) }
     ensures few { IfOk result (λ refused. refused ≤ 1) }
     ensures grows { IfOk result (λ _. W.tally memory.old ≤ W.tally memory.new) }
@@ -124,11 +137,23 @@ fn answer_kept<W: LineWriter, O: Write>(
     if kept.is_blank() {
         return Ok(0);
     }
+    lines.progress.begins(number);
     let line = without_cr(kept.bytes.as_slice());
     if line.len() > MAX_LINE {
-        return writer.refuse_long(alloc, number, out);
+        let refused = lines.by.refuse_long(alloc, number, out);
+        tell(lines.progress, &refused);
+        return refused;
     }
-    writer.write_reply(alloc, number, line, memory, out)
+    let refused = lines.by.write_reply(alloc, number, line, memory, out);
+    tell(lines.progress, &refused);
+    refused
+}
+
+/// Says that a reply is written, where it is.
+fn tell<P: Progress>(progress: &P, refused: &Result<usize, Stop>) {
+    if let Ok(refused) = refused {
+        progress.wrote(*refused);
+    }
 }
 
 /// What is known once a line is answered: whether it was refused, and whether it is the last.
@@ -138,37 +163,45 @@ struct Answered {
     is_last: bool,
 }
 
-/// Takes the next line of an input, and has written the reply to it when it returns.
-fn answer_next<W: LineWriter, I: Input + Drop, O: Write>(
+/// Takes the next line of an input, and has written the reply to it when it returns, unless it is passed over.
+fn answer_next<W: LineWriter, P: Progress, I: Input + Drop, O: Write>(
     alloc: Global,
-    writer: &W,
+    lines: &LinesFrom<W, P>,
     number: usize,
-    lines: &mut Lines<I>,
+    input: &mut Lines<I>,
     memory: &mut W::Memory,
     out: &mut O,
 ) -> Result<Answered, Stop>
-    requires ready { W.ready writer.now }
+    requires ready { W.ready lines.now.by.now }
     ensures ok { IfOk result (λ answered. (line : List ℕ) × (here : List ℕ)
-        × W.replies writer.now number (text_without_cr line) here answered.refused
-        × W.marks writer.now number (text_without_cr line) here (W.tally memory.new - W.tally memory.old)
-        × Knows (W.knows writer.now) (λ before. W.follows writer.now before number) number (text_without_cr line) memory.old memory.new
+        × RepliesFrom (W.replies lines.now.by.now) lines.now.from number (text_without_cr line) here answered.refused
+        × RepliesFrom (W.marks lines.now.by.now) lines.now.from number (text_without_cr line) here (W.tally memory.new - W.tally memory.old)
+        × Knows (KnowsFrom (W.knows lines.now.by.now) lines.now.from)
+        (λ before. FollowsFrom (W.follows lines.now.by.now) lines.now.from before number) number (text_without_cr line) memory.old memory.new
         here answered.refused
-        × TakesLine answered.is_last (left_of I.left lines.old) (left_of I.left lines.new) line
+        × TakesLine answered.is_last (left_of I.left input.old) (left_of I.left input.new) line
         × Appends (O.contents out.old) (O.contents out.new) here) }
     ensures few { IfOk result (λ answered. answered.refused ≤ 1) }
     ensures grows { IfOk result (λ _. W.tally memory.old ≤ W.tally memory.new) }
     ensures unanswered { IfErr result (λ stop. is_of_output stop ≡ false → Keeps (O.contents out.old) (O.contents out.new)) }
     ensures cut { IfErr result (λ stop. is_of_output stop ≡ true → (is_last : Bool) × (line : List ℕ) × (here : List ℕ) × (count : ℕ)
-        × (W.replies writer.now number (text_without_cr line) here count
-        × Follows (W.knows writer.now) (λ before. W.follows writer.now before number) number (text_without_cr line) memory.old here count)
-        × TakesLine is_last (left_of I.left lines.old) (left_of I.left lines.new) line
+        × (RepliesFrom (W.replies lines.now.by.now) lines.now.from number (text_without_cr line) here count
+        × Follows (KnowsFrom (W.knows lines.now.by.now) lines.now.from)
+        (λ before. FollowsFrom (W.follows lines.now.by.now) lines.now.from before number) number (text_without_cr line) memory.old here count)
+        × TakesLine is_last (left_of I.left input.old) (left_of I.left input.new) line
         × AppendsPart (O.contents out.old) (O.contents out.new) here) }
-    ensures unreadable { IfErr result (λ stop. stop ≡ Stop.Unreadable → I.breaks lines.old.input) }
-    ensures steady { I.breaks lines.new.input → I.breaks lines.old.input }
+    ensures unreadable { IfErr result (λ stop. stop ≡ Stop.Unreadable → I.breaks input.old.input) }
+    ensures steady { I.breaks input.new.input → I.breaks input.old.input }
     ensures room { W.room memory.new ≡ W.room memory.old }
 {
-    let taken = lines.take_line(alloc)?;
-    match answer_kept(alloc, writer, number, &taken.kept, memory, out) {
+    let taken = input.take_line(alloc)?;
+    if number < lines.from {
+        return Ok(Answered {
+            refused: 0,
+            is_last: taken.is_last,
+        });
+    }
+    match answer_kept(alloc, lines, number, &taken.kept, memory, out) {
         Ok(refused) => Ok(Answered {
             refused,
             is_last: taken.is_last,
@@ -177,48 +210,83 @@ fn answer_next<W: LineWriter, I: Input + Drop, O: Write>(
     }
 }
 
-/// Answers an input line by line: each line before the next is waited for. Gives how many lines are refused; how many marks there are
-/// more, the memory tells.
-///
-/// Where it stops before the end, the replies to some of the first lines are written. A line is taken into memory no further
-/// than a record is long.
-pub fn write_replies<W: LineWriter, I: Input + Drop, O: Write>(
+/// Takes all lines of an input, and answers each that isn't passed over before the next is waited for; gives how many are refused.
+fn write_each<W: LineWriter, P: Progress, I: Input + Drop, O: Write>(
     alloc: Global,
-    writer: &W,
+    lines: &LinesFrom<W, P>,
     input: I,
     memory: &mut W::Memory,
     out: &mut O,
 ) -> Result<usize, Stop>
-    requires ready { W.ready writer.now }
-    ensures ok { IfOk result (λ refused. (bytes : List ℕ) × (text : List ℕ) × MayBe (I.left input) bytes
-        × IsReply (W.replies writer.now) bytes text refused
-        × Appends (O.contents out.old) (O.contents out.new) text) }
+    requires ready { W.ready lines.now.by.now }
     ensures marked { IfOk result (λ refused. (bytes : List ℕ) × (text : List ℕ) × MayBe (I.left input) bytes
-        × (IsReply (W.replies writer.now) bytes text refused
-        × IsReply (W.marks writer.now) bytes text (W.tally memory.new - W.tally memory.old))
+        × (IsReply (RepliesFrom (W.replies lines.now.by.now) lines.now.from) bytes text refused
+        × IsReply (RepliesFrom (W.marks lines.now.by.now) lines.now.from) bytes text (W.tally memory.new - W.tally memory.old))
         × Appends (O.contents out.old) (O.contents out.new) text) }
-    ensures followed { IfOk result (λ refused. W.knows writer.now memory.old [] → (bytes : List ℕ) × (text : List ℕ)
-        × MayBe (I.left input) bytes
-        × (IsReply (behind (W.follows writer.now) (texts_of bytes)) bytes text refused × W.knows writer.now memory.new (texts_of bytes))
+    ensures followed { IfOk result (λ refused. KnowsFrom (W.knows lines.now.by.now) lines.now.from memory.old []
+        → (bytes : List ℕ) × (text : List ℕ) × MayBe (I.left input) bytes
+        × (IsReply (behind (FollowsFrom (W.follows lines.now.by.now) lines.now.from) (texts_of bytes)) bytes text refused
+        × KnowsFrom (W.knows lines.now.by.now) lines.now.from memory.new (texts_of bytes))
         × Appends (O.contents out.old) (O.contents out.new) text) }
     ensures grows { IfOk result (λ _. W.tally memory.old ≤ W.tally memory.new) }
     ensures err { IfErr result (λ stop. (bytes : List ℕ) × (text : List ℕ) × MayBe (I.left input) bytes
-        × IsReplyToFirst (W.replies writer.now) bytes text
+        × IsReplyToFirst (RepliesFrom (W.replies lines.now.by.now) lines.now.from) bytes text
         × AppendsBy stop (O.contents out.old) (O.contents out.new) text) }
-    ensures broken { IfErr result (λ stop. W.knows writer.now memory.old [] → (bytes : List ℕ) × (text : List ℕ)
-        × MayBe (I.left input) bytes × IsReplyToFirst (behind (W.follows writer.now) (texts_of bytes)) bytes text
+    ensures broken { IfErr result (λ stop. KnowsFrom (W.knows lines.now.by.now) lines.now.from memory.old []
+        → (bytes : List ℕ) × (text : List ℕ) × MayBe (I.left input) bytes
+        × IsReplyToFirst (behind (FollowsFrom (W.follows lines.now.by.now) lines.now.from) (texts_of bytes)) bytes text
         × AppendsBy stop (O.contents out.old) (O.contents out.new) text) }
     ensures unreadable { IfErr result (λ stop. stop ≡ Stop.Unreadable → I.breaks input) }
     ensures room { W.room memory.new ≡ W.room memory.old }
 {
-    let mut lines = Lines::new(alloc, input);
+    let mut rest = Lines::new(alloc, input);
     let mut refused = 0;
     for number in 1..usize::MAX {
-        let answered = answer_next(alloc, writer, number, &mut lines, memory, out)?;
+        let answered = answer_next(alloc, lines, number, &mut rest, memory, out)?;
         refused += answered.refused;
         if answered.is_last {
             return Ok(refused);
         }
     }
     Err(Stop::NoMemory)
+}
+
+/// Answers an input line by line, from that of a number on: each line before the next is waited for. Gives how many lines are refused; how
+/// many marks there are more, the memory tells.
+///
+/// Where it stops before the end, the replies to some of the first lines are written. A line is taken into memory no further
+/// than a record is long.
+pub fn write_replies<W: LineWriter, P: Progress, I: Input + Drop, O: Write>(
+    alloc: Global,
+    lines: &LinesFrom<W, P>,
+    input: I,
+    memory: &mut W::Memory,
+    out: &mut O,
+) -> Result<usize, Stop>
+    requires ready { W.ready lines.now.by.now }
+    requires from { 1 ≤ lines.now.from }
+    ensures ok { IfOk result (λ refused. (bytes : List ℕ) × (text : List ℕ) × MayBe (I.left input) bytes
+        × IsReplyOn (W.replies lines.now.by.now) lines.now.from bytes text refused
+        × Appends (O.contents out.old) (O.contents out.new) text) }
+    ensures marked { IfOk result (λ refused. (bytes : List ℕ) × (text : List ℕ) × MayBe (I.left input) bytes
+        × (IsReplyOn (W.replies lines.now.by.now) lines.now.from bytes text refused
+        × IsReplyOn (W.marks lines.now.by.now) lines.now.from bytes text (W.tally memory.new - W.tally memory.old))
+        × Appends (O.contents out.old) (O.contents out.new) text) }
+    ensures followed { IfOk result (λ refused. W.knows lines.now.by.now memory.old [] → (bytes : List ℕ) × (text : List ℕ)
+        × MayBe (I.left input) bytes
+        × (IsReplyOn (behind (W.follows lines.now.by.now) (lines_from lines.now.from (texts_of bytes))) lines.now.from bytes text refused
+        × W.knows lines.now.by.now memory.new (lines_from lines.now.from (texts_of bytes)))
+        × Appends (O.contents out.old) (O.contents out.new) text) }
+    ensures grows { IfOk result (λ _. W.tally memory.old ≤ W.tally memory.new) }
+    ensures err { IfErr result (λ stop. (bytes : List ℕ) × (text : List ℕ) × MayBe (I.left input) bytes
+        × IsReplyToFirstOn (W.replies lines.now.by.now) lines.now.from bytes text
+        × AppendsBy stop (O.contents out.old) (O.contents out.new) text) }
+    ensures broken { IfErr result (λ stop. W.knows lines.now.by.now memory.old [] → (bytes : List ℕ) × (text : List ℕ)
+        × MayBe (I.left input) bytes
+        × IsReplyToFirstOn (behind (W.follows lines.now.by.now) (lines_from lines.now.from (texts_of bytes))) lines.now.from bytes text
+        × AppendsBy stop (O.contents out.old) (O.contents out.new) text) }
+    ensures unreadable { IfErr result (λ stop. stop ≡ Stop.Unreadable → I.breaks input) }
+    ensures room { W.room memory.new ≡ W.room memory.old }
+{
+    write_each(alloc, lines, input, memory, out)
 }

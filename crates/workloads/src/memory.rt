@@ -8,6 +8,7 @@ use plain_commands::plain_command;
 use std::alloc::Global;
 use std::io;
 use std::io::{Read, Write};
+use text_lines::Progress;
 
 /// FNV-1a of 64 bits (Fowler, Noll, Vo) over all that is written, and how many bytes that is.
 #[derive(Clone, Copy, Drop)]
@@ -67,6 +68,8 @@ impl<'a> Read for Rest<'a> {
 pub(crate) struct OneFile<'a> {
     pub text: &'a str,
 }
+
+impl Progress for OneFile<'_> {}
 
 impl<'a> Source for OneFile<'a> {
     type File = Reading<Rest<'a>>;

@@ -6,12 +6,18 @@ use Rattle.file_answers.proofs.Unopened.{may_refuse, stopped_unopened}
 use Rattle.file_answers.proofs.file_answers.answer_files.Goals as goal
 
 pub loop-name-init : goal.loop-name-init
-loop-name-init g c = ([], answered_none _ _ _ _, omega arith, Appends-nil (g.O.Write.contents c.args.out.now))
+loop-name-init g c = (
+  [],
+  rw c.get-from.ensures.number (answered_none _ _ _ _),
+  omega arith,
+  Appends-nil (g.O.Write.contents c.args.out.now),
+  c.get-from.ensures.some,
+)
 
 pub returns-in_err-file-clause-err : goal.returns-in_err-file-clause-err
 returns-in_err-file-clause-err g c =
     let (other, is, same) = err_from_is_err_and c.from_residual.result c.from_residual.ensures.1 in
-    let (gained, so_far, grown, before) = c.loop-name.invariant in
+    let (gained, so_far, grown, before, some) = c.loop-name.invariant in
     let (input, part, may, reply, appends) =
     stopped_unopened c.in_err-file.field-0.0 (g.A.FileAnswers.first c.args.answers.now c.loop-name.from _)
     (g.S.Source.holds c.args.source.now _) (g.O.Write.contents c.loop-name.out)
@@ -25,7 +31,7 @@ returns-in_err-file-clause-err g c =
 pub returns-in_err-count-clause-err : goal.returns-in_err-count-clause-err
 returns-in_err-count-clause-err g c =
     let (other, is, same) = err_from_is_err_and c.from_residual-in_err-count.result c.from_residual-in_err-count.ensures.1 in
-    let (gained, so_far, grown, before) = c.loop-name.invariant in
+    let (gained, so_far, grown, before, some) = c.loop-name.invariant in
     let (input, part, may, reply, appends) = c.in_err-count.ensures.err in
     rw (is, same) (stops_there c.holds_reads.ensures.each (g.S.Source.holds c.args.source.now) (g.S.Source.refuses c.args.source.now)
     (g.A.FileAnswers.told c.args.answers.now) (g.A.FileAnswers.replies c.args.answers.now)
@@ -35,20 +41,21 @@ returns-in_err-count-clause-err g c =
 
 pub loop-name-preserved : goal.loop-name-preserved
 loop-name-preserved g c =
-    let (gained, so_far, grown, before) = c.loop-name.invariant in
+    let (gained, so_far, grown, before, some) = c.loop-name.invariant in
     let (input, text, may, reply, appends) = c.in_ok-count.ensures.ok in (
       gained ++ text,
-      rw c.first-from.ensures (answers_next c.holds_reads.ensures.more (g.S.Source.holds c.args.source.now)
+      (answers_next c.holds_reads.ensures.more (g.S.Source.holds c.args.source.now)
           (g.A.FileAnswers.told c.args.answers.now) c.args.files.now.from c.args.files.now.names.now c.loop-name.name-index _
           c.loop-name.from c.loop-name.refused _ _ _ _ gained input text c.in_ok-count.count
           c.loop-name-test.true grown c.in_ok-count.ensures.grows so_far may reply refl),
       omega (arith, grown, c.in_ok-count.ensures.grows),
       Appends-trans _ _ _ gained text before appends,
+      omega arith,
     )
 
 pub returns-clause-ok : goal.returns-clause-ok
 returns-clause-ok g c =
-    let (gained, so_far, grown, appends) = c.loop-name.invariant in record {
+    let (gained, so_far, grown, appends, some) = c.loop-name.invariant in record {
       gained = gained;
       shows = all_told (g.A.FileAnswers.told c.args.answers.now) (g.A.FileAnswers.replies c.args.answers.now)
           (g.A.FileAnswers.tells c.args.answers.now) (g.S.Source.holds c.args.source.now) c.args.files.now.from c.args.files.now.names.now
@@ -58,7 +65,7 @@ returns-clause-ok g c =
 
 pub returns-clause-told : goal.returns-clause-told
 returns-clause-told g c =
-    let (gained, so_far, grown, appends) = c.loop-name.invariant in record {
+    let (gained, so_far, grown, appends, some) = c.loop-name.invariant in record {
       gained = gained;
       shows = all_so_far (g.A.FileAnswers.told c.args.answers.now) (g.S.Source.holds c.args.source.now) c.args.files.now.from
           c.args.files.now.names.now c.loop-name.name-index c.loop-name.from c.loop-name.refused _ gained c.loop-name-test.false so_far;

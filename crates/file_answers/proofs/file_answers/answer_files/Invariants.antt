@@ -12,3 +12,4 @@ invariant-loop-name g l =
     (g.A.FileAnswers.tally l.memory - g.A.FileAnswers.tally l.initial.memory) gained
     × (g.A.FileAnswers.tally l.initial.memory ≤ g.A.FileAnswers.tally l.memory)
     × Appends (g.O.Write.contents l.initial.out) (g.O.Write.contents l.out) gained
+    × (1 ≤ l.from)

@@ -14,14 +14,14 @@ returns-in_err-count-clause-err g c =
     rw (is, same) (stops_there c.holds_reads.ensures.each (g.S.Source.holds c.args.source.now) (g.S.Source.refuses c.args.source.now)
     (g.A.FileAnswers.told c.args.answers.now) (g.A.FileAnswers.replies c.args.answers.now)
     (g.A.FileAnswers.first c.args.answers.now) (g.A.FileAnswers.tells c.args.answers.now) 1 c.args.names.now
-    c.loop-name.name-index _ c.first-from.result c.loop-name.refused _ c.in_err-count.field-0.0 (g.O.Write.contents c.args.out.now) _ _ gained
+    c.loop-name.name-index _ 1 c.loop-name.refused _ c.in_err-count.field-0.0 (g.O.Write.contents c.args.out.now) _ _ gained
     input part c.loop-name-test.true so_far before may reply appends c.in_err-count.ensures.unreadable)
 
 pub loop-name-init : goal.loop-name-init
 loop-name-init g c =
     let each = opened_each _ _ _ _ _ _ c.requires.opened in (
       [],
-      rw c.first-from.ensures (answered_none _ _ _ _),
+      answered_none _ _ _ _,
       omega arith,
       Appends-nil (g.O.Write.contents c.args.out.now),
       rw c.into_iter-rest.ensures.rest c.requires.opened,
@@ -33,8 +33,8 @@ loop-name-preserved g c =
     let (gained, so_far, grown, before, left, count) = c.loop-name.invariant in
     let (input, text, may, reply, appends) = c.in_ok-count.ensures.ok in (
       gained ++ text,
-      rw c.first-from.ensures (answers_next c.holds_reads.ensures.more (g.S.Source.holds c.args.source.now) (g.A.FileAnswers.told c.args.answers.now) 1
-          c.args.names.now c.loop-name.name-index _ c.first-from.result c.loop-name.refused _ _ _ _ gained input text c.in_ok-count.count
+      (answers_next c.holds_reads.ensures.more (g.S.Source.holds c.args.source.now) (g.A.FileAnswers.told c.args.answers.now) 1
+          c.args.names.now c.loop-name.name-index _ 1 c.loop-name.refused _ _ _ _ gained input text c.in_ok-count.count
           c.loop-name-test.true grown c.in_ok-count.ensures.grows so_far may reply refl),
       omega (arith, grown, c.in_ok-count.ensures.grows),
       Appends-trans _ _ _ gained text before appends,
@@ -48,7 +48,7 @@ returns-clause-ok g c =
       gained = gained;
       shows = all_told (g.A.FileAnswers.told c.args.answers.now) (g.A.FileAnswers.replies c.args.answers.now)
           (g.A.FileAnswers.tells c.args.answers.now) (g.S.Source.holds c.args.source.now) 1 c.args.names.now
-          c.loop-name.name-index c.first-from.result c.loop-name.refused _ gained c.loop-name-test.false so_far;
+          c.loop-name.name-index 1 c.loop-name.refused _ gained c.loop-name-test.false so_far;
       appends = appends;
     }
 
@@ -57,6 +57,6 @@ returns-clause-told g c =
     let (gained, so_far, grown, appends, left, count) = c.loop-name.invariant in record {
       gained = gained;
       shows = all_so_far (g.A.FileAnswers.told c.args.answers.now) (g.S.Source.holds c.args.source.now) 1
-          c.args.names.now c.loop-name.name-index c.first-from.result c.loop-name.refused _ gained c.loop-name-test.false so_far;
+          c.args.names.now c.loop-name.name-index 1 c.loop-name.refused _ gained c.loop-name-test.false so_far;
       appends = appends;
     }

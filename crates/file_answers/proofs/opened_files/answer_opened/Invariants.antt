@@ -10,7 +10,7 @@ abbrev pub invariant-loop-name : goal.invariant-loop-name
 invariant-loop-name g l =
     (gained : List ℕ)
     × AnsweredTo (g.S.Source.holds l.source) (g.A.FileAnswers.told l.answers) 1
-    (map (λ s. s.now) (take l.name-index l.names)) l.from l.refused
+    (map (λ s. s.now) (take l.name-index l.names)) 1 l.refused
     (g.A.FileAnswers.tally l.memory - g.A.FileAnswers.tally l.initial.memory) gained
     × (g.A.FileAnswers.tally l.initial.memory ≤ g.A.FileAnswers.tally l.memory)
     × Appends (g.O.Write.contents l.initial.out) (g.O.Write.contents l.out) gained

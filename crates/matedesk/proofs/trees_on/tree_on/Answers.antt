@@ -2,7 +2,7 @@ use Rattle.std.proofs.Common.{IfErr, IfOk, map, subst}
 use Rattle.command_words.specs.Asked.{tree_on}
 use Rattle.file_answers.specs.Writing.{Gains}
 use Rattle.plain_commands.specs.Told.{StopsTelling, Tells}
-use Rattle.matedesk.proofs.LinesOn.{ends_untold_on}
+use Rattle.matedesk.proofs.NoWorkers.{ends_untold_on}
 use Rattle.matedesk.proofs.trees_on.tree_on.Goals as goal
 
 pub returns-in-Err : goal.returns-in-Err

@@ -1,6 +1,6 @@
 use Rattle.std.proofs.Common.{map}
 use Rattle.command_words.specs.Asked.{verify_on}
-use Rattle.matedesk.proofs.LinesOn.{ends_unverified_on}
+use Rattle.matedesk.proofs.NoWorkers.{ends_unverified_on}
 use Rattle.matedesk.proofs.verifying_on.verify_on.Goals as goal
 
 pub returns-in-Err : goal.returns-in-Err

@@ -1,14 +1,43 @@
-use Rattle.std.proofs.Common.{refl}
+use Rattle.std.proofs.Common.{[], refl, inl}
 use Rattle.std.proofs.lemmas.Result.{err_from_is_err_and}
-use Rattle.std.proofs.KnownBytes.{Keeps-refl}
-use Rattle.text_lines.proofs.WrittenReplies.{broken_part, never_unreadable, read_is_unreadable, read_never_broken, silent_keeps}
+use Rattle.std.proofs.KnownBytes.{Appends-nil, Keeps-refl}
+use Rattle.text_lines.specs.inside.LinesFrom.{RepliesFrom}
+use Rattle.text_lines.specs.Lines.{without_cr}
+use Rattle.text_lines.proofs.PassedLines.{answered_on, follows_on, knows_on, knows_passed, passed_over}
+use Rattle.text_lines.proofs.WrittenReplies.{broken_part, never_unreadable, none_more, read_is_unreadable, read_never_broken, silent_keeps}
 use Rattle.text_lines.proofs.writers.answer_next.Goals as goal
 
 pub returns-in-Ok-clause-ok : goal.returns-in-Ok-clause-ok
 returns-in-Ok-clause-ok g c =
     let (line, is, takes) = c.in_ok-taken.ensures.ok in
     let (here, (may, marks, knows), appends) = c.in-Ok.ensures.reply in
-    (line, here, may line is, marks line is, knows line is, takes, appends)
+    let from = c.args.lines.now.from in (
+      line,
+      here,
+      answered_on (g.W.LineWriter.replies c.args.lines.now.by.now) from c.args.number (without_cr line) here _ c.if-number-lines.false (may line is),
+      answered_on (g.W.LineWriter.marks c.args.lines.now.by.now) from c.args.number (without_cr line) here _ c.if-number-lines.false (marks line is),
+      knows_on (g.W.LineWriter.knows c.args.lines.now.by.now) (g.W.LineWriter.follows c.args.lines.now.by.now) from c.args.number
+          (without_cr line) _ _ here _ c.if-number-lines.false (knows line is),
+      takes,
+      appends,
+    )
+
+pub returns-then-number-lines-clause-ok : goal.returns-then-number-lines-clause-ok
+returns-then-number-lines-clause-ok g c =
+    let (line, is, takes) = c.in_ok-taken.ensures.ok in
+    let from = c.args.lines.now.from in
+    let early = c.if-number-lines.true in (
+      line,
+      [],
+      passed_over (g.W.LineWriter.replies c.args.lines.now.by.now) from c.args.number (without_cr line) early,
+      none_more (λ n. RepliesFrom (g.W.LineWriter.marks c.args.lines.now.by.now) from c.args.number (without_cr line) [] n) (g.W.LineWriter.tally c.args.memory.now)
+          (passed_over (g.W.LineWriter.marks c.args.lines.now.by.now) from c.args.number (without_cr line) early),
+      knows_passed (g.W.LineWriter.knows c.args.lines.now.by.now) (g.W.LineWriter.follows c.args.lines.now.by.now) from c.args.number
+          (without_cr line) c.args.memory.now early
+          (λ before known. g.met.W.LineWriter.passes c.args.lines.now.by.now _ before [] (inl refl) known),
+      takes,
+      Appends-nil (g.O.Write.contents c.args.out.now),
+    )
 
 pub returns-clause-unanswered : goal.returns-clause-unanswered
 returns-clause-unanswered g c = silent_keeps _ _ _ c.in-Err.stop c.in-Err.ensures.err
@@ -17,7 +46,20 @@ pub returns-clause-cut : goal.returns-clause-cut
 returns-clause-cut g c = λ broken.
     let (line, is, takes) = c.in_ok-taken.ensures.ok in
     let (here, count, may, part) = broken_part _ _ _ c.in-Err.stop c.in-Err.ensures.err broken in
-    (c.in_ok-taken.taken.is_last, line, here, count, may line is, takes, part)
+    let (reply, follows) = may line is in
+    let from = c.args.lines.now.from in (
+      c.in_ok-taken.taken.is_last,
+      line,
+      here,
+      count,
+      (
+        answered_on (g.W.LineWriter.replies c.args.lines.now.by.now) from c.args.number (without_cr line) here count c.if-number-lines.false reply,
+        follows_on (g.W.LineWriter.knows c.args.lines.now.by.now) (g.W.LineWriter.follows c.args.lines.now.by.now) from c.args.number
+            (without_cr line) _ here count c.if-number-lines.false follows,
+      ),
+      takes,
+      part,
+    )
 
 pub returns-clause-unreadable : goal.returns-clause-unreadable
 returns-clause-unreadable g c = λ is. absurd (never_unreadable _ _ _ c.in-Err.stop c.in-Err.ensures.err is)

@@ -1,0 +1,14 @@
+use Rattle.std.proofs.Common.{map}
+use Rattle.std.specs.Bool.{⊤}
+use Rattle.command_words.specs.Asked.{limited_json}
+use Rattle.json_commands.specs.Solved.{SolvesLimitedJson}
+use Rattle.matedesk.proofs.Uncounted.{in_time}
+use Rattle.matedesk.proofs.solving_in_time.SolveJsonInTimeTimedCommand.answer.Goals as goal
+
+pub returns-clause-ok : goal.returns-clause-ok
+returns-clause-ok g c =
+    let asked = c.args.self.now.asked.now in
+    let names = map (λ s. s.now) asked.files.names.now in
+    in_time (g.S.Source.holds c.args.source.now) (limited_json asked.seconds asked.bound asked.memo asked.files.from names)
+    (λ refused n. SolvesLimitedJson (g.S.Source.holds c.args.source.now) ⊤ asked.seconds asked.bound asked.files.from names refused n) _ _ _ (λ refused gains. gains)
+    (λ refused n some gains. (refused, n, some, gains)) c.solve_json_limited.result c.solve_json_limited.ensures.ok

@@ -1,0 +1,14 @@
+use Rattle.std.proofs.Common.{map}
+use Rattle.std.specs.Bool.{⊤}
+use Rattle.command_words.specs.Asked.{verify_limited_json}
+use Rattle.json_commands.specs.Verified.{VerifiesLimitedJson}
+use Rattle.matedesk.proofs.Uncounted.{in_time}
+use Rattle.matedesk.proofs.verifying_in_time.VerifyJsonInTimeTimedCommand.answer.Goals as goal
+
+pub returns-clause-ok : goal.returns-clause-ok
+returns-clause-ok g c =
+    let asked = c.args.self.now.asked.now in
+    let names = map (λ s. s.now) asked.files.names.now in
+    in_time (g.S.Source.holds c.args.source.now) (verify_limited_json asked.seconds asked.bound asked.memo asked.files.from names)
+    (λ refused n. VerifiesLimitedJson (g.S.Source.holds c.args.source.now) ⊤ asked.bound asked.files.from names refused n) _ _ _ (λ refused gains. gains)
+    (λ refused n some gains. (refused, n, some, gains)) c.verify_json_limited.result c.verify_json_limited.ensures.ok

@@ -1,0 +1,153 @@
+//! The command `tree --limit`.
+
+ghost use Rattle.std.specs.Prelude.{◌≡◌, Some, map};
+ghost use Rattle.command_words.specs.Asked.{tree_limited as tree_limited_asked};
+ghost use Rattle.plain_commands.specs.Command.{Ends};
+
+use crate::in_time::{TimedCommand, answer_in_time};
+use crate::tick_limit::TickLimit;
+use byte_streams::{Input, Stop};
+use chess_moves::Rays;
+use command_words::LimitedTree;
+use file_answers::{FileAnswers, FileStart, MISUSED, Source, answer_files, complain};
+use file_solving::new_memo;
+use mate_answers::{Limited, LimitedMemory};
+use mate_search::{Memo, OneThread};
+use mate_tree::LimitedTrees;
+use move_words::Letters;
+use plain_commands::{NO_LETTERS, TREE_ENTRIES, tree_form};
+use std::alloc::Global;
+use std::io::Write;
+use std::sync::Wait;
+use std::thread::Threads;
+use text_lines::{LinesFrom, answer_lines};
+
+/// Tells the trees of the records of files so.
+#[derive(Clone, Copy)]
+struct LimitedAnswers<'a, 'b, 'r> {
+    trees: &'a LimitedTrees<'b, 'r, TickLimit>,
+}
+
+impl FileAnswers for LimitedAnswers<'_, '_, '_> {
+    ghost use Rattle.std.specs.Prelude.{⊤};
+    ghost use Rattle.plain_commands.specs.Told.{limited_tree_replies, limited_tree_told, first_limited_tree_replies};
+
+    type Memory = LimitedMemory<Memo>;
+
+    ghost replies = { λ answers. limited_tree_replies ⊤ answers.trees.now.limited.now.seconds answers.trees.now.form
+        answers.trees.now.limited.now.default };
+
+    ghost told = { λ answers. limited_tree_told ⊤ answers.trees.now.limited.now.seconds answers.trees.now.form
+        answers.trees.now.limited.now.default };
+
+    ghost tally = { λ memory. memory.undecided };
+
+    ghost tells = { λ _ _ _ _ _ _ _ told. told.0 };
+
+    ghost first = { λ answers. first_limited_tree_replies ⊤ answers.trees.now.limited.now.seconds answers.trees.now.form
+        answers.trees.now.limited.now.default };
+
+    fn answer<S: Source, I: Input + Drop, O: Write>(
+        &self,
+        alloc: Global,
+        start: &FileStart<S>,
+        input: I,
+        memory: &mut LimitedMemory<Memo>,
+        out: &mut O,
+    ) -> Result<usize, Stop> {
+        answer_lines(
+            alloc,
+            &LinesFrom {
+                by: self.trees,
+                from: start.from,
+                progress: start.source,
+            },
+            input,
+            memory,
+            out,
+        )
+    }
+
+    #[tactic(auto, using(plain_commands::proofs::Unopened::no_limited_tree_reply))]
+    fn begins_with_nothing(&self) {}
+}
+
+/// `tree --limit`, with letters of men that there are.
+#[derive(Clone, Copy)]
+struct TellInTime<'a, 'm> {
+    asked: &'a LimitedTree<'m, 'm>,
+}
+
+impl TimedCommand for TellInTime<'_, '_> {
+    ghost use Rattle.std.specs.Prelude.{refl};
+    ghost use Rattle.command_words.specs.Asked.{tree_limited as asked_so};
+
+    type Memory = LimitedMemory<Memo>;
+
+    ghost asks = { λ command. asked_so command.asked.now.seconds command.asked.now.bound command.asked.now.form command.asked.now.letters.now
+        command.asked.now.files.from (map (λ s. s.now) command.asked.now.files.names.now) };
+
+    ghost undecided = { λ memory. memory.undecided };
+
+    ghost starts = { λ _. refl };
+
+    fn seconds(&self) -> u32 {
+        self.asked.seconds
+    }
+
+    fn memory(&self, alloc: Global) -> Result<LimitedMemory<Memo>, Stop> {
+        let memory = new_memo(alloc, TREE_ENTRIES)?;
+        Ok(LimitedMemory {
+            memory,
+            undecided: 0,
+        })
+    }
+
+    fn answer<S: Source, O: Write, E: Write>(
+        &self,
+        alloc: Global,
+        limit: &TickLimit,
+        memory: &mut LimitedMemory<Memo>,
+        source: &S,
+        out: &mut O,
+        err: &mut E,
+    ) -> Result<bool, Stop> {
+        let rays = Rays::new();
+        let limited = Limited {
+            rays: &rays,
+            default: self.asked.bound,
+            seconds: self.asked.seconds,
+            limit,
+            solver: OneThread,
+        };
+        let trees = LimitedTrees {
+            limited: &limited,
+            form: tree_form(&self.asked.form, self.asked.letters),
+        };
+        let answers = LimitedAnswers { trees: &trees };
+        answer_files(alloc, &answers, &self.asked.files, source, memory, out, err)
+    }
+
+    fn count(&self, memory: &LimitedMemory<Memo>) -> usize {
+        memory.undecided
+    }
+}
+
+/// Tells the tree of each record of each file as `tree` does, but that a record whose mate isn't found, or known not to be, in its seconds is
+/// answered so. A thread counts them.
+pub fn tell_in_time<
+    R: Threads + Wait + Clone + Drop + Send + 'static,
+    S: Source,
+    O: Write,
+    E: Write,
+>(rt: &R, alloc: Global, asked: &LimitedTree, source: &S, out: &mut O, err: &mut E) -> u8
+    ensures { Ends (S.holds source.now) (S.refuses source.now)
+        (Some (tree_limited_asked asked.now.seconds asked.now.bound asked.now.form asked.now.letters.now asked.now.files.from
+        (map (λ s. s.now) asked.now.files.names.now))) result (O.contents out.old) (O.contents out.new) }
+{
+    if Letters::said(asked.letters).is_none() {
+        complain(err, NO_LETTERS);
+        return MISUSED;
+    }
+    answer_in_time(rt, alloc, &TellInTime { asked }, source, out, err)
+}

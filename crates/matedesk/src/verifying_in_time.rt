@@ -1,0 +1,136 @@
+//! The command `verify --limit`, and the same with `--json`.
+
+ghost use Rattle.std.specs.Prelude.{◌≡◌, map};
+
+use crate::in_time::TimedCommand;
+use crate::solving_in_time::SolverInTime;
+use crate::solving_on::thread_memory;
+use crate::tick_limit::TickLimit;
+use byte_streams::Stop;
+use chess_moves::Rays;
+use command_words::LimitedVerify;
+use file_answers::Source;
+use file_solving::new_memo;
+use file_verifying::verify_limited;
+use json_commands::verify_json_limited;
+use mate_answers::Limited;
+use mate_claims::{Counts, LimitedClaimMemory};
+use mate_search::{Memo, OneThread};
+use parallel_search::ThreadMemory;
+use std::alloc::Global;
+use std::io::Write;
+use std::thread::Threads;
+
+/// `verify --limit`: so many workers solve each record.
+#[derive(Clone, Copy)]
+pub(crate) struct VerifyInTime<'a, 'm, R> {
+    pub(crate) rt: &'a R,
+    pub(crate) asked: &'a LimitedVerify<'m, 'm>,
+}
+
+impl<R: Threads + Sync> TimedCommand for VerifyInTime<'_, '_, R> {
+    ghost use Rattle.std.specs.Prelude.{refl};
+    ghost use Rattle.command_words.specs.Asked.{verify_limited as asked_so};
+
+    type Memory = LimitedClaimMemory<ThreadMemory>;
+
+    ghost asks = { λ command. asked_so command.asked.now.seconds command.asked.now.bound command.asked.now.memo command.asked.now.header
+        command.asked.now.files.from (map (λ s. s.now) command.asked.now.files.names.now) };
+
+    ghost undecided = { λ memory. memory.counts.undecided };
+
+    ghost starts = { λ _. refl };
+
+    fn seconds(&self) -> u32 {
+        self.asked.seconds
+    }
+
+    fn memory(&self, alloc: Global) -> Result<LimitedClaimMemory<ThreadMemory>, Stop> {
+        let memory = thread_memory(alloc, self.asked.workers, self.asked.memo)?;
+        Ok(LimitedClaimMemory {
+            memory,
+            counts: Counts::new(),
+        })
+    }
+
+    fn answer<S: Source, O: Write, E: Write>(
+        &self,
+        alloc: Global,
+        limit: &TickLimit,
+        memory: &mut LimitedClaimMemory<ThreadMemory>,
+        source: &S,
+        out: &mut O,
+        err: &mut E,
+    ) -> Result<bool, Stop> {
+        let rays = Rays::new();
+        let limited = Limited {
+            rays: &rays,
+            default: self.asked.bound,
+            seconds: self.asked.seconds,
+            limit,
+            solver: SolverInTime { rt: self.rt },
+        };
+        let LimitedVerify { header, files, .. } = self.asked;
+        verify_limited(alloc, &limited, *header, files, source, memory, out, err)
+    }
+
+    fn count(&self, memory: &LimitedClaimMemory<ThreadMemory>) -> usize {
+        memory.counts.undecided
+    }
+}
+
+/// `verify --json --limit`.
+#[derive(Clone, Copy)]
+pub(crate) struct VerifyJsonInTime<'a, 'm> {
+    pub(crate) asked: &'a LimitedVerify<'m, 'm>,
+}
+
+impl TimedCommand for VerifyJsonInTime<'_, '_> {
+    ghost use Rattle.std.specs.Prelude.{refl};
+    ghost use Rattle.command_words.specs.Asked.{verify_limited_json as asked_so};
+
+    type Memory = LimitedClaimMemory<Memo>;
+
+    ghost asks = { λ command. asked_so command.asked.now.seconds command.asked.now.bound command.asked.now.memo command.asked.now.files.from
+        (map (λ s. s.now) command.asked.now.files.names.now) };
+
+    ghost undecided = { λ memory. memory.counts.undecided };
+
+    ghost starts = { λ _. refl };
+
+    fn seconds(&self) -> u32 {
+        self.asked.seconds
+    }
+
+    fn memory(&self, alloc: Global) -> Result<LimitedClaimMemory<Memo>, Stop> {
+        let memory = new_memo(alloc, self.asked.memo.get() as usize)?;
+        Ok(LimitedClaimMemory {
+            memory,
+            counts: Counts::new(),
+        })
+    }
+
+    fn answer<S: Source, O: Write, E: Write>(
+        &self,
+        alloc: Global,
+        limit: &TickLimit,
+        memory: &mut LimitedClaimMemory<Memo>,
+        source: &S,
+        out: &mut O,
+        err: &mut E,
+    ) -> Result<bool, Stop> {
+        let rays = Rays::new();
+        let limited = Limited {
+            rays: &rays,
+            default: self.asked.bound,
+            seconds: self.asked.seconds,
+            limit,
+            solver: OneThread,
+        };
+        verify_json_limited(alloc, &limited, &self.asked.files, source, memory, out, err)
+    }
+
+    fn count(&self, memory: &LimitedClaimMemory<Memo>) -> usize {
+        memory.counts.undecided
+    }
+}
