@@ -5,7 +5,7 @@ ghost use Rattle.file_answers.specs.Writing.{Gains};
 ghost use Rattle.import_claims.specs.VerifiedImports.{VerifiesImported};
 
 use byte_streams::Stop;
-use command_words::{Files, MemoSize};
+use command_words::{Files, ImportedAsked, MemoSize};
 use file_answers::Source;
 use import_claims::verify_imported;
 use std::alloc::Global;
@@ -15,13 +15,19 @@ use std::io::Write;
 pub fn headed_rows<S: Source, O: Write, E: Write>(
     alloc: Global,
     size: MemoSize,
-    files: &Files,
+    files: Files,
     source: &S,
     out: &mut O,
     err: &mut E,
 ) -> Result<bool, Stop>
-    ensures { IfOk result (λ unsound. Gains (VerifiesImported (S.holds source.now) None true files.now.from
-        (map (λ s. s.now) files.now.names.now) unsound) (O.contents out.old) (O.contents out.new)) }
+    ensures { IfOk result (λ unsound. Gains (VerifiesImported (S.holds source.now) None true files.entry.from
+        (map (λ s. s.now) files.entry.names.now) unsound) (O.contents out.old) (O.contents out.new)) }
 {
-    verify_imported(alloc, None, size, true, files, source, out, err)
+    let asked = ImportedAsked {
+        bound: None,
+        memo: size,
+        header: true,
+        files,
+    };
+    verify_imported(alloc, &asked, source, out, err)
 }

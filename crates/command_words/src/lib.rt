@@ -20,6 +20,7 @@ pub use help::VERSION;
 pub use hyphens::escaped;
 pub use limits::{Depth, LineNumber, MemoSize, Workers};
 pub use request::{
-    Files, LimitedSolve, LimitedTree, LimitedVerify, LineView, MoveForm, Request, SheetForm,
-    TreeForm, asks_progress, gives_records, has_memo_size, parse, request_of,
+    Files, ImportAsked, ImportedAsked, LineView, MoveForm, Request, ServeAsked, SheetAsked,
+    SheetForm, SolveAsked, TreeAsked, TreeForm, VerifyAsked, asks_progress, gives_records,
+    has_memo_size, parse, request_of,
 };

@@ -75,24 +75,18 @@ pub struct Files<'m, 'a> {
     pub from: LineNumber,
 }
 
-/// What is asked where each record may take so many seconds: how many workers, the bound of records that say none, the size of a memo, and
-/// the files.
+/// What `solve` is asked for: by how many workers, the bound of records that say none, the size of a memo, and the files.
 #[derive(Clone, Copy)]
-pub struct LimitedSolve<'m, 'a> {
-    /// How many seconds, 1 to 86,400.
-    pub seconds: u32,
+pub struct SolveAsked<'m, 'a> {
     pub workers: Workers,
     pub bound: Bound,
     pub memo: MemoSize,
     pub files: Files<'m, 'a>,
 }
 
-/// What is asked where each record that is held against its claims may take so many seconds: how many workers, the bound of records that say
-/// none, the size of a memo, whether a first row names the fields, and the files.
+/// What `verify` is asked for: the same, and whether a first row names the fields.
 #[derive(Clone, Copy)]
-pub struct LimitedVerify<'m, 'a> {
-    /// How many seconds, 1 to 86,400.
-    pub seconds: u32,
+pub struct VerifyAsked<'m, 'a> {
     pub workers: Workers,
     pub bound: Bound,
     pub memo: MemoSize,
@@ -100,16 +94,43 @@ pub struct LimitedVerify<'m, 'a> {
     pub files: Files<'m, 'a>,
 }
 
-/// What is asked where the search for the mate of each record whose tree is told may take so many seconds: the bound of records that say
-/// none, the form of a tree, a word that gives the letters of men, and the files.
+/// What `verify --import` is asked for. Where a bound is given, it is for problems that say none, which are else refused.
 #[derive(Clone, Copy)]
-pub struct LimitedTree<'m, 'a> {
-    /// How many seconds, 1 to 86,400.
-    pub seconds: u32,
+pub struct ImportedAsked<'m, 'a> {
+    pub bound: Option<Bound>,
+    pub memo: MemoSize,
+    pub header: bool,
+    pub files: Files<'m, 'a>,
+}
+
+/// What `tree` is asked for: by how many workers, the bound of records that say none, the form of a tree, a word that gives the letters of
+/// men, and the files.
+#[derive(Clone, Copy)]
+pub struct TreeAsked<'m, 'a> {
+    pub workers: Workers,
     pub bound: Bound,
     pub form: TreeForm,
     pub letters: &'a str,
     pub files: Files<'m, 'a>,
+}
+
+/// What `import` is asked for: whether what was changed is told in the records, the bound of problems that say none, where one is given, a word
+/// that gives the letters of men, and the files.
+#[derive(Clone, Copy)]
+pub struct ImportAsked<'m, 'a> {
+    pub keep: bool,
+    pub bound: Option<Bound>,
+    pub letters: &'a str,
+    pub names: &'m [&'a str],
+}
+
+/// What `serve` is asked for: how many workers, the bound of records that say none, the size of each one's memo, and the files.
+#[derive(Clone, Copy)]
+pub struct ServeAsked<'m, 'a> {
+    pub workers: Workers,
+    pub bound: Bound,
+    pub memo: MemoSize,
+    pub names: &'m [&'a str],
 }
 
 /// What a page has beside its diagrams.
@@ -119,6 +140,18 @@ pub struct SheetForm {
     pub solutions: bool,
     /// Whether pieces are figurines in the solutions, in place of letters.
     pub figurines: bool,
+}
+
+/// What `sheet` is asked for: the bound of records that say none, the size of the memo over which solutions are found, what stands beside the
+/// diagrams, a word that gives the letters of men in solutions, the title, and the files.
+#[derive(Clone, Copy)]
+pub struct SheetAsked<'m, 'a> {
+    pub bound: Bound,
+    pub memo: MemoSize,
+    pub form: SheetForm,
+    pub letters: &'a str,
+    pub title: &'a str,
+    pub names: &'m [&'a str],
 }
 
 /// A command with its arguments.
@@ -142,49 +175,44 @@ pub enum Request<'m, 'a> {
     Divide(&'a str, Depth),
     /// Show this of the position on each line of files, in order.
     Lines(LineView, &'m [&'a str]),
-    /// Answer the records of files, in order, over a memo of such a size; the bound is for records that say none.
-    Solve(Bound, MemoSize, Files<'m, 'a>),
+    /// Answer the records of files, in order, by one worker.
+    Solve(SolveAsked<'m, 'a>),
     /// The same in JSON.
-    SolveJson(Bound, MemoSize, Files<'m, 'a>),
-    /// Answer them, each record by so many workers, each over a memo of such a size.
-    SolveOn(Workers, Bound, MemoSize, Files<'m, 'a>),
+    SolveJson(SolveAsked<'m, 'a>),
+    /// Answer them, each record by several workers.
+    SolveOn(SolveAsked<'m, 'a>),
     /// The same in JSON.
-    SolveJsonOn(Workers, Bound, MemoSize, Files<'m, 'a>),
-    /// Answer them, where each record may take so many seconds.
-    Limited(LimitedSolve<'m, 'a>),
+    SolveJsonOn(SolveAsked<'m, 'a>),
+    /// Answer them, where each record may take so many seconds, 1 to 86,400.
+    Limited(u32, SolveAsked<'m, 'a>),
     /// The same in JSON.
-    LimitedJson(LimitedSolve<'m, 'a>),
-    /// Hold the records of files, in order, against their own claims, over a memo of such a size; the bound is for records that say none.
-    /// Whether a first row names the fields.
-    Verify(Bound, MemoSize, bool, Files<'m, 'a>),
-    /// The same by so many workers, each over a memo of such a size.
-    VerifyOn(Workers, Bound, MemoSize, bool, Files<'m, 'a>),
-    /// As `Verify`, in JSON.
-    VerifyJson(Bound, MemoSize, Files<'m, 'a>),
-    /// As `Verify`, of problems as they are imported; where a bound is given, it is for problems that say none, which are else refused.
-    VerifyImported(Option<Bound>, MemoSize, bool, Files<'m, 'a>),
+    LimitedJson(u32, SolveAsked<'m, 'a>),
+    /// Hold the records of files, in order, against their own claims, by one worker.
+    Verify(VerifyAsked<'m, 'a>),
+    /// The same by several.
+    VerifyOn(VerifyAsked<'m, 'a>),
+    /// As `Verify`, in JSON, which has no first row.
+    VerifyJson(VerifyAsked<'m, 'a>),
+    /// As `Verify`, of problems as they are imported.
+    VerifyImported(ImportedAsked<'m, 'a>),
     /// As `Verify`, where each record may take so many seconds, and so many workers solve it.
-    VerifyLimited(LimitedVerify<'m, 'a>),
-    /// The same in JSON, which has no first row, and one worker.
-    VerifyLimitedJson(LimitedVerify<'m, 'a>),
-    /// Tell the trees of the records of files, in order, in such a form; the bound is for records that say none. A word
-    /// gives the letters of men.
-    Tree(Bound, TreeForm, &'a str, Files<'m, 'a>),
-    /// The same by so many workers.
-    TreeOn(Workers, Bound, TreeForm, &'a str, Files<'m, 'a>),
+    VerifyLimited(u32, VerifyAsked<'m, 'a>),
+    /// The same in JSON, by one worker.
+    VerifyLimitedJson(u32, VerifyAsked<'m, 'a>),
+    /// Tell the trees of the records of files, in order, by one worker.
+    Tree(TreeAsked<'m, 'a>),
+    /// The same by several.
+    TreeOn(TreeAsked<'m, 'a>),
     /// As `Tree`, where the search for the mate of each record may take so many seconds.
-    TreeLimited(LimitedTree<'m, 'a>),
+    TreeLimited(u32, TreeAsked<'m, 'a>),
     /// As `Tree`, in JSON.
-    TreeJson(Bound, TreeForm, &'a str, Files<'m, 'a>),
-    /// Make a page of the records of files, in order, in such a form, and with such a title, the second word. Solutions are found over a memo
-    /// of such a size, and the first word gives the letters of men in them; the bound is for records that say none.
-    Sheet(Bound, MemoSize, SheetForm, &'a str, &'a str, &'m [&'a str]),
-    /// Make records of the problems of files, in order; whether what was changed is told in them. Where a bound is given, it is for problems
-    /// that say none, which are else refused. A word gives the letters of men.
-    Import(bool, Option<Bound>, &'a str, &'m [&'a str]),
-    /// Answer the records of files by so many workers, each over a memo of such a size, all files at once; the bound is for records
-    /// that say none.
-    Serve(Workers, Bound, MemoSize, &'m [&'a str]),
+    TreeJson(TreeAsked<'m, 'a>),
+    /// Make a page of the records of files, in order.
+    Sheet(SheetAsked<'m, 'a>),
+    /// Make records of the problems of files, in order.
+    Import(ImportAsked<'m, 'a>),
+    /// Answer the records of files by so many workers, all files at once.
+    Serve(ServeAsked<'m, 'a>),
     /// Run the script of a file at a desk.
     Replay(&'a str),
     /// Explain the faults that these words name, or list them all where none are given.
@@ -458,7 +486,7 @@ fn perft_lines_in<'m, 'a>(matches: &'m ArgMatches<'a>) -> Option<Request<'m, 'a>
     lines_in(matches, LineView::Perft(depth))
 }
 
-/// What `solve` is asked for.
+/// What `solve` is asked for, with so many seconds for each record, where they are given.
 fn solve_with<'m, 'a>(
     limit: Option<u32>,
     workers: Workers,
@@ -470,19 +498,19 @@ fn solve_with<'m, 'a>(
     ensures { plan_of result ≡ solve_at limit workers bound memo from (map (λ s. s.now) names.entry.now) }
 {
     let files = Files { names, from };
+    let asked = SolveAsked {
+        workers,
+        bound,
+        memo,
+        files,
+    };
     if let Some(seconds) = limit {
-        return Request::Limited(LimitedSolve {
-            seconds,
-            workers,
-            bound,
-            memo,
-            files,
-        });
+        return Request::Limited(seconds, asked);
     }
     if workers.get() == 1 {
-        Request::Solve(bound, memo, files)
+        Request::Solve(asked)
     } else {
-        Request::SolveOn(workers, bound, memo, files)
+        Request::SolveOn(asked)
     }
 }
 
@@ -498,19 +526,19 @@ fn solve_json_with<'m, 'a>(
     ensures { plan_of result ≡ solve_json_at limit workers bound memo from (map (λ s. s.now) names.entry.now) }
 {
     let files = Files { names, from };
+    let asked = SolveAsked {
+        workers,
+        bound,
+        memo,
+        files,
+    };
     if let Some(seconds) = limit {
-        return Request::LimitedJson(LimitedSolve {
-            seconds,
-            workers,
-            bound,
-            memo,
-            files,
-        });
+        return Request::LimitedJson(seconds, asked);
     }
     if workers.get() == 1 {
-        Request::SolveJson(bound, memo, files)
+        Request::SolveJson(asked)
     } else {
-        Request::SolveJsonOn(workers, bound, memo, files)
+        Request::SolveJsonOn(asked)
     }
 }
 
@@ -567,20 +595,20 @@ fn verify_rows_with<'m, 'a>(
     let bound = bound_or_default(matches);
     let header = is_given(matches, "header");
     let files = Files { names, from };
+    let asked = VerifyAsked {
+        workers,
+        bound,
+        memo,
+        header,
+        files,
+    };
     if let Some(seconds) = limit {
-        return Request::VerifyLimited(LimitedVerify {
-            seconds,
-            workers,
-            bound,
-            memo,
-            header,
-            files,
-        });
+        return Request::VerifyLimited(seconds, asked);
     }
     if workers.get() == 1 {
-        Request::Verify(bound, memo, header, files)
+        Request::Verify(asked)
     } else {
-        Request::VerifyOn(workers, bound, memo, header, files)
+        Request::VerifyOn(asked)
     }
 }
 
@@ -596,16 +624,16 @@ fn verify_json_with<'m, 'a>(
     ensures { plan_of result ≡ verify_json_at limit bound memo from (map (λ s. s.now) names.entry.now) }
 {
     let files = Files { names, from };
+    let asked = VerifyAsked {
+        workers: worker,
+        bound,
+        memo,
+        header: false,
+        files,
+    };
     match limit {
-        Some(seconds) => Request::VerifyLimitedJson(LimitedVerify {
-            seconds,
-            workers: worker,
-            bound,
-            memo,
-            header: false,
-            files,
-        }),
-        None => Request::VerifyJson(bound, memo, files),
+        Some(seconds) => Request::VerifyLimitedJson(seconds, asked),
+        None => Request::VerifyJson(asked),
     }
 }
 
@@ -637,9 +665,12 @@ fn verify_with<'m, 'a>(
     if limit.is_some() || !alone {
         return None;
     }
-    let bound = bound_in(matches);
-    let files = Files { names, from };
-    Some(Request::VerifyImported(bound, memo, is_given(matches, "header"), files))
+    Some(Request::VerifyImported(ImportedAsked {
+        bound: bound_in(matches),
+        memo,
+        header: is_given(matches, "header"),
+        files: Files { names, from },
+    }))
 }
 
 /// What the arguments of `verify` ask for.
@@ -703,18 +734,18 @@ fn tree_in<'m, 'a>(matches: &'m ArgMatches<'a>) -> Option<Request<'m, 'a>>
     let letters = text_in(matches, "L")?;
     let names = names_in(matches, "FILE")?;
     let limit = limit_in(matches);
-    let files = Files { names, from };
+    let asked = TreeAsked {
+        workers,
+        bound,
+        form,
+        letters,
+        files: Files { names, from },
+    };
     match (is_given(matches, "json"), limit, workers.get() == 1) {
-        (false, None, true) => Some(Request::Tree(bound, form, letters, files)),
-        (false, None, false) => Some(Request::TreeOn(workers, bound, form, letters, files)),
-        (false, Some(seconds), true) => Some(Request::TreeLimited(LimitedTree {
-            seconds,
-            bound,
-            form,
-            letters,
-            files,
-        })),
-        (true, None, true) => Some(Request::TreeJson(bound, form, letters, files)),
+        (false, None, true) => Some(Request::Tree(asked)),
+        (false, None, false) => Some(Request::TreeOn(asked)),
+        (false, Some(seconds), true) => Some(Request::TreeLimited(seconds, asked)),
+        (true, None, true) => Some(Request::TreeJson(asked)),
         _ => None,
     }
 }
@@ -741,7 +772,14 @@ fn sheet_in<'m, 'a>(matches: &'m ArgMatches<'a>) -> Option<Request<'m, 'a>>
     let letters = text_in(matches, "L")?;
     let title = text_in(matches, "T")?;
     let names = names_in(matches, "FILE")?;
-    Some(Request::Sheet(bound, memo, form, letters, title, names))
+    Some(Request::Sheet(SheetAsked {
+        bound,
+        memo,
+        form,
+        letters,
+        title,
+        names,
+    }))
 }
 
 /// What the arguments of `import` ask for.
@@ -753,7 +791,12 @@ fn import_in<'m, 'a>(matches: &'m ArgMatches<'a>) -> Option<Request<'m, 'a>>
     let bound = bound_in(matches);
     let letters = text_in(matches, "L")?;
     let names = names_in(matches, "FILE")?;
-    Some(Request::Import(keep, bound, letters, names))
+    Some(Request::Import(ImportAsked {
+        keep,
+        bound,
+        letters,
+        names,
+    }))
 }
 
 /// What the arguments of `serve` ask for.
@@ -765,7 +808,12 @@ fn serve_in<'m, 'a>(matches: &'m ArgMatches<'a>) -> Option<Request<'m, 'a>>
     let bound = bound_in(matches)?;
     let memo = memo_size_in(matches, workers.get(), DEFAULT_MEMOS)?;
     let names = names_in(matches, "FILE")?;
-    Some(Request::Serve(workers, bound, memo, names))
+    Some(Request::Serve(ServeAsked {
+        workers,
+        bound,
+        memo,
+        names,
+    }))
 }
 
 /// What the arguments of a command ask for, by its name: of a command over lines of positions.

@@ -8,8 +8,7 @@ ghost use Rattle.mate_search.specs.Memos.{max_large_entries};
 use crate::lengths::Lengthwise;
 use byte_streams::{Input, Stop};
 use chess_moves::Rays;
-use chess_problems::Bound;
-use command_words::{Files, MemoSize};
+use command_words::{Files, SolveAsked};
 use file_answers::{FileAnswers, FileStart, Source, answer_files};
 use mate_answers::Answers;
 use mate_search::{Memo, MemoFault, Never, OneThread, Solver};
@@ -81,38 +80,36 @@ impl<V: Solver<Never>> FileAnswers for RecordAnswers<'_, '_, V> {
 /// file only after the answers to those before were written; gives whether a line was refused. A file that can't be read is named on `err`.
 pub fn solve<S: Source, O: Write, E: Write>(
     alloc: Global,
-    bound: Bound,
-    size: MemoSize,
-    files: &Files,
+    asked: &SolveAsked,
     source: &S,
     out: &mut O,
     err: &mut E,
 ) -> Result<bool, Stop>
-    ensures ok { IfOk result (λ refused. Gains (Solves (S.holds source.now) bound files.now.from
-        (map (λ s. s.now) files.now.names.now) refused) (O.contents out.old) (O.contents out.new)) }
-    ensures err { IfErr result (λ stop. StopsSolving (S.holds source.now) (S.refuses source.now) bound files.now.from
-        (map (λ s. s.now) files.now.names.now) stop (O.contents out.old) (O.contents out.new)) }
+    ensures ok { IfOk result (λ refused. Gains (Solves (S.holds source.now) asked.now.bound asked.now.files.from
+        (map (λ s. s.now) asked.now.files.names.now) refused) (O.contents out.old) (O.contents out.new)) }
+    ensures err { IfErr result (λ stop. StopsSolving (S.holds source.now) (S.refuses source.now) asked.now.bound asked.now.files.from
+        (map (λ s. s.now) asked.now.files.names.now) stop (O.contents out.old) (O.contents out.new)) }
 {
     let rays = Rays::new();
-    let mut memo = new_memo(alloc, size.get() as usize)?;
+    let mut memo = new_memo(alloc, asked.memo.get() as usize)?;
     // Asked once, not for each record: through `Lengthwise` an outcome of 4.2 KB is copied once more.
     if source.follows_lengths() {
         let answers = Answers {
             rays: &rays,
-            default: bound,
+            default: asked.bound,
             solver: Lengthwise {
                 solver: OneThread,
                 progress: source,
             },
         };
-        return solve_by(alloc, &answers, files, source, &mut memo, out, err);
+        return solve_by(alloc, &answers, &asked.files, source, &mut memo, out, err);
     }
     let answers = Answers {
         rays: &rays,
-        default: bound,
+        default: asked.bound,
         solver: OneThread,
     };
-    solve_by(alloc, &answers, files, source, &mut memo, out, err)
+    solve_by(alloc, &answers, &asked.files, source, &mut memo, out, err)
 }
 
 /// The same, by who solves the records, over a memory of its own.

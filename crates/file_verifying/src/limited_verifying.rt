@@ -7,9 +7,7 @@ ghost use Rattle.file_verifying.specs.Verified.{LimitedHeaded, StopsLimitedHeade
 use crate::headings::{prefix_of, put_header};
 use byte_streams::{Input, Stop};
 use command_words::Files;
-use file_answers::{
-    FileAnswers, FileStart, Source, answer_files, complain, holds_reads,
-};
+use file_answers::{FileAnswers, FileStart, Source, answer_files, complain, holds_reads};
 use mate_answers::{Limited, TimeLimit};
 use mate_claims::{LimitedClaimMemory, LimitedClaims};
 use mate_search::Solver;
@@ -56,7 +54,17 @@ impl<T: TimeLimit, V: Solver<T>> FileAnswers for LimitedAnswers<'_, '_, T, V> {
             prefix: prefix.as_slice(),
         };
         let before = memory.counts.not_sound();
-        let unsound = answer_lines(alloc, &LinesFrom { by: &claims, from: start.from, progress: start.source }, input, memory, out)?;
+        let unsound = answer_lines(
+            alloc,
+            &LinesFrom {
+                by: &claims,
+                from: start.from,
+                progress: start.source,
+            },
+            input,
+            memory,
+            out,
+        )?;
         memory.counts = memory.counts.with_unread(before, unsound);
         Ok(unsound)
     }

@@ -13,10 +13,8 @@ use crate::headings::{prefix_of, put_header};
 use byte_streams::{Input, Stop};
 use chess_moves::Rays;
 use chess_problems::Bound;
-use command_words::{Files, MemoSize};
-use file_answers::{
-    FileAnswers, FileStart, Source, answer_files, complain, holds_reads,
-};
+use command_words::{Files, VerifyAsked};
+use file_answers::{FileAnswers, FileStart, Source, answer_files, complain, holds_reads};
 use file_solving::new_memo;
 use mate_claims::{ClaimMemory, ClaimRows, Counts};
 use std::alloc::Global;
@@ -81,7 +79,17 @@ impl Verifier for OneVerifier<'_> {
             prefix,
         };
         let before = memory.counts.not_sound();
-        let unsound = answer_lines(alloc, &LinesFrom { by: &rows, from: start.from, progress: start.source }, input, memory, out)?;
+        let unsound = answer_lines(
+            alloc,
+            &LinesFrom {
+                by: &rows,
+                from: start.from,
+                progress: start.source,
+            },
+            input,
+            memory,
+            out,
+        )?;
         memory.count_unread(before, unsound);
         Ok(unsound)
     }
@@ -186,30 +194,30 @@ pub fn verify_by<V: Verifier, S: Source, O: Write, E: Write>(
 /// The same by the calling thread, over one memo of such a size.
 pub fn verify<S: Source, O: Write, E: Write>(
     alloc: Global,
-    bound: Bound,
-    size: MemoSize,
-    header: bool,
-    files: &Files,
+    asked: &VerifyAsked,
     source: &S,
     out: &mut O,
     err: &mut E,
 ) -> Result<bool, Stop>
-    ensures ok { IfOk result (λ refused. Gains (VerifiesHeaded (S.holds source.now) bound header files.now.from
-        (map (λ s. s.now) files.now.names.now) refused) (O.contents out.old) (O.contents out.new)) }
-    ensures err { IfErr result (λ stop. StopsHeaded (S.holds source.now) (S.refuses source.now) bound header files.now.from
-        (map (λ s. s.now) files.now.names.now) stop (O.contents out.old) (O.contents out.new)) }
+    ensures ok { IfOk result (λ refused. Gains (VerifiesHeaded (S.holds source.now) asked.now.bound asked.now.header asked.now.files.from
+        (map (λ s. s.now) asked.now.files.names.now) refused) (O.contents out.old) (O.contents out.new)) }
+    ensures err { IfErr result (λ stop. StopsHeaded (S.holds source.now) (S.refuses source.now) asked.now.bound asked.now.header asked.now.files.from
+        (map (λ s. s.now) asked.now.files.names.now) stop (O.contents out.old) (O.contents out.new)) }
 {
     let rays = Rays::new();
     let mut memory = ClaimMemory {
-        memo: new_memo(alloc, size.get() as usize)?,
+        memo: new_memo(alloc, asked.memo.get() as usize)?,
         counts: Counts::new(),
     };
-    let verifier = OneVerifier { rays: &rays, bound };
+    let verifier = OneVerifier {
+        rays: &rays,
+        bound: asked.bound,
+    };
     verify_by(
         alloc,
         &verifier,
-        header,
-        files,
+        asked.header,
+        &asked.files,
         source,
         &mut memory,
         out,

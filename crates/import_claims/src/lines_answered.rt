@@ -45,7 +45,17 @@ pub(crate) fn answer_problems_from<H: ProblemHandler, S: Source, I: Input + Drop
     ensures unreadable { IfErr result (λ stop. stop ≡ Stop.Unreadable → I.breaks input) }
 {
     memory.begin();
-    match answer_lines(alloc, &LinesFrom { by: lines, from: start.from, progress: start.source }, input, memory, out) {
+    match answer_lines(
+        alloc,
+        &LinesFrom {
+            by: lines,
+            from: start.from,
+            progress: start.source,
+        },
+        input,
+        memory,
+        out,
+    ) {
         Ok(count) => lines.put_last(alloc, count, memory, out),
         Err(stop) => Err(stop),
     }

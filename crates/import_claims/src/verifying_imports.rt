@@ -12,7 +12,7 @@ use crate::lines_answered::answer_problems_from;
 use byte_streams::{Input, Stop, put};
 use chess_moves::Rays;
 use chess_problems::Bound;
-use command_words::{Files, MemoSize};
+use command_words::ImportedAsked;
 use file_answers::{FileAnswers, FileStart, Source, answer_files, complain, holds_reads};
 use file_solving::new_memo;
 use mate_claims::{ClaimMemory, ClaimRows, Counts};
@@ -97,22 +97,20 @@ fn bound_or_three(bound: Option<Bound>) -> Bound
 /// Writes the row of each problem of each file, in order, but of those of the first file that are passed over.
 fn show_rows<S: Source, O: Write, E: Write>(
     alloc: Global,
-    bound: Option<Bound>,
-    size: MemoSize,
-    files: &Files,
+    asked: &ImportedAsked,
     source: &S,
     out: &mut O,
     err: &mut E,
 ) -> Result<bool, Stop>
-    ensures ok { IfOk result (λ refused. Gains (ShowsRows (S.holds source.now) bound files.now.from
-        (map (λ s. s.now) files.now.names.now) refused) (O.contents out.old) (O.contents out.new)) }
-    ensures err { IfErr result (λ stop. StopsRows (S.holds source.now) (S.refuses source.now) bound files.now.from
-        (map (λ s. s.now) files.now.names.now) stop (O.contents out.old) (O.contents out.new)) }
+    ensures ok { IfOk result (λ refused. Gains (ShowsRows (S.holds source.now) asked.now.bound asked.now.files.from
+        (map (λ s. s.now) asked.now.files.names.now) refused) (O.contents out.old) (O.contents out.new)) }
+    ensures err { IfErr result (λ stop. StopsRows (S.holds source.now) (S.refuses source.now) asked.now.bound asked.now.files.from
+        (map (λ s. s.now) asked.now.files.names.now) stop (O.contents out.old) (O.contents out.new)) }
 {
     // How many inputs there are of so many names.
     holds_reads();
     let rays = Rays::new();
-    let memo = new_memo(alloc, size.get() as usize)?;
+    let memo = new_memo(alloc, asked.memo.get() as usize)?;
     let claims = ClaimMemory {
         memo,
         counts: Counts::new(),
@@ -120,10 +118,10 @@ fn show_rows<S: Source, O: Write, E: Write>(
     let mut memory = ProblemMemory::new(claims);
     let answers = ImportedAnswers {
         rays: &rays,
-        bound,
-        several: files.names.len() > 1,
+        bound: asked.bound,
+        several: asked.files.names.len() > 1,
     };
-    match answer_files(alloc, &answers, files, source, &mut memory, out, err) {
+    match answer_files(alloc, &answers, &asked.files, source, &mut memory, out, err) {
         Ok(unsound) => {
             let counts = memory.memory.counts.text(alloc)?;
             complain(err, counts.as_str());
@@ -153,19 +151,16 @@ fn put_header<O: Write>(out: &mut O, header: bool) -> Result<(), Stop>
 /// is asked for three. At the end `err` is told how many came to which verdict; a file that can't be read is named there.
 pub fn verify_imported<S: Source, O: Write, E: Write>(
     alloc: Global,
-    bound: Option<Bound>,
-    size: MemoSize,
-    header: bool,
-    files: &Files,
+    asked: &ImportedAsked,
     source: &S,
     out: &mut O,
     err: &mut E,
 ) -> Result<bool, Stop>
-    ensures ok { IfOk result (λ refused. Gains (VerifiesImported (S.holds source.now) bound header files.now.from
-        (map (λ s. s.now) files.now.names.now) refused) (O.contents out.old) (O.contents out.new)) }
-    ensures err { IfErr result (λ stop. StopsVerifyingImported (S.holds source.now) (S.refuses source.now) bound header files.now.from
-        (map (λ s. s.now) files.now.names.now) stop (O.contents out.old) (O.contents out.new)) }
+    ensures ok { IfOk result (λ refused. Gains (VerifiesImported (S.holds source.now) asked.now.bound asked.now.header asked.now.files.from
+        (map (λ s. s.now) asked.now.files.names.now) refused) (O.contents out.old) (O.contents out.new)) }
+    ensures err { IfErr result (λ stop. StopsVerifyingImported (S.holds source.now) (S.refuses source.now) asked.now.bound asked.now.header asked.now.files.from
+        (map (λ s. s.now) asked.now.files.names.now) stop (O.contents out.old) (O.contents out.new)) }
 {
-    put_header(out, header)?;
-    show_rows(alloc, bound, size, files, source, out, err)
+    put_header(out, asked.header)?;
+    show_rows(alloc, asked, source, out, err)
 }

@@ -53,7 +53,17 @@ impl<H: LineHandler> FileAnswers for JsonFiles<'_, H> {
             form: self.form,
             front: front.as_slice(),
         };
-        answer_lines(alloc, &LinesFrom { by: &json, from: start.from, progress: start.source }, input, memory, out)
+        answer_lines(
+            alloc,
+            &LinesFrom {
+                by: &json,
+                from: start.from,
+                progress: start.source,
+            },
+            input,
+            memory,
+            out,
+        )
     }
 
     #[tactic(auto, using(crate::proofs::Unopened::no_file_reply))]

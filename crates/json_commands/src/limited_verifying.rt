@@ -7,9 +7,7 @@ ghost use Rattle.json_commands.specs.Verified.{StopsVerifyingLimitedJson, Verifi
 use crate::json_files::has_several;
 use byte_streams::{Input, Stop};
 use command_words::Files;
-use file_answers::{
-    FileAnswers, FileStart, Source, answer_files, complain, holds_reads,
-};
+use file_answers::{FileAnswers, FileStart, Source, answer_files, complain, holds_reads};
 use json_replies::{Form, JsonReplies, front_of};
 use mate_answers::{Limited, TimeLimit};
 use mate_claims::{LimitedClaimMemory, LimitedClaims};
@@ -69,7 +67,17 @@ impl<T: TimeLimit, V: Solver<T>> FileAnswers for LimitedJsonClaims<'_, '_, T, V>
             front: front.as_slice(),
         };
         let before = memory.counts.not_sound();
-        let unsound = answer_lines(alloc, &LinesFrom { by: &json, from: start.from, progress: start.source }, input, memory, out)?;
+        let unsound = answer_lines(
+            alloc,
+            &LinesFrom {
+                by: &json,
+                from: start.from,
+                progress: start.source,
+            },
+            input,
+            memory,
+            out,
+        )?;
         memory.counts = memory.counts.with_unread(before, unsound);
         Ok(unsound)
     }

@@ -7,8 +7,7 @@ ghost use Rattle.json_commands.specs.Solved.{SolvesJson, SolvesLimitedJson, Stop
 use crate::json_files::answer_json;
 use byte_streams::Stop;
 use chess_moves::Rays;
-use chess_problems::Bound;
-use command_words::{Files, MemoSize};
+use command_words::{Files, SolveAsked};
 use file_answers::Source;
 use file_solving::{Lengthwise, new_memo};
 use json_replies::Form;
@@ -21,37 +20,35 @@ use std::io::Write;
 /// file that can't be read on `err`.
 pub fn solve_json<S: Source, O: Write, E: Write>(
     alloc: Global,
-    bound: Bound,
-    size: MemoSize,
-    files: &Files,
+    asked: &SolveAsked,
     source: &S,
     out: &mut O,
     err: &mut E,
 ) -> Result<bool, Stop>
-    ensures ok { IfOk result (λ refused. Gains (SolvesJson (S.holds source.now) bound files.now.from
-        (map (λ s. s.now) files.now.names.now) refused) (O.contents out.old) (O.contents out.new)) }
-    ensures err { IfErr result (λ stop. StopsSolvingJson (S.holds source.now) (S.refuses source.now) bound files.now.from
-        (map (λ s. s.now) files.now.names.now) stop (O.contents out.old) (O.contents out.new)) }
+    ensures ok { IfOk result (λ refused. Gains (SolvesJson (S.holds source.now) asked.now.bound asked.now.files.from
+        (map (λ s. s.now) asked.now.files.names.now) refused) (O.contents out.old) (O.contents out.new)) }
+    ensures err { IfErr result (λ stop. StopsSolvingJson (S.holds source.now) (S.refuses source.now) asked.now.bound asked.now.files.from
+        (map (λ s. s.now) asked.now.files.names.now) stop (O.contents out.old) (O.contents out.new)) }
 {
     let rays = Rays::new();
-    let mut memo = new_memo(alloc, size.get() as usize)?;
+    let mut memo = new_memo(alloc, asked.memo.get() as usize)?;
     if source.follows_lengths() {
         let answers = Answers {
             rays: &rays,
-            default: bound,
+            default: asked.bound,
             solver: Lengthwise {
                 solver: OneThread,
                 progress: source,
             },
         };
-        return solve_json_by(alloc, &answers, files, source, &mut memo, out, err);
+        return solve_json_by(alloc, &answers, &asked.files, source, &mut memo, out, err);
     }
     let answers = Answers {
         rays: &rays,
-        default: bound,
+        default: asked.bound,
         solver: OneThread,
     };
-    solve_json_by(alloc, &answers, files, source, &mut memo, out, err)
+    solve_json_by(alloc, &answers, &asked.files, source, &mut memo, out, err)
 }
 
 /// The same, by who solves the records, over a memory of its own.

@@ -8,10 +8,8 @@ use crate::json_files::has_several;
 use byte_streams::{Input, Stop};
 use chess_moves::Rays;
 use chess_problems::Bound;
-use command_words::{Files, MemoSize};
-use file_answers::{
-    FileAnswers, FileStart, Source, answer_files, complain, holds_reads,
-};
+use command_words::VerifyAsked;
+use file_answers::{FileAnswers, FileStart, Source, answer_files, complain, holds_reads};
 use file_solving::new_memo;
 use json_replies::{Form, JsonReplies, front_of};
 use mate_claims::{ClaimMemory, ClaimRows, Counts};
@@ -65,7 +63,17 @@ impl FileAnswers for JsonClaims<'_> {
             front: front.as_slice(),
         };
         let before = memory.counts.not_sound();
-        let unsound = answer_lines(alloc, &LinesFrom { by: &json, from: start.from, progress: start.source }, input, memory, out)?;
+        let unsound = answer_lines(
+            alloc,
+            &LinesFrom {
+                by: &json,
+                from: start.from,
+                progress: start.source,
+            },
+            input,
+            memory,
+            out,
+        )?;
         memory.count_unread(before, unsound);
         Ok(unsound)
     }
@@ -78,32 +86,30 @@ impl FileAnswers for JsonClaims<'_> {
 /// At the end `err` is told how many lines came to which verdict; a file that can't be read is named there.
 pub fn verify_json<S: Source, O: Write, E: Write>(
     alloc: Global,
-    bound: Bound,
-    size: MemoSize,
-    files: &Files,
+    asked: &VerifyAsked,
     source: &S,
     out: &mut O,
     err: &mut E,
 ) -> Result<bool, Stop>
-    ensures ok { IfOk result (λ refused. Gains (VerifiesJson (S.holds source.now) bound files.now.from
-        (map (λ s. s.now) files.now.names.now) refused) (O.contents out.old) (O.contents out.new)) }
-    ensures err { IfErr result (λ stop. StopsVerifyingJson (S.holds source.now) (S.refuses source.now) bound files.now.from
-        (map (λ s. s.now) files.now.names.now) stop (O.contents out.old) (O.contents out.new)) }
+    ensures ok { IfOk result (λ refused. Gains (VerifiesJson (S.holds source.now) asked.now.bound asked.now.files.from
+        (map (λ s. s.now) asked.now.files.names.now) refused) (O.contents out.old) (O.contents out.new)) }
+    ensures err { IfErr result (λ stop. StopsVerifyingJson (S.holds source.now) (S.refuses source.now) asked.now.bound asked.now.files.from
+        (map (λ s. s.now) asked.now.files.names.now) stop (O.contents out.old) (O.contents out.new)) }
 {
     // How many inputs there are of so many names.
     holds_reads();
     let rays = Rays::new();
-    let memo = new_memo(alloc, size.get() as usize)?;
+    let memo = new_memo(alloc, asked.memo.get() as usize)?;
     let mut memory = ClaimMemory {
         memo,
         counts: Counts::new(),
     };
     let claims = JsonClaims {
         rays: &rays,
-        bound,
-        several: has_several(files.names),
+        bound: asked.bound,
+        several: has_several(asked.files.names),
     };
-    match answer_files(alloc, &claims, files, source, &mut memory, out, err) {
+    match answer_files(alloc, &claims, &asked.files, source, &mut memory, out, err) {
         Ok(unsound) => {
             let counts = memory.counts.text(alloc)?;
             complain(err, counts.as_str());

@@ -62,33 +62,57 @@ where
     given.are_texts = gives_records(&matches);
     let request = request_of(&matches);
     match &request {
-        Some(Request::Serve(workers, bound, memo, names)) => serve(
-            rt, alloc, *workers, *bound, *memo, names, &given, out, err,
-        ),
-        Some(Request::SolveOn(workers, bound, memo, files)) => solve_on(
-            rt, alloc, *workers, *bound, *memo, files, &given, out, err,
-        ),
-        Some(Request::SolveJsonOn(workers, bound, memo, files)) => solve_json_on(
-            rt, alloc, *workers, *bound, *memo, files, &given, out, err,
-        ),
-        Some(Request::VerifyOn(workers, bound, memo, header, files)) => verify_on(
-            rt, alloc, *workers, *bound, *memo, *header, files, &given, out, err,
-        ),
-        Some(Request::TreeOn(workers, bound, form, letters, files)) => tree_on(
-            rt, alloc, *workers, *bound, *form, letters, files, &given, out, err,
-        ),
-        Some(Request::TreeLimited(asked)) => tell_in_time(rt, alloc, asked, &given, out, err),
-        Some(Request::Limited(asked)) => {
-            answer_in_time(rt, alloc, &SolveInTime { rt, asked }, &given, out, err)
+        Some(Request::Serve(asked)) => serve(rt, alloc, asked, &given, out, err),
+        Some(Request::SolveOn(asked)) => solve_on(rt, alloc, asked, &given, out, err),
+        Some(Request::SolveJsonOn(asked)) => solve_json_on(rt, alloc, asked, &given, out, err),
+        Some(Request::VerifyOn(asked)) => verify_on(rt, alloc, asked, &given, out, err),
+        Some(Request::TreeOn(asked)) => tree_on(rt, alloc, asked, &given, out, err),
+        Some(Request::Limited(seconds, asked)) => {
+            let seconds = *seconds;
+            answer_in_time(
+                rt,
+                alloc,
+                &SolveInTime { rt, seconds, asked },
+                &given,
+                out,
+                err,
+            )
         }
-        Some(Request::LimitedJson(asked)) => {
-            answer_in_time(rt, alloc, &SolveJsonInTime { rt, asked }, &given, out, err)
+        Some(Request::LimitedJson(seconds, asked)) => {
+            let seconds = *seconds;
+            answer_in_time(
+                rt,
+                alloc,
+                &SolveJsonInTime { rt, seconds, asked },
+                &given,
+                out,
+                err,
+            )
         }
-        Some(Request::VerifyLimited(asked)) => {
-            answer_in_time(rt, alloc, &VerifyInTime { rt, asked }, &given, out, err)
+        Some(Request::VerifyLimited(seconds, asked)) => {
+            let seconds = *seconds;
+            answer_in_time(
+                rt,
+                alloc,
+                &VerifyInTime { rt, seconds, asked },
+                &given,
+                out,
+                err,
+            )
         }
-        Some(Request::VerifyLimitedJson(asked)) => {
-            answer_in_time(rt, alloc, &VerifyJsonInTime { asked }, &given, out, err)
+        Some(Request::VerifyLimitedJson(seconds, asked)) => {
+            let seconds = *seconds;
+            answer_in_time(
+                rt,
+                alloc,
+                &VerifyJsonInTime { seconds, asked },
+                &given,
+                out,
+                err,
+            )
+        }
+        Some(Request::TreeLimited(seconds, asked)) => {
+            tell_in_time(rt, alloc, *seconds, asked, &given, out, err)
         }
         Some(Request::Uci) => talk(rt, alloc, &given, out, err),
         _ => unreachable!(),

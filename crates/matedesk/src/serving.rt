@@ -6,8 +6,7 @@ ghost use Rattle.plain_commands.specs.Command.{Ends};
 
 use byte_streams::{Input, Stop};
 use chess_moves::Rays;
-use chess_problems::Bound;
-use command_words::{MemoSize, Workers as WorkerCount};
+use command_words::ServeAsked;
 use file_answers::{
     FileAnswers, FileStart, MISUSED, NO_THREAD, Source, answer_opened, complain, no_memory,
     open_files, status_of,
@@ -88,33 +87,23 @@ pub fn serve<
     S: Source,
     O: Write,
     E: Write,
->(
-    rt: &R,
-    alloc: Global,
-    workers: WorkerCount,
-    bound: Bound,
-    memo: MemoSize,
-    names: &[&str],
-    source: &S,
-    out: &mut O,
-    err: &mut E,
-) -> u8
+>(rt: &R, alloc: Global, asked: &ServeAsked, source: &S, out: &mut O, err: &mut E) -> u8
     ensures { Ends (S.holds source.now) (S.refuses source.now)
-        (Some (serve_asked workers bound memo (map (λ s. s.now) names.now))) result (O.contents out.old) (O.contents out.new) }
+        (Some (serve_asked asked.now.workers asked.now.bound asked.now.memo (map (λ s. s.now) asked.now.names.now))) result (O.contents out.old) (O.contents out.new) }
 {
     // How it ends with the status of what was written, and with nothing written.
     ends_by_status(source);
     solves_none();
-    let files = match open_files(alloc, names, source, err) {
+    let files = match open_files(alloc, asked.names, source, err) {
         Ok(files) => files,
         Err(stop) => return status_of(Err(stop), err),
     };
-    if names.is_empty() || names.len() > MOST_FILES {
+    if asked.names.is_empty() || asked.names.len() > MOST_FILES {
         complain(err, "BadWindows");
         return MISUSED;
     }
-    let count = workers.get() as usize;
-    let mut workers = match start_solving(rt, alloc, count, memo.get() as usize) {
+    let count = asked.workers.get() as usize;
+    let mut workers = match start_solving(rt, alloc, count, asked.memo.get() as usize) {
         Ok(workers) => workers,
         Err(fault) => return unserved(fault, err),
     };
@@ -122,12 +111,14 @@ pub fn serve<
     let records = ServedRecords {
         rt,
         rays: &rays,
-        task: &SolveTask { default: bound },
+        task: &SolveTask {
+            default: asked.bound,
+        },
     };
     let ended = answer_opened(
         alloc,
         &records,
-        names,
+        asked.names,
         files,
         source,
         &mut workers,

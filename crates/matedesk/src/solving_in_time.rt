@@ -8,7 +8,7 @@ use crate::tick_limit::TickLimit;
 use byte_streams::Stop;
 use chess_moves::Rays;
 use chess_problems::{Outcome, Problem};
-use command_words::LimitedSolve;
+use command_words::SolveAsked;
 use file_answers::Source;
 use file_solving::{ToldLength, solve_limited};
 use json_commands::solve_json_limited;
@@ -45,7 +45,7 @@ impl<R: Threads + Sync> Solver<TickLimit> for SolverInTime<'_, R> {
 }
 
 /// What there is before the first record: memos for so many workers.
-fn empty_memory(alloc: Global, asked: &LimitedSolve) -> Result<LimitedMemory<ThreadMemory>, Stop>
+fn empty_memory(alloc: Global, asked: &SolveAsked) -> Result<LimitedMemory<ThreadMemory>, Stop>
     ensures { IfOk result (λ memory. memory.undecided ≡ 0) }
 {
     let memory = thread_memory(alloc, asked.workers, asked.memo)?;
@@ -59,14 +59,16 @@ fn empty_memory(alloc: Global, asked: &LimitedSolve) -> Result<LimitedMemory<Thr
 #[derive(Clone, Copy)]
 pub(crate) struct SolveInTime<'a, 'm, R> {
     pub(crate) rt: &'a R,
-    pub(crate) asked: &'a LimitedSolve<'m, 'm>,
+    pub(crate) seconds: u32,
+    pub(crate) asked: &'a SolveAsked<'m, 'm>,
 }
 
 /// `solve --json --limit`.
 #[derive(Clone, Copy)]
 pub(crate) struct SolveJsonInTime<'a, 'm, R> {
     pub(crate) rt: &'a R,
-    pub(crate) asked: &'a LimitedSolve<'m, 'm>,
+    pub(crate) seconds: u32,
+    pub(crate) asked: &'a SolveAsked<'m, 'm>,
 }
 
 impl<R: Threads + Sync> TimedCommand for SolveInTime<'_, '_, R> {
@@ -75,7 +77,7 @@ impl<R: Threads + Sync> TimedCommand for SolveInTime<'_, '_, R> {
 
     type Memory = LimitedMemory<ThreadMemory>;
 
-    ghost asks = { λ command. asked_so command.asked.now.seconds command.asked.now.bound command.asked.now.memo command.asked.now.files.from
+    ghost asks = { λ command. asked_so command.seconds command.asked.now.bound command.asked.now.memo command.asked.now.files.from
         (map (λ s. s.now) command.asked.now.files.names.now) };
 
     ghost undecided = { λ memory. memory.undecided };
@@ -83,7 +85,7 @@ impl<R: Threads + Sync> TimedCommand for SolveInTime<'_, '_, R> {
     ghost starts = { λ _. refl };
 
     fn seconds(&self) -> u32 {
-        self.asked.seconds
+        self.seconds
     }
 
     fn memory(&self, alloc: Global) -> Result<LimitedMemory<ThreadMemory>, Stop> {
@@ -103,7 +105,7 @@ impl<R: Threads + Sync> TimedCommand for SolveInTime<'_, '_, R> {
         let limited = Limited {
             rays: &rays,
             default: self.asked.bound,
-            seconds: self.asked.seconds,
+            seconds: self.seconds,
             limit,
             solver: ToldLength {
                 solver: SolverInTime { rt: self.rt },
@@ -124,7 +126,7 @@ impl<R: Threads + Sync> TimedCommand for SolveJsonInTime<'_, '_, R> {
 
     type Memory = LimitedMemory<ThreadMemory>;
 
-    ghost asks = { λ command. asked_so command.asked.now.seconds command.asked.now.bound command.asked.now.memo command.asked.now.files.from
+    ghost asks = { λ command. asked_so command.seconds command.asked.now.bound command.asked.now.memo command.asked.now.files.from
         (map (λ s. s.now) command.asked.now.files.names.now) };
 
     ghost undecided = { λ memory. memory.undecided };
@@ -132,7 +134,7 @@ impl<R: Threads + Sync> TimedCommand for SolveJsonInTime<'_, '_, R> {
     ghost starts = { λ _. refl };
 
     fn seconds(&self) -> u32 {
-        self.asked.seconds
+        self.seconds
     }
 
     fn memory(&self, alloc: Global) -> Result<LimitedMemory<ThreadMemory>, Stop> {
@@ -152,7 +154,7 @@ impl<R: Threads + Sync> TimedCommand for SolveJsonInTime<'_, '_, R> {
         let limited = Limited {
             rays: &rays,
             default: self.asked.bound,
-            seconds: self.asked.seconds,
+            seconds: self.seconds,
             limit,
             solver: ToldLength {
                 solver: SolverInTime { rt: self.rt },

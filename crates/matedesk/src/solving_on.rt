@@ -6,8 +6,7 @@ ghost use Rattle.plain_commands.specs.Command.{Ends};
 
 use byte_streams::Stop;
 use chess_moves::Rays;
-use chess_problems::Bound;
-use command_words::{Files, MemoSize, Workers};
+use command_words::{MemoSize, SolveAsked, Workers};
 use file_answers::{Source, no_memory, status_of};
 use file_solving::{Lengthwise, new_memo, solve_by, solves_none};
 use json_commands::solve_json_by;
@@ -40,34 +39,32 @@ pub(crate) fn thread_memory(
 pub fn solve_on<R: Threads + Sync, S: Source, O: Write, E: Write>(
     rt: &R,
     alloc: Global,
-    workers: Workers,
-    bound: Bound,
-    size: MemoSize,
-    files: &Files,
+    asked: &SolveAsked,
     source: &S,
     out: &mut O,
     err: &mut E,
 ) -> u8
     ensures { Ends (S.holds source.now) (S.refuses source.now)
-        (Some (solve_on_asked workers bound size files.now.from (map (λ s. s.now) files.now.names.now))) result
+        (Some (solve_on_asked asked.now.workers asked.now.bound asked.now.memo asked.now.files.from
+        (map (λ s. s.now) asked.now.files.names.now))) result
         (O.contents out.old) (O.contents out.new) }
 {
     // How it ends with the status of what was written, and with nothing written.
     ends_by_status(source);
     solves_none();
-    let Ok(mut memory) = thread_memory(alloc, workers, size) else {
+    let Ok(mut memory) = thread_memory(alloc, asked.workers, asked.memo) else {
         return no_memory(err);
     };
     let rays = Rays::new();
     let answers = Answers {
         rays: &rays,
-        default: bound,
+        default: asked.bound,
         solver: Lengthwise {
             solver: OnThreads { rt },
             progress: source,
         },
     };
-    let ended = solve_by(alloc, &answers, files, source, &mut memory, out, err);
+    let ended = solve_by(alloc, &answers, &asked.files, source, &mut memory, out, err);
     status_of(ended, err)
 }
 
@@ -75,32 +72,30 @@ pub fn solve_on<R: Threads + Sync, S: Source, O: Write, E: Write>(
 pub fn solve_json_on<R: Threads + Sync, S: Source, O: Write, E: Write>(
     rt: &R,
     alloc: Global,
-    workers: Workers,
-    bound: Bound,
-    size: MemoSize,
-    files: &Files,
+    asked: &SolveAsked,
     source: &S,
     out: &mut O,
     err: &mut E,
 ) -> u8
     ensures { Ends (S.holds source.now) (S.refuses source.now)
-        (Some (solve_json_on_asked workers bound size files.now.from (map (λ s. s.now) files.now.names.now))) result
+        (Some (solve_json_on_asked asked.now.workers asked.now.bound asked.now.memo asked.now.files.from
+        (map (λ s. s.now) asked.now.files.names.now))) result
         (O.contents out.old) (O.contents out.new) }
 {
     // How it ends with the status of what was written, and with nothing written.
     ends_by_status(source);
-    let Ok(mut memory) = thread_memory(alloc, workers, size) else {
+    let Ok(mut memory) = thread_memory(alloc, asked.workers, asked.memo) else {
         return no_memory(err);
     };
     let rays = Rays::new();
     let answers = Answers {
         rays: &rays,
-        default: bound,
+        default: asked.bound,
         solver: Lengthwise {
             solver: OnThreads { rt },
             progress: source,
         },
     };
-    let ended = solve_json_by(alloc, &answers, files, source, &mut memory, out, err);
+    let ended = solve_json_by(alloc, &answers, &asked.files, source, &mut memory, out, err);
     status_of(ended, err)
 }

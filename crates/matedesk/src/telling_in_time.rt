@@ -8,12 +8,12 @@ use crate::in_time::{TimedCommand, answer_in_time};
 use crate::tick_limit::TickLimit;
 use byte_streams::{Input, Stop};
 use chess_moves::Rays;
-use command_words::LimitedTree;
+use command_words::TreeAsked;
 use file_answers::{FileAnswers, FileStart, MISUSED, Source, answer_files, complain};
 use file_solving::new_memo;
 use mate_answers::{Limited, LimitedMemory};
 use mate_search::{Memo, OneThread};
-use mate_tree::LimitedTrees;
+use mate_tree::TreeAskeds;
 use move_words::Letters;
 use plain_commands::{NO_LETTERS, TREE_ENTRIES, tree_form};
 use std::alloc::Global;
@@ -25,7 +25,7 @@ use text_lines::{LinesFrom, answer_lines};
 /// Tells the trees of the records of files so.
 #[derive(Clone, Copy)]
 struct LimitedAnswers<'a, 'b, 'r> {
-    trees: &'a LimitedTrees<'b, 'r, TickLimit>,
+    trees: &'a TreeAskeds<'b, 'r, TickLimit>,
 }
 
 impl FileAnswers for LimitedAnswers<'_, '_, '_> {
@@ -75,7 +75,8 @@ impl FileAnswers for LimitedAnswers<'_, '_, '_> {
 /// `tree --limit`, with letters of men that there are.
 #[derive(Clone, Copy)]
 struct TellInTime<'a, 'm> {
-    asked: &'a LimitedTree<'m, 'm>,
+    seconds: u32,
+    asked: &'a TreeAsked<'m, 'm>,
 }
 
 impl TimedCommand for TellInTime<'_, '_> {
@@ -84,7 +85,7 @@ impl TimedCommand for TellInTime<'_, '_> {
 
     type Memory = LimitedMemory<Memo>;
 
-    ghost asks = { λ command. asked_so command.asked.now.seconds command.asked.now.bound command.asked.now.form command.asked.now.letters.now
+    ghost asks = { λ command. asked_so command.seconds command.asked.now.bound command.asked.now.form command.asked.now.letters.now
         command.asked.now.files.from (map (λ s. s.now) command.asked.now.files.names.now) };
 
     ghost undecided = { λ memory. memory.undecided };
@@ -92,7 +93,7 @@ impl TimedCommand for TellInTime<'_, '_> {
     ghost starts = { λ _. refl };
 
     fn seconds(&self) -> u32 {
-        self.asked.seconds
+        self.seconds
     }
 
     fn memory(&self, alloc: Global) -> Result<LimitedMemory<Memo>, Stop> {
@@ -116,11 +117,11 @@ impl TimedCommand for TellInTime<'_, '_> {
         let limited = Limited {
             rays: &rays,
             default: self.asked.bound,
-            seconds: self.asked.seconds,
+            seconds: self.seconds,
             limit,
             solver: OneThread,
         };
-        let trees = LimitedTrees {
+        let trees = TreeAskeds {
             limited: &limited,
             form: tree_form(&self.asked.form, self.asked.letters),
         };
@@ -140,14 +141,22 @@ pub fn tell_in_time<
     S: Source,
     O: Write,
     E: Write,
->(rt: &R, alloc: Global, asked: &LimitedTree, source: &S, out: &mut O, err: &mut E) -> u8
+>(
+    rt: &R,
+    alloc: Global,
+    seconds: u32,
+    asked: &TreeAsked,
+    source: &S,
+    out: &mut O,
+    err: &mut E,
+) -> u8
     ensures { Ends (S.holds source.now) (S.refuses source.now)
-        (Some (tree_limited_asked asked.now.seconds asked.now.bound asked.now.form asked.now.letters.now asked.now.files.from
+        (Some (tree_limited_asked seconds asked.now.bound asked.now.form asked.now.letters.now asked.now.files.from
         (map (λ s. s.now) asked.now.files.names.now))) result (O.contents out.old) (O.contents out.new) }
 {
     if Letters::said(asked.letters).is_none() {
         complain(err, NO_LETTERS);
         return MISUSED;
     }
-    answer_in_time(rt, alloc, &TellInTime { asked }, source, out, err)
+    answer_in_time(rt, alloc, &TellInTime { seconds, asked }, source, out, err)
 }

@@ -8,7 +8,7 @@ use crate::serving::unserved;
 use byte_streams::{Input, Stop};
 use chess_moves::Rays;
 use chess_problems::Bound;
-use command_words::{Files, TreeForm, Workers as WorkerCount};
+use command_words::TreeAsked;
 use file_answers::{FileAnswers, FileStart, MISUSED, Source, answer_files, complain, status_of};
 use mate_tree::Form;
 use move_words::Letters;
@@ -76,30 +76,20 @@ pub fn tree_on<
     S: Source,
     O: Write,
     E: Write,
->(
-    rt: &R,
-    alloc: Global,
-    workers: WorkerCount,
-    bound: Bound,
-    form: TreeForm,
-    letters: &str,
-    files: &Files,
-    source: &S,
-    out: &mut O,
-    err: &mut E,
-) -> u8
+>(rt: &R, alloc: Global, asked: &TreeAsked, source: &S, out: &mut O, err: &mut E) -> u8
     ensures { Ends (S.holds source.now) (S.refuses source.now)
-        (Some (tree_on_asked workers bound form letters.now files.now.from (map (λ s. s.now) files.now.names.now))) result
+        (Some (tree_on_asked asked.now.workers asked.now.bound asked.now.form asked.now.letters.now asked.now.files.from
+        (map (λ s. s.now) asked.now.files.names.now))) result
         (O.contents out.old) (O.contents out.new) }
 {
     // How it ends with the status of what was written, and with nothing written.
     ends_by_status(source);
     tells_none();
-    if Letters::said(letters).is_none() {
+    if Letters::said(asked.letters).is_none() {
         complain(err, NO_LETTERS);
         return MISUSED;
     }
-    let count = workers.get() as usize;
+    let count = asked.workers.get() as usize;
     let mut workers = match start_telling(rt, alloc, count, TREE_ENTRIES) {
         Ok(workers) => workers,
         Err(fault) => return unserved(fault, err),
@@ -108,10 +98,10 @@ pub fn tree_on<
     let trees = TreesOn {
         rt,
         rays: &rays,
-        bound,
-        form: tree_form(&form, letters),
+        bound: asked.bound,
+        form: tree_form(&asked.form, asked.letters),
     };
-    let ended = answer_files(alloc, &trees, files, source, &mut workers, out, err);
+    let ended = answer_files(alloc, &trees, &asked.files, source, &mut workers, out, err);
     if ended.is_ok() {
         workers.end(rt);
     }

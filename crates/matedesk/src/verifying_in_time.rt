@@ -8,7 +8,7 @@ use crate::solving_on::thread_memory;
 use crate::tick_limit::TickLimit;
 use byte_streams::Stop;
 use chess_moves::Rays;
-use command_words::LimitedVerify;
+use command_words::VerifyAsked;
 use file_answers::Source;
 use file_solving::new_memo;
 use file_verifying::verify_limited;
@@ -25,7 +25,8 @@ use std::thread::Threads;
 #[derive(Clone, Copy)]
 pub(crate) struct VerifyInTime<'a, 'm, R> {
     pub(crate) rt: &'a R,
-    pub(crate) asked: &'a LimitedVerify<'m, 'm>,
+    pub(crate) seconds: u32,
+    pub(crate) asked: &'a VerifyAsked<'m, 'm>,
 }
 
 impl<R: Threads + Sync> TimedCommand for VerifyInTime<'_, '_, R> {
@@ -34,7 +35,7 @@ impl<R: Threads + Sync> TimedCommand for VerifyInTime<'_, '_, R> {
 
     type Memory = LimitedClaimMemory<ThreadMemory>;
 
-    ghost asks = { λ command. asked_so command.asked.now.seconds command.asked.now.bound command.asked.now.memo command.asked.now.header
+    ghost asks = { λ command. asked_so command.seconds command.asked.now.bound command.asked.now.memo command.asked.now.header
         command.asked.now.files.from (map (λ s. s.now) command.asked.now.files.names.now) };
 
     ghost undecided = { λ memory. memory.counts.undecided };
@@ -42,7 +43,7 @@ impl<R: Threads + Sync> TimedCommand for VerifyInTime<'_, '_, R> {
     ghost starts = { λ _. refl };
 
     fn seconds(&self) -> u32 {
-        self.asked.seconds
+        self.seconds
     }
 
     fn memory(&self, alloc: Global) -> Result<LimitedClaimMemory<ThreadMemory>, Stop> {
@@ -66,11 +67,11 @@ impl<R: Threads + Sync> TimedCommand for VerifyInTime<'_, '_, R> {
         let limited = Limited {
             rays: &rays,
             default: self.asked.bound,
-            seconds: self.asked.seconds,
+            seconds: self.seconds,
             limit,
             solver: SolverInTime { rt: self.rt },
         };
-        let LimitedVerify { header, files, .. } = self.asked;
+        let VerifyAsked { header, files, .. } = self.asked;
         verify_limited(alloc, &limited, *header, files, source, memory, out, err)
     }
 
@@ -82,7 +83,8 @@ impl<R: Threads + Sync> TimedCommand for VerifyInTime<'_, '_, R> {
 /// `verify --json --limit`.
 #[derive(Clone, Copy)]
 pub(crate) struct VerifyJsonInTime<'a, 'm> {
-    pub(crate) asked: &'a LimitedVerify<'m, 'm>,
+    pub(crate) seconds: u32,
+    pub(crate) asked: &'a VerifyAsked<'m, 'm>,
 }
 
 impl TimedCommand for VerifyJsonInTime<'_, '_> {
@@ -91,7 +93,7 @@ impl TimedCommand for VerifyJsonInTime<'_, '_> {
 
     type Memory = LimitedClaimMemory<Memo>;
 
-    ghost asks = { λ command. asked_so command.asked.now.seconds command.asked.now.bound command.asked.now.memo command.asked.now.files.from
+    ghost asks = { λ command. asked_so command.seconds command.asked.now.bound command.asked.now.memo command.asked.now.files.from
         (map (λ s. s.now) command.asked.now.files.names.now) };
 
     ghost undecided = { λ memory. memory.counts.undecided };
@@ -99,7 +101,7 @@ impl TimedCommand for VerifyJsonInTime<'_, '_> {
     ghost starts = { λ _. refl };
 
     fn seconds(&self) -> u32 {
-        self.asked.seconds
+        self.seconds
     }
 
     fn memory(&self, alloc: Global) -> Result<LimitedClaimMemory<Memo>, Stop> {
@@ -123,7 +125,7 @@ impl TimedCommand for VerifyJsonInTime<'_, '_> {
         let limited = Limited {
             rays: &rays,
             default: self.asked.bound,
-            seconds: self.asked.seconds,
+            seconds: self.seconds,
             limit,
             solver: OneThread,
         };

@@ -8,7 +8,7 @@ use crate::serving::unserved;
 use byte_streams::{Input, Stop};
 use chess_moves::Rays;
 use chess_problems::Bound;
-use command_words::{Files, MemoSize, Workers as WorkerCount};
+use command_words::VerifyAsked;
 use file_answers::{FileStart, Source, status_of};
 use file_verifying::{Verifier, verify_by};
 use mate_claims::Counts;
@@ -68,26 +68,16 @@ pub fn verify_on<
     S: Source,
     O: Write,
     E: Write,
->(
-    rt: &R,
-    alloc: Global,
-    workers: WorkerCount,
-    bound: Bound,
-    memo: MemoSize,
-    header: bool,
-    files: &Files,
-    source: &S,
-    out: &mut O,
-    err: &mut E,
-) -> u8
+>(rt: &R, alloc: Global, asked: &VerifyAsked, source: &S, out: &mut O, err: &mut E) -> u8
     ensures { Ends (S.holds source.now) (S.refuses source.now)
-        (Some (verify_on_asked workers bound memo header files.now.from (map (λ s. s.now) files.now.names.now))) result
+        (Some (verify_on_asked asked.now.workers asked.now.bound asked.now.memo asked.now.header asked.now.files.from
+        (map (λ s. s.now) asked.now.files.names.now))) result
         (O.contents out.old) (O.contents out.new) }
 {
     // How it ends with the status of what was written.
     ends_by_status(source);
-    let count = workers.get() as usize;
-    let mut workers = match start_verifying(rt, alloc, count, memo.get() as usize) {
+    let count = asked.workers.get() as usize;
+    let mut workers = match start_verifying(rt, alloc, count, asked.memo.get() as usize) {
         Ok(workers) => workers,
         Err(fault) => return unserved(fault, err),
     };
@@ -95,13 +85,13 @@ pub fn verify_on<
     let verifier = VerifierOn {
         rt,
         rays: &rays,
-        bound,
+        bound: asked.bound,
     };
     let ended = verify_by(
         alloc,
         &verifier,
-        header,
-        files,
+        asked.header,
+        &asked.files,
         source,
         &mut workers,
         out,

@@ -13,13 +13,14 @@ use crate::importing::import_given;
 use crate::playing::play_given;
 use crate::position_answers::show_lines;
 use crate::replaying::replay;
-use crate::sheeting::{SheetAsked, sheet};
+use crate::sheeting::sheet;
 use crate::telling::{tells_none, tree, tree_json};
 use byte_streams::{Stop, stop_of_output};
 use clap::error::ErrorKind;
 use clap::{ArgMatches, Error};
 use command_words::{
-    LimitedTree, Request, escaped, gives_records, has_memo_size, parse, request_of,
+    ImportAsked, Request, SheetAsked, TreeAsked, escaped, gives_records, has_memo_size, parse,
+    request_of,
 };
 use file_answers::{ANSWERED, GivenTexts, MISUSED, Source, complain, no_memory, status_of};
 use file_solving::{limited_none, solve, solves_none};
@@ -76,12 +77,12 @@ fn has_letters(request: &Request) -> bool
     ensures { result ≡ has_letters (plan_of request.now) }
 {
     match request {
-        Request::Import(_, _, letters, _)
-        | Request::Tree(_, _, letters, _)
-        | Request::TreeOn(_, _, _, letters, _)
-        | Request::TreeLimited(LimitedTree { letters, .. })
-        | Request::TreeJson(_, _, letters, _)
-        | Request::Sheet(_, _, _, letters, _, _) => Letters::said(letters).is_some(),
+        Request::Import(ImportAsked { letters, .. })
+        | Request::Tree(TreeAsked { letters, .. })
+        | Request::TreeOn(TreeAsked { letters, .. })
+        | Request::TreeLimited(_, TreeAsked { letters, .. })
+        | Request::TreeJson(TreeAsked { letters, .. })
+        | Request::Sheet(SheetAsked { letters, .. }) => Letters::said(letters).is_some(),
         _ => true,
     }
 }
@@ -109,40 +110,15 @@ fn answer<S: Source, O: Write, E: Write>(
         Request::Perft(fen, depth) => show_fen(alloc, FenCommand::Perft(*depth), fen, out, err),
         Request::Divide(fen, depth) => show_fen(alloc, FenCommand::Divide(*depth), fen, out, err),
         Request::Lines(view, names) => show_lines(alloc, *view, names, source, out, err),
-        Request::Solve(bound, memo, files) => {
-            solve(alloc, *bound, *memo, files, source, out, err)
-        }
-        Request::SolveJson(bound, memo, files) => {
-            solve_json(alloc, *bound, *memo, files, source, out, err)
-        }
-        Request::Verify(bound, memo, header, files) => {
-            verify(alloc, *bound, *memo, *header, files, source, out, err)
-        }
-        Request::VerifyJson(bound, memo, files) => {
-            verify_json(alloc, *bound, *memo, files, source, out, err)
-        }
-        Request::VerifyImported(bound, memo, header, files) => {
-            verify_imported(alloc, *bound, *memo, *header, files, source, out, err)
-        }
-        Request::Tree(bound, form, letters, files) => {
-            tree(alloc, *bound, *form, letters, files, source, out, err)
-        }
-        Request::TreeJson(bound, form, letters, files) => {
-            tree_json(alloc, *bound, *form, letters, files, source, out, err)
-        }
-        Request::Sheet(bound, size, form, letters, title, names) => {
-            let asked = SheetAsked {
-                bound: *bound,
-                size: *size,
-                form: *form,
-                letters,
-                title,
-            };
-            sheet(alloc, &asked, names, source, out, err)
-        }
-        Request::Import(keep, bound, letters, names) => {
-            import_given(alloc, *keep, *bound, letters, names, source, out, err)
-        }
+        Request::Solve(asked) => solve(alloc, asked, source, out, err),
+        Request::SolveJson(asked) => solve_json(alloc, asked, source, out, err),
+        Request::Verify(asked) => verify(alloc, asked, source, out, err),
+        Request::VerifyJson(asked) => verify_json(alloc, asked, source, out, err),
+        Request::VerifyImported(asked) => verify_imported(alloc, asked, source, out, err),
+        Request::Tree(asked) => tree(alloc, asked, source, out, err),
+        Request::TreeJson(asked) => tree_json(alloc, asked, source, out, err),
+        Request::Sheet(asked) => sheet(alloc, asked, source, out, err),
+        Request::Import(asked) => import_given(alloc, asked, source, out, err),
         Request::Serve(..)
         | Request::SolveOn(..)
         | Request::SolveJsonOn(..)

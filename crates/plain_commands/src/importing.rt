@@ -8,7 +8,7 @@ use crate::letters::letters_in;
 use byte_streams::{Input, Stop};
 use chess_moves::Rays;
 use chess_problems::Bound;
-use command_words::{Files, LineNumber};
+use command_words::{Files, ImportAsked, LineNumber};
 use file_answers::{FileAnswers, FileStart, Source, answer_files, complain, holds_reads};
 use move_words::Letters;
 use problem_import::{ImportCounts, import_input_in};
@@ -64,39 +64,29 @@ impl<'a> FileAnswers for Imports<'a> {
     fn begins_with_nothing(&self) {}
 }
 
-/// Makes records of the problems of each file in order, those that say no number of moves with such a bound, if one is given, and opens a
-/// file only after those before were written; gives whether a problem was refused. At the end `err` is told how many were, and how many
-/// records were printed; a file that can't be read is named there.
+/// Makes records of the problems of each file in order, and opens a file only after those before were written; gives whether a problem was
+/// refused. At the end `err` is told how many were, and how many records were printed; a file that can't be read is named there.
 fn import<S: Source, O: Write, E: Write>(
     alloc: Global,
-    keep: bool,
-    bound: Option<Bound>,
-    letters: Letters,
+    imports: &Imports,
     names: &[&str],
     source: &S,
     out: &mut O,
     err: &mut E,
 ) -> Result<bool, Stop>
-    ensures ok { IfOk result (λ refused. Gains (ImportsFiles (S.holds source.now) letters keep bound (map (λ s. s.now) names.now) refused)
-        (O.contents out.old) (O.contents out.new)) }
-    ensures err { IfErr result (λ stop. StopsImporting (S.holds source.now) (S.refuses source.now) letters keep bound
-        (map (λ s. s.now) names.now) stop (O.contents out.old) (O.contents out.new)) }
+    ensures ok { IfOk result (λ refused. Gains (ImportsFiles (S.holds source.now) imports.now.letters imports.now.keep imports.now.bound
+        (map (λ s. s.now) names.now) refused) (O.contents out.old) (O.contents out.new)) }
+    ensures err { IfErr result (λ stop. StopsImporting (S.holds source.now) (S.refuses source.now) imports.now.letters imports.now.keep
+        imports.now.bound (map (λ s. s.now) names.now) stop (O.contents out.old) (O.contents out.new)) }
 {
     // How many inputs there are of so many names.
     holds_reads();
-    let rays = Rays::new();
-    let imports = Imports {
-        rays: &rays,
-        keep,
-        letters,
-        bound,
-    };
     let files = Files {
         names,
         from: LineNumber::first(),
     };
     let mut counts = ImportCounts::new();
-    match answer_files(alloc, &imports, &files, source, &mut counts, out, err) {
+    match answer_files(alloc, imports, &files, source, &mut counts, out, err) {
         Ok(refused) => {
             let counts = counts.text(alloc)?;
             complain(err, counts.as_str());
@@ -106,22 +96,25 @@ fn import<S: Source, O: Write, E: Write>(
     }
 }
 
-/// The same with the letters of men that a word gives.
+/// Makes records as it is asked, those that say no number of moves with the bound that is given, if one is.
 pub fn import_given<S: Source, O: Write, E: Write>(
     alloc: Global,
-    keep: bool,
-    bound: Option<Bound>,
-    word: &str,
-    names: &[&str],
+    asked: &ImportAsked,
     source: &S,
     out: &mut O,
     err: &mut E,
 ) -> Result<bool, Stop>
-    ensures ok { IfOk result (λ refused. Gains (ImportsFiles (S.holds source.now) (letters_in word.now) keep bound
-        (map (λ s. s.now) names.now) refused) (O.contents out.old) (O.contents out.new)) }
-    ensures err { IfErr result (λ stop. StopsImporting (S.holds source.now) (S.refuses source.now) (letters_in word.now) keep bound
-        (map (λ s. s.now) names.now) stop (O.contents out.old) (O.contents out.new)) }
+    ensures ok { IfOk result (λ refused. Gains (ImportsFiles (S.holds source.now) (letters_in asked.now.letters.now) asked.now.keep asked.now.bound
+        (map (λ s. s.now) asked.now.names.now) refused) (O.contents out.old) (O.contents out.new)) }
+    ensures err { IfErr result (λ stop. StopsImporting (S.holds source.now) (S.refuses source.now) (letters_in asked.now.letters.now)
+        asked.now.keep asked.now.bound (map (λ s. s.now) asked.now.names.now) stop (O.contents out.old) (O.contents out.new)) }
 {
-    let letters = letters_in(word);
-    import(alloc, keep, bound, letters, names, source, out, err)
+    let rays = Rays::new();
+    let imports = Imports {
+        rays: &rays,
+        keep: asked.keep,
+        letters: letters_in(asked.letters),
+        bound: asked.bound,
+    };
+    import(alloc, &imports, asked.names, source, out, err)
 }

@@ -9,7 +9,7 @@ use crate::letters::{letters_in, pieces_of};
 use byte_streams::{Input, Stop};
 use chess_moves::Rays;
 use chess_problems::Bound;
-use command_words::{Files, TreeForm};
+use command_words::{TreeAsked, TreeForm};
 use file_answers::{FileAnswers, FileStart, Source, answer_files};
 use file_solving::new_memo;
 use json_commands::tell_json;
@@ -72,7 +72,17 @@ impl<'a> FileAnswers for TreeAnswers<'a> {
             default: self.bound,
             form: self.form,
         };
-        write_replies(alloc, &LinesFrom { by: &trees, from: start.from, progress: start.source }, input, memo, out)
+        write_replies(
+            alloc,
+            &LinesFrom {
+                by: &trees,
+                from: start.from,
+                progress: start.source,
+            },
+            input,
+            memo,
+            out,
+        )
     }
 
     #[tactic(auto, using(crate::proofs::Unopened::no_tree_reply))]
@@ -83,53 +93,47 @@ impl<'a> FileAnswers for TreeAnswers<'a> {
 /// file only after the trees of those before were written; gives whether a line was refused. A file that can't be read is named on `err`.
 pub fn tree<S: Source, O: Write, E: Write>(
     alloc: Global,
-    bound: Bound,
-    form: TreeForm,
-    letters: &str,
-    files: &Files,
+    asked: &TreeAsked,
     source: &S,
     out: &mut O,
     err: &mut E,
 ) -> Result<bool, Stop>
-    ensures ok { IfOk result (λ refused. Gains (Tells (S.holds source.now) bound (tree_form_of form letters.now) files.now.from
-        (map (λ s. s.now) files.now.names.now) refused) (O.contents out.old) (O.contents out.new)) }
-    ensures err { IfErr result (λ stop. StopsTelling (S.holds source.now) (S.refuses source.now) bound (tree_form_of form letters.now) files.now.from
-        (map (λ s. s.now) files.now.names.now) stop (O.contents out.old) (O.contents out.new)) }
+    ensures ok { IfOk result (λ refused. Gains (Tells (S.holds source.now) asked.now.bound (tree_form_of asked.now.form asked.now.letters.now) asked.now.files.from
+        (map (λ s. s.now) asked.now.files.names.now) refused) (O.contents out.old) (O.contents out.new)) }
+    ensures err { IfErr result (λ stop. StopsTelling (S.holds source.now) (S.refuses source.now) asked.now.bound (tree_form_of asked.now.form asked.now.letters.now)
+        asked.now.files.from (map (λ s. s.now) asked.now.files.names.now) stop (O.contents out.old) (O.contents out.new)) }
 {
     let rays = Rays::new();
     let mut memo = new_memo(alloc, TREE_ENTRIES)?;
     let answers = TreeAnswers {
         rays: &rays,
-        bound,
-        form: tree_form(&form, letters),
+        bound: asked.bound,
+        form: tree_form(&asked.form, asked.letters),
     };
-    answer_files(alloc, &answers, files, source, &mut memo, out, err)
+    answer_files(alloc, &answers, &asked.files, source, &mut memo, out, err)
 }
 
 /// The same in JSON.
 pub fn tree_json<S: Source, O: Write, E: Write>(
     alloc: Global,
-    bound: Bound,
-    form: TreeForm,
-    letters: &str,
-    files: &Files,
+    asked: &TreeAsked,
     source: &S,
     out: &mut O,
     err: &mut E,
 ) -> Result<bool, Stop>
-    ensures ok { IfOk result (λ refused. Gains (TellsJson (S.holds source.now) bound (tree_form_of form letters.now) files.now.from
-        (map (λ s. s.now) files.now.names.now) refused) (O.contents out.old) (O.contents out.new)) }
-    ensures err { IfErr result (λ stop. StopsTellingJson (S.holds source.now) (S.refuses source.now) bound (tree_form_of form letters.now)
-        files.now.from (map (λ s. s.now) files.now.names.now) stop (O.contents out.old) (O.contents out.new)) }
+    ensures ok { IfOk result (λ refused. Gains (TellsJson (S.holds source.now) asked.now.bound (tree_form_of asked.now.form asked.now.letters.now) asked.now.files.from
+        (map (λ s. s.now) asked.now.files.names.now) refused) (O.contents out.old) (O.contents out.new)) }
+    ensures err { IfErr result (λ stop. StopsTellingJson (S.holds source.now) (S.refuses source.now) asked.now.bound (tree_form_of asked.now.form asked.now.letters.now)
+        asked.now.files.from (map (λ s. s.now) asked.now.files.names.now) stop (O.contents out.old) (O.contents out.new)) }
 {
     let rays = Rays::new();
     let mut memo = new_memo(alloc, TREE_ENTRIES)?;
     let trees = TreeReplies {
         rays: &rays,
-        default: bound,
-        form: tree_form(&form, letters),
+        default: asked.bound,
+        form: tree_form(&asked.form, asked.letters),
     };
-    tell_json(alloc, &trees, files, source, &mut memo, out, err)
+    tell_json(alloc, &trees, &asked.files, source, &mut memo, out, err)
 }
 
 /// What a `tree` that ends before it has opened a file has written. It does nothing: its contract is the law.

@@ -27,13 +27,10 @@ fn answer<S: Source, O: Write, E: Write>(
     ensures other { IfNone result (asks_solve (option_map plan_of request.now) ≡ false) }
     ensures kept { IfNone result ((out.new ≡ out.old) × (err.new ≡ err.old)) }
 {
-    let Some(asked) = request else {
+    let Some(Request::Solve(asked)) = request else {
         return None;
     };
-    let Request::Solve(bound, memo, files) = asked else {
-        return None;
-    };
-    let ended = solve(alloc, *bound, *memo, files, source, out, err);
+    let ended = solve(alloc, asked, source, out, err);
     Some(status_of(ended, err))
 }
 

@@ -9,22 +9,22 @@ pub returns-in_err-memo-clause-err : goal.returns-in_err-memo-clause-err
 returns-in_err-memo-clause-err g c =
     let (other, is, same) = err_from_is_err_and c.from_residual.result c.from_residual.ensures.1 in
     rw (is, same, c.in_err-memo.ensures.err) (stops_at_once (g.S.Source.holds c.args.source.now)
-    (g.S.Source.refuses c.args.source.now) c.args.bound _ _ _ _ (Keeps-refl (g.O.Write.contents c.args.out.now)))
+    (g.S.Source.refuses c.args.source.now) c.args.asked.now.bound _ _ _ _ (Keeps-refl (g.O.Write.contents c.args.out.now)))
 
 pub returns-in_err-counts-in-Ok-clause-err : goal.returns-in_err-counts-in-Ok-clause-err
 returns-in_err-counts-in-Ok-clause-err g c =
     let (other, is, same) = err_from_is_err_and c.from_residual-in_err-counts-in-Ok.result c.from_residual-in_err-counts-in-Ok.ensures.1 in
     rw (is, same)
     (stops_uncounted c.holds_reads.ensures.each (g.S.Source.holds c.args.source.now) (g.S.Source.refuses c.args.source.now)
-    c.args.bound c.args.bound c.args.files.now.from c.args.files.now.names.now _ c.in-Ok.unsound
+    c.args.asked.now.bound c.args.asked.now.bound c.args.asked.now.files.from c.args.asked.now.files.names.now _ c.in-Ok.unsound
     (g.O.Write.contents c.args.out.now) (g.O.Write.contents c.answer_files.new.out) refl refl c.in-Ok.ensures.ok)
 
 pub returns-in-Ok-clause-ok : goal.returns-in-Ok-clause-ok
-returns-in-Ok-clause-ok g c = shows_each (g.S.Source.holds c.args.source.now) c.args.bound c.args.bound
-    c.args.files.now.from c.args.files.now.names.now _ c.in-Ok.unsound (g.O.Write.contents c.args.out.now)
+returns-in-Ok-clause-ok g c = shows_each (g.S.Source.holds c.args.source.now) c.args.asked.now.bound c.args.asked.now.bound
+    c.args.asked.now.files.from c.args.asked.now.files.names.now _ c.in-Ok.unsound (g.O.Write.contents c.args.out.now)
     (g.O.Write.contents c.answer_files.new.out) refl refl c.in-Ok.ensures.ok
 
 pub returns-clause-err : goal.returns-clause-err
 returns-clause-err g c = stops_between (g.S.Source.holds c.args.source.now) (g.S.Source.refuses c.args.source.now)
-    c.args.bound c.args.bound c.args.files.now.from c.args.files.now.names.now _ c.in-Err.stop
+    c.args.asked.now.bound c.args.asked.now.bound c.args.asked.now.files.from c.args.asked.now.files.names.now _ c.in-Err.stop
     (g.O.Write.contents c.args.out.now) (g.O.Write.contents c.answer_files.new.out) refl refl c.in-Err.ensures.err

@@ -6,16 +6,16 @@ use Rattle.import_claims.proofs.verifying_imports.verify_imported.Goals as goal
 pub returns-in_err-put_header-clause-err : goal.returns-in_err-put_header-clause-err
 returns-in_err-put_header-clause-err g c =
     let (other, is, same) = err_from_is_err_and c.from_residual.result c.from_residual.ensures.1 in
-    rw (is, same) (stops_before (g.S.Source.holds c.args.source.now) (g.S.Source.refuses c.args.source.now) c.args.bound
-    c.args.header c.args.files.now.from (map (λ s. s.now) c.args.files.now.names.now) _ _ _ c.in_err-put_header.ensures.err
+    rw (is, same) (stops_before (g.S.Source.holds c.args.source.now) (g.S.Source.refuses c.args.source.now) c.args.asked.now.bound
+    c.args.asked.now.header c.args.asked.now.files.from (map (λ s. s.now) c.args.asked.now.files.names.now) _ _ _ c.in_err-put_header.ensures.err
     c.in_err-put_header.ensures.part)
 
 pub returns-clause-ok : goal.returns-clause-ok
-returns-clause-ok g c = ok_headed (g.S.Source.holds c.args.source.now) c.args.bound c.args.header c.args.files.now.from
-    (map (λ s. s.now) c.args.files.now.names.now) c.show_rows.result (g.O.Write.contents c.args.out.now)
+returns-clause-ok g c = ok_headed (g.S.Source.holds c.args.source.now) c.args.asked.now.bound c.args.asked.now.header c.args.asked.now.files.from
+    (map (λ s. s.now) c.args.asked.now.files.names.now) c.show_rows.result (g.O.Write.contents c.args.out.now)
     (g.O.Write.contents c.put_header.new.out) (g.O.Write.contents c.show_rows.new.out) c.in_ok-put_header.ensures.ok c.show_rows.ensures.ok
 
 pub returns-clause-err : goal.returns-clause-err
-returns-clause-err g c = err_headed (g.S.Source.holds c.args.source.now) (g.S.Source.refuses c.args.source.now) c.args.bound
-    c.args.header c.args.files.now.from (map (λ s. s.now) c.args.files.now.names.now) c.show_rows.result (g.O.Write.contents c.args.out.now)
+returns-clause-err g c = err_headed (g.S.Source.holds c.args.source.now) (g.S.Source.refuses c.args.source.now) c.args.asked.now.bound
+    c.args.asked.now.header c.args.asked.now.files.from (map (λ s. s.now) c.args.asked.now.files.names.now) c.show_rows.result (g.O.Write.contents c.args.out.now)
     (g.O.Write.contents c.put_header.new.out) (g.O.Write.contents c.show_rows.new.out) c.in_ok-put_header.ensures.ok c.show_rows.ensures.err

@@ -8,4 +8,4 @@ pub returns-in_err-memo-clause-err : goal.returns-in_err-memo-clause-err
 returns-in_err-memo-clause-err g c =
     let (other, is, same) = err_from_is_err_and c.from_residual.result c.from_residual.ensures.1 in
     rw (is, same, c.in_err-memo.ensures.err) (tells_at_once (g.S.Source.holds c.args.source.now)
-    (g.S.Source.refuses c.args.source.now) c.args.bound (tree_form_of c.args.form c.args.letters.now) _ _ _ _ (Keeps-refl (g.O.Write.contents c.args.out.now)))
+    (g.S.Source.refuses c.args.source.now) c.args.asked.now.bound (tree_form_of c.args.asked.now.form c.args.asked.now.letters.now) _ _ _ _ (Keeps-refl (g.O.Write.contents c.args.out.now)))

@@ -10,5 +10,5 @@ pub returns-in_err-memo-clause-err : goal.returns-in_err-memo-clause-err
 returns-in_err-memo-clause-err g c =
     let (other, is, same) = err_from_is_err_and c.from_residual.result c.from_residual.ensures.1 in
     rw (is, same, c.in_err-memo.ensures.err) (json_at_once (g.S.Source.holds c.args.source.now)
-    (g.S.Source.refuses c.args.source.now) Tree (IsTreeReply (tree_form_of c.args.form c.args.letters.now) c.args.bound) _ _ _ _
+    (g.S.Source.refuses c.args.source.now) Tree (IsTreeReply (tree_form_of c.args.asked.now.form c.args.asked.now.letters.now) c.args.asked.now.bound) _ _ _ _
     (Keeps-refl (g.O.Write.contents c.args.out.now)))
