@@ -3,8 +3,8 @@
 ghost use Rattle.std.specs.Prelude.{◌≡◌, ◌++◌, ◌&&◌, [], IfErr, None, OnOk, Some, codes, ⊤};
 ghost use Rattle.std.specs.List.{flat_map};
 ghost use Rattle.mate_tree.specs.Layouts.{figured, figurine as figurine_of, lettered};
-ghost use Rattle.mate_tree.specs.inside.Sheets.{Goes, GoesBy, Takes, closing, ending, gap, is_closed};
-ghost use Rattle.mate_tree.specs.inside.Sheets.{line_end as line_end_of, mark, next, part as part_of, past, room_for, shown};
+ghost use Rattle.mate_tree.specs.inside.Sheets.{GoesBy, Takes, closing, ending, gap, is_closed};
+ghost use Rattle.mate_tree.specs.inside.Sheets.{line_end as line_end_of, mark, next, part as part_of, room_for};
 
 use crate::forms::{Form, Pieces};
 use crate::layouts::{behind_letter, figurine, letter_for, line_end, part};
@@ -152,7 +152,7 @@ impl Sheet {
     }
 
     /// What stands before the next line, or two dots in place of the first that there is no room for, and then nothing.
-    fn mark(&self) -> &'static [u8]
+    pub(crate) fn mark(&self) -> &'static [u8]
         ensures { result.now ≡ mark self.now.room }
     {
         if self.cut {
@@ -166,7 +166,7 @@ impl Sheet {
     }
 
     /// Counts a line.
-    fn count_line(&mut self)
+    pub(crate) fn count_line(&mut self)
         ensures { self.new ≡ record self.old { room = next self.old.room } }
     {
         if self.cut {
@@ -181,15 +181,6 @@ impl Sheet {
             }
             None => self.fresh = self.column,
         }
-    }
-
-    /// Begins a line.
-    pub(crate) fn begin<O: Write>(&mut self, out: &mut O)
-        ensures { Goes (O.contents out.old) self.old (O.contents out.new) self.new (mark self.old.room) (next self.old.room) }
-    {
-        let mark = self.mark();
-        self.add(out, mark);
-        self.count_line();
     }
 
     /// Adds a text with figurines in place of letters.
@@ -227,7 +218,7 @@ impl Sheet {
     }
 
     /// Adds a text with what stands for pieces.
-    fn show<O: Write>(&mut self, out: &mut O, text: &[u8])
+    pub(crate) fn show<O: Write>(&mut self, out: &mut O, text: &[u8])
         ensures { Takes (O.contents out.old) self.old (O.contents out.new) self.new (figured self.old.room.pieces text.now) }
     {
         match self.pieces() {
@@ -238,51 +229,31 @@ impl Sheet {
     }
 
     /// Whether a line was left out.
-    fn is_cut(&self) -> bool
+    pub(crate) fn is_cut(&self) -> bool
         ensures { result ≡ self.now.room.cut }
     {
         self.cut
     }
 
     /// What is shown of a part of a line.
-    fn part<'a>(&self, text: &'a [u8]) -> &'a [u8]
+    pub(crate) fn part<'a>(&self, text: &'a [u8]) -> &'a [u8]
         ensures { result.now ≡ part_of self.now.room.fresh text.now }
     {
         part(self.fresh, text)
     }
 
     /// Keeps in mind whether nothing stands there yet, behind what is shown of a part of a line.
-    fn pass(&mut self, none: bool)
+    pub(crate) fn pass(&mut self, none: bool)
         ensures { self.new ≡ record self.old { room = record self.old.room { fresh = self.old.room.fresh && none } } }
     {
         self.fresh &= none;
     }
 
-    /// Adds a part of a line that was begun.
-    pub(crate) fn push<O: Write>(&mut self, out: &mut O, text: &[u8])
-        ensures { Goes (O.contents out.old) self.old (O.contents out.new) self.new (shown self.old.room text.now) (past self.old.room text.now) }
-    {
-        if self.is_cut() {
-            return;
-        }
-        let shown = self.part(text);
-        self.pass(shown.is_empty());
-        self.show(out, shown);
-    }
-
     /// What stands behind a line.
-    fn ending(&self) -> &'static [u8]
+    pub(crate) fn ending(&self) -> &'static [u8]
         ensures { result.now ≡ ending self.now.room }
     {
         if self.cut { b"" } else { line_end(self.column) }
-    }
-
-    /// Ends a line.
-    pub(crate) fn end<O: Write>(&mut self, out: &mut O)
-        ensures { Goes (O.contents out.old) self.old (O.contents out.new) self.new (ending self.old.room) self.old.room }
-    {
-        let ending = self.ending();
-        self.add(out, ending);
     }
 
     /// What ends a column, and an empty line.

@@ -24,21 +24,29 @@ impl<O: Write> TreeWriter<'_, O> {
     pub(crate) fn begin(&mut self)
         ensures { BeginsLine O.contents self.old self.new }
     {
-        self.sheet.begin(self.out);
+        let mark = self.sheet.mark();
+        self.sheet.add(self.out, mark);
+        self.sheet.count_line();
     }
 
     /// Adds a part of a line that was begun.
     pub(crate) fn push(&mut self, text: &[u8])
         ensures { AddsText O.contents self.old self.new text.now }
     {
-        self.sheet.push(self.out, text);
+        if self.sheet.is_cut() {
+            return;
+        }
+        let shown = self.sheet.part(text);
+        self.sheet.pass(shown.is_empty());
+        self.sheet.show(self.out, shown);
     }
 
     /// Ends a line.
     pub(crate) fn end(&mut self)
         ensures { EndsLine O.contents self.old self.new }
     {
-        self.sheet.end(self.out);
+        let ending = self.sheet.ending();
+        self.sheet.add(self.out, ending);
     }
 
     /// Writes a name, where it does not stand there and something is to stand below it.
