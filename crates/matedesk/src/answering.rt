@@ -154,7 +154,7 @@ fn are_told(alloc: Global, words: &[String]) -> bool {
 }
 
 /// The program: answers what the words ask for, of which the first is the program's own name. It reads files from `source`. Only
-/// `serve`, `uci`, `solve`, `verify` and `tree` with `--workers`, `solve` and `verify` with `--limit`, and what has `--progress` start threads,
+/// `serve`, `uci`, `solve`, `verify` and `tree` with `--workers`, these three with `--limit`, and what has `--progress` start threads,
 /// and wait for them.
 ///
 /// A fault of `err` is passed over and changes no status. So does one of the thread that tells on standard error how far the command is.

@@ -241,7 +241,7 @@ pub fn plain_command<S: Source, O: Write, E: Write>(
     }
 }
 
-/// How `solve --limit` or `verify --limit` has ended that showed all, of which some records were not decided. It does nothing: its contract
+/// How `solve`, `verify` or `tree` with `--limit` has ended that showed all, of which some records were not decided. It does nothing: its contract
 /// is the law.
 #[tactic(auto, using(crate::proofs::Endings::ends_in_part))]
 pub fn ends_in_part<S: Source>(source: &S)
