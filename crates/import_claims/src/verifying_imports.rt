@@ -158,8 +158,8 @@ pub fn verify_imported<S: Source, O: Write, E: Write>(
 ) -> Result<bool, Stop>
     ensures ok { IfOk result (λ refused. Gains (VerifiesImported (S.holds source.now) asked.now.bound asked.now.header asked.now.files.from
         (map (λ s. s.now) asked.now.files.names.now) refused) (O.contents out.old) (O.contents out.new)) }
-    ensures err { IfErr result (λ stop. StopsVerifyingImported (S.holds source.now) (S.refuses source.now) asked.now.bound asked.now.header asked.now.files.from
-        (map (λ s. s.now) asked.now.files.names.now) stop (O.contents out.old) (O.contents out.new)) }
+    ensures err { IfErr result (λ stop. StopsVerifyingImported (S.holds source.now) (S.refuses source.now) asked.now.bound asked.now.header
+        asked.now.files.from (map (λ s. s.now) asked.now.files.names.now) stop (O.contents out.old) (O.contents out.new)) }
 {
     put_header(out, asked.header)?;
     show_rows(alloc, asked, source, out, err)

@@ -89,7 +89,8 @@ pub fn serve<
     E: Write,
 >(rt: &R, alloc: Global, asked: &ServeAsked, source: &S, out: &mut O, err: &mut E) -> u8
     ensures { Ends (S.holds source.now) (S.refuses source.now)
-        (Some (serve_asked asked.now.workers asked.now.bound asked.now.memo (map (λ s. s.now) asked.now.names.now))) result (O.contents out.old) (O.contents out.new) }
+        (Some (serve_asked asked.now.workers asked.now.bound asked.now.memo (map (λ s. s.now) asked.now.names.now))) result
+        (O.contents out.old) (O.contents out.new) }
 {
     // How it ends with the status of what was written, and with nothing written.
     ends_by_status(source);

@@ -43,8 +43,11 @@ impl<R: Wait, T: LineTask, P: Progress> Answering<'_, R, T, P> {
         line: TakenLine,
     ) -> Result<(), Stop>
         ensures opened { OnOk result ((whole : List ℕ) (lines : List (List ℕ)) → IsTakenAs line whole
-            → replies.old.first + length lines ≡ number → AreOpen (RepliesFrom (T.replies self.now.lines.now.by.now) self.now.lines.now.from) (WaitsFrom (T.waits self.now.lines.now.by.now) self.now.lines.now.from) replies.old.first replies.old.replies.items lines
-            → AreOpen (RepliesFrom (T.replies self.now.lines.now.by.now) self.now.lines.now.from) (WaitsFrom (T.waits self.now.lines.now.by.now) self.now.lines.now.from) replies.old.first replies.new.replies.items (lines ++ whole ∷ [])) }
+            → replies.old.first + length lines ≡ number → AreOpen (RepliesFrom (T.replies self.now.lines.now.by.now) self.now.lines.now.from)
+            (WaitsFrom (T.waits self.now.lines.now.by.now) self.now.lines.now.from) replies.old.first replies.old.replies.items lines
+            → AreOpen (RepliesFrom (T.replies self.now.lines.now.by.now) self.now.lines.now.from)
+            (WaitsFrom (T.waits self.now.lines.now.by.now) self.now.lines.now.from)
+            replies.old.first replies.new.replies.items (lines ++ whole ∷ [])) }
         ensures first { replies.new.first ≡ replies.old.first }
         ensures refused { replies.new.refused ≡ replies.old.refused }
         ensures memory { IfErr result (λ stop. stop ≡ Stop.NoMemory) }
@@ -66,9 +69,11 @@ impl<R: Wait, T: LineTask, P: Progress> Answering<'_, R, T, P> {
         replies: &mut OpenReplies<T::Mark>,
         out: &mut O,
     ) -> Result<(), Stop>
-        ensures gains { OnOk result ((text : List ℕ) × Gains (RepliesFrom (T.replies self.now.lines.now.by.now) self.now.lines.now.from) (WaitsFrom (T.waits self.now.lines.now.by.now) self.now.lines.now.from) replies.old replies.new text
+        ensures gains { OnOk result ((text : List ℕ) × Gains (RepliesFrom (T.replies self.now.lines.now.by.now) self.now.lines.now.from)
+            (WaitsFrom (T.waits self.now.lines.now.by.now) self.now.lines.now.from) replies.old replies.new text
             × Appends (O.contents out.old) (O.contents out.new) text) }
-        ensures breaks { IfErr result (λ stop. Breaks (RepliesFrom (T.replies self.now.lines.now.by.now) self.now.lines.now.from) (WaitsFrom (T.waits self.now.lines.now.by.now) self.now.lines.now.from) replies.old stop (O.contents out.old) (O.contents out.new)) }
+        ensures breaks { IfErr result (λ stop. Breaks (RepliesFrom (T.replies self.now.lines.now.by.now) self.now.lines.now.from)
+            (WaitsFrom (T.waits self.now.lines.now.by.now) self.now.lines.now.from) replies.old stop (O.contents out.old) (O.contents out.new)) }
         ensures readable { IfErr result (λ stop. stop ≢ Stop.Unreadable) }
     {
         let first = replies.first;
@@ -88,10 +93,12 @@ impl<R: Wait, T: LineTask, P: Progress> Answering<'_, R, T, P> {
         most: usize,
         out: &mut O,
     ) -> Result<(), Stop>
-        ensures gains { OnOk result ((text : List ℕ) × Gains (RepliesFrom (T.replies self.now.lines.now.by.now) self.now.lines.now.from) (WaitsFrom (T.waits self.now.lines.now.by.now) self.now.lines.now.from) replies.old replies.new text
+        ensures gains { OnOk result ((text : List ℕ) × Gains (RepliesFrom (T.replies self.now.lines.now.by.now) self.now.lines.now.from)
+            (WaitsFrom (T.waits self.now.lines.now.by.now) self.now.lines.now.from) replies.old replies.new text
             × Appends (O.contents out.old) (O.contents out.new) text) }
         ensures few { OnOk result (length replies.new.replies.items ≤ most) }
-        ensures breaks { IfErr result (λ stop. Breaks (RepliesFrom (T.replies self.now.lines.now.by.now) self.now.lines.now.from) (WaitsFrom (T.waits self.now.lines.now.by.now) self.now.lines.now.from) replies.old stop (O.contents out.old) (O.contents out.new)) }
+        ensures breaks { IfErr result (λ stop. Breaks (RepliesFrom (T.replies self.now.lines.now.by.now) self.now.lines.now.from)
+            (WaitsFrom (T.waits self.now.lines.now.by.now) self.now.lines.now.from) replies.old stop (O.contents out.old) (O.contents out.new)) }
         ensures readable { IfErr result (λ stop. stop ≢ Stop.Unreadable) }
     {
         for _ in self.rt.forever() {

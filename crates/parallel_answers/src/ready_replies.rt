@@ -20,7 +20,8 @@ fn gather<T: LineTask, P>(
     replies: &mut OpenReplies<T::Mark>,
     arrived: &mut Arrived<T>,
 ) -> Result<Vec<u8>, Stop>
-    ensures gains { IfOk result (λ text. Gains (RepliesFrom (T.replies lines.now.by.now) lines.now.from) (WaitsFrom (T.waits lines.now.by.now) lines.now.from) replies.old replies.new text.items) }
+    ensures gains { IfOk result (λ text. Gains (RepliesFrom (T.replies lines.now.by.now) lines.now.from)
+        (WaitsFrom (T.waits lines.now.by.now) lines.now.from) replies.old replies.new text.items) }
     ensures memory { IfErr result (λ stop. stop ≡ Stop.NoMemory) }
 {
     let mut text = Vec::new(alloc);
@@ -41,9 +42,11 @@ pub(crate) fn write_ready<T: LineTask, P, O: Write>(
     arrived: &mut Arrived<T>,
     out: &mut O,
 ) -> Result<Vec<u8>, Stop>
-    ensures gains { IfOk result (λ text. Gains (RepliesFrom (T.replies lines.now.by.now) lines.now.from) (WaitsFrom (T.waits lines.now.by.now) lines.now.from) replies.old replies.new text.items
+    ensures gains { IfOk result (λ text. Gains (RepliesFrom (T.replies lines.now.by.now) lines.now.from)
+        (WaitsFrom (T.waits lines.now.by.now) lines.now.from) replies.old replies.new text.items
         × Appends (O.contents out.old) (O.contents out.new) text.items) }
-    ensures breaks { IfErr result (λ stop. Breaks (RepliesFrom (T.replies lines.now.by.now) lines.now.from) (WaitsFrom (T.waits lines.now.by.now) lines.now.from) replies.old stop (O.contents out.old) (O.contents out.new)) }
+    ensures breaks { IfErr result (λ stop. Breaks (RepliesFrom (T.replies lines.now.by.now) lines.now.from)
+        (WaitsFrom (T.waits lines.now.by.now) lines.now.from) replies.old stop (O.contents out.old) (O.contents out.new)) }
     ensures readable { IfErr result (λ stop. stop ≢ Stop.Unreadable) }
 {
     let text = gather(alloc, lines, replies, arrived)?;

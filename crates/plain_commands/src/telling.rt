@@ -98,10 +98,10 @@ pub fn tree<S: Source, O: Write, E: Write>(
     out: &mut O,
     err: &mut E,
 ) -> Result<bool, Stop>
-    ensures ok { IfOk result (λ refused. Gains (Tells (S.holds source.now) asked.now.bound (tree_form_of asked.now.form asked.now.letters.now) asked.now.files.from
-        (map (λ s. s.now) asked.now.files.names.now) refused) (O.contents out.old) (O.contents out.new)) }
-    ensures err { IfErr result (λ stop. StopsTelling (S.holds source.now) (S.refuses source.now) asked.now.bound (tree_form_of asked.now.form asked.now.letters.now)
-        asked.now.files.from (map (λ s. s.now) asked.now.files.names.now) stop (O.contents out.old) (O.contents out.new)) }
+    ensures ok { IfOk result (λ refused. Gains (Tells (S.holds source.now) asked.now.bound
+        (tree_form_of asked.now.form asked.now.letters.now) asked.now.files.from (map (λ s. s.now) asked.now.files.names.now) refused) (O.contents out.old) (O.contents out.new)) }
+    ensures err { IfErr result (λ stop. StopsTelling (S.holds source.now) (S.refuses source.now) asked.now.bound
+        (tree_form_of asked.now.form asked.now.letters.now) asked.now.files.from (map (λ s. s.now) asked.now.files.names.now) stop (O.contents out.old) (O.contents out.new)) }
 {
     let rays = Rays::new();
     let mut memo = new_memo(alloc, TREE_ENTRIES)?;
@@ -121,10 +121,10 @@ pub fn tree_json<S: Source, O: Write, E: Write>(
     out: &mut O,
     err: &mut E,
 ) -> Result<bool, Stop>
-    ensures ok { IfOk result (λ refused. Gains (TellsJson (S.holds source.now) asked.now.bound (tree_form_of asked.now.form asked.now.letters.now) asked.now.files.from
-        (map (λ s. s.now) asked.now.files.names.now) refused) (O.contents out.old) (O.contents out.new)) }
-    ensures err { IfErr result (λ stop. StopsTellingJson (S.holds source.now) (S.refuses source.now) asked.now.bound (tree_form_of asked.now.form asked.now.letters.now)
-        asked.now.files.from (map (λ s. s.now) asked.now.files.names.now) stop (O.contents out.old) (O.contents out.new)) }
+    ensures ok { IfOk result (λ refused. Gains (TellsJson (S.holds source.now) asked.now.bound
+        (tree_form_of asked.now.form asked.now.letters.now) asked.now.files.from (map (λ s. s.now) asked.now.files.names.now) refused) (O.contents out.old) (O.contents out.new)) }
+    ensures err { IfErr result (λ stop. StopsTellingJson (S.holds source.now) (S.refuses source.now) asked.now.bound
+        (tree_form_of asked.now.form asked.now.letters.now) asked.now.files.from (map (λ s. s.now) asked.now.files.names.now) stop (O.contents out.old) (O.contents out.new)) }
 {
     let rays = Rays::new();
     let mut memo = new_memo(alloc, TREE_ENTRIES)?;
