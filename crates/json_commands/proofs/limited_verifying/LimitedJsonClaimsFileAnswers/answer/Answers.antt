@@ -16,3 +16,8 @@ returns-in_err-front-clause-err g c =
     rw (is) (not_opened fault.NoMemory other (first_file_replies Row c.args.self.now.several (IsLimitedClaim stops [] bound)
     c.args.start.now.from c.args.start.now.name.now) (g.I.Input.left c.args.input) (g.O.Write.contents c.args.out.now)
     (no_file_reply Row c.args.self.now.several (IsLimitedClaim stops [] bound) c.args.start.now.from c.args.start.now.name.now) same)
+
+pub returns-clause-ok : goal.returns-clause-ok
+returns-clause-ok g c =
+    rw c.with_unread-memory.ensures
+    (rw (c.as_slice.ensures.value, c.in_ok-front.ensures) at c.in_ok-unsound.ensures.marked)
