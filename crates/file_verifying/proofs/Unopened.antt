@@ -1,10 +1,7 @@
 -- What is written before a file is opened: nothing.
 use Rattle.std.proofs.Common.{ℕ, Bool, List, [], Option}
 use Rattle.std.specs.Bool.{⊤}
-use Rattle.std.proofs.KnownBytes.{Appends-kept, Appends-nil}
-use Rattle.std.specs.Io.KnownBytes.{Keeps}
-use Rattle.byte_streams.specs.declared.stops.Stop.TheVariants as stop
-use Rattle.file_answers.specs.FileAnswers.{AnswersFirst, StopsAnswering}
+use Rattle.file_answers.specs.FileAnswers.{AnswersFirst}
 use Rattle.file_answers.proofs.Unopened.{answers_none, no_reply_on}
 use Rattle.file_verifying.specs.Verified.{claim_replies, first_claim_replies, first_limited_claim_replies, has_several, limited_claim_replies}
 

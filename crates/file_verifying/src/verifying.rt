@@ -1,6 +1,6 @@
 //! The command `verify`.
 
-ghost use Rattle.std.specs.Prelude.{◌≡◌, ℕ, List, IfErr, IfOk, map};
+ghost use Rattle.std.specs.Prelude.{◌≡◌, ◌≤◌, ℕ, List, IfErr, IfOk, map};
 ghost use Rattle.std.specs.Io.KnownBytes.{Appends};
 ghost use Rattle.byte_streams.specs.Inputs.{MayBe};
 ghost use Rattle.byte_streams.specs.Stops.{AppendsBy};
@@ -40,6 +40,7 @@ pub trait Verifier {
         memory: &mut Self::Memory,
         out: &mut O,
     ) -> Result<usize, Stop>
+        requires from { 1 ≤ start.now.from }
         ensures ok { IfOk result (λ unsound. (bytes : List ℕ) × (text : List ℕ) × MayBe (I.left input) bytes
             × IsReplyOn (IsClaimReply prefix.now (default self.now)) start.now.from bytes text unsound
             × Appends (O.contents out.old) (O.contents out.new) text) }
