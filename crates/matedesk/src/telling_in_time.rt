@@ -13,7 +13,7 @@ use file_answers::{FileAnswers, FileStart, MISUSED, Source, answer_files, compla
 use file_solving::new_memo;
 use mate_answers::{Limited, LimitedMemory};
 use mate_search::{Memo, OneThread};
-use mate_tree::TreeAskeds;
+use mate_tree::LimitedTrees;
 use move_words::Letters;
 use plain_commands::{NO_LETTERS, TREE_ENTRIES, tree_form};
 use std::alloc::Global;
@@ -25,7 +25,7 @@ use text_lines::{LinesFrom, answer_lines};
 /// Tells the trees of the records of files so.
 #[derive(Clone, Copy)]
 struct LimitedAnswers<'a, 'b, 'r> {
-    trees: &'a TreeAskeds<'b, 'r, TickLimit>,
+    trees: &'a LimitedTrees<'b, 'r, TickLimit>,
 }
 
 impl FileAnswers for LimitedAnswers<'_, '_, '_> {
@@ -121,7 +121,7 @@ impl TimedCommand for TellInTime<'_, '_> {
             limit,
             solver: OneThread,
         };
-        let trees = TreeAskeds {
+        let trees = LimitedTrees {
             limited: &limited,
             form: tree_form(&self.asked.form, self.asked.letters),
         };
