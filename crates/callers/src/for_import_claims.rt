@@ -15,19 +15,22 @@ use std::io::Write;
 pub fn headed_rows<S: Source, O: Write, E: Write>(
     alloc: Global,
     size: MemoSize,
-    files: Files,
+    files: &Files,
     source: &S,
     out: &mut O,
     err: &mut E,
 ) -> Result<bool, Stop>
-    ensures { IfOk result (λ unsound. Gains (VerifiesImported (S.holds source.now) None true files.entry.from
-        (map (λ s. s.now) files.entry.names.now) unsound) (O.contents out.old) (O.contents out.new)) }
+    ensures { IfOk result (λ unsound. Gains (VerifiesImported (S.holds source.now) None true files.now.from
+        (map (λ s. s.now) files.now.names.now) unsound) (O.contents out.old) (O.contents out.new)) }
 {
     let asked = ImportedAsked {
         bound: None,
         memo: size,
         header: true,
-        files,
+        files: Files {
+            names: files.names,
+            from: files.from,
+        },
     };
     verify_imported(alloc, &asked, source, out, err)
 }

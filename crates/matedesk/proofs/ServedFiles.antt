@@ -1,6 +1,6 @@
 -- What `serve` shows, and where it stops.
 use Rattle.std.proofs.Common.{◌≡◌, ◌<◌, ◌≤◌, ◌⊎◌, ℕ, Bool, List, [], Option, Some, Result}
-use Rattle.std.proofs.Common.{Ok, Err, IfErr, IfOk, inl, inr, refl, arith, length, map}
+use Rattle.std.proofs.Common.{Ok, Err, IfErr, IfOk, inl, inr, arith, length, map}
 use Rattle.std.proofs.KnownBytes.{Appends-nil, Keeps-refl}
 use Rattle.std.proofs.lemmas.List.{length-map}
 use Rattle.clap.specs.Words.{Text}

@@ -1,6 +1,6 @@
 //! Commands where each record may take so many seconds, and the thread that counts them.
 
-ghost use Rattle.std.specs.Prelude.{◌≡◌, ◌-◌, IfErr, IfOk, Some, true};
+ghost use Rattle.std.specs.Prelude.{◌≡◌, ◌-◌, ℕ, IfErr, IfOk, Some, true};
 ghost use Rattle.command_words.specs.Asked.{Asked, asks_threads};
 ghost use Rattle.plain_commands.specs.Command.{Ends, Stops};
 ghost use Rattle.matedesk.specs.InTime.{ShownInTime};
@@ -20,6 +20,9 @@ use std::thread::Threads;
 pub(crate) trait TimedCommand {
     /// What goes from record to record.
     type Memory: Drop;
+
+    /// That it may answer, as where it starts threads.
+    ghost ready: { Self → Type 0 } = { λ _. Unit {0} };
 
     /// What the words ask for.
     ghost asks: { Self → Asked };
@@ -48,6 +51,7 @@ pub(crate) trait TimedCommand {
         out: &mut O,
         err: &mut E,
     ) -> Result<bool, Stop>
+        requires ready { ready self.now }
         ensures ok { IfOk result (λ refused. ShownInTime (S.holds source.now) (asks self.now) refused
             (undecided memory.new - undecided memory.old) (O.contents out.old) (O.contents out.new)) }
         ensures err { IfErr result
@@ -66,6 +70,7 @@ pub(crate) fn answer_in_time<
     O: Write,
     E: Write,
 >(rt: &R, alloc: Global, command: &C, source: &S, out: &mut O, err: &mut E) -> u8
+    requires ready { C.ready command.now }
     ensures { Ends (S.holds source.now) (S.refuses source.now) (Some (C.asks command.now)) result (O.contents out.old) (O.contents out.new) }
 {
     // How it ends with the status of what was written, and with nothing written.

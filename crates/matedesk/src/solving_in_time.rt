@@ -73,9 +73,12 @@ pub(crate) struct SolveJsonInTime<'a, 'm, R> {
 
 impl<R: Threads + Sync> TimedCommand for SolveInTime<'_, '_, R> {
     ghost use Rattle.std.specs.Prelude.{refl};
+    ghost use Rattle.std.specs.Thread.{IsSync};
     ghost use Rattle.command_words.specs.Asked.{limited as asked_so};
 
     type Memory = LimitedMemory<ThreadMemory>;
+
+    ghost ready = { λ _. IsSync R.row };
 
     ghost asks = { λ command. asked_so command.seconds command.asked.now.bound command.asked.now.memo command.asked.now.files.from
         (map (λ s. s.now) command.asked.now.files.names.now) };
@@ -122,9 +125,12 @@ impl<R: Threads + Sync> TimedCommand for SolveInTime<'_, '_, R> {
 
 impl<R: Threads + Sync> TimedCommand for SolveJsonInTime<'_, '_, R> {
     ghost use Rattle.std.specs.Prelude.{refl};
+    ghost use Rattle.std.specs.Thread.{IsSync};
     ghost use Rattle.command_words.specs.Asked.{limited_json as asked_so};
 
     type Memory = LimitedMemory<ThreadMemory>;
+
+    ghost ready = { λ _. IsSync R.row };
 
     ghost asks = { λ command. asked_so command.seconds command.asked.now.bound command.asked.now.memo command.asked.now.files.from
         (map (λ s. s.now) command.asked.now.files.names.now) };

@@ -31,9 +31,12 @@ pub(crate) struct VerifyInTime<'a, 'm, R> {
 
 impl<R: Threads + Sync> TimedCommand for VerifyInTime<'_, '_, R> {
     ghost use Rattle.std.specs.Prelude.{refl};
+    ghost use Rattle.std.specs.Thread.{IsSync};
     ghost use Rattle.command_words.specs.Asked.{verify_limited as asked_so};
 
     type Memory = LimitedClaimMemory<ThreadMemory>;
+
+    ghost ready = { λ _. IsSync R.row };
 
     ghost asks = { λ command. asked_so command.seconds command.asked.now.bound command.asked.now.memo command.asked.now.header
         command.asked.now.files.from (map (λ s. s.now) command.asked.now.files.names.now) };
