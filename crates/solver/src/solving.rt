@@ -27,7 +27,10 @@ fn answer<S: Source, O: Write, E: Write>(
     ensures other { IfNone result (asks_solve (option_map plan_of request.now) ≡ false) }
     ensures kept { IfNone result ((out.new ≡ out.old) × (err.new ≡ err.old)) }
 {
-    let Some(Request::Solve(asked)) = request else {
+    let Some(request) = request else {
+        return None;
+    };
+    let Request::Solve(asked) = request else {
         return None;
     };
     let ended = solve(alloc, asked, source, out, err);
