@@ -16,7 +16,7 @@ kept_alike : {X : Type 0} (f g : X → Bool) (xs : List X) → ((x : X) → f x 
 kept_alike f g [] h = refl
 kept_alike f g (x ∷ xs) h = rw (h x, kept_alike f g xs h) refl
 
-first_kept : {X : Type 0} (f : X → Bool) (xs kept : List X) (d : X) → filter f xs ≡ kept → 0 < length kept → Some (get_or kept 0 d) ≡ find f xs
+pub first_kept : {X : Type 0} (f : X → Bool) (xs kept : List X) (d : X) → filter f xs ≡ kept → 0 < length kept → Some (get_or kept 0 d) ≡ find f xs
 first_kept f [] kept d e some = absurd (omega (arith, some, ap length e))
 first_kept f (x ∷ xs) kept d e some = (elim (f x) as (λ b. f x ≡ b → Some (get_or kept 0 d) ≡ find f (x ∷ xs)) [
   | true ↦ λ t. let e' = rw t at e in rw (t, ← e') refl

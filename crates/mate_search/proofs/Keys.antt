@@ -1,6 +1,6 @@
 -- The keys in place of all first moves: there is a mate where there is a key, and the variation begins with the first of them.
-use Rattle.std.proofs.Common.{◌≡◌, ℕ, zero, suc, ◌+◌, ◌-◌, ◌<◌, Bool, true, false, List, [], ◌∷◌}
-use Rattle.std.proofs.Common.{length, filter, find, Option, None, Some, refl, sym, arith, nat_lt, ◌∙◌}
+use Rattle.std.proofs.Common.{◌≡◌, ℕ, suc, ◌+◌, ◌-◌, ◌<◌, Bool, true, false, List, [], ◌∷◌}
+use Rattle.std.proofs.Common.{length, filter, Option, None, Some, refl, sym, arith, nat_lt, ◌∙◌}
 use Rattle.std.proofs.lemmas.Bool.{lt-ltb}
 use Rattle.std.specs.List.{All, list_any}
 use Rattle.std.proofs.lemmas.List.Elements.{All-filter}
@@ -15,13 +15,6 @@ use Rattle.mate_search.specs.inside.Truth.{dist, truth_among}
 use Rattle.mate_search.specs.inside.Variation.{keys, variation}
 use Rattle.mate_search.proofs.Least.{dist_found, dist_none_more}
 use Rattle.mate_search.proofs.Wins.{win_among_step}
-
-find_kept : {X : Type 0} (f : X → Bool) (xs : List X) → find f (filter f xs) ≡ find f xs
-find_kept f [] = refl
-find_kept f (x ∷ xs) = (elim (f x) as (λ b. f x ≡ b → find f (filter f (x ∷ xs)) ≡ find f (x ∷ xs)) [
-  | true ↦ λ t. rw t (rw t refl)
-  | false ↦ λ t. rw t (find_kept f xs)
-]) refl
 
 any_kept : {X : Type 0} (f : X → Bool) (xs : List X) → list_any f xs ≡ nat_lt 0 (length (filter f xs))
 any_kept f [] = refl
@@ -43,11 +36,6 @@ dist_no_key first p k none empty = dist_none_more first p k none (win_by_keys fi
 
 pub keys_legal : (first : List Move) (p : Setup) (n : ℕ) → All (λ m. is_legal p m ≡ true) first → All (λ m. is_legal p m ≡ true) (keys first p n)
 keys_legal first p n legal = All-filter (leaves_lost (n - 1) p) (λ m. is_legal p m ≡ true) first legal
-
-pub variation_of_keys : (first : List Move) (p : Setup) (n : ℕ) → variation (keys first p n) p n ≡ variation first p n
-unfolding variation
-variation_of_keys first p zero = refl
-variation_of_keys first p (suc n) = rw (find_kept (leaves_lost (suc n - 1) p) first) refl
 
 -- What is said of the least number of moves, by its keys and its line.
 pub truth_by_keys : (first : List Move) (p : Setup) (n b : ℕ) (dm : Option ℕ) (f : Finding) → dm ≡ Some n → dist first p b ≡ Some n

@@ -9,13 +9,13 @@ use Rattle.chess_board.specs.Positions.{Setup}
 use Rattle.chess_board.specs.Soundness.{IsSound}
 use Rattle.chess_board.specs.Laws.{are_equal, EqualReads}
 use Rattle.mate_search.specs.declared.memo_entries.Entry.{Entry}
-use Rattle.mate_search.specs.Wins.{win}
+use Rattle.mate_search.specs.Wins.{win, lost}
 use Rattle.mate_search.specs.inside.MemoEntries.{IsTrueOf, AreTrue, IsTrueMemo}
 use Rattle.mate_search.proofs.Room.{put_within, length-promoted}
 use Rattle.std.proofs.lemmas.List.{length-take}
 use Rattle.chess_moves.specs.inside.Listing.{legal_moves}
 use Rattle.mate_search.specs.inside.Truth.{dist}
-use Rattle.mate_search.proofs.Wins.{win_more}
+use Rattle.mate_search.proofs.Wins.{win_more, loses_weaker}
 use Rattle.mate_search.proofs.Least.{none_dist}
 use Rattle.mate_search.proofs.Playing.{all_among}
 
@@ -32,6 +32,17 @@ pub no_win_within_fewer : (k n : ℕ) (p : Setup) → n ≤ k → win k p ≡ fa
 no_win_within_fewer k n p h l = (elim (win n p) as (λ b. win n p ≡ b → b ≡ false) [
   | false ↦ λ t. refl
   | true ↦ λ t. let w = win_within_more n k p h t in cc
+]) refl
+
+-- Who is lost with k moves left to the attacker is lost with n.
+pub lost_within_more : (k n : ℕ) (q : Setup) → k ≤ n → lost k q ≡ true → lost n q ≡ true
+lost_within_more k n q h l = loses_weaker (win k) (win n) q (λ p. win_within_more k n p h) l
+
+-- Who is not lost with k moves left is not lost with n.
+pub not_lost_within_fewer : (k n : ℕ) (q : Setup) → n ≤ k → lost k q ≡ false → lost n q ≡ false
+not_lost_within_fewer k n q h l = (elim (lost n q) as (λ b. lost n q ≡ b → b ≡ false) [
+  | false ↦ λ t. refl
+  | true ↦ λ t. let more = lost_within_more n k q h t in cc
 ]) refl
 
 -- What is said of the least number of moves, where it was found.

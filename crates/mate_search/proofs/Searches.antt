@@ -4,7 +4,8 @@ use Rattle.std.proofs.Common.{take, get_or, Some, None, refl, sym, ap, arith, fi
 use Rattle.std.specs.List.{All, Contains, list_any, list_all}
 use Rattle.std.proofs.lemmas.List.Elements.{filter_more, All-head, All-tail, All-contains_itself, Contains-append_right}
 use Rattle.std.proofs.lemmas.List.Folds.{list_any_at}
-use Rattle.std.proofs.lemmas.Bool.{and_parts}
+use Rattle.std.specs.Prelude.{nat_lt}
+use Rattle.std.proofs.lemmas.Bool.{and_parts, lt-ltb}
 
 -- the first element that passes, where none before it does
 find_here : {X : Type 0} (p : X → Bool) (xs : List X) (i : ℕ) (d : X) → i < length xs → find p (take i xs) ≡ None
@@ -47,6 +48,26 @@ all_weaker p q (x ∷ xs) h e = (elim (p x) as (λ b. p x ≡ b → list_all q (
   | true ↦ λ t. rw (h x t) (all_weaker p q xs h (rw t at e))
   | false ↦ λ t. let n = rw t at e in cc
 ]) refl
+
+all_of_some : {X : Type 0} (f p : X → Bool) (xs : List X) → list_all f xs ≡ true → list_all f (filter p xs) ≡ true
+all_of_some f p [] e = e
+all_of_some f p (x ∷ xs) e = let both = and_parts (f x) (list_all f xs) e in
+    (elim (p x) as (λ b. p x ≡ b → list_all f (filter p (x ∷ xs)) ≡ true) [
+      | true ↦ λ t. rw t (rw both.0 (all_of_some f p xs both.1))
+      | false ↦ λ t. rw t (all_of_some f p xs both.1)
+    ]) refl
+
+some_of_more : {X : Type 0} (p : X → Bool) (xs : List X) → nat_lt 0 (length (filter p xs)) ≡ true → nat_lt 0 (length xs) ≡ true
+some_of_more p [] e = e
+some_of_more p (x ∷ xs) e = lt-ltb 0 (length (x ∷ xs)) (omega arith)
+
+-- What holds of all holds of some of them.
+pub all_kept : {X : Type 0} (f p : X → Bool) (xs kept : List X) → kept ≡ filter p xs → list_all f xs ≡ true → list_all f kept ≡ true
+all_kept f p xs kept is e = rw is (all_of_some f p xs e)
+
+-- Where there are some of them, there are some.
+pub some_kept : {X : Type 0} (p : X → Bool) (xs kept : List X) → kept ≡ filter p xs → nat_lt 0 (length kept) ≡ true → nat_lt 0 (length xs) ≡ true
+some_kept p xs kept is e = some_of_more p xs (rw is at e)
 
 -- what a find finds
 pub any_found : {X : Type 0} (p : X → Bool) (xs : List X) → list_any p xs ≡ true → (x : X) × (find p xs ≡ Some x) × (p x ≡ true)

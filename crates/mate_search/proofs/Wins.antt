@@ -64,7 +64,7 @@ pub lost_none : (k : ℕ) (q : Setup) → k ≡ 0 → lost k q ≡ is_mate q
 lost_none k q h = or_false (is_mate q) (has_legal_move q && list_all (λ r. win k (after_setup q r)) (legal_moves q))
     (none_left (λ r. win k (after_setup q r)) (legal_moves q) (λ r. win_none k (after_setup q r) h))
 
-loses_weaker : (f g : Setup → Bool) (p : Setup) → ((q : Setup) → f q ≡ true → g q ≡ true) → loses_by f p ≡ true → loses_by g p ≡ true
+pub loses_weaker : (f g : Setup → Bool) (p : Setup) → ((q : Setup) → f q ≡ true → g q ≡ true) → loses_by f p ≡ true → loses_by g p ≡ true
 loses_weaker f g p h e = (elim (is_mate p) as (λ b. is_mate p ≡ b → loses_by g p ≡ true) [
   | true ↦ λ t. rw t
   | false ↦ λ t. let e' = rw t at e in rw t ((elim (has_legal_move p) as (λ b. has_legal_move p ≡ b

@@ -4,5 +4,5 @@ pub mod Truth
 pub mod PartLaws
 pub mod MemoEntries
 pub mod Findings
-pub mod LastReplyTable
+pub mod ReplyTable
 pub mod SideOccupancy

@@ -4,7 +4,7 @@
 //! `specs/Wins.antt`, keys and the principal variation in `specs/PrincipalVariation.antt`, and what there is to say of a problem in
 //! `specs/Laws.antt`; an outcome is exactly that.
 //!
-//! To read: `memo_entries`, `peers`, `killers`, `side_occupancy`, `recent_positions`, `last_reply_table`, `memo`, `halting`, `searching`,
+//! To read: `memo_entries`, `peers`, `killers`, `side_occupancy`, `recent_positions`, `reply_table`, `memo`, `halting`, `searching`,
 //! `root_results`, `principal_variation`, `findings`, `solving`, `solvers`; `laws` says of the definitions what they are meant to say. `solve`
 //! takes memory for its memo alone, and never fails for want of it; `solve_until` can be stopped.
 #![tactic(auto)]
@@ -12,13 +12,13 @@
 mod findings;
 mod halting;
 mod killers;
-mod last_reply_table;
 mod laws;
 mod memo;
 mod memo_entries;
 mod peers;
 mod principal_variation;
 mod recent_positions;
+mod reply_table;
 mod root_results;
 mod searching;
 mod side_occupancy;

@@ -10,10 +10,10 @@ ghost use Rattle.mate_search.specs.Memos.{max_large_entries, memo_fault_name};
 ghost use Rattle.mate_search.specs.Wins.{lost};
 
 use crate::killers::Killers;
-use crate::last_reply_table::{LastReplyTable, TablePlace};
 use crate::memo_entries::Entry;
 use crate::peers::Peers;
-use crate::recent_positions::{RecentPositions, filter_bytes};
+use crate::recent_positions::RecentPositions;
+use crate::reply_table::{ReplyTable, TablePlace};
 use crate::side_occupancy::SideOccupancy;
 use chess_board::{Move, Position, equal_reads};
 use lru::LruCache;
@@ -42,8 +42,8 @@ pub struct Memo {
     waiting: usize,
     /// Which positions the cache may hold: to look for one that it does not costs more than to ask this.
     recent: RecentPositions,
-    /// What was found of positions with the defender to move and one move left to the attacker.
-    last_replies: LastReplyTable,
+    /// What was found of positions with the defender to move.
+    replies: ReplyTable,
     killers: Killers,
     /// Whom it tells what is kept, and from whom it hears.
     peers: Peers,
@@ -138,15 +138,14 @@ impl Memo {
             return Err(MemoFault::BadSize);
         };
         let recent = RecentPositions::new(alloc, entries);
-        let few = entries.min(FEW_ENTRIES);
-        let last_replies = LastReplyTable::none(alloc, few, filter_bytes(few));
+        let replies = ReplyTable::none(alloc, entries);
         match cache_for(alloc, size) {
             Ok(cache) => Ok(Memo {
                 cache,
                 room: entries,
                 waiting: 0,
                 recent,
-                last_replies,
+                replies,
                 killers: Killers::none(),
                 peers: Peers::none(alloc),
             }),
@@ -328,21 +327,26 @@ impl Memo {
         }
     }
 
-    /// Whether the defender is lost in a position with one move left to the attacker, where that is kept in this place.
+    /// Whether the defender is lost in a position with so many moves left to the attacker, where what is kept in this place tells it.
     #[inline(always)]
-    pub(crate) fn judged(&self, place: TablePlace, position: &Position) -> Option<bool>
-        ensures { IfSome result (λ is_lost. is_lost ≡ lost 1 position.now) }
+    pub(crate) fn judged(&self, place: TablePlace, position: &Position, moves: u8) -> Option<bool>
+        ensures { IfSome result (λ is_lost. is_lost ≡ lost moves position.now) }
     {
-        self.last_replies.judged(place, position)
+        self.replies.judged(place, position, moves)
     }
 
     /// Keeps in this place whether it is. Where memory is refused, it is not kept.
-    pub(crate) fn keep_judged(&mut self, place: TablePlace, position: &Position, is_lost: bool)
-        requires { is_lost ≡ lost 1 position.now }
+    pub(crate) fn keep_judged(
+        &mut self,
+        place: TablePlace,
+        position: &Position,
+        moves: u8,
+        is_lost: bool,
+    )
+        requires { is_lost ≡ lost moves position.now }
         ensures { self.new ≡ self.old }
     {
-        let held = self.cache.len();
-        self.last_replies.keep(place, position, is_lost, held);
+        self.replies.keep(place, position, moves, is_lost);
     }
 
     /// The two replies that refuted last with one move left to the attacker.

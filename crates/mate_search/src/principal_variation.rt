@@ -41,29 +41,7 @@ pub(crate) fn push_keys<H: Halt>(
     Ok(())
 }
 
-/// The first of these keys.
-fn least_key<H: Halt>(
-    guide: &Guide<H>,
-    position: &Position,
-    first: &[Move],
-    n: u8,
-    memo: &mut Memo,
-) -> Result<Option<Move>, Stopped>
-    requires some { 0 < n }
-    requires legal { All (λ m. is_legal position.now m ≡ true) first.now }
-    ensures key { IfOk result (λ found. found ≡ least_key first.now position.now n) }
-    ensures legal { IfOk result (λ found. IfSome found (λ m. is_legal position.now m ≡ true)) }
-    ensures ends { EndsSearch result (H.may_stop guide.now.halt.now) memo.old memo.new }
-{
-    for m in first {
-        if loses(guide, &after(position, *m), n - 1, memo)? {
-            return Ok(Some(*m));
-        }
-    }
-    Ok(None)
-}
-
-/// The same, of all legal moves.
+/// The first of the keys of a mate within `n` moves, of all legal moves.
 fn least_of_all<H: Halt>(
     guide: &Guide<H>,
     position: &Position,
@@ -102,30 +80,9 @@ fn longest_defence<H: Halt>(
     Ok(None)
 }
 
-/// Appends the principal variation to a mate within `n` moves, the first of which is one of these.
-pub(crate) fn push_variation<H: Halt>(
-    guide: &Guide<H>,
-    position: &Position,
-    first: &[Move],
-    n: u8,
-    memo: &mut Memo,
-    out: &mut Variation,
-) -> Result<(), Stopped>
-    requires some { 0 < n }
-    requires room { array_vec_len out.old + 2 * n ≤ 30 }
-    requires legal { All (λ m. is_legal position.now m ≡ true) first.now }
-    ensures variation { IfOk result (λ _. out.new.items ≡ out.old.items ++ variation first.now position.now n) }
-    ensures ends { EndsSearch result (H.may_stop guide.now.halt.now) memo.old memo.new }
-{
-    match least_key(guide, position, first, n, memo)? {
-        Some(m) => push_from(guide, position, m, n, memo, out),
-        None => Ok(()),
-    }
-}
-
-/// The same from this key on, the first of whatever moves there are to begin with.
+/// Appends the principal variation to a mate within `n` moves that begins with this key, the first of whatever moves there are to begin with.
 #[cycle(variation)]
-fn push_from<H: Halt>(
+pub(crate) fn push_variation<H: Halt>(
     guide: &Guide<H>,
     position: &Position,
     key: Move,
@@ -165,7 +122,7 @@ fn push_next<H: Halt>(
     ensures ends { EndsSearch result (H.may_stop guide.now.halt.now) memo.old memo.new }
 {
     match least_of_all(guide, position, n, memo)? {
-        Some(m) => push_from(guide, position, m, n, memo, out),
+        Some(m) => push_variation(guide, position, m, n, memo, out),
         None => Ok(()),
     }
 }

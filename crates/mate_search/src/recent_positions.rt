@@ -20,11 +20,6 @@ fn words_for(marks: usize) -> usize {
     marks.div_ceil(A_WORD).next_power_of_two().min(MOST_WORDS)
 }
 
-/// How many bytes both halves take where they have all their words, in a memo with room for so many entries.
-pub(crate) fn filter_bytes(entries: usize) -> usize {
-    words_for(entries).saturating_mul(16)
-}
-
 /// The word of a half that a hash names; none where there are no words, of which there are a power of two.
 #[inline(always)]
 fn word_of(hash: u64, half: &[u64]) -> usize {

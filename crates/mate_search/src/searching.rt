@@ -8,11 +8,13 @@ ghost use Rattle.mate_search.specs.inside.Halting.{EndsSearch};
 ghost use Rattle.mate_search.specs.inside.SideOccupancy.{IsOccupancyOf, IsPlain};
 
 use crate::halting::{Guide, Halt, Stopped};
-use crate::last_reply_table::place_of;
 use crate::memo::Memo;
+use crate::reply_table::place_of;
 use crate::side_occupancy::SideOccupancy;
-use chess_board::{Move, Position, after};
-use chess_moves::{Rays, has_mating_move, in_check, is_legal, is_mated, legal_listed, legal_moves};
+use chess_board::{Kind, Move, Position, after};
+use chess_moves::{
+    Rays, has_mating_move, in_check, is_legal, is_mated, legal_listed, legal_moves, legal_moves_of,
+};
 
 /// Whether the attacker, to move, mates within `n` moves. A position one move from the end is not worth keeping.
 #[cycle(search)]
@@ -117,9 +119,8 @@ fn wins_by_some<H: Halt>(
     Ok(false)
 }
 
-/// Whether the defender loses. With one move left to the attacker that may be known from another line that led to the same position. With
-/// more it is not kept, since the guide is asked whether to stop once for each position that is searched, and by that they are counted.
-/// It is laid in, so that the stack of a search has no frame of it.
+/// Whether the defender loses, which may be known from another line that led to the same position. It is laid in, so that the stack of a
+/// search has no frame of it.
 #[inline(always)]
 #[cycle(search)]
 fn loses_again<H: Halt>(
@@ -131,15 +132,12 @@ fn loses_again<H: Halt>(
     ensures lost { IfOk result (λ is_lost. is_lost ≡ lost k position.now) }
     ensures ends { EndsSearch result (H.may_stop guide.now.halt.now) memo.old memo.new }
 {
-    if k != 1 {
-        return loses(guide, position, k, memo);
-    }
     let place = place_of(position);
-    if let Some(is_lost) = memo.judged(place, position) {
+    if let Some(is_lost) = memo.judged(place, position, k) {
         return Ok(is_lost);
     }
     let is_lost = loses(guide, position, k, memo)?;
-    memo.keep_judged(place, position, is_lost);
+    memo.keep_judged(place, position, k, is_lost);
     Ok(is_lost)
 }
 
@@ -164,7 +162,7 @@ pub(crate) fn loses<H: Halt>(
 }
 
 /// Whether one of those replies refutes that are likely to: one move from the end the two that refuted last, before that what the memo
-/// knows, checks, and captures.
+/// knows, checks, captures, and all others before those of the king.
 #[cycle(search)]
 fn is_refuted_first<H: Halt>(
     guide: &Guide<H>,
@@ -188,7 +186,10 @@ fn is_refuted_first<H: Halt>(
     if is_refuted_by_check(guide, position, k, memo)? {
         return Ok(true);
     }
-    is_refuted_by_capture(guide, position, k, memo)
+    if is_refuted_by_capture(guide, position, k, memo)? {
+        return Ok(true);
+    }
+    is_refuted_by_others(guide, position, k, memo)
 }
 
 /// Whether the memo knows of a reply after which the attacker does not mate within `k` moves. To ask about all of them costs
@@ -265,6 +266,28 @@ fn is_refuted_by_capture<H: Halt>(
 {
     for r in legal_moves(guide.rays, position) {
         if position.man(r.target).is_some() && !wins(guide, &after(position, r), k, memo)? {
+            return Ok(true);
+        }
+    }
+    Ok(false)
+}
+
+/// Whether a reply of another man than the king refutes: the attacker does not mate within `k` moves after it. A king that goes away
+/// seldom gets away, and what is left to the attacker after it takes long to search.
+#[cycle(search)]
+fn is_refuted_by_others<H: Halt>(
+    guide: &Guide<H>,
+    position: &Position,
+    k: u8,
+    memo: &mut Memo,
+) -> Result<bool, Stopped>
+    ensures refuted { IfOk result (λ refuted. refuted ≡ true → lost k position.now ≡ false) }
+    ensures ends { EndsSearch result (H.may_stop guide.now.halt.now) memo.old memo.new }
+{
+    let others = !position.men(position.side(), Kind::King);
+    for r in legal_moves_of(guide.rays, position, others) {
+        let next = after(position, r);
+        if !wins(guide, &next, k, memo)? {
             return Ok(true);
         }
     }

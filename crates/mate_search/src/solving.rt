@@ -178,8 +178,8 @@ fn find_beyond<H: Halt>(
     let Finding { keys, pv } = found;
     for k in none..problem.bound.get() {
         push_keys(guide, &root, k + 1, memo, keys)?;
-        if !keys.is_empty() {
-            push_variation(guide, root.position, keys.as_slice(), k + 1, memo, pv)?;
+        if let [key, ..] = keys.as_slice() {
+            push_variation(guide, root.position, *key, k + 1, memo, pv)?;
             return Ok(Bound::new(k + 1));
         }
     }

@@ -25,6 +25,8 @@ mod plain_search_tests;
 #[cfg(test)]
 mod plain_solving;
 #[cfg(test)]
+mod plain_table;
+#[cfg(test)]
 mod record_reading_tests;
 #[cfg(test)]
 mod san_tests;

@@ -1,5 +1,6 @@
-//! What a search keeps, in its plain form: a memo alone, which is asked about each position.
+//! What a search keeps, in its plain form: a memo, which is asked about each position, and the table of replies.
 
+use crate::plain_table::PlainTable;
 use chess_board::{Move, Position};
 use lru::LruCache;
 use std::alloc::Global;
@@ -82,11 +83,12 @@ impl Killers {
     }
 }
 
-/// What a search found about the positions that it met last, at most as many as there is room for, and the replies that refuted
-/// last.
+/// What a search found about the positions that it met last, at most as many as there is room for, those with the defender to move in a
+/// table of their own, and the replies that refuted last.
 #[derive(Drop)]
 pub(crate) struct PlainMemo {
     cache: LruCache<Position, Entry>,
+    replies: PlainTable,
     killers: Killers,
 }
 
@@ -96,6 +98,7 @@ impl PlainMemo {
         let cache = LruCache::new(alloc, NonZeroUsize::new(entries)?).ok()?;
         Some(PlainMemo {
             cache,
+            replies: PlainTable::none(alloc, entries),
             killers: Killers::none(),
         })
     }
@@ -117,6 +120,16 @@ impl PlainMemo {
     pub(crate) fn keep(&mut self, position: &Position, entry: Entry) {
         // A put that is refused loses this entry and nothing else, and no outcome depends on it.
         let _ = self.cache.put(*position, entry);
+    }
+
+    /// Whether the defender is lost in a position with so many moves left to the attacker, where that is kept.
+    pub(crate) fn judged(&self, position: &Position, moves: u8) -> Option<bool> {
+        self.replies.answer(position, moves)
+    }
+
+    /// Keeps whether it is.
+    pub(crate) fn keep_judged(&mut self, position: &Position, moves: u8, is_lost: bool) {
+        self.replies.keep(position, moves, is_lost);
     }
 
     /// The two replies that refuted last with one move left to the attacker.

@@ -1,4 +1,4 @@
-//! The search in its plain form, as it was before a filter spared look-ups of the memo and a table told of positions one move from the end.
+//! The search in its plain form, without the filter that spares look-ups of the memo and without the tags of the table of replies.
 //! It proves no more than that it is safe.
 
 ghost use Rattle.std.specs.Prelude.{◌<◌, IfOk, IfSome};
@@ -96,11 +96,27 @@ fn wins_by_some<H: Halt>(
     requires some { 0 < n }
 {
     for m in legal_moves(guide.rays, position) {
-        if loses(guide, &after(position, m), n - 1, memo)? {
+        if loses_again(guide, &after(position, m), n - 1, memo)? {
             return Ok(true);
         }
     }
     Ok(false)
+}
+
+/// Whether the defender loses, which may be known from another line that led to the same position.
+#[cycle(search)]
+fn loses_again<H: Halt>(
+    guide: &Guide<H>,
+    position: &Position,
+    k: u8,
+    memo: &mut PlainMemo,
+) -> Result<bool, Stopped> {
+    if let Some(is_lost) = memo.judged(position, k) {
+        return Ok(is_lost);
+    }
+    let is_lost = loses(guide, position, k, memo)?;
+    memo.keep_judged(position, k, is_lost);
+    Ok(is_lost)
 }
 
 /// Whether the defender, to move, is mated, or the attacker mates within `k` moves whatever the reply.
@@ -121,7 +137,7 @@ pub(crate) fn loses<H: Halt>(
 }
 
 /// Whether one of those replies refutes that are likely to: one move from the end the two that refuted last, before that what the memo
-/// knows, checks, and captures.
+/// knows, checks, captures, and all others before those of the king.
 #[cycle(search)]
 fn is_refuted_first<H: Halt>(
     guide: &Guide<H>,
@@ -138,7 +154,10 @@ fn is_refuted_first<H: Halt>(
     if is_refuted_by_check(guide, position, k, memo)? {
         return Ok(true);
     }
-    is_refuted_by_capture(guide, position, k, memo)
+    if is_refuted_by_capture(guide, position, k, memo)? {
+        return Ok(true);
+    }
+    is_refuted_by_others(guide, position, k, memo)
 }
 
 /// Whether one of the two replies that refuted last refutes: the attacker does not mate within `k` moves after it.
@@ -194,6 +213,23 @@ fn is_refuted_by_capture<H: Halt>(
 ) -> Result<bool, Stopped> {
     for r in legal_moves(guide.rays, position) {
         if position.man(r.target).is_some() && !wins(guide, &after(position, r), k, memo)? {
+            return Ok(true);
+        }
+    }
+    Ok(false)
+}
+
+/// Whether a reply of another man than the king refutes: the attacker does not mate within `k` moves after it.
+#[cycle(search)]
+fn is_refuted_by_others<H: Halt>(
+    guide: &Guide<H>,
+    position: &Position,
+    k: u8,
+    memo: &mut PlainMemo,
+) -> Result<bool, Stopped> {
+    let king = position.king(position.side());
+    for r in legal_moves(guide.rays, position) {
+        if r.origin != king && !wins(guide, &after(position, r), k, memo)? {
             return Ok(true);
         }
     }

@@ -111,7 +111,12 @@ fn line_of_play<H: Halt>(
     requires bounded { n ≤ 15 }
 {
     let mut pv = Variation::new();
-    push_variation(guide, position, keys, n, memo, &mut pv)?;
+    if let [key, ..] = keys {
+        let _origin = key.origin;
+        if is_legal(guide.rays, position, *key) {
+            push_variation(guide, position, *key, n, memo, &mut pv)?;
+        }
+    }
     Ok(pv)
 }
 
@@ -174,25 +179,23 @@ fn longest_defence<H: Halt>(
     Ok(None)
 }
 
-/// Appends the principal variation to a mate within `n` moves, the first of which is one of these.
+/// Appends the principal variation to a mate within `n` moves that begins with this key.
 #[cycle(variation)]
 fn push_variation<H: Halt>(
     guide: &Guide<H>,
     position: &Position,
-    first: &[Move],
+    key: Move,
     n: u8,
     memo: &mut PlainMemo,
     out: &mut Variation,
 ) -> Result<(), Stopped>
     requires some { 0 < n }
     requires room { array_vec_len out.old + 2 * n ≤ 30 }
+    requires legal { is_legal position.now key ≡ true }
 {
-    let Some(m) = least_key(guide, position, first, n, memo)? else {
-        return Ok(());
-    };
-    out.push(m);
+    out.push(key);
     if n > 1 {
-        let q = after(position, m);
+        let q = after(position, key);
         if let Some(r) = longest_defence(guide, &q, n - 2, memo)? {
             out.push(r);
             push_next(guide, &after(&q, r), n - 1, memo, out)?;
@@ -214,12 +217,9 @@ fn push_next<H: Halt>(
     requires some { 0 < n }
     requires room { array_vec_len out.old + 2 * n ≤ 30 }
 {
-    push_variation(
-        guide,
-        position,
-        legal(guide.rays, position).as_slice(),
-        n,
-        memo,
-        out,
-    )
+    let first = legal(guide.rays, position);
+    match least_key(guide, position, first.as_slice(), n, memo)? {
+        Some(m) => push_variation(guide, position, m, n, memo, out),
+        None => Ok(()),
+    }
 }

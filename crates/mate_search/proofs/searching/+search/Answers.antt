@@ -1,6 +1,7 @@
 use Rattle.std.proofs.Common.{◌≡◌, ◌-◌, refl, sym, ap, ◌∙◌, arith, rules}
 use Rattle.chess_moves.specs.inside.Listing.{legal_moves}
 use Rattle.mate_search.specs.Wins.{win, lost}
+use Rattle.mate_search.proofs.Searches.{all_kept, some_kept}
 use Rattle.mate_search.proofs.Wins.{all_legal, refuted_by, refuted_by_next, some_next, all_behind, win_by_next, no_win_left, win_none, lost_none}
 use Rattle.chess_board.specs.Legality.{is_legal}
 use Rattle.chess_board.specs.MakeMove.{after_setup}
@@ -42,6 +43,17 @@ is_refuted_by_capture-loop-r-init t g c =
     c.into_iter-r-iterator.ensures.into_iter_gives ∙ c.legal_moves-r-items.ensures.moves in
     record { all = rw moves (λ e. e); some = rw moves (λ e. e); legal = rw moves (all_legal c.args.position.now); room = refl }
 
+pub is_refuted_by_others-loop-r-init : goal.is_refuted_by_others-loop-r-init
+is_refuted_by_others-loop-r-init t g c =
+    let moves = legal_moves c.args.position.now in
+    let kept = c.into_iter-r-iterator.ensures.into_iter_gives ∙ c.legal_moves_of-r-items.ensures in
+    record {
+      all = all_kept (λ r. win c.args.k (after_setup c.args.position.now r)) _ moves c.into_iter-r-iterator.result kept;
+      some = some_kept _ moves c.into_iter-r-iterator.result kept;
+      legal = all_kept (is_legal c.args.position.now) _ moves c.into_iter-r-iterator.result kept (all_legal c.args.position.now);
+      room = refl;
+    }
+
 pub is_refuted_by_check-loop-r-init : goal.is_refuted_by_check-loop-r-init
 is_refuted_by_check-loop-r-init t g c =
     let moves : c.into_iter-r-iterator.result ≡ legal_moves c.args.position.now =
@@ -69,6 +81,12 @@ is_refuted_by_capture-returns-then-not-branch-clause-refuted t g c = λ _.
     c.in-Some.ensures.steps c.loop-r.invariant.all c.loop-r.invariant.some
     (ap (win c.args.k) (sym c.after.ensures) ∙ sym c.in_ok-wins.ensures.found ∙ c.if-not-branch.true)
 
+pub is_refuted_by_others-returns-then-not-branch-clause-refuted : goal.is_refuted_by_others-returns-then-not-branch-clause-refuted
+is_refuted_by_others-returns-then-not-branch-clause-refuted t g c = λ _.
+    refuted_by_next c.args.k c.args.position.now c.loop-r.r-iterator c.next.new.self c.in-Some.r
+    c.in-Some.ensures.steps c.loop-r.invariant.all c.loop-r.invariant.some
+    (ap (win c.args.k) (sym c.after-next.ensures) ∙ sym c.in_ok-wins.ensures.found ∙ c.if-not-branch.true)
+
 pub is_refuted_by_check-returns-then-not-branch-clause-refuted : goal.is_refuted_by_check-returns-then-not-branch-clause-refuted
 is_refuted_by_check-returns-then-not-branch-clause-refuted t g c = λ _.
     refuted_by_next c.args.k c.args.position.now c.loop-r.r-iterator c.next.new.self c.in-Some.r
@@ -77,6 +95,15 @@ is_refuted_by_check-returns-then-not-branch-clause-refuted t g c = λ _.
 
 pub is_refuted_by_capture-loop-r-preserved : goal.is_refuted_by_capture-loop-r-preserved
 is_refuted_by_capture-loop-r-preserved t g c = record {
+  all = λ e. all_behind (λ s. win c.args.k (after_setup c.args.position.now s)) c.loop-r.r-iterator c.next.new.self c.in-Some.r
+      c.in-Some.ensures.steps (c.loop-r.invariant.all e);
+  some = λ _. c.loop-r.invariant.some (some_next c.loop-r.r-iterator c.next.new.self c.in-Some.r c.in-Some.ensures.steps);
+  legal = all_behind (is_legal c.args.position.now) c.loop-r.r-iterator c.next.new.self c.in-Some.r c.in-Some.ensures.steps c.loop-r.invariant.legal;
+  room = search rules;
+}
+
+pub is_refuted_by_others-loop-r-preserved : goal.is_refuted_by_others-loop-r-preserved
+is_refuted_by_others-loop-r-preserved t g c = record {
   all = λ e. all_behind (λ s. win c.args.k (after_setup c.args.position.now s)) c.loop-r.r-iterator c.next.new.self c.in-Some.r
       c.in-Some.ensures.steps (c.loop-r.invariant.all e);
   some = λ _. c.loop-r.invariant.some (some_next c.loop-r.r-iterator c.next.new.self c.in-Some.r c.in-Some.ensures.steps);

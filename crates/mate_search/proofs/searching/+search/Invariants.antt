@@ -38,6 +38,9 @@ decreases-is_refuted_by_check g l = 9 * l.k + 4
 abbrev pub decreases-is_refuted_by_capture : goal.decreases-is_refuted_by_capture
 decreases-is_refuted_by_capture g l = 9 * l.k + 4
 
+abbrev pub decreases-is_refuted_by_others : goal.decreases-is_refuted_by_others
+decreases-is_refuted_by_others g l = 9 * l.k + 4
+
 abbrev pub decreases-refutes : goal.decreases-refutes
 decreases-refutes g l = 9 * l.k + 4
 
@@ -78,6 +81,16 @@ invariant-is_refuted_by_capture-loop-r g l = record {
 -- the same of those that are asked whether they check
 abbrev pub invariant-is_refuted_by_check-loop-r : goal.invariant-is_refuted_by_check-loop-r
 invariant-is_refuted_by_check-loop-r g l = record {
+  all : list_all (λ r. win l.k (after_setup l.position r)) (legal_moves l.position) ≡ true
+      → list_all (λ r. win l.k (after_setup l.position r)) l.r-iterator ≡ true;
+  some : nat_lt 0 (length l.r-iterator) ≡ true → has_legal_move l.position ≡ true;
+  legal : list_all (is_legal l.position) l.r-iterator ≡ true;
+  room : l.memo.room ≡ l.fn.memo.room;
+}
+
+-- the same of those that no king makes
+abbrev pub invariant-is_refuted_by_others-loop-r : goal.invariant-is_refuted_by_others-loop-r
+invariant-is_refuted_by_others-loop-r g l = record {
   all : list_all (λ r. win l.k (after_setup l.position r)) (legal_moves l.position) ≡ true
       → list_all (λ r. win l.k (after_setup l.position r)) l.r-iterator ≡ true;
   some : nat_lt 0 (length l.r-iterator) ≡ true → has_legal_move l.position ≡ true;
