@@ -157,6 +157,28 @@ impl Both {
         found
     }
 
+    /// Asks both for a mate in one move of a position, in two, and so on up to so many, as `uci` does, and gives how often they asked.
+    fn check_lengths(
+        &mut self,
+        rt: &impl Abort,
+        rays: &Rays,
+        position: &Position,
+        most: u8,
+    ) -> u64 {
+        let before = self.wanted.asked.get();
+        for moves in 0..most {
+            let problem = Problem {
+                position: *position,
+                bound: bound_of(rt, moves.saturating_add(1)),
+                avoid: AvoidList::new(),
+            };
+            if let Outcome::Mate { .. } = self.check_outcome(rt, rays, &problem) {
+                break;
+            }
+        }
+        self.wanted.asked.get().saturating_sub(before)
+    }
+
     /// The same of a position, and then without its first key, or another move where it has none.
     fn check_outcomes(&mut self, rt: &impl Abort, rays: &Rays, position: &Position, most: u8) {
         let mut problem = Problem {
@@ -289,4 +311,77 @@ fn a_larger_memo_is_asked_as_often(rt: HostRuntime) {
     same(&rt, &"within 7", &outcome, &Outcome::NoMate);
     let kept = both.memo.len();
     same(&rt, &kept, &(kept > 65_536), &true);
+}
+
+/// Problems, the moves within which each is asked, and how often a search behind those before it asks whether to stop, over memos of 5,600,
+/// 11,200 and 65,536 entries: `tests/uci` has the same numbers for `nodes`.
+static COUNTED: [(&str, u8, [u64; 3]); 14] = [
+    (
+        "7n/6Q1/2Np4/2k1P3/3N4/7K/8/8 w - - 0 1",
+        4,
+        [1049, 1049, 1049],
+    ),
+    ("2R3N1/4pk2/8/1B2K3/5P2/8/8/8 w - - 0 1", 4, [540, 540, 540]),
+    (
+        "1r3N1k/4NR1P/1b4K1/8/4r3/8/8/8 w - - 0 1",
+        4,
+        [381, 381, 381],
+    ),
+    (
+        "r3k2r/p6p/8/3N4/8/3Q4/8/4K3 w kq - 0 1",
+        5,
+        [16845, 14270, 14245],
+    ),
+    ("r3k2r/p6p/8/8/8/3Q4/3R4/R3K3 w Qkq - 0 1", 5, [56, 56, 56]),
+    ("8/8/8/8/k1p5/8/KP1Q4/8 w - - 0 1", 6, [2247, 2247, 2246]),
+    ("8/8/8/1p1p4/1k6/8/KPP2P2/3Q4 w - - 0 1", 5, [439, 439, 439]),
+    (
+        "8/8/4p1N1/3B2pk/8/R7/7K/8 w - - 0 1",
+        6,
+        [85487, 67680, 48365],
+    ),
+    (
+        "8/8/8/1b2K3/2p4N/4k3/2R5/5B2 w - - 0 1",
+        6,
+        [5338, 5338, 5338],
+    ),
+    (
+        "2r4n/b2n4/q2pN3/r6R/2p1kPp1/P1P3P1/1BP4R/1K3N2 w - - 0 1",
+        4,
+        [917, 917, 917],
+    ),
+    (
+        "8/8/4p1N1/3B2pk/8/1R6/7K/8 w - - 0 1",
+        6,
+        [80722, 64380, 17219],
+    ),
+    (
+        "8/8/4p1N1/3B2pk/R7/8/7K/8 w - - 0 1",
+        6,
+        [83621, 68463, 17982],
+    ),
+    (
+        "3R4/3q1p2/7K/Q4P2/3p4/1N1kBP2/3P4/1b1R4 w - - 0 1",
+        5,
+        [560, 560, 560],
+    ),
+    (
+        "7n/6Q1/2Np4/2k1P3/3N4/7K/8/8 w - - 0 1",
+        5,
+        [1049, 1049, 1049],
+    ),
+];
+
+/// Lengths that are asked for one after the other are asked as often, and so often.
+#[test]
+fn lengths_are_asked_as_often(rt: HostRuntime) {
+    static ENTRIES: [usize; 3] = [5_600, 11_200, 65_536];
+    let rays = Rays::new();
+    for (column, entries) in ENTRIES.iter().enumerate() {
+        let mut both = Both::new(&rt, rt.alloc(), *entries);
+        for (text, most, wanted) in &COUNTED {
+            let asked = both.check_lengths(&rt, &rays, &position_of(&rt, text), *most);
+            same(&rt, text, &Some(&asked), &wanted.get(column));
+        }
+    }
 }

@@ -84,31 +84,36 @@ impl PlainTable {
 
     /// Keeps what was found of a position.
     pub(crate) fn keep(&mut self, position: &Position, moves: u8, is_lost: bool) {
-        let judged = Judged {
-            position: *position,
-            moves,
-            is_lost,
-        };
         if self.judged >= self.enough {
-            self.enough = self.judged.saturating_add(1024);
-            self.grow(judged);
+            self.grow(position);
         }
         self.judged = self.judged.saturating_add(1);
         let place = self.place(position);
         if let Some(kept) = self.places.get_mut(place) {
-            *kept = judged;
+            *kept = Judged {
+                position: *position,
+                moves,
+                is_lost,
+            };
         }
     }
 
     /// Makes more places, a quarter more at least or all that there may be, and forgets what was kept.
-    fn grow(&mut self, judged: Judged) {
+    fn grow(&mut self, position: &Position) {
+        self.enough = self.judged.saturating_add(1024);
         let places = self.judged.min(self.most);
         let least = (self.places.len() / 4).saturating_add(self.places.len());
         if places <= self.places.len() || places < least.min(self.most) {
             return;
         }
         self.places = Vec::new(self.alloc);
-        if let Ok(fresh) = Vec::from_elem(self.alloc, judged, places) {
+        // No question has so many moves left that this is told.
+        let nothing = Judged {
+            position: *position,
+            moves: 0,
+            is_lost: false,
+        };
+        if let Ok(fresh) = Vec::from_elem(self.alloc, nothing, places) {
             self.places = fresh;
             self.judged = 0;
             self.enough = if places == self.most {
