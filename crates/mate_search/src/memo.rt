@@ -29,8 +29,8 @@ pub const MAX_LARGE_ENTRIES: usize = 268_435_456;
 /// Up to how many entries a memo is small.
 const FEW_ENTRIES: usize = 65_536;
 
-/// What a search found about the positions that it met last, at most as many as there is room for; what it found about positions one move
-/// from the end, no more of these than entries; and the replies that refuted last. Each entry is true and each reply is tried, so no
+/// What a search found about the positions that it met last, at most as many as there is room for; what it found about positions with the
+/// defender to move, a quarter as many at most; and the replies that refuted last. Each entry is true and each reply is tried, so no
 /// outcome depends on what is kept. Where memory is refused, it makes do with what it has, and asks for more now and then. Contracts see
 /// how many entries there are, and the room.
 #[derive(Drop)]

@@ -13,7 +13,7 @@ use std::hash::{FoldHasher, Hasher};
 use std::marker::Model;
 
 /// How many places there are, at most. They are few, so that they stay where they are read soon: lines that meet do so before long.
-const PLACES: usize = 16_384;
+const PLACES: usize = 4096;
 
 /// For how many entries that the memo has room for there may be a place. So all that is kept takes no more than 160 bytes for each of these
 /// entries, which is what a size of memory is reckoned by: 96 for itself, 40 at most for its place in the index, 4 at most for its marks.

@@ -50,7 +50,7 @@ impl PlainTable {
         PlainTable {
             alloc,
             places: Vec::new(alloc),
-            most: (entries / 4).min(16_384),
+            most: (entries / 4).min(4096),
             judged: 0,
             enough: 1024,
         }
