@@ -8,7 +8,7 @@ ghost use Rattle.chess_moves.specs.inside.MoveGeneration.{moves_of_men, HaveOwnM
 ghost use Rattle.chess_moves.specs.inside.LegalityInfo.{IsLegalityInfo};
 
 use crate::attackers::attacked;
-use crate::legal_targets::{king_can_move, targets_from};
+use crate::legal_targets::{king_can_move, targets_at_once};
 use crate::legality_info::{LegalityInfo, bare_info_of, with_checks_and_pins};
 use crate::move_generation::legal_moves;
 use crate::movers::mover_on;
@@ -65,7 +65,7 @@ fn can_move(info: &LegalityInfo, men: u64) -> bool
 {
     for origin in square_sets::squares(men) {
         let mover = mover_on(info.position, origin);
-        if count_ways(mover.man, targets_from(info, mover)) != 0 {
+        if count_ways(mover.man, targets_at_once(info, mover)) != 0 {
             return true;
         }
     }

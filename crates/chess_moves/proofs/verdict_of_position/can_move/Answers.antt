@@ -14,14 +14,14 @@ pub returns-then-count_ways-ne0 : goal.returns-then-count_ways-ne0
 returns-then-count_ways-ne0 c =
     let o = c.in-Some.origin in
     let first = many_first c.args.info.now.position.now c.mover_on-mover.result.man c.loop-origin.origin-iterator o c.next.new.self
-    c.targets_from.result c.in-Some.ensures.steps (rw c.mover_on-mover.ensures.origin at c.targets_from.ensures) in
+    c.targets_at_once.result c.in-Some.ensures.steps (rw c.mover_on-mover.ensures.origin at c.targets_at_once.ensures) in
     sym (lt-ltb 0 _ (omega (arith, first, c.count_ways.ensures.count o, c.loop-origin.invariant.none, c.if-count_ways-ne0.true)))
 
 pub loop-origin-preserved : goal.loop-origin-preserved
 loop-origin-preserved c =
     let o = c.in-Some.origin in
     let first = many_first c.args.info.now.position.now c.mover_on-mover.result.man c.loop-origin.origin-iterator o c.next.new.self
-    c.targets_from.result c.in-Some.ensures.steps (rw c.mover_on-mover.ensures.origin at c.targets_from.ensures) in
+    c.targets_at_once.result c.in-Some.ensures.steps (rw c.mover_on-mover.ensures.origin at c.targets_at_once.ensures) in
     record {
       none = omega (arith, first, c.count_ways.ensures.count o, c.loop-origin.invariant.none, c.if-count_ways-ne0.false);
       own = own_others c.args.info.now.position.now c.loop-origin.origin-iterator o c.next.new.self c.in-Some.ensures.steps c.loop-origin.invariant.own;
