@@ -15,8 +15,8 @@ use std::marker::Model;
 /// How many places there are, at most. They are few, so that they stay where they are read soon: lines that meet do so before long.
 const PLACES: usize = 4096;
 
-/// For how many entries that the memo has room for there may be a place. So all that is kept takes no more than 160 bytes for each of these
-/// entries, which is what a size of memory is reckoned by: 96 for itself, 40 at most for its place in the index, 4 at most for its marks.
+/// For how many entries that the memo has room for there may be a place, so that a small memo has a small table. A place takes 81 bytes with
+/// its tag: no more than 21 for each of these entries.
 const ENTRIES_A_PLACE: usize = 4;
 
 /// After how many positions that were judged it is looked whether there are to be more places. Each place that is made is paid for by one

@@ -1,7 +1,7 @@
 //! The program `solver`: the command `solve` of `matedesk` by the same words, and nothing else.
 //!
-//! It stands on half of the crates, so that it is proved in half the time: a new clone solves by it until the whole program is proved. Read
-//! `solving`.
+//! It stands on half of the crates, and is proved in a third of the processor time: a new clone solves by it until the whole program is
+//! proved. Read `solving`.
 #![tactic(auto)]
 
 mod solving;
