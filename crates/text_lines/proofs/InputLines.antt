@@ -1,5 +1,5 @@
 -- The lines of an input, and how one is taken.
-use Rattle.std.proofs.Common.{◌≡◌, ◌≢◌, ℕ, ◌+◌, ◌-◌, ◌<◌, ◌≤◌, ◌==◌, List, [], ◌∷◌, ◌++◌, Option, None, Some, IfNone, IfSome, false}
+use Rattle.std.proofs.Common.{◌≡◌, ◌≢◌, ℕ, ◌+◌, ◌-◌, ◌<◌, ◌≤◌, ◌==◌, List, [], ◌∷◌, ◌++◌, Option, None, Some, false}
 use Rattle.std.proofs.Common.{length, take, drop, get_or, refl, sym, ap, ◌∙◌, subst, arith, append_assoc, append-nil, min, ne_eqb, add-one, suc}
 use Rattle.std.proofs.lemmas.List.{drop_min, take_all, take_more, take-append-drop, length-append}
 use Rattle.std.proofs.lemmas.List.Elements.{All-append, All-cons, All-nil}
@@ -84,21 +84,3 @@ open_line a known same next seen left bytes start is fresh before read =
     let on : Consumes (prepend_known [] known) (prepend_known bytes next) [] =
     takes_on known next bytes (subst (λ k. Consumes k next bytes) is read) in
     rw (fresh, ← append-nil (seen ++ left)) (Consumes-trans a (prepend_known [] known) (prepend_known bytes next) (seen ++ left) [] taken on)
-
--- What is known of a cut, read as what it says of all lines.
-pub cut_last : {X : Type 0} (o : Option X) (text : List ℕ) → IfNone o (IsOneLine text) → IfNone o (lines_of text ≡ text ∷ [])
-cut_last None text one = lines_one text one
-cut_last (Some x) text one = tt
-
-pub cut_first : {X : Type 0} (o : Option X) (text : List ℕ) (line more : X → List ℕ) → IfSome o (λ x. IsOneLine (line x))
-    → IfSome o (λ x. text ≡ line x ++ 10 ∷ more x)
-    → IfSome o (λ x. lines_of text ≡ line x ∷ lines_of (more x))
-cut_first None text line more one cut = tt
-cut_first (Some x) text line more one cut = ap lines_of cut ∙ lines_first (line x) (more x) one
-
-pub cut_shorter : {X : Type 0} (o : Option X) (text : List ℕ) (line more : X → List ℕ) → IfSome o (λ x. text ≡ line x ++ 10 ∷ more x)
-    → IfSome o (λ x. length (more x) < length text)
-cut_shorter None text line more cut = tt
-cut_shorter (Some x) text line more cut =
-    let sum = length-append (line x) (10 ∷ more x) in
-    omega (arith, ap length cut, sum)

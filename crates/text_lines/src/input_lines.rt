@@ -7,6 +7,7 @@ ghost use Rattle.text_lines.specs.Lines.{lines_of, without_cr as text_without_cr
 ghost use Rattle.text_lines.specs.inside.InputLines.{IsKept, IsOneLine, TakesLine, last_or, left_of, spaces_before};
 
 use byte_streams::{Input, InputFault};
+use chess_board::cut_at;
 use std::alloc::{AllocError, Global};
 
 /// How many bytes are asked for at once, where nothing else is said.
@@ -93,7 +94,7 @@ pub fn first_line(text: &[u8]) -> Option<(&[u8], &[u8])>
     ensures cut { IfSome result (λ cut. lines_of text.now ≡ cut.0.now ∷ lines_of cut.1.now) }
     ensures shorter { IfSome result (λ cut. length cut.1.now < length text.now) }
 {
-    cut_line(text)
+    cut_at(text, b'\n')
 }
 
 /// A line without one CR at its end.
