@@ -1,5 +1,7 @@
 //! What a line that was printed says of a problem.
 
+use chess_notation::first_segment;
+
 /// How many moves a mate may take, and none.
 pub(crate) const MOVES: usize = 16;
 
@@ -30,21 +32,6 @@ fn behind_fields(line: &[u8]) -> Option<&[u8]> {
                 let (_, rest) = line.split_at(index);
                 return Some(rest);
             }
-        }
-    }
-    None
-}
-
-/// The operation that a text begins with, and what follows its semicolon. One in a string ends nothing.
-fn cut_operation(text: &[u8]) -> Option<(&[u8], &[u8])> {
-    let mut in_string = false;
-    for (index, byte) in text.iter().enumerate() {
-        if *byte == b'"' {
-            in_string = !in_string;
-        } else if *byte == b';' && !in_string {
-            let (operation, _) = text.split_at(index);
-            let (_, more) = text.split_at(index + 1);
-            return Some((operation, more));
         }
     }
     None
@@ -88,7 +75,7 @@ fn said_by_operations(operations: &[u8]) -> Said {
     let mut rest = operations;
     let mut said = Said::Nothing;
     for _ in 0..operations.len() {
-        let Some((operation, more)) = cut_operation(rest) else {
+        let Some((operation, more)) = first_segment(rest) else {
             return said;
         };
         match said_in(operation) {

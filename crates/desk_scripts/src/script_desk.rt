@@ -58,7 +58,7 @@ fn read_numbers(text: &[u8]) -> Option<Opening>
 pub fn read_desk(line: &[u8]) -> Option<Opening>
     ensures { result ≡ desk_of line.now }
 {
-    let (word, numbers) = cut_at(b' ', line)?;
+    let (word, numbers) = cut_at(line, b' ')?;
     if is_word(word, "desk") {
         read_numbers(numbers)
     } else {

@@ -81,7 +81,7 @@ pub fn read_step(alloc: Global, line: &[u8]) -> Result<Option<Step>, AllocError>
     ensures ok { IfOk result (λ step. option_map step_value step ≡ step_of line.now) }
     ensures err { OnErr result (IsSome (step_of line.now)) }
 {
-    match cut_at(b' ', line) {
+    match cut_at(line, b' ') {
         None => Ok(plain_step(line)),
         Some((word, text)) => step_with(alloc, word, text),
     }

@@ -17,7 +17,7 @@ pub fn is_word(text: &[u8], word: &str) -> bool
 }
 
 /// What stands before the first of these bytes, and behind it.
-pub fn cut_at(separator: u8, text: &[u8]) -> Option<(&[u8], &[u8])>
+pub fn cut_at(text: &[u8], separator: u8) -> Option<(&[u8], &[u8])>
     ensures { option_map (λ cut. (cut.0.now, cut.1.now)) result ≡ cut_of_text separator text.now }
 {
     for (index, byte) in text.iter().enumerate() {
@@ -60,7 +60,7 @@ pub fn number_of(text: &[u8]) -> Option<u32>
 pub fn number_cut(text: &[u8]) -> Option<(u32, &[u8])>
     ensures { option_map (λ cut. (cut.0, cut.1.now)) result ≡ number_cut_of text.now }
 {
-    let (word, rest) = cut_at(b' ', text)?;
+    let (word, rest) = cut_at(text, b' ')?;
     let number = number_of(word)?;
     Some((number, rest))
 }
