@@ -1,8 +1,9 @@
 //! The words of a command line: what they ask for.
 //!
-//! What a word means is settled here, and what is answered is not. Read `specs/Asked.antt` first; then `request` (words to a request)
-//! over `command_line` (what `clap` is told, by the tables `commands` and `arguments`), `limits`, `memory`, `hyphens` and `line_commands`
-//! (the words as it is given them), and `help` (what it prints).
+//! What a word means is settled here, and what is answered is not. Read `specs/Asked.antt` and `request` first; then `parsing` (words to a
+//! request) over `position_requests`, `record_requests` and `tree_requests`, by `matched_values`; `command_line` (what `clap` is told, by the
+//! tables `commands` and `arguments`), `limits`, `memory`, `hyphens` and `line_commands` (the words as it is given them), and `help` (what it
+//! prints).
 #![tactic(auto)]
 
 mod arguments;
@@ -12,15 +13,20 @@ mod help;
 mod hyphens;
 mod limits;
 mod line_commands;
+mod matched_values;
 mod memory;
+mod parsing;
+mod position_requests;
+mod record_requests;
 mod request;
 mod texts;
+mod tree_requests;
 
 pub use help::VERSION;
 pub use hyphens::escaped;
 pub use limits::{Depth, LineNumber, MemoSize, Workers};
+pub use parsing::{asks_progress, gives_records, has_memo_size, parse, request_of};
 pub use request::{
     Files, ImportAsked, ImportedAsked, LineView, MoveForm, Request, ServeAsked, SheetAsked,
-    SheetForm, SolveAsked, TreeAsked, TreeForm, VerifyAsked, asks_progress, gives_records,
-    has_memo_size, parse, request_of,
+    SheetForm, SolveAsked, TreeAsked, TreeForm, VerifyAsked,
 };

@@ -5,7 +5,7 @@ use Rattle.command_words.specs.ClapWords.{app_of as shut_app_of}
 use Rattle.command_words.specs.CommandLine.{desk_app}
 use Rattle.command_words.proofs.OnLiterals.{desk_on_literals}
 use Rattle.command_words.proofs.Parsed.{asked_at_ok, clear_at_ok, display_at_err, misuse_at_err, none_at_err, records_at_ok}
-use Rattle.command_words.proofs.request.parse.Goals as goal
+use Rattle.command_words.proofs.parsing.parse.Goals as goal
 
 desk_is_simple : is_simple desk_app ≡ true
 unfolding desk_on_literals

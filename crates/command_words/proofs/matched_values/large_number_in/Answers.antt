@@ -5,7 +5,7 @@ use Rattle.clap.specs.Words.{Text, found_of, one_text}
 use Rattle.clap.proofs.WalkLemmas.{one_text-rows}
 use Rattle.command_words.specs.Asked.{number_or_zero}
 use Rattle.command_words.proofs.Numbers.{large_number_read}
-use Rattle.command_words.proofs.request.large_number_in.Goals as goal
+use Rattle.command_words.proofs.matched_values.large_number_in.Goals as goal
 
 pub returns : goal.returns
 returns c =
