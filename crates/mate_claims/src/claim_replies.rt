@@ -13,11 +13,12 @@ ghost use Rattle.mate_claims.specs.Said.{said_by};
 
 use crate::bound_sources::{BoundSource, bound_source};
 use crate::claim_verdicts::ClaimVerdict;
+use crate::claimed_records::ClaimedRecord;
 use crate::rows::{Found, keys_text, push_row, refused_row};
 use crate::said::{Said, said_of_record};
 use byte_streams::NoMemory;
 use chess_moves::Rays;
-use chess_notation::{EpdFault, Record, bound_claimed, claims_text, read_record};
+use chess_notation::{EpdFault, bound_claimed, claims_text, read_record};
 use chess_problems::{Bound, Outcome};
 use mate_search::{Memo, solve};
 use std::alloc::Global;
@@ -50,104 +51,86 @@ pub(crate) fn told_of_fault(alloc: Global, place: &[u8], fault: EpdFault) -> Res
 /// What is told of a record of whose claims this comes, by what was found.
 pub(crate) fn told_by(
     alloc: Global,
-    place: &[u8],
-    record: &Record,
-    source: BoundSource,
+    claimed: &ClaimedRecord<'_>,
     said: &Said,
     found: &Found<'_>,
 ) -> Result<Told, NoMemory>
-    requires keys { found.now.keys.now ≡ listed «record».now.position (keys_found_in found.now.outcome.now) }
-    ensures row { IfOk result (λ told. told.row.items
-        ≡ row_of place.now «record».now source said.now.word.now found.now.outcome.now said.now.claims.items) }
+    requires keys { found.now.keys.now ≡ listed claimed.now.record.now.position (keys_found_in found.now.outcome.now) }
+    ensures row { IfOk result (λ told. told.row.items ≡ row_of claimed.now.place.now claimed.now.record.now claimed.now.source
+        said.now.word.now found.now.outcome.now said.now.claims.items) }
     ensures verdict { IfOk result (λ told. told.verdict ≡ said.now.verdict) }
-    ensures source { IfOk result (λ told. told.source ≡ Some source) }
+    ensures source { IfOk result (λ told. told.source ≡ Some claimed.now.source) }
 {
     let mut row = Vec::new(alloc);
-    push_row(
-        alloc,
-        &mut row,
-        place,
-        record,
-        source,
-        said.word,
-        found,
-        said.claims.as_slice(),
-    )?;
+    let claims = said.claims.as_slice();
+    push_row(alloc, &mut row, claimed, said.word, found, claims)?;
     Ok(Told {
         row,
         verdict: said.verdict,
-        source: Some(source),
+        source: Some(claimed.source),
     })
 }
 
-/// What is told of a record of which this was found, where these words stand behind `bm`.
+/// What is told of a record of which this was found.
 fn told_of_found(
     alloc: Global,
     rays: &Rays,
-    place: &[u8],
-    line: &[u8],
-    record: &Record,
-    source: BoundSource,
-    words: &[u8],
+    claimed: &ClaimedRecord<'_>,
     found: &Found<'_>,
 ) -> Result<Told, NoMemory>
-    requires truth { found.now.outcome.now ≡ truth (problem_of «record».now) }
-    requires playable { IsPlayable «record».now.position found.now.outcome.now }
-    requires keys { found.now.keys.now ≡ listed «record».now.position (keys_found_in found.now.outcome.now) }
-    ensures told { IfOk result (λ told. IsToldBy place.now «record».now source
-        (said_by line.now words.now (words_in words.now) «record».now (truth (problem_of «record».now))) told.row.items told.verdict) }
-    ensures source { IfOk result (λ told. told.source ≡ Some source) }
+    requires truth { found.now.outcome.now ≡ truth (problem_of claimed.now.record.now) }
+    requires playable { IsPlayable claimed.now.record.now.position found.now.outcome.now }
+    requires keys { found.now.keys.now ≡ listed claimed.now.record.now.position (keys_found_in found.now.outcome.now) }
+    ensures told { IfOk result (λ told. IsToldBy claimed.now.place.now claimed.now.record.now claimed.now.source
+        (said_by claimed.now.line.now claimed.now.words.now (words_in claimed.now.words.now) claimed.now.record.now
+        (truth (problem_of claimed.now.record.now))) told.row.items told.verdict) }
+    ensures source { IfOk result (λ told. told.source ≡ Some claimed.now.source) }
 {
-    let said = said_of_record(alloc, rays, line, record, words, found)?;
-    told_by(alloc, place, record, source, &said, found)
+    let said = said_of_record(alloc, rays, claimed, found)?;
+    told_by(alloc, claimed, &said, found)
 }
 
-/// What is told of a record with this outcome, where these words stand behind `bm`.
+/// What is told of a record with this outcome.
 pub(crate) fn told_of_outcome(
     alloc: Global,
     rays: &Rays,
-    place: &[u8],
-    line: &[u8],
-    record: &Record,
-    source: BoundSource,
-    words: &[u8],
+    claimed: &ClaimedRecord<'_>,
     outcome: &Outcome,
 ) -> Result<Told, NoMemory>
-    requires truth { outcome.now ≡ truth (problem_of «record».now) }
-    requires playable { IsPlayable «record».now.position outcome.now }
-    ensures told { IfOk result (λ told. IsToldBy place.now «record».now source
-        (said_by line.now words.now (words_in words.now) «record».now (truth (problem_of «record».now))) told.row.items told.verdict) }
-    ensures source { IfOk result (λ told. told.source ≡ Some source) }
+    requires truth { outcome.now ≡ truth (problem_of claimed.now.record.now) }
+    requires playable { IsPlayable claimed.now.record.now.position outcome.now }
+    ensures told { IfOk result (λ told. IsToldBy claimed.now.place.now claimed.now.record.now claimed.now.source
+        (said_by claimed.now.line.now claimed.now.words.now (words_in claimed.now.words.now) claimed.now.record.now
+        (truth (problem_of claimed.now.record.now))) told.row.items told.verdict) }
+    ensures source { IfOk result (λ told. told.source ≡ Some claimed.now.source) }
 {
+    let record = claimed.record;
     let keys = keys_text(alloc, rays, &record.position, outcome)?;
     let found = Found {
         outcome,
         keys: keys.as_bytes(),
     };
-    told_of_found(alloc, rays, place, line, record, source, words, &found)
+    told_of_found(alloc, rays, claimed, &found)
 }
 
-/// What is told of a record, where these words stand behind `bm`.
+/// What is told of a record.
 fn told_of_record(
     alloc: Global,
     rays: &Rays,
-    place: &[u8],
-    line: &[u8],
-    record: &Record,
-    source: BoundSource,
-    words: &[u8],
+    claimed: &ClaimedRecord<'_>,
     memo: &mut Memo,
 ) -> Result<Told, NoMemory>
-    ensures told { IfOk result (λ told. IsToldBy place.now «record».now source
-        (said_by line.now words.now (words_in words.now) «record».now (truth (problem_of «record».now))) told.row.items told.verdict) }
-    ensures source { IfOk result (λ told. told.source ≡ Some source) }
+    ensures told { IfOk result (λ told. IsToldBy claimed.now.place.now claimed.now.record.now claimed.now.source
+        (said_by claimed.now.line.now claimed.now.words.now (words_in claimed.now.words.now) claimed.now.record.now
+        (truth (problem_of claimed.now.record.now))) told.row.items told.verdict) }
+    ensures source { IfOk result (λ told. told.source ≡ Some claimed.now.source) }
     ensures room { memo.new.room ≡ memo.old.room }
     ensures within { memo.new.kept ≤ memo.new.room }
 {
     // That a memo keeps no more than it has room for is this call's clause.
     memo.len();
-    let outcome = solve(rays, &record.problem(), memo);
-    told_of_outcome(alloc, rays, place, line, record, source, words, &outcome)
+    let outcome = solve(rays, &claimed.record.problem(), memo);
+    told_of_outcome(alloc, rays, claimed, &outcome)
 }
 
 /// What is told of a line that isn't blank: of a record whether it keeps to what it claims. The place of the line, its number in its file for
@@ -173,7 +156,14 @@ pub fn told_of(
         Ok(record) => {
             let words = words.as_slice();
             let source = bound_source(alloc, rays, line, words, &record, default)?;
-            told_of_record(alloc, rays, place, line, &record, source, words, memo)
+            let claimed = ClaimedRecord {
+                place,
+                line,
+                record: &record,
+                source,
+                words,
+            };
+            told_of_record(alloc, rays, &claimed, memo)
         }
         Err(fault) => told_of_fault(alloc, place, fault),
     }

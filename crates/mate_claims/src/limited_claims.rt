@@ -11,15 +11,16 @@ ghost use Rattle.mate_claims.specs.Counts.{with_one};
 ghost use Rattle.mate_claims.specs.LimitedClaims.{IsToldInTime, IsToldLate, unjudged};
 ghost use Rattle.mate_claims.specs.Said.{said_by};
 
-use crate::bound_sources::{BoundSource, bound_source};
+use crate::bound_sources::bound_source;
 use crate::claim_replies::{Told, told_by, told_of_fault, told_of_outcome};
 use crate::claim_rows::{place_of, refusals};
+use crate::claimed_records::ClaimedRecord;
 use crate::counts::Counts;
 use crate::rows::{Found, refused_row};
 use crate::said::said_undecided;
 use byte_streams::NoMemory;
 use chess_moves::Rays;
-use chess_notation::{EpdFault, Record, bound_claimed, claims_text, read_record};
+use chess_notation::{EpdFault, bound_claimed, claims_text, read_record};
 use chess_problems::Outcome;
 use mate_answers::{Limited, TimeLimit, decide};
 use mate_search::{Guide, Solver};
@@ -41,46 +42,42 @@ pub struct LimitedClaimMemory<M> {
     pub counts: Counts,
 }
 
-/// What is told of a record that was not decided, where these words stand behind `bm`.
+/// What is told of a record that was not decided.
 fn told_of_undecided(
     alloc: Global,
     rays: &Rays,
-    place: &[u8],
-    line: &[u8],
-    record: &Record,
-    source: BoundSource,
-    words: &[u8],
+    claimed: &ClaimedRecord<'_>,
 ) -> Result<Told, NoMemory>
-    ensures told { IfOk result (λ told. IsToldLate place.now «record».now source
-        (unjudged (said_by line.now words.now (words_in words.now) «record».now NoMate)) told.row.items told.verdict) }
-    ensures source { IfOk result (λ told. told.source ≡ Some source) }
+    ensures told { IfOk result (λ told. IsToldLate claimed.now.place.now claimed.now.record.now claimed.now.source
+        (unjudged (said_by claimed.now.line.now claimed.now.words.now (words_in claimed.now.words.now) claimed.now.record.now NoMate))
+        told.row.items told.verdict) }
+    ensures source { IfOk result (λ told. told.source ≡ Some claimed.now.source) }
 {
-    let said = said_undecided(alloc, rays, line, record, words)?;
+    let said = said_undecided(alloc, rays, claimed)?;
     let found = Found {
         outcome: &Outcome::NoMate,
         keys: b"",
     };
-    told_by(alloc, place, record, source, &said, &found)
+    told_by(alloc, claimed, &said, &found)
 }
 
 impl<T: TimeLimit, S: Solver<T>> LimitedClaims<'_, '_, T, S> {
-    /// What is told of a record, where these words stand behind `bm`.
+    /// What is told of a record.
     fn tell_record(
         &self,
         alloc: Global,
-        place: &[u8],
-        line: &[u8],
-        record: &Record,
-        source: BoundSource,
-        words: &[u8],
+        claimed: &ClaimedRecord<'_>,
         memory: &mut S::Memory,
     ) -> Result<Told, NoMemory>
         requires { S.ready self.now.limited.now.solver }
-        ensures told { IfOk result (λ told. IsToldBy place.now «record».now source
-            (said_by line.now words.now (words_in words.now) «record».now (truth (problem_of «record».now))) told.row.items told.verdict
-            ⊎ (T.may_stop self.now.limited.now.limit.now × (none : ℕ) × IsNoneSoFar «record».now none × IsToldLate place.now «record».now source
-            (unjudged (said_by line.now words.now (words_in words.now) «record».now NoMate)) told.row.items told.verdict)) }
-        ensures source { IfOk result (λ told. told.source ≡ Some source) }
+        ensures told { IfOk result (λ told. IsToldBy claimed.now.place.now claimed.now.record.now claimed.now.source
+            (said_by claimed.now.line.now claimed.now.words.now (words_in claimed.now.words.now) claimed.now.record.now
+            (truth (problem_of claimed.now.record.now))) told.row.items told.verdict
+            ⊎ (T.may_stop self.now.limited.now.limit.now × (none : ℕ) × IsNoneSoFar claimed.now.record.now none
+            × IsToldLate claimed.now.place.now claimed.now.record.now claimed.now.source
+            (unjudged (said_by claimed.now.line.now claimed.now.words.now (words_in claimed.now.words.now) claimed.now.record.now NoMate))
+            told.row.items told.verdict)) }
+        ensures source { IfOk result (λ told. told.source ≡ Some claimed.now.source) }
         ensures room { S.room memory.new ≡ S.room memory.old }
     {
         let limited = self.limited;
@@ -90,11 +87,9 @@ impl<T: TimeLimit, S: Solver<T>> LimitedClaims<'_, '_, T, S> {
             rays,
             halt: limited.limit,
         };
-        match decide(&guide, &limited.solver, record, memory) {
-            Ok(outcome) => {
-                told_of_outcome(alloc, rays, place, line, record, source, words, &outcome)
-            }
-            Err(_) => told_of_undecided(alloc, rays, place, line, record, source, words),
+        match decide(&guide, &limited.solver, claimed.record, memory) {
+            Ok(outcome) => told_of_outcome(alloc, rays, claimed, &outcome),
+            Err(_) => told_of_undecided(alloc, rays, claimed),
         }
     }
 
@@ -120,7 +115,14 @@ impl<T: TimeLimit, S: Solver<T>> LimitedClaims<'_, '_, T, S> {
                 let words = words.as_slice();
                 let default = limited.default;
                 let source = bound_source(alloc, limited.rays, line, words, &record, default)?;
-                self.tell_record(alloc, place, line, &record, source, words, memory)
+                let claimed = ClaimedRecord {
+                    place,
+                    line,
+                    record: &record,
+                    source,
+                    words,
+                };
+                self.tell_record(alloc, &claimed, memory)
             }
             Err(fault) => told_of_fault(alloc, place, fault),
         }

@@ -7,10 +7,11 @@ ghost use Rattle.mate_claims.specs.Rows.{or_hyphen as text_or_hyphen, field, len
 ghost use Rattle.mate_claims.specs.Rows.{unquoted, keys_found as keys_found_in, listed, row_of, refused_row as refused_row_of};
 
 use crate::bound_sources::BoundSource;
+use crate::claimed_records::ClaimedRecord;
 use byte_streams::NoMemory;
 use chess_board::{Move, Position};
 use chess_moves::Rays;
-use chess_notation::{Operation, Record, kept_operands, listed_text};
+use chess_notation::{Operation, kept_operands, listed_text};
 use chess_problems::{Bound, Outcome};
 use std::alloc::{AllocError, Global};
 
@@ -134,20 +135,19 @@ pub(crate) struct Found<'a> {
 pub(crate) fn push_row(
     alloc: Global,
     row: &mut Vec<u8>,
-    place: &[u8],
-    record: &Record,
-    source: BoundSource,
+    claimed: &ClaimedRecord<'_>,
     word: &str,
     found: &Found<'_>,
     claims: &[u8],
 ) -> Result<(), AllocError>
-    requires keys { found.now.keys.now ≡ listed «record».now.position (keys_found_in found.now.outcome.now) }
-    ensures { OnOk result (row.new.items
-        ≡ row.old.items ++ row_of place.now «record».now source word.now found.now.outcome.now claims.now) }
+    requires keys { found.now.keys.now ≡ listed claimed.now.record.now.position (keys_found_in found.now.outcome.now) }
+    ensures { OnOk result (row.new.items ≡ row.old.items
+        ++ row_of claimed.now.place.now claimed.now.record.now claimed.now.source word.now found.now.outcome.now claims.now) }
 {
-    row.extend_from_slice(place)?;
+    let record = claimed.record;
+    row.extend_from_slice(claimed.place)?;
     push_field(row, word.as_bytes())?;
-    push_asked(alloc, row, record.bound, source)?;
+    push_asked(alloc, row, record.bound, claimed.source)?;
     push_found(alloc, row, found.outcome)?;
     push_field(row, without_first(found.keys))?;
     push_field(row, without_first(claims))?;

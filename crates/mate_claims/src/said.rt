@@ -15,6 +15,7 @@ ghost use Rattle.mate_claims.specs.Said.{claims_refusal, marked as marked_text, 
 ghost use Rattle.mate_claims.specs.Said.{said_by, said_of_moves as said_by_moves, said_of_play as said_by_play};
 
 use crate::claim_verdicts::{ClaimVerdict, judge};
+use crate::claimed_records::ClaimedRecord;
 use crate::play_words::play_word;
 use crate::rows::{Found, keys_found};
 use byte_streams::NoMemory;
@@ -98,17 +99,17 @@ fn play_claimed<'a>(moves: &[Move], line: &'a [u8]) -> &'a [u8]
 fn said_of_moves(
     alloc: Global,
     rays: &Rays,
-    line: &[u8],
-    record: &Record,
+    claimed: &ClaimedRecord<'_>,
     outcome: &Outcome,
     moves: &[Move],
     text: &[u8],
 ) -> Result<Said, NoMemory>
-    requires text { text.now ≡ listed «record».now.position moves.now }
+    requires text { text.now ≡ listed claimed.now.record.now.position moves.now }
     ensures { IfOk result (λ said. record { word = said.word.now; claims = said.claims.items; verdict = said.verdict }
-        ≡ said_by_moves «record».now outcome.now moves.now (play_claimed_in moves.now line.now)) }
+        ≡ said_by_moves claimed.now.record.now outcome.now moves.now (play_claimed_in moves.now claimed.now.line.now)) }
 {
-    match play_claimed(moves, line) {
+    let record = claimed.record;
+    match play_claimed(moves, claimed.line) {
         [] => {
             let verdict = judge(record.bound, moves, outcome);
             Ok(Said {
@@ -128,44 +129,41 @@ fn agrees(words: &[u8], asked: Bound) -> bool
     bound_claimed(words, asked).get() == asked.get()
 }
 
-/// What comes of what these words claim, read word by word. It stands by itself, so that the moves that are claimed take no room where a
+/// What comes of what the words claim, read word by word. It stands by itself, so that the moves that are claimed take no room where a
 /// problem is solved.
 #[inline(never)]
 fn said_of_words(
     alloc: Global,
     rays: &Rays,
-    line: &[u8],
-    record: &Record,
+    claimed: &ClaimedRecord<'_>,
     outcome: &Outcome,
-    words: &[u8],
 ) -> Result<Said, NoMemory>
     ensures { IfOk result (λ said. record { word = said.word.now; claims = said.claims.items; verdict = said.verdict }
-        ≡ said_by line.now words.now (words_in words.now) «record».now outcome.now) }
+        ≡ said_by claimed.now.line.now claimed.now.words.now (words_in claimed.now.words.now) claimed.now.record.now outcome.now) }
 {
-    let claimed = match claimed_moves(rays, &record.position, words) {
-        Ok(claimed) => claimed,
+    let (record, words) = (claimed.record, claimed.words);
+    let named = match claimed_moves(rays, &record.position, words) {
+        Ok(named) => named,
         Err(fault) => return unread(alloc, fault.code(), words),
     };
     if !agrees(words, record.bound) {
         return unread(alloc, "TwoLengths", words);
     }
-    let moves = claimed.as_slice();
+    let moves = named.as_slice();
     let text = listed_text(alloc, rays, &record.position, moves)?;
-    said_of_moves(alloc, rays, line, record, outcome, moves, text.as_bytes())
+    said_of_moves(alloc, rays, claimed, outcome, moves, text.as_bytes())
 }
 
-/// What comes of what these words claim, and the line of play, of a record that was not decided.
+/// What comes of what the words claim, and the line of play, of a record that was not decided.
 pub(crate) fn said_undecided(
     alloc: Global,
     rays: &Rays,
-    line: &[u8],
-    record: &Record,
-    words: &[u8],
+    claimed: &ClaimedRecord<'_>,
 ) -> Result<Said, NoMemory>
     ensures { IfOk result (λ said. record { word = said.word.now; claims = said.claims.items; verdict = said.verdict }
-        ≡ unjudged (said_by line.now words.now (words_in words.now) «record».now NoMate)) }
+        ≡ unjudged (said_by claimed.now.line.now claimed.now.words.now (words_in claimed.now.words.now) claimed.now.record.now NoMate)) }
 {
-    let said = said_of_words(alloc, rays, line, record, &Outcome::NoMate, words)?;
+    let said = said_of_words(alloc, rays, claimed, &Outcome::NoMate)?;
     match said.verdict {
         Some(_) => Ok(Said {
             word: ClaimVerdict::Undecided.code(),
@@ -197,24 +195,22 @@ fn moves_listed<'a>(words: &[u8], record: &Record, found: &Found<'a>) -> Option<
     }
 }
 
-/// What comes of what these words claim, and the line of play. Most records claim no move, or their keys as they are listed; the others are
+/// What comes of what the words claim, and the line of play. Most records claim no move, or their keys as they are listed; the others are
 /// read word by word.
 pub(crate) fn said_of_record(
     alloc: Global,
     rays: &Rays,
-    line: &[u8],
-    record: &Record,
-    words: &[u8],
+    claimed: &ClaimedRecord<'_>,
     found: &Found<'_>,
 ) -> Result<Said, NoMemory>
-    requires truth { found.now.outcome.now ≡ truth (problem_of «record».now) }
-    requires playable { IsPlayable «record».now.position found.now.outcome.now }
-    requires keys { found.now.keys.now ≡ listed «record».now.position (keys_found_in found.now.outcome.now) }
+    requires truth { found.now.outcome.now ≡ truth (problem_of claimed.now.record.now) }
+    requires playable { IsPlayable claimed.now.record.now.position found.now.outcome.now }
+    requires keys { found.now.keys.now ≡ listed claimed.now.record.now.position (keys_found_in found.now.outcome.now) }
     ensures { IfOk result (λ said. record { word = said.word.now; claims = said.claims.items; verdict = said.verdict }
-        ≡ said_by line.now words.now (words_in words.now) «record».now found.now.outcome.now) }
+        ≡ said_by claimed.now.line.now claimed.now.words.now (words_in claimed.now.words.now) claimed.now.record.now found.now.outcome.now) }
 {
-    match moves_listed(words, record, found) {
-        Some(moves) => said_of_moves(alloc, rays, line, record, found.outcome, moves, words),
-        None => said_of_words(alloc, rays, line, record, found.outcome, words),
+    match moves_listed(claimed.words, claimed.record, found) {
+        Some(moves) => said_of_moves(alloc, rays, claimed, found.outcome, moves, claimed.words),
+        None => said_of_words(alloc, rays, claimed, found.outcome),
     }
 }
