@@ -7,7 +7,7 @@ ghost use Rattle.mate_answers.specs.InputReplies.{IsReply};
 use byte_streams::Stop;
 use chess_moves::Rays;
 use chess_problems::Bound;
-use parallel_answers::answer_in_order;
+use parallel_answers::{Answering, answer_in_order};
 use record_tasks::{SolveTask, start_solving};
 use std::alloc::Global;
 use std::io::Write;
@@ -38,7 +38,13 @@ pub fn answer_by_four<R: Threads + Wait + Clock + Clone + Drop + Send + 'static,
         from: 1,
         progress: &(),
     };
-    let refused = answer_in_order(rt, alloc, &rays, &lines, &mut workers, input, out)?;
+    let answering = Answering {
+        rt,
+        alloc,
+        rays: &rays,
+        lines: &lines,
+    };
+    let refused = answer_in_order(&answering, &mut workers, input, out)?;
     workers.end(rt);
     Ok(refused)
 }

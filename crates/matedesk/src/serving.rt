@@ -12,7 +12,7 @@ use file_answers::{
     open_files, status_of,
 };
 use file_solving::solves_none;
-use parallel_answers::{NoWorkers, Workers, answer_in_order};
+use parallel_answers::{Answering, NoWorkers, Workers, answer_in_order};
 use plain_commands::ends_by_status;
 use record_tasks::{SolveTask, start_solving};
 use std::alloc::Global;
@@ -60,7 +60,13 @@ impl<R: Wait> FileAnswers for ServedRecords<'_, R> {
             from: start.from,
             progress: start.source,
         };
-        answer_in_order(self.rt, alloc, self.rays, &lines, memory, input, out)
+        let answering = Answering {
+            rt: self.rt,
+            alloc,
+            rays: self.rays,
+            lines: &lines,
+        };
+        answer_in_order(&answering, memory, input, out)
     }
 
     #[tactic(auto, using(file_solving::proofs::Unopened::no_record_reply))]

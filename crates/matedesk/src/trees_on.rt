@@ -12,7 +12,7 @@ use command_words::TreeAsked;
 use file_answers::{FileAnswers, FileStart, MISUSED, Source, answer_files, complain, status_of};
 use mate_tree::Form;
 use move_words::Letters;
-use parallel_answers::{Workers, answer_in_order};
+use parallel_answers::{Answering, Workers, answer_in_order};
 use plain_commands::{NO_LETTERS, TREE_ENTRIES, ends_by_status, tells_none, tree_form};
 use record_tasks::{TreeTask, start_telling};
 use std::alloc::Global;
@@ -62,7 +62,13 @@ impl<R: Wait> FileAnswers for TreesOn<'_, R> {
             from: start.from,
             progress: start.source,
         };
-        answer_in_order(self.rt, alloc, self.rays, &lines, memory, input, out)
+        let answering = Answering {
+            rt: self.rt,
+            alloc,
+            rays: self.rays,
+            lines: &lines,
+        };
+        answer_in_order(&answering, memory, input, out)
     }
 
     #[tactic(auto, using(plain_commands::proofs::Unopened::no_tree_reply))]

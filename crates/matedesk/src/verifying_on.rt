@@ -12,7 +12,7 @@ use command_words::VerifyAsked;
 use file_answers::{FileStart, Source, status_of};
 use file_verifying::{Verifier, verify_by};
 use mate_claims::Counts;
-use parallel_answers::{Workers, answer_in_order};
+use parallel_answers::{Answering, Workers, answer_in_order};
 use plain_commands::ends_by_status;
 use record_tasks::{ClaimTask, start_verifying};
 use std::alloc::Global;
@@ -53,7 +53,13 @@ impl<R: Wait> Verifier for VerifierOn<'_, R> {
             from: start.from,
             progress: start.source,
         };
-        answer_in_order(self.rt, alloc, self.rays, &lines, memory, input, out)
+        let answering = Answering {
+            rt: self.rt,
+            alloc,
+            rays: self.rays,
+            lines: &lines,
+        };
+        answer_in_order(&answering, memory, input, out)
     }
 
     fn counts(&self, memory: &Workers<ClaimTask>) -> Counts {

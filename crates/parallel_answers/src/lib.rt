@@ -14,5 +14,5 @@ mod ready_replies;
 mod workers;
 
 pub use line_tasks::{LineTask, Reply};
-pub use ordered_answers::answer_in_order;
+pub use ordered_answers::{Answering, answer_in_order};
 pub use workers::{NoWorkers, Prepared, Worker, Workers, prepare};

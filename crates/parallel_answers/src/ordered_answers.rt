@@ -26,11 +26,11 @@ const PIECE: usize = 262_144;
 
 /// What replies are written over: what is asked of each line, and who is told.
 #[derive(Drop)]
-struct Answering<'a, R, T, P> {
-    rt: &'a R,
-    alloc: Global,
-    rays: &'a Rays,
-    lines: &'a LinesFrom<'a, T, P>,
+pub struct Answering<'a, R, T, P> {
+    pub rt: &'a R,
+    pub alloc: Global,
+    pub rays: &'a Rays,
+    pub lines: &'a LinesFrom<'a, T, P>,
 }
 
 impl<R: Wait, T: LineTask, P: Progress> Answering<'_, R, T, P> {
@@ -151,27 +151,21 @@ fn answer_each<R: Wait, T: LineTask, P: Progress, I: Input + Drop, O: Write>(
 /// Gives how many lines are refused. Where it stops before the end, the replies to some of the first lines are written. A line is taken into
 /// memory no further than a record is long, and no more lines than may be open, or were read at once.
 pub fn answer_in_order<R: Wait, T: LineTask, P: Progress, I: Input + Drop, O: Write>(
-    rt: &R,
-    alloc: Global,
-    rays: &Rays,
-    lines: &LinesFrom<T, P>,
+    answering: &Answering<R, T, P>,
     workers: &mut Workers<T>,
     input: I,
     out: &mut O,
 ) -> Result<usize, Stop>
-    requires from { 1 ≤ lines.now.from }
+    requires from { 1 ≤ answering.now.lines.now.from }
     ensures ok { IfOk result (λ refused. (bytes : List ℕ) × (text : List ℕ) × MayBe (I.left input) bytes
-        × IsReplyOn (T.replies lines.now.by.now) lines.now.from bytes text refused × Appends (O.contents out.old) (O.contents out.new) text) }
+        × IsReplyOn (T.replies answering.now.lines.now.by.now) answering.now.lines.now.from bytes text refused
+        × Appends (O.contents out.old) (O.contents out.new) text) }
     ensures err { IfErr result (λ stop. (bytes : List ℕ) × (text : List ℕ) × MayBe (I.left input) bytes
-        × IsReplyToFirstOn (T.replies lines.now.by.now) lines.now.from bytes text × AppendsBy stop (O.contents out.old) (O.contents out.new) text) }
+        × IsReplyToFirstOn (T.replies answering.now.lines.now.by.now) answering.now.lines.now.from bytes text
+        × AppendsBy stop (O.contents out.old) (O.contents out.new) text) }
     ensures unreadable { IfErr result (λ stop. stop ≡ Stop.Unreadable → I.breaks input) }
 {
+    let lines = answering.lines;
     lines.progress.begins(lines.from);
-    let answering = Answering {
-        rt,
-        alloc,
-        rays,
-        lines,
-    };
-    answer_each(&answering, workers, input, out)
+    answer_each(answering, workers, input, out)
 }
