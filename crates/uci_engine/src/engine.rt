@@ -63,6 +63,13 @@ struct Ends {
     planned: Sender<Job, Global>,
 }
 
+/// What the threads that are started take for their own: the one that searches its jobs, and the one that reads its input.
+#[derive(Drop)]
+struct Intake<I: Drop> {
+    jobs: Receiver<Job, Global>,
+    input: I,
+}
+
 /// Answers what comes next; gives whether it was the last.
 fn answer_next<R: Wait, O: Write>(
     rt: &R,
@@ -110,11 +117,11 @@ fn start_threads<'s, R: Threads + Wait + Sync, I: Input + Drop + Send + 's, E>(
     scope: &Scope<'s, E>,
     rt: &'s R,
     searcher: Searcher<'s>,
-    jobs: Receiver<Job, Global>,
-    input: I,
+    intake: Intake<I>,
 ) -> bool
     requires { IsSync R.row × IsSend I.row }
 {
+    let Intake { jobs, input } = intake;
     let counting = move ||
         requires { IsSync R.row }
     { searcher.signals.run_clock(rt, searcher.events) };
@@ -139,8 +146,7 @@ fn run_threads<R: Threads + Wait + Sync, I: Input + Drop + Send, O: Write>(
     searcher: Searcher,
     talk: &mut Talk,
     ends: Ends,
-    jobs: Receiver<Job, Global>,
-    input: I,
+    intake: Intake<I>,
     out: &mut O,
 ) -> Result<(), TalkFault> {
     thread::scope(
@@ -149,7 +155,7 @@ fn run_threads<R: Threads + Wait + Sync, I: Input + Drop + Send, O: Write>(
         move |scope| -> Result<(), TalkFault>
             requires { IsSync R.row × IsSend I.row }
         {
-            let ended = if start_threads(scope, rt, searcher, jobs, input) {
+            let ended = if start_threads(scope, rt, searcher, intake) {
                 answer_events(rt, talk, &ends, out)
             } else {
                 Err(TalkFault::NoThread)
@@ -189,8 +195,7 @@ pub fn run_engine<R: Threads + Wait + Sync, I: Input + Drop + Send, O: Write>(
         searcher,
         &mut talk,
         Ends { events, planned },
-        jobs,
-        input,
+        Intake { jobs, input },
         out,
     )
 }

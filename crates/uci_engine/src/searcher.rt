@@ -51,6 +51,13 @@ pub(crate) struct Searcher<'a> {
     pub(crate) events: &'a Sender<Event, Global>,
 }
 
+/// A key, and which of the keys of its problem it is, from 1.
+#[derive(Clone, Copy)]
+struct RankedKey {
+    key: Move,
+    rank: u64,
+}
+
 /// The first legal move that is not to be avoided.
 fn first_move(rays: &Rays, problem: &Problem) -> Option<Move> {
     for m in legal(rays, &problem.position).as_slice() {
@@ -105,14 +112,13 @@ impl Searcher<'_> {
         &self,
         text: &mut Vec<u8>,
         problem: &Problem,
-        key: Move,
-        rank: u64,
+        ranked: RankedKey,
         memo: &mut Memo,
         watch: &Watch,
     ) -> Result<(), AllocError>
         ensures { IfOk result (λ _. AreKeyLines problem.now text.old.items → AreKeyLines problem.now text.new.items) }
     {
-        let keys = [key];
+        let keys = [ranked.key];
         let Some(alone) = only_these(self.rays, &problem.position, problem.bound, &keys) else {
             return Ok(());
         };
@@ -120,7 +126,7 @@ impl Searcher<'_> {
             return Ok(());
         };
         let progress = self.progress(u64::from(problem.bound.get()));
-        push_mate(text, &progress, rank, pv.as_slice())?;
+        push_mate(text, &progress, ranked.rank, pv.as_slice())?;
         Ok(())
     }
 
@@ -149,7 +155,8 @@ impl Searcher<'_> {
         let mut rank = 1u64;
         for key in keys.as_slice() {
             if 1 < rank && rank <= job.multi_pv {
-                self.push_key(&mut text, problem, *key, rank, memo, watch)?;
+                let ranked = RankedKey { key: *key, rank };
+                self.push_key(&mut text, problem, ranked, memo, watch)?;
             }
             rank = rank.saturating_add(1);
         }
