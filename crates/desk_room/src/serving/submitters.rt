@@ -27,6 +27,13 @@ pub(crate) struct Submitter {
     ghost here: { is_gone window ≡ false },
 }
 
+/// A line of an input, and its number in it, from 1.
+#[derive(Clone, Copy)]
+struct NumberedLine<'a> {
+    number: usize,
+    text: &'a [u8],
+}
+
 /// Writes an answer, and the replies that stand behind it.
 fn write_answer(
     alloc: Global,
@@ -254,7 +261,7 @@ impl Submitter {
         }
     }
 
-    /// Hands in a line, by its number in the input.
+    /// Hands in a line.
     #[tactic(auto, using(crate::proofs::Collecting::window_then))]
     fn hand_in<R: Wait>(
         &mut self,
@@ -262,23 +269,22 @@ impl Submitter {
         alloc: Global,
         rays: &Rays,
         signals: &mut WindowSignals,
-        number: usize,
-        line: &[u8],
+        line: NumberedLine<'_>,
     ) -> Result<(), StopReason>
-        requires few { self.old.refused < number }
+        requires few { self.old.refused < line.number }
         ensures window { SameWindow self.old.window self.new.window }
         ensures few { OnOk result (self.new.refused ≤ self.old.refused + 1) }
-        ensures handled { OnOk result ((lines : List (List ℕ)) → length lines + 1 ≡ number → HasHandled lines self.old
-            → HasHandled (lines ++ line.now ∷ []) self.new) }
+        ensures handled { OnOk result ((lines : List (List ℕ)) → length lines + 1 ≡ line.number → HasHandled lines self.old
+            → HasHandled (lines ++ line.text.now ∷ []) self.new) }
     {
         // That a line's reply follows those to the lines before it is this law.
         replies_go_on();
-        let line = without_cr(line);
-        if is_blank(line) {
+        let text = without_cr(line.text);
+        if is_blank(text) {
             return Ok(());
         }
         self.make_room(rt, alloc, rays, signals)?;
-        let sent = self.send(alloc, rays, number, line);
+        let sent = self.send(alloc, rays, line.number, text);
         signals.count();
         sent
     }
@@ -301,11 +307,14 @@ impl Submitter {
         let mut rest = input;
         for number in 1..usize::MAX {
             match first_line(rest) {
-                Some((line, more)) => {
-                    self.hand_in(rt, alloc, rays, signals, number, line)?;
+                Some((text, more)) => {
+                    self.hand_in(rt, alloc, rays, signals, NumberedLine { number, text })?;
                     rest = more;
                 }
-                None => return self.hand_in(rt, alloc, rays, signals, number, rest),
+                None => {
+                    let last = NumberedLine { number, text: rest };
+                    return self.hand_in(rt, alloc, rays, signals, last);
+                }
             }
         }
         Err(StopReason::NoMemory)
