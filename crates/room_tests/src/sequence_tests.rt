@@ -2,11 +2,9 @@
 
 use crate::test_calls::Call;
 use crate::test_plain_room::PlainRoom;
-use crate::test_real_room::{Tools, make_tools, reply};
+use crate::test_real_room::{RealRoom, Tools, make_tools};
 use crate::test_rows::same;
-use crate::test_scenes::ends_of_one;
 use std::alloc::Global;
-use std::collections::VecDeque;
 use std::process::Abort;
 use std::test::Fail;
 
@@ -83,25 +81,15 @@ fn check_sequence(
     ring: usize,
     number: usize,
 ) -> Result<(), Fail> {
-    let (mut keeper, mut window, mut benches) = ends_of_one(alloc, 1, ring)?;
-    let mut bench = benches.pop().expect(rt, "bench");
-    let mut hand = VecDeque::new(alloc);
+    let mut room = RealRoom::open(rt, alloc, ring)?;
     let mut plain = PlainRoom::new(alloc, ring);
     for (place, kind) in sequence(number).iter().chain(THEN.iter()).enumerate() {
         let call = call_of(*kind, &plain, ring as u64);
-        let found = reply(
-            rt,
-            tools,
-            &mut keeper,
-            &mut window,
-            &mut bench,
-            &mut hand,
-            call,
-        );
+        let found = room.reply(rt, tools, call);
         let wanted = plain.reply(rt, call);
         let row = ("sequence", number, "call", place);
         same(rt, &row, &found, &wanted);
-        let found = (keeper.is_drained(), keeper.byes());
+        let found = (room.keeper.is_drained(), room.keeper.byes());
         same(rt, &row, &found, &(plain.is_drained(), plain.byes()));
     }
     Ok(())

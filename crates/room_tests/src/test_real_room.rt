@@ -1,11 +1,12 @@
 //! Calls on the ends of a room of one window and one bench.
 
+ghost use Rattle.std.specs.Prelude.{IfOk};
 ghost use Rattle.room_ends.specs.Windows.{SameWindow};
 ghost use Rattle.desk_room.specs.Keepers.{IsOf, SameRoom};
 
 use crate::test_calls::{Call, Reply};
 use crate::test_rows::same;
-use crate::test_scenes::{A, ANSWER_A};
+use crate::test_scenes::{A, ANSWER_A, ends_of_one};
 use chess_moves::Rays;
 use chess_notation::{Record, read_record};
 use chess_problems::{Bound, Outcome, Problem};
@@ -16,6 +17,7 @@ use mate_search::Memo;
 use std::alloc::Global;
 use std::collections::VecDeque;
 use std::process::Abort;
+use std::test::Fail;
 
 /// The records that the window sends, by their numbers: mate in one, asked for within so many moves as tell them apart.
 const LINES: [&str; 5] = [
@@ -214,28 +216,44 @@ fn reply_of_bench(
     }
 }
 
-/// A call of the window, of the keeper or of the bench.
-#[tactic(auto, using(crate::proofs::Rooms::of_then, crate::proofs::Rooms::of_window, crate::proofs::Rooms::room_same, crate::proofs::Rooms::room_then))]
-pub(crate) fn reply(
-    rt: &impl Abort,
-    tools: &mut Tools,
-    keeper: &mut Keeper,
-    window: &mut Window,
-    bench: &mut Bench,
-    hand: &mut VecDeque<Back>,
-    call: Call,
-) -> Reply
-    requires { IsOf window.old keeper.old }
-    ensures { IsOf window.new keeper.new }
-{
-    match call {
-        Call::Submit(_) | Call::Withdraw(_) | Call::Bye | Call::Collect => {
-            reply_of_window(rt, tools, window, call)
-        }
-        Call::Turn | Call::Close | Call::SendHome => reply_of_keeper(keeper, call),
-        Call::Settle => Reply::Settled(keeper.settle(window)),
-        Call::Take | Call::Solve | Call::Return | Call::MakeUp(_) => {
-            reply_of_bench(rt, tools, bench, hand, call)
+/// The ends of a room of one window and one bench, and what the bench has in hand.
+#[derive(Drop)]
+pub(crate) struct RealRoom {
+    pub(crate) keeper: Keeper,
+    window: Window,
+    bench: Bench,
+    hand: VecDeque<Back>,
+}
+
+impl RealRoom {
+    /// A room whose rings have so many places.
+    pub(crate) fn open(rt: &impl Abort, alloc: Global, ring: usize) -> Result<RealRoom, Fail>
+        ensures { IfOk result (λ room. IsOf room.window room.keeper) }
+    {
+        let (keeper, window, mut benches) = ends_of_one(alloc, 1, ring)?;
+        Ok(RealRoom {
+            keeper,
+            window,
+            bench: benches.pop().expect(rt, "bench"),
+            hand: VecDeque::new(alloc),
+        })
+    }
+
+    /// A call of the window, of the keeper or of the bench.
+    #[tactic(auto, using(crate::proofs::Rooms::of_then, crate::proofs::Rooms::of_window, crate::proofs::Rooms::room_same, crate::proofs::Rooms::room_then))]
+    pub(crate) fn reply(&mut self, rt: &impl Abort, tools: &mut Tools, call: Call) -> Reply
+        requires { IsOf self.old.window self.old.keeper }
+        ensures { IsOf self.new.window self.new.keeper }
+    {
+        match call {
+            Call::Submit(_) | Call::Withdraw(_) | Call::Bye | Call::Collect => {
+                reply_of_window(rt, tools, &mut self.window, call)
+            }
+            Call::Turn | Call::Close | Call::SendHome => reply_of_keeper(&mut self.keeper, call),
+            Call::Settle => Reply::Settled(self.keeper.settle(&mut self.window)),
+            Call::Take | Call::Solve | Call::Return | Call::MakeUp(_) => {
+                reply_of_bench(rt, tools, &mut self.bench, &mut self.hand, call)
+            }
         }
     }
 }

@@ -228,24 +228,25 @@ pub(crate) fn ends_of_two(
     Ok((keeper, first, second, benches))
 }
 
+/// The ends of a room of two windows, whose benches a crew has.
+#[derive(Drop)]
+struct RoomOfTwo {
+    keeper: Keeper,
+    first: Window,
+    second: Window,
+    crew: Crew,
+}
+
 /// A call of the window of this number, of the keeper or of a bench, where there are two windows.
-fn reply_of_two(
-    rt: &impl Abort,
-    keeper: &mut Keeper,
-    first: &mut Window,
-    second: &mut Window,
-    crew: &mut Crew,
-    number: usize,
-    call: Call,
-) -> String
-    requires first { IsOf first.old keeper.old }
-    requires second { IsOf second.old keeper.old }
-    ensures first { IsOf first.new keeper.new }
-    ensures second { IsOf second.new keeper.new }
+fn reply_of_two(rt: &impl Abort, room: &mut RoomOfTwo, number: usize, call: Call) -> String
+    requires first { IsOf room.old.first room.old.keeper }
+    requires second { IsOf room.old.second room.old.keeper }
+    ensures first { IsOf room.new.first room.new.keeper }
+    ensures second { IsOf room.new.second room.new.keeper }
 {
     match number {
-        0 => reply(rt, keeper, first, crew, call),
-        _ => reply(rt, keeper, second, crew, call),
+        0 => reply(rt, &mut room.keeper, &mut room.first, &mut room.crew, call),
+        _ => reply(rt, &mut room.keeper, &mut room.second, &mut room.crew, call),
     }
 }
 
@@ -258,18 +259,15 @@ pub(crate) fn check_two_windows(
     ring: usize,
     calls: &[(usize, Call, &str)],
 ) -> Result<(), Fail> {
-    let (mut keeper, mut first, mut second, benches) = ends_of_two(alloc, benches, ring)?;
-    let mut crew = Crew::new(rt, alloc, benches);
+    let (keeper, first, second, benches) = ends_of_two(alloc, benches, ring)?;
+    let mut room = RoomOfTwo {
+        keeper,
+        first,
+        second,
+        crew: Crew::new(rt, alloc, benches),
+    };
     for (number, (at, call, wanted)) in calls.iter().enumerate() {
-        let found = reply_of_two(
-            rt,
-            &mut keeper,
-            &mut first,
-            &mut second,
-            &mut crew,
-            *at,
-            *call,
-        );
+        let found = reply_of_two(rt, &mut room, *at, *call);
         same(rt, &number, &found.as_str(), wanted);
     }
     Ok(())
