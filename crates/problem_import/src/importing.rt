@@ -21,7 +21,7 @@ use crate::import_counts::ImportCounts;
 use crate::import_faults::ImportFault;
 use crate::line_kinds::{LineKind, read_line};
 use crate::printing::{Printed, Printing};
-use crate::reading::{Finding, Open, Reading};
+use crate::reading::{AsciiLine, Finding, Open, Reading};
 use crate::texts::trimmed;
 use byte_streams::{Input, NoMemory, Stop, put};
 use chess_moves::Rays;
@@ -77,8 +77,12 @@ fn take(
             Ok(())
         }
         LineKind::Mendable => {
-            let changes = Changes::none(Form::Line);
-            reading.take_record(alloc, number, trimmed(line), true, changes, findings)?;
+            let line = AsciiLine {
+                number,
+                text: trimmed(line),
+                changes: Changes::none(Form::Line),
+            };
+            reading.take_record(alloc, &line, true, findings)?;
             Ok(())
         }
         LineKind::Other => {

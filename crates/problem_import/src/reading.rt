@@ -32,6 +32,14 @@ use move_words::Letters;
 use std::alloc::{AllocError, Global};
 use stipulations::Asked;
 
+/// A line in printable ASCII: its number, its text, and what was changed to make it that.
+#[derive(Clone, Copy)]
+pub(crate) struct AsciiLine<'a> {
+    pub(crate) number: usize,
+    pub(crate) text: &'a [u8],
+    pub(crate) changes: Changes,
+}
+
 /// How many moves a text is to ask.
 #[derive(Clone, Copy)]
 pub(crate) enum Number {
@@ -258,23 +266,22 @@ impl Reading {
     fn open_game(
         &mut self,
         alloc: Global,
-        number: usize,
-        changes: Changes,
+        line: &AsciiLine<'_>,
         findings: &mut Vec<Finding>,
     ) -> Result<(), AllocError>
         ensures kept { IfOk result (λ _. due self.old.open + length findings.old.items ≤ due self.new.open + length findings.new.items) }
         ensures own { IfOk result (λ _. (line : List ℕ) → AreFoundOf line findings.old.items → AreFoundOf line findings.new.items) }
-        ensures more { IfOk result (λ _. does_go_on self.old.open self.old.last number ≡ false
+        ensures more { IfOk result (λ _. does_go_on self.old.open self.old.last line.now.number ≡ false
             → due self.old.open + length findings.old.items < due self.new.open + length findings.new.items) }
         ensures letters { self.new.letters ≡ self.old.letters }
-        ensures from { IfOk result (λ _. (letters : LettersValue) (lines own : List (List ℕ)) → AreUpTo lines own → length own + 1 ≡ number
+        ensures from { IfOk result (λ _. (letters : LettersValue) (lines own : List (List ℕ)) → AreUpTo lines own → length own + 1 ≡ line.now.number
             → IsKnown letters own self.old → AreFrom letters lines findings.old.items
             → IsTagged letters own self.new.open × AreFrom letters lines findings.new.items) }
     {
-        if self.goes_on(number) {
+        if self.goes_on(line.number) {
             return Ok(());
         }
-        let game = Game::new(alloc, number, changes.of(Form::Game));
+        let game = Game::new(alloc, line.number, line.changes.of(Form::Game));
         self.finish(alloc, Open::Game(game), findings)?;
         Ok(())
     }
@@ -283,26 +290,24 @@ impl Reading {
     fn take_tags<'t>(
         &mut self,
         alloc: Global,
-        number: usize,
-        line: &'t [u8],
-        changes: Changes,
+        line: &AsciiLine<'t>,
         findings: &mut Vec<Finding>,
     ) -> Result<&'t [u8], AllocError>
-        requires { begins_with_byte (char "[") line.now ≡ true }
+        requires { begins_with_byte (char "[") line.now.text.now ≡ true }
         ensures kept { IfOk result (λ _. due self.old.open + length findings.old.items ≤ due self.new.open + length findings.new.items) }
         ensures own { IfOk result (λ _. (line : List ℕ) → AreFoundOf line findings.old.items → AreFoundOf line findings.new.items) }
-        ensures more { IfOk result (λ _. does_go_on self.old.open self.old.last number ≡ false
+        ensures more { IfOk result (λ _. does_go_on self.old.open self.old.last line.now.number ≡ false
             → due self.old.open + length findings.old.items < due self.new.open + length findings.new.items) }
         ensures letters { self.new.letters ≡ self.old.letters }
-        ensures from { IfOk result (λ rest. (letters : LettersValue) (lines own : List (List ℕ)) (whole : List ℕ) → IsAt lines own number whole
-            → Says whole line.now → IsKnown letters own self.old → AreFrom letters lines findings.old.items
+        ensures from { IfOk result (λ rest. (letters : LettersValue) (lines own : List (List ℕ)) (whole : List ℕ)
+            → IsAt lines own line.now.number whole → Says whole line.now.text.now → IsKnown letters own self.old → AreFrom letters lines findings.old.items
             → IsTagRead letters lines rest.now self.new.open × AreFrom letters lines findings.new.items) }
     {
-        self.open_game(alloc, number, changes, findings)?;
+        self.open_game(alloc, line, findings)?;
         match &mut self.open {
             Open::Game(game) => {
-                game.changes = game.changes.and(changes);
-                let rest = game.take_line(alloc, &self.letters, line)?;
+                game.changes = game.changes.and(line.changes);
+                let rest = game.take_line(alloc, &self.letters, line.text)?;
                 Ok(rest)
             }
             _ => Ok(&[]),
@@ -313,27 +318,25 @@ impl Reading {
     fn take_popeye(
         &mut self,
         alloc: Global,
-        number: usize,
-        line: &[u8],
-        changes: Changes,
+        line: &AsciiLine<'_>,
         findings: &mut Vec<Finding>,
     ) -> Result<(), AllocError>
         ensures kept { IfOk result (λ _. due self.old.open + length findings.old.items ≤ due self.new.open + length findings.new.items) }
         ensures own { IfOk result (λ _. (line : List ℕ) → AreFoundOf line findings.old.items → AreFoundOf line findings.new.items) }
         ensures from { IfOk result (λ _. (letters : LettersValue) (lines words : List (List ℕ)) → self.old.letters ≡ letters
-            → IsWorded words self.old.open → IsPopeyes lines (said_onto (words_in line.now) words) → AreFrom letters lines findings.old.items
+            → IsWorded words self.old.open → IsPopeyes lines (said_onto (words_in line.now.text.now) words) → AreFrom letters lines findings.old.items
             → IsHeld letters lines self.new × AreFrom letters lines findings.new.items) }
     {
         let Open::Popeye(problem) = &mut self.open else {
             return Ok(());
         };
-        problem.changes = problem.changes.and(changes);
-        match problem.take_line(line)? {
+        problem.changes = problem.changes.and(line.changes);
+        match problem.take_line(line.text)? {
             Ending::Open => Ok(()),
             Ending::Ended => self.finish(alloc, Open::Nothing, findings),
             Ending::Next => {
                 let changes = Changes::none(Form::Popeye);
-                let next = PopeyeProblem::new(alloc, number, changes);
+                let next = PopeyeProblem::new(alloc, line.number, changes);
                 self.finish(alloc, Open::Popeye(next), findings)
             }
         }
@@ -343,22 +346,21 @@ impl Reading {
     fn take_olive(
         &mut self,
         alloc: Global,
-        line: &[u8],
-        changes: Changes,
+        line: &AsciiLine<'_>,
         findings: &mut Vec<Finding>,
     ) -> Result<(), AllocError>
         requires olive { is_olive self.now.open ≡ true }
-        requires plain { is_remark_text line.now ≡ false }
-        requires other { begins_problem line.now ≡ false }
+        requires plain { is_remark_text line.now.text.now ≡ false }
+        requires other { begins_problem line.now.text.now ≡ false }
         ensures kept { IfOk result (λ _. due self.old.open + length findings.old.items ≤ due self.new.open + length findings.new.items) }
         ensures own { IfOk result (λ _. (line : List ℕ) → AreFoundOf line findings.old.items → AreFoundOf line findings.new.items) }
-        ensures from { IfOk result (λ _. TakesOn line.now self.old self.new findings.old.items findings.new.items) }
+        ensures from { IfOk result (λ _. TakesOn line.now.text.now self.old self.new findings.old.items findings.new.items) }
     {
         let Open::Olive(problem) = &mut self.open else {
             return Ok(());
         };
-        problem.changes = problem.changes.and(changes);
-        if !problem.take_line(alloc, line)? {
+        problem.changes = problem.changes.and(line.changes);
+        if !problem.take_line(alloc, line.text)? {
             return Ok(());
         }
         self.finish(alloc, Open::Nothing, findings)?;
@@ -414,23 +416,22 @@ impl Reading {
     pub(crate) fn take_record(
         &mut self,
         alloc: Global,
-        number: usize,
-        line: &[u8],
+        line: &AsciiLine<'_>,
         is_record: bool,
-        changes: Changes,
         findings: &mut Vec<Finding>,
     ) -> Result<(), AllocError>
         ensures found { IfOk result (λ _. length findings.new.items ≡ due self.old.open + length findings.old.items + 1) }
-        ensures own { IfOk result (λ _. (whole : List ℕ) → IsTextOf whole line.now → IsRecordIf is_record whole
+        ensures own { IfOk result (λ _. (whole : List ℕ) → IsTextOf whole line.now.text.now → IsRecordIf is_record whole
             → AreFoundOf whole findings.old.items → AreFoundOf whole findings.new.items) }
         ensures ended { IfOk result (λ _. self.new.open ≡ Open.Nothing) }
         ensures letters { self.new.letters ≡ self.old.letters }
         ensures from { IfOk result (λ _. (letters : LettersValue) (lines own : List (List ℕ)) (whole : List ℕ) → lines ≡ own ++ whole ∷ []
-            → IsTextOf whole line.now → IsRecordIf is_record whole
+            → IsTextOf whole line.now.text.now → IsRecordIf is_record whole
             → IsOpenFrom letters own self.old.open → AreFrom letters lines findings.old.items → AreFrom letters lines findings.new.items) }
     {
         self.finish(alloc, Open::Nothing, findings)?;
-        let found = found_line(alloc, line, is_record, changes)?;
+        let found = found_line(alloc, line, is_record)?;
+        let number = line.number;
         push_finding(findings, Finding { number, found })?;
         Ok(())
     }
@@ -439,20 +440,18 @@ impl Reading {
     fn begin_popeye(
         &mut self,
         alloc: Global,
-        number: usize,
-        behind: &[u8],
-        changes: Changes,
+        behind: &AsciiLine<'_>,
         findings: &mut Vec<Finding>,
     ) -> Result<(), AllocError>
         ensures more { IfOk result (λ _. due self.old.open + length findings.old.items < due self.new.open + length findings.new.items) }
         ensures own { IfOk result (λ _. (line : List ℕ) → AreFoundOf line findings.old.items → AreFoundOf line findings.new.items) }
         ensures from { IfOk result (λ _. (letters : LettersValue) (lines own : List (List ℕ)) → AreUpTo lines own → IsHeld letters own self.old
-            → IsPopeyes lines (said_onto (words_in behind.now) []) → AreFrom letters lines findings.old.items
+            → IsPopeyes lines (said_onto (words_in behind.now.text.now) []) → AreFrom letters lines findings.old.items
             → IsHeld letters lines self.new × AreFrom letters lines findings.new.items) }
     {
-        let problem = PopeyeProblem::new(alloc, number, Changes::none(Form::Popeye));
+        let problem = PopeyeProblem::new(alloc, behind.number, Changes::none(Form::Popeye));
         self.finish(alloc, Open::Popeye(problem), findings)?;
-        self.take_popeye(alloc, number, behind, changes, findings)?;
+        self.take_popeye(alloc, behind, findings)?;
         Ok(())
     }
 
@@ -492,42 +491,44 @@ impl Reading {
     fn take_untagged(
         &mut self,
         alloc: Global,
-        number: usize,
-        line: &[u8],
-        changes: Changes,
+        line: &AsciiLine<'_>,
         findings: &mut Vec<Finding>,
     ) -> Result<(), AllocError>
-        requires plain { is_remark_text line.now ≡ false }
-        requires tag { is_tag_pair_text line.now ≡ false }
-        requires goes_on { has_begun self.now.open ≡ true → number ≤ self.now.last + 1 }
-        requires bracket { is_olive self.now.open ≡ false → begins_with_byte (char "[") line.now ≡ false }
+        requires plain { is_remark_text line.now.text.now ≡ false }
+        requires tag { is_tag_pair_text line.now.text.now ≡ false }
+        requires goes_on { has_begun self.now.open ≡ true → line.now.number ≤ self.now.last + 1 }
+        requires bracket { is_olive self.now.open ≡ false → begins_with_byte (char "[") line.now.text.now ≡ false }
         ensures kept { IfOk result (λ _. due self.old.open + length findings.old.items ≤ due self.new.open + length findings.new.items) }
-        ensures own { IfOk result (λ _. (whole : List ℕ) → IsTextOf whole line.now → ¬ (IsRecord whole)
+        ensures own { IfOk result (λ _. (whole : List ℕ) → IsTextOf whole line.now.text.now → ¬ (IsRecord whole)
             → AreFoundOf whole findings.old.items → AreFoundOf whole findings.new.items) }
-        ensures from { IfOk result (λ _. Takes number line.now self.old self.new findings.old.items findings.new.items) }
+        ensures from { IfOk result (λ _. Takes line.now.number line.now.text.now self.old self.new findings.old.items findings.new.items) }
     {
-        if is_border(line) {
-            self.begin_olive(alloc, number, findings)?;
+        if is_border(line.text) {
+            self.begin_olive(alloc, line.number, findings)?;
             return Ok(());
         }
-        let (first, behind) = word_at(line);
+        let (first, behind) = word_at(line.text);
         if is_begin(first) {
-            self.begin_popeye(alloc, number, behind, changes, findings)?;
+            let behind = AsciiLine {
+                text: behind,
+                ..*line
+            };
+            self.begin_popeye(alloc, &behind, findings)?;
             return Ok(());
         }
         if self.is_olives() {
-            self.take_olive(alloc, line, changes, findings)?;
+            self.take_olive(alloc, line, findings)?;
             return Ok(());
         }
         if self.is_popeyes() {
-            self.take_popeye(alloc, number, line, changes, findings)?;
+            self.take_popeye(alloc, line, findings)?;
             return Ok(());
         }
-        if self.passes() && !begins_with_placement(line) {
-            self.take_movetext(alloc, line, findings)?;
+        if self.passes() && !begins_with_placement(line.text) {
+            self.take_movetext(alloc, line.text, findings)?;
             return Ok(());
         }
-        self.take_record(alloc, number, line, false, changes, findings)?;
+        self.take_record(alloc, line, false, findings)?;
         Ok(())
     }
 
@@ -535,19 +536,17 @@ impl Reading {
     fn take_game(
         &mut self,
         alloc: Global,
-        number: usize,
-        line: &[u8],
-        changes: Changes,
+        line: &AsciiLine<'_>,
         findings: &mut Vec<Finding>,
     ) -> Result<(), AllocError>
-        requires { begins_with_byte (char "[") line.now ≡ true }
+        requires { begins_with_byte (char "[") line.now.text.now ≡ true }
         ensures kept { IfOk result (λ _. due self.old.open + length findings.old.items ≤ due self.new.open + length findings.new.items) }
         ensures own { IfOk result (λ _. (line : List ℕ) → AreFoundOf line findings.old.items → AreFoundOf line findings.new.items) }
-        ensures more { IfOk result (λ _. does_go_on self.old.open self.old.last number ≡ false
+        ensures more { IfOk result (λ _. does_go_on self.old.open self.old.last line.now.number ≡ false
             → due self.old.open + length findings.old.items < due self.new.open + length findings.new.items) }
-        ensures from { IfOk result (λ _. Takes number line.now self.old self.new findings.old.items findings.new.items) }
+        ensures from { IfOk result (λ _. Takes line.now.number line.now.text.now self.old self.new findings.old.items findings.new.items) }
     {
-        let rest = self.take_tags(alloc, number, line, changes, findings)?;
+        let rest = self.take_tags(alloc, line, findings)?;
         if rest.is_empty() {
             return Ok(());
         }
@@ -559,50 +558,46 @@ impl Reading {
     fn take_problem_line(
         &mut self,
         alloc: Global,
-        number: usize,
-        line: &[u8],
-        changes: Changes,
+        line: &AsciiLine<'_>,
         findings: &mut Vec<Finding>,
     ) -> Result<(), AllocError>
-        requires { has_begun self.now.open ≡ true → number ≤ self.now.last + 1 }
+        requires { has_begun self.now.open ≡ true → line.now.number ≤ self.now.last + 1 }
         ensures kept { IfOk result (λ _. due self.old.open + length findings.old.items ≤ due self.new.open + length findings.new.items) }
-        ensures own { IfOk result (λ _. (whole : List ℕ) → IsTextOf whole line.now → ¬ (IsRecord whole)
+        ensures own { IfOk result (λ _. (whole : List ℕ) → IsTextOf whole line.now.text.now → ¬ (IsRecord whole)
             → AreFoundOf whole findings.old.items → AreFoundOf whole findings.new.items) }
-        ensures more { IfOk result (λ _. is_tag_pair_text line.now ≡ true → does_go_on self.old.open self.old.last number ≡ false
+        ensures more { IfOk result (λ _. is_tag_pair_text line.now.text.now ≡ true → does_go_on self.old.open self.old.last line.now.number ≡ false
             → due self.old.open + length findings.old.items < due self.new.open + length findings.new.items) }
-        ensures from { IfOk result (λ _. Takes number line.now self.old self.new findings.old.items findings.new.items) }
+        ensures from { IfOk result (λ _. Takes line.now.number line.now.text.now self.old self.new findings.old.items findings.new.items) }
     {
-        if begins_with(b'[', line) && (is_tag_pair(line) || !self.is_olives()) {
-            return self.take_game(alloc, number, line, changes, findings);
+        if begins_with(b'[', line.text) && (is_tag_pair(line.text) || !self.is_olives()) {
+            return self.take_game(alloc, line, findings);
         }
-        if is_remark(line) {
+        if is_remark(line.text) {
             return Ok(());
         }
-        self.take_untagged(alloc, number, line, changes, findings)
+        self.take_untagged(alloc, line, findings)
     }
 
-    /// Takes a text that isn't empty, in printable ASCII. One that is a tag pair isn't passed over where a comment is open, so that a game
-    /// doesn't disappear in a comment that nobody ended.
+    /// Takes a line that isn't empty. One that is a tag pair isn't passed over where a comment is open, so that a game doesn't disappear in
+    /// a comment that nobody ended.
     fn take_text(
         &mut self,
         alloc: Global,
-        number: usize,
-        text: &[u8],
-        changes: Changes,
+        line: &AsciiLine<'_>,
         findings: &mut Vec<Finding>,
     ) -> Result<(), AllocError>
         ensures kept { IfOk result (λ _. due self.old.open + length findings.old.items ≤ due self.new.open + length findings.new.items) }
-        ensures own { IfOk result (λ _. (line : List ℕ) → IsTextOf line text.now → ¬ (IsRecord line)
-            → AreFoundOf line findings.old.items → AreFoundOf line findings.new.items) }
-        ensures more { IfOk result (λ _. is_tag_pair_text text.now ≡ true → does_go_on self.old.open self.old.last number ≡ false
+        ensures own { IfOk result (λ _. (whole : List ℕ) → IsTextOf whole line.now.text.now → ¬ (IsRecord whole)
+            → AreFoundOf whole findings.old.items → AreFoundOf whole findings.new.items) }
+        ensures more { IfOk result (λ _. is_tag_pair_text line.now.text.now ≡ true → does_go_on self.old.open self.old.last line.now.number ≡ false
             → due self.old.open + length findings.old.items < due self.new.open + length findings.new.items) }
-        ensures from { IfOk result (λ _. Takes number text.now self.old self.new findings.old.items findings.new.items) }
+        ensures from { IfOk result (λ _. Takes line.now.number line.now.text.now self.old self.new findings.old.items findings.new.items) }
     {
-        if self.in_comment() && !is_tag_pair(text) {
-            return self.take_movetext(alloc, text, findings);
+        if self.in_comment() && !is_tag_pair(line.text) {
+            return self.take_movetext(alloc, line.text, findings);
         }
-        self.end_movetext(alloc, number, findings)?;
-        self.take_problem_line(alloc, number, text, changes, findings)
+        self.end_movetext(alloc, line.number, findings)?;
+        self.take_problem_line(alloc, line, findings)
     }
 
     /// Takes a line that isn't of spaces alone, by its number; what it ends or says is found.
@@ -628,7 +623,12 @@ impl Reading {
         if text.is_empty() {
             return Ok(());
         }
-        self.take_text(alloc, number, text, changes, findings)?;
+        let line = AsciiLine {
+            number,
+            text,
+            changes,
+        };
+        self.take_text(alloc, &line, findings)?;
         self.last = number;
         Ok(())
     }
@@ -657,18 +657,13 @@ fn number_of(said: Asked, is_record: bool) -> Option<Number>
 }
 
 /// What a line in printable ASCII says, which may be a record as it stands.
-fn found_line(
-    alloc: Global,
-    line: &[u8],
-    is_record: bool,
-    changes: Changes,
-) -> Result<Found, AllocError>
-    ensures own { IfOk result (λ found. (whole : List ℕ) → IsTextOf whole line.now → IsRecordIf is_record whole → IsFoundOf whole found) }
+fn found_line(alloc: Global, line: &AsciiLine<'_>, is_record: bool) -> Result<Found, AllocError>
+    ensures own { IfOk result (λ found. (whole : List ℕ) → IsTextOf whole line.now.text.now → IsRecordIf is_record whole → IsFoundOf whole found) }
     ensures from { IfOk result (λ found. (letters : LettersValue) (lines : List (List ℕ)) (whole : List ℕ) → IsLast lines whole
-        → IsTextOf whole line.now → IsRecordIf is_record whole → IsFoundFrom letters lines found) }
+        → IsTextOf whole line.now.text.now → IsRecordIf is_record whole → IsFoundFrom letters lines found) }
 {
-    let mut changes = changes;
-    let mended = mended_line(alloc, line, &mut changes)?;
+    let mut changes = line.changes;
+    let mended = mended_line(alloc, line.text, &mut changes)?;
     match number_of(mended.said, is_record) {
         Some(number) => Ok(Found::Text(mended.text, changes, number)),
         None => Ok(Found::Fault(ImportFault::TwoBounds)),

@@ -5,7 +5,7 @@ use Rattle.problem_import.proofs.reading.Reading.open_game.Goals as goal
 
 pub returns-then-goes_on-clause-from : goal.returns-then-goes_on-clause-from
 returns-then-goes_on-clause-from c = λ letters lines own up count known before. (
-  tagged_on letters own c.args.self.now.open c.args.self.now.last c.args.number (sym c.goes_on.ensures ∙ c.if-goes_on.true) count known.held
+  tagged_on letters own c.args.self.now.open c.args.self.now.last c.args.line.now.number (sym c.goes_on.ensures ∙ c.if-goes_on.true) count known.held
       known.unbroken,
   before,
 )

@@ -17,7 +17,7 @@ returns-in-Open-clause-from c = λ letters lines words by worded are before.
       (
         by,
         (
-          said_onto (words_in c.args.line.now) words,
+          said_onto (words_in c.args.line.now.text.now) words,
           are,
           record {
             read = c.in_ok-take_line.ensures.read words (words_kept words c.in-Popeye.problem _ refl refl refl refl refl of.read);
@@ -33,7 +33,7 @@ returns-in-Ended-clause-from c = then_ok c.finish.result _ _ (λ from letters li
     let of = subst (IsWorded words) c.in-Popeye.is worded in
     let read = c.in_ok-take_line.ensures.read words (words_kept words c.in-Popeye.problem _ refl refl refl refl refl of.read) in (
       (c.finish.ensures.letters ∙ by, open_next letters lines _ _ c.finish.ensures.next tt),
-      from letters lines lines (inl refl) (said_onto (words_in c.args.line.now) words, are, read) before,
+      from letters lines lines (inl refl) (said_onto (words_in c.args.line.now.text.now) words, are, read) before,
     )) c.finish.ensures.from
 
 pub returns-in-Next-clause-from : goal.returns-in-Next-clause-from
@@ -44,9 +44,9 @@ returns-in-Next-clause-from c = then_ok c.finish-in-Next.result _ _ (λ from let
         c.finish-in-Next.ensures.letters ∙ by,
         open_next letters lines _ _ c.finish-in-Next.ensures.next (
           [],
-          behind_next lines (said_onto (words_in c.args.line.now) words) are ((rw c.in-Next.is at c.in_ok-take_line.ensures.ends) words),
+          behind_next lines (said_onto (words_in c.args.line.now.text.now) words) are ((rw c.in-Next.is at c.in_ok-take_line.ensures.ends) words),
           record { read = c.new-next.ensures; on = refl },
         ),
       ),
-      from letters lines lines (inl refl) (said_onto (words_in c.args.line.now) words, are, read) before,
+      from letters lines lines (inl refl) (said_onto (words_in c.args.line.now.text.now) words, are, read) before,
     )) c.finish-in-Next.ensures.from

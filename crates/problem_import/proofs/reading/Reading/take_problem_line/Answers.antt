@@ -9,7 +9,7 @@ returns-then-is_remark-clause-from c = λ letters lines own line at says known b
   (
     known.by,
     subst (λ ls. IsOpenFrom letters ls c.args.self.now.open) (sym at.0)
-        (open_waits letters own line c.args.self.now.open (remark c.args.line.now says.0 (sym c.is_remark.ensures ∙ c.if-is_remark.true)) known.held),
+        (open_waits letters own line c.args.self.now.open (remark c.args.line.now.text.now says.0 (sym c.is_remark.ensures ∙ c.if-is_remark.true)) known.held),
   ),
   before,
 )

@@ -8,7 +8,7 @@ returns-in_ok-rest-in-Game-clause-from c = λ letters lines own whole (at, count
     let opened = c.in_ok-open_game.ensures.from letters lines own (inr (whole, at)) count known before in
     let self = c.open_game.new.self in
     let game = c.take_line.new.self in (
-      tags_read letters lines own whole c.args.line.now _ self.letters c.in-Game.game game (c.open_game.ensures.letters ∙ known.by) at says
+      tags_read letters lines own whole c.args.line.now.text.now _ self.letters c.in-Game.game game (c.open_game.ensures.letters ∙ known.by) at says
           c.requires (subst (IsTagged letters own) c.in-Game.is opened.0) c.in_ok-rest-in-Game.ensures.fen c.in_ok-rest-in-Game.ensures.asks
           c.in_ok-rest-in-Game.ensures.comment c.in_ok-rest-in-Game.ensures.rest,
       opened.1,
