@@ -7,24 +7,16 @@ ghost use Rattle.plain_commands.specs.Imported.{ImportsFiles, StopsImporting, le
 use crate::letters::letters_in;
 use byte_streams::{Input, Stop};
 use chess_moves::Rays;
-use chess_problems::Bound;
 use command_words::{Files, ImportAsked, LineNumber};
 use file_answers::{FileAnswers, FileStart, Source, answer_files, complain, holds_reads};
-use move_words::Letters;
-use problem_import::{ImportCounts, import_input_in};
+use problem_import::{ImportCounts, Printing, import_input_in};
 use std::alloc::Global;
 use std::io::Write;
 
 /// Makes records of problems.
 #[derive(Clone, Copy)]
 struct Imports<'a> {
-    rays: &'a Rays,
-    /// Whether what was changed is told in a record.
-    keep: bool,
-    /// The letters of men.
-    letters: Letters,
-    /// The bound of problems that say none.
-    bound: Option<Bound>,
+    printing: Printing<'a>,
 }
 
 impl<'a> FileAnswers for Imports<'a> {
@@ -33,13 +25,13 @@ impl<'a> FileAnswers for Imports<'a> {
 
     type Memory = ImportCounts;
 
-    ghost replies = { λ imports. import_replies imports.letters imports.keep imports.bound };
+    ghost replies = { λ imports. import_replies imports.printing.letters imports.printing.keep imports.printing.bound };
 
-    ghost told = { λ imports. unmarked (import_replies imports.letters imports.keep imports.bound) };
+    ghost told = { λ imports. unmarked (import_replies imports.printing.letters imports.printing.keep imports.printing.bound) };
 
     ghost tells = { λ _ _ _ _ _ _ _ told. told };
 
-    ghost first = { λ imports. first_import_replies imports.letters imports.keep imports.bound };
+    ghost first = { λ imports. first_import_replies imports.printing.letters imports.printing.keep imports.printing.bound };
 
     fn answer<S: Source, I: Input + Drop, O: Write>(
         &self,
@@ -49,16 +41,7 @@ impl<'a> FileAnswers for Imports<'a> {
         counts: &mut ImportCounts,
         out: &mut O,
     ) -> Result<usize, Stop> {
-        import_input_in(
-            alloc,
-            self.rays,
-            &self.letters,
-            self.keep,
-            self.bound,
-            counts,
-            input,
-            out,
-        )
+        import_input_in(alloc, &self.printing, counts, input, out)
     }
 
     fn begins_with_nothing(&self) {}
@@ -74,10 +57,10 @@ fn import<S: Source, O: Write, E: Write>(
     out: &mut O,
     err: &mut E,
 ) -> Result<bool, Stop>
-    ensures ok { IfOk result (λ refused. Gains (ImportsFiles (S.holds source.now) imports.now.letters imports.now.keep imports.now.bound
-        (map (λ s. s.now) names.now) refused) (O.contents out.old) (O.contents out.new)) }
-    ensures err { IfErr result (λ stop. StopsImporting (S.holds source.now) (S.refuses source.now) imports.now.letters imports.now.keep
-        imports.now.bound (map (λ s. s.now) names.now) stop (O.contents out.old) (O.contents out.new)) }
+    ensures ok { IfOk result (λ refused. Gains (ImportsFiles (S.holds source.now) imports.now.printing.letters
+        imports.now.printing.keep imports.now.printing.bound (map (λ s. s.now) names.now) refused) (O.contents out.old) (O.contents out.new)) }
+    ensures err { IfErr result (λ stop. StopsImporting (S.holds source.now) (S.refuses source.now) imports.now.printing.letters
+        imports.now.printing.keep imports.now.printing.bound (map (λ s. s.now) names.now) stop (O.contents out.old) (O.contents out.new)) }
 {
     // How many inputs there are of so many names.
     holds_reads();
@@ -111,10 +94,12 @@ pub fn import_given<S: Source, O: Write, E: Write>(
 {
     let rays = Rays::new();
     let imports = Imports {
-        rays: &rays,
-        keep: asked.keep,
-        letters: letters_in(asked.letters),
-        bound: asked.bound,
+        printing: Printing {
+            rays: &rays,
+            keep: asked.keep,
+            bound: asked.bound,
+            letters: letters_in(asked.letters),
+        },
     };
     import(alloc, &imports, asked.names, source, out, err)
 }

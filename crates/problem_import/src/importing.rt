@@ -330,25 +330,23 @@ fn import_lines<I: Input + Drop, O: Write>(
     }
 }
 
-/// Imports an input as `import_input` does, and adds to counts what is printed.
+/// Imports an input as `import_input` does, whose men have English letters, and adds to counts what is printed.
 pub(crate) fn import_counted<I: Input + Drop, O: Write>(
     alloc: Global,
-    rays: &Rays,
-    keep: bool,
-    bound: Option<Bound>,
+    printing: &Printing<'_>,
     counts: &mut ImportCounts,
     input: I,
     out: &mut O,
 ) -> Result<usize, Stop>
     ensures ok { IfOk result (λ count. (bytes : List ℕ) × (text : List ℕ) × MayBe (I.left input) bytes
-        × (IsImport keep bound bytes text count × AreSourced english bound (texts_of bytes) text)
+        × (IsImport printing.now.keep printing.now.bound bytes text count × AreSourced english printing.now.bound (texts_of bytes) text)
         × Appends (O.contents out.old) (O.contents out.new) text) }
     ensures err { IfErr result (λ stop. (bytes : List ℕ) × (text : List ℕ) × MayBe (I.left input) bytes
-        × (IsImportOfFirst keep bound bytes text × AreSourced english bound (texts_of bytes) text)
+        × (IsImportOfFirst printing.now.keep printing.now.bound bytes text × AreSourced english printing.now.bound (texts_of bytes) text)
         × AppendsBy stop (O.contents out.old) (O.contents out.new) text) }
     ensures unreadable { IfErr result (λ stop. stop ≡ Stop.Unreadable → I.breaks input) }
 {
-    let imports = Imports::new(rays, keep, bound);
+    let imports = Imports::new(printing.rays, printing.keep, printing.bound);
     imports.counts.set(*counts);
     let mut reading = Reading::new();
     let end = import_lines(alloc, &imports, input, &mut reading, out);
@@ -377,15 +375,13 @@ pub fn import_input<I: Input + Drop, O: Write>(
         × AreSourced english bound (texts_of bytes) text × Appends (O.contents out.old) (O.contents out.new) text) }
     ensures unreadable { IfErr result (λ stop. stop ≡ Stop.Unreadable → I.breaks input) }
 {
-    import_counted(
-        alloc,
+    let printing = Printing {
         rays,
         keep,
         bound,
-        &mut ImportCounts::new(),
-        input,
-        out,
-    )
+        letters: Letters::ENGLISH,
+    };
+    import_counted(alloc, &printing, &mut ImportCounts::new(), input, out)
 }
 
 /// A law: whatever was read, records and refusals are printed.

@@ -18,7 +18,7 @@ use crate::import_counts::ImportCounts;
 use crate::import_faults::ImportFault;
 use crate::importing::{Imports, import_counted, output_of, put_last};
 use crate::line_kinds::{LineKind, read_line};
-use crate::printing::Printed;
+use crate::printing::{Printed, Printing};
 use crate::reading::Reading;
 use byte_streams::{Input, NoMemory, Stop};
 use chess_moves::Rays;
@@ -171,29 +171,33 @@ fn import_lettered<I: Input + Drop, O: Write>(
 /// alone stands behind `?`.
 pub fn import_input_in<I: Input + Drop, O: Write>(
     alloc: Global,
-    rays: &Rays,
-    letters: &Letters,
-    keep: bool,
-    bound: Option<Bound>,
+    printing: &Printing<'_>,
     counts: &mut ImportCounts,
     input: I,
     out: &mut O,
 ) -> Result<usize, Stop>
     ensures ok { IfOk result (λ count. (bytes : List ℕ) × (text : List ℕ) × MayBe (I.left input) bytes
-        × IsImportIn letters.now keep bound bytes text count × Appends (O.contents out.old) (O.contents out.new) text) }
+        × IsImportIn printing.now.letters printing.now.keep printing.now.bound bytes text count
+        × Appends (O.contents out.old) (O.contents out.new) text) }
     ensures err { IfErr result (λ stop. (bytes : List ℕ) × (text : List ℕ) × MayBe (I.left input) bytes
-        × IsImportOfFirstIn letters.now keep bound bytes text × AppendsBy stop (O.contents out.old) (O.contents out.new) text) }
+        × IsImportOfFirstIn printing.now.letters printing.now.keep printing.now.bound bytes text
+        × AppendsBy stop (O.contents out.old) (O.contents out.new) text) }
     ensures unreadable { IfErr result (λ stop. stop ≡ Stop.Unreadable → I.breaks input) }
 {
-    if letters.is_english() {
-        return import_counted(alloc, rays, keep, bound, counts, input, out);
+    if printing.letters.is_english() {
+        return import_counted(alloc, printing, counts, input, out);
     }
     let imports = LetteredImports {
-        imports: Imports::lettered(rays, *letters, keep, bound),
-        letters: *letters,
+        imports: Imports::lettered(
+            printing.rays,
+            printing.letters,
+            printing.keep,
+            printing.bound,
+        ),
+        letters: printing.letters,
     };
     imports.imports.counts.set(*counts);
-    let mut reading = Reading::lettered(*letters);
+    let mut reading = Reading::lettered(printing.letters);
     let end = import_lettered(alloc, &imports, input, &mut reading, out);
     *counts = imports.imports.counts.get();
     end

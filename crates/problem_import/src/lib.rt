@@ -38,5 +38,6 @@ pub use import_counts::ImportCounts;
 pub use import_faults::ImportFault;
 pub use importing::{import_input, imports_are_records, imports_keep_positions};
 pub use lettered_imports::{import_input_in, lettered_are_records};
+pub use printing::Printing;
 pub use problem_handlers::ProblemHandler;
 pub use problem_lines::{ProblemLines, ProblemMemory, answer_problems, answers_are_imports};

@@ -37,14 +37,22 @@ pub(crate) struct Printed {
     pub(crate) counts: ImportCounts,
 }
 
-/// How what is printed goes on records: whether what was changed to make them is told, the bound of those that say none, and the letters of
-/// men in the moves that they claim and avoid.
+/// How records are printed: whether what was changed to make them is told, the bound of those that say none, and the letters of men.
 #[derive(Clone, Copy)]
-pub(crate) struct Printing<'a> {
-    pub(crate) rays: &'a Rays,
-    pub(crate) keep: bool,
-    pub(crate) bound: Option<Bound>,
-    pub(crate) letters: Letters,
+pub struct Printing<'a> {
+    pub rays: &'a Rays,
+    pub keep: bool,
+    pub bound: Option<Bound>,
+    pub letters: Letters,
+}
+
+/// A text that is to be a record: the line at which it was found, the number of its problem's first line, and what was changed to make it.
+#[derive(Clone, Copy)]
+struct FoundText<'a> {
+    line: &'a [u8],
+    number: usize,
+    text: &'a [u8],
+    changes: Changes,
 }
 
 /// A record, and behind it the operation that tells what was changed.
@@ -203,25 +211,23 @@ impl Printing<'_> {
     fn told(
         &self,
         alloc: Global,
-        line: &[u8],
-        text: &[u8],
+        found: &FoundText<'_>,
         moves: Option<u8>,
-        changes: &Changes,
     ) -> Result<ToldRecord, NoMemory>
-        requires record { IsRecord text.now }
-        requires own { IsOwn changes.now.form line.now text.now }
-        requires number { IsNumberOf changes.now.form self.now.bound line.now moves }
-        requires asks { Asks moves text.now }
-        ensures made { IfOk result (λ told. MayBeTold self.now.keep self.now.bound line.now text.now told) }
-        ensures tells { IfOk result (λ told. TellsOf text.now moves told) }
+        requires record { IsRecord found.now.text.now }
+        requires own { IsOwn found.now.changes.form found.now.line.now found.now.text.now }
+        requires number { IsNumberOf found.now.changes.form self.now.bound found.now.line.now moves }
+        requires asks { Asks moves found.now.text.now }
+        ensures made { IfOk result (λ told. MayBeTold self.now.keep self.now.bound found.now.line.now found.now.text.now told) }
+        ensures tells { IfOk result (λ told. TellsOf found.now.text.now moves told) }
     {
         if !self.keep {
             return Ok(ToldRecord::Not);
         }
-        if changes.is_line(line, text) {
+        if found.changes.is_line(found.line, found.text) {
             return Ok(ToldRecord::Not);
         }
-        let told = telling_text(alloc, text, changes)?;
+        let told = telling_text(alloc, found.text, &found.changes)?;
         match asking(alloc, self.rays, told.as_slice(), moves)? {
             RecordKind::Right(says) => Ok(ToldRecord::As(told, says)),
             RecordKind::Other => Ok(ToldRecord::Two),
@@ -234,38 +240,37 @@ impl Printing<'_> {
         &self,
         alloc: Global,
         printed: &mut Printed,
-        line: &[u8],
-        number: usize,
-        text: &[u8],
+        found: &FoundText<'_>,
         says: bool,
         moves: Option<u8>,
-        changes: &Changes,
     ) -> Result<(), NoMemory>
-        requires record { IsRecord text.now }
-        requires said { IsSaid text.now says }
-        requires own { IsOwn changes.now.form line.now text.now }
-        requires number { IsNumberOf changes.now.form self.now.bound line.now moves }
-        requires asks { Asks moves text.now }
-        ensures imported { IfOk result (λ _. AreImported (IsMade self.now.keep self.now.bound line.now) printed.old.text.items printed.old.any
-            → AreImported (IsMade self.now.keep self.now.bound line.now) printed.new.text.items printed.new.any) }
+        requires record { IsRecord found.now.text.now }
+        requires said { IsSaid found.now.text.now says }
+        requires own { IsOwn found.now.changes.form found.now.line.now found.now.text.now }
+        requires number { IsNumberOf found.now.changes.form self.now.bound found.now.line.now moves }
+        requires asks { Asks moves found.now.text.now }
+        ensures imported { IfOk result (λ _. AreImported (IsMade self.now.keep self.now.bound found.now.line.now)
+            printed.old.text.items printed.old.any
+            → AreImported (IsMade self.now.keep self.now.bound found.now.line.now) printed.new.text.items printed.new.any) }
         ensures counted { IfOk result (λ _. (first : ImportCountsValue) → AreCounted first printed.old.text.items printed.old.counts
             → AreCounted first printed.new.text.items printed.new.counts) }
         ensures filled { IfOk result (λ _. 0 < length printed.new.text.items) }
-        ensures from { IfOk result (λ _. (letters : LettersValue) (lines : List (List ℕ)) → IsCountFrom letters self.now.bound lines text.now moves
+        ensures from { IfOk result (λ _. (letters : LettersValue) (lines : List (List ℕ))
+            → IsCountFrom letters self.now.bound lines found.now.text.now moves
             → PrintsFrom letters self.now.bound lines printed.old.text.items printed.old.any printed.new.text.items printed.new.any) }
     {
-        let told = self.told(alloc, line, text, moves, changes)?;
+        let told = self.told(alloc, found, moves)?;
         match told {
             ToldRecord::As(more, says) => {
                 printed.push_record(more.as_slice(), says)?;
                 Ok(())
             }
             ToldRecord::Not => {
-                printed.push_record(text, says)?;
+                printed.push_record(found.text, says)?;
                 Ok(())
             }
             ToldRecord::Two => {
-                printed.push_refusal(alloc, number, ImportFault::TwoBounds)?;
+                printed.push_refusal(alloc, found.number, ImportFault::TwoBounds)?;
                 Ok(())
             }
         }
@@ -276,26 +281,25 @@ impl Printing<'_> {
         &self,
         alloc: Global,
         printed: &mut Printed,
-        line: &[u8],
-        number: usize,
-        text: &[u8],
+        found: &FoundText<'_>,
         moves: Option<u8>,
-        changes: &Changes,
     ) -> Result<(), NoMemory>
-        requires own { IsOwn changes.now.form line.now text.now }
-        requires number { IsNumberOf changes.now.form self.now.bound line.now moves }
-        ensures imported { IfOk result (λ _. AreImported (IsMade self.now.keep self.now.bound line.now) printed.old.text.items printed.old.any
-            → AreImported (IsMade self.now.keep self.now.bound line.now) printed.new.text.items printed.new.any) }
+        requires own { IsOwn found.now.changes.form found.now.line.now found.now.text.now }
+        requires number { IsNumberOf found.now.changes.form self.now.bound found.now.line.now moves }
+        ensures imported { IfOk result (λ _. AreImported (IsMade self.now.keep self.now.bound found.now.line.now)
+            printed.old.text.items printed.old.any
+            → AreImported (IsMade self.now.keep self.now.bound found.now.line.now) printed.new.text.items printed.new.any) }
         ensures counted { IfOk result (λ _. (first : ImportCountsValue) → AreCounted first printed.old.text.items printed.old.counts
             → AreCounted first printed.new.text.items printed.new.counts) }
         ensures filled { IfOk result (λ _. 0 < length printed.new.text.items) }
-        ensures from { IfOk result (λ _. (letters : LettersValue) (lines : List (List ℕ)) → IsCountFrom letters self.now.bound lines text.now moves
+        ensures from { IfOk result (λ _. (letters : LettersValue) (lines : List (List ℕ))
+            → IsCountFrom letters self.now.bound lines found.now.text.now moves
             → PrintsFrom letters self.now.bound lines printed.old.text.items printed.old.any printed.new.text.items printed.new.any) }
     {
-        match says_asked(alloc, self.rays, text, moves)? {
-            Ok(says) => { self.push_made(alloc, printed, line, number, text, says, moves, changes) }
+        match says_asked(alloc, self.rays, found.text, moves)? {
+            Ok(says) => self.push_made(alloc, printed, found, says, moves),
             Err(fault) => {
-                printed.push_refusal(alloc, number, fault)?;
+                printed.push_refusal(alloc, found.number, fault)?;
                 Ok(())
             }
         }
@@ -306,39 +310,34 @@ impl Printing<'_> {
         &self,
         alloc: Global,
         printed: &mut Printed,
-        line: &[u8],
-        number: usize,
-        text: &[u8],
-        changes: &Changes,
+        found: &FoundText<'_>,
     ) -> Result<(), NoMemory>
-        requires own { IsOwn changes.now.form line.now text.now }
-        requires number { IsAskedOf changes.now.form line.now Number.Unsaid }
-        ensures imported { IfOk result (λ _. AreImported (IsMade self.now.keep self.now.bound line.now) printed.old.text.items printed.old.any
-            → AreImported (IsMade self.now.keep self.now.bound line.now) printed.new.text.items printed.new.any) }
+        requires own { IsOwn found.now.changes.form found.now.line.now found.now.text.now }
+        requires number { IsAskedOf found.now.changes.form found.now.line.now Number.Unsaid }
+        ensures imported { IfOk result (λ _. AreImported (IsMade self.now.keep self.now.bound found.now.line.now)
+            printed.old.text.items printed.old.any
+            → AreImported (IsMade self.now.keep self.now.bound found.now.line.now) printed.new.text.items printed.new.any) }
         ensures counted { IfOk result (λ _. (first : ImportCountsValue) → AreCounted first printed.old.text.items printed.old.counts
             → AreCounted first printed.new.text.items printed.new.counts) }
         ensures filled { IfOk result (λ _. 0 < length printed.new.text.items) }
-        ensures from { IfOk result (λ _. (letters : LettersValue) (lines : List (List ℕ)) → IsFoundBy letters self.now.bound lines text.now Number.Unsaid
+        ensures from { IfOk result (λ _. (letters : LettersValue) (lines : List (List ℕ))
+            → IsFoundBy letters self.now.bound lines found.now.text.now Number.Unsaid
             → PrintsFrom letters self.now.bound lines printed.old.text.items printed.old.any printed.new.text.items printed.new.any) }
     {
-        let fault = match (says_asked(alloc, self.rays, text, None)?, self.bound) {
+        let fault = match (says_asked(alloc, self.rays, found.text, None)?, self.bound) {
             (Ok(_), Some(bound)) => {
-                let bounded = with_bound(alloc, text, bound)?;
-                let changes = changes.of_bound();
-                return self.push_text(
-                    alloc,
-                    printed,
-                    line,
-                    number,
-                    bounded.as_slice(),
-                    Some(bound.get()),
-                    &changes,
-                );
+                let bounded = with_bound(alloc, found.text, bound)?;
+                let found = FoundText {
+                    text: bounded.as_slice(),
+                    changes: found.changes.of_bound(),
+                    ..*found
+                };
+                return self.push_text(alloc, printed, &found, Some(bound.get()));
             }
             (Ok(_), None) => ImportFault::NoBound,
             (Err(fault), _) => fault,
         };
-        printed.push_refusal(alloc, number, fault)?;
+        printed.push_refusal(alloc, found.number, fault)?;
         Ok(())
     }
 
@@ -347,28 +346,31 @@ impl Printing<'_> {
         &self,
         alloc: Global,
         printed: &mut Printed,
-        line: &[u8],
-        number: usize,
-        text: &[u8],
-        changes: Changes,
+        found: &FoundText<'_>,
         moves: Number,
     ) -> Result<(), NoMemory>
-        requires own { IsOwn changes.form line.now text.now }
-        requires number { IsAskedOf changes.form line.now moves }
-        ensures imported { IfOk result (λ _. AreImported (IsMade self.now.keep self.now.bound line.now) printed.old.text.items printed.old.any
-            → AreImported (IsMade self.now.keep self.now.bound line.now) printed.new.text.items printed.new.any) }
+        requires own { IsOwn found.now.changes.form found.now.line.now found.now.text.now }
+        requires number { IsAskedOf found.now.changes.form found.now.line.now moves }
+        ensures imported { IfOk result (λ _. AreImported (IsMade self.now.keep self.now.bound found.now.line.now)
+            printed.old.text.items printed.old.any
+            → AreImported (IsMade self.now.keep self.now.bound found.now.line.now) printed.new.text.items printed.new.any) }
         ensures counted { IfOk result (λ _. (first : ImportCountsValue) → AreCounted first printed.old.text.items printed.old.counts
             → AreCounted first printed.new.text.items printed.new.counts) }
         ensures filled { IfOk result (λ _. 0 < length printed.new.text.items) }
-        ensures from { IfOk result (λ _. (letters : LettersValue) (lines : List (List ℕ)) → IsFoundBy letters self.now.bound lines text.now moves
+        ensures from { IfOk result (λ _. (letters : LettersValue) (lines : List (List ℕ))
+            → IsFoundBy letters self.now.bound lines found.now.text.now moves
             → PrintsFrom letters self.now.bound lines printed.old.text.items printed.old.any printed.new.text.items printed.new.any) }
     {
-        let mut changes = changes;
-        let text = with_moves(alloc, self.rays, &self.letters, text, &mut changes)?;
-        let text = text.as_slice();
+        let mut changes = found.changes;
+        let text = with_moves(alloc, self.rays, &self.letters, found.text, &mut changes)?;
+        let found = FoundText {
+            text: text.as_slice(),
+            changes,
+            ..*found
+        };
         match moves_of(moves) {
-            Some(moves) => self.push_text(alloc, printed, line, number, text, moves, &changes),
-            None => self.push_unbound(alloc, printed, line, number, text, &changes),
+            Some(moves) => self.push_text(alloc, printed, &found, moves),
+            None => self.push_unbound(alloc, printed, &found),
         }
     }
 
@@ -389,14 +391,18 @@ impl Printing<'_> {
         ensures from { IfOk result (λ _. (letters : LettersValue) (lines : List (List ℕ)) → IsFoundFrom letters lines finding.now.found
             → PrintsFrom letters self.now.bound lines printed.old.text.items printed.old.any printed.new.text.items printed.new.any) }
     {
-        let number = finding.number;
         match &finding.found {
             Found::Text(text, changes, moves) => {
-                let text = text.as_slice();
-                self.push_found(alloc, printed, line, number, text, *changes, *moves)
+                let found = FoundText {
+                    line,
+                    number: finding.number,
+                    text: text.as_slice(),
+                    changes: *changes,
+                };
+                self.push_found(alloc, printed, &found, *moves)
             }
             Found::Fault(fault) => {
-                printed.push_refusal(alloc, number, *fault)?;
+                printed.push_refusal(alloc, finding.number, *fault)?;
                 Ok(())
             }
         }

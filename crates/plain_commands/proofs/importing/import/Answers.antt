@@ -7,6 +7,6 @@ pub returns-in_err-counts-in-Ok-clause-err : goal.returns-in_err-counts-in-Ok-cl
 returns-in_err-counts-in-Ok-clause-err g c =
     let (other, is, same) = err_from_is_err_and c.from_residual.result c.from_residual.ensures.1 in
     rw (is, same)
-    (imports_uncounted c.holds_reads.ensures.each (g.S.Source.holds c.args.source.now) (g.S.Source.refuses c.args.source.now) c.args.imports.now.letters c.args.imports.now.keep
-    c.args.imports.now.bound c.first.result (map (λ s. s.now) c.args.names.now) c.in-Ok.refused (g.O.Write.contents c.args.out.now) (g.O.Write.contents c.answer_files.new.out)
+    (imports_uncounted c.holds_reads.ensures.each (g.S.Source.holds c.args.source.now) (g.S.Source.refuses c.args.source.now) c.args.imports.now.printing.letters c.args.imports.now.printing.keep
+    c.args.imports.now.printing.bound c.first.result (map (λ s. s.now) c.args.names.now) c.in-Ok.refused (g.O.Write.contents c.args.out.now) (g.O.Write.contents c.answer_files.new.out)
     c.first.ensures c.in-Ok.ensures.ok)

@@ -11,18 +11,18 @@ use Rattle.problem_import.proofs.printing.Printing.told.Goals as goal
 
 pub returns-then-not-self-clause-made : goal.returns-then-not-self-clause-made
 returns-then-not-self-clause-made c =
-    made_plain c.args.self.now.keep c.args.self.now.bound c.args.line.now c.args.text.now c.args.moves c.args.changes.now c.if-not-self.true
+    made_plain c.args.self.now.keep c.args.self.now.bound c.args.found.now.line.now c.args.found.now.text.now c.args.moves c.args.found.now.changes c.if-not-self.true
     c.requires.own c.requires.number c.requires.asks
 
 pub returns-then-is_line-clause-made : goal.returns-then-is_line-clause-made
 returns-then-is_line-clause-made c =
-    made_unchanged c.args.self.now.keep c.args.self.now.bound c.args.line.now c.args.text.now (c.is_line.ensures.line c.if-is_line.true)
+    made_unchanged c.args.self.now.keep c.args.self.now.bound c.args.found.now.line.now c.args.found.now.text.now (c.is_line.ensures.line c.if-is_line.true)
 
 pub returns-in-Right-clause-made : goal.returns-in-Right-clause-made
 returns-in-Right-clause-made c = (
   subst IsRecord c.as_slice.ensures.value (c.in_ok-says.ensures.record _ c.in-Right.is),
   subst (λ t. IsSaid t c.in-Right.says) c.as_slice.ensures.value (c.in_ok-says.ensures.said _ c.in-Right.is),
-  made_told c.args.self.now.keep c.args.self.now.bound c.args.line.now c.args.text.now c.in_ok-told.told.items c.args.moves c.args.changes.now
+  made_told c.args.self.now.keep c.args.self.now.bound c.args.found.now.line.now c.args.found.now.text.now c.in_ok-told.told.items c.args.moves c.args.found.now.changes
       c.if-not-self.false c.requires.record c.requires.own c.requires.number
       (subst (λ t. Asks c.args.moves t) c.as_slice.ensures.value (c.in_ok-says.ensures.asks _ c.in-Right.is))
       (c.is_line.ensures.changed c.if-is_line.false) c.in_ok-told.ensures,
@@ -30,13 +30,13 @@ returns-in-Right-clause-made c = (
 
 pub returns-in-Refused-clause-made : goal.returns-in-Refused-clause-made
 returns-in-Refused-clause-made c =
-    made_untold c.args.self.now.keep c.args.self.now.bound c.args.line.now c.args.text.now c.in_ok-told.told.items c.args.moves
-    c.args.changes.now c.if-not-self.false c.requires.own c.requires.number c.requires.asks (c.is_line.ensures.changed c.if-is_line.false)
+    made_untold c.args.self.now.keep c.args.self.now.bound c.args.found.now.line.now c.args.found.now.text.now c.in_ok-told.told.items c.args.moves
+    c.args.found.now.changes c.if-not-self.false c.requires.own c.requires.number c.requires.asks (c.is_line.ensures.changed c.if-is_line.false)
     c.in_ok-told.ensures (λ one. c.in_ok-says.ensures.none _ c.in-Refused.is (rw c.as_slice.ensures.value one))
 
 pub returns-in-Right-clause-tells : goal.returns-in-Right-clause-tells
 returns-in-Right-clause-tells c = (
-  fields_go_on c.args.text.now c.in_ok-told.told.items c.requires.record
-      (subst (λ t. GoesOn c.args.text.now t) (sym c.in_ok-told.ensures) (telling_on c.args.text.now (has_change c.args.changes.now))),
+  fields_go_on c.args.found.now.text.now c.in_ok-told.told.items c.requires.record
+      (subst (λ t. GoesOn c.args.found.now.text.now t) (sym c.in_ok-told.ensures) (telling_on c.args.found.now.text.now (has_change c.args.found.now.changes))),
   subst (λ t. Asks c.args.moves t) c.as_slice.ensures.value (c.in_ok-says.ensures.asks _ c.in-Right.is),
 )
