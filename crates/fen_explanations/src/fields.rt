@@ -18,7 +18,7 @@ ghost use Rattle.fen_explanations.specs.Fields.{target_square_told, target_told,
 
 use crate::placements::{has_man, letter_of, letter_on};
 use crate::sentences::{colour_name, kind_name, push_if, side_name};
-use chess_board::{Colour, Kind, Square, Wing, king_goal, king_home, rook_home};
+use chess_board::{Colour, Kind, Man, Square, Wing, king_goal, king_home, rook_home};
 use std::alloc::AllocError;
 
 /// Tells where a field isn't there.
@@ -174,13 +174,13 @@ fn push_lack(
     text: &mut Vec<u8>,
     ranks: &[&[u8]],
     asked: bool,
-    colour: Colour,
+    man: Man,
     wing: Wing,
-    kind: Kind,
     home: Square,
 ) -> Result<(), AllocError>
-    ensures { IfOk result (λ _. text.new.items ≡ text.old.items ++ lack_told (map (λ r. r.now) ranks.now) asked colour wing kind home) }
+    ensures { IfOk result (λ _. text.new.items ≡ text.old.items ++ lack_told (map (λ r. r.now) ranks.now) asked man.colour wing man.kind home) }
 {
+    let Man { colour, kind } = man;
     let lacks = asked && !has_man(ranks, colour, kind, home);
     let goal = king_goal(colour, wing);
     push_if(
@@ -212,24 +212,16 @@ fn push_right(
     ensures { IfOk result (λ _. text.new.items ≡ text.old.items ++ right_told (map (λ r. r.now) ranks.now) field.now colour wing) }
 {
     let asked = has_letter(field, right_letter(colour, wing));
-    push_lack(
-        text,
-        ranks,
-        asked,
+    let king = Man {
         colour,
-        wing,
-        Kind::King,
-        king_home(colour),
-    )?;
-    push_lack(
-        text,
-        ranks,
-        asked,
+        kind: Kind::King,
+    };
+    let rook = Man {
         colour,
-        wing,
-        Kind::Rook,
-        rook_home(colour, wing),
-    )
+        kind: Kind::Rook,
+    };
+    push_lack(text, ranks, asked, king, wing, king_home(colour))?;
+    push_lack(text, ranks, asked, rook, wing, rook_home(colour, wing))
 }
 
 /// Tells all that is wrong with the castling field.
