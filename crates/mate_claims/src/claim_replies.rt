@@ -55,8 +55,8 @@ pub(crate) fn told_by(
     said: &Said,
     found: &Found<'_>,
 ) -> Result<Told, NoMemory>
-    requires keys { found.now.keys.now ≡ listed claimed.now.record.now.position (keys_found_in found.now.outcome.now) }
-    ensures row { IfOk result (λ told. told.row.items ≡ row_of claimed.now.place.now claimed.now.record.now claimed.now.source
+    requires keys { found.now.keys.now ≡ listed claimed.now.«record».now.position (keys_found_in found.now.outcome.now) }
+    ensures row { IfOk result (λ told. told.row.items ≡ row_of claimed.now.place.now claimed.now.«record».now claimed.now.source
         said.now.word.now found.now.outcome.now said.now.claims.items) }
     ensures verdict { IfOk result (λ told. told.verdict ≡ said.now.verdict) }
     ensures source { IfOk result (λ told. told.source ≡ Some claimed.now.source) }
@@ -78,12 +78,12 @@ fn told_of_found(
     claimed: &ClaimedRecord<'_>,
     found: &Found<'_>,
 ) -> Result<Told, NoMemory>
-    requires truth { found.now.outcome.now ≡ truth (problem_of claimed.now.record.now) }
-    requires playable { IsPlayable claimed.now.record.now.position found.now.outcome.now }
-    requires keys { found.now.keys.now ≡ listed claimed.now.record.now.position (keys_found_in found.now.outcome.now) }
-    ensures told { IfOk result (λ told. IsToldBy claimed.now.place.now claimed.now.record.now claimed.now.source
-        (said_by claimed.now.line.now claimed.now.words.now (words_in claimed.now.words.now) claimed.now.record.now
-        (truth (problem_of claimed.now.record.now))) told.row.items told.verdict) }
+    requires truth { found.now.outcome.now ≡ truth (problem_of claimed.now.«record».now) }
+    requires playable { IsPlayable claimed.now.«record».now.position found.now.outcome.now }
+    requires keys { found.now.keys.now ≡ listed claimed.now.«record».now.position (keys_found_in found.now.outcome.now) }
+    ensures told { IfOk result (λ told. IsToldBy claimed.now.place.now claimed.now.«record».now claimed.now.source
+        (said_by claimed.now.line.now claimed.now.words.now (words_in claimed.now.words.now) claimed.now.«record».now
+        (truth (problem_of claimed.now.«record».now))) told.row.items told.verdict) }
     ensures source { IfOk result (λ told. told.source ≡ Some claimed.now.source) }
 {
     let said = said_of_record(alloc, rays, claimed, found)?;
@@ -97,11 +97,11 @@ pub(crate) fn told_of_outcome(
     claimed: &ClaimedRecord<'_>,
     outcome: &Outcome,
 ) -> Result<Told, NoMemory>
-    requires truth { outcome.now ≡ truth (problem_of claimed.now.record.now) }
-    requires playable { IsPlayable claimed.now.record.now.position outcome.now }
-    ensures told { IfOk result (λ told. IsToldBy claimed.now.place.now claimed.now.record.now claimed.now.source
-        (said_by claimed.now.line.now claimed.now.words.now (words_in claimed.now.words.now) claimed.now.record.now
-        (truth (problem_of claimed.now.record.now))) told.row.items told.verdict) }
+    requires truth { outcome.now ≡ truth (problem_of claimed.now.«record».now) }
+    requires playable { IsPlayable claimed.now.«record».now.position outcome.now }
+    ensures told { IfOk result (λ told. IsToldBy claimed.now.place.now claimed.now.«record».now claimed.now.source
+        (said_by claimed.now.line.now claimed.now.words.now (words_in claimed.now.words.now) claimed.now.«record».now
+        (truth (problem_of claimed.now.«record».now))) told.row.items told.verdict) }
     ensures source { IfOk result (λ told. told.source ≡ Some claimed.now.source) }
 {
     let record = claimed.record;
@@ -120,9 +120,9 @@ fn told_of_record(
     claimed: &ClaimedRecord<'_>,
     memo: &mut Memo,
 ) -> Result<Told, NoMemory>
-    ensures told { IfOk result (λ told. IsToldBy claimed.now.place.now claimed.now.record.now claimed.now.source
-        (said_by claimed.now.line.now claimed.now.words.now (words_in claimed.now.words.now) claimed.now.record.now
-        (truth (problem_of claimed.now.record.now))) told.row.items told.verdict) }
+    ensures told { IfOk result (λ told. IsToldBy claimed.now.place.now claimed.now.«record».now claimed.now.source
+        (said_by claimed.now.line.now claimed.now.words.now (words_in claimed.now.words.now) claimed.now.«record».now
+        (truth (problem_of claimed.now.«record».now))) told.row.items told.verdict) }
     ensures source { IfOk result (λ told. told.source ≡ Some claimed.now.source) }
     ensures room { memo.new.room ≡ memo.old.room }
     ensures within { memo.new.kept ≤ memo.new.room }

@@ -48,8 +48,8 @@ fn told_of_undecided(
     rays: &Rays,
     claimed: &ClaimedRecord<'_>,
 ) -> Result<Told, NoMemory>
-    ensures told { IfOk result (λ told. IsToldLate claimed.now.place.now claimed.now.record.now claimed.now.source
-        (unjudged (said_by claimed.now.line.now claimed.now.words.now (words_in claimed.now.words.now) claimed.now.record.now NoMate))
+    ensures told { IfOk result (λ told. IsToldLate claimed.now.place.now claimed.now.«record».now claimed.now.source
+        (unjudged (said_by claimed.now.line.now claimed.now.words.now (words_in claimed.now.words.now) claimed.now.«record».now NoMate))
         told.row.items told.verdict) }
     ensures source { IfOk result (λ told. told.source ≡ Some claimed.now.source) }
 {
@@ -70,12 +70,12 @@ impl<T: TimeLimit, S: Solver<T>> LimitedClaims<'_, '_, T, S> {
         memory: &mut S::Memory,
     ) -> Result<Told, NoMemory>
         requires { S.ready self.now.limited.now.solver }
-        ensures told { IfOk result (λ told. IsToldBy claimed.now.place.now claimed.now.record.now claimed.now.source
-            (said_by claimed.now.line.now claimed.now.words.now (words_in claimed.now.words.now) claimed.now.record.now
-            (truth (problem_of claimed.now.record.now))) told.row.items told.verdict
-            ⊎ (T.may_stop self.now.limited.now.limit.now × (none : ℕ) × IsNoneSoFar claimed.now.record.now none
-            × IsToldLate claimed.now.place.now claimed.now.record.now claimed.now.source
-            (unjudged (said_by claimed.now.line.now claimed.now.words.now (words_in claimed.now.words.now) claimed.now.record.now NoMate))
+        ensures told { IfOk result (λ told. IsToldBy claimed.now.place.now claimed.now.«record».now claimed.now.source
+            (said_by claimed.now.line.now claimed.now.words.now (words_in claimed.now.words.now) claimed.now.«record».now
+            (truth (problem_of claimed.now.«record».now))) told.row.items told.verdict
+            ⊎ (T.may_stop self.now.limited.now.limit.now × (none : ℕ) × IsNoneSoFar claimed.now.«record».now none
+            × IsToldLate claimed.now.place.now claimed.now.«record».now claimed.now.source
+            (unjudged (said_by claimed.now.line.now claimed.now.words.now (words_in claimed.now.words.now) claimed.now.«record».now NoMate))
             told.row.items told.verdict)) }
         ensures source { IfOk result (λ told. told.source ≡ Some claimed.now.source) }
         ensures room { S.room memory.new ≡ S.room memory.old }

@@ -140,9 +140,9 @@ pub(crate) fn push_row(
     found: &Found<'_>,
     claims: &[u8],
 ) -> Result<(), AllocError>
-    requires keys { found.now.keys.now ≡ listed claimed.now.record.now.position (keys_found_in found.now.outcome.now) }
+    requires keys { found.now.keys.now ≡ listed claimed.now.«record».now.position (keys_found_in found.now.outcome.now) }
     ensures { OnOk result (row.new.items ≡ row.old.items
-        ++ row_of claimed.now.place.now claimed.now.record.now claimed.now.source word.now found.now.outcome.now claims.now) }
+        ++ row_of claimed.now.place.now claimed.now.«record».now claimed.now.source word.now found.now.outcome.now claims.now) }
 {
     let record = claimed.record;
     row.extend_from_slice(claimed.place)?;

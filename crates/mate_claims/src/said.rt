@@ -104,9 +104,9 @@ fn said_of_moves(
     moves: &[Move],
     text: &[u8],
 ) -> Result<Said, NoMemory>
-    requires text { text.now ≡ listed claimed.now.record.now.position moves.now }
+    requires text { text.now ≡ listed claimed.now.«record».now.position moves.now }
     ensures { IfOk result (λ said. record { word = said.word.now; claims = said.claims.items; verdict = said.verdict }
-        ≡ said_by_moves claimed.now.record.now outcome.now moves.now (play_claimed_in moves.now claimed.now.line.now)) }
+        ≡ said_by_moves claimed.now.«record».now outcome.now moves.now (play_claimed_in moves.now claimed.now.line.now)) }
 {
     let record = claimed.record;
     match play_claimed(moves, claimed.line) {
@@ -139,7 +139,7 @@ fn said_of_words(
     outcome: &Outcome,
 ) -> Result<Said, NoMemory>
     ensures { IfOk result (λ said. record { word = said.word.now; claims = said.claims.items; verdict = said.verdict }
-        ≡ said_by claimed.now.line.now claimed.now.words.now (words_in claimed.now.words.now) claimed.now.record.now outcome.now) }
+        ≡ said_by claimed.now.line.now claimed.now.words.now (words_in claimed.now.words.now) claimed.now.«record».now outcome.now) }
 {
     let (record, words) = (claimed.record, claimed.words);
     let named = match claimed_moves(rays, &record.position, words) {
@@ -161,7 +161,7 @@ pub(crate) fn said_undecided(
     claimed: &ClaimedRecord<'_>,
 ) -> Result<Said, NoMemory>
     ensures { IfOk result (λ said. record { word = said.word.now; claims = said.claims.items; verdict = said.verdict }
-        ≡ unjudged (said_by claimed.now.line.now claimed.now.words.now (words_in claimed.now.words.now) claimed.now.record.now NoMate)) }
+        ≡ unjudged (said_by claimed.now.line.now claimed.now.words.now (words_in claimed.now.words.now) claimed.now.«record».now NoMate)) }
 {
     let said = said_of_words(alloc, rays, claimed, &Outcome::NoMate)?;
     match said.verdict {
@@ -203,11 +203,11 @@ pub(crate) fn said_of_record(
     claimed: &ClaimedRecord<'_>,
     found: &Found<'_>,
 ) -> Result<Said, NoMemory>
-    requires truth { found.now.outcome.now ≡ truth (problem_of claimed.now.record.now) }
-    requires playable { IsPlayable claimed.now.record.now.position found.now.outcome.now }
-    requires keys { found.now.keys.now ≡ listed claimed.now.record.now.position (keys_found_in found.now.outcome.now) }
+    requires truth { found.now.outcome.now ≡ truth (problem_of claimed.now.«record».now) }
+    requires playable { IsPlayable claimed.now.«record».now.position found.now.outcome.now }
+    requires keys { found.now.keys.now ≡ listed claimed.now.«record».now.position (keys_found_in found.now.outcome.now) }
     ensures { IfOk result (λ said. record { word = said.word.now; claims = said.claims.items; verdict = said.verdict }
-        ≡ said_by claimed.now.line.now claimed.now.words.now (words_in claimed.now.words.now) claimed.now.record.now found.now.outcome.now) }
+        ≡ said_by claimed.now.line.now claimed.now.words.now (words_in claimed.now.words.now) claimed.now.«record».now found.now.outcome.now) }
 {
     match moves_listed(claimed.words, claimed.record, found) {
         Some(moves) => said_of_moves(alloc, rays, claimed, found.outcome, moves, claimed.words),
