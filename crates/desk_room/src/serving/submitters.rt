@@ -269,13 +269,13 @@ impl Submitter {
         alloc: Global,
         rays: &Rays,
         signals: &mut WindowSignals,
-        line: NumberedLine<'_>,
+        line: &NumberedLine<'_>,
     ) -> Result<(), StopReason>
-        requires few { self.old.refused < line.number }
+        requires few { self.old.refused < line.now.number }
         ensures window { SameWindow self.old.window self.new.window }
         ensures few { OnOk result (self.new.refused ≤ self.old.refused + 1) }
-        ensures handled { OnOk result ((lines : List (List ℕ)) → length lines + 1 ≡ line.number → HasHandled lines self.old
-            → HasHandled (lines ++ line.text.now ∷ []) self.new) }
+        ensures handled { OnOk result ((lines : List (List ℕ)) → length lines + 1 ≡ line.now.number → HasHandled lines self.old
+            → HasHandled (lines ++ line.now.text.now ∷ []) self.new) }
     {
         // That a line's reply follows those to the lines before it is this law.
         replies_go_on();
@@ -308,12 +308,12 @@ impl Submitter {
         for number in 1..usize::MAX {
             match first_line(rest) {
                 Some((text, more)) => {
-                    self.hand_in(rt, alloc, rays, signals, NumberedLine { number, text })?;
+                    self.hand_in(rt, alloc, rays, signals, &NumberedLine { number, text })?;
                     rest = more;
                 }
                 None => {
                     let last = NumberedLine { number, text: rest };
-                    return self.hand_in(rt, alloc, rays, signals, last);
+                    return self.hand_in(rt, alloc, rays, signals, &last);
                 }
             }
         }

@@ -12,8 +12,8 @@ use Rattle.desk_room.proofs.serving.submitters.Submitter.hand_in.Goals as goal
 pub returns-then-is_blank-clause-handled : goal.returns-then-is_blank-clause-handled
 returns-then-is_blank-clause-handled g c lines at old =
     let submitter = c.args.self.now in
-    let blank : is_blank (without_cr c.args.line.text.now) ≡ true = search rules in
-    progress_blank c.replies_go_on.ensures (default_of submitter.window) submitter.refused lines c.args.line.text.now
+    let blank : is_blank (without_cr c.args.line.now.text.now) ≡ true = search rules in
+    progress_blank c.replies_go_on.ensures (default_of submitter.window) submitter.refused lines c.args.line.now.text.now
     (records (letters_sent submitter.window)) (map asked (collected submitter.window)) submitter.text.items
     (map (λ t. t.items) submitter.pending_replies.items)
     (skipped blank) old
@@ -21,5 +21,5 @@ returns-then-is_blank-clause-handled g c lines at old =
 pub returns-clause-handled : goal.returns-clause-handled
 returns-clause-handled g c =
     let filled : is_blank c.without_cr-text.result.now ≡ false = search rules in
-    on_ok c.send-sent.result c.send-sent.ensures.handled (λ handled lines at old. handled lines c.args.line.text.now at
+    on_ok c.send-sent.result c.send-sent.ensures.handled (λ handled lines at old. handled lines c.args.line.now.text.now at
     (sym c.without_cr-text.ensures) filled (c.in_ok-make_room.ensures.collects.handled lines old))
