@@ -1,5 +1,5 @@
 -- Files that were opened, one after the other.
-use Rattle.std.proofs.Common.{◌≡◌, ◌+◌, ◌++◌, ◌<◌, Bor, ℕ, suc, List, [], ◌∷◌, Option, ap, arith, refl, subst}
+use Rattle.std.proofs.Common.{◌≡◌, ◌+◌, ◌++◌, ◌<◌, Bor, ℕ, suc, List, [], ◌∷◌, Option, ap, refl, subst}
 use Rattle.std.proofs.Common.{map, take, drop, length, slice_index_or}
 use Rattle.file_answers.specs.OpenedFiles.{AreOpened}
 use Rattle.file_answers.specs.Sources.{HasAll}
@@ -38,10 +38,3 @@ module _ {F : Type 0} (left : F → Option (List ℕ)) (breaks : F → Type 0) (
   opened_there names i d files file rest within opened is =
       subst (λ ns. AreOpened left breaks holds refuses ns (file ∷ rest)) (names_left names i d within)
       (subst (AreOpened left breaks holds refuses (map (λ s. s.now) (drop i names))) is opened)
-
-  -- And those behind it are left.
-  pub opened_behind : (names : List (Bor (List ℕ))) (i : ℕ) (files : List F) (file : F) (rest : List F) → i < length names
-      → AreOpened left breaks holds refuses (map (λ s. s.now) (drop i names)) files → files ≡ file ∷ rest
-      → AreOpened left breaks holds refuses (map (λ s. s.now) (drop (i + 1) names)) rest
-  opened_behind [] i files file rest within opened is = absurd (omega (arith, within))
-  opened_behind (n ∷ ns) i files file rest within opened is = (opened_there (n ∷ ns) i n files file rest within opened is).2

@@ -5,12 +5,11 @@ ghost use Rattle.std.specs.Io.KnownBytes.{Appends};
 ghost use Rattle.byte_streams.specs.Inputs.{MayBe};
 ghost use Rattle.byte_streams.specs.Stops.{AppendsBy};
 ghost use Rattle.file_answers.specs.Writing.{Gains};
-ghost use Rattle.file_answers.specs.Sources.{HasAll};
 ghost use Rattle.file_answers.specs.FileAnswers.{Answers, AnswersTold, FileReplies, FileTold, FirstReplies, StopsAnswering};
 
 use crate::sources::{Source, holds_reads, open_file, stop_at};
 use byte_streams::{Input, Stop};
-use command_words::Files;
+use command_words::LineNumber;
 use std::alloc::Global;
 use std::io::Write;
 
@@ -19,6 +18,14 @@ use std::io::Write;
 pub struct FileStart<'a, S> {
     pub name: &'a str,
     pub from: usize,
+    pub source: &'a S,
+}
+
+/// Files by their names, of the first of which the lines before one of such a number are passed over, and the source that they are of.
+#[derive(Clone, Copy)]
+pub struct SourceFiles<'a, S> {
+    pub names: &'a [&'a str],
+    pub from: LineNumber,
     pub source: &'a S,
 }
 
@@ -70,67 +77,39 @@ pub trait FileAnswers {
         ensures { (from : ℕ) (name input : List ℕ) → first self.now from name input [] };
 }
 
-/// Answers a file that was opened, from the line of a number on; gives how many of its lines are refused. One that breaks off is named on
-/// `err`.
-pub(crate) fn answer_file<A: FileAnswers, S: Source, O: Write, E: Write>(
-    alloc: Global,
-    answers: &A,
-    start: &FileStart<S>,
-    file: S::File,
-    memory: &mut A::Memory,
-    out: &mut O,
-    err: &mut E,
-) -> Result<usize, Stop>
-    requires ready { A.ready answers.now }
-    requires from { 1 ≤ start.now.from }
-    requires left { HasAll (S.holds start.now.source.now start.now.name.now) (S.File.Input.left file) }
-    requires breaks { S.File.Input.breaks file → S.refuses start.now.source.now start.now.name.now }
-    ensures ok { IfOk result (λ count. (input : List ℕ) × (text : List ℕ) × MayBe (S.holds start.now.source.now start.now.name.now) input
-        × A.told answers.now start.now.from start.now.name.now input text count (A.tally memory.new - A.tally memory.old)
-        × Appends (O.contents out.old) (O.contents out.new) text) }
-    ensures grows { IfOk result (λ _. A.tally memory.old ≤ A.tally memory.new) }
-    ensures err { IfErr result (λ stop. (input : List ℕ) × (text : List ℕ) × MayBe (S.holds start.now.source.now start.now.name.now) input
-        × A.first answers.now start.now.from start.now.name.now input text
-        × AppendsBy stop (O.contents out.old) (O.contents out.new) text) }
-    ensures unreadable { IfErr result (λ stop. stop ≡ Stop.Unreadable → S.refuses start.now.source.now start.now.name.now) }
-{
-    match answers.answer(alloc, start, file, memory, out) {
-        Ok(count) => Ok(count),
-        Err(stop) => Err(stop_at(stop, err, start.source, start.name)),
-    }
-}
-
 /// Answers each line of each file in order, but those of the first file that are passed over, and opens a file only after the answers to
 /// those before were written; gives whether a line was refused; how many marks there are more, the memory tells. A file that can't be read
 /// is named on `err`.
 pub fn answer_files<A: FileAnswers, S: Source, O: Write, E: Write>(
     alloc: Global,
     answers: &A,
-    files: &Files,
-    source: &S,
+    files: &SourceFiles<S>,
     memory: &mut A::Memory,
     out: &mut O,
     err: &mut E,
 ) -> Result<bool, Stop>
     requires ready { A.ready answers.now }
-    ensures ok { IfOk result (λ refused. Gains (Answers (S.holds source.now) (A.replies answers.now) files.now.from
+    ensures ok { IfOk result (λ refused. Gains (Answers (S.holds files.now.source.now) (A.replies answers.now) files.now.from
         (map (λ s. s.now) files.now.names.now) refused) (O.contents out.old) (O.contents out.new)) }
-    ensures told { IfOk result (λ refused. Gains (AnswersTold (S.holds source.now) (A.told answers.now) files.now.from
+    ensures told { IfOk result (λ refused. Gains (AnswersTold (S.holds files.now.source.now) (A.told answers.now) files.now.from
         (map (λ s. s.now) files.now.names.now) refused (A.tally memory.new - A.tally memory.old)) (O.contents out.old) (O.contents out.new)) }
     ensures err { IfErr result
-        (λ stop. StopsAnswering (S.holds source.now) (S.refuses source.now) (A.replies answers.now) (A.first answers.now)
+        (λ stop. StopsAnswering (S.holds files.now.source.now) (S.refuses files.now.source.now) (A.replies answers.now) (A.first answers.now)
         files.now.from (map (λ s. s.now) files.now.names.now) stop (O.contents out.old) (O.contents out.new)) }
 {
     // How the files that are answered so far go on with the next, and what one that can't be opened is answered.
     holds_reads();
     answers.begins_with_nothing();
+    let source = files.source;
     let mut refused = false;
     let mut from = files.from.get() as usize;
     for name in files.names {
         let start = FileStart { name, from, source };
         let file = open_file(alloc, name, source, err)?;
-        let count = answer_file(alloc, answers, &start, file, memory, out, err)?;
-        refused |= count > 0;
+        match answers.answer(alloc, &start, file, memory, out) {
+            Ok(count) => refused |= count > 0,
+            Err(stop) => return Err(stop_at(stop, err, source, name)),
+        }
         from = 1;
     }
     Ok(refused)

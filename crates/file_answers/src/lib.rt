@@ -15,10 +15,10 @@ mod sources;
 mod status;
 mod writing;
 
-pub use file_answers::{FileAnswers, FileStart, answer_files};
+pub use file_answers::{FileAnswers, FileStart, SourceFiles, answer_files};
 pub use files::{FileSystem, Reading, Stream};
 pub use given_texts::{Given, GivenText, GivenTexts};
-pub use opened_files::{answer_opened, open_files};
+pub use opened_files::{OpenFiles, answer_opened, open_files};
 pub use sources::{NameKind, Source, SourceFault, holds_reads, read_file, read_files, whole};
 pub use status::{
     ANSWERED, IN_PART, MISUSED, NO_MEMORY, NO_THREAD, REFUSED, UNREADABLE, UNWRITABLE, in_part,

@@ -6,11 +6,19 @@ ghost use Rattle.file_answers.specs.OpenedFiles.{AreOpened};
 ghost use Rattle.file_answers.specs.Sources.{SomeRefused};
 ghost use Rattle.file_answers.specs.Writing.{Gains};
 
-use crate::file_answers::{FileAnswers, FileStart, answer_file};
-use crate::sources::{Source, holds_reads, open_file};
+use crate::file_answers::{FileAnswers, FileStart};
+use crate::sources::{Source, holds_reads, open_file, stop_at};
 use byte_streams::Stop;
 use std::alloc::Global;
 use std::io::Write;
+
+/// Files that were opened, their names, and the source that they are of.
+#[derive(Drop)]
+pub struct OpenFiles<'a, S, F> {
+    pub names: &'a [&'a str],
+    pub files: Vec<F>,
+    pub source: &'a S,
+}
 
 /// Opens each file, in order. The first that can't be opened is named on `err`, and none behind it is opened.
 pub fn open_files<S: Source, E: Write>(
@@ -35,30 +43,33 @@ pub fn open_files<S: Source, E: Write>(
     Ok(files)
 }
 
-/// Answers each line of each file in order, of files that were opened by these names; gives whether a line was refused; how many marks there
-/// are more, the memory tells. The source is told which file is next, and one that breaks off is named on `err`.
+/// Answers each line of each file in order; gives whether a line was refused; how many marks there are more, the memory tells. The source is
+/// told which file is next, and one that breaks off is named on `err`.
 pub fn answer_opened<A: FileAnswers, S: Source, O: Write, E: Write>(
     alloc: Global,
     answers: &A,
-    names: &[&str],
-    files: Vec<S::File>,
-    source: &S,
+    opened: OpenFiles<S, S::File>,
     memory: &mut A::Memory,
     out: &mut O,
     err: &mut E,
 ) -> Result<bool, Stop>
     requires ready { A.ready answers.now }
-    requires opened { AreOpened S.File.Input.left S.File.Input.breaks (S.holds source.now) (S.refuses source.now)
-        (map (λ s. s.now) names.now) files.items }
-    ensures ok { IfOk result (λ refused. Gains (Answers (S.holds source.now) (A.replies answers.now) 1
-        (map (λ s. s.now) names.now) refused) (O.contents out.old) (O.contents out.new)) }
-    ensures told { IfOk result (λ refused. Gains (AnswersTold (S.holds source.now) (A.told answers.now) 1
-        (map (λ s. s.now) names.now) refused (A.tally memory.new - A.tally memory.old)) (O.contents out.old) (O.contents out.new)) }
-    ensures err { IfErr result (λ stop. StopsAnswering (S.holds source.now) (S.refuses source.now) (A.replies answers.now) (A.first answers.now)
-        1 (map (λ s. s.now) names.now) stop (O.contents out.old) (O.contents out.new)) }
+    requires opened { AreOpened S.File.Input.left S.File.Input.breaks (S.holds opened.source.now) (S.refuses opened.source.now)
+        (map (λ s. s.now) opened.names.now) opened.files.items }
+    ensures ok { IfOk result (λ refused. Gains (Answers (S.holds opened.entry.source.now) (A.replies answers.now) 1
+        (map (λ s. s.now) opened.entry.names.now) refused) (O.contents out.old) (O.contents out.new)) }
+    ensures told { IfOk result (λ refused. Gains (AnswersTold (S.holds opened.entry.source.now) (A.told answers.now) 1
+        (map (λ s. s.now) opened.entry.names.now) refused (A.tally memory.new - A.tally memory.old)) (O.contents out.old) (O.contents out.new)) }
+    ensures err { IfErr result (λ stop. StopsAnswering (S.holds opened.entry.source.now) (S.refuses opened.entry.source.now) (A.replies answers.now)
+        (A.first answers.now) 1 (map (λ s. s.now) opened.entry.names.now) stop (O.contents out.old) (O.contents out.new)) }
 {
     // How the files that are answered so far go on with the next.
     holds_reads();
+    let OpenFiles {
+        names,
+        files,
+        source,
+    } = opened;
     let mut refused = false;
     let mut rest = files.into_iter();
     for name in names {
@@ -71,8 +82,10 @@ pub fn answer_opened<A: FileAnswers, S: Source, O: Write, E: Write>(
             from: 1,
             source,
         };
-        let count = answer_file(alloc, answers, &start, file, memory, out, err)?;
-        refused |= count > 0;
+        match answers.answer(alloc, &start, file, memory, out) {
+            Ok(count) => refused |= count > 0,
+            Err(stop) => return Err(stop_at(stop, err, source, name)),
+        }
     }
     Ok(refused)
 }
