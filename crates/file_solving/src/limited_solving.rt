@@ -5,8 +5,7 @@ ghost use Rattle.file_answers.specs.Writing.{Gains};
 ghost use Rattle.file_solving.specs.Solved.{LimitedNone, SolvesLimited, StopsLimited};
 
 use byte_streams::{Input, Stop};
-use command_words::Files;
-use file_answers::{FileAnswers, FileStart, Source, answer_files};
+use file_answers::{FileAnswers, FileStart, Source, SourceFiles, answer_files};
 use mate_answers::{Limited, LimitedMemory, TimeLimit};
 use mate_search::Solver;
 use std::alloc::Global;
@@ -68,29 +67,20 @@ impl<T: TimeLimit, V: Solver<T>> FileAnswers for LimitedRecords<'_, '_, T, V> {
 pub fn solve_limited<T: TimeLimit, V: Solver<T>, S: Source, O: Write, E: Write>(
     alloc: Global,
     limited: &Limited<T, V>,
-    files: &Files,
-    source: &S,
+    files: &SourceFiles<S>,
     memory: &mut LimitedMemory<V::Memory>,
     out: &mut O,
     err: &mut E,
 ) -> Result<bool, Stop>
     requires ready { V.ready limited.now.solver }
-    ensures ok { IfOk result (λ refused. Gains (SolvesLimited (S.holds source.now) (T.may_stop limited.now.limit.now) limited.now.seconds
+    ensures ok { IfOk result (λ refused. Gains (SolvesLimited (S.holds files.now.source.now) (T.may_stop limited.now.limit.now) limited.now.seconds
         limited.now.default files.now.from (map (λ s. s.now) files.now.names.now) refused (memory.new.undecided - memory.old.undecided))
         (O.contents out.old) (O.contents out.new)) }
-    ensures err { IfErr result (λ stop. StopsLimited (S.holds source.now) (S.refuses source.now) (T.may_stop limited.now.limit.now)
-        limited.now.seconds limited.now.default files.now.from (map (λ s. s.now) files.now.names.now) stop
+    ensures err { IfErr result (λ stop. StopsLimited (S.holds files.now.source.now) (S.refuses files.now.source.now)
+        (T.may_stop limited.now.limit.now) limited.now.seconds limited.now.default files.now.from (map (λ s. s.now) files.now.names.now) stop
         (O.contents out.old) (O.contents out.new)) }
 {
-    answer_files(
-        alloc,
-        &LimitedRecords { limited },
-        files,
-        source,
-        memory,
-        out,
-        err,
-    )
+    answer_files(alloc, &LimitedRecords { limited }, files, memory, out, err)
 }
 
 /// What that has written where it ends before it has opened a file. It does nothing: its contract is the law.

@@ -8,8 +8,8 @@ ghost use Rattle.mate_search.specs.Memos.{max_large_entries};
 use crate::lengths::Lengthwise;
 use byte_streams::{Input, Stop};
 use chess_moves::Rays;
-use command_words::{Files, SolveAsked};
-use file_answers::{FileAnswers, FileStart, Source, answer_files};
+use command_words::SolveAsked;
+use file_answers::{FileAnswers, FileStart, Source, SourceFiles, answer_files};
 use mate_answers::Answers;
 use mate_search::{Memo, MemoFault, Never, OneThread, Solver};
 use std::alloc::Global;
@@ -92,6 +92,11 @@ pub fn solve<S: Source, O: Write, E: Write>(
 {
     let rays = Rays::new();
     let mut memo = new_memo(alloc, asked.memo.get() as usize)?;
+    let files = SourceFiles {
+        names: asked.files.names,
+        from: asked.files.from,
+        source,
+    };
     // Asked once, not for each record: through `Lengthwise` an outcome of 4.2 KB is copied once more.
     if source.follows_lengths() {
         let answers = Answers {
@@ -102,41 +107,32 @@ pub fn solve<S: Source, O: Write, E: Write>(
                 progress: source,
             },
         };
-        return solve_by(alloc, &answers, &asked.files, source, &mut memo, out, err);
+        return solve_by(alloc, &answers, &files, &mut memo, out, err);
     }
     let answers = Answers {
         rays: &rays,
         default: asked.bound,
         solver: OneThread,
     };
-    solve_by(alloc, &answers, &asked.files, source, &mut memo, out, err)
+    solve_by(alloc, &answers, &files, &mut memo, out, err)
 }
 
 /// The same, by who solves the records, over a memory of its own.
 pub fn solve_by<V: Solver<Never>, S: Source, O: Write, E: Write>(
     alloc: Global,
     answers: &Answers<V>,
-    files: &Files,
-    source: &S,
+    files: &SourceFiles<S>,
     memory: &mut V::Memory,
     out: &mut O,
     err: &mut E,
 ) -> Result<bool, Stop>
     requires ready { V.ready answers.now.solver }
-    ensures ok { IfOk result (λ refused. Gains (Solves (S.holds source.now) answers.now.default files.now.from
+    ensures ok { IfOk result (λ refused. Gains (Solves (S.holds files.now.source.now) answers.now.default files.now.from
         (map (λ s. s.now) files.now.names.now) refused) (O.contents out.old) (O.contents out.new)) }
-    ensures err { IfErr result (λ stop. StopsSolving (S.holds source.now) (S.refuses source.now) answers.now.default files.now.from
-        (map (λ s. s.now) files.now.names.now) stop (O.contents out.old) (O.contents out.new)) }
+    ensures err { IfErr result (λ stop. StopsSolving (S.holds files.now.source.now) (S.refuses files.now.source.now) answers.now.default
+        files.now.from (map (λ s. s.now) files.now.names.now) stop (O.contents out.old) (O.contents out.new)) }
 {
-    answer_files(
-        alloc,
-        &RecordAnswers { answers },
-        files,
-        source,
-        memory,
-        out,
-        err,
-    )
+    answer_files(alloc, &RecordAnswers { answers }, files, memory, out, err)
 }
 
 /// What a `solve` that ends before it has opened a file has written. It does nothing: its contract is the law.
