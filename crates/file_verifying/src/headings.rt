@@ -9,6 +9,13 @@ use byte_streams::{Stop, put};
 use std::alloc::{AllocError, Global};
 use std::io::Write;
 
+/// Rows of records, by who holds these against their claims, and whether a first row names their fields.
+#[derive(Clone, Copy)]
+pub struct Rows<'a, V> {
+    pub by: &'a V,
+    pub header: bool,
+}
+
 /// What stands before the number of a line.
 pub(crate) fn prefix_of(alloc: Global, several: bool, name: &str) -> Result<Vec<u8>, AllocError>
     ensures { IfOk result (λ prefix. prefix.items ≡ prefix_of several name.now) }

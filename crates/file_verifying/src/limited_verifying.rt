@@ -4,10 +4,11 @@ ghost use Rattle.std.specs.Prelude.{◌-◌, IfErr, IfOk, map};
 ghost use Rattle.file_answers.specs.Writing.{Gains};
 ghost use Rattle.file_verifying.specs.Verified.{LimitedHeaded, StopsLimitedHeaded, StopsVerifyingInTime, VerifiesInTime};
 
-use crate::headings::{prefix_of, put_header};
+use crate::headings::{Rows, prefix_of, put_header};
 use byte_streams::{Input, Stop};
-use command_words::Files;
-use file_answers::{FileAnswers, FileStart, Source, answer_files, complain, holds_reads};
+use file_answers::{
+    FileAnswers, FileStart, Source, SourceFiles, answer_files, complain, holds_reads,
+};
 use mate_answers::{Limited, TimeLimit};
 use mate_claims::{LimitedClaimMemory, LimitedClaims};
 use mate_search::Solver;
@@ -77,18 +78,18 @@ impl<T: TimeLimit, V: Solver<T>> FileAnswers for LimitedAnswers<'_, '_, T, V> {
 fn verify_rows<T: TimeLimit, V: Solver<T>, S: Source, O: Write, E: Write>(
     alloc: Global,
     limited: &Limited<T, V>,
-    files: &Files,
-    source: &S,
+    files: &SourceFiles<S>,
     memory: &mut LimitedClaimMemory<V::Memory>,
     out: &mut O,
     err: &mut E,
 ) -> Result<bool, Stop>
     requires ready { V.ready limited.now.solver }
-    ensures ok { IfOk result (λ unsound. Gains (VerifiesInTime (S.holds source.now) (T.may_stop limited.now.limit.now)
+    ensures ok { IfOk result (λ unsound. Gains (VerifiesInTime (S.holds files.now.source.now) (T.may_stop limited.now.limit.now)
         limited.now.default files.now.from (map (λ s. s.now) files.now.names.now) unsound
         (memory.new.counts.undecided - memory.old.counts.undecided)) (O.contents out.old) (O.contents out.new)) }
-    ensures err { IfErr result (λ stop. StopsVerifyingInTime (S.holds source.now) (S.refuses source.now) (T.may_stop limited.now.limit.now)
-        limited.now.default files.now.from (map (λ s. s.now) files.now.names.now) stop (O.contents out.old) (O.contents out.new)) }
+    ensures err { IfErr result (λ stop. StopsVerifyingInTime (S.holds files.now.source.now) (S.refuses files.now.source.now)
+        (T.may_stop limited.now.limit.now) limited.now.default files.now.from (map (λ s. s.now) files.now.names.now) stop
+        (O.contents out.old) (O.contents out.new)) }
 {
     // How many inputs there are of so many names.
     holds_reads();
@@ -96,7 +97,7 @@ fn verify_rows<T: TimeLimit, V: Solver<T>, S: Source, O: Write, E: Write>(
         limited,
         several: files.names.len() > 1,
     };
-    match answer_files(alloc, &answers, files, source, memory, out, err) {
+    match answer_files(alloc, &answers, files, memory, out, err) {
         Ok(unsound) => {
             let counts = memory.counts.text(alloc)?;
             complain(err, counts.as_str());
@@ -111,21 +112,20 @@ fn verify_rows<T: TimeLimit, V: Solver<T>, S: Source, O: Write, E: Write>(
 /// told at the end on `err`; a file that can't be read is named there.
 pub fn verify_limited<T: TimeLimit, V: Solver<T>, S: Source, O: Write, E: Write>(
     alloc: Global,
-    limited: &Limited<T, V>,
-    header: bool,
-    files: &Files,
-    source: &S,
+    rows: &Rows<Limited<T, V>>,
+    files: &SourceFiles<S>,
     memory: &mut LimitedClaimMemory<V::Memory>,
     out: &mut O,
     err: &mut E,
 ) -> Result<bool, Stop>
-    requires ready { V.ready limited.now.solver }
-    ensures ok { IfOk result (λ unsound. Gains (LimitedHeaded (S.holds source.now) (T.may_stop limited.now.limit.now)
-        limited.now.default header files.now.from (map (λ s. s.now) files.now.names.now) unsound
+    requires ready { V.ready rows.now.by.now.solver }
+    ensures ok { IfOk result (λ unsound. Gains (LimitedHeaded (S.holds files.now.source.now) (T.may_stop rows.now.by.now.limit.now)
+        rows.now.by.now.default rows.now.header files.now.from (map (λ s. s.now) files.now.names.now) unsound
         (memory.new.counts.undecided - memory.old.counts.undecided)) (O.contents out.old) (O.contents out.new)) }
-    ensures err { IfErr result (λ stop. StopsLimitedHeaded (S.holds source.now) (S.refuses source.now) (T.may_stop limited.now.limit.now)
-        limited.now.default header files.now.from (map (λ s. s.now) files.now.names.now) stop (O.contents out.old) (O.contents out.new)) }
+    ensures err { IfErr result (λ stop. StopsLimitedHeaded (S.holds files.now.source.now) (S.refuses files.now.source.now)
+        (T.may_stop rows.now.by.now.limit.now) rows.now.by.now.default rows.now.header files.now.from (map (λ s. s.now) files.now.names.now) stop
+        (O.contents out.old) (O.contents out.new)) }
 {
-    put_header(out, header)?;
-    verify_rows(alloc, limited, files, source, memory, out, err)
+    put_header(out, rows.header)?;
+    verify_rows(alloc, rows.by, files, memory, out, err)
 }

@@ -9,17 +9,27 @@ ghost use Rattle.file_answers.specs.Writing.{Gains};
 ghost use Rattle.mate_claims.specs.ClaimReplies.{IsClaimReply};
 ghost use Rattle.file_verifying.specs.Verified.{StopsHeaded, StopsVerifying, Verifies, VerifiesHeaded};
 
-use crate::headings::{prefix_of, put_header};
+use crate::headings::{Rows, prefix_of, put_header};
 use byte_streams::{Input, Stop};
 use chess_moves::Rays;
 use chess_problems::Bound;
-use command_words::{Files, VerifyAsked};
-use file_answers::{FileAnswers, FileStart, Source, answer_files, complain, holds_reads};
+use command_words::VerifyAsked;
+use file_answers::{
+    FileAnswers, FileStart, Source, SourceFiles, answer_files, complain, holds_reads,
+};
 use file_solving::new_memo;
 use mate_claims::{ClaimMemory, ClaimRows, Counts};
 use std::alloc::Global;
 use std::io::Write;
 use text_lines::{LinesFrom, answer_lines};
+
+/// Where the rows of a file begin: what stands before the number of a line, the number of the first line, and the source of the file.
+#[derive(Clone, Copy)]
+pub struct RowStart<'a, S> {
+    pub prefix: &'a [u8],
+    pub from: usize,
+    pub source: &'a S,
+}
 
 /// Who holds the lines of files against their claims.
 pub trait Verifier {
@@ -29,23 +39,21 @@ pub trait Verifier {
     /// The bound of records that say none.
     ghost default: { Self → ℕ };
 
-    /// Writes the row of each line of a file from that of a number on, with this part of its place before its number; gives how many lines
-    /// aren't sound.
+    /// Writes the row of each line of a file from where its rows begin; gives how many lines aren't sound.
     fn verify_lines<S: Source, I: Input + Drop, O: Write>(
         &self,
         alloc: Global,
-        prefix: &[u8],
-        start: &FileStart<S>,
+        start: &RowStart<S>,
         input: I,
         memory: &mut Self::Memory,
         out: &mut O,
     ) -> Result<usize, Stop>
         requires from { 1 ≤ start.now.from }
         ensures ok { IfOk result (λ unsound. (bytes : List ℕ) × (text : List ℕ) × MayBe (I.left input) bytes
-            × IsReplyOn (IsClaimReply prefix.now (default self.now)) start.now.from bytes text unsound
+            × IsReplyOn (IsClaimReply start.now.prefix.now (default self.now)) start.now.from bytes text unsound
             × Appends (O.contents out.old) (O.contents out.new) text) }
         ensures err { IfErr result (λ stop. (bytes : List ℕ) × (text : List ℕ) × MayBe (I.left input) bytes
-            × IsReplyToFirstOn (IsClaimReply prefix.now (default self.now)) start.now.from bytes text
+            × IsReplyToFirstOn (IsClaimReply start.now.prefix.now (default self.now)) start.now.from bytes text
             × AppendsBy stop (O.contents out.old) (O.contents out.new) text) }
         ensures unreadable { IfErr result (λ stop. stop ≡ Stop.Unreadable → I.breaks input) };
 
@@ -68,8 +76,7 @@ impl Verifier for OneVerifier<'_> {
     fn verify_lines<S: Source, I: Input + Drop, O: Write>(
         &self,
         alloc: Global,
-        prefix: &[u8],
-        start: &FileStart<S>,
+        start: &RowStart<S>,
         input: I,
         memory: &mut ClaimMemory,
         out: &mut O,
@@ -77,7 +84,7 @@ impl Verifier for OneVerifier<'_> {
         let rows = ClaimRows {
             rays: self.rays,
             default: self.bound,
-            prefix,
+            prefix: start.prefix,
         };
         let before = memory.counts.not_sound();
         let unsound = answer_lines(
@@ -131,8 +138,12 @@ impl<V: Verifier> FileAnswers for ClaimAnswers<'_, V> {
         out: &mut O,
     ) -> Result<usize, Stop> {
         let prefix = prefix_of(alloc, self.several, start.name)?;
-        self.verifier
-            .verify_lines(alloc, prefix.as_slice(), start, input, memory, out)
+        let rows = RowStart {
+            prefix: prefix.as_slice(),
+            from: start.from,
+            source: start.source,
+        };
+        self.verifier.verify_lines(alloc, &rows, input, memory, out)
     }
 
     #[tactic(auto, using(crate::proofs::Unopened::no_claim_reply))]
@@ -143,16 +154,15 @@ impl<V: Verifier> FileAnswers for ClaimAnswers<'_, V> {
 fn verify_rows<V: Verifier, S: Source, O: Write, E: Write>(
     alloc: Global,
     verifier: &V,
-    files: &Files,
-    source: &S,
+    files: &SourceFiles<S>,
     memory: &mut V::Memory,
     out: &mut O,
     err: &mut E,
 ) -> Result<bool, Stop>
-    ensures ok { IfOk result (λ refused. Gains (Verifies (S.holds source.now) (V.default verifier.now) files.now.from
+    ensures ok { IfOk result (λ refused. Gains (Verifies (S.holds files.now.source.now) (V.default verifier.now) files.now.from
         (map (λ s. s.now) files.now.names.now) refused) (O.contents out.old) (O.contents out.new)) }
-    ensures err { IfErr result (λ stop. StopsVerifying (S.holds source.now) (S.refuses source.now) (V.default verifier.now) files.now.from
-        (map (λ s. s.now) files.now.names.now) stop (O.contents out.old) (O.contents out.new)) }
+    ensures err { IfErr result (λ stop. StopsVerifying (S.holds files.now.source.now) (S.refuses files.now.source.now) (V.default verifier.now)
+        files.now.from (map (λ s. s.now) files.now.names.now) stop (O.contents out.old) (O.contents out.new)) }
 {
     // How many inputs there are of so many names.
     holds_reads();
@@ -160,7 +170,7 @@ fn verify_rows<V: Verifier, S: Source, O: Write, E: Write>(
         verifier,
         several: files.names.len() > 1,
     };
-    match answer_files(alloc, &answers, files, source, memory, out, err) {
+    match answer_files(alloc, &answers, files, memory, out, err) {
         Ok(unsound) => {
             let counts = verifier.counts(memory).text(alloc)?;
             complain(err, counts.as_str());
@@ -175,21 +185,19 @@ fn verify_rows<V: Verifier, S: Source, O: Write, E: Write>(
 /// verdict; a file that can't be read is named there.
 pub fn verify_by<V: Verifier, S: Source, O: Write, E: Write>(
     alloc: Global,
-    verifier: &V,
-    header: bool,
-    files: &Files,
-    source: &S,
+    rows: &Rows<V>,
+    files: &SourceFiles<S>,
     memory: &mut V::Memory,
     out: &mut O,
     err: &mut E,
 ) -> Result<bool, Stop>
-    ensures ok { IfOk result (λ refused. Gains (VerifiesHeaded (S.holds source.now) (V.default verifier.now) header files.now.from
-        (map (λ s. s.now) files.now.names.now) refused) (O.contents out.old) (O.contents out.new)) }
-    ensures err { IfErr result (λ stop. StopsHeaded (S.holds source.now) (S.refuses source.now) (V.default verifier.now) header files.now.from
-        (map (λ s. s.now) files.now.names.now) stop (O.contents out.old) (O.contents out.new)) }
+    ensures ok { IfOk result (λ refused. Gains (VerifiesHeaded (S.holds files.now.source.now) (V.default rows.now.by.now) rows.now.header
+        files.now.from (map (λ s. s.now) files.now.names.now) refused) (O.contents out.old) (O.contents out.new)) }
+    ensures err { IfErr result (λ stop. StopsHeaded (S.holds files.now.source.now) (S.refuses files.now.source.now) (V.default rows.now.by.now)
+        rows.now.header files.now.from (map (λ s. s.now) files.now.names.now) stop (O.contents out.old) (O.contents out.new)) }
 {
-    put_header(out, header)?;
-    verify_rows(alloc, verifier, files, source, memory, out, err)
+    put_header(out, rows.header)?;
+    verify_rows(alloc, rows.by, files, memory, out, err)
 }
 
 /// The same by the calling thread, over one memo of such a size.
@@ -214,14 +222,14 @@ pub fn verify<S: Source, O: Write, E: Write>(
         rays: &rays,
         bound: asked.bound,
     };
-    verify_by(
-        alloc,
-        &verifier,
-        asked.header,
-        &asked.files,
+    let rows = Rows {
+        by: &verifier,
+        header: asked.header,
+    };
+    let files = SourceFiles {
+        names: asked.files.names,
+        from: asked.files.from,
         source,
-        &mut memory,
-        out,
-        err,
-    )
+    };
+    verify_by(alloc, &rows, &files, &mut memory, out, err)
 }

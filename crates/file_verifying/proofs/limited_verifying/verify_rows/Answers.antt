@@ -10,12 +10,12 @@ returns-in_err-counts-in-Ok-clause-err g c =
     let bound = c.args.limited.now.default in
     let stops = g.T.Halt.may_stop c.args.limited.now.limit.now in
     rw (is, same)
-    (stops_uncounted c.holds_reads.ensures.each (g.S.Source.holds c.args.source.now) (g.S.Source.refuses c.args.source.now)
+    (stops_uncounted c.holds_reads.ensures.each (g.S.Source.holds c.args.files.now.source.now) (g.S.Source.refuses c.args.files.now.source.now)
     (λ b. limited_claim_replies stops b bound) (λ b. first_limited_claim_replies stops b bound) c.args.files.now.from c.args.files.now.names.now _
     c.in-Ok.unsound (g.O.Write.contents c.args.out.now) (g.O.Write.contents c.answer_files.new.out) refl c.in-Ok.ensures.ok)
 
 pub returns-in_ok-counts-in-Ok-clause-ok : goal.returns-in_ok-counts-in-Ok-clause-ok
-returns-in_ok-counts-in-Ok-clause-ok g c = told_each (g.S.Source.holds c.args.source.now)
+returns-in_ok-counts-in-Ok-clause-ok g c = told_each (g.S.Source.holds c.args.files.now.source.now)
     (λ b. limited_claims_told (g.T.Halt.may_stop c.args.limited.now.limit.now) b c.args.limited.now.default) c.args.files.now.from c.args.files.now.names.now _ c.in-Ok.unsound
     (c.answer_files.new.memory.counts.undecided - c.args.memory.now.counts.undecided) (g.O.Write.contents c.args.out.now)
     (g.O.Write.contents c.answer_files.new.out) refl c.in-Ok.ensures.told
@@ -24,6 +24,6 @@ pub returns-in-Err-clause-err : goal.returns-in-Err-clause-err
 returns-in-Err-clause-err g c =
     let bound = c.args.limited.now.default in
     let stops = g.T.Halt.may_stop c.args.limited.now.limit.now in
-    stops_between (g.S.Source.holds c.args.source.now) (g.S.Source.refuses c.args.source.now)
+    stops_between (g.S.Source.holds c.args.files.now.source.now) (g.S.Source.refuses c.args.files.now.source.now)
     (λ b. limited_claim_replies stops b bound) (λ b. first_limited_claim_replies stops b bound) c.args.files.now.from c.args.files.now.names.now _
     c.in-Err.stop (g.O.Write.contents c.args.out.now) (g.O.Write.contents c.answer_files.new.out) refl c.in-Err.ensures.err
