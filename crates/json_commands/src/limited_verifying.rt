@@ -6,8 +6,9 @@ ghost use Rattle.json_commands.specs.Verified.{StopsVerifyingLimitedJson, Verifi
 
 use crate::json_files::has_several;
 use byte_streams::{Input, Stop};
-use command_words::Files;
-use file_answers::{FileAnswers, FileStart, Source, answer_files, complain, holds_reads};
+use file_answers::{
+    FileAnswers, FileStart, Source, SourceFiles, answer_files, complain, holds_reads,
+};
 use json_replies::{Form, JsonReplies, front_of};
 use mate_answers::{Limited, TimeLimit};
 use mate_claims::{LimitedClaimMemory, LimitedClaims};
@@ -92,17 +93,16 @@ impl<T: TimeLimit, V: Solver<T>> FileAnswers for LimitedJsonClaims<'_, '_, T, V>
 pub fn verify_json_limited<T: TimeLimit, V: Solver<T>, S: Source, O: Write, E: Write>(
     alloc: Global,
     limited: &Limited<T, V>,
-    files: &Files,
-    source: &S,
+    files: &SourceFiles<S>,
     memory: &mut LimitedClaimMemory<V::Memory>,
     out: &mut O,
     err: &mut E,
 ) -> Result<bool, Stop>
     requires ready { V.ready limited.now.solver }
-    ensures ok { IfOk result (λ unsound. Gains (VerifiesLimitedJson (S.holds source.now) (T.may_stop limited.now.limit.now)
+    ensures ok { IfOk result (λ unsound. Gains (VerifiesLimitedJson (S.holds files.now.source.now) (T.may_stop limited.now.limit.now)
         limited.now.default files.now.from (map (λ s. s.now) files.now.names.now) unsound
         (memory.new.counts.undecided - memory.old.counts.undecided)) (O.contents out.old) (O.contents out.new)) }
-    ensures err { IfErr result (λ stop. StopsVerifyingLimitedJson (S.holds source.now) (S.refuses source.now)
+    ensures err { IfErr result (λ stop. StopsVerifyingLimitedJson (S.holds files.now.source.now) (S.refuses files.now.source.now)
         (T.may_stop limited.now.limit.now) limited.now.default files.now.from (map (λ s. s.now) files.now.names.now) stop (O.contents out.old) (O.contents out.new)) }
 {
     // How many inputs there are of so many names.
@@ -111,7 +111,7 @@ pub fn verify_json_limited<T: TimeLimit, V: Solver<T>, S: Source, O: Write, E: W
         limited,
         several: has_several(files.names),
     };
-    match answer_files(alloc, &claims, files, source, memory, out, err) {
+    match answer_files(alloc, &claims, files, memory, out, err) {
         Ok(unsound) => {
             let counts = memory.counts.text(alloc)?;
             complain(err, counts.as_str());

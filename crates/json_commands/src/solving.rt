@@ -4,11 +4,11 @@ ghost use Rattle.std.specs.Prelude.{◌≡◌, ◌-◌, IfErr, IfOk, map};
 ghost use Rattle.file_answers.specs.Writing.{Gains};
 ghost use Rattle.json_commands.specs.Solved.{SolvesJson, SolvesLimitedJson, StopsLimitedJson, StopsSolvingJson};
 
-use crate::json_files::answer_json;
+use crate::json_files::{JsonHandler, answer_json};
 use byte_streams::Stop;
 use chess_moves::Rays;
-use command_words::{Files, SolveAsked};
-use file_answers::Source;
+use command_words::SolveAsked;
+use file_answers::{Source, SourceFiles};
 use file_solving::{Lengthwise, new_memo};
 use json_replies::Form;
 use mate_answers::{Answers, Limited, LimitedMemory, TimeLimit};
@@ -32,6 +32,11 @@ pub fn solve_json<S: Source, O: Write, E: Write>(
 {
     let rays = Rays::new();
     let mut memo = new_memo(alloc, asked.memo.get() as usize)?;
+    let files = SourceFiles {
+        names: asked.files.names,
+        from: asked.files.from,
+        source,
+    };
     if source.follows_lengths() {
         let answers = Answers {
             rays: &rays,
@@ -41,69 +46,58 @@ pub fn solve_json<S: Source, O: Write, E: Write>(
                 progress: source,
             },
         };
-        return solve_json_by(alloc, &answers, &asked.files, source, &mut memo, out, err);
+        return solve_json_by(alloc, &answers, &files, &mut memo, out, err);
     }
     let answers = Answers {
         rays: &rays,
         default: asked.bound,
         solver: OneThread,
     };
-    solve_json_by(alloc, &answers, &asked.files, source, &mut memo, out, err)
+    solve_json_by(alloc, &answers, &files, &mut memo, out, err)
 }
 
 /// The same, by who solves the records, over a memory of its own.
 pub fn solve_json_by<V: Solver<Never>, S: Source, O: Write, E: Write>(
     alloc: Global,
     answers: &Answers<V>,
-    files: &Files,
-    source: &S,
+    files: &SourceFiles<S>,
     memory: &mut V::Memory,
     out: &mut O,
     err: &mut E,
 ) -> Result<bool, Stop>
     requires ready { V.ready answers.now.solver }
-    ensures ok { IfOk result (λ refused. Gains (SolvesJson (S.holds source.now) answers.now.default files.now.from
+    ensures ok { IfOk result (λ refused. Gains (SolvesJson (S.holds files.now.source.now) answers.now.default files.now.from
         (map (λ s. s.now) files.now.names.now) refused) (O.contents out.old) (O.contents out.new)) }
-    ensures err { IfErr result (λ stop. StopsSolvingJson (S.holds source.now) (S.refuses source.now) answers.now.default files.now.from
-        (map (λ s. s.now) files.now.names.now) stop (O.contents out.old) (O.contents out.new)) }
+    ensures err { IfErr result (λ stop. StopsSolvingJson (S.holds files.now.source.now) (S.refuses files.now.source.now) answers.now.default
+        files.now.from (map (λ s. s.now) files.now.names.now) stop (O.contents out.old) (O.contents out.new)) }
 {
-    answer_json(
-        alloc,
-        answers,
-        Form::Answer,
-        files,
-        source,
-        memory,
-        out,
-        err,
-    )
+    let json = JsonHandler {
+        handler: answers,
+        form: Form::Answer,
+    };
+    answer_json(alloc, &json, files, memory, out, err)
 }
 
 /// The same, where each record may take so many seconds. How many records were not decided, the memory counts.
 pub fn solve_json_limited<T: TimeLimit, V: Solver<T>, S: Source, O: Write, E: Write>(
     alloc: Global,
     limited: &Limited<T, V>,
-    files: &Files,
-    source: &S,
+    files: &SourceFiles<S>,
     memory: &mut LimitedMemory<V::Memory>,
     out: &mut O,
     err: &mut E,
 ) -> Result<bool, Stop>
     requires ready { V.ready limited.now.solver }
-    ensures ok { IfOk result (λ refused. Gains (SolvesLimitedJson (S.holds source.now) (T.may_stop limited.now.limit.now)
+    ensures ok { IfOk result (λ refused. Gains (SolvesLimitedJson (S.holds files.now.source.now) (T.may_stop limited.now.limit.now)
         limited.now.seconds limited.now.default files.now.from (map (λ s. s.now) files.now.names.now) refused
         (memory.new.undecided - memory.old.undecided)) (O.contents out.old) (O.contents out.new)) }
-    ensures err { IfErr result (λ stop. StopsLimitedJson (S.holds source.now) (S.refuses source.now) (T.may_stop limited.now.limit.now)
-        limited.now.seconds limited.now.default files.now.from (map (λ s. s.now) files.now.names.now) stop (O.contents out.old) (O.contents out.new)) }
+    ensures err { IfErr result (λ stop. StopsLimitedJson (S.holds files.now.source.now) (S.refuses files.now.source.now)
+        (T.may_stop limited.now.limit.now) limited.now.seconds limited.now.default files.now.from (map (λ s. s.now) files.now.names.now) stop
+        (O.contents out.old) (O.contents out.new)) }
 {
-    answer_json(
-        alloc,
-        limited,
-        Form::Answer,
-        files,
-        source,
-        memory,
-        out,
-        err,
-    )
+    let json = JsonHandler {
+        handler: limited,
+        form: Form::Answer,
+    };
+    answer_json(alloc, &json, files, memory, out, err)
 }

@@ -9,7 +9,9 @@ use byte_streams::{Input, Stop};
 use chess_moves::Rays;
 use chess_problems::Bound;
 use command_words::VerifyAsked;
-use file_answers::{FileAnswers, FileStart, Source, answer_files, complain, holds_reads};
+use file_answers::{
+    FileAnswers, FileStart, Source, SourceFiles, answer_files, complain, holds_reads,
+};
 use file_solving::new_memo;
 use json_replies::{Form, JsonReplies, front_of};
 use mate_claims::{ClaimMemory, ClaimRows, Counts};
@@ -109,7 +111,12 @@ pub fn verify_json<S: Source, O: Write, E: Write>(
         bound: asked.bound,
         several: has_several(asked.files.names),
     };
-    match answer_files(alloc, &claims, &asked.files, source, &mut memory, out, err) {
+    let files = SourceFiles {
+        names: asked.files.names,
+        from: asked.files.from,
+        source,
+    };
+    match answer_files(alloc, &claims, &files, &mut memory, out, err) {
         Ok(unsound) => {
             let counts = memory.counts.text(alloc)?;
             complain(err, counts.as_str());
