@@ -13,7 +13,9 @@ use byte_streams::{Input, Stop, put};
 use chess_moves::Rays;
 use chess_problems::Bound;
 use command_words::ImportedAsked;
-use file_answers::{FileAnswers, FileStart, Source, answer_files, complain, holds_reads};
+use file_answers::{
+    FileAnswers, FileStart, Source, SourceFiles, answer_files, complain, holds_reads,
+};
 use file_solving::new_memo;
 use mate_claims::{ClaimMemory, ClaimRows, Counts};
 use problem_import::{ProblemLines, ProblemMemory};
@@ -121,7 +123,12 @@ fn show_rows<S: Source, O: Write, E: Write>(
         bound: asked.bound,
         several: asked.files.names.len() > 1,
     };
-    match answer_files(alloc, &answers, &asked.files, source, &mut memory, out, err) {
+    let files = SourceFiles {
+        names: asked.files.names,
+        from: asked.files.from,
+        source,
+    };
+    match answer_files(alloc, &answers, &files, &mut memory, out, err) {
         Ok(unsound) => {
             let counts = memory.memory.counts.text(alloc)?;
             complain(err, counts.as_str());

@@ -10,7 +10,7 @@ use crate::serving::serve;
 use crate::solving_in_time::{SolveInTime, SolveJsonInTime};
 use crate::solving_on::{solve_json_on, solve_on};
 use crate::talking::talk;
-use crate::telling_in_time::tell_in_time;
+use crate::telling_in_time::{TellInTime, tell_in_time};
 use crate::trees_on::tree_on;
 use crate::verifying_in_time::{VerifyInTime, VerifyJsonInTime};
 use crate::verifying_on::verify_on;
@@ -112,7 +112,8 @@ where
             )
         }
         Some(Request::TreeLimited(seconds, asked)) => {
-            tell_in_time(rt, alloc, *seconds, asked, &given, out, err)
+            let seconds = *seconds;
+            tell_in_time(rt, alloc, &TellInTime { seconds, asked }, &given, out, err)
         }
         Some(Request::Uci) => talk(rt, alloc, &given, out, err),
         _ => unreachable!(),

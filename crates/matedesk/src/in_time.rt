@@ -16,6 +16,13 @@ use std::io::Write;
 use std::sync::Wait;
 use std::thread::Threads;
 
+/// The source of a command's files, and the limit that each of their records has.
+#[derive(Clone, Copy)]
+pub(crate) struct TimedSource<'a, S> {
+    pub(crate) source: &'a S,
+    pub(crate) limit: &'a TickLimit,
+}
+
 /// A command where each record may take so many seconds.
 pub(crate) trait TimedCommand {
     /// What goes from record to record.
@@ -45,17 +52,17 @@ pub(crate) trait TimedCommand {
     fn answer<S: Source, O: Write, E: Write>(
         &self,
         alloc: Global,
-        limit: &TickLimit,
+        timed: &TimedSource<S>,
         memory: &mut Self::Memory,
-        source: &S,
         out: &mut O,
         err: &mut E,
     ) -> Result<bool, Stop>
         requires ready { ready self.now }
-        ensures ok { IfOk result (λ refused. ShownInTime (S.holds source.now) (asks self.now) refused
+        ensures ok { IfOk result (λ refused. ShownInTime (S.holds timed.now.source.now) (asks self.now) refused
             (undecided memory.new - undecided memory.old) (O.contents out.old) (O.contents out.new)) }
         ensures err { IfErr result
-            (λ stop. Stops (S.holds source.now) (S.refuses source.now) (asks self.now) stop (O.contents out.old) (O.contents out.new)) };
+            (λ stop. Stops (S.holds timed.now.source.now) (S.refuses timed.now.source.now) (asks self.now) stop
+            (O.contents out.old) (O.contents out.new)) };
 
     /// How many records were not decided.
     fn count(&self, memory: &Self::Memory) -> usize
@@ -84,7 +91,11 @@ pub(crate) fn answer_in_time<
     };
     match start(rt, alloc, command.seconds()) {
         Ok(Counting { limit, thread }) => {
-            let ended = command.answer(alloc, &*limit, &mut memory, source, out, err);
+            let timed = TimedSource {
+                source,
+                limit: &*limit,
+            };
+            let ended = command.answer(alloc, &timed, &mut memory, out, err);
             limit.end();
             thread.join(rt);
             status_in_time(ended, command.count(&memory), err)

@@ -8,8 +8,8 @@ use byte_streams::{Input, Stop};
 use chess_moves::Rays;
 use command_words::ServeAsked;
 use file_answers::{
-    FileAnswers, FileStart, MISUSED, NO_THREAD, Source, answer_opened, complain, no_memory,
-    open_files, status_of,
+    FileAnswers, FileStart, MISUSED, NO_THREAD, OpenFiles, Source, answer_opened, complain,
+    no_memory, open_files, status_of,
 };
 use file_solving::solves_none;
 use parallel_answers::{Answering, NoWorkers, Workers, answer_in_order};
@@ -122,16 +122,12 @@ pub fn serve<
             default: asked.bound,
         },
     };
-    let ended = answer_opened(
-        alloc,
-        &records,
-        asked.names,
+    let opened = OpenFiles {
+        names: asked.names,
         files,
         source,
-        &mut workers,
-        out,
-        err,
-    );
+    };
+    let ended = answer_opened(alloc, &records, opened, &mut workers, out, err);
     if ended.is_ok() {
         workers.end(rt);
     }

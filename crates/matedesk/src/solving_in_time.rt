@@ -2,14 +2,14 @@
 
 ghost use Rattle.std.specs.Prelude.{◌≡◌, IfOk, map};
 
-use crate::in_time::TimedCommand;
+use crate::in_time::{TimedCommand, TimedSource};
 use crate::solving_on::thread_memory;
 use crate::tick_limit::TickLimit;
 use byte_streams::Stop;
 use chess_moves::Rays;
 use chess_problems::{Outcome, Problem};
 use command_words::SolveAsked;
-use file_answers::Source;
+use file_answers::{Source, SourceFiles};
 use file_solving::{ToldLength, solve_limited};
 use json_commands::solve_json_limited;
 use mate_answers::{Limited, LimitedMemory};
@@ -98,24 +98,30 @@ impl<R: Threads + Sync> TimedCommand for SolveInTime<'_, '_, R> {
     fn answer<S: Source, O: Write, E: Write>(
         &self,
         alloc: Global,
-        limit: &TickLimit,
+        timed: &TimedSource<S>,
         memory: &mut LimitedMemory<ThreadMemory>,
-        source: &S,
         out: &mut O,
         err: &mut E,
     ) -> Result<bool, Stop> {
+        let asked = self.asked;
+        let source = timed.source;
         let rays = Rays::new();
         let limited = Limited {
             rays: &rays,
-            default: self.asked.bound,
+            default: asked.bound,
             seconds: self.seconds,
-            limit,
+            limit: timed.limit,
             solver: ToldLength {
                 solver: SolverInTime { rt: self.rt },
                 progress: source,
             },
         };
-        solve_limited(alloc, &limited, &self.asked.files, source, memory, out, err)
+        let files = SourceFiles {
+            names: asked.files.names,
+            from: asked.files.from,
+            source,
+        };
+        solve_limited(alloc, &limited, &files, memory, out, err)
     }
 
     fn count(&self, memory: &LimitedMemory<ThreadMemory>) -> usize {
@@ -150,24 +156,30 @@ impl<R: Threads + Sync> TimedCommand for SolveJsonInTime<'_, '_, R> {
     fn answer<S: Source, O: Write, E: Write>(
         &self,
         alloc: Global,
-        limit: &TickLimit,
+        timed: &TimedSource<S>,
         memory: &mut LimitedMemory<ThreadMemory>,
-        source: &S,
         out: &mut O,
         err: &mut E,
     ) -> Result<bool, Stop> {
+        let asked = self.asked;
+        let source = timed.source;
         let rays = Rays::new();
         let limited = Limited {
             rays: &rays,
-            default: self.asked.bound,
+            default: asked.bound,
             seconds: self.seconds,
-            limit,
+            limit: timed.limit,
             solver: ToldLength {
                 solver: SolverInTime { rt: self.rt },
                 progress: source,
             },
         };
-        solve_json_limited(alloc, &limited, &self.asked.files, source, memory, out, err)
+        let files = SourceFiles {
+            names: asked.files.names,
+            from: asked.files.from,
+            source,
+        };
+        solve_json_limited(alloc, &limited, &files, memory, out, err)
     }
 
     fn count(&self, memory: &LimitedMemory<ThreadMemory>) -> usize {

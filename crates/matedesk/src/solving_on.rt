@@ -7,7 +7,7 @@ ghost use Rattle.plain_commands.specs.Command.{Ends};
 use byte_streams::Stop;
 use chess_moves::Rays;
 use command_words::{MemoSize, SolveAsked, Workers};
-use file_answers::{Source, no_memory, status_of};
+use file_answers::{Source, SourceFiles, no_memory, status_of};
 use file_solving::{Lengthwise, new_memo, solve_by, solves_none};
 use json_commands::solve_json_by;
 use mate_answers::Answers;
@@ -64,7 +64,12 @@ pub fn solve_on<R: Threads + Sync, S: Source, O: Write, E: Write>(
             progress: source,
         },
     };
-    let ended = solve_by(alloc, &answers, &asked.files, source, &mut memory, out, err);
+    let files = SourceFiles {
+        names: asked.files.names,
+        from: asked.files.from,
+        source,
+    };
+    let ended = solve_by(alloc, &answers, &files, &mut memory, out, err);
     status_of(ended, err)
 }
 
@@ -96,6 +101,11 @@ pub fn solve_json_on<R: Threads + Sync, S: Source, O: Write, E: Write>(
             progress: source,
         },
     };
-    let ended = solve_json_by(alloc, &answers, &asked.files, source, &mut memory, out, err);
+    let files = SourceFiles {
+        names: asked.files.names,
+        from: asked.files.from,
+        source,
+    };
+    let ended = solve_json_by(alloc, &answers, &files, &mut memory, out, err);
     status_of(ended, err)
 }

@@ -4,12 +4,12 @@ ghost use Rattle.std.specs.Prelude.{◌≡◌, Some, map};
 ghost use Rattle.command_words.specs.Asked.{tree_limited as tree_limited_asked};
 ghost use Rattle.plain_commands.specs.Command.{Ends};
 
-use crate::in_time::{TimedCommand, answer_in_time};
+use crate::in_time::{TimedCommand, TimedSource, answer_in_time};
 use crate::tick_limit::TickLimit;
 use byte_streams::{Input, Stop};
 use chess_moves::Rays;
 use command_words::TreeAsked;
-use file_answers::{FileAnswers, FileStart, MISUSED, Source, answer_files, complain};
+use file_answers::{FileAnswers, FileStart, MISUSED, Source, SourceFiles, answer_files, complain};
 use file_solving::new_memo;
 use mate_answers::{Limited, LimitedMemory};
 use mate_search::{Memo, OneThread};
@@ -72,11 +72,11 @@ impl FileAnswers for LimitedAnswers<'_, '_, '_> {
     fn begins_with_nothing(&self) {}
 }
 
-/// `tree --limit`, with letters of men that there are.
+/// `tree --limit`.
 #[derive(Clone, Copy)]
-struct TellInTime<'a, 'm> {
-    seconds: u32,
-    asked: &'a TreeAsked<'m, 'm>,
+pub struct TellInTime<'a, 'm> {
+    pub seconds: u32,
+    pub asked: &'a TreeAsked<'m, 'm>,
 }
 
 impl TimedCommand for TellInTime<'_, '_> {
@@ -107,26 +107,32 @@ impl TimedCommand for TellInTime<'_, '_> {
     fn answer<S: Source, O: Write, E: Write>(
         &self,
         alloc: Global,
-        limit: &TickLimit,
+        timed: &TimedSource<S>,
         memory: &mut LimitedMemory<Memo>,
-        source: &S,
         out: &mut O,
         err: &mut E,
     ) -> Result<bool, Stop> {
+        let asked = self.asked;
+        let source = timed.source;
         let rays = Rays::new();
         let limited = Limited {
             rays: &rays,
-            default: self.asked.bound,
+            default: asked.bound,
             seconds: self.seconds,
-            limit,
+            limit: timed.limit,
             solver: OneThread,
         };
         let trees = LimitedTrees {
             limited: &limited,
-            form: tree_form(&self.asked.form, self.asked.letters),
+            form: tree_form(&asked.form, asked.letters),
         };
         let answers = LimitedAnswers { trees: &trees };
-        answer_files(alloc, &answers, &self.asked.files, source, memory, out, err)
+        let files = SourceFiles {
+            names: asked.files.names,
+            from: asked.files.from,
+            source,
+        };
+        answer_files(alloc, &answers, &files, memory, out, err)
     }
 
     fn count(&self, memory: &LimitedMemory<Memo>) -> usize {
@@ -141,22 +147,15 @@ pub fn tell_in_time<
     S: Source,
     O: Write,
     E: Write,
->(
-    rt: &R,
-    alloc: Global,
-    seconds: u32,
-    asked: &TreeAsked,
-    source: &S,
-    out: &mut O,
-    err: &mut E,
-) -> u8
+>(rt: &R, alloc: Global, command: &TellInTime, source: &S, out: &mut O, err: &mut E) -> u8
     ensures { Ends (S.holds source.now) (S.refuses source.now)
-        (Some (tree_limited_asked seconds asked.now.bound asked.now.form asked.now.letters.now asked.now.files.from
-        (map (λ s. s.now) asked.now.files.names.now))) result (O.contents out.old) (O.contents out.new) }
+        (Some (tree_limited_asked command.now.seconds command.now.asked.now.bound command.now.asked.now.form command.now.asked.now.letters.now
+        command.now.asked.now.files.from (map (λ s. s.now) command.now.asked.now.files.names.now))) result
+        (O.contents out.old) (O.contents out.new) }
 {
-    if Letters::said(asked.letters).is_none() {
+    if Letters::said(command.asked.letters).is_none() {
         complain(err, NO_LETTERS);
         return MISUSED;
     }
-    answer_in_time(rt, alloc, &TellInTime { seconds, asked }, source, out, err)
+    answer_in_time(rt, alloc, command, source, out, err)
 }

@@ -9,7 +9,9 @@ use byte_streams::{Input, Stop};
 use chess_moves::Rays;
 use chess_problems::Bound;
 use command_words::TreeAsked;
-use file_answers::{FileAnswers, FileStart, MISUSED, Source, answer_files, complain, status_of};
+use file_answers::{
+    FileAnswers, FileStart, MISUSED, Source, SourceFiles, answer_files, complain, status_of,
+};
 use mate_tree::Form;
 use move_words::Letters;
 use parallel_answers::{Answering, Workers, answer_in_order};
@@ -107,7 +109,12 @@ pub fn tree_on<
         bound: asked.bound,
         form: tree_form(&asked.form, asked.letters),
     };
-    let ended = answer_files(alloc, &trees, &asked.files, source, &mut workers, out, err);
+    let files = SourceFiles {
+        names: asked.files.names,
+        from: asked.files.from,
+        source,
+    };
+    let ended = answer_files(alloc, &trees, &files, &mut workers, out, err);
     if ended.is_ok() {
         workers.end(rt);
     }

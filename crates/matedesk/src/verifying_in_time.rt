@@ -2,16 +2,15 @@
 
 ghost use Rattle.std.specs.Prelude.{◌≡◌, map};
 
-use crate::in_time::TimedCommand;
+use crate::in_time::{TimedCommand, TimedSource};
 use crate::solving_in_time::SolverInTime;
 use crate::solving_on::thread_memory;
-use crate::tick_limit::TickLimit;
 use byte_streams::Stop;
 use chess_moves::Rays;
 use command_words::VerifyAsked;
-use file_answers::Source;
+use file_answers::{Source, SourceFiles};
 use file_solving::new_memo;
-use file_verifying::verify_limited;
+use file_verifying::{Rows, verify_limited};
 use json_commands::verify_json_limited;
 use mate_answers::Limited;
 use mate_claims::{Counts, LimitedClaimMemory};
@@ -60,22 +59,31 @@ impl<R: Threads + Sync> TimedCommand for VerifyInTime<'_, '_, R> {
     fn answer<S: Source, O: Write, E: Write>(
         &self,
         alloc: Global,
-        limit: &TickLimit,
+        timed: &TimedSource<S>,
         memory: &mut LimitedClaimMemory<ThreadMemory>,
-        source: &S,
         out: &mut O,
         err: &mut E,
     ) -> Result<bool, Stop> {
+        let asked = self.asked;
+        let source = timed.source;
         let rays = Rays::new();
         let limited = Limited {
             rays: &rays,
-            default: self.asked.bound,
+            default: asked.bound,
             seconds: self.seconds,
-            limit,
+            limit: timed.limit,
             solver: SolverInTime { rt: self.rt },
         };
-        let VerifyAsked { header, files, .. } = self.asked;
-        verify_limited(alloc, &limited, *header, files, source, memory, out, err)
+        let rows = Rows {
+            by: &limited,
+            header: asked.header,
+        };
+        let files = SourceFiles {
+            names: asked.files.names,
+            from: asked.files.from,
+            source,
+        };
+        verify_limited(alloc, &rows, &files, memory, out, err)
     }
 
     fn count(&self, memory: &LimitedClaimMemory<ThreadMemory>) -> usize {
@@ -118,21 +126,27 @@ impl TimedCommand for VerifyJsonInTime<'_, '_> {
     fn answer<S: Source, O: Write, E: Write>(
         &self,
         alloc: Global,
-        limit: &TickLimit,
+        timed: &TimedSource<S>,
         memory: &mut LimitedClaimMemory<Memo>,
-        source: &S,
         out: &mut O,
         err: &mut E,
     ) -> Result<bool, Stop> {
+        let asked = self.asked;
+        let source = timed.source;
         let rays = Rays::new();
         let limited = Limited {
             rays: &rays,
-            default: self.asked.bound,
+            default: asked.bound,
             seconds: self.seconds,
-            limit,
+            limit: timed.limit,
             solver: OneThread,
         };
-        verify_json_limited(alloc, &limited, &self.asked.files, source, memory, out, err)
+        let files = SourceFiles {
+            names: asked.files.names,
+            from: asked.files.from,
+            source,
+        };
+        verify_json_limited(alloc, &limited, &files, memory, out, err)
     }
 
     fn count(&self, memory: &LimitedClaimMemory<Memo>) -> usize {

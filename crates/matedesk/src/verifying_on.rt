@@ -9,8 +9,8 @@ use byte_streams::{Input, Stop};
 use chess_moves::Rays;
 use chess_problems::Bound;
 use command_words::VerifyAsked;
-use file_answers::{FileStart, Source, status_of};
-use file_verifying::{Verifier, verify_by};
+use file_answers::{Source, SourceFiles, status_of};
+use file_verifying::{RowStart, Rows, Verifier, verify_by};
 use mate_claims::Counts;
 use parallel_answers::{Answering, Workers, answer_in_order};
 use plain_commands::ends_by_status;
@@ -38,15 +38,14 @@ impl<R: Wait> Verifier for VerifierOn<'_, R> {
     fn verify_lines<S: Source, I: Input + Drop, O: Write>(
         &self,
         alloc: Global,
-        prefix: &[u8],
-        start: &FileStart<S>,
+        start: &RowStart<S>,
         input: I,
         memory: &mut Workers<ClaimTask>,
         out: &mut O,
     ) -> Result<usize, Stop> {
         let task = ClaimTask {
             default: self.bound,
-            prefix: Vec::from_slice(alloc, prefix)?,
+            prefix: Vec::from_slice(alloc, start.prefix)?,
         };
         let lines = LinesFrom {
             by: &task,
@@ -93,16 +92,16 @@ pub fn verify_on<
         rays: &rays,
         bound: asked.bound,
     };
-    let ended = verify_by(
-        alloc,
-        &verifier,
-        asked.header,
-        &asked.files,
+    let rows = Rows {
+        by: &verifier,
+        header: asked.header,
+    };
+    let files = SourceFiles {
+        names: asked.files.names,
+        from: asked.files.from,
         source,
-        &mut workers,
-        out,
-        err,
-    );
+    };
+    let ended = verify_by(alloc, &rows, &files, &mut workers, out, err);
     if ended.is_ok() {
         workers.end(rt);
     }

@@ -7,8 +7,10 @@ ghost use Rattle.plain_commands.specs.Imported.{ImportsFiles, StopsImporting, le
 use crate::letters::letters_in;
 use byte_streams::{Input, Stop};
 use chess_moves::Rays;
-use command_words::{Files, ImportAsked, LineNumber};
-use file_answers::{FileAnswers, FileStart, Source, answer_files, complain, holds_reads};
+use command_words::{ImportAsked, LineNumber};
+use file_answers::{
+    FileAnswers, FileStart, Source, SourceFiles, answer_files, complain, holds_reads,
+};
 use problem_import::{ImportCounts, Printing, import_input_in};
 use std::alloc::Global;
 use std::io::Write;
@@ -64,12 +66,13 @@ fn import<S: Source, O: Write, E: Write>(
 {
     // How many inputs there are of so many names.
     holds_reads();
-    let files = Files {
+    let files = SourceFiles {
         names,
         from: LineNumber::first(),
+        source,
     };
     let mut counts = ImportCounts::new();
-    match answer_files(alloc, imports, &files, source, &mut counts, out, err) {
+    match answer_files(alloc, imports, &files, &mut counts, out, err) {
         Ok(refused) => {
             let counts = counts.text(alloc)?;
             complain(err, counts.as_str());

@@ -8,8 +8,8 @@ use crate::fen_commands::{FenCommand, shown_text};
 use byte_streams::{Input, Stop};
 use chess_board::Fen;
 use chess_moves::Rays;
-use command_words::{Files, LineNumber, LineView};
-use file_answers::{FileAnswers, FileStart, Source, answer_files};
+use command_words::{LineNumber, LineView};
+use file_answers::{FileAnswers, FileStart, Source, SourceFiles, answer_files};
 use position_lines::{FenView, answer_positions};
 use std::alloc::{AllocError, Global};
 use std::io::Write;
@@ -91,9 +91,10 @@ pub(crate) fn show_lines<S: Source, O: Write, E: Write>(
         rays: &rays,
         command: command_of(view),
     };
-    let files = Files {
+    let files = SourceFiles {
         names,
         from: LineNumber::first(),
+        source,
     };
-    answer_files(alloc, &answers, &files, source, &mut (), out, err)
+    answer_files(alloc, &answers, &files, &mut (), out, err)
 }

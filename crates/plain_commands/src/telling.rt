@@ -10,7 +10,7 @@ use byte_streams::{Input, Stop};
 use chess_moves::Rays;
 use chess_problems::Bound;
 use command_words::{TreeAsked, TreeForm};
-use file_answers::{FileAnswers, FileStart, Source, answer_files};
+use file_answers::{FileAnswers, FileStart, Source, SourceFiles, answer_files};
 use file_solving::new_memo;
 use json_commands::tell_json;
 use mate_search::Memo;
@@ -110,7 +110,12 @@ pub fn tree<S: Source, O: Write, E: Write>(
         bound: asked.bound,
         form: tree_form(&asked.form, asked.letters),
     };
-    answer_files(alloc, &answers, &asked.files, source, &mut memo, out, err)
+    let files = SourceFiles {
+        names: asked.files.names,
+        from: asked.files.from,
+        source,
+    };
+    answer_files(alloc, &answers, &files, &mut memo, out, err)
 }
 
 /// The same in JSON.
@@ -133,7 +138,12 @@ pub fn tree_json<S: Source, O: Write, E: Write>(
         default: asked.bound,
         form: tree_form(&asked.form, asked.letters),
     };
-    tell_json(alloc, &trees, &asked.files, source, &mut memo, out, err)
+    let files = SourceFiles {
+        names: asked.files.names,
+        from: asked.files.from,
+        source,
+    };
+    tell_json(alloc, &trees, &files, &mut memo, out, err)
 }
 
 /// What a `tree` that ends before it has opened a file has written. It does nothing: its contract is the law.

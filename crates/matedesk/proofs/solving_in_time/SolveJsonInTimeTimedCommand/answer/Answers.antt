@@ -9,6 +9,7 @@ pub returns-clause-ok : goal.returns-clause-ok
 returns-clause-ok g c =
     let asked = c.args.self.now.asked.now in
     let names = map (λ s. s.now) asked.files.names.now in
-    in_time (g.S.Source.holds c.args.source.now) (limited_json c.args.self.now.seconds asked.bound asked.memo asked.files.from names)
-    (λ refused n. SolvesLimitedJson (g.S.Source.holds c.args.source.now) ⊤ c.args.self.now.seconds asked.bound asked.files.from names refused n) _ _ _ (λ refused gains. gains)
+    in_time (g.S.Source.holds c.args.timed.now.source.now) (limited_json c.args.self.now.seconds asked.bound asked.memo asked.files.from names)
+    (λ refused n. SolvesLimitedJson (g.S.Source.holds c.args.timed.now.source.now) ⊤ c.args.self.now.seconds asked.bound asked.files.from names
+    refused n) _ _ _ (λ refused gains. gains)
     (λ refused n some gains. (refused, n, some, gains)) c.solve_json_limited.result c.solve_json_limited.ensures.ok

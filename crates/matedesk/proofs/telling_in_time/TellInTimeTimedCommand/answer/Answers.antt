@@ -10,7 +10,7 @@ pub returns-clause-ok : goal.returns-clause-ok
 returns-clause-ok g c =
     let asked = c.args.self.now.asked.now in
     let names = map (λ s. s.now) asked.files.names.now in
-    let holds = g.S.Source.holds c.args.source.now in
+    let holds = g.S.Source.holds c.args.timed.now.source.now in
     let old = g.O.Write.contents c.args.out.now in
     let new = g.O.Write.contents c.answer_files.new.out in
     let n = c.answer_files.new.memory.undecided - c.args.memory.now.undecided in

@@ -9,6 +9,8 @@ pub returns-clause-ok : goal.returns-clause-ok
 returns-clause-ok g c =
     let asked = c.args.self.now.asked.now in
     let names = map (λ s. s.now) asked.files.names.now in
-    in_time (g.S.Source.holds c.args.source.now) (verify_limited c.args.self.now.seconds asked.bound asked.memo asked.header asked.files.from names)
-    (λ refused n. LimitedHeaded (g.S.Source.holds c.args.source.now) ⊤ asked.bound asked.header asked.files.from names refused n) _ _ _ (λ refused gains. gains)
+    in_time (g.S.Source.holds c.args.timed.now.source.now) (verify_limited c.args.self.now.seconds asked.bound asked.memo asked.header
+    asked.files.from names)
+    (λ refused n. LimitedHeaded (g.S.Source.holds c.args.timed.now.source.now) ⊤ asked.bound asked.header asked.files.from names refused n) _ _ _
+    (λ refused gains. gains)
     (λ refused n some gains. (refused, n, some, gains)) c.verify_limited.result c.verify_limited.ensures.ok

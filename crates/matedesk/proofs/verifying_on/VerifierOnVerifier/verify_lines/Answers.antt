@@ -8,7 +8,7 @@ use Rattle.matedesk.proofs.verifying_on.VerifierOnVerifier.verify_lines.Goals as
 
 pub returns-in_err-from_slice-clause-err : goal.returns-in_err-from_slice-clause-err
 returns-in_err-from_slice-clause-err g c =
-    let rows = IsClaimReply c.args.prefix.now c.args.self.now.bound in
+    let rows = IsClaimReply c.args.start.now.prefix.now c.args.self.now.bound in
     let (other, is, same) = err_from_is_err_and c.from_residual.result c.from_residual.ensures.1 in
     rw (is) (not_opened fault.NoMemory other (IsReplyToFirstOn rows c.args.start.now.from) (g.I.Input.left c.args.input)
     (g.O.Write.contents c.args.out.now) (no_reply_on rows c.args.start.now.from) same)
