@@ -69,51 +69,28 @@ where
         Some(Request::TreeOn(asked)) => tree_on(rt, alloc, asked, &given, out, err),
         Some(Request::Limited(seconds, asked)) => {
             let seconds = *seconds;
-            answer_in_time(
-                rt,
-                alloc,
-                &SolveInTime { rt, seconds, asked },
-                &given,
-                out,
-                err,
-            )
+            let command = SolveInTime { rt, seconds, asked };
+            answer_in_time(rt, alloc, &command, &given, out, err)
         }
         Some(Request::LimitedJson(seconds, asked)) => {
             let seconds = *seconds;
-            answer_in_time(
-                rt,
-                alloc,
-                &SolveJsonInTime { rt, seconds, asked },
-                &given,
-                out,
-                err,
-            )
+            let command = SolveJsonInTime { rt, seconds, asked };
+            answer_in_time(rt, alloc, &command, &given, out, err)
         }
         Some(Request::VerifyLimited(seconds, asked)) => {
             let seconds = *seconds;
-            answer_in_time(
-                rt,
-                alloc,
-                &VerifyInTime { rt, seconds, asked },
-                &given,
-                out,
-                err,
-            )
+            let command = VerifyInTime { rt, seconds, asked };
+            answer_in_time(rt, alloc, &command, &given, out, err)
         }
         Some(Request::VerifyLimitedJson(seconds, asked)) => {
             let seconds = *seconds;
-            answer_in_time(
-                rt,
-                alloc,
-                &VerifyJsonInTime { seconds, asked },
-                &given,
-                out,
-                err,
-            )
+            let command = VerifyJsonInTime { seconds, asked };
+            answer_in_time(rt, alloc, &command, &given, out, err)
         }
         Some(Request::TreeLimited(seconds, asked)) => {
             let seconds = *seconds;
-            tell_in_time(rt, alloc, &TellInTime { seconds, asked }, &given, out, err)
+            let command = TellInTime { seconds, asked };
+            tell_in_time(rt, alloc, &command, &given, out, err)
         }
         Some(Request::Uci) => talk(rt, alloc, &given, out, err),
         _ => unreachable!(),
