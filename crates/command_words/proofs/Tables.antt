@@ -16,19 +16,20 @@ use Rattle.command_words.specs.CommandLine.{tree_app, import_app, serve_app, rep
 use Rattle.command_words.specs.CommandLine.{explain_app, look_lines_app, moves_lines_app, perft_lines_app, sheet_app}
 use Rattle.command_words.specs.Arguments.{IsArgOf, argument_rule, row_rule}
 use Rattle.command_words.specs.Commands.{IsCommandOf, app_named, subcommand_app, with_arguments, with_commands}
+use Rattle.command_words.specs.Flags.{rule_of_flag}
 use Rattle.command_words.specs.declared.arguments.Argument.{Argument}
 use Rattle.command_words.specs.declared.commands.Name.{Name}
 
 -- What a proof unfolds to compute what `clap` reads of an argument of the table, and of a command.
 unfoldable pub rows_on_literals : ⊤
-unfolding row_rule argument_rule new_rule wanted depth_rule bound_rule import_bound_rule workers_rule solve_workers_rule memo_rule memory_rule from_rule limit_rule
+unfolding row_rule argument_rule rule_of_flag new_rule wanted depth_rule bound_rule import_bound_rule workers_rule solve_workers_rule memo_rule memory_rule from_rule limit_rule
     tree_workers_rule
     shown_rule
     most_lines_rule flag_rule title_rule words_rule files_rule letters_rule
 rows_on_literals = tt
 
 unfoldable pub commands_on_literals : ⊤
-unfolding subcommand_app app_named with_arguments argument_rule with_memo_options with_solving_options with_given_records with_lines_of_files with_tree_options with_sheet_flags
+unfolding subcommand_app app_named with_arguments argument_rule rule_of_flag with_memo_options with_solving_options with_given_records with_lines_of_files with_tree_options with_sheet_flags
     with_row_options
     with_sheet_options solve_app verify_app tree_app import_app serve_app replay_app uci_app look_app play_app moves_app perft_app
     explain_app look_lines_app moves_lines_app perft_lines_app sheet_app

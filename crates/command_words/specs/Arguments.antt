@@ -6,14 +6,15 @@ use Rattle.clap.specs.declared.builder.action.ArgAction.TheVariants.{SetTrue}
 use Rattle.clap.specs.declared.builder.value_parser.ValueParser.TheVariants as parser
 use Rattle.clap.specs.declared.builder.arg.Arg.{Arg}
 use Rattle.command_words.specs.ClapWords.{new_rule, rule_of}
-use Rattle.command_words.specs.CommandLine.{bound_rule, depth_rule, files_rule, flag_rule, from_rule, import_bound_rule, letters_rule, limit_rule, memo_rule, memory_rule}
-use Rattle.command_words.specs.CommandLine.{most_lines_rule, progress_rule, shown_rule, solve_workers_rule, title_rule, tree_workers_rule, wanted}
+use Rattle.command_words.specs.CommandLine.{bound_rule, depth_rule, files_rule, from_rule, import_bound_rule, letters_rule, limit_rule, memo_rule, memory_rule}
+use Rattle.command_words.specs.CommandLine.{most_lines_rule, shown_rule, solve_workers_rule, title_rule, tree_workers_rule, wanted}
 use Rattle.command_words.specs.CommandLine.{words_rule, workers_rule}
+use Rattle.command_words.specs.Flags.{rule_of_flag}
 use Rattle.command_words.specs.declared.arguments.Argument.{Argument}
 use Rattle.command_words.specs.declared.arguments.Argument.TheVariants as argument
-use Rattle.command_words.specs.declared.arguments.Form.{Form}
-use Rattle.command_words.specs.declared.arguments.Form.TheVariants as form
-use Rattle.command_words.specs.declared.arguments.Row.{Row}
+use Rattle.command_words.specs.declared.rows.Form.{Form}
+use Rattle.command_words.specs.declared.rows.Form.TheVariants as form
+use Rattle.command_words.specs.declared.rows.Row.{Row}
 
 -- an argument as the table has it, but for its form
 abbrev pub plain_rule : Row → Rule
@@ -56,27 +57,7 @@ argument_rule argument.Limit = limit_rule
 argument_rule argument.Shown = shown_rule
 argument_rule argument.MostLines = most_lines_rule
 argument_rule argument.Title = title_rule
-argument_rule argument.Progress = progress_rule
-argument_rule argument.Record = flag_rule (codes "record")
-argument_rule argument.RecordFen = flag_rule (codes "fen")
-argument_rule argument.Defences = flag_rule (codes "defences")
-argument_rule argument.SetPlay = flag_rule (codes "set-play")
-argument_rule argument.Tries = flag_rule (codes "tries")
-argument_rule argument.Column = flag_rule (codes "column")
-argument_rule argument.TreeFigurines = flag_rule (codes "figurines")
-argument_rule argument.Solutions = flag_rule (codes "solutions")
-argument_rule argument.Figurines = flag_rule (codes "figurines")
-argument_rule argument.Header = flag_rule (codes "header")
-argument_rule argument.Import = flag_rule (codes "import")
-argument_rule argument.Json = flag_rule (codes "json")
-argument_rule argument.MovesJson = flag_rule (codes "json")
-argument_rule argument.Keep = flag_rule (codes "keep")
-argument_rule argument.Board = flag_rule (codes "board")
-argument_rule argument.Flip = flag_rule (codes "flip")
-argument_rule argument.Svg = flag_rule (codes "svg")
-argument_rule argument.Coordinates = flag_rule (codes "coordinates")
-argument_rule argument.Fens = flag_rule (codes "fen")
-argument_rule argument.Divide = flag_rule (codes "divide")
+argument_rule (argument.Flag it) = rule_of_flag it
 
 -- an argument as it is named, for the command that it is given to alone
 abbrev pub IsArgOf : Argument → Arg → Type 0

@@ -3,6 +3,7 @@ pub mod Asked
 pub mod ClapWords
 pub mod CommandLine
 pub mod Commands
+pub mod Flags
 pub mod Limits
 pub mod Hyphens
 pub mod LineCommands

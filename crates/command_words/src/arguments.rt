@@ -3,16 +3,14 @@
 ghost use Rattle.std.specs.Prelude.{◌≡◌};
 ghost use Rattle.command_words.specs.Arguments.{argument_rule, row_rule};
 
+use crate::flags::{Flag, flag_row};
 use crate::help::{
-    ABOUT_BOARD, ABOUT_BOUND, ABOUT_COLUMN, ABOUT_COORDINATES, ABOUT_DEFENCES, ABOUT_DEPTH,
-    ABOUT_DIVIDE, ABOUT_FEN, ABOUT_FENS, ABOUT_FIGURINES, ABOUT_FILE, ABOUT_FLIP, ABOUT_FROM,
-    ABOUT_HEADER, ABOUT_IMPORT_BOUND, ABOUT_IMPORTED, ABOUT_JSON, ABOUT_KEEP, ABOUT_LETTERS,
+    ABOUT_BOUND, ABOUT_DEPTH, ABOUT_FEN, ABOUT_FILE, ABOUT_FROM, ABOUT_IMPORT_BOUND, ABOUT_LETTERS,
     ABOUT_LIMIT, ABOUT_MEMO, ABOUT_MEMORY, ABOUT_MEMOS, ABOUT_MOST_LINES, ABOUT_MOVE,
-    ABOUT_MOVES_JSON, ABOUT_POSITIONS, ABOUT_PROGRESS, ABOUT_RECORD, ABOUT_RECORD_FEN,
-    ABOUT_RECORD_WORKERS, ABOUT_SCRIPT, ABOUT_SET_PLAY, ABOUT_SHOWN, ABOUT_SOLUTIONS,
-    ABOUT_SOLVE_WORKERS, ABOUT_SVG, ABOUT_TITLE, ABOUT_TREE_FIGURINES, ABOUT_TRIES,
-    ABOUT_VERIFY_BOUND, ABOUT_WORD, ABOUT_WORKERS,
+    ABOUT_POSITIONS, ABOUT_RECORD_WORKERS, ABOUT_SCRIPT, ABOUT_SHOWN, ABOUT_SOLVE_WORKERS,
+    ABOUT_TITLE, ABOUT_VERIFY_BOUND, ABOUT_WORD, ABOUT_WORKERS,
 };
+use crate::rows::{Form, OPTIONAL, Row};
 
 /// The arguments of the commands.
 #[derive(Clone, Copy)]
@@ -40,75 +38,12 @@ pub(crate) enum Argument {
     Shown,
     MostLines,
     Title,
-    Progress,
-    Record,
-    RecordFen,
-    Defences,
-    SetPlay,
-    Tries,
-    Column,
-    TreeFigurines,
-    Solutions,
-    Figurines,
-    Header,
-    Import,
-    Json,
-    MovesJson,
-    Keep,
-    Board,
-    Flip,
-    Svg,
-    Coordinates,
-    Fens,
-    Divide,
+    Flag(Flag),
 }
-
-/// What is given as an argument.
-#[derive(Clone, Copy)]
-pub(crate) enum Form {
-    Word,
-    /// So many words or more.
-    Words(usize),
-    /// A number from one to another.
-    Number(i64, i64),
-    /// An option with a text.
-    TextOption,
-    /// An option with a number from one to another.
-    NumberOption(i64, i64),
-    /// An option with no value, whose name is its id.
-    Flag,
-}
-
-/// What `clap` is told of an argument.
-#[derive(Clone, Copy)]
-pub(crate) struct Row {
-    pub(crate) id: &'static str,
-    /// The name of an option with a value.
-    pub(crate) long: &'static str,
-    pub(crate) form: Form,
-    pub(crate) defaults: &'static [&'static str],
-    pub(crate) required: bool,
-    pub(crate) help: &'static str,
-}
-
-/// An argument that need not be given.
-const OPTIONAL: Row = Row {
-    id: "",
-    long: "",
-    form: Form::Word,
-    defaults: &[],
-    required: false,
-    help: "",
-};
 
 /// One that has to be given.
 const WANTED: Row = Row {
     required: true,
-    ..OPTIONAL
-};
-
-const FLAG: Row = Row {
-    form: Form::Flag,
     ..OPTIONAL
 };
 
@@ -322,135 +257,6 @@ static TITLE: Row = Row {
     ..OPTIONAL
 };
 
-static PROGRESS: Row = Row {
-    id: "progress",
-    help: ABOUT_PROGRESS,
-    ..FLAG
-};
-
-static RECORD: Row = Row {
-    id: "record",
-    help: ABOUT_RECORD,
-    ..FLAG
-};
-
-/// The same of a record that is no more than a FEN.
-static RECORD_FEN: Row = Row {
-    id: "fen",
-    help: ABOUT_RECORD_FEN,
-    ..FLAG
-};
-
-static DEFENCES: Row = Row {
-    id: "defences",
-    help: ABOUT_DEFENCES,
-    ..FLAG
-};
-
-static SET_PLAY: Row = Row {
-    id: "set-play",
-    help: ABOUT_SET_PLAY,
-    ..FLAG
-};
-
-static TRIES: Row = Row {
-    id: "tries",
-    help: ABOUT_TRIES,
-    ..FLAG
-};
-
-static COLUMN: Row = Row {
-    id: "column",
-    help: ABOUT_COLUMN,
-    ..FLAG
-};
-
-static TREE_FIGURINES: Row = Row {
-    id: "figurines",
-    help: ABOUT_TREE_FIGURINES,
-    ..FLAG
-};
-
-static SOLUTIONS: Row = Row {
-    id: "solutions",
-    help: ABOUT_SOLUTIONS,
-    ..FLAG
-};
-
-static FIGURINES: Row = Row {
-    id: "figurines",
-    help: ABOUT_FIGURINES,
-    ..FLAG
-};
-
-static HEADER: Row = Row {
-    id: "header",
-    help: ABOUT_HEADER,
-    ..FLAG
-};
-
-static IMPORT: Row = Row {
-    id: "import",
-    help: ABOUT_IMPORTED,
-    ..FLAG
-};
-
-/// JSON in place of lines or rows.
-static JSON: Row = Row {
-    id: "json",
-    help: ABOUT_JSON,
-    ..FLAG
-};
-
-/// JSON in place of lines of moves.
-static MOVES_JSON: Row = Row {
-    id: "json",
-    help: ABOUT_MOVES_JSON,
-    ..FLAG
-};
-
-static KEEP: Row = Row {
-    id: "keep",
-    help: ABOUT_KEEP,
-    ..FLAG
-};
-
-static BOARD: Row = Row {
-    id: "board",
-    help: ABOUT_BOARD,
-    ..FLAG
-};
-
-static FLIP: Row = Row {
-    id: "flip",
-    help: ABOUT_FLIP,
-    ..FLAG
-};
-
-static SVG: Row = Row {
-    id: "svg",
-    help: ABOUT_SVG,
-    ..FLAG
-};
-
-static COORDINATES: Row = Row {
-    id: "coordinates",
-    help: ABOUT_COORDINATES,
-    ..FLAG
-};
-
-static FENS: Row = Row {
-    id: "fen",
-    help: ABOUT_FENS,
-    ..FLAG
-};
-
-static DIVIDE: Row = Row {
-    id: "divide",
-    help: ABOUT_DIVIDE,
-    ..FLAG
-};
-
 /// What `clap` is told of an argument.
 #[tactic(auto, unfolding(crate::proofs::Tables::rows_on_literals))]
 pub(crate) fn row_of(argument: Argument) -> &'static Row
@@ -480,26 +286,6 @@ pub(crate) fn row_of(argument: Argument) -> &'static Row
         Argument::Shown => &SHOWN,
         Argument::MostLines => &MOST_LINES,
         Argument::Title => &TITLE,
-        Argument::Progress => &PROGRESS,
-        Argument::Record => &RECORD,
-        Argument::RecordFen => &RECORD_FEN,
-        Argument::Defences => &DEFENCES,
-        Argument::SetPlay => &SET_PLAY,
-        Argument::Tries => &TRIES,
-        Argument::Column => &COLUMN,
-        Argument::TreeFigurines => &TREE_FIGURINES,
-        Argument::Solutions => &SOLUTIONS,
-        Argument::Figurines => &FIGURINES,
-        Argument::Header => &HEADER,
-        Argument::Import => &IMPORT,
-        Argument::Json => &JSON,
-        Argument::MovesJson => &MOVES_JSON,
-        Argument::Keep => &KEEP,
-        Argument::Board => &BOARD,
-        Argument::Flip => &FLIP,
-        Argument::Svg => &SVG,
-        Argument::Coordinates => &COORDINATES,
-        Argument::Fens => &FENS,
-        Argument::Divide => &DIVIDE,
+        Argument::Flag(flag) => flag_row(flag),
     }
 }

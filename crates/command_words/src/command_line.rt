@@ -7,9 +7,10 @@ ghost use Rattle.command_words.specs.CommandLine.{IsLocal, bare_app, desk_app};
 ghost use Rattle.command_words.specs.Arguments.{IsArgOf, plain_rule, row_rule};
 ghost use Rattle.command_words.specs.Commands.{IsCommandOf};
 
-use crate::arguments::{Argument, Form, Row, row_of};
+use crate::arguments::{Argument, row_of};
 use crate::commands::{Name, ORDER, PROGRAM, Subcommand, subcommand_of};
 use crate::help::VERSION;
+use crate::rows::{Form, Row};
 use clap::builder::ValueParser;
 use clap::{Arg, ArgAction, Command};
 use std::alloc::{AllocError, Global};

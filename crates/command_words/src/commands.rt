@@ -4,6 +4,7 @@ ghost use Rattle.std.specs.Prelude.{◌≡◌};
 ghost use Rattle.command_words.specs.Commands.{app_named, subcommand_app};
 
 use crate::arguments::Argument;
+use crate::flags::Flag;
 use crate::help::{
     ABOUT, ABOUT_EXPLAIN, ABOUT_IMPORT, ABOUT_LOOK, ABOUT_LOOK_LINES, ABOUT_MOVES,
     ABOUT_MOVES_LINES, ABOUT_PERFT, ABOUT_PERFT_LINES, ABOUT_PLAY, ABOUT_REPLAY, ABOUT_SERVE,
@@ -73,11 +74,11 @@ static SOLVE: Subcommand = Subcommand {
         Argument::Memory,
         Argument::Limit,
         Argument::SolveWorkers,
-        Argument::Json,
+        Argument::Flag(Flag::Json),
         Argument::From,
-        Argument::Progress,
-        Argument::Record,
-        Argument::RecordFen,
+        Argument::Flag(Flag::Progress),
+        Argument::Flag(Flag::Record),
+        Argument::Flag(Flag::RecordFen),
         Argument::File,
     ],
 };
@@ -92,13 +93,13 @@ static VERIFY: Subcommand = Subcommand {
         Argument::Memory,
         Argument::Limit,
         Argument::VerifyWorkers,
-        Argument::Import,
-        Argument::Header,
-        Argument::Json,
+        Argument::Flag(Flag::Import),
+        Argument::Flag(Flag::Header),
+        Argument::Flag(Flag::Json),
         Argument::From,
-        Argument::Progress,
-        Argument::Record,
-        Argument::RecordFen,
+        Argument::Flag(Flag::Progress),
+        Argument::Flag(Flag::Record),
+        Argument::Flag(Flag::RecordFen),
         Argument::File,
     ],
 };
@@ -110,20 +111,20 @@ static TREE: Subcommand = Subcommand {
     arguments: &[
         Argument::Bound,
         Argument::Shown,
-        Argument::Defences,
-        Argument::SetPlay,
-        Argument::Tries,
-        Argument::Column,
-        Argument::TreeFigurines,
+        Argument::Flag(Flag::Defences),
+        Argument::Flag(Flag::SetPlay),
+        Argument::Flag(Flag::Tries),
+        Argument::Flag(Flag::Column),
+        Argument::Flag(Flag::TreeFigurines),
         Argument::Letters,
         Argument::MostLines,
         Argument::Limit,
         Argument::TreeWorkers,
-        Argument::Json,
+        Argument::Flag(Flag::Json),
         Argument::From,
-        Argument::Progress,
-        Argument::Record,
-        Argument::RecordFen,
+        Argument::Flag(Flag::Progress),
+        Argument::Flag(Flag::Record),
+        Argument::Flag(Flag::RecordFen),
         Argument::File,
     ],
 };
@@ -133,7 +134,7 @@ static IMPORT: Subcommand = Subcommand {
     about: ABOUT_IMPORT,
     after_help: AFTER_IMPORT,
     arguments: &[
-        Argument::Keep,
+        Argument::Flag(Flag::Keep),
         Argument::ImportBound,
         Argument::Letters,
         Argument::File,
@@ -149,7 +150,7 @@ static SERVE: Subcommand = Subcommand {
         Argument::Bound,
         Argument::Memos,
         Argument::Memory,
-        Argument::Progress,
+        Argument::Flag(Flag::Progress),
         Argument::File,
     ],
 };
@@ -173,9 +174,9 @@ static LOOK: Subcommand = Subcommand {
     about: ABOUT_LOOK,
     after_help: AFTER_LOOK,
     arguments: &[
-        Argument::Board,
-        Argument::Flip,
-        Argument::Svg,
+        Argument::Flag(Flag::Board),
+        Argument::Flag(Flag::Flip),
+        Argument::Flag(Flag::Svg),
         Argument::Fen,
     ],
 };
@@ -192,9 +193,9 @@ static MOVES: Subcommand = Subcommand {
     about: ABOUT_MOVES,
     after_help: AFTER_MOVES,
     arguments: &[
-        Argument::Coordinates,
-        Argument::Fens,
-        Argument::MovesJson,
+        Argument::Flag(Flag::Coordinates),
+        Argument::Flag(Flag::Fens),
+        Argument::Flag(Flag::MovesJson),
         Argument::Fen,
     ],
 };
@@ -203,7 +204,7 @@ static PERFT: Subcommand = Subcommand {
     name: "perft",
     about: ABOUT_PERFT,
     after_help: AFTER_PERFT,
-    arguments: &[Argument::Divide, Argument::Fen, Argument::Depth],
+    arguments: &[Argument::Flag(Flag::Divide), Argument::Fen, Argument::Depth],
 };
 
 static EXPLAIN: Subcommand = Subcommand {
@@ -217,7 +218,11 @@ static LOOK_LINES: Subcommand = Subcommand {
     name: "look --lines",
     about: ABOUT_LOOK_LINES,
     after_help: AFTER_LOOK_LINES,
-    arguments: &[Argument::Board, Argument::Flip, Argument::Positions],
+    arguments: &[
+        Argument::Flag(Flag::Board),
+        Argument::Flag(Flag::Flip),
+        Argument::Positions,
+    ],
 };
 
 static MOVES_LINES: Subcommand = Subcommand {
@@ -239,8 +244,8 @@ static SHEET: Subcommand = Subcommand {
     about: ABOUT_SHEET,
     after_help: AFTER_SHEET,
     arguments: &[
-        Argument::Solutions,
-        Argument::Figurines,
+        Argument::Flag(Flag::Solutions),
+        Argument::Flag(Flag::Figurines),
         Argument::Letters,
         Argument::Title,
         Argument::Bound,

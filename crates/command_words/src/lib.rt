@@ -2,13 +2,14 @@
 //!
 //! What a word means is settled here, and what is answered is not. Read `specs/Asked.antt` and `request` first; then `parsing` (words to a
 //! request) over `position_requests`, `record_requests` and `tree_requests`, by `matched_values`; `command_line` (what `clap` is told, by the
-//! tables `commands` and `arguments`), `limits`, `memory`, `hyphens` and `line_commands` (the words as it is given them), and `help` (what it
+//! tables `commands`, `arguments` and `flags`), `limits`, `memory`, `hyphens` and `line_commands` (the words as it is given them), and `help` (what it
 //! prints).
 #![tactic(auto)]
 
 mod arguments;
 mod command_line;
 mod commands;
+mod flags;
 mod help;
 mod hyphens;
 mod limits;
@@ -19,6 +20,7 @@ mod parsing;
 mod position_requests;
 mod record_requests;
 mod request;
+mod rows;
 mod texts;
 mod tree_requests;
 
