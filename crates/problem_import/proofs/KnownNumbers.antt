@@ -6,8 +6,8 @@ use Rattle.problem_import.specs.Letters.{IsTextOf}
 use Rattle.problem_import.specs.Numbers.{said}
 use Rattle.problem_import.specs.declared.changes.Form.{Form}
 use Rattle.problem_import.specs.declared.changes.Form.TheVariants.{Line, Game, Popeye}
-use Rattle.problem_import.specs.declared.reading.Number.{Number}
-use Rattle.problem_import.specs.declared.reading.Number.TheVariants.{Said, Own, Unsaid}
+use Rattle.problem_import.specs.declared.findings.Number.{Number}
+use Rattle.problem_import.specs.declared.findings.Number.TheVariants.{Said, Own, Unsaid}
 use Rattle.problem_import.specs.inside.Findings.{Asks, IsAsked, IsAskedOf, IsNumberOf}
 use Rattle.stipulations.specs.declared.asked.Asked.{Asked}
 

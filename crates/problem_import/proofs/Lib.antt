@@ -1,6 +1,6 @@
 pub mod AsciiTexts
 pub mod FieldTexts
-pub mod Findings
+pub mod OwnFindings
 pub mod AnsweredProblems
 pub mod AnsweredSources
 pub mod Imports

@@ -30,13 +30,13 @@ use Rattle.problem_import.specs.TagPairs.{EndsText, begins_with, is_tag_pair}
 use Rattle.stipulations.specs.declared.asked.Asked.{Asked}
 use Rattle.stipulations.specs.declared.asked.Asked.TheVariants.{Moves, Nothing}
 use Rattle.problem_import.specs.declared.games.Game.{Game}
-use Rattle.problem_import.specs.declared.reading.Finding.{Finding}
+use Rattle.problem_import.specs.declared.findings.Finding.{Finding}
 use Rattle.problem_import.specs.declared.reading.Open.{Open}
 use Rattle.problem_import.specs.declared.reading.Open.TheVariants as opens
 use Rattle.problem_import.specs.declared.reading.Reading.{Reading}
 use Rattle.problem_import.specs.inside.Findings.{Asks, IsAsked}
-use Rattle.problem_import.specs.declared.reading.Number.{Number}
-use Rattle.problem_import.specs.declared.reading.Number.TheVariants as numbers
+use Rattle.problem_import.specs.declared.findings.Number.{Number}
+use Rattle.problem_import.specs.declared.findings.Number.TheVariants as numbers
 use Rattle.problem_import.specs.inside.KnownSources.{AreFrom, AsksMore, HasFen, IsAt, IsCountFrom, IsFoundBy, IsFoundFrom, IsFrom, IsGameOf, IsKnown}
 use Rattle.problem_import.specs.inside.KnownSources.{IsKnownOf, IsMadeFrom, IsMoved, IsTagRead, IsTagged, IsWorded, looked_at, passed_over}
 use Rattle.problem_import.specs.inside.KnownSources.{EndsOne, IsEndedFrom, IsOliveFrom, IsOpenFrom, KeepsFen, Sourced}

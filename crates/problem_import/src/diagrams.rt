@@ -12,7 +12,8 @@ ghost use Rattle.problem_import.specs.SetUps.{is_right};
 ghost use Rattle.problem_import.specs.inside.ReadProblems.{IsSet, IsSetAs};
 
 use crate::import_faults::ImportFault;
-use crate::texts::{push_bound_operation, push_byte};
+use crate::operations::push_bound_operation;
+use crate::texts::push_byte;
 use chess_board::{
     Colour, FenFault, Kind, Man, Position, Square, Wing, king_home, read_fields, rook_home,
 };

@@ -17,11 +17,13 @@ ghost use Rattle.problem_import.specs.inside.OpenProblems.{due, has_tags};
 ghost use Rattle.problem_import.specs.TagPairs.{is_tag_line};
 
 use crate::changes::{Changes, Form};
+use crate::findings::Finding;
 use crate::import_counts::ImportCounts;
 use crate::import_faults::ImportFault;
+use crate::letters::AsciiLine;
 use crate::line_kinds::{LineKind, read_line};
 use crate::printing::{Printed, Printing};
-use crate::reading::{AsciiLine, Finding, Open, Reading};
+use crate::reading::{Open, Reading};
 use crate::texts::trimmed;
 use byte_streams::{Input, NoMemory, Stop, put};
 use chess_moves::Rays;

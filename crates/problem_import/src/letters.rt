@@ -15,6 +15,14 @@ use std::alloc::{AllocError, Global};
 use unicode_normalization::Form;
 use unicode_normalization::char::{decomposition, is_combining_mark};
 
+/// A line in printable ASCII: its number, its text, and what was changed to make it that.
+#[derive(Clone, Copy)]
+pub(crate) struct AsciiLine<'a> {
+    pub(crate) number: usize,
+    pub(crate) text: &'a [u8],
+    pub(crate) changes: Changes,
+}
+
 /// Which quotation marks a string is open by.
 #[derive(Clone, Copy, PartialEq, Eq)]
 enum Open {

@@ -3,8 +3,9 @@
 //!
 //! What a record is, is `chess_notation`'s business, and lines are `text_lines`'s. To read: `specs/Imports.antt` and `importing`, where
 //! the law of what is printed stands, over `printing`, `import_faults` and `import_counts`; `lettered_imports`, the same by another language's
-//! letters; `reading`, which tells the forms apart; then each form: `mending` (over `fields`, `tokens`, `lengths`, `letters`, `alphabets`,
-//! `figurines` and `changes`) and `moves`, `games` (and `tag_pairs`), `popeye` (over `popeye_words` and `diagrams`), and `olive`.
+//! letters; `reading_lines`, which tells the forms apart, over `reading`, what is open between two lines; `finished_problems` and `findings`,
+//! what is found of it; then each form: `mending` (over `fields`, `tokens`, `lengths`, `letters`, `alphabets`, `figurines` and `changes`) and
+//! `moves`, `games` (over `tag_pairs`) and `movetext`, `popeye` (over `popeye_words` and `diagrams`), and `olive`.
 #![tactic(auto)]
 
 mod alphabets;
@@ -12,6 +13,8 @@ mod changes;
 mod diagrams;
 mod fields;
 mod figurines;
+mod findings;
+mod finished_problems;
 mod games;
 mod import_counts;
 mod import_faults;
@@ -23,13 +26,16 @@ mod line_kinds;
 mod made_records;
 mod mending;
 mod moves;
+mod movetext;
 mod olive;
+mod operations;
 mod popeye;
 mod popeye_words;
 mod printing;
 mod problem_handlers;
 mod problem_lines;
 mod reading;
+mod reading_lines;
 mod tag_pairs;
 mod texts;
 mod tokens;

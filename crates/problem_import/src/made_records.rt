@@ -6,12 +6,12 @@ ghost use Rattle.problem_import.specs.Imports.{IsRecord};
 ghost use Rattle.problem_import.specs.inside.Findings.{Asks};
 ghost use Rattle.problem_import.specs.inside.KnownSources.{IsFoundBy, IsFoundFrom, IsMadeFrom};
 
+use crate::findings::{Found, Number};
 use crate::import_faults::ImportFault;
 use crate::line_kinds::says_asked;
 use crate::moves::with_moves;
+use crate::operations::push_bound_operation;
 use crate::printing::moves_of;
-use crate::reading::{Found, Number};
-use crate::texts::push_bound_operation;
 use byte_streams::NoMemory;
 use chess_moves::Rays;
 use chess_notation::Bound;

@@ -12,9 +12,10 @@ ghost use Rattle.stipulations.specs.declared.asked.Asked.TheVariants.{Moves};
 
 use crate::changes::Changes;
 use crate::diagrams::{BAD_PLACEMENT, Diagram};
-use crate::games::{is_key, push_id, push_id_operation};
 use crate::import_faults::ImportFault;
 use crate::lengths::moves_signed;
+use crate::movetext::is_key;
+use crate::operations::{push_id, push_id_operation};
 use crate::popeye_words::is_harmless_option;
 use crate::texts::{are_digits, is_same, push_byte};
 use chess_board::Colour;

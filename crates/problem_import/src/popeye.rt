@@ -9,9 +9,9 @@ ghost use Rattle.stipulations.specs.declared.asked.Asked.TheVariants.{Moves};
 
 use crate::changes::Changes;
 use crate::diagrams::{BAD_PLACEMENT, Diagram, is_men};
-use crate::games::{push_id, push_id_operation};
 use crate::import_faults::ImportFault;
 use crate::lengths::moves_signed;
+use crate::operations::{push_id, push_id_operation};
 use crate::popeye_words::{
     Command, begins_next, colour_of, command_of, ends_line, is_harmless_option,
 };

@@ -17,12 +17,12 @@ ghost use Rattle.problem_import.specs.inside.KnownSources.{PrintsFrom, TellsOf};
 
 use crate::changes::Changes;
 use crate::fields::push_behind;
+use crate::findings::{Finding, Found, Number};
 use crate::import_counts::ImportCounts;
 use crate::import_faults::ImportFault;
 use crate::line_kinds::{LineKind, LineRead, RecordKind, asking, says_asked};
 use crate::moves::with_moves;
-use crate::reading::{Finding, Found, Number};
-use crate::texts::push_bound_operation;
+use crate::operations::push_bound_operation;
 use byte_streams::NoMemory;
 use chess_moves::Rays;
 use chess_notation::Bound;

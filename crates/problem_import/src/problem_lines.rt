@@ -16,12 +16,13 @@ ghost use Rattle.problem_import.specs.Problems.{IsLastCut, IsLastPut};
 ghost use Rattle.problem_import.specs.inside.Answered.{EndsAnswered, IsAnsweredFrom, IsFilled, IsFound, IsLastCutOf, IsLastPutOf, IsReadOf};
 ghost use Rattle.problem_import.specs.inside.KnownSources.{AreFrom, IsAt, IsFoundFrom, IsKnown, IsMadeFrom};
 
+use crate::findings::Finding;
 use crate::import_faults::ImportFault;
 use crate::importing::{Imports, one_if};
 use crate::line_kinds::{LineKind, read_line};
 use crate::made_records::made_record;
 use crate::problem_handlers::ProblemHandler;
-use crate::reading::{Finding, Open, Reading};
+use crate::reading::{Open, Reading};
 use byte_streams::{Input, NoMemory, Stop, put};
 use chess_moves::Rays;
 use chess_notation::{Bound, EpdFault};

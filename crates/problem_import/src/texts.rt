@@ -1,12 +1,11 @@
 //! Texts of bytes: what stands at their ends, and their words.
 
-ghost use Rattle.std.specs.Prelude.{◌≡◌, ◌↔◌, ◌++◌, ◌∷◌, ℕ, List, [], IfOk, IsTrue, drop};
+ghost use Rattle.std.specs.Prelude.{◌≡◌, ◌↔◌, ◌++◌, ◌∷◌, [], IfOk, IsTrue, drop};
 ghost use Rattle.std.specs.Str.{bytes_eq};
 ghost use Rattle.chess_board.specs.Characters.{char};
 ghost use Rattle.chess_notation.specs.RecordFields.{is_number};
 ghost use Rattle.problem_import.specs.Letters.{trimmed as trimmed_text};
-ghost use Rattle.problem_import.specs.inside.FieldTexts.{GoesOn};
-ghost use Rattle.problem_import.specs.Sources.{IsNamed};
+ghost use Rattle.problem_import.specs.Sources.{IsNamed, before_byte, behind_byte};
 
 use chess_notation::are_digits as are_all_digits;
 use std::alloc::AllocError;
@@ -39,6 +38,19 @@ pub(crate) fn without_first(text: &[u8], count: usize) -> &[u8]
     text.split_at(count.min(text.len())).1
 }
 
+/// What stands up to the first byte of such a kind, and what stands behind it.
+pub(crate) fn cut_at(text: &[u8], byte: u8) -> (&[u8], &[u8])
+    ensures before { result.0.now ≡ before_byte byte text.now }
+    ensures rest { result.1.now ≡ behind_byte byte text.now }
+{
+    for (index, other) in text.iter().enumerate() {
+        if *other == byte {
+            return (text.split_at(index).0, text.split_at(index + 1).1);
+        }
+    }
+    (text, &[])
+}
+
 /// Whether the one text is the other.
 pub(crate) fn is_same(text: &[u8], other: &str) -> bool
     ensures { result ≡ bytes_eq text.now other.now }
@@ -60,25 +72,5 @@ pub(crate) fn push_word(text: &mut Vec<u8>, word: &[u8]) -> Result<(), AllocErro
 {
     text.push(b' ')?;
     text.extend_from_slice(word)?;
-    Ok(())
-}
-
-/// Adds a number of moves, in one digit or two.
-fn push_moves(text: &mut Vec<u8>, moves: u8) -> Result<(), AllocError>
-    ensures { IfOk result (λ _. (digits : List ℕ) × (text.new.items ≡ text.old.items ++ digits)) }
-{
-    if moves > 9 {
-        text.push(b'0' + moves / 10 % 10)?;
-    }
-    push_byte(text, b'0' + moves % 10)
-}
-
-/// Adds an operation `dm` of so many moves.
-pub(crate) fn push_bound_operation(text: &mut Vec<u8>, moves: u8) -> Result<(), AllocError>
-    ensures { IfOk result (λ _. GoesOn text.old.items text.new.items) }
-{
-    text.extend_from_slice(b" dm ")?;
-    push_moves(text, moves)?;
-    push_byte(text, b';')?;
     Ok(())
 }

@@ -12,11 +12,11 @@ use Rattle.problem_import.specs.declared.changes.Form.{Form}
 use Rattle.problem_import.specs.declared.changes.Form.TheVariants.{Line}
 use Rattle.problem_import.specs.declared.printing.ToldRecord.{ToldRecord}
 use Rattle.problem_import.specs.declared.printing.ToldRecord.TheVariants as told
-use Rattle.problem_import.specs.declared.reading.Finding.{Finding}
-use Rattle.problem_import.specs.declared.reading.Found.{Found}
-use Rattle.problem_import.specs.declared.reading.Found.TheVariants.{Text, Fault}
-use Rattle.problem_import.specs.declared.reading.Number.{Number}
-use Rattle.problem_import.specs.declared.reading.Number.TheVariants as number
+use Rattle.problem_import.specs.declared.findings.Finding.{Finding}
+use Rattle.problem_import.specs.declared.findings.Found.{Found}
+use Rattle.problem_import.specs.declared.findings.Found.TheVariants.{Text, Fault}
+use Rattle.problem_import.specs.declared.findings.Number.{Number}
+use Rattle.problem_import.specs.declared.findings.Number.TheVariants as number
 
 -- Unless it was made of a game or of a problem for Popeye, the text has the first four words of what the line says.
 unfoldable pub IsOwn : Form → (line made : List ℕ) → Type 0

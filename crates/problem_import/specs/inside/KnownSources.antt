@@ -17,11 +17,11 @@ use Rattle.problem_import.specs.Sources.{AreUpTo, GameSays, HasBrace, IsFenOf, I
 use Rattle.problem_import.specs.declared.games.Game.{Game}
 use Rattle.problem_import.specs.declared.printing.ToldRecord.{ToldRecord}
 use Rattle.problem_import.specs.declared.printing.ToldRecord.TheVariants as told
-use Rattle.problem_import.specs.declared.reading.Finding.{Finding}
-use Rattle.problem_import.specs.declared.reading.Found.{Found}
-use Rattle.problem_import.specs.declared.reading.Found.TheVariants.{Text, Fault}
-use Rattle.problem_import.specs.declared.reading.Number.{Number}
-use Rattle.problem_import.specs.declared.reading.Number.TheVariants as number
+use Rattle.problem_import.specs.declared.findings.Finding.{Finding}
+use Rattle.problem_import.specs.declared.findings.Found.{Found}
+use Rattle.problem_import.specs.declared.findings.Found.TheVariants.{Text, Fault}
+use Rattle.problem_import.specs.declared.findings.Number.{Number}
+use Rattle.problem_import.specs.declared.findings.Number.TheVariants as number
 use Rattle.problem_import.specs.declared.reading.Open.{Open}
 use Rattle.problem_import.specs.declared.reading.Open.TheVariants as opens
 use Rattle.problem_import.specs.declared.reading.Reading.{Reading}

@@ -1,6 +1,6 @@
 use Rattle.std.proofs.Common.{Some, ap, subst, sym}
 use Rattle.problem_import.specs.Imports.{IsRecord}
-use Rattle.problem_import.specs.declared.reading.Number.TheVariants.{Unsaid}
+use Rattle.problem_import.specs.declared.findings.Number.TheVariants.{Unsaid}
 use Rattle.problem_import.specs.inside.KnownSources.{IsCountFrom}
 use Rattle.problem_import.proofs.FieldTexts.{fields_go_on}
 use Rattle.problem_import.proofs.Sources.{count_given, found_moved, made_of, then_made}

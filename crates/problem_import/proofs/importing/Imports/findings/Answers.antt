@@ -1,4 +1,4 @@
-use Rattle.problem_import.proofs.Findings.{none_found}
+use Rattle.problem_import.proofs.OwnFindings.{none_found}
 use Rattle.problem_import.proofs.Sources.{none_from}
 use Rattle.std.proofs.Common.{inr}
 use Rattle.problem_import.proofs.importing.Imports.findings.Goals as goal

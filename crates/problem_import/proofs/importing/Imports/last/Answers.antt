@@ -1,5 +1,5 @@
 use Rattle.std.proofs.Common.{[], ◌∷◌, ◌++◌, inr, refl}
-use Rattle.problem_import.proofs.Findings.{none_found}
+use Rattle.problem_import.proofs.OwnFindings.{none_found}
 use Rattle.problem_import.proofs.Sources.{none_from, open_ended}
 use Rattle.problem_import.proofs.importing.Imports.last.Goals as goal
 

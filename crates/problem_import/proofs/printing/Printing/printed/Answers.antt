@@ -1,5 +1,5 @@
 use Rattle.std.proofs.Common.{arith}
-use Rattle.problem_import.proofs.Findings.{found_at}
+use Rattle.problem_import.proofs.OwnFindings.{found_at}
 use Rattle.problem_import.proofs.Sources.{from_at}
 use Rattle.problem_import.proofs.printing.Printing.printed.Goals as goal
 

@@ -1,7 +1,7 @@
 use Rattle.std.proofs.Common.{refl, subst}
 use Rattle.problem_import.specs.inside.Findings.{IsAskedOf}
 use Rattle.problem_import.specs.inside.KnownSources.{IsFoundBy}
-use Rattle.problem_import.proofs.Findings.{own_moved}
+use Rattle.problem_import.proofs.OwnFindings.{own_moved}
 use Rattle.problem_import.proofs.KnownNumbers.{asked_moved}
 use Rattle.problem_import.proofs.Sources.{found_moved, then_ok}
 use Rattle.problem_import.proofs.printing.Printing.push_found.Goals as goal

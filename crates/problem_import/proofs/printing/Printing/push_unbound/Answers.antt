@@ -1,5 +1,5 @@
 use Rattle.std.proofs.Common.{Some, ap}
-use Rattle.problem_import.specs.declared.reading.Number.TheVariants.{Unsaid}
+use Rattle.problem_import.specs.declared.findings.Number.TheVariants.{Unsaid}
 use Rattle.problem_import.proofs.KnownNumbers.{number_given}
 use Rattle.problem_import.proofs.FieldTexts.{fields_go_on}
 use Rattle.problem_import.proofs.Sources.{count_given, found_moved, then_ok}

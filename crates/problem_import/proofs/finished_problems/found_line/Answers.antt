@@ -1,0 +1,18 @@
+use Rattle.std.proofs.Common.{subst}
+use Rattle.problem_import.proofs.OwnFindings.{own_of_line}
+use Rattle.problem_import.proofs.KnownNumbers.{asked_of_line}
+use Rattle.problem_import.specs.inside.Findings.{IsAsked}
+use Rattle.problem_import.proofs.Sources.{found_line}
+use Rattle.problem_import.proofs.finished_problems.found_line.Goals as goal
+
+pub returns-in-Some-clause-own : goal.returns-in-Some-clause-own
+returns-in-Some-clause-own c = λ whole says is. (
+  own_of_line _ whole c.args.line.now.text.now _ says c.in_ok-mended.ensures.fields,
+  asked_of_line _ whole c.args.line.now.text.now c.in_ok-mended.mended.said c.in-Some.number says c.in_ok-mended.ensures.said
+      (c.in-Some.ensures whole is),
+)
+
+pub returns-in-Some-clause-from : goal.returns-in-Some-clause-from
+returns-in-Some-clause-from c = λ letters lines whole among says is given.
+    found_line letters given lines whole c.args.line.now.text.now c.in_ok-mended.mended.text.items c.in-Some.number among says c.in_ok-mended.ensures.fields
+    (subst (λ asks. IsAsked whole asks c.in-Some.number) c.in_ok-mended.ensures.said (c.in-Some.ensures whole is))

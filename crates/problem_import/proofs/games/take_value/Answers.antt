@@ -1,5 +1,0 @@
-use Rattle.problem_import.proofs.TagFens.{ends_none}
-use Rattle.problem_import.proofs.games.take_value.Goals as goal
-
-pub returns-clause-rest : goal.returns-clause-rest
-returns-clause-rest c = ends_none c.args.text.now

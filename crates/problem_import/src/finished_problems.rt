@@ -1,0 +1,186 @@
+//! What a problem says that is finished: a line that is one by itself, or one that was open.
+
+ghost use Rattle.std.specs.Prelude.{◌≡◌, ◌+◌, ℕ, Bool, List, IfOk, IfSome, Option, length};
+ghost use Rattle.move_words.specs.declared.languages.Letters.{Letters as LettersValue};
+ghost use Rattle.problem_import.specs.Letters.{IsTextOf};
+ghost use Rattle.problem_import.specs.Sources.{AreUpTo, GameSays, IsGame, IsLast};
+ghost use Rattle.problem_import.specs.declared.reading.Open.TheVariants as opens;
+ghost use Rattle.problem_import.specs.inside.Findings.{AreFoundOf, IsAsked, IsFoundOf, IsRecordIf};
+ghost use Rattle.problem_import.specs.inside.KnownSources.{Ends, HasFen, IsEndedFrom, IsFoundBy, IsFoundFrom};
+
+use crate::changes::Form;
+use crate::findings::{Finding, Found, Number, push_finding};
+use crate::games::Game;
+use crate::import_faults::ImportFault;
+use crate::letters::AsciiLine;
+use crate::mending::mended_line;
+use crate::olive::OliveProblem;
+use crate::popeye::PopeyeProblem;
+use std::alloc::{AllocError, Global};
+use stipulations::Asked;
+
+/// How many moves a record is to ask that is made of a line which says none, and may be a record as it stands.
+fn number_unsaid(is_record: bool) -> Number
+    ensures { (line : List ℕ) → IsRecordIf is_record line → IsAsked line Asked.Nothing result }
+{
+    if is_record {
+        Number::Own
+    } else {
+        Number::Unsaid
+    }
+}
+
+/// How many moves a record is to ask that is made of a line which says this, and may be a record as it stands; nothing where it says two.
+fn number_of(said: Asked, is_record: bool) -> Option<Number>
+    ensures { IfSome result (λ number. (line : List ℕ) → IsRecordIf is_record line → IsAsked line said number) }
+{
+    match said {
+        Asked::Moves(moves) => Some(Number::Said(moves)),
+        Asked::Nothing => Some(number_unsaid(is_record)),
+        Asked::Two => None,
+    }
+}
+
+/// What a line in printable ASCII says, which may be a record as it stands.
+pub(crate) fn found_line(
+    alloc: Global,
+    line: &AsciiLine<'_>,
+    is_record: bool,
+) -> Result<Found, AllocError>
+    ensures own { IfOk result (λ found. (whole : List ℕ) → IsTextOf whole line.now.text.now → IsRecordIf is_record whole → IsFoundOf whole found) }
+    ensures from { IfOk result (λ found. (letters : LettersValue) (lines : List (List ℕ)) (whole : List ℕ) → IsLast lines whole
+        → IsTextOf whole line.now.text.now → IsRecordIf is_record whole → IsFoundFrom letters lines found) }
+{
+    let mut changes = line.changes;
+    let mended = mended_line(alloc, line.text, &mut changes)?;
+    match number_of(mended.said, is_record) {
+        Some(number) => Ok(Found::Text(mended.text, changes, number)),
+        None => Ok(Found::Fault(ImportFault::TwoBounds)),
+    }
+}
+
+/// How many moves a record is to ask that is made of a game which asks this.
+fn number_by_tags(asked: Asked) -> Number
+    ensures { (letters : LettersValue) (given : Option ℕ) (lines own texts : List (List ℕ)) (has_moves : Bool) (made : List ℕ) → AreUpTo lines own
+        → IsGame own texts has_moves → HasFen letters texts made → ((n : ℕ) → asked ≡ Asked.Moves n → GameSays texts n)
+        → IsFoundBy letters given lines made result }
+{
+    match asked {
+        Asked::Moves(moves) => Number::Said(moves),
+        Asked::Nothing | Asked::Two => Number::Unsaid,
+    }
+}
+
+/// What the tag pairs of a game say.
+fn found_game(alloc: Global, game: &mut Game) -> Result<Found, AllocError>
+    ensures own { IfOk result (λ found. (line : List ℕ) → IsFoundOf line found) }
+    ensures from { IfOk result (λ found. (letters : LettersValue) (lines own : List (List ℕ)) → AreUpTo lines own
+        → IsEndedFrom letters own (opens.Game game.old) → IsFoundFrom letters lines found) }
+{
+    if let Some(fault) = game.first_fault() {
+        return Ok(Found::Fault(fault));
+    }
+    let number = number_by_tags(game.asks());
+    let text = game.text(alloc)?;
+    Ok(Found::Text(text, game.changes.of(Form::Game), number))
+}
+
+/// Adds what the tag pairs of a game say.
+pub(crate) fn finish_game(
+    alloc: Global,
+    game: Game,
+    findings: &mut Vec<Finding>,
+) -> Result<(), AllocError>
+    ensures length { IfOk result (λ _. length findings.new.items ≡ length findings.old.items + 1) }
+    ensures own { IfOk result (λ _. (line : List ℕ) → AreFoundOf line findings.old.items → AreFoundOf line findings.new.items) }
+    ensures from { IfOk result (λ _. (letters : LettersValue) (lines own : List (List ℕ))
+        → Ends letters lines own (opens.Game game) findings.old.items findings.new.items) }
+{
+    let mut game = game;
+    let found = found_game(alloc, &mut game)?;
+    push_finding(
+        findings,
+        Finding {
+            number: game.number,
+            found,
+        },
+    )?;
+    Ok(())
+}
+
+/// What a problem for Popeye says.
+fn found_popeye(alloc: Global, problem: &PopeyeProblem) -> Result<Found, AllocError>
+    ensures own { IfOk result (λ found. (line : List ℕ) → IsFoundOf line found) }
+    ensures from { IfOk result (λ found. (letters : LettersValue) (lines own : List (List ℕ)) → AreUpTo lines own
+        → IsEndedFrom letters own (opens.Popeye problem.now) → IsFoundFrom letters lines found) }
+{
+    let made = problem.made(alloc)?;
+    match made {
+        Ok((text, moves)) => {
+            let changes = problem.changes.of(Form::Popeye);
+            Ok(Found::Text(text, changes, Number::Said(moves)))
+        }
+        Err(fault) => Ok(Found::Fault(fault)),
+    }
+}
+
+/// Adds what a problem for Popeye says.
+pub(crate) fn finish_popeye(
+    alloc: Global,
+    problem: &PopeyeProblem,
+    findings: &mut Vec<Finding>,
+) -> Result<(), AllocError>
+    ensures length { IfOk result (λ _. length findings.new.items ≡ length findings.old.items + 1) }
+    ensures own { IfOk result (λ _. (line : List ℕ) → AreFoundOf line findings.old.items → AreFoundOf line findings.new.items) }
+    ensures from { IfOk result (λ _. (letters : LettersValue) (lines own : List (List ℕ))
+        → Ends letters lines own (opens.Popeye problem.now) findings.old.items findings.new.items) }
+{
+    let found = found_popeye(alloc, problem)?;
+    push_finding(
+        findings,
+        Finding {
+            number: problem.number,
+            found,
+        },
+    )?;
+    Ok(())
+}
+
+/// What a problem of Olive's says.
+fn found_olive(alloc: Global, problem: &OliveProblem) -> Result<Found, AllocError>
+    ensures own { IfOk result (λ found. (line : List ℕ) → IsFoundOf line found) }
+    ensures from { IfOk result (λ found. (letters : LettersValue) (lines own : List (List ℕ)) → AreUpTo lines own
+        → IsEndedFrom letters own (opens.Olive problem.now) → IsFoundFrom letters lines found) }
+{
+    let mut changes = problem.changes;
+    let made = problem.made(alloc, &mut changes)?;
+    match made {
+        Ok((text, moves)) => {
+            let changes = changes.of(Form::Popeye);
+            Ok(Found::Text(text, changes, Number::Said(moves)))
+        }
+        Err(fault) => Ok(Found::Fault(fault)),
+    }
+}
+
+/// Adds what a problem of Olive's says.
+pub(crate) fn finish_olive(
+    alloc: Global,
+    problem: &OliveProblem,
+    findings: &mut Vec<Finding>,
+) -> Result<(), AllocError>
+    ensures length { IfOk result (λ _. length findings.new.items ≡ length findings.old.items + 1) }
+    ensures own { IfOk result (λ _. (line : List ℕ) → AreFoundOf line findings.old.items → AreFoundOf line findings.new.items) }
+    ensures from { IfOk result (λ _. (letters : LettersValue) (lines own : List (List ℕ))
+        → Ends letters lines own (opens.Olive problem.now) findings.old.items findings.new.items) }
+{
+    let found = found_olive(alloc, problem)?;
+    push_finding(
+        findings,
+        Finding {
+            number: problem.number,
+            found,
+        },
+    )?;
+    Ok(())
+}
