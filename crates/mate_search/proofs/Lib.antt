@@ -14,3 +14,4 @@ pub mod Told
 pub mod AtOnce
 pub mod PlainMoves
 pub mod OccupancySets
+pub mod Replies

@@ -36,7 +36,7 @@ less_test x y h k = grind (arith, nat_tests)
 has_or : (a b s : ℕ) → has (bit_or a b) s ≡ (has a s || has b s)
 has_or a b s = rw (bit_at_or a b s) (or_test (bit_at a s) (bit_at b s) (bit_at-lt a s) (bit_at-lt b s))
 
-has_less : (a b s : ℕ) → b < 2 ^ 64 → s < 64 → has (bit_and a (bit_not w64 b)) s ≡ (has a s && not (has b s))
+pub has_less : (a b s : ℕ) → b < 2 ^ 64 → s < 64 → has (bit_and a (bit_not w64 b)) s ≡ (has a s && not (has b s))
 has_less a b s fits l = rw (bit_at_and a (bit_not w64 b) s, bit_at_not w64 b s fits l)
     (less_test (bit_at a s) (bit_at b s) (bit_at-lt a s) (bit_at-lt b s))
 

@@ -91,7 +91,7 @@ win_one p =
     any_same f g (x ∷ xs) h = rw (h x, any_same f g xs h)
 
 -- Whoever has a move is not mated.
-no_mate : (b : Bool) → ((b && not true) || (true && false)) ≡ false
+pub no_mate : (b : Bool) → ((b && not true) || (true && false)) ≡ false
 no_mate true = refl
 no_mate false = refl
 

@@ -6,3 +6,4 @@ pub mod MemoEntries
 pub mod Findings
 pub mod ReplyTable
 pub mod SideOccupancy
+pub mod Replies

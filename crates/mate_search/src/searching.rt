@@ -3,17 +3,20 @@
 ghost use Rattle.std.specs.Prelude.{◌≡◌, ◌<◌, ◌≤◌, ◌-◌, true, false, IfOk, IfSome, IsSome, None};
 ghost use Rattle.chess_board.specs.Legality.{is_legal};
 ghost use Rattle.chess_board.specs.MakeMove.{after_setup};
+ghost use Rattle.chess_board.specs.Sets.{IsSetOf};
 ghost use Rattle.mate_search.specs.Wins.{win, lost};
 ghost use Rattle.mate_search.specs.inside.Halting.{EndsSearch};
+ghost use Rattle.mate_search.specs.inside.Replies.{is_but_king, each_loses};
 ghost use Rattle.mate_search.specs.inside.SideOccupancy.{IsOccupancyOf, IsPlain};
 
 use crate::halting::{Guide, Halt, Stopped};
 use crate::memo::Memo;
 use crate::reply_table::place_of;
-use crate::side_occupancy::SideOccupancy;
+use crate::side_occupancy::{SideOccupancy, men_of};
 use chess_board::{Kind, Move, Position, after};
 use chess_moves::{
-    Rays, has_mating_move, in_check, is_legal, is_mated, legal_listed, legal_moves, legal_moves_of,
+    Rays, Verdict, has_mating_move, in_check, is_legal, is_mated, legal_listed, legal_moves,
+    legal_moves_of, verdict,
 };
 
 /// Whether the attacker, to move, mates within `n` moves. A position one move from the end is not worth keeping.
@@ -158,11 +161,14 @@ pub(crate) fn loses<H: Halt>(
     if is_refuted_first(guide, position, k, memo)? {
         return Ok(false);
     }
-    loses_each(guide, position, k, memo)
+    if k == 1 {
+        return loses_each(guide, position, k, memo);
+    }
+    loses_by_men(guide, position, k, memo)
 }
 
 /// Whether one of those replies refutes that are likely to: one move from the end the two that refuted last, before that what the memo
-/// knows, checks, captures, and all others before those of the king.
+/// knows, checks, which a king alone does not give, and captures.
 #[cycle(search)]
 fn is_refuted_first<H: Halt>(
     guide: &Guide<H>,
@@ -183,13 +189,10 @@ fn is_refuted_first<H: Halt>(
     if is_known_refuted(guide.rays, position, k, memo) {
         return Ok(true);
     }
-    if is_refuted_by_check(guide, position, k, memo)? {
+    if others_of(position) != 0 && is_refuted_by_check(guide, position, k, memo)? {
         return Ok(true);
     }
-    if is_refuted_by_capture(guide, position, k, memo)? {
-        return Ok(true);
-    }
-    is_refuted_by_others(guide, position, k, memo)
+    is_refuted_by_capture(guide, position, k, memo)
 }
 
 /// Whether the memo knows of a reply after which the attacker does not mate within `k` moves. To ask about all of them costs
@@ -272,28 +275,6 @@ fn is_refuted_by_capture<H: Halt>(
     Ok(false)
 }
 
-/// Whether a reply of another man than the king refutes: the attacker does not mate within `k` moves after it. Asked before the king's
-/// replies, these leave 8 % fewer positions to judge, by a count over hard problems.
-#[cycle(search)]
-fn is_refuted_by_others<H: Halt>(
-    guide: &Guide<H>,
-    position: &Position,
-    k: u8,
-    memo: &mut Memo,
-) -> Result<bool, Stopped>
-    ensures refuted { IfOk result (λ refuted. refuted ≡ true → lost k position.now ≡ false) }
-    ensures ends { EndsSearch result (H.may_stop guide.now.halt.now) memo.old memo.new }
-{
-    let others = !position.men(position.side(), Kind::King);
-    for r in legal_moves_of(guide.rays, position, others) {
-        let next = after(position, r);
-        if !wins(guide, &next, k, memo)? {
-            return Ok(true);
-        }
-    }
-    Ok(false)
-}
-
 /// Whether this is a legal reply after which the attacker does not mate within `k` moves.
 #[cycle(search)]
 fn refutes<H: Halt>(
@@ -319,7 +300,7 @@ fn refutes<H: Halt>(
     Ok(true)
 }
 
-/// Whether the defender loses, by all its replies, each of which has to lose.
+/// Whether the defender loses, by all its replies in order, each of which has to lose. One that does not is tried first from then on.
 #[cycle(search)]
 fn loses_each<H: Halt>(
     guide: &Guide<H>,
@@ -334,11 +315,66 @@ fn loses_each<H: Halt>(
     for r in legal_moves(guide.rays, position) {
         moves = true;
         if !wins(guide, &after(position, r), k, memo)? {
-            if k == 1 {
-                memo.keep_refutation(r);
-            }
+            memo.keep_refutation(r);
             return Ok(false);
         }
     }
     Ok(moves || position.in_check())
+}
+
+/// Whether the defender loses, by all its replies, each of which has to lose. Those of the other men are asked before the king's, which
+/// leaves 8 % fewer positions to judge, by a count over hard problems.
+#[cycle(search)]
+fn loses_by_men<H: Halt>(
+    guide: &Guide<H>,
+    position: &Position,
+    k: u8,
+    memo: &mut Memo,
+) -> Result<bool, Stopped>
+    ensures lost { IfOk result (λ is_lost. is_lost ≡ lost k position.now) }
+    ensures ends { EndsSearch result (H.may_stop guide.now.halt.now) memo.old memo.new }
+{
+    // That each reply is the king's or another man's is seen by this law.
+    legal_listed();
+    let king = position.men(position.side(), Kind::King);
+    if !each_loses(guide, position, others_of(position), k, memo)? {
+        return Ok(false);
+    }
+    if !each_loses(guide, position, king, k, memo)? {
+        return Ok(false);
+    }
+    Ok(verdict(guide.rays, position) != Verdict::Stalemate)
+}
+
+/// Whether the attacker mates within `k` moves after each reply of these men.
+#[cycle(search)]
+fn each_loses<H: Halt>(
+    guide: &Guide<H>,
+    position: &Position,
+    men: u64,
+    k: u8,
+    memo: &mut Memo,
+) -> Result<bool, Stopped>
+    ensures each { IfOk result (λ each. each ≡ each_loses men k position.now) }
+    ensures ends { EndsSearch result (H.may_stop guide.now.halt.now) memo.old memo.new }
+{
+    if men == 0 {
+        return Ok(true);
+    }
+    for r in legal_moves_of(guide.rays, position, men) {
+        let next = after(position, r);
+        if !wins(guide, &next, k, memo)? {
+            return Ok(false);
+        }
+    }
+    Ok(true)
+}
+
+/// The squares of the men of the side to move but its king.
+#[inline(always)]
+fn others_of(position: &Position) -> u64
+    ensures { IsSetOf result (is_but_king position.now.side) position.now.men }
+{
+    let side = position.side();
+    men_of(position, side) & !position.men(side, Kind::King)
 }

@@ -82,7 +82,7 @@ impl SideOccupancy {
 
 /// The squares of a side's men.
 #[inline(always)]
-fn men_of(position: &Position, side: Colour) -> u64
+pub(crate) fn men_of(position: &Position, side: Colour) -> u64
     ensures { IsSetOf result (is_of side) position.now.men }
 {
     position.men(side, Kind::Pawn)

@@ -5,7 +5,9 @@ ghost use Rattle.std.specs.Prelude.{◌<◌, IfOk, IfSome};
 
 use crate::plain_memo::PlainMemo;
 use chess_board::{Move, Position, after};
-use chess_moves::{Rays, attacked, has_mating_move, is_legal, is_mated, legal_moves};
+use chess_moves::{
+    Rays, Verdict, attacked, has_mating_move, is_legal, is_mated, legal_moves, verdict,
+};
 use mate_search::{Guide, Halt, Stopped};
 
 /// Whether the attacker, to move, mates within `n` moves. A position one move from the end is not worth keeping.
@@ -133,11 +135,14 @@ pub(crate) fn loses<H: Halt>(
     if is_refuted_first(guide, position, k, memo)? {
         return Ok(false);
     }
-    loses_each(guide, position, k, memo)
+    if k == 1 {
+        return loses_each(guide, position, k, memo);
+    }
+    loses_by_men(guide, position, k, memo)
 }
 
 /// Whether one of those replies refutes that are likely to: one move from the end the two that refuted last, before that what the memo
-/// knows, checks, captures, and all others before those of the king.
+/// knows, checks, and captures.
 #[cycle(search)]
 fn is_refuted_first<H: Halt>(
     guide: &Guide<H>,
@@ -154,10 +159,7 @@ fn is_refuted_first<H: Halt>(
     if is_refuted_by_check(guide, position, k, memo)? {
         return Ok(true);
     }
-    if is_refuted_by_capture(guide, position, k, memo)? {
-        return Ok(true);
-    }
-    is_refuted_by_others(guide, position, k, memo)
+    is_refuted_by_capture(guide, position, k, memo)
 }
 
 /// Whether one of the two replies that refuted last refutes: the attacker does not mate within `k` moves after it.
@@ -219,23 +221,6 @@ fn is_refuted_by_capture<H: Halt>(
     Ok(false)
 }
 
-/// Whether a reply of another man than the king refutes: the attacker does not mate within `k` moves after it.
-#[cycle(search)]
-fn is_refuted_by_others<H: Halt>(
-    guide: &Guide<H>,
-    position: &Position,
-    k: u8,
-    memo: &mut PlainMemo,
-) -> Result<bool, Stopped> {
-    let king = position.king(position.side());
-    for r in legal_moves(guide.rays, position) {
-        if r.origin != king && !wins(guide, &after(position, r), k, memo)? {
-            return Ok(true);
-        }
-    }
-    Ok(false)
-}
-
 /// Whether this is a legal reply after which the attacker does not mate within `k` moves.
 #[cycle(search)]
 fn refutes<H: Halt>(
@@ -257,7 +242,7 @@ fn refutes<H: Halt>(
     Ok(true)
 }
 
-/// Whether the defender loses, by all its replies, each of which has to lose.
+/// Whether the defender loses, by all its replies in order, each of which has to lose. One that does not is tried first from then on.
 #[cycle(search)]
 fn loses_each<H: Halt>(
     guide: &Guide<H>,
@@ -269,11 +254,44 @@ fn loses_each<H: Halt>(
     for r in legal_moves(guide.rays, position) {
         moves = true;
         if !wins(guide, &after(position, r), k, memo)? {
-            if k == 1 {
-                memo.keep_refutation(r);
-            }
+            memo.keep_refutation(r);
             return Ok(false);
         }
     }
     Ok(moves || position.in_check())
+}
+
+/// Whether the defender loses, by all its replies, each of which has to lose: those of the other men are asked before the king's.
+#[cycle(search)]
+fn loses_by_men<H: Halt>(
+    guide: &Guide<H>,
+    position: &Position,
+    k: u8,
+    memo: &mut PlainMemo,
+) -> Result<bool, Stopped> {
+    if is_refuted_by_men(guide, position, false, k, memo)? {
+        return Ok(false);
+    }
+    if is_refuted_by_men(guide, position, true, k, memo)? {
+        return Ok(false);
+    }
+    Ok(verdict(guide.rays, position) != Verdict::Stalemate)
+}
+
+/// Whether a reply of the king, or of another man, refutes: the attacker does not mate within `k` moves after it.
+#[cycle(search)]
+fn is_refuted_by_men<H: Halt>(
+    guide: &Guide<H>,
+    position: &Position,
+    is_king: bool,
+    k: u8,
+    memo: &mut PlainMemo,
+) -> Result<bool, Stopped> {
+    let king = position.king(position.side());
+    for r in legal_moves(guide.rays, position) {
+        if (r.origin == king) == is_king && !wins(guide, &after(position, r), k, memo)? {
+            return Ok(true);
+        }
+    }
+    Ok(false)
 }

@@ -1,10 +1,15 @@
-use Rattle.std.proofs.Common.{◌≡◌, ◌-◌, refl, sym, ap, ◌∙◌, arith, rules}
+use Rattle.std.proofs.Common.{◌≡◌, ◌-◌, not, refl, sym, ap, ◌∙◌, arith, rules}
 use Rattle.chess_moves.specs.inside.Listing.{legal_moves}
 use Rattle.mate_search.specs.Wins.{win, lost}
-use Rattle.mate_search.proofs.Searches.{all_kept, some_kept}
+use Rattle.std.specs.List.{list_all}
+use Rattle.mate_search.proofs.Searches.{all_kept}
 use Rattle.mate_search.proofs.Wins.{all_legal, refuted_by, refuted_by_next, some_next, all_behind, win_by_next, no_win_left, win_none, lost_none}
 use Rattle.chess_board.specs.Legality.{is_legal}
 use Rattle.chess_board.specs.MakeMove.{after_setup}
+use Rattle.mate_search.proofs.Replies.{none_loses, refuted_by_men, all_replies, lost_by_all, goes_on}
+use denote.Enum.Bare.{sameb}
+use Rattle.chess_moves.specs.contracts.verdicts.Verdict.{the_type as verdict_type}
+use Rattle.chess_moves.specs.declared.verdicts.Verdict.TheVariants.{Stalemate}
 use Rattle.mate_search.proofs.Known.{win_within_more, no_win_within_fewer, least_found}
 use Rattle.mate_search.proofs.searching.+search.Goals as goal
 
@@ -43,13 +48,12 @@ is_refuted_by_capture-loop-r-init t g c =
     c.into_iter-r-iterator.ensures.into_iter_gives ∙ c.legal_moves-r-items.ensures.moves in
     record { all = rw moves (λ e. e); some = rw moves (λ e. e); legal = rw moves (all_legal c.args.position.now); room = refl }
 
-pub is_refuted_by_others-loop-r-init : goal.is_refuted_by_others-loop-r-init
-is_refuted_by_others-loop-r-init t g c =
+pub each_loses-loop-r-init : goal.each_loses-loop-r-init
+each_loses-loop-r-init t g c =
     let moves = legal_moves c.args.position.now in
     let kept = c.into_iter-r-iterator.ensures.into_iter_gives ∙ c.legal_moves_of-r-items.ensures in
     record {
-      all = all_kept (λ r. win c.args.k (after_setup c.args.position.now r)) _ moves c.into_iter-r-iterator.result kept;
-      some = some_kept _ moves c.into_iter-r-iterator.result kept;
+      all = ap (list_all (λ r. win c.args.k (after_setup c.args.position.now r))) kept;
       legal = all_kept (is_legal c.args.position.now) _ moves c.into_iter-r-iterator.result kept (all_legal c.args.position.now);
       room = refl;
     }
@@ -81,12 +85,6 @@ is_refuted_by_capture-returns-then-not-branch-clause-refuted t g c = λ _.
     c.in-Some.ensures.steps c.loop-r.invariant.all c.loop-r.invariant.some
     (ap (win c.args.k) (sym c.after.ensures) ∙ sym c.in_ok-wins.ensures.found ∙ c.if-not-branch.true)
 
-pub is_refuted_by_others-returns-then-not-branch-clause-refuted : goal.is_refuted_by_others-returns-then-not-branch-clause-refuted
-is_refuted_by_others-returns-then-not-branch-clause-refuted t g c = λ _.
-    refuted_by_next c.args.k c.args.position.now c.loop-r.r-iterator c.next.new.self c.in-Some.r
-    c.in-Some.ensures.steps c.loop-r.invariant.all c.loop-r.invariant.some
-    (ap (win c.args.k) (sym c.after-next.ensures) ∙ sym c.in_ok-wins.ensures.found ∙ c.if-not-branch.true)
-
 pub is_refuted_by_check-returns-then-not-branch-clause-refuted : goal.is_refuted_by_check-returns-then-not-branch-clause-refuted
 is_refuted_by_check-returns-then-not-branch-clause-refuted t g c = λ _.
     refuted_by_next c.args.k c.args.position.now c.loop-r.r-iterator c.next.new.self c.in-Some.r
@@ -102,15 +100,6 @@ is_refuted_by_capture-loop-r-preserved t g c = record {
   room = search rules;
 }
 
-pub is_refuted_by_others-loop-r-preserved : goal.is_refuted_by_others-loop-r-preserved
-is_refuted_by_others-loop-r-preserved t g c = record {
-  all = λ e. all_behind (λ s. win c.args.k (after_setup c.args.position.now s)) c.loop-r.r-iterator c.next.new.self c.in-Some.r
-      c.in-Some.ensures.steps (c.loop-r.invariant.all e);
-  some = λ _. c.loop-r.invariant.some (some_next c.loop-r.r-iterator c.next.new.self c.in-Some.r c.in-Some.ensures.steps);
-  legal = all_behind (is_legal c.args.position.now) c.loop-r.r-iterator c.next.new.self c.in-Some.r c.in-Some.ensures.steps c.loop-r.invariant.legal;
-  room = search rules;
-}
-
 pub is_refuted_by_check-loop-r-preserved : goal.is_refuted_by_check-loop-r-preserved
 is_refuted_by_check-loop-r-preserved t g c = record {
   all = λ e. all_behind (λ s. win c.args.k (after_setup c.args.position.now s)) c.loop-r.r-iterator c.next.new.self c.in-Some.r
@@ -119,3 +108,22 @@ is_refuted_by_check-loop-r-preserved t g c = record {
   legal = all_behind (is_legal c.args.position.now) c.loop-r.r-iterator c.next.new.self c.in-Some.r c.in-Some.ensures.steps c.loop-r.invariant.legal;
   room = search rules;
 }
+
+pub each_loses-returns-then-men-eq0-clause-each : goal.each_loses-returns-then-men-eq0-clause-each
+each_loses-returns-then-men-eq0-clause-each t g c = sym (none_loses c.args.k c.args.position.now c.args.men c.if-men-eq0.true)
+
+pub loses_by_men-returns-then-not-branch-clause-lost : goal.loses_by_men-returns-then-not-branch-clause-lost
+loses_by_men-returns-then-not-branch-clause-lost t g c = sym (refuted_by_men c.args.k c.args.position.now c.others_of.result
+    (sym c.in_ok-each_loses.ensures.each ∙ c.if-not-branch.true))
+
+pub loses_by_men-returns-then-not-branch-2-clause-lost : goal.loses_by_men-returns-then-not-branch-2-clause-lost
+loses_by_men-returns-then-not-branch-2-clause-lost t g c = sym (refuted_by_men c.args.k c.args.position.now c.men-king.result
+    (sym c.in_ok-each_loses-2.ensures.each ∙ c.if-not-branch-2.true))
+
+pub loses_by_men-returns-clause-lost : goal.loses_by_men-returns-clause-lost
+loses_by_men-returns-clause-lost t g c =
+    let all = all_replies c.legal_listed.ensures c.args.k c.args.position.now c.side.result c.others_of.result c.men-king.result c.side.ensures.side
+    c.others_of.ensures c.men-king.ensures (sym c.in_ok-each_loses.ensures.each ∙ c.if-not-branch.false)
+    (sym c.in_ok-each_loses-2.ensures.each ∙ c.if-not-branch-2.false) in
+    c.ne.ensures ∙ ap (λ v. not (sameb verdict_type v Stalemate)) c.verdict.ensures ∙ goes_on c.args.position.now
+    ∙ sym (lost_by_all c.args.k c.args.position.now all)

@@ -6,6 +6,7 @@ use Rattle.chess_board.specs.Legality.{is_legal}
 use Rattle.chess_moves.specs.inside.Listing.{legal_moves}
 use Rattle.chess_moves.specs.Verdicts.{has_legal_move}
 use Rattle.mate_search.specs.Wins.{win, leaves_lost}
+use Rattle.mate_search.specs.inside.Replies.{each_loses}
 use Rattle.mate_search.proofs.searching.+search.Given as goal
 
 abbrev pub decreases-wins : goal.decreases-wins
@@ -38,8 +39,11 @@ decreases-is_refuted_by_check g l = 9 * l.k + 4
 abbrev pub decreases-is_refuted_by_capture : goal.decreases-is_refuted_by_capture
 decreases-is_refuted_by_capture g l = 9 * l.k + 4
 
-abbrev pub decreases-is_refuted_by_others : goal.decreases-is_refuted_by_others
-decreases-is_refuted_by_others g l = 9 * l.k + 4
+abbrev pub decreases-loses_by_men : goal.decreases-loses_by_men
+decreases-loses_by_men g l = 9 * l.k + 5
+
+abbrev pub decreases-each_loses : goal.decreases-each_loses
+decreases-each_loses g l = 9 * l.k + 4
 
 abbrev pub decreases-refutes : goal.decreases-refutes
 decreases-refutes g l = 9 * l.k + 4
@@ -88,12 +92,10 @@ invariant-is_refuted_by_check-loop-r g l = record {
   room : l.memo.room ≡ l.fn.memo.room;
 }
 
--- the same of those that no king makes
-abbrev pub invariant-is_refuted_by_others-loop-r : goal.invariant-is_refuted_by_others-loop-r
-invariant-is_refuted_by_others-loop-r g l = record {
-  all : list_all (λ r. win l.k (after_setup l.position r)) (legal_moves l.position) ≡ true
-      → list_all (λ r. win l.k (after_setup l.position r)) l.r-iterator ≡ true;
-  some : nat_lt 0 (length l.r-iterator) ≡ true → has_legal_move l.position ≡ true;
+-- each reply so far of these men loses
+abbrev pub invariant-each_loses-loop-r : goal.invariant-each_loses-loop-r
+invariant-each_loses-loop-r g l = record {
+  all : list_all (λ r. win l.k (after_setup l.position r)) l.r-iterator ≡ each_loses l.men l.k l.position;
   legal : list_all (is_legal l.position) l.r-iterator ≡ true;
   room : l.memo.room ≡ l.fn.memo.room;
 }

@@ -27,8 +27,8 @@ is_refuted_by_check-loop-r-init t g c =
     c.into_iter-r-iterator.ensures.into_iter_gives ∙ c.legal_moves-r-items.ensures.moves in
     rw moves (all_legal c.args.position.now)
 
-pub is_refuted_by_others-loop-r-init : goal.is_refuted_by_others-loop-r-init
-is_refuted_by_others-loop-r-init t g c =
+pub is_refuted_by_men-loop-r-init : goal.is_refuted_by_men-loop-r-init
+is_refuted_by_men-loop-r-init t g c =
     let moves : c.into_iter-r-iterator.result ≡ legal_moves c.args.position.now =
     c.into_iter-r-iterator.ensures.into_iter_gives ∙ c.legal_moves-r-items.ensures.moves in
     rw moves (all_legal c.args.position.now)

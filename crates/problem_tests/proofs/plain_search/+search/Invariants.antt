@@ -36,8 +36,11 @@ decreases-is_refuted_by_check g l = 9 * l.k + 4
 abbrev pub decreases-is_refuted_by_capture : goal.decreases-is_refuted_by_capture
 decreases-is_refuted_by_capture g l = 9 * l.k + 4
 
-abbrev pub decreases-is_refuted_by_others : goal.decreases-is_refuted_by_others
-decreases-is_refuted_by_others g l = 9 * l.k + 4
+abbrev pub decreases-loses_by_men : goal.decreases-loses_by_men
+decreases-loses_by_men g l = 9 * l.k + 5
+
+abbrev pub decreases-is_refuted_by_men : goal.decreases-is_refuted_by_men
+decreases-is_refuted_by_men g l = 9 * l.k + 4
 
 abbrev pub decreases-refutes : goal.decreases-refutes
 decreases-refutes g l = 9 * l.k + 4
@@ -55,5 +58,5 @@ invariant-is_refuted_by_capture-loop-r g l = list_all (is_legal l.position) l.r-
 abbrev pub invariant-is_refuted_by_check-loop-r : goal.invariant-is_refuted_by_check-loop-r
 invariant-is_refuted_by_check-loop-r g l = list_all (is_legal l.position) l.r-iterator ≡ true
 
-abbrev pub invariant-is_refuted_by_others-loop-r : goal.invariant-is_refuted_by_others-loop-r
-invariant-is_refuted_by_others-loop-r g l = list_all (is_legal l.position) l.r-iterator ≡ true
+abbrev pub invariant-is_refuted_by_men-loop-r : goal.invariant-is_refuted_by_men-loop-r
+invariant-is_refuted_by_men-loop-r g l = list_all (is_legal l.position) l.r-iterator ≡ true
