@@ -99,9 +99,3 @@ pub heed_more : (answers : ℕ → ℕ → Bool → Type 0) (benches bs all cs :
     → all ≡ cs ++ c ∷ [] → number ≡ length bs → AllHeed answers 0 bs cs → HeedsAll (answers number) b c → AllHeed answers 0 benches all
 heed_more answers benches bs all cs b c number p q r rest one =
     rw (p, q) (heed_snoc answers 0 bs cs b c rest (subst (λ k. HeedsAll (answers k) b c) (omega (arith, r)) one))
-
--- The first bench, when it is alone.
-pub heed_one : (answers : ℕ → ℕ → Bool → Type 0) (benches bs all : List Bench) (b c : Bench) (number : ℕ) → benches ≡ bs ++ b ∷ []
-    → all ≡ bs ++ c ∷ [] → number ≡ length bs → number ≡ 0 → HeedsAll (answers number) b c → AllHeed answers 0 benches all
-heed_one answers benches [] all b c number p q r none one = heed_more answers benches [] all [] b c number p q r tt one
-heed_one answers benches (a ∷ bs) all b c number p q r none one = absurd (omega (arith, r, none))

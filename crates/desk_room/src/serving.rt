@@ -61,6 +61,7 @@ struct Ended {
 }
 
 /// Runs the benches beside the windows.
+// The tools are taken apart here and below, since a closure that captures the struct would ensure nothing.
 fn run_ends<R: Threads + Wait + Sync, G: Gate>(
     rt: &R,
     alloc: Global,
@@ -74,7 +75,6 @@ fn run_ends<R: Threads + Wait + Sync, G: Gate>(
     ensures reports { IfOk result.reports (λ all. AllReport windows.items (map (λ v. v.items) inputs.now) all.items) }
     ensures benches { IfOk result.benches (λ all. AllHeed (G.answers tools.now.gate.now) 0 benches.items all.items) }
 {
-    // A closure that captures the struct would ensure nothing.
     let BenchTools {
         rays,
         entries,
@@ -136,7 +136,6 @@ fn run<R: Threads + Wait + Sync, G: Gate>(
         benches,
     } = room;
     let most = windows.len();
-    // A closure that captures the struct would ensure nothing.
     let BenchTools {
         rays,
         entries,

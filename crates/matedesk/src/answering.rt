@@ -1,9 +1,10 @@
 //! The program: words in, text and a status out.
 
-ghost use Rattle.std.specs.Prelude.{◌≡◌, ◌⊎◌, None, map, true, false};
+ghost use Rattle.std.specs.Prelude.{◌≡◌, ◌⊎◌, None, map, option_map, true, false};
 ghost use Rattle.std.specs.String.{string_bytes};
 ghost use Rattle.command_words.specs.Asked.{asked, asks_display, asks_threads, may_display};
-ghost use Rattle.plain_commands.specs.Command.{EndsBy};
+ghost use Rattle.command_words.specs.Request.{plan_of};
+ghost use Rattle.plain_commands.specs.Command.{Ends, EndsBy};
 
 use crate::in_time::answer_in_time;
 use crate::serving::serve;
@@ -25,10 +26,59 @@ use std::sync::Wait;
 use std::thread::Threads;
 use std::time::Clock;
 
-/// Answers words that ask for `serve`, `uci`, `--workers` or `--limit`. That they were parsed before shows that they are no fault:
-/// what is refused now is memory.
+/// Answers a request that starts threads.
 // Its own frame: these commands have large values, which would lie on the stack of all others, too.
 #[inline(never)]
+fn threaded_request<
+    R: Threads + Wait + Clock + Sync + Clone + Drop + Send + 'static,
+    S: Source,
+    O: Write,
+    E: Write,
+>(rt: &R, alloc: Global, request: &Option<Request>, source: &S, out: &mut O, err: &mut E) -> u8
+where
+    S::File: Send,
+    requires threads { asks_threads (option_map plan_of request.now) ≡ true }
+    ensures { Ends (S.holds source.now) (S.refuses source.now) (option_map plan_of request.now) result
+        (O.contents out.old) (O.contents out.new) }
+{
+    match request {
+        Some(Request::Serve(asked)) => serve(rt, alloc, asked, source, out, err),
+        Some(Request::SolveOn(asked)) => solve_on(rt, alloc, asked, source, out, err),
+        Some(Request::SolveJsonOn(asked)) => solve_json_on(rt, alloc, asked, source, out, err),
+        Some(Request::VerifyOn(asked)) => verify_on(rt, alloc, asked, source, out, err),
+        Some(Request::TreeOn(asked)) => tree_on(rt, alloc, asked, source, out, err),
+        Some(Request::Limited(seconds, asked)) => {
+            let seconds = *seconds;
+            let command = SolveInTime { rt, seconds, asked };
+            answer_in_time(rt, alloc, &command, source, out, err)
+        }
+        Some(Request::LimitedJson(seconds, asked)) => {
+            let seconds = *seconds;
+            let command = SolveJsonInTime { rt, seconds, asked };
+            answer_in_time(rt, alloc, &command, source, out, err)
+        }
+        Some(Request::VerifyLimited(seconds, asked)) => {
+            let seconds = *seconds;
+            let command = VerifyInTime { rt, seconds, asked };
+            answer_in_time(rt, alloc, &command, source, out, err)
+        }
+        Some(Request::VerifyLimitedJson(seconds, asked)) => {
+            let seconds = *seconds;
+            let command = VerifyJsonInTime { seconds, asked };
+            answer_in_time(rt, alloc, &command, source, out, err)
+        }
+        Some(Request::TreeLimited(seconds, asked)) => {
+            let seconds = *seconds;
+            let command = TellInTime { seconds, asked };
+            tell_in_time(rt, alloc, &command, source, out, err)
+        }
+        Some(Request::Uci) => talk(rt, alloc, source, out, err),
+        _ => unreachable!(),
+    }
+}
+
+/// Answers words that ask for `serve`, `uci`, `--workers` or `--limit`. That they were parsed before shows that they are no fault:
+/// what is refused now is memory.
 fn threaded_command<
     R: Threads + Wait + Clock + Sync + Clone + Drop + Send + 'static,
     S: Source,
@@ -60,41 +110,7 @@ where
         return no_memory(err);
     };
     given.are_texts = gives_records(&matches);
-    let request = request_of(&matches);
-    match &request {
-        Some(Request::Serve(asked)) => serve(rt, alloc, asked, &given, out, err),
-        Some(Request::SolveOn(asked)) => solve_on(rt, alloc, asked, &given, out, err),
-        Some(Request::SolveJsonOn(asked)) => solve_json_on(rt, alloc, asked, &given, out, err),
-        Some(Request::VerifyOn(asked)) => verify_on(rt, alloc, asked, &given, out, err),
-        Some(Request::TreeOn(asked)) => tree_on(rt, alloc, asked, &given, out, err),
-        Some(Request::Limited(seconds, asked)) => {
-            let seconds = *seconds;
-            let command = SolveInTime { rt, seconds, asked };
-            answer_in_time(rt, alloc, &command, &given, out, err)
-        }
-        Some(Request::LimitedJson(seconds, asked)) => {
-            let seconds = *seconds;
-            let command = SolveJsonInTime { rt, seconds, asked };
-            answer_in_time(rt, alloc, &command, &given, out, err)
-        }
-        Some(Request::VerifyLimited(seconds, asked)) => {
-            let seconds = *seconds;
-            let command = VerifyInTime { rt, seconds, asked };
-            answer_in_time(rt, alloc, &command, &given, out, err)
-        }
-        Some(Request::VerifyLimitedJson(seconds, asked)) => {
-            let seconds = *seconds;
-            let command = VerifyJsonInTime { seconds, asked };
-            answer_in_time(rt, alloc, &command, &given, out, err)
-        }
-        Some(Request::TreeLimited(seconds, asked)) => {
-            let seconds = *seconds;
-            let command = TellInTime { seconds, asked };
-            tell_in_time(rt, alloc, &command, &given, out, err)
-        }
-        Some(Request::Uci) => talk(rt, alloc, &given, out, err),
-        _ => unreachable!(),
-    }
+    threaded_request(rt, alloc, &request_of(&matches), &given, out, err)
 }
 
 /// Answers what the words ask for.

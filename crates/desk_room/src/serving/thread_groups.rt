@@ -106,31 +106,26 @@ impl<'a, G: Gate> Promise<Result<Vec<Bench>, AllocError>> for BenchesOf<'a, G> {
     ghost kept_by = { λ p r. IfOk r (λ all. AllHeed (G.answers p.gate.now) 0 p.benches.value.items all.items) };
 }
 
-/// Runs each bench, known to the gate by its place: the last in this thread, beside a thread for the others.
+/// Runs a bench in this thread, beside a thread for those before it.
 #[cycle(benches)]
-pub(crate) fn run_benches<R: Threads + Wait + Sync, G: Gate>(
+fn run_beside<R: Threads + Wait + Sync, G: Gate>(
     rt: &R,
     alloc: Global,
-    mut benches: Vec<Bench>,
+    bench: Bench,
+    benches: Vec<Bench>,
     tools: &BenchTools<'_, G>,
-) -> Result<Vec<Bench>, AllocError>
-    ensures { IfOk result (λ all. AllHeed (G.answers tools.now.gate.now) 0 benches.items all.items) }
+) -> (Bench, Result<Vec<Bench>, AllocError>)
+    ensures bench { HeedsAll (G.answers tools.now.gate.now (vec_len benches)) bench result.0 }
+    ensures benches { IfOk result.1 (λ all. AllHeed (G.answers tools.now.gate.now) 0 benches.items all.items) }
 {
-    let Some(mut bench) = benches.pop() else {
-        return Ok(Vec::new(alloc));
-    };
     let number = benches.len();
-    if number == 0 {
-        run_bench(rt, alloc, &mut bench, number, tools);
-        return with_one(benches, bench);
-    }
     let BenchTools {
         rays,
         entries,
         gate,
         signals,
     } = *tools;
-    let (mine, theirs) = thread::scope(
+    thread::scope(
         thread::scope_env(),
         rt,
         move |scope| -> (Bench, Result<Vec<Bench>, AllocError>)
@@ -162,6 +157,26 @@ pub(crate) fn run_benches<R: Threads + Wait + Sync, G: Gate>(
                 }
             }
         },
-    );
+    )
+}
+
+/// Runs each bench, known to the gate by its place: the last in this thread, beside a thread for the others.
+#[cycle(benches)]
+pub(crate) fn run_benches<R: Threads + Wait + Sync, G: Gate>(
+    rt: &R,
+    alloc: Global,
+    mut benches: Vec<Bench>,
+    tools: &BenchTools<'_, G>,
+) -> Result<Vec<Bench>, AllocError>
+    ensures { IfOk result (λ all. AllHeed (G.answers tools.now.gate.now) 0 benches.items all.items) }
+{
+    let Some(mut bench) = benches.pop() else {
+        return Ok(Vec::new(alloc));
+    };
+    if benches.is_empty() {
+        run_bench(rt, alloc, &mut bench, 0, tools);
+        return with_one(benches, bench);
+    }
+    let (mine, theirs) = run_beside(rt, alloc, bench, benches, tools);
     with_one(theirs?, mine)
 }
