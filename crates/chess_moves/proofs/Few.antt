@@ -17,8 +17,9 @@ use Rattle.chess_board.specs.Moves.{Move}
 use Rattle.chess_board.specs.PseudoLegal.{last_rank, pawn_goes, goes, promotes}
 use Rattle.chess_board.specs.Legality.{is_legal}
 use Rattle.chess_moves.specs.inside.Listing.{move_of, promotions, moves_between, moves_to, moves_below, legal_moves}
+use Rattle.chess_moves.specs.inside.Shifts.{rank_before}
 use Rattle.chess_moves.proofs.Played.{not_own, not_suited, not_gone}
-use Rattle.chess_moves.proofs.PawnSteps.{rank_before, pawn_before}
+use Rattle.chess_moves.proofs.PawnSteps.{pawn_before}
 use Rattle.chess_moves.proofs.Sieve.{many, kept, promotions_kept, many-promotions, between_kept, many-between, many-to_more, many-below_more}
 
 -- From one square to another.

@@ -45,6 +45,16 @@ pub has-first : (s : ℕ) → s < 64 → has 255 s ≡ eqb (rank_of s) 0
 unfolding all_below
 has-first s l = same_equal (has 255 s) (eqb (rank_of s) 0) (each (λ t. same (has 255 t) (eqb (rank_of t) 0)) 64 s refl l)
 
+-- and those before them, from which pawns go there
+pub has-seventh : (s : ℕ) → s < 64 → has 71776119061217280 s ≡ eqb (rank_of s) 6
+unfolding all_below
+has-seventh s l = same_equal (has 71776119061217280 s) (eqb (rank_of s) 6)
+    (each (λ t. same (has 71776119061217280 t) (eqb (rank_of t) 6)) 64 s refl l)
+
+pub has-second : (s : ℕ) → s < 64 → has 65280 s ≡ eqb (rank_of s) 1
+unfolding all_below
+has-second s l = same_equal (has 65280 s) (eqb (rank_of s) 1) (each (λ t. same (has 65280 t) (eqb (rank_of t) 1)) 64 s refl l)
+
 module _ (man : Man) (o set last : ℕ) (is : (t : ℕ) → t < 64 → has last t ≡ promotes man t) where
   many_to : (t : ℕ) → t < 64 → length (cond (has set t) (ways man o t) []) ≡ cond (has set t) 1 0 + 3 * cond (has (bit_and set last) t) 1 0
   many_to t l = rw (has_and set last t) (rw (is t l) (one (has set t) (promotes man t)))

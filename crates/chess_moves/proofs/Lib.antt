@@ -58,6 +58,8 @@ pub mod SpecialMoves
 pub mod SeenBack
 pub mod Narrowed
 pub mod AttackedSets
+mod InLine
+pub mod MatingMen
 pub mod EmptyLines
 pub mod FlightSquares
 pub mod SliderSights

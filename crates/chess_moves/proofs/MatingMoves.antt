@@ -22,6 +22,7 @@ use Rattle.chess_moves.specs.Verdicts.{is_mate, mating_moves}
 use Rattle.chess_moves.proofs.Few.{few_legal}
 use Rattle.chess_moves.proofs.Listed.{between_in, to_in}
 use Rattle.chess_moves.proofs.Members.{flat_map-below_suc}
+use Rattle.chess_moves.proofs.MatingMen.{AreMatingMen}
 use Rattle.chess_moves.proofs.Narrowed.{AreMateSquares}
 use Rattle.chess_moves.proofs.SetBits.{has_and, has_none}
 use Rattle.chess_moves.proofs.Walks.{first_man, legal_of_men, legal_to}
@@ -36,28 +37,28 @@ none_listed f g (x ∷ xs) h =
       | false ↦ λ e. rest
     ]) refl
 
-listed_narrowed : (f : Move → Bool) (man : Man) (o set targets n : ℕ)
-    → ((t : ℕ) → t < n → has targets t ≡ true → has set t ≡ false → filter f (ways man o t) ≡ [])
-    → filter f (flat_map (ways man o) (members_below (bit_and set targets) n)) ≡ filter f (flat_map (ways man o) (members_below targets n))
+listed_narrowed : (f : Move → Bool) (ways : ℕ → List Move) (set targets n : ℕ)
+    → ((t : ℕ) → t < n → has targets t ≡ true → has set t ≡ false → filter f (ways t) ≡ [])
+    → filter f (flat_map ways (members_below (bit_and set targets) n)) ≡ filter f (flat_map ways (members_below targets n))
 unfolding members_below
-listed_narrowed f man o set targets zero h = refl
-listed_narrowed f man o set targets (suc n) h =
-    ap (filter f) (flat_map-below_suc (ways man o) (bit_and set targets) n)
-    ∙ filter-append f (flat_map (ways man o) (members_below (bit_and set targets) n)) (cond (has (bit_and set targets) n) (ways man o n) [])
-    ∙ ap (λ (ms : List Move). ms ++ filter f (cond (has (bit_and set targets) n) (ways man o n) []))
-    (listed_narrowed f man o set targets n (λ t l. h t (omega arith)))
-    ∙ ap (λ (ms : List Move). filter f (flat_map (ways man o) (members_below targets n)) ++ ms) last
-    ∙ sym (ap (filter f) (flat_map-below_suc (ways man o) targets n)
-    ∙ filter-append f (flat_map (ways man o) (members_below targets n)) (cond (has targets n) (ways man o n) []))
+listed_narrowed f ways set targets zero h = refl
+listed_narrowed f ways set targets (suc n) h =
+    ap (filter f) (flat_map-below_suc ways (bit_and set targets) n)
+    ∙ filter-append f (flat_map ways (members_below (bit_and set targets) n)) (cond (has (bit_and set targets) n) (ways n) [])
+    ∙ ap (λ (ms : List Move). ms ++ filter f (cond (has (bit_and set targets) n) (ways n) []))
+    (listed_narrowed f ways set targets n (λ t l. h t (omega arith)))
+    ∙ ap (λ (ms : List Move). filter f (flat_map ways (members_below targets n)) ++ ms) last
+    ∙ sym (ap (filter f) (flat_map-below_suc ways targets n)
+    ∙ filter-append f (flat_map ways (members_below targets n)) (cond (has targets n) (ways n) []))
   where
-    cases : (s t : Bool) → (t ≡ true → s ≡ false → filter f (ways man o n) ≡ [])
-        → filter f (cond (s && t) (ways man o n) []) ≡ filter f (cond t (ways man o n) [])
+    cases : (s t : Bool) → (t ≡ true → s ≡ false → filter f (ways n) ≡ [])
+        → filter f (cond (s && t) (ways n) []) ≡ filter f (cond t (ways n) [])
     cases true t k = refl
     cases false true k = sym (k refl refl)
     cases false false k = refl
 
-    last : filter f (cond (has (bit_and set targets) n) (ways man o n) []) ≡ filter f (cond (has targets n) (ways man o n) [])
-    last = ap (λ x. filter f (cond x (ways man o n) [])) (has_and set targets n) ∙ cases (has set n) (has targets n) (h n (omega arith))
+    last : filter f (cond (has (bit_and set targets) n) (ways n) []) ≡ filter f (cond (has targets n) (ways n) [])
+    last = ap (λ x. filter f (cond x (ways n) [])) (has_and set targets n) ∙ cases (has set n) (has targets n) (h n (omega arith))
 
 module _ (p : Setup) (man : Man) (o set targets : ℕ) (quiet : AreMateSquares set p o) where
   -- Where there are no squares to which a move may mate, none does.
@@ -71,7 +72,7 @@ module _ (p : Setup) (man : Man) (o set targets : ℕ) (quiet : AreMateSquares s
       → filter (λ m. is_mate (after_setup p m)) (flat_map (ways man o) (members (bit_and set targets))) ≡ mates_of p o
   unfolding members
   narrowed_list are =
-      listed_narrowed (λ m. is_mate (after_setup p m)) man o set targets 64 (λ t l there out.
+      listed_narrowed (λ m. is_mate (after_setup p m)) (ways man o) set targets 64 (λ t l there out.
       let kept : filter (is_legal p) (moves_between o t) ≡ ways man o t = rw there at (are t l) in
       rw (← kept) (none_listed (λ m. is_mate (after_setup p m)) (is_legal p) (moves_between o t) (λ m c legal.
       let at = between_in o t m c in
@@ -86,11 +87,16 @@ first_mates p set o rest split =
     ap (filter (λ m. is_mate (after_setup p m))) (first_man p set o rest split)
     ∙ filter-append (λ m. is_mate (after_setup p m)) (filter (is_legal p) (moves_to o 64)) (moves_of_men p (members rest))
 
--- They are the mating moves of the men of the side to move.
-pub mates_of_men : (p : Setup) (own : ℕ) → IsSetOf own (is_of p.side) p.men
-    → filter (λ m. is_mate (after_setup p m)) (moves_of_men p (members own)) ≡ mating_moves p
-unfolding mating_moves
-mates_of_men p own is = ap (filter (λ m. is_mate (after_setup p m))) (sym (legal_of_men p own is))
+-- They are the mating moves of the men of the side to move, and of some of them where no other mates.
+pub mates_of_men : (p : Setup) (asked own : ℕ) → IsSetOf own (is_of p.side) p.men → AreMatingMen asked p
+    → filter (λ m. is_mate (after_setup p m)) (moves_of_men p (members (bit_and asked own))) ≡ mating_moves p
+unfolding mating_moves members
+mates_of_men p asked own is quiet =
+    listed_narrowed (λ m. is_mate (after_setup p m)) (λ o. filter (is_legal p) (moves_to o 64)) asked own 64 (λ o l there out.
+    none_listed (λ m. is_mate (after_setup p m)) (is_legal p) (moves_to o 64) (λ m c legal.
+    let at = to_in o 64 m c in
+    quiet m legal (rw at.0 l) at.1 (ap (has asked) at.0 ∙ out)))
+    ∙ ap (filter (λ m. is_mate (after_setup p m))) (sym (legal_of_men p own is))
 
 fewer_kept : (f : Move → Bool) (xs : List Move) → length (filter f xs) ≤ length xs
 fewer_kept f [] = omega arith

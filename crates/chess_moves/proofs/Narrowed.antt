@@ -24,7 +24,7 @@ use Rattle.chess_moves.proofs.SetBits.{has_and, has_none}
 use Rattle.chess_moves.proofs.Walks.{legal_to}
 
 -- No move of the list that passes the one test passes the other.
-none_kept : (f g : Move → Bool) (xs : List Move) → ((m : Move) → Contains xs m → g m ≡ true → f m ≡ false) → list_any f (filter g xs) ≡ false
+pub none_kept : (f g : Move → Bool) (xs : List Move) → ((m : Move) → Contains xs m → g m ≡ true → f m ≡ false) → list_any f (filter g xs) ≡ false
 none_kept f g [] h = refl
 none_kept f g (x ∷ xs) h =
     let rest = none_kept f g xs (λ m c. h m (Contains-append_right (x ∷ []) xs m c)) in
@@ -33,27 +33,27 @@ none_kept f g (x ∷ xs) h =
       | false ↦ λ e. rest
     ]) refl
 
-any_narrowed : (f : Move → Bool) (man : Man) (o set targets n : ℕ)
-    → ((t : ℕ) → t < n → has targets t ≡ true → has set t ≡ false → list_any f (ways man o t) ≡ false)
-    → list_any f (flat_map (ways man o) (members_below (bit_and set targets) n)) ≡ list_any f (flat_map (ways man o) (members_below targets n))
+pub any_narrowed : (f : Move → Bool) (ways : ℕ → List Move) (set targets n : ℕ)
+    → ((t : ℕ) → t < n → has targets t ≡ true → has set t ≡ false → list_any f (ways t) ≡ false)
+    → list_any f (flat_map ways (members_below (bit_and set targets) n)) ≡ list_any f (flat_map ways (members_below targets n))
 unfolding members_below
-any_narrowed f man o set targets zero h = refl
-any_narrowed f man o set targets (suc n) h =
-    ap (list_any f) (flat_map-below_suc (ways man o) (bit_and set targets) n)
-    ∙ list_any-append f (flat_map (ways man o) (members_below (bit_and set targets) n)) (cond (has (bit_and set targets) n) (ways man o n) [])
-    ∙ ap (λ x. x || list_any f (cond (has (bit_and set targets) n) (ways man o n) [])) (any_narrowed f man o set targets n (λ t l. h t (omega arith)))
-    ∙ ap (λ x. list_any f (flat_map (ways man o) (members_below targets n)) || x) last
-    ∙ sym (ap (list_any f) (flat_map-below_suc (ways man o) targets n)
-    ∙ list_any-append f (flat_map (ways man o) (members_below targets n)) (cond (has targets n) (ways man o n) []))
+any_narrowed f ways set targets zero h = refl
+any_narrowed f ways set targets (suc n) h =
+    ap (list_any f) (flat_map-below_suc ways (bit_and set targets) n)
+    ∙ list_any-append f (flat_map ways (members_below (bit_and set targets) n)) (cond (has (bit_and set targets) n) (ways n) [])
+    ∙ ap (λ x. x || list_any f (cond (has (bit_and set targets) n) (ways n) [])) (any_narrowed f ways set targets n (λ t l. h t (omega arith)))
+    ∙ ap (λ x. list_any f (flat_map ways (members_below targets n)) || x) last
+    ∙ sym (ap (list_any f) (flat_map-below_suc ways targets n)
+    ∙ list_any-append f (flat_map ways (members_below targets n)) (cond (has targets n) (ways n) []))
   where
-    cases : (s t : Bool) → (t ≡ true → s ≡ false → list_any f (ways man o n) ≡ false)
-        → list_any f (cond (s && t) (ways man o n) []) ≡ list_any f (cond t (ways man o n) [])
+    cases : (s t : Bool) → (t ≡ true → s ≡ false → list_any f (ways n) ≡ false)
+        → list_any f (cond (s && t) (ways n) []) ≡ list_any f (cond t (ways n) [])
     cases true t k = refl
     cases false true k = sym (k refl refl)
     cases false false k = refl
 
-    last : list_any f (cond (has (bit_and set targets) n) (ways man o n) []) ≡ list_any f (cond (has targets n) (ways man o n) [])
-    last = ap (λ x. list_any f (cond x (ways man o n) [])) (has_and set targets n) ∙ cases (has set n) (has targets n) (h n (omega arith))
+    last : list_any f (cond (has (bit_and set targets) n) (ways n) []) ≡ list_any f (cond (has targets n) (ways n) [])
+    last = ap (λ x. list_any f (cond x (ways n) [])) (has_and set targets n) ∙ cases (has set n) (has targets n) (h n (omega arith))
 
 all_narrowed : (f : Move → Bool) (man : Man) (o set targets n : ℕ) → ((t : ℕ) → t < n → has targets t ≡ true → list_all f (ways man o t) ≡ true)
     → list_all f (flat_map (ways man o) (members_below (bit_and set targets) n)) ≡ true
@@ -79,22 +79,33 @@ abbrev pub AreMateSquares : ℕ → Setup → ℕ → Type 0
 AreMateSquares set p o = (m : Move) → is_legal p m ≡ true → m.origin ≡ o → m.target < 64
     → has set m.target ≡ false → is_mate (after_setup p m) ≡ false
 
--- So only a move from the one to the other may mate.
-pub mate_squares : (p : Setup) (man : Man) (o checks goals : ℕ) → man_at p.men o ≡ Some man → AreCheckSquares checks p o
-    → ((t : ℕ) → t < 64 → goes p man.colour man.kind o t ≡ true → has goals t ≡ true) → AreMateSquares (bit_and checks goals) p o
-mate_squares p man o checks goals there check reached m legal at t_on out =
+-- A move without check does not mate.
+pub mate_squares : (p : Setup) (o checks : ℕ) → AreCheckSquares checks p o → AreMateSquares checks p o
+mate_squares p o checks check m legal at t_on out = no_mate p m (check m legal at t_on out)
+
+-- Of these squares those to which the man goes.
+pub gone_squares : (p : Setup) (man : Man) (o set goals : ℕ) → man_at p.men o ≡ Some man → AreMateSquares set p o
+    → ((t : ℕ) → t < 64 → goes p man.colour man.kind o t ≡ true → has goals t ≡ true) → AreMateSquares (bit_and set goals) p o
+gone_squares p man o set goals there quiet reached m legal at t_on out =
     let by = played p m legal in
     let here : man_at p.men m.origin ≡ Some man = ap (man_at p.men) at ∙ there in
     let same : by.0 ≡ man = let is = by.1.there in cc in
     let gone : goes p man.colour man.kind o m.target ≡ true = ap (λ s. goes p man.colour man.kind s m.target) (sym at)
     ∙ ap (λ (x : Man). goes p x.colour x.kind m.origin m.target) (sym same) ∙ by.1.goes in
-    no_mate p m (check m legal at t_on (cases (has checks m.target) (has goals m.target)
-    (sym (has_and checks goals m.target) ∙ out) (reached m.target t_on gone)))
+    quiet m legal at t_on (cases (has set m.target) (has goals m.target) (sym (has_and set goals m.target) ∙ out) (reached m.target t_on gone))
   where
     cases : (x y : Bool) → (x && y) ≡ false → y ≡ true → x ≡ false
     cases true true e f = e
     cases true false e f = cc
     cases false y e f = refl
+
+-- Only a move to both may mate.
+pub both_squares : (p : Setup) (o a b : ℕ) → AreMateSquares a p o → AreMateSquares b p o → AreMateSquares (bit_and a b) p o
+both_squares p o a b first second m legal at t_on out =
+    (elim (has a m.target) as (λ x. has a m.target ≡ x → is_mate (after_setup p m) ≡ false) [
+      | false ↦ λ e. first m legal at t_on e
+      | true ↦ λ e. second m legal at t_on (ap (λ x. x && has b m.target) (sym e) ∙ sym (has_and a b m.target) ∙ out)
+    ]) refl
 
 -- Fewer squares, where moves to those that were dropped do not mate.
 pub fewer_squares : (p : Setup) (o candidates set : ℕ) → AreMateSquares candidates p o
@@ -120,7 +131,7 @@ module _ (p : Setup) (man : Man) (o set targets : ℕ) (quiet : AreMateSquares s
       ≡ list_any (λ m. is_mate (after_setup p m)) (filter (is_legal p) (moves_to o 64))
   unfolding members
   narrowed_mates are =
-      any_narrowed (λ m. is_mate (after_setup p m)) man o set targets 64 (λ t l there out.
+      any_narrowed (λ m. is_mate (after_setup p m)) (ways man o) set targets 64 (λ t l there out.
       let kept : filter (is_legal p) (moves_between o t) ≡ ways man o t = rw there at (are t l) in
       rw (← kept) (none_kept (λ m. is_mate (after_setup p m)) (is_legal p) (moves_between o t) (λ m c legal.
       let at = between_in o t m c in

@@ -11,11 +11,7 @@ use Rattle.chess_board.specs.Positions.{Setup, man_at, is_empty}
 use Rattle.chess_board.specs.Attacks.{is_forward, attacks_as}
 use Rattle.chess_board.specs.PseudoLegal.{second_rank, last_rank, steps_once, steps_twice, takes, pawn_goes}
 use Rattle.chess_board.specs.EnPassant.{is_square, takes_en_passant}
-
--- the rank before the last
-unfoldable pub rank_before : Colour → ℕ
-rank_before White = 6
-rank_before Black = 1
+use Rattle.chess_moves.specs.inside.Shifts.{rank_before}
 
 abbrev pub FromBefore : Colour → ℕ → ℕ → Type 0
 FromBefore c o t = (rank_of t ≡ last_rank c → rank_of o ≡ rank_before c) × (rank_of o ≡ rank_before c → rank_of t ≡ last_rank c)

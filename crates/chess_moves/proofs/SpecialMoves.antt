@@ -37,7 +37,7 @@ plain_pawn p man m legal there pawn last passed = none_special p man m
     (and_right (is_pawn_kind man.kind) (is_square p.target m.target) passed)
     (and_left (is_king_kind man.kind) (eqb (file_gap m.origin m.target) 2) (ap is_king_kind pawn))
 
-same_side : (a b : Colour) → is_colour a b ≡ true → a ≡ b
+pub same_side : (a b : Colour) → is_colour a b ≡ true → a ≡ b
 same_side White White h = refl
 same_side White Black h = absurd (cc)
 same_side Black White h = absurd (cc)

@@ -5,13 +5,16 @@ ghost use Rattle.square_sets.specs.Members.{has};
 ghost use Rattle.chess_board.specs.MakeMove.{after_setup};
 ghost use Rattle.chess_board.specs.Legality.{is_legal};
 ghost use Rattle.chess_board.specs.Moves.{Move as MoveValue};
-ghost use Rattle.chess_moves.specs.inside.Flights.{AreFlightsOf, leaves_flight};
+ghost use Rattle.chess_board.specs.declared.men.Man.{Man as ManValue};
+ghost use Rattle.chess_board.specs.Positions.{man_at};
+ghost use Rattle.chess_moves.specs.inside.CheckSquares.{is_special as is_special_move};
+ghost use Rattle.chess_moves.specs.inside.Flights.{AreFlightsOf, AreLastingOf, leaves_flight};
 ghost use Rattle.chess_moves.specs.inside.Hits.{hits_as};
 ghost use Rattle.chess_moves.specs.Verdicts.{is_mate};
 ghost use Rattle.chess_moves.specs.inside.LegalityInfo.{IsLegalityInfo};
 ghost use Rattle.chess_moves.specs.inside.Movers.{IsMoverOf};
 
-use crate::attacked_sets::attacked_squares;
+use crate::attacked_sets::{attacked_squares, squares_in_line};
 use crate::attackers::is_hit_over;
 use crate::check_squares::special_squares;
 use crate::directions::Leap;
@@ -61,6 +64,52 @@ fn flights_of(info: &LegalityInfo) -> Flights
         king,
         squares: info.rays.leap(king, Leap::KingStep) & !enemies & !attacked,
     }
+}
+
+/// The flights of a position that are in line with no man of the side to move: a move leaves each of them to the king but where the man that
+/// moved attacks it. They are told without what stands on the board, and so sooner than all.
+pub(crate) fn lasting_flights_of(info: &LegalityInfo) -> Flights
+    requires info { IsLegalityInfo info.now }
+    ensures { AreLastingOf result info.now.position.now }
+{
+    let side = info.side;
+    let king = info.position.king(side.other()).index() as u8;
+    let in_line = squares_in_line(info.rays, &side_men_of(info.position, side), side);
+    let enemies = info.occupied & !info.own;
+    Flights {
+        king,
+        squares: info.rays.leap(king, Leap::KingStep) & !enemies & !in_line,
+    }
+}
+
+/// The squares from which a man of a kind attacks each of the lasting flights. Elsewhere his move mates only where it is special.
+#[inline(always)]
+pub(crate) fn squares_on_lasting(info: &LegalityInfo, lasting: Flights, kind: Kind) -> u64
+    requires info { IsLegalityInfo info.now }
+    requires lasting { AreLastingOf lasting info.now.position.now }
+    ensures { (m : MoveValue) (man : ManValue) → is_legal info.now.position.now m ≡ true → man_at info.now.position.now.men m.origin ≡ Some man
+        → man.kind ≡ kind → is_special_move info.now.position.now man m ≡ false → m.origin < 64 → m.target < 64
+        → has result m.target ≡ false → is_mate (after_setup info.now.position.now m) ≡ false }
+{
+    // That a legal move leaves a sound position is this law.
+    sound_after();
+    let mut covering = u64::MAX;
+    for flight in square_sets::squares(lasting.squares) {
+        covering &= lines_to(info.rays, kind, info.side, flight);
+    }
+    covering
+}
+
+/// The squares to which a man's legal move may mate, as the lasting flights tell.
+#[inline(always)]
+pub(crate) fn squares_at_lasting(info: &LegalityInfo, lasting: Flights, mover: Mover) -> u64
+    requires info { IsLegalityInfo info.now }
+    requires lasting { AreLastingOf lasting info.now.position.now }
+    requires mover { IsMoverOf mover info.now.position.now }
+    ensures { (m : MoveValue) → is_legal info.now.position.now m ≡ true → m.origin ≡ mover.origin → m.target < 64
+        → has result m.target ≡ false → is_mate (after_setup info.now.position.now m) ≡ false }
+{
+    special_squares(info, mover.man) | squares_on_lasting(info, lasting, mover.man.kind)
 }
 
 /// Of these squares those to which a man's legal move may mate: it attacks each flight from there, opens a line, or is special.

@@ -9,8 +9,8 @@
 //! `movers` (a position with all that its moves are asked about, and a man to move), `castling_targets`, `en_passant_targets`,
 //! `pseudo_legal_targets` and `checks_and_pins` (where a man goes, and where it leaves its king safe), `legal_targets` and `promotions`;
 //! then `move_generation`, `verdicts` and `verdict_of_position`, and `perft_count`; `check_squares` and `gives_check`;
-//! `discovered_checks`, `attacked_sets`, `flights`, `mate_in_one` and `mating_moves`. `laws` says what the lists hold in words that do not
-//! speak of how they are made. No call takes memory.
+//! `discovered_checks`, `attacked_sets`, `flights`, `mating_men`, `mate_in_one` and `mating_moves`. `laws` says what the lists hold in words
+//! that do not speak of how they are made. No call takes memory.
 #![tactic(auto)]
 
 mod attacked_sets;
@@ -27,6 +27,7 @@ mod laws;
 mod legal_targets;
 mod legality_info;
 mod mate_in_one;
+mod mating_men;
 mod mating_moves;
 mod move_generation;
 mod movers;

@@ -7,7 +7,7 @@ ghost use Rattle.chess_board.specs.MakeMove.{after_setup};
 ghost use Rattle.chess_board.specs.Legality.{is_legal};
 ghost use Rattle.chess_board.specs.Moves.{Move as MoveValue};
 ghost use Rattle.chess_moves.specs.inside.CheckSquares.{AreCheckSquaresOf};
-ghost use Rattle.chess_moves.specs.inside.Flights.{AreFlightsOf};
+ghost use Rattle.chess_moves.specs.inside.Flights.{AreFlightsOf, AreLastingOf};
 ghost use Rattle.chess_moves.specs.inside.MateInOne.{mates_of};
 ghost use Rattle.chess_moves.specs.Verdicts.{is_mate, mating_moves};
 ghost use Rattle.chess_moves.specs.inside.LegalityInfo.{IsLegalityInfo};
@@ -15,9 +15,12 @@ ghost use Rattle.chess_moves.specs.inside.Movers.{IsMoverOf};
 
 use crate::check_squares::{CheckSquares, check_squares_of};
 use crate::discovered_checks::check_targets;
-use crate::flights::{Flights, flights_once, squares_that_cover};
+use crate::flights::{
+    Flights, flights_once, lasting_flights_of, squares_at_lasting, squares_that_cover,
+};
 use crate::legal_targets::targets_from;
 use crate::legality_info::{LegalityInfo, bare_info_of};
+use crate::mating_men::mating_men;
 use crate::move_generation::{ManMoves, MoveList};
 use crate::movers::{Mover, mover_on};
 use crate::pseudo_legal_targets::pseudo_legal_targets;
@@ -33,31 +36,39 @@ pub fn push_mating_moves(rays: &Rays, position: &Position, out: &mut MoveList)
 {
     let info = bare_info_of(rays, position);
     let check_squares = check_squares_of(rays, position);
+    let lasting = lasting_flights_of(&info);
     let mut flights = None;
-    for origin in square_sets::squares(info.own) {
+    for origin in square_sets::squares(mating_men(&info, &check_squares, lasting) & info.own) {
         let mover = mover_on(info.position, origin);
-        push_mates_of(&info, &check_squares, &mut flights, mover, out);
+        push_mates_of(&info, &check_squares, lasting, &mut flights, mover, out);
     }
 }
 
-/// Appends the legal moves of a man that mate. Where it goes to no square from which it may give check, nothing else is asked.
+/// Appends the legal moves of a man that mate. Where it goes to no square from which it may give check, or attacks the lasting flights,
+/// nothing else is asked.
 #[inline(always)]
 fn push_mates_of(
     info: &LegalityInfo,
     check_squares: &CheckSquares,
+    lasting: Flights,
     flights: &mut Option<Flights>,
     mover: Mover,
     out: &mut MoveList,
 )
     requires info { IsLegalityInfo info.now }
     requires check_squares { AreCheckSquaresOf check_squares.now info.now.position.now }
+    requires lasting { AreLastingOf lasting info.now.position.now }
     requires flights { IfSome flights.old (λ f. AreFlightsOf f info.now.position.now) }
     requires mover { IsMoverOf mover info.now.position.now }
     requires room { array_vec_len out.old + length (mates_of info.now.position.now mover.origin) ≤ 1024 }
     ensures mates { out.new.items ≡ out.old.items ++ mates_of info.now.position.now mover.origin }
     ensures flights { IfSome flights.new (λ f. AreFlightsOf f info.now.position.now) }
 {
-    let candidates = check_targets(info, check_squares, mover) & pseudo_legal_targets(info, mover);
+    let covering = squares_at_lasting(info, lasting, mover) & pseudo_legal_targets(info, mover);
+    if covering == 0 {
+        return;
+    }
+    let candidates = covering & check_targets(info, check_squares, mover);
     if candidates == 0 {
         return;
     }

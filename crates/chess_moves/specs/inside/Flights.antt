@@ -24,6 +24,12 @@ pub record AreFlightsOf (flights : Flights) (p : Setup) : Type 0 where
   pub squares : (f : ℕ) → f < 64 → has flights.squares f ≡ true → IsFlight p flights.king f
   pub sound : IsSound p
 
+-- flights that stay whichever man of the side to move leaves its square, and wherever it goes but there whence it attacks them itself
+pub record AreLastingOf (flights : Flights) (p : Setup) : Type 0 where
+  pub are : AreFlightsOf flights p
+  pub lasting : (f o : ℕ) → f < 64 → o < 64 → has flights.squares f ≡ true
+      → is_hit (slice_set (slice_set p.men flights.king None) o None) f p.side ≡ false
+
 -- Once a man of this kind went from o to t, nobody attacks f: with the king on k and the man lifted off the board nobody does,
 -- nor does the man from t.
 abbrev pub leaves_flight : Setup → ℕ → ℕ → Kind → ℕ → ℕ → Bool

@@ -26,6 +26,11 @@ abbrev pub right_file : Colour → ℕ
 right_file White = 7
 right_file Black = 0
 
+-- the rank before the last, from which a pawn is promoted
+unfoldable pub rank_before : Colour → ℕ
+rank_before White = 6
+rank_before Black = 1
+
 -- the rank that a pawn passes over with a double step
 abbrev pub third_rank : Colour → ℕ
 third_rank White = 2

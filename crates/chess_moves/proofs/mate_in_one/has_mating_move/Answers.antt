@@ -8,7 +8,8 @@ use Rattle.chess_moves.specs.inside.Listing.{moves_to}
 use Rattle.chess_moves.specs.Verdicts.{is_mate, has_mating_move}
 use Rattle.chess_moves.specs.inside.MoveGeneration.{moves_of_men}
 use Rattle.chess_moves.proofs.Members.{no_members}
-use Rattle.chess_moves.proofs.Walks.{first_man, legal_of_men, own_all, own_others}
+use Rattle.chess_moves.proofs.MatingMen.{mates_of_some, own_some}
+use Rattle.chess_moves.proofs.Walks.{first_man, own_others}
 use Rattle.chess_moves.proofs.mate_in_one.has_mating_move.Goals as goal
 
 pub loop-origin-init : goal.loop-origin-init
@@ -17,8 +18,8 @@ loop-origin-init c =
     let h = c.bare_info_of-info.ensures.info in
     let start = c.into_iter-origin-iterator.ensures.into_iter_gives ∙ c.squares-origin-items.ensures in
     record {
-      any = rw start (ap (list_any (λ m. is_mate (after_setup p m))) (sym (legal_of_men p c.bare_info_of-info.result.own h.own)));
-      own = rw start (own_all p c.bare_info_of-info.result.own h.own);
+      any = rw start (mates_of_some p c.mating_men.result c.bare_info_of-info.result.own h.own c.mating_men.ensures);
+      own = rw start (own_some p c.mating_men.result c.bare_info_of-info.result.own h.own);
       flights = cc;
     }
 

@@ -1,17 +1,38 @@
 use Rattle.std.proofs.Common.{sym, bit_and}
-use Rattle.chess_moves.proofs.Narrowed.{mate_squares, none_mates}
+use Rattle.chess_moves.proofs.Narrowed.{both_squares, gone_squares, mate_squares, none_mates}
 use Rattle.chess_moves.proofs.mate_in_one.man_mates.Goals as goal
+
+pub returns-then-covering-eq0-clause-mates : goal.returns-then-covering-eq0-clause-mates
+returns-then-covering-eq0-clause-mates c =
+    let p = c.args.info.now.position.now in
+    let man = c.args.mover.man in
+    let o = c.args.mover.origin in
+    let lasting = c.squares_at_lasting.result in
+    let goals = c.pseudo_legal_targets.result in
+    sym (none_mates p man o (bit_and lasting goals) 0
+    (gone_squares p man o lasting goals c.requires.mover.there c.squares_at_lasting.ensures c.pseudo_legal_targets.ensures) c.if-covering-eq0.true)
 
 pub returns-then-candidates-eq0-clause-mates : goal.returns-then-candidates-eq0-clause-mates
 returns-then-candidates-eq0-clause-mates c =
     let p = c.args.info.now.position.now in
     let man = c.args.mover.man in
     let o = c.args.mover.origin in
-    let candidates = mate_squares p man o c.check_targets.result c.pseudo_legal_targets.result c.requires.mover.there
-    c.check_targets.ensures c.pseudo_legal_targets.ensures in
-    sym (none_mates p man o (bit_and c.check_targets.result c.pseudo_legal_targets.result) 0 candidates c.if-candidates-eq0.true)
+    let lasting = c.squares_at_lasting.result in
+    let goals = c.pseudo_legal_targets.result in
+    let checks = c.check_targets.result in
+    sym (none_mates p man o (bit_and (bit_and lasting goals) checks) 0
+    (both_squares p o (bit_and lasting goals) checks
+    (gone_squares p man o lasting goals c.requires.mover.there c.squares_at_lasting.ensures c.pseudo_legal_targets.ensures)
+    (mate_squares p o checks c.check_targets.ensures)) c.if-candidates-eq0.true)
 
 pub mates_on-requires-clause-candidates : goal.mates_on-requires-clause-candidates
 mates_on-requires-clause-candidates c =
-    mate_squares c.args.info.now.position.now c.args.mover.man c.args.mover.origin c.check_targets.result c.pseudo_legal_targets.result
-    c.requires.mover.there c.check_targets.ensures c.pseudo_legal_targets.ensures
+    let p = c.args.info.now.position.now in
+    let man = c.args.mover.man in
+    let o = c.args.mover.origin in
+    let lasting = c.squares_at_lasting.result in
+    let goals = c.pseudo_legal_targets.result in
+    let checks = c.check_targets.result in
+    both_squares p o (bit_and lasting goals) checks
+    (gone_squares p man o lasting goals c.requires.mover.there c.squares_at_lasting.ensures c.pseudo_legal_targets.ensures)
+    (mate_squares p o checks c.check_targets.ensures)

@@ -7,7 +7,8 @@ use Rattle.chess_moves.specs.inside.MateInOne.{mates_of}
 use Rattle.chess_moves.specs.inside.MoveGeneration.{moves_of_men}
 use Rattle.chess_moves.proofs.MatingMoves.{first_mates, mates_of_men, few_mates}
 use Rattle.chess_moves.proofs.Members.{no_members}
-use Rattle.chess_moves.proofs.Walks.{own_all, own_others}
+use Rattle.chess_moves.proofs.MatingMen.{own_some}
+use Rattle.chess_moves.proofs.Walks.{own_others}
 use Rattle.chess_moves.proofs.mating_moves.push_mating_moves.Goals as goal
 
 pub loop-origin-init : goal.loop-origin-init
@@ -16,8 +17,8 @@ loop-origin-init c =
     let info = c.bare_info_of-info in
     let start = c.into_iter-origin-iterator.ensures.into_iter_gives ∙ c.squares-origin-items.ensures in
     record {
-      kept = rw (c.requires, start) (mates_of_men p info.result.own info.ensures.info.own);
-      own = rw start (own_all p info.result.own info.ensures.info.own);
+      kept = rw (c.requires, start) (mates_of_men p c.mating_men.result info.result.own info.ensures.info.own c.mating_men.ensures);
+      own = rw start (own_some p c.mating_men.result info.result.own info.ensures.info.own);
       flights = cc;
     }
 
