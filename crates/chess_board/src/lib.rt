@@ -5,8 +5,8 @@
 //! is defined here, in `specs/Legality.antt`, since `after` asks for it; to tell them is none of this crate's business.
 //!
 //! To read: `squares`, `men`, `boards`, `attacks`, `setups`, `soundness`, `positions`; then `placement`, `fields` and `fens`, the text
-//! of a position field by field, over `cuts` and `faults`; then `moves`, `castling`, `en_passant` and `make_move`. No call takes
-//! memory.
+//! of a position field by field, over `cuts` and `faults`; then `moves`, `castling`, `en_passant` and `make_move`; and `laws`, each a
+//! function that does nothing and whose contract says what holds. No call takes memory.
 #![tactic(auto)]
 
 mod attacks;

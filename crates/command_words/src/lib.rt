@@ -2,8 +2,8 @@
 //!
 //! What a word means is settled here, and what is answered is not. Read `specs/Asked.antt` and `request` first; then `parsing` (words to a
 //! request) over `position_requests`, `record_requests` and `tree_requests`, by `matched_values`; `command_line` (what `clap` is told, by the
-//! tables `commands`, `arguments` and `flags`), `limits`, `memory`, `hyphens` and `line_commands` (the words as it is given them), and `help` (what it
-//! prints).
+//! tables `commands`, `arguments` and `flags`, in `rows`), `limits`, `memory`, `hyphens`, `texts` and `line_commands` (the words as it is given
+//! them), and `help` (what it prints).
 #![tactic(auto)]
 
 mod arguments;

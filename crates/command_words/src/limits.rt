@@ -1,4 +1,4 @@
-//! The numbers that the command line bounds: the depth of `perft`, the workers of `serve`, the entries of a memo, and numbers of lines.
+//! The numbers that the command line bounds: the depth of `perft`, how many workers, the entries of a memo, and numbers of lines.
 
 ghost use Rattle.std.specs.Prelude.{◌≡◌, ◌≤◌, ℕ};
 ghost use Rattle.command_words.specs.Limits.{depth_of, line_number_of, max_depth, max_line_number, max_memo_entries};

@@ -66,9 +66,10 @@ pub(crate) fn workers_in(matches: &ArgMatches) -> Option<Workers>
     Workers::new(number_in(matches, "N"))
 }
 
-/// The entries of a memo where nothing is said of it, and of each worker of `serve`.
+/// The entries of a memo where nothing is said of it.
 pub(crate) const DEFAULT_MEMO: u32 = 65_536;
 
+/// The entries of the memo of each worker of `serve`, where nothing is said of them.
 pub(crate) const DEFAULT_MEMOS: u32 = 16_384;
 
 /// The size of each of so many memos: that of `--memo`, which `clap` has kept to its range, and has none where none is given, or by

@@ -323,7 +323,7 @@ fn loses_each<H: Halt>(
 }
 
 /// Whether the defender loses, by all its replies, each of which has to lose. Those of the other men are asked before the king's, which
-/// leaves 8 % fewer positions to judge, by a count over hard problems.
+/// leaves 8 % fewer positions to judge, by a model over hard problems.
 #[cycle(search)]
 fn loses_by_men<H: Halt>(
     guide: &Guide<H>,

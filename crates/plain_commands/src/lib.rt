@@ -1,6 +1,6 @@
 //! The commands of the program `matedesk` that start no thread: `look`, `play`, `moves` and `perft` over a position, or over files of
-//! positions, `solve`, `verify` and `tree` over files of problems (without `--workers` and `--limit`), `import`, and `sheet`, `replay` over a
-//! script, `explain` over a table of faults, or over a position.
+//! positions, `solve`, `verify` and `tree` over files of problems (without `--workers`, `--limit` and `--progress`), `import`, and `sheet`,
+//! `replay` over a script, `explain` over a table of faults, or over a position.
 //!
 //! What the words of a command line ask for is the business of `command_words`, how files are answered, what is shown and the statuses that
 //! of `file_answers`, how files are solved, and held against their claims, that of `file_solving` and `file_verifying`, and what is answered

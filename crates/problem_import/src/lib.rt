@@ -3,9 +3,11 @@
 //!
 //! What a record is, is `chess_notation`'s business, and lines are `text_lines`'s. To read: `specs/Imports.antt` and `importing`, where
 //! the law of what is printed stands, over `printing`, `import_faults` and `import_counts`; `lettered_imports`, the same by another language's
-//! letters; `reading_lines`, which tells the forms apart, over `reading`, what is open between two lines; `finished_problems` and `findings`,
-//! what is found of it; then each form: `mending` (over `fields`, `tokens`, `lengths`, `letters`, `alphabets`, `figurines` and `changes`) and
-//! `moves`, `games` (over `tag_pairs`) and `movetext`, `popeye` (over `popeye_words` and `diagrams`), and `olive`.
+//! letters; `problem_lines`, for who answers the problems himself, by a `ProblemHandler` (`problem_handlers`); `reading_lines`, which tells the
+//! forms apart, over `line_kinds` and `reading`, what is open between two lines; `finished_problems`, `findings`, what is found of it, and
+//! `made_records`, over `operations`; then each form: `mending` (over `fields`, `tokens`, `lengths`, `letters`, `alphabets`, `figurines` and
+//! `changes`) and `moves`, `games` (over `tag_pairs`) and `movetext`, `popeye` (over `popeye_words` and `diagrams`), and `olive`. `texts`
+//! stands below all.
 #![tactic(auto)]
 
 mod alphabets;

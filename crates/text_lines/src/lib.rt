@@ -2,8 +2,8 @@
 //!
 //! What a line says and is answered is the business of a `LineHandler`, or of a `LineWriter`, who is told how far that is a `Progress`, and where
 //! bytes come from and go to that of `byte_streams`. To read: `specs/Replies.antt` and `specs/LinesFrom.antt` (the lines from one on), and
-//! `writers`, over `input_lines`; `replies`; then `refusals`, for lines that say no record; and `taken_lines`, for who answers lines later than
-//! it takes them.
+//! `writers`, over `input_lines` and `progress`; `replies`; then `refusals`, for lines that say no record; and `taken_lines`, for who answers
+//! lines later than it takes them.
 #![tactic(auto)]
 
 mod input_lines;
