@@ -68,7 +68,7 @@ own_colour White = refl
 own_colour Black = refl
 
 -- A king may step to a square beside it where no man of its own stands and where it is not attacked then.
-step_legal : (q : Setup) (k f : ℕ) → length q.men ≡ 64 → IsKingAt q.men q.side k → f < 64 → leaps KingStep k f ≡ true
+pub step_legal : (q : Setup) (k f : ℕ) → length q.men ≡ 64 → IsKingAt q.men q.side k → f < 64 → leaps KingStep k f ≡ true
     → is_of q.side (man_at q.men f) ≡ false
     → is_hit (moved q.men k f (king q.side)) f (other_side q.side) ≡ false → is_legal q (move_of k f None) ≡ true
 unfolding is_legal is_pseudo_legal is_safe after_setup

@@ -62,6 +62,8 @@ mod InLine
 pub mod MatingMen
 pub mod EmptyLines
 pub mod FlightSquares
+mod Lasting
+mod KingEscapes
 pub mod SliderSights
 pub mod MatingMoves
 pub mod KeptMoves

@@ -51,7 +51,7 @@ own_some p asked own is s l e = sym (is s l) ∙ (and_parts (has asked s) (has o
 pub neither : (a b t : ℕ) → has (bit_or a b) t ≡ false → (has a t ≡ false) × (has b t ≡ false)
 neither a b t none = or_parts (has a t) (has b t) (sym (has_or a b t) ∙ none)
 
-kind_self : (kind : Kind) → is_kind kind kind ≡ true
+pub kind_self : (kind : Kind) → is_kind kind kind ≡ true
 kind_self Pawn = refl
 kind_self Knight = refl
 kind_self Bishop = refl

@@ -22,11 +22,11 @@ use Rattle.chess_moves.specs.inside.CheckSquares.{is_special}
 use Rattle.chess_moves.proofs.KingTargets.{king_origin}
 use Rattle.chess_moves.proofs.Played.{played_by}
 
-no_promotion : (man : Man) (t : ℕ) (r : Option Kind) → suits man t r ≡ true → promotes man t ≡ false → is_some r ≡ false
+pub no_promotion : (man : Man) (t : ℕ) (r : Option Kind) → suits man t r ≡ true → promotes man t ≡ false → is_some r ≡ false
 no_promotion man t None s h = refl
 no_promotion man t (Some asked) s h = let x = (and_parts (promotes man t) (is_promotion asked) s).0 in cc
 
-none_special : (p : Setup) (man : Man) (m : Move) → is_some m.promotion ≡ false → is_en_passant p man m ≡ false
+pub none_special : (p : Setup) (man : Man) (m : Move) → is_some m.promotion ≡ false → is_en_passant p man m ≡ false
     → is_castling man m ≡ false → is_special p man m ≡ false
 none_special p man m a b c = rw (a, b, c) refl
 

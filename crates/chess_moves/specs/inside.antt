@@ -13,3 +13,4 @@ pub mod Flights
 pub mod Shifts
 pub mod SliderLines
 pub mod MateInOne
+pub mod EscapeSquares

@@ -8,6 +8,7 @@ ghost use Rattle.chess_board.specs.Moves.{Move as MoveValue};
 ghost use Rattle.chess_board.specs.declared.men.Man.{Man as ManValue};
 ghost use Rattle.chess_board.specs.Positions.{man_at};
 ghost use Rattle.chess_moves.specs.inside.CheckSquares.{is_special as is_special_move};
+ghost use Rattle.chess_moves.specs.inside.EscapeSquares.{Misses};
 ghost use Rattle.chess_moves.specs.inside.Flights.{AreFlightsOf, AreLastingOf, leaves_flight};
 ghost use Rattle.chess_moves.specs.inside.Hits.{hits_as};
 ghost use Rattle.chess_moves.specs.Verdicts.{is_mate};
@@ -82,6 +83,18 @@ pub(crate) fn lasting_flights_of(info: &LegalityInfo) -> Flights
     }
 }
 
+/// The squares from which a man of a kind would attack each of these on an empty board.
+#[inline(always)]
+pub(crate) fn lines_to_all(rays: &Rays, squares: u64, kind: Kind, colour: Colour) -> u64
+    ensures { (t : ℕ) → t < 64 → has result t ≡ false → Misses squares colour kind t }
+{
+    let mut lines = u64::MAX;
+    for square in square_sets::squares(squares) {
+        lines &= lines_to(rays, kind, colour, square);
+    }
+    lines
+}
+
 /// The squares from which a man of a kind attacks each of the lasting flights. Elsewhere his move mates only where it is special.
 #[inline(always)]
 pub(crate) fn squares_on_lasting(info: &LegalityInfo, lasting: Flights, kind: Kind) -> u64
@@ -93,11 +106,7 @@ pub(crate) fn squares_on_lasting(info: &LegalityInfo, lasting: Flights, kind: Ki
 {
     // That a legal move leaves a sound position is this law.
     sound_after();
-    let mut covering = u64::MAX;
-    for flight in square_sets::squares(lasting.squares) {
-        covering &= lines_to(info.rays, kind, info.side, flight);
-    }
-    covering
+    lines_to_all(info.rays, lasting.squares, kind, info.side)
 }
 
 /// The squares to which a man's legal move may mate, as the lasting flights tell.

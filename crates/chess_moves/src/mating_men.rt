@@ -66,7 +66,7 @@ fn castling_king(info: &LegalityInfo) -> u64
 }
 
 /// The rank from which a colour's pawns go to their last.
-fn rank_before_last(colour: Colour) -> u64
+pub(crate) fn rank_before_last(colour: Colour) -> u64
     ensures { (s : ℕ) → s < 64 → has result s ≡ (rank_of s == rank_before colour) }
 {
     match colour {

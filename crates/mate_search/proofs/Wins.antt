@@ -12,6 +12,7 @@ use Rattle.chess_board.specs.Attacks.{is_in_check}
 use Rattle.chess_moves.specs.Laws.{LegalListed}
 use Rattle.chess_moves.specs.inside.Listing.{legal_moves, moves_below}
 use Rattle.chess_moves.specs.Verdicts.{has_legal_move, is_mate, has_mating_move}
+use Rattle.chess_moves.specs.Escapes.{Escape}
 use Rattle.mate_search.specs.Wins.{win, lost, loses_by, leaves_lost, win_among}
 use Rattle.mate_search.proofs.Searches.{any_weaker, all_weaker, all_contains}
 
@@ -137,3 +138,7 @@ refuted_by_next k q ms rest r is left legal fails =
     let all : list_all (λ s. win k (after_setup q s)) (legal_moves q) ≡ false = false_from_ne_true _ (λ e.
     let won = (and_parts (win k (after_setup q r)) (list_all (λ s. win k (after_setup q s)) rest) (rw is at (left e))).0 in cc) in
     rw (some, all) (no_mate (is_in_check q.men q.side))
+
+-- After an escape no move mates, so the defender is not lost with one more move.
+pub escaped : LegalListed → (q : Setup) → Escape q → lost 1 q ≡ false
+escaped listed q e = refuted_by listed 1 q e.reply e.origin e.target e.legal (win_one (after_setup q e.reply) ∙ e.unmated)

@@ -15,8 +15,8 @@ use crate::reply_table::place_of;
 use crate::side_occupancy::{SideOccupancy, men_of};
 use chess_board::{Kind, Move, Position, after};
 use chess_moves::{
-    Rays, Verdict, has_mating_move, in_check, is_legal, is_mated, legal_listed, legal_moves,
-    legal_moves_of, verdict,
+    Rays, Verdict, has_mating_move, in_check, is_legal, is_mated, king_escapes, legal_listed,
+    legal_moves, legal_moves_of, verdict,
 };
 
 /// Whether the attacker, to move, mates within `n` moves. A position one move from the end is not worth keeping.
@@ -122,6 +122,15 @@ fn wins_by_some<H: Halt>(
     Ok(false)
 }
 
+/// Whether the defender's king is seen to escape from each mate at once. To see it costs less than to make a reply and to ask about it.
+fn escapes(rays: &Rays, position: &Position) -> bool
+    ensures { result ≡ true → lost 1 position.now ≡ false }
+{
+    // That a legal reply is one of the list is this law.
+    legal_listed();
+    king_escapes(rays, position)
+}
+
 /// Whether the defender loses, which may be known from another line that led to the same position. It is laid in, so that the stack of a
 /// search has no frame of it.
 #[inline(always)]
@@ -135,6 +144,9 @@ fn loses_again<H: Halt>(
     ensures lost { IfOk result (λ is_lost. is_lost ≡ lost k position.now) }
     ensures ends { EndsSearch result (H.may_stop guide.now.halt.now) memo.old memo.new }
 {
+    if k == 1 && escapes(guide.rays, position) {
+        return Ok(false);
+    }
     let place = place_of(position);
     if let Some(is_lost) = memo.judged(place, position, k) {
         return Ok(is_lost);

@@ -6,7 +6,8 @@ ghost use Rattle.std.specs.Prelude.{◌<◌, IfOk, IfSome};
 use crate::plain_memo::PlainMemo;
 use chess_board::{Move, Position, after};
 use chess_moves::{
-    Rays, Verdict, attacked, has_mating_move, is_legal, is_mated, legal_moves, verdict,
+    Rays, Verdict, attacked, has_mating_move, is_legal, is_mated, king_escapes, legal_moves,
+    verdict,
 };
 use mate_search::{Guide, Halt, Stopped};
 
@@ -113,6 +114,9 @@ fn loses_again<H: Halt>(
     k: u8,
     memo: &mut PlainMemo,
 ) -> Result<bool, Stopped> {
+    if k == 1 && king_escapes(guide.rays, position) {
+        return Ok(false);
+    }
     if let Some(is_lost) = memo.judged(position, k) {
         return Ok(is_lost);
     }

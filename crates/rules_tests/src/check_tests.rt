@@ -1,7 +1,9 @@
 //! Check, the moves that give it, and those that mate, in known positions.
 
 use crate::test_positions::{INITIAL, position_of, same, same_moves};
-use chess_moves::{MoveList, Rays, checks, has_mating_move, in_check, push_mating_moves};
+use chess_moves::{
+    MoveList, Rays, checks, has_mating_move, in_check, king_escapes, push_mating_moves,
+};
 use std::process::Abort;
 
 #[test]
@@ -112,6 +114,28 @@ fn tells_whether_a_move_mates(rt: HostRuntime) {
     let rays = Rays::new();
     for (text, expected) in &TABLE {
         let found = has_mating_move(&rays, &position_of(&rt, text));
+        same(&rt, text, &found, expected);
+    }
+}
+
+#[test]
+fn sees_the_king_escape(rt: HostRuntime) {
+    static TABLE: [(&str, bool); 7] = [
+        // A rook attacks too few of the squares around the king, and the other king is far.
+        ("8/8/8/3k4/8/8/8/R6K b - - 0 1", true),
+        ("7k/8/8/5K2/8/8/8/R7 b - - 0 1", true),
+        // The rook mates after the one step that there is.
+        ("k7/8/1K6/8/8/8/8/7R b - - 0 1", false),
+        // There is no step.
+        ("7k/5Q2/6K1/8/8/8/8/8 b - - 0 1", false),
+        (INITIAL, false),
+        // A pawn may promote next, a king castle.
+        ("8/4P3/8/8/8/8/7k/K7 b - - 0 1", false),
+        ("8/8/8/3k4/8/8/8/4K2R b K - 0 1", false),
+    ];
+    let rays = Rays::new();
+    for (text, expected) in &TABLE {
+        let found = king_escapes(&rays, &position_of(&rt, text));
         same(&rt, text, &found, expected);
     }
 }
