@@ -126,11 +126,11 @@ module _ (p : Setup) (k f : ℕ) (man : Man) (m : Move) (sound : IsSound p) (sti
   no_king : is_king_of (other_side p.side) (Some man) ≡ false
   no_king = ap (λ x. x && is_king_kind man.kind) (own_is_not_other p.side man.colour own)
 
-  men_are : (after_setup p m).men ≡ moved p.men m.origin m.target man
+  pub men_are : (after_setup p m).men ≡ moved p.men m.origin m.target man
   unfolding after_setup
   men_are = ap (λ place. (after_man p place m).men) here ∙ plainly p man m plain
 
-  side_is : (after_setup p m).side ≡ other_side p.side
+  pub side_is : (after_setup p m).side ≡ other_side p.side
   unfolding after_setup
   side_is = ap (λ place. (after_man p place m).side) here
 
@@ -140,14 +140,14 @@ module _ (p : Setup) (k f : ℕ) (man : Man) (m : Move) (sound : IsSound p) (sti
   alone : (s : ℕ) → s < 64 → is_king_of (other_side p.side) (man_at p.men s) ≡ true → s ≡ k
   alone s l is = only_king p sound (other_side p.side) k s k_on l there is
 
-  not_left : k ≢ m.origin
+  pub not_left : k ≢ m.origin
   not_left same =
       let one = ap (λ s. is_king_of (other_side p.side) (man_at p.men s)) same in
       let none = ap (is_king_of (other_side p.side)) here ∙ no_king in
       let is = king_here in absurd (cc)
 
   -- the king is not captured
-  not_taken : k ≢ m.target
+  pub not_taken : k ≢ m.target
   not_taken same =
       let c : Colour = other_side p.side in
       let found = some_king (after_setup p m) c still in

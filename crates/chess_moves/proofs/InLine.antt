@@ -19,7 +19,7 @@ use Rattle.chess_moves.proofs.AttackSets.{five, place_by_kind}
 use Rattle.chess_moves.proofs.AttackedSets.{some_leap}
 use Rattle.chess_moves.proofs.EmptyLines.{no_slant, no_straight}
 
-none_at : (p : ℕ → Bool) (s : ℕ) → s < 64 → any_below 64 p ≡ false → p s ≡ false
+pub none_at : (p : ℕ → Bool) (s : ℕ) → s < 64 → any_below 64 p ≡ false → p s ≡ false
 none_at p s l none = false_from_ne_true (p s) (λ h. let some = any_at p 64 s l h in cc)
 
 -- a test that a man passes, and what it would do then

@@ -63,7 +63,9 @@ pub mod MatingMen
 pub mod EmptyLines
 pub mod FlightSquares
 mod Lasting
+mod PlainMen
 mod KingEscapes
+mod GuardedRefuges
 pub mod SliderSights
 pub mod MatingMoves
 pub mod KeptMoves

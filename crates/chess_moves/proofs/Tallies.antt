@@ -142,19 +142,19 @@ many_by_kinds p side own pawns knights bishops rooks queens kings same io ip ik 
     ∙ kinds_below p own pawns knights bishops rooks queens kings 64 (omega arith) io (set_of Pawn pawns ip)
     (set_of Knight knights ik) (set_of Bishop bishops ib) (set_of Rook rooks ir) (set_of Queen queens iq) (set_of King kings ig)
 
+pub same_kind : (a b : Kind) → is_kind a b ≡ true → b ≡ a
+same_kind Pawn Pawn h = refl
+same_kind Knight Knight h = refl
+same_kind Bishop Bishop h = refl
+same_kind Rook Rook h = refl
+same_kind Queen Queen h = refl
+same_kind King King h = refl
+same_kind a b h = cc
+
 -- The set of a kind's men has men of that kind.
 pub men_of_kind : (p : Setup) (side : Colour) (asked : Kind) (set : ℕ) → side ≡ p.side → IsSetOf set (is_man side asked) p.men → HaveMenOf asked set p
 men_of_kind p side asked set same is s l on = by_place (man_at p.men s) (sym (is s l) ∙ on)
   where
-    same_kind : (a b : Kind) → is_kind a b ≡ true → b ≡ a
-    same_kind Pawn Pawn h = refl
-    same_kind Knight Knight h = refl
-    same_kind Bishop Bishop h = refl
-    same_kind Rook Rook h = refl
-    same_kind Queen Queen h = refl
-    same_kind King King h = refl
-    same_kind a b h = cc
-
     same_side : (a b : Colour) → is_colour a b ≡ true → b ≡ a
     same_side White White h = refl
     same_side Black Black h = refl

@@ -14,3 +14,4 @@ pub mod Shifts
 pub mod SliderLines
 pub mod MateInOne
 pub mod EscapeSquares
+pub mod EscapeGuards

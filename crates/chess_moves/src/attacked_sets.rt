@@ -42,7 +42,7 @@ pub(crate) fn squares_in_line(rays: &Rays, side_men: &SideMen, by: Colour) -> u6
 }
 
 /// The squares to which a leap goes from one of these.
-fn leapt_to(rays: &Rays, from: u64, leap: Leap) -> u64
+pub(crate) fn leapt_to(rays: &Rays, from: u64, leap: Leap) -> u64
     ensures { (t : ℕ) → t < 64 → has result t ≡ some_square (λ a. has from a && leaps leap a t) }
 {
     let mut set = 0;

@@ -10,6 +10,7 @@ ghost use Rattle.chess_moves.specs.inside.LegalityInfo.{IsLegalityInfo, IsSafety
 ghost use Rattle.chess_moves.specs.inside.Directions.{reaches_as_bishop, reaches_as_rook};
 ghost use Rattle.chess_moves.specs.inside.Hits.{is_hit};
 
+use crate::attacked_sets::attacked_squares;
 use crate::attackers::{attackers, is_hit_over};
 use crate::directions::Leap;
 use crate::legality_info::LegalityInfo;
@@ -26,6 +27,16 @@ pub(crate) fn is_safe_step(info: &LegalityInfo, target: u8) -> bool
 {
     let lifted = square_sets::without(info.occupied, info.king);
     !is_hit_over(info.rays, lifted, &info.enemy, info.side.other(), target)
+}
+
+/// The squares where the king is attacked once it stepped there, all at once.
+pub(crate) fn unsafe_squares(info: &LegalityInfo) -> u64
+    requires info { IsLegalityInfo info.now }
+    ensures { (t : ℕ) (own : ManValue) → t < 64 → is_colour (other_side info.now.position.now.side) own.colour ≡ false
+        → has result t ≡ is_hit (moved info.now.position.now.men info.now.king t own) t (other_side info.now.position.now.side) }
+{
+    let others = square_sets::without(info.occupied, info.king);
+    attacked_squares(info.rays, others, &info.enemy, info.side.other())
 }
 
 /// The squares on which a man stops each of these attackers: by a capture, or by standing in its way.

@@ -171,7 +171,7 @@ fn squares_covering(info: &LegalityInfo, flights: Flights, mover: Mover, flight:
 }
 
 /// The squares from which a man of a kind would attack a square on an empty board.
-fn lines_to(rays: &Rays, kind: Kind, colour: Colour, square: u8) -> u64
+pub(crate) fn lines_to(rays: &Rays, kind: Kind, colour: Colour, square: u8) -> u64
     requires { square < 64 }
     ensures { (taken : ℕ → Bool) (t : ℕ) → t < 64 → has result t ≡ false → hits_as taken colour kind t square ≡ false }
 {

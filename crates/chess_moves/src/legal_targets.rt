@@ -10,7 +10,7 @@ ghost use Rattle.chess_moves.specs.inside.LegalityInfo.{IsLegalityInfo};
 ghost use Rattle.chess_moves.specs.inside.Movers.{IsMoverOf};
 
 use crate::castling_targets::castling_targets;
-use crate::checks_and_pins::{is_safe_step, legal_mask};
+use crate::checks_and_pins::{is_safe_step, legal_mask, unsafe_squares};
 use crate::en_passant_targets::safe_en_passant;
 use crate::legality_info::LegalityInfo;
 use crate::movers::{Mover, king_of};
@@ -130,8 +130,9 @@ fn targets_of_pawn(info: &LegalityInfo, mover: Mover) -> u64
     pawn_targets(info, mover) & allowed | safe_en_passant(info, mover)
 }
 
-/// The targets of the king's legal moves. Each step is asked about by itself, since the king may step along the line of an attack; where
-/// it castles its goal was asked about, and castling opens no line to it.
+/// The targets of the king's legal moves. Each step is asked about by itself, since the king may step along the line of an attack, unless
+/// there are more of them than sliders: all that is attacked is told sooner then. Where it castles its goal was asked about, and castling
+/// opens no line to it.
 #[inline(always)]
 pub(crate) fn targets_of_king(info: &LegalityInfo, mover: Mover) -> u64
     requires info { IsLegalityInfo info.now }
@@ -140,13 +141,17 @@ pub(crate) fn targets_of_king(info: &LegalityInfo, mover: Mover) -> u64
     ensures { AreTargets result info.now.position.now mover.man mover.origin }
 {
     let steps = piece_targets(info, mover);
+    let castlings = castling_targets(info);
+    if steps.count_ones() > (info.enemy.diagonal | info.enemy.straight).count_ones() {
+        return steps & !unsafe_squares(info) | castlings;
+    }
     let mut safe = 0;
     for target in squares(steps) {
         if is_safe_step(info, target) {
             safe = with(safe, target);
         }
     }
-    safe | castling_targets(info)
+    safe | castlings
 }
 
 /// Whether the king has a legal move. It looks no further than the first.

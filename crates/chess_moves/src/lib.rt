@@ -9,8 +9,8 @@
 //! `movers` (a position with all that its moves are asked about, and a man to move), `castling_targets`, `en_passant_targets`,
 //! `pseudo_legal_targets` and `checks_and_pins` (where a man goes, and where it leaves its king safe), `legal_targets` and `promotions`;
 //! then `move_generation`, `verdicts` and `verdict_of_position`, and `perft_count`; `check_squares` and `gives_check`;
-//! `discovered_checks`, `attacked_sets`, `flights`, `mating_men`, `mate_in_one`, `mating_moves` and `escapes`. `laws` says what the lists hold in words
-//! that do not speak of how they are made. No call takes memory.
+//! `discovered_checks`, `attacked_sets`, `flights`, `mating_men`, `mate_in_one` and `mating_moves`; `king_steps`, `escapes` and
+//! `escape_guards`. `laws` says what the lists hold in words that do not speak of how they are made. No call takes memory.
 #![tactic(auto)]
 
 mod attacked_sets;
@@ -21,9 +21,11 @@ mod checks_and_pins;
 mod directions;
 mod discovered_checks;
 mod en_passant_targets;
+mod escape_guards;
 mod escapes;
 mod flights;
 mod gives_check;
+mod king_steps;
 mod laws;
 mod legal_targets;
 mod legality_info;
@@ -42,6 +44,7 @@ mod verdict_of_position;
 mod verdicts;
 
 pub use attackers::attacked;
+pub use escape_guards::{EscapeGuards, guards_of_escapes, leaves_escape};
 pub use escapes::king_escapes;
 pub use gives_check::checks;
 pub use laws::{legal_listed, legal_rise, plays_listed, plays_once};

@@ -1,8 +1,9 @@
 //! Check, the moves that give it, and those that mate, in known positions.
 
-use crate::test_positions::{INITIAL, position_of, same, same_moves};
+use crate::test_positions::{INITIAL, move_of, position_of, same, same_moves};
 use chess_moves::{
-    MoveList, Rays, checks, has_mating_move, in_check, king_escapes, push_mating_moves,
+    MoveList, Rays, checks, guards_of_escapes, has_mating_move, in_check, is_legal, king_escapes,
+    leaves_escape, push_mating_moves,
 };
 use std::process::Abort;
 
@@ -137,6 +138,43 @@ fn sees_the_king_escape(rt: HostRuntime) {
     for (text, expected) in &TABLE {
         let found = king_escapes(&rays, &position_of(&rt, text));
         same(&rt, text, &found, expected);
+    }
+}
+
+/// A legal move is seen to leave an escape, or is not.
+fn check_leaves(rt: &impl Abort, text: &str, name: &str, expected: bool) {
+    let (rays, position, m) = (Rays::new(), position_of(rt, text), move_of(rt, name));
+    let guards = guards_of_escapes(&rays, &position);
+    assert!(rt; is_legal(&rays, &position, m));
+    same(
+        rt,
+        &(text, name),
+        &leaves_escape(&position, &guards, m),
+        &expected,
+    );
+}
+
+#[test]
+fn sees_which_moves_leave_an_escape(rt: HostRuntime) {
+    static TABLE: [(&str, &str, bool); 11] = [
+        // Only on the king's own rank or file does the rook attack beside each of its steps.
+        ("8/8/8/3k4/8/8/8/R6K w - - 0 1", "a1a4", true),
+        ("8/8/8/3k4/8/8/8/R6K w - - 0 1", "a1a5", false),
+        ("8/8/8/3k4/8/8/8/R6K w - - 0 1", "a1d1", false),
+        ("8/8/8/3k4/8/8/8/R6K w - - 0 1", "a1e1", true),
+        // The pawn may promote after its step, and a king that stands at home castle.
+        ("8/8/4P3/8/8/8/7k/K7 w - - 0 1", "a1b1", true),
+        ("8/8/4P3/8/8/8/7k/K7 w - - 0 1", "e6e7", false),
+        ("8/8/8/3k4/8/8/5K2/8 w - - 0 1", "f2e1", false),
+        ("8/8/8/3k4/8/8/5K2/8 w - - 0 1", "f2e3", true),
+        // A capture en passant.
+        ("8/8/7k/2pP4/8/8/8/K7 w - c6 0 1", "d5c6", false),
+        ("8/8/7k/2pP4/8/8/8/K7 w - c6 0 1", "d5d6", true),
+        // The other king has no step.
+        ("k1K5/8/1P6/8/8/8/8/8 w - - 0 1", "b6b7", false),
+    ];
+    for (text, name, expected) in &TABLE {
+        check_leaves(&rt, text, name, *expected);
     }
 }
 

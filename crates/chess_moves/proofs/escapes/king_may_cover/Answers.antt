@@ -1,12 +1,8 @@
-use Rattle.std.proofs.Common.{◌≡◌, ◌&&◌, ℕ, false, true, sym, ap, subst, ◌∙◌, bit_and, refl, eqb}
+use Rattle.std.proofs.Common.{◌≡◌, ◌&&◌, ℕ, false, true, sym, ap, ◌∙◌, bit_and, refl, eqb}
 use Rattle.std.proofs.lemmas.Bool.{eqb-true, not-false}
 use Rattle.square_sets.specs.Members.{has}
-use Rattle.chess_board.specs.declared.men.Colour.{Colour}
-use Rattle.chess_board.specs.declared.men.Kind.TheVariants.{King}
-use Rattle.chess_board.specs.Men.{man_of, other_side}
 use Rattle.chess_board.specs.Positions.{man_at}
 use Rattle.chess_moves.specs.declared.directions.Leap.TheVariants.{KingStep}
-use Rattle.chess_moves.specs.inside.EscapeSquares.{Misses}
 use Rattle.chess_moves.specs.inside.Leaps.{leaps}
 use Rattle.chess_moves.proofs.KingEscapes.{king_is}
 use Rattle.chess_moves.proofs.OneKing.{only_king}
@@ -16,14 +12,13 @@ use Rattle.chess_moves.proofs.escapes.king_may_cover.Goals as goal
 pub returns : goal.returns
 returns c = λ none o t on t_on is step.
     let p = c.args.position.now in
-    let enemy : c.other-enemy.result ≡ other_side p.side = c.other-enemy.ensures ∙ ap other_side c.side.ensures.side in
-    let there : man_at p.men c.king.result ≡ man_of (other_side p.side) King = c.king.ensures.king ∙ ap (λ (by : Colour). man_of by King) enemy in
-    let same : o ≡ c.king.result = only_king p c.side.ensures.sound (other_side p.side) c.king.result o c.king.ensures.on_board on there
-    (king_is (other_side p.side) (man_at p.men o) is) in
+    let by = c.args.colour in
+    let same : o ≡ c.king.result = only_king p c.requires.sound by c.king.result o c.king.ensures.on_board on c.king.ensures.king
+    (king_is by (man_at p.men o) is) in
     let near : ℕ = c.leap.result in
     let lines : ℕ = c.lines_to_all.result in
     let beside : has near t ≡ true = c.leap.ensures t t_on ∙ ap (λ s. leaps KingStep s t) (c.index-king.ensures.number ∙ sym same)
     ∙ step refl in
     let zero : bit_and near lines ≡ 0 = eqb-true (bit_and near lines) 0 (not-false (eqb (bit_and near lines) 0) none) in
     let off : has lines t ≡ false = ap (λ x. x && has lines t) (sym beside) ∙ sym (has_and near lines t) ∙ has_none (bit_and near lines) t zero in
-    subst (λ (by : Colour). Misses c.args.squares by King t) enemy (c.lines_to_all.ensures t t_on off)
+    c.lines_to_all.ensures t t_on off
