@@ -4,6 +4,7 @@ ghost use Rattle.std.specs.Prelude.{◌≡◌, ◌<◌, ◌≤◌, ◌-◌, true
 ghost use Rattle.chess_board.specs.Legality.{is_legal};
 ghost use Rattle.chess_board.specs.MakeMove.{after_setup};
 ghost use Rattle.chess_board.specs.Sets.{IsSetOf};
+ghost use Rattle.chess_moves.specs.Escapes.{AreGuardsOf};
 ghost use Rattle.mate_search.specs.Wins.{win, lost};
 ghost use Rattle.mate_search.specs.inside.Halting.{EndsSearch};
 ghost use Rattle.mate_search.specs.inside.Replies.{is_but_king, each_loses};
@@ -15,8 +16,8 @@ use crate::reply_table::place_of;
 use crate::side_occupancy::{SideOccupancy, men_of};
 use chess_board::{Kind, Move, Position, after};
 use chess_moves::{
-    Rays, Verdict, has_mating_move, in_check, is_legal, is_mated, king_escapes, legal_listed,
-    legal_moves, legal_moves_of, verdict,
+    EscapeGuards, Rays, Verdict, guards_of_escapes, has_mating_move, in_check, is_legal, is_mated,
+    king_escapes, leaves_escape, legal_listed, legal_moves, legal_moves_of, verdict,
 };
 
 /// Whether the attacker, to move, mates within `n` moves. A position one move from the end is not worth keeping.
@@ -95,11 +96,61 @@ fn least_win<H: Halt>(
     ensures ends { EndsSearch result (H.may_stop guide.now.halt.now) memo.old memo.new }
 {
     for k in none..n {
-        if wins_by_some(guide, position, k + 1, memo)? {
+        if wins_within(guide, position, k + 1, memo)? {
             return Ok(Some(k + 1));
         }
     }
     Ok(None)
+}
+
+/// Whether the attacker mates within `n` moves. It is laid in, so that the stack of a search has no frame of it.
+#[inline(always)]
+#[cycle(search)]
+fn wins_within<H: Halt>(
+    guide: &Guide<H>,
+    position: &Position,
+    n: u8,
+    memo: &mut Memo,
+) -> Result<bool, Stopped>
+    requires some { 0 < n }
+    ensures found { IfOk result (λ found. found ≡ win n position.now) }
+    ensures ends { EndsSearch result (H.may_stop guide.now.halt.now) memo.old memo.new }
+{
+    match n {
+        2 => wins_in_two(guide, position, memo),
+        _ => wins_by_some(guide, position, n, memo),
+    }
+}
+
+/// Whether the attacker mates within two moves. Of its first moves those that are seen to leave an escape aren't made.
+#[cycle(search)]
+fn wins_in_two<H: Halt>(
+    guide: &Guide<H>,
+    position: &Position,
+    memo: &mut Memo,
+) -> Result<bool, Stopped>
+    ensures found { IfOk result (λ found. found ≡ win 2 position.now) }
+    ensures ends { EndsSearch result (H.may_stop guide.now.halt.now) memo.old memo.new }
+{
+    let guards = guards_of_escapes(guide.rays, position);
+    for m in legal_moves(guide.rays, position) {
+        if !lets_escape(position, &guards, m) && loses_again(guide, &after(position, m), 1, memo)? {
+            return Ok(true);
+        }
+    }
+    Ok(false)
+}
+
+/// Whether a move of the attacker is seen to let the king escape from each mate at once.
+#[inline(always)]
+fn lets_escape(position: &Position, guards: &EscapeGuards, m: Move) -> bool
+    requires guards { AreGuardsOf guards.now position.now }
+    requires legal { is_legal position.now m ≡ true }
+    ensures { result ≡ true → lost 1 (after_setup position.now m) ≡ false }
+{
+    // That a legal reply is one of the list is this law.
+    legal_listed();
+    leaves_escape(position, guards, m)
 }
 
 /// Whether the attacker mates within `n` moves. No list of its moves is made.

@@ -127,3 +127,18 @@ loses_by_men-returns-clause-lost t g c =
     (sym c.in_ok-each_loses-2.ensures.each ∙ c.if-not-branch-2.false) in
     c.ne.ensures ∙ ap (λ v. not (sameb verdict_type v Stalemate)) c.verdict.ensures ∙ goes_on c.args.position.now
     ∙ sym (lost_by_all c.args.k c.args.position.now all)
+
+pub wins_in_two-loop-m-init : goal.wins_in_two-loop-m-init
+wins_in_two-loop-m-init t g c =
+    let moves : c.into_iter-m-iterator.result ≡ legal_moves c.args.position.now =
+    c.into_iter-m-iterator.ensures.into_iter_gives ∙ c.legal_moves-m-items.ensures.moves in
+    record { any = rw moves refl; legal = rw moves (all_legal c.args.position.now); room = refl }
+
+pub wins_in_two-returns-then-branch-clause-found : goal.wins_in_two-returns-then-branch-clause-found
+wins_in_two-returns-then-branch-clause-found t g c = sym (win_by_next 2 c.args.position.now c.loop-m.m-iterator c.next.new.self c.in-Some.m
+    (omega arith) c.loop-m.invariant.any c.in-Some.ensures.steps
+    (ap (lost 1) (sym c.after.ensures) ∙ sym c.in_ok-loses_again.ensures.lost ∙ c.if-branch.true))
+
+pub wins_in_two-returns-clause-found : goal.wins_in_two-returns-clause-found
+wins_in_two-returns-clause-found t g c =
+    sym (no_win_left 2 c.args.position.now c.loop-m.m-iterator (omega arith) c.loop-m.invariant.any c.in-None.ensures.steps.0)
