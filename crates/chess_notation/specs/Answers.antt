@@ -1,6 +1,6 @@
 -- The text that answers a record: its four fields, then operations in ASCII order of opcode (PGN Specification, sections 16.2.4
 -- and 16.2.5). Own to this project: that there is no mate is said in `c0`.
-use Rattle.std.specs.Prelude.{ℕ, zero, suc, List, [], ◌∷◌, ◌++◌, codes, map, decimal, if◌then◌else◌}
+use Rattle.std.specs.Prelude.{ℕ, zero, suc, List, [], ◌∷◌, ◌++◌, Bool, codes, map, decimal, if◌then◌else◌}
 use Rattle.chess_board.specs.Characters.{char}
 use Rattle.chess_board.specs.Positions.{Setup}
 use Rattle.chess_board.specs.Fens.{position_text}
@@ -77,8 +77,12 @@ answer_entries r NoMate = with_entry (none_entry r.bound) r.rest
 unfoldable pub answer_text : RecordValue → Outcome → List ℕ
 answer_text r outcome = position_text r.position ++ entries_text (answer_entries r outcome)
 
--- the answer to a record whose problem was not decided in so many seconds, but that there is no mate within so many moves: it asks what
--- the record asked
-unfoldable pub undecided_text : RecordValue → ℕ → ℕ → List ℕ
-undecided_text r none seconds = position_text r.position
-    ++ entries_text (with_entry (undecided_entry none r.bound seconds) (with_entry (length_entry r.bound) r.rest))
+-- the operations of a record, and the bound where its line says it: a default is not the record's own
+abbrev pub asked_entries : Bool → RecordValue → List Entry
+asked_entries said r = if said then with_entry (length_entry r.bound) r.rest else r.rest
+
+-- the answer to a record whose line says its bound or not, and whose problem was not decided in so many seconds, but that there is no mate
+-- within so many moves: it asks what the record asked
+unfoldable pub undecided_text : Bool → RecordValue → ℕ → ℕ → List ℕ
+undecided_text said r none seconds =
+    position_text r.position ++ entries_text (with_entry (undecided_entry none r.bound seconds) (asked_entries said r))

@@ -14,4 +14,5 @@ pub mod RecordFields
 pub mod EpdFaults
 pub mod Answers
 pub mod RecordLaws
+pub mod SaidBounds
 pub mod inside

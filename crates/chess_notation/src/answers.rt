@@ -11,10 +11,12 @@ ghost use Rattle.chess_notation.specs.Answers.{entry_text, entries_text, with_te
 ghost use Rattle.chess_notation.specs.Answers.{length_entry, line_entry, none_entry, comment_entry, undecided_entry};
 ghost use Rattle.chess_notation.specs.Answers.{none_so_far as none_so_far_of, undecided_front as undecided_front_of};
 ghost use Rattle.chess_notation.specs.Answers.{answer_text as answer_text_of, undecided_text as undecided_text_of};
+ghost use Rattle.chess_notation.specs.SaidBounds.{says_bound as does_say_bound};
 ghost use Rattle.chess_problems.specs.Outcomes.{AreLegal, IsPlayable};
 
 use crate::opcodes::comes_before;
 use crate::records::{Operation, Record};
+use crate::said_bounds::says_bound;
 use crate::san_text::san;
 use arrayvec::ArrayString;
 use byte_streams::NoMemory;
@@ -294,8 +296,26 @@ fn undecided_front(alloc: Global, none: u8, bound: Bound) -> Result<String, Allo
     Ok(front)
 }
 
-/// Adds the operations of a problem that was not decided in so many seconds, each at its place among those that the record keeps.
+/// Adds the comment that a problem was not decided in so many seconds, at its place among the operations that the record keeps.
 fn push_undecided(
+    alloc: Global,
+    text: &mut String,
+    record: &Record,
+    none: u8,
+    seconds: u32,
+) -> Result<(), AllocError>
+    ensures { OnOk result (string_bytes text.new ≡ string_bytes text.old
+        ++ entries_text (with_entries (undecided_entry none «record».now.bound seconds ∷ []) «record».now.rest)) }
+{
+    let front = undecided_front(alloc, none, record.bound)?;
+    let left = push_until(text, b"c0", record.rest.as_slice())?;
+    push_comment(alloc, text, front.as_str(), seconds, " s")?;
+    push_operations(text, left)?;
+    Ok(())
+}
+
+/// Adds the same, and the bound, each at its place.
+fn push_undecided_length(
     alloc: Global,
     text: &mut String,
     record: &Record,
@@ -347,20 +367,25 @@ pub fn answer_text(
     Ok(text)
 }
 
-/// The text that answers a record whose problem was not decided in so many seconds, but that there is no mate within `none` moves: the four
-/// fields of its position, and then in ASCII order of opcode the operations that it keeps, `c0`, which says so, and `dm`, the bound that is
-/// asked, so that whoever reads it as a record asks the same. Only a growth that is refused is an error.
+/// The text that answers a record of this line whose problem was not decided in so many seconds, but that there is no mate within `none` moves: the four
+/// fields of its position, and then in ASCII order of opcode the operations that it keeps, `c0`, which says so, and, where its line has it,
+/// `dm`, the bound that is asked, so that whoever reads it as a record asks the same. Only a growth that is refused is an error.
 #[tactic(auto, unfolding(crate::specs::Answers::undecided_text))]
 pub fn undecided_text(
     alloc: Global,
+    line: &[u8],
     record: &Record,
     none: u8,
     seconds: u32,
 ) -> Result<String, NoMemory>
-    ensures { IfOk result (λ text. string_bytes text ≡ undecided_text_of «record».now none seconds) }
+    ensures { IfOk result (λ text. string_bytes text ≡ undecided_text_of (does_say_bound line.now) «record».now none seconds) }
 {
     let mut text = String::new(alloc);
     text.push_str(record.position.text().as_str())?;
-    push_undecided(alloc, &mut text, record, none, seconds)?;
+    if says_bound(line) {
+        push_undecided_length(alloc, &mut text, record, none, seconds)?;
+    } else {
+        push_undecided(alloc, &mut text, record, none, seconds)?;
+    }
     Ok(text)
 }

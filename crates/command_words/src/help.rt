@@ -67,9 +67,9 @@ bound N, the answer says `c0 \"no mate in N\"`. A line that is no record is answ
 `# line K: CODE`: K is its number in its file, and CODE names its fault. A bound of
 many moves may take longer than one can wait, and the lines behind it wait too: with
 `--limit S` a record that isn't decided within S seconds is answered
-`c0 \"no mate in K, not decided within N in S s\"` with its bound N as `dm`: there is no mate
-within K moves, more is not known, and it asks the same again. The last line on standard
-error then counts such records, and the status is 5. With --progress standard
+`c0 \"no mate in K, not decided within N in S s\"`, with `dm N` where the record has it: there
+is no mate within K moves, and more is not known. In JSON it has `\"decided\":false`,
+`\"none_within\":K` and `\"asked\":N`, too. The last line on standard error then counts such records, and the status is 5. With --progress standard
 error says which line is solved and for how long, twice a second on a terminal and every
 ten seconds elsewhere, and at the end how often there was which answer.
 
@@ -117,7 +117,8 @@ waited for; a blank line is passed over:
   VERDICT  what it is: see below
   ASKED    `#N`, the number of moves that was asked; `#N?` where the line says none, so
            that it is B
-  FOUND    `#N`, the number that the shortest mate takes, or `-`
+  FOUND    `#N`, the number that the shortest mate takes; `-` where there is none within
+           ASKED, `?` where that is not known
   KEYS     each first move that mates soonest, as `solve` lists them, or `-`
   CLAIMED  the moves that `bm` names, or `pv` and the move that begins it, or `-`
   ID       what `id` says, or `-`
@@ -129,18 +130,21 @@ The verdict is the first of these that applies:
               (NoSuchMove). Of no record the other fields are `-`; else CLAIMED is what
               stands behind `bm`, or `pv` and its first word
   undecided   with `--limit S`, it was not decided within S seconds
-  unsolvable  there is no mate within the number asked
-  short       there is one in fewer moves; that a claimed move would mate in the number
-              asked is not told
+  unsolvable  there is no mate within the number that the line says
+  unsolved    the line says no number, and there is no mate within B
+  short       there is a mate in fewer moves than the line says; that a claimed move would
+              mate in so many is not told
   wrong       a claimed move is no key
   cooked      there is a key that isn't claimed; or, where no move is claimed, a second key
   unclaimed   no move is claimed, so that nothing is held against the one key
-  sound       else
+  several     there are several keys, and all are claimed
+  sound       there is one key, and it is the one claimed
 
 Moves to avoid (`am`) are left out at the first move, as `solve` does. With --header a row
 with these seven names stands before all others. At the end standard error says how many
 lines came to each verdict, of how many records the number asked has a question mark, and
-how many were not decided.
+how many were not decided, also of those whose claims are at fault. Moves as `1.Qh7!` and
+opcodes as `DM` are not read: it says so where there are such.
 With --import the lines are problems in any form that `import` takes, and LINE is the line
 where one begins; one that says no number of moves is NoBound, unless --bound is given. With
 --json each row is an object in JSON.
@@ -155,7 +159,7 @@ Example:
   7k/8/5K2/8/8/8/8/R7 w - - bm Kf7; dm 2; id \"one key of two\";
   $ matedesk verify problems.epd
   1\tcooked\t#2\t#2\tKf7 Kg6\tKf7\tone key of two
-  matedesk: sound 0, unclaimed 0, cooked 1, wrong 0, short 0, unsolvable 0, refused 0
+  matedesk: sound 0, several 0, unclaimed 0, cooked 1, wrong 0, short 0, unsolvable 0, unsolved 0, refused 0
 
 The FILE `-` is standard input; a file by that name is `./-`.
 

@@ -81,8 +81,8 @@ problem_codes = codes "BadBound" ∷ codes "BoundTooLarge" ∷ codes "BadAvoid" 
 
 abbrev pub verdict_codes : List (List ℕ)
 verdict_codes =
-    codes "TwoLengths" ∷ codes "undecided" ∷ codes "unsolvable" ∷ codes "short" ∷ codes "wrong" ∷ codes "cooked" ∷ codes "unclaimed" ∷
-    codes "sound" ∷ []
+    codes "TwoLengths" ∷ codes "undecided" ∷ codes "unsolvable" ∷ codes "unsolved" ∷ codes "short" ∷ codes "wrong" ∷ codes "cooked" ∷
+    codes "unclaimed" ∷ codes "several" ∷ codes "sound" ∷ []
 
 abbrev pub step_codes : List (List ℕ)
 step_codes = codes "NoSuchSubmitter" ∷ codes "Closed" ∷ codes "Full" ∷ codes "NotAccepted" ∷ codes "Delivered" ∷ codes "Withdrawn" ∷ []

@@ -160,7 +160,7 @@ static MOVES: [Explanation; 1] = [Explanation {
 letter stands for a piece and none for a pawn, or by its coordinates; and it may not leave
 its own king attacked. `matedesk moves FEN` lists all that are legal. `verify` says so of an
 operand of `bm` that is a string or names no legal move, and of the first word of `pv` where
-that claims.",
+that claims. `verify --import` reads moves as magazines have them, too: `1.Bh1!`, `R6g2`.",
     example: Some(Example {
         faulty: "matedesk play \"4k3/8/8/8/8/8/8/R3K3 w Q - 0 1\" O-O",
         mended: "matedesk play \"4k3/8/8/8/8/8/8/R3K3 w Q - 0 1\" O-O-O",
@@ -274,7 +274,7 @@ of `#0` in `bm`, too.",
 ];
 
 /// What `verify` says of a record's claims.
-static VERDICTS: [Explanation; 8] = [
+static VERDICTS: [Explanation; 10] = [
     Explanation {
         code: "TwoLengths",
         comes: "the first `#N` in `bm` isn't the number of `dm`",
@@ -282,7 +282,7 @@ static VERDICTS: [Explanation; 8] = [
 one.",
         example: Some(Example {
             faulty: "7k/8/5K2/8/8/8/8/R7 w - - bm #3 Kf7 Kg6; dm 2;",
-            mended: "7k/8/5K2/8/8/8/8/R7 w - - bm #2 Kf7 Kg6; dm 2;",
+            mended: "7k/8/5K2/8/8/8/8/R7 w - - am Kf7; bm #2 Kg6; dm 2;",
         }),
     },
     Explanation {
@@ -294,23 +294,31 @@ A longer limit may decide it; hard ones are decided sooner with `--workers`.",
     },
     Explanation {
         code: "unsolvable",
-        comes: "there is no mate within the number of moves",
-        means: "The number is that of `dm`, else of the first `#N` in `bm`, else of `--bound`: then it stands
-in the third field of the row as `#N?`, and no author said it. It may be too small, or a man
-stands on a wrong square.",
+        comes: "there is no mate within the number of moves that the line says",
+        means: "The number is that of `dm`, else of the first `#N` in `bm`. It may be too small, or a man stands
+on a wrong square.",
         example: Some(Example {
             faulty: "7k/8/5K2/8/8/8/8/R7 w - - bm Kf7 Kg6; dm 1;",
-            mended: "7k/8/5K2/8/8/8/8/R7 w - - bm Kf7 Kg6; dm 2;",
+            mended: "7k/8/5K2/8/8/8/8/R7 w - - am Kf7; bm Kg6; dm 2;",
+        }),
+    },
+    Explanation {
+        code: "unsolved",
+        comes: "the line says no number of moves, and there is no mate within that of `--bound`",
+        means: "The number that was asked stands in the third field of the row as `#N?`: no author said it. There
+may be a mate in more moves: say their number with `dm`, or try a larger `--bound`.",
+        example: Some(Example {
+            faulty: "7k/8/8/8/8/8/8/K7 w - - bm Kb2;",
+            mended: "7k/8/5K2/8/8/8/8/R7 w - - am Kf7; bm Kg6; dm 2;",
         }),
     },
     Explanation {
         code: "short",
-        comes: "there is a mate in fewer moves",
-        means: "The fourth field of the row has the length of the shortest mate, and the fifth its keys.
-Where the third has a question mark, as `#3?`, the line says no number of moves.",
+        comes: "there is a mate in fewer moves than the line says",
+        means: "The fourth field of the row has the length of the shortest mate, and the fifth its keys.",
         example: Some(Example {
             faulty: "7k/8/5K2/8/8/8/8/R7 w - - bm #3 Kf7 Kg6;",
-            mended: "7k/8/5K2/8/8/8/8/R7 w - - bm #2 Kf7 Kg6;",
+            mended: "7k/8/5K2/8/8/8/8/R7 w - - am Kf7; bm #2 Kg6;",
         }),
     },
     Explanation {
@@ -319,23 +327,24 @@ Where the third has a question mark, as `#3?`, the line says no number of moves.
         means: "The fifth field of the row has the keys, and the sixth the moves claimed.",
         example: Some(Example {
             faulty: "7k/8/5K2/8/8/8/8/R7 w - - bm Ra8 Kf7; dm 2;",
-            mended: "7k/8/5K2/8/8/8/8/R7 w - - bm Kf7 Kg6; dm 2;",
+            mended: "7k/8/5K2/8/8/8/8/R7 w - - am Kf7; bm Kg6; dm 2;",
         }),
     },
     Explanation {
         code: "cooked",
         comes: "a key isn't claimed; or no move is claimed, and there is more than one key",
         means: "Another first move mates as soon as what the author meant. The fifth field of the row has
-all keys, and the sixth the moves claimed.",
+all keys, and the sixth the moves claimed. The problem is to be mended, not its record: with
+all keys in `bm` it would have `several`. A key that is meant to be left out stands in `am`.",
         example: Some(Example {
-            faulty: "7k/8/5K2/8/8/8/8/R7 w - - bm Kf7; dm 2;",
-            mended: "7k/8/5K2/8/8/8/8/R7 w - - bm Kf7 Kg6; dm 2;",
+            faulty: "7k/8/5K2/8/8/8/8/R7 w - - bm Kg6; dm 2;",
+            mended: "7k/8/5K2/8/8/8/8/R7 w - - am Kf7; bm Kg6; dm 2;",
         }),
     },
     Explanation {
         code: "unclaimed",
         comes: "no move is claimed",
-        means: "The mate is as long as was asked for, and has one key, the fifth field of the row: but there was
+        means: "The mate is no shorter than the line says, and has one key, the fifth field of the row: but there was
 no claim to hold it against. Write behind `bm` what the author has for the key.",
         example: Some(Example {
             faulty: "7k/8/5K2/8/8/8/8/R7 w - - am Kf7; dm 2;",
@@ -343,8 +352,18 @@ no claim to hold it against. Write behind `bm` what the author has for the key."
         }),
     },
     Explanation {
+        code: "several",
+        comes: "there are several keys, and all of them are claimed",
+        means: "The record is right, but the problem is not sound: a sound one has one key. The fifth field of
+the row has all of them.",
+        example: Some(Example {
+            faulty: "7k/8/5K2/8/8/8/8/R7 w - - bm Kf7 Kg6; dm 2;",
+            mended: "7k/8/5K2/8/8/8/8/R7 w - - am Kf7; bm Kg6; dm 2;",
+        }),
+    },
+    Explanation {
         code: "sound",
-        comes: "none of the other verdicts applies",
+        comes: "there is one key, it is the one claimed, and the mate is no shorter than the line says",
         means: "The record is as it claims to be: nothing is to be mended.",
         example: None,
     },

@@ -1,11 +1,13 @@
-//! What stands before rows: the names of their fields before all of them, and the name of its file before each.
+//! What stands before rows, the names of their fields before all of them and the name of its file before each; and what is told at their end.
 
 ghost use Rattle.std.specs.Prelude.{◌≡◌, ◌++◌, IfErr, IfOk, OnErr, OnOk, true};
 ghost use Rattle.std.specs.Io.KnownBytes.{Appends};
 ghost use Rattle.byte_streams.specs.Stops.{AppendsPart, is_of_output};
 ghost use Rattle.file_verifying.specs.Verified.{header_text, prefix_of};
 
-use byte_streams::{Stop, put};
+use byte_streams::{NoMemory, Stop, put};
+use file_answers::complain;
+use mate_claims::{Counts, Hints};
 use std::alloc::{AllocError, Global};
 use std::io::Write;
 
@@ -40,4 +42,29 @@ pub(crate) fn put_header<O: Write>(out: &mut O, header: bool) -> Result<(), Stop
     } else {
         Ok(())
     }
+}
+
+/// What is told where a claim names no move.
+const UNNAMED: &str =
+    "NoSuchMove: moves are read in SAN or by coordinates; verify --import reads more, as Qh7!, R6g2, b8N, 1.Bh1";
+
+/// What is told where an opcode has other letters than the one that is read.
+const MISSPELT: &str = "an opcode as DM asks and claims nothing; only am, bm, dm and pv in small letters do";
+
+/// Tells at the end how many lines came to which verdict, and what was written, but isn't read so.
+pub fn tell_counts<E: Write>(
+    alloc: Global,
+    counts: &Counts,
+    hints: Hints,
+    err: &mut E,
+) -> Result<(), NoMemory> {
+    let counts = counts.text(alloc)?;
+    if hints.unnamed {
+        complain(err, UNNAMED);
+    }
+    if hints.misspelt {
+        complain(err, MISSPELT);
+    }
+    complain(err, counts.as_str());
+    Ok(())
 }

@@ -4,10 +4,10 @@ ghost use Rattle.std.specs.Prelude.{◌-◌, IfErr, IfOk, map};
 ghost use Rattle.file_answers.specs.Writing.{Gains};
 ghost use Rattle.file_verifying.specs.Verified.{LimitedHeaded, StopsLimitedHeaded, StopsVerifyingInTime, VerifiesInTime};
 
-use crate::headings::{Rows, prefix_of, put_header};
+use crate::headings::{Rows, prefix_of, put_header, tell_counts};
 use byte_streams::{Input, Stop};
 use file_answers::{
-    FileAnswers, FileStart, Source, SourceFiles, answer_files, complain, holds_reads,
+    FileAnswers, FileStart, Source, SourceFiles, answer_files, holds_reads,
 };
 use mate_answers::{Limited, TimeLimit};
 use mate_claims::{LimitedClaimMemory, LimitedClaims};
@@ -99,8 +99,7 @@ fn verify_rows<T: TimeLimit, V: Solver<T>, S: Source, O: Write, E: Write>(
     };
     match answer_files(alloc, &answers, files, memory, out, err) {
         Ok(unsound) => {
-            let counts = memory.counts.text(alloc)?;
-            complain(err, counts.as_str());
+            tell_counts(alloc, &memory.counts, memory.hints, err)?;
             Ok(unsound)
         }
         Err(stop) => Err(stop),

@@ -9,16 +9,16 @@ ghost use Rattle.file_answers.specs.Writing.{Gains};
 ghost use Rattle.mate_claims.specs.ClaimReplies.{IsClaimReply};
 ghost use Rattle.file_verifying.specs.Verified.{StopsHeaded, StopsVerifying, Verifies, VerifiesHeaded};
 
-use crate::headings::{Rows, prefix_of, put_header};
+use crate::headings::{Rows, prefix_of, put_header, tell_counts};
 use byte_streams::{Input, Stop};
 use chess_moves::Rays;
 use chess_problems::Bound;
 use command_words::VerifyAsked;
 use file_answers::{
-    FileAnswers, FileStart, Source, SourceFiles, answer_files, complain, holds_reads,
+    FileAnswers, FileStart, Source, SourceFiles, answer_files, holds_reads,
 };
 use file_solving::new_memo;
-use mate_claims::{ClaimMemory, ClaimRows, Counts};
+use mate_claims::{ClaimMemory, ClaimRows, Counts, Hints};
 use std::alloc::Global;
 use std::io::Write;
 use text_lines::{LinesFrom, answer_lines};
@@ -59,6 +59,9 @@ pub trait Verifier {
 
     /// How many lines came to which verdict so far.
     fn counts(&self, memory: &Self::Memory) -> Counts;
+
+    /// What is told beside these counts so far.
+    fn hints(&self, memory: &Self::Memory) -> Hints;
 }
 
 /// The calling thread, over one memo.
@@ -104,6 +107,10 @@ impl Verifier for OneVerifier<'_> {
 
     fn counts(&self, memory: &ClaimMemory) -> Counts {
         memory.counts
+    }
+
+    fn hints(&self, memory: &ClaimMemory) -> Hints {
+        memory.hints
     }
 }
 
@@ -172,8 +179,8 @@ fn verify_rows<V: Verifier, S: Source, O: Write, E: Write>(
     };
     match answer_files(alloc, &answers, files, memory, out, err) {
         Ok(unsound) => {
-            let counts = verifier.counts(memory).text(alloc)?;
-            complain(err, counts.as_str());
+            let counts = verifier.counts(memory);
+            tell_counts(alloc, &counts, verifier.hints(memory), err)?;
             Ok(unsound)
         }
         Err(stop) => Err(stop),
@@ -217,6 +224,7 @@ pub fn verify<S: Source, O: Write, E: Write>(
     let mut memory = ClaimMemory {
         memo: new_memo(alloc, asked.memo.get() as usize)?,
         counts: Counts::new(),
+        hints: Hints::new(),
     };
     let verifier = OneVerifier {
         rays: &rays,

@@ -17,7 +17,7 @@ use file_answers::{
     FileAnswers, FileStart, Source, SourceFiles, answer_files, complain, holds_reads,
 };
 use file_solving::new_memo;
-use mate_claims::{ClaimMemory, ClaimRows, Counts};
+use mate_claims::{ClaimMemory, ClaimRows, Counts, Hints};
 use problem_import::{ProblemLines, ProblemMemory};
 use std::alloc::{AllocError, Global};
 use std::cell::Cell;
@@ -116,6 +116,7 @@ fn show_rows<S: Source, O: Write, E: Write>(
     let claims = ClaimMemory {
         memo,
         counts: Counts::new(),
+        hints: Hints::new(),
     };
     let mut memory = ProblemMemory::new(claims);
     let answers = ImportedAnswers {

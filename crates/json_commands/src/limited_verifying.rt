@@ -7,8 +7,9 @@ ghost use Rattle.json_commands.specs.Verified.{StopsVerifyingLimitedJson, Verifi
 use crate::json_files::has_several;
 use byte_streams::{Input, Stop};
 use file_answers::{
-    FileAnswers, FileStart, Source, SourceFiles, answer_files, complain, holds_reads,
+    FileAnswers, FileStart, Source, SourceFiles, answer_files, holds_reads,
 };
+use file_verifying::tell_counts;
 use json_replies::{Form, JsonReplies, front_of};
 use mate_answers::{Limited, TimeLimit};
 use mate_claims::{LimitedClaimMemory, LimitedClaims};
@@ -113,8 +114,7 @@ pub fn verify_json_limited<T: TimeLimit, V: Solver<T>, S: Source, O: Write, E: W
     };
     match answer_files(alloc, &claims, files, memory, out, err) {
         Ok(unsound) => {
-            let counts = memory.counts.text(alloc)?;
-            complain(err, counts.as_str());
+            tell_counts(alloc, &memory.counts, memory.hints, err)?;
             Ok(unsound)
         }
         Err(stop) => Err(stop),

@@ -10,11 +10,12 @@ use chess_moves::Rays;
 use chess_problems::Bound;
 use command_words::VerifyAsked;
 use file_answers::{
-    FileAnswers, FileStart, Source, SourceFiles, answer_files, complain, holds_reads,
+    FileAnswers, FileStart, Source, SourceFiles, answer_files, holds_reads,
 };
 use file_solving::new_memo;
+use file_verifying::tell_counts;
 use json_replies::{Form, JsonReplies, front_of};
-use mate_claims::{ClaimMemory, ClaimRows, Counts};
+use mate_claims::{ClaimMemory, ClaimRows, Counts, Hints};
 use std::alloc::Global;
 use std::io::Write;
 use text_lines::{LinesFrom, answer_lines};
@@ -105,6 +106,7 @@ pub fn verify_json<S: Source, O: Write, E: Write>(
     let mut memory = ClaimMemory {
         memo,
         counts: Counts::new(),
+        hints: Hints::new(),
     };
     let claims = JsonClaims {
         rays: &rays,
@@ -118,8 +120,7 @@ pub fn verify_json<S: Source, O: Write, E: Write>(
     };
     match answer_files(alloc, &claims, &files, &mut memory, out, err) {
         Ok(unsound) => {
-            let counts = memory.counts.text(alloc)?;
-            complain(err, counts.as_str());
+            tell_counts(alloc, &memory.counts, memory.hints, err)?;
             Ok(unsound)
         }
         Err(stop) => Err(stop),

@@ -1,9 +1,10 @@
 -- Answers to records as objects of JSON (RFC 8259, section 4).
-use Rattle.std.specs.Prelude.{ℕ, ◌==◌, List, [], ◌∷◌, ◌++◌, Bool, false, ◌&&◌, ◌||◌, codes, decimal, drop, flat_map, if◌then◌else◌}
+use Rattle.std.specs.Prelude.{ℕ, ◌==◌, List, [], ◌∷◌, ◌++◌, Bool, false, not, ◌&&◌, ◌||◌, codes, decimal, drop, flat_map, if◌then◌else◌}
 use Rattle.std.specs.List.{list_any}
 use Rattle.chess_board.specs.Characters.{char}
 use Rattle.chess_notation.specs.Opcodes.{same_text}
 use Rattle.chess_notation.specs.Segments.{segments_of}
+use Rattle.chess_notation.specs.Words.{is_empty_text}
 use Rattle.json_replies.specs.Cuts.{before, from_on}
 use Rattle.json_replies.specs.Strings.{array, string}
 
@@ -51,6 +52,31 @@ abbrev pub other_member : Bool → List ℕ → List ℕ
 other_member keys operation =
     if keys && tells_mate (opcode_of operation) then [] else member (opcode_of operation) (array (operands_of operation))
 
+-- ---- an answer that was not decided, by its comment: `no mate in K, not decided within N in S s`, or where K is 0 only its second part
+
+-- the word behind so many spaces and one
+abbrev pub word_in : ℕ → List ℕ → List ℕ
+word_in spaces text = before (char " ") 0 (drop 1 (from_on (char " ") spaces text))
+
+abbrev pub has_comma : List ℕ → Bool
+has_comma text = not (is_empty_text (from_on (char ",") 0 text))
+
+-- within how many moves there is known to be no mate, and within how many one was asked for
+unfoldable pub undecided_by : List ℕ → List ℕ → List ℕ
+undecided_by none asked = member (codes "decided") (codes "false") ++ (member (codes "none_within") none ++ member (codes "asked") asked)
+
+-- what a comment says of it; a comment that there is no mate has no comma
+abbrev pub comment_members : List ℕ → List ℕ
+comment_members comment =
+    if same_text (codes "\"not") (word_in 0 comment) then undecided_by (codes "0") (word_in 3 comment)
+    else (if has_comma comment then undecided_by (before (char ",") 0 (word_in 3 comment)) (word_in 7 comment) else [])
+
+abbrev pub undecided_member : List ℕ → List ℕ
+undecided_member operation = if same_text (codes "c0") (opcode_of operation) then comment_members (operands_of operation) else []
+
+abbrev pub undecided_members : List (List ℕ) → List ℕ
+undecided_members operations = flat_map undecided_member operations
+
 -- ---- objects
 
 -- the operations of an answer
@@ -68,7 +94,8 @@ members operations = members_by (list_any are_keys operations) operations
 -- the object of an answer up to its last operation: its fields are what stands before the fourth space
 unfoldable pub open_answer : List ℕ → ℕ → List ℕ → List ℕ
 open_answer front number answer =
-    opening front number ++ (codes ",\"fen\":" ++ string (before (char " ") 3 answer)) ++ members (operations_in answer)
+    opening front number ++ (codes ",\"fen\":" ++ string (before (char " ") 3 answer)) ++ undecided_members (operations_in answer)
+    ++ members (operations_in answer)
 
 abbrev pub answer_object : List ℕ → ℕ → List ℕ → List ℕ
 answer_object front number answer = open_answer front number answer ++ codes "}}\n"

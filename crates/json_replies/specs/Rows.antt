@@ -35,8 +35,14 @@ is_default field = not (is_empty_text (from_on (char "?") 0 field))
 abbrev pub asked_members : List ℕ → List ℕ
 asked_members field = member (codes "asked") (number_in field) ++ member (codes "default") (truth_text (is_default field))
 
+-- A question mark says that it wasn't decided.
+abbrev pub is_unknown : List ℕ → Bool
+is_unknown field = same_text (codes "?") field
+
 abbrev pub found_member : List ℕ → List ℕ
-found_member field = if is_none field then [] else member (codes "found") (number_in field)
+found_member field =
+    if is_none field then []
+    else (if is_unknown field then member (codes "decided") (codes "false") else member (codes "found") (number_in field))
 
 abbrev pub words_of : List ℕ → List (List ℕ)
 words_of field = if is_none field then [] else slice_split (λ b. b == char " ") field
@@ -48,10 +54,19 @@ words_array words = char "[" ∷ (drop 1 (flat_map (λ word. char "," ∷ string
 unfoldable pub words_member : List ℕ → List ℕ → List ℕ
 words_member name field = member name (words_array (words_of field))
 
+-- what is claimed, and by which operation: the line of play is named before its move
+abbrev pub claimed_by : List ℕ → List (List ℕ) → List ℕ
+claimed_by opcode words = member (codes "claimed") (words_array words) ++ member (codes "claimed_by") (string opcode)
+
+unfoldable pub claimed_members : List (List ℕ) → List ℕ
+claimed_members [] = member (codes "claimed") (words_array [])
+claimed_members (word ∷ words) =
+    if same_text (codes "pv") word then claimed_by (codes "pv") words else claimed_by (codes "bm") (word ∷ words)
+
 -- what is told of a record, which asks for some number of moves
 unfoldable pub record_members : List ℕ → List ℕ
 record_members row = asked_members (field_in 1 row) ++ found_member (field_in 2 row) ++ words_member (codes "keys") (field_in 3 row)
-    ++ words_member (codes "claimed") (field_in 4 row) ++ member (codes "id") (string (or_nothing (field_in 5 row)))
+    ++ claimed_members (words_of (field_in 4 row)) ++ member (codes "id") (string (or_nothing (field_in 5 row)))
 
 -- A line that is no record asks for none.
 abbrev pub told_members : List ℕ → List ℕ

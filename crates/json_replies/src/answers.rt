@@ -8,6 +8,7 @@ ghost use Rattle.json_replies.specs.Answers.{is_refusal as is_refusal_text, othe
 use crate::cuts::{cut, without_first};
 use crate::operations::{have_keys, is_length, operations_of, parts_of, tells_mate};
 use crate::strings::{push_array, push_byte, push_string};
+use crate::undecided::push_undecided;
 use std::alloc::{AllocError, Global};
 
 /// What all objects of a file of this name begin with, where there are several.
@@ -166,6 +167,7 @@ pub(crate) fn open_answer(
     let mut out = opening(alloc, front, number)?;
     out.extend_from_slice(b",\"fen\":")?;
     push_string(&mut out, fen)?;
+    push_undecided(&mut out, operations.as_slice())?;
     push_members(alloc, &mut out, operations.as_slice())?;
     Ok(out)
 }

@@ -1,7 +1,7 @@
 //! Replies as JSON (RFC 8259), a line for each.
 //!
 //! What a line is answered is the business of others: here that very reply is written in another form. To read: `specs/Strings.antt` and
-//! `strings`; `specs/Answers.antt`, `operations` and `answers`, for those of `solve`, over `cuts`; `specs/Rows.antt` and `rows`, for those of
+//! `strings`; `specs/Answers.antt`, `operations`, `undecided` and `answers`, for those of `solve`, over `cuts`; `specs/Rows.antt` and `rows`, for those of
 //! `verify`; `specs/Trees.antt` and `trees`, for those of `tree`, which `gathered` takes from who writes them; then `replies`; and `moves`, those
 //! of a FEN.
 #![tactic(auto)]
@@ -15,6 +15,7 @@ mod replies;
 mod rows;
 mod strings;
 mod trees;
+mod undecided;
 
 pub use answers::front_of;
 pub use gathered::Gathered;

@@ -1,10 +1,11 @@
 //! Rows of claims as objects of JSON.
 
-ghost use Rattle.std.specs.Prelude.{◌≡◌, ◌==◌, ◌++◌, ◌∷◌, IfOk, OnOk, flat_map, map};
+ghost use Rattle.std.specs.Prelude.{◌≡◌, ◌==◌, ◌++◌, ◌∷◌, IfOk, OnOk, codes, flat_map, map};
+ghost use Rattle.chess_notation.specs.Opcodes.{same_text};
 ghost use Rattle.std.specs.List.{slice_split};
 ghost use Rattle.chess_board.specs.Characters.{char};
 ghost use Rattle.json_replies.specs.Rows.{asked_members, field_in as field_of_row, found_member, is_default as is_default_number};
-ghost use Rattle.json_replies.specs.Rows.{is_none as is_none_of, number_in as number_said_in, or_nothing as text_or_nothing};
+ghost use Rattle.json_replies.specs.Rows.{claimed_by, claimed_members, is_none as is_none_of, is_unknown as is_unknown_of, number_in as number_said_in, or_nothing as text_or_nothing};
 ghost use Rattle.json_replies.specs.Rows.{record_members, row_json as row_json_of, row_object as row_object_of, told_members, truth_text};
 ghost use Rattle.json_replies.specs.Rows.{words_array, words_member, words_of as words_in_field};
 ghost use Rattle.json_replies.specs.Strings.{string};
@@ -27,6 +28,13 @@ fn is_none(field: &[u8]) -> bool
     ensures { result ≡ is_none_of field.now }
 {
     matches!(field, [b'-'])
+}
+
+/// Whether a field says that it wasn't decided.
+fn is_unknown(field: &[u8]) -> bool
+    ensures { result ≡ is_unknown_of field.now }
+{
+    matches!(field, [b'?'])
 }
 
 fn or_nothing(field: &[u8]) -> &[u8]
@@ -70,15 +78,26 @@ fn push_asked(out: &mut Vec<u8>, field: &[u8]) -> Result<(), AllocError>
     push_truth(out, is_default(field))
 }
 
-/// Adds the length that was found.
+/// Adds the length that was found, or that it isn't known whether there is one.
 fn push_found(out: &mut Vec<u8>, field: &[u8]) -> Result<(), AllocError>
     ensures { OnOk result (out.new.items ≡ out.old.items ++ found_member field.now) }
 {
     if is_none(field) {
         return Ok(());
     }
+    if is_unknown(field) {
+        push_name(out, b"decided")?;
+        return out.extend_from_slice(b"false");
+    }
     push_name(out, b"found")?;
     out.extend_from_slice(number_in(field))
+}
+
+/// Whether a word names the line of play.
+fn is_play(word: &[u8]) -> bool
+    ensures { result ≡ same_text (codes "pv") word.now }
+{
+    matches!(word, [b'p', b'v'])
 }
 
 /// What stands between the spaces of a text.
@@ -136,6 +155,41 @@ fn push_words_member(
     push_words(alloc, out, words.as_slice())
 }
 
+/// Adds what is claimed, and by which operation.
+fn push_claimed_by(
+    alloc: Global,
+    out: &mut Vec<u8>,
+    opcode: &[u8],
+    words: &[&[u8]],
+) -> Result<(), AllocError>
+    ensures { OnOk result (out.new.items ≡ out.old.items ++ claimed_by opcode.now (map (λ w. w.now) words.now)) }
+{
+    push_name(out, b"claimed")?;
+    push_words(alloc, out, words)?;
+    push_name(out, b"claimed_by")?;
+    push_string(out, opcode)
+}
+
+/// Adds what is claimed, and by which operation, where anything is.
+#[tactic(auto, unfolding(crate::specs::Rows::claimed_members))]
+fn push_claimed(alloc: Global, out: &mut Vec<u8>, words: &[&[u8]]) -> Result<(), AllocError>
+    ensures { OnOk result (out.new.items ≡ out.old.items ++ claimed_members (map (λ w. w.now) words.now)) }
+{
+    match words {
+        [] => {
+            push_name(out, b"claimed")?;
+            push_words(alloc, out, &[])
+        }
+        [word, behind @ ..] => {
+            if is_play(word) {
+                push_claimed_by(alloc, out, b"pv", behind)
+            } else {
+                push_claimed_by(alloc, out, b"bm", words)
+            }
+        }
+    }
+}
+
 /// Adds what is told of a record.
 #[tactic(auto, unfolding(crate::specs::Rows::record_members))]
 fn push_record(alloc: Global, out: &mut Vec<u8>, row: &[u8]) -> Result<(), AllocError>
@@ -144,7 +198,8 @@ fn push_record(alloc: Global, out: &mut Vec<u8>, row: &[u8]) -> Result<(), Alloc
     push_asked(out, field_in(row, 1))?;
     push_found(out, field_in(row, 2))?;
     push_words_member(alloc, out, b"keys", field_in(row, 3))?;
-    push_words_member(alloc, out, b"claimed", field_in(row, 4))?;
+    let claimed = words_of(alloc, field_in(row, 4))?;
+    push_claimed(alloc, out, claimed.as_slice())?;
     push_name(out, b"id")?;
     push_string(out, or_nothing(field_in(row, 5)))
 }

@@ -98,17 +98,18 @@ struct LimitedText {
     is_decided: bool,
 }
 
-/// The reply to a line that says this record.
+/// The reply to this line, which says this record.
 fn limited_text<T: TimeLimit, S: Solver<T>>(
     alloc: Global,
     limited: &Limited<T, S>,
+    line: &[u8],
     record: &Record,
     memory: &mut S::Memory,
 ) -> Result<LimitedText, NoMemory>
     requires { S.ready limited.now.solver }
     ensures decided { IfOk result (λ said. said.is_decided ≡ true → said.text.items ≡ answer_line «record».now) }
     ensures undecided { IfOk result (λ said. said.is_decided ≡ false
-        → IsUndecidedLine limited.now.seconds «record».now said.text.items) }
+        → IsUndecidedLine limited.now.seconds line.now «record».now said.text.items) }
     ensures stopped { IfOk result (λ said. said.is_decided ≡ false → T.may_stop limited.now.limit.now) }
     ensures room { S.room memory.new ≡ S.room memory.old }
 {
@@ -119,7 +120,7 @@ fn limited_text<T: TimeLimit, S: Solver<T>>(
     };
     let (mut text, is_decided) = match decide(&guide, &limited.solver, record, memory) {
         Ok(outcome) => (answer_text(alloc, limited.rays, record, &outcome)?, true),
-        Err(none) => (undecided_text(alloc, record, none, limited.seconds)?, false),
+        Err(none) => (undecided_text(alloc, line, record, none, limited.seconds)?, false),
     };
     text.push('\n')?;
     Ok(LimitedText {
@@ -159,7 +160,7 @@ impl<T: TimeLimit, S: Solver<T>> LineHandler for Limited<'_, T, S> {
     ) -> Result<Output, NoMemory> {
         match read_record(alloc, self.rays, line, self.default) {
             Ok(record) => {
-                let said = limited_text(alloc, self, &record, &mut memory.memory)?;
+                let said = limited_text(alloc, self, line, &record, &mut memory.memory)?;
                 let output = Output {
                     text: said.text,
                     refused: 0,

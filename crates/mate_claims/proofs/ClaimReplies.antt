@@ -28,29 +28,31 @@ fault_told place default bound line kind row verdict source (Err e) why other is
 
 -- What is told of a record of whose claims this comes, by what was found.
 pub told_by_said : {X E : Type 0} (place : List ℕ) (r : RecordValue) (source : BoundSource) (word claims : List ℕ) (v : Option ClaimVerdict)
-    (found outcome : Outcome) (said : Outcome → Said) (row : X → List ℕ) (verdict : X → Option ClaimVerdict) (result : Result X E) → found ≡ outcome
-    → record { word = word; claims = claims; verdict = v } ≡ said found → IfOk result (λ x. row x ≡ row_of place r source word found claims)
-    → IfOk result (λ x. verdict x ≡ v)
-    → IfOk result (λ x. (row x ≡ row_of place r source (said outcome).word outcome (said outcome).claims) × (verdict x ≡ (said outcome).verdict))
-told_by_said place r source word claims v found outcome said row verdict (Ok x) same is at of =
-    subst (λ o. (row x ≡ row_of place r source (said o).word o (said o).claims) × (verdict x ≡ (said o).verdict)) same
-    (at ∙ ap (λ (s : Said). row_of place r source s.word found s.claims) is, of ∙ ap (λ (s : Said). s.verdict) is)
-told_by_said place r source word claims v found outcome said row verdict (Err e) same is at of = tt
+    (found outcome : Outcome) (shown : Outcome → Option Outcome) (said : Outcome → Said) (row : X → List ℕ) (verdict : X → Option ClaimVerdict)
+    (result : Result X E) → found ≡ outcome
+    → record { word = word; claims = claims; verdict = v } ≡ said found
+    → IfOk result (λ x. row x ≡ row_of place r source word (shown found) claims) → IfOk result (λ x. verdict x ≡ v)
+    → IfOk result (λ x. (row x ≡ row_of place r source (said outcome).word (shown outcome) (said outcome).claims)
+    × (verdict x ≡ (said outcome).verdict))
+told_by_said place r source word claims v found outcome shown said row verdict (Ok x) same is at of =
+    subst (λ o. (row x ≡ row_of place r source (said o).word (shown o) (said o).claims) × (verdict x ≡ (said o).verdict)) same
+    (at ∙ ap (λ (s : Said). row_of place r source s.word (shown found) s.claims) is, of ∙ ap (λ (s : Said). s.verdict) is)
+told_by_said place r source word claims v found outcome shown said row verdict (Err e) same is at of = tt
 
 -- What is told of a record that a line says.
 pub told_record : (place : List ℕ) (default : ℕ) (line : List ℕ) (r : RecordValue) (source : BoundSource) (words row : List ℕ)
     (verdict : Option ClaimVerdict) → ReadsClaimed line default r → IsSource line r source → words ≡ claims_text line
-    → IsToldBy place r source (said_by line words (words_in words) r (truth (problem_of r))) row verdict
+    → IsToldBy place r source (said_by source line words (words_in words) r (truth (problem_of r))) row verdict
     → IsTold place default line row verdict (Some source)
 unfolding said_of claim_words
 told_record place default line r source words row verdict reads from same is =
     of_record r source row verdict reads from
-    (subst (λ t. IsToldBy place r source (said_by line t (words_in t) r (truth (problem_of r))) row verdict) same is)
+    (subst (λ t. IsToldBy place r source (said_by source line t (words_in t) r (truth (problem_of r))) row verdict) same is)
 
 pub told_of_one : {X E : Type 0} (place : List ℕ) (default : ℕ) (line : List ℕ) (r : RecordValue) (source : BoundSource) (words : List ℕ)
     (row : X → List ℕ) (verdict : X → Option ClaimVerdict) (from : X → Option BoundSource) (result : Result X E) → ReadsClaimed line default r
     → IsSource line r source → words ≡ claims_text line
-    → IfOk result (λ x. IsToldBy place r source (said_by line words (words_in words) r (truth (problem_of r))) (row x) (verdict x))
+    → IfOk result (λ x. IsToldBy place r source (said_by source line words (words_in words) r (truth (problem_of r))) (row x) (verdict x))
     → IfOk result (λ x. from x ≡ Some source) → IfOk result (λ x. IsTold place default line (row x) (verdict x) (from x))
 told_of_one place default line r source words row verdict from (Ok x) reads comes same is known =
     rw known (told_record place default line r source words (row x) (verdict x) reads comes same is)

@@ -15,13 +15,13 @@ use Rattle.mate_claims.specs.Said.{Said, said_of}
 -- What is told of a record of whose claims this comes: what was found in any case.
 abbrev pub IsToldBy : List ℕ → RecordValue → BoundSource → Said → List ℕ → Option ClaimVerdict → Type 0
 IsToldBy place r source said row verdict =
-    (row ≡ row_of place r source said.word (truth (problem_of r)) said.claims) × (verdict ≡ said.verdict)
+    (row ≡ row_of place r source said.word (Some (truth (problem_of r))) said.claims) × (verdict ≡ said.verdict)
 
 -- What is told of a line that isn't blank; its verdict, if it isn't refused; and of a record where its bound comes from.
 pub data IsTold (place : List ℕ) (default : ℕ) (line : List ℕ) : List ℕ → Option ClaimVerdict → Option BoundSource → Type 0 where
   no_record : (fault : EpdFault) → IsFaultOf line fault → IsTold place default line (refused_row place (epd_fault_name fault)) None None
   of_record : (r : RecordValue) (source : BoundSource) (row : List ℕ) (verdict : Option ClaimVerdict) → ReadsClaimed line default r
-      → IsSource line r source → IsToldBy place r source (said_of line r (truth (problem_of r))) row verdict
+      → IsSource line r source → IsToldBy place r source (said_of source line r (truth (problem_of r))) row verdict
       → IsTold place default line row verdict (Some source)
 
 -- a line that is known not to be sound is refused by its claims

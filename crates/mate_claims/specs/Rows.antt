@@ -1,5 +1,5 @@
 -- The row of a line: seven fields, parted by tabs (own to this project).
-use Rattle.std.specs.Prelude.{ℕ, ◌==◌, List, [], ◌∷◌, ◌++◌, map, filter, drop, codes, decimal, not}
+use Rattle.std.specs.Prelude.{ℕ, ◌==◌, List, [], ◌∷◌, ◌++◌, Option, Some, None, map, filter, drop, codes, decimal, not}
 use Rattle.chess_board.specs.Characters.{char}
 use Rattle.chess_board.specs.Positions.{Setup}
 use Rattle.chess_board.specs.Moves.{Move}
@@ -33,6 +33,7 @@ abbrev pub asked_field : BoundSource → ℕ → List ℕ
 asked_field Line n = length_field n
 asked_field Default n = length_field n ++ char "?" ∷ []
 
+-- the length of the shortest mate
 abbrev pub found_field : Outcome → List ℕ
 found_field (Mate n keys pv) = length_field n
 found_field NoMate = field []
@@ -42,16 +43,20 @@ abbrev pub keys_found : Outcome → List Move
 keys_found (Mate n keys pv) = keys.items
 keys_found NoMate = []
 
+-- the length and the keys that were found; a question mark where it isn't known whether there is a mate
+abbrev pub found_fields : Setup → Option Outcome → List ℕ
+found_fields p (Some outcome) = found_field outcome ++ field (drop 1 (listed p (keys_found outcome)))
+found_fields p None = field (char "?" ∷ []) ++ field []
+
 -- operands of which each stands behind a space, without the first space and the quotation marks
 abbrev pub unquoted : List ℕ → List ℕ
 unquoted operands = filter (λ b. not (b == char "\"")) (drop 1 operands)
 
--- the row of a record: its line's place, a word for what comes of its claims, the lengths asked for and found, the keys, the claims, each
--- behind a space, the operands of `id`
-unfoldable pub row_of : List ℕ → RecordValue → BoundSource → List ℕ → Outcome → List ℕ → List ℕ
+-- the row of a record: its line's place, a word for what comes of its claims, the length asked for, what was found, where it is known, the
+-- claims, each behind a space, the operands of `id`
+unfoldable pub row_of : List ℕ → RecordValue → BoundSource → List ℕ → Option Outcome → List ℕ → List ℕ
 row_of place r source word outcome claims =
-    place ++ field word ++ asked_field source r.bound ++ found_field outcome ++ field (drop 1 (listed r.position (keys_found outcome)))
-    ++ field (drop 1 claims) ++ field (unquoted (operands_under (codes "id") r.rest)) ++ char "\n" ∷ []
+    place ++ field word ++ asked_field source r.bound ++ found_fields r.position outcome ++ field (drop 1 claims) ++ field (unquoted (operands_under (codes "id") r.rest)) ++ char "\n" ∷ []
 
 -- the row of a line that is refused: its place and the fault's name
 unfoldable pub refused_row : List ℕ → List ℕ → List ℕ

@@ -1,6 +1,6 @@
 //! What is told of a line that is held against its own claims.
 
-ghost use Rattle.std.specs.Prelude.{◌≡◌, ◌≢◌, ◌≤◌, IfNone, IfOk, IfSome, None, Some};
+ghost use Rattle.std.specs.Prelude.{◌≡◌, ◌≢◌, ◌≤◌, IfNone, IfOk, IfSome, None, Some, is_some, option_map, true};
 ghost use Rattle.chess_notation.specs.Words.{words_in};
 ghost use Rattle.chess_notation.specs.EpdFaults.{epd_fault_name};
 ghost use Rattle.chess_notation.specs.Records.{problem_of};
@@ -14,6 +14,7 @@ ghost use Rattle.mate_claims.specs.Said.{said_by};
 use crate::bound_sources::{BoundSource, bound_source};
 use crate::claim_verdicts::ClaimVerdict;
 use crate::claimed_records::ClaimedRecord;
+use crate::hints::Hints;
 use crate::rows::{Found, keys_text, push_row, refused_row};
 use crate::said::{Said, said_of_record};
 use byte_streams::NoMemory;
@@ -23,12 +24,15 @@ use chess_problems::{Bound, Outcome};
 use mate_search::{Memo, solve};
 use std::alloc::Global;
 
-/// What is told of a line: its row, with a newline; its verdict, if it isn't refused; and of a record where its bound comes from.
+/// What is told of a line: its row, with a newline; its verdict, if it isn't refused; of a record where its bound comes from; whether it was
+/// decided, as all is that is refused by its record; and what is told beside.
 #[derive(Drop)]
 pub struct Told {
     pub row: Vec<u8>,
     pub verdict: Option<ClaimVerdict>,
     pub source: Option<BoundSource>,
+    pub is_decided: bool,
+    pub hints: Hints,
 }
 
 /// What is told of a line that says no record. Want of memory is no fault of the line.
@@ -37,6 +41,7 @@ pub(crate) fn told_of_fault(alloc: Global, place: &[u8], fault: EpdFault) -> Res
     ensures row { IfOk result (λ told. told.row.items ≡ refused_row_of place.now (epd_fault_name fault)) }
     ensures verdict { IfOk result (λ told. told.verdict ≡ None) }
     ensures source { IfOk result (λ told. told.source ≡ None) }
+    ensures decided { IfOk result (λ told. told.is_decided ≡ true) }
 {
     if fault == EpdFault::NoMemory {
         return Err(NoMemory);
@@ -45,29 +50,35 @@ pub(crate) fn told_of_fault(alloc: Global, place: &[u8], fault: EpdFault) -> Res
         row: refused_row(alloc, place, fault.code())?,
         verdict: None,
         source: None,
+        is_decided: true,
+        hints: Hints::new(),
     })
 }
 
-/// What is told of a record of whose claims this comes, by what was found.
+/// What is told of a record of whose claims this comes, by what was found, if that is known.
 pub(crate) fn told_by(
     alloc: Global,
     claimed: &ClaimedRecord<'_>,
     said: &Said,
-    found: &Found<'_>,
+    found: Option<&Found<'_>>,
 ) -> Result<Told, NoMemory>
-    requires keys { found.now.keys.now ≡ listed claimed.now.«record».now.position (keys_found_in found.now.outcome.now) }
+    requires keys { IfSome found (λ f. f.now.keys.now ≡ listed claimed.now.«record».now.position (keys_found_in f.now.outcome.now)) }
     ensures row { IfOk result (λ told. told.row.items ≡ row_of claimed.now.place.now claimed.now.«record».now claimed.now.source
-        said.now.word.now found.now.outcome.now said.now.claims.items) }
+        said.now.word.now (option_map (λ f. f.now.outcome.now) found.entry) said.now.claims.items) }
     ensures verdict { IfOk result (λ told. told.verdict ≡ said.now.verdict) }
     ensures source { IfOk result (λ told. told.source ≡ Some claimed.now.source) }
+    ensures decided { IfOk result (λ told. told.is_decided ≡ is_some found.entry) }
 {
     let mut row = Vec::new(alloc);
+    let record = claimed.record;
     let claims = said.claims.as_slice();
     push_row(alloc, &mut row, claimed, said.word, found, claims)?;
     Ok(Told {
         row,
         verdict: said.verdict,
         source: Some(claimed.source),
+        is_decided: found.is_some(),
+        hints: Hints::of(said.word, record.rest.as_slice()),
     })
 }
 
@@ -82,12 +93,13 @@ fn told_of_found(
     requires playable { IsPlayable claimed.now.«record».now.position found.now.outcome.now }
     requires keys { found.now.keys.now ≡ listed claimed.now.«record».now.position (keys_found_in found.now.outcome.now) }
     ensures told { IfOk result (λ told. IsToldBy claimed.now.place.now claimed.now.«record».now claimed.now.source
-        (said_by claimed.now.line.now claimed.now.words.now (words_in claimed.now.words.now) claimed.now.«record».now
+        (said_by claimed.now.source claimed.now.line.now claimed.now.words.now (words_in claimed.now.words.now) claimed.now.«record».now
         (truth (problem_of claimed.now.«record».now))) told.row.items told.verdict) }
     ensures source { IfOk result (λ told. told.source ≡ Some claimed.now.source) }
+    ensures decided { IfOk result (λ told. told.is_decided ≡ true) }
 {
     let said = said_of_record(alloc, rays, claimed, found)?;
-    told_by(alloc, claimed, &said, found)
+    told_by(alloc, claimed, &said, Some(found))
 }
 
 /// What is told of a record with this outcome.
@@ -100,9 +112,10 @@ pub(crate) fn told_of_outcome(
     requires truth { outcome.now ≡ truth (problem_of claimed.now.«record».now) }
     requires playable { IsPlayable claimed.now.«record».now.position outcome.now }
     ensures told { IfOk result (λ told. IsToldBy claimed.now.place.now claimed.now.«record».now claimed.now.source
-        (said_by claimed.now.line.now claimed.now.words.now (words_in claimed.now.words.now) claimed.now.«record».now
+        (said_by claimed.now.source claimed.now.line.now claimed.now.words.now (words_in claimed.now.words.now) claimed.now.«record».now
         (truth (problem_of claimed.now.«record».now))) told.row.items told.verdict) }
     ensures source { IfOk result (λ told. told.source ≡ Some claimed.now.source) }
+    ensures decided { IfOk result (λ told. told.is_decided ≡ true) }
 {
     let record = claimed.record;
     let keys = keys_text(alloc, rays, &record.position, outcome)?;
@@ -121,9 +134,10 @@ fn told_of_record(
     memo: &mut Memo,
 ) -> Result<Told, NoMemory>
     ensures told { IfOk result (λ told. IsToldBy claimed.now.place.now claimed.now.«record».now claimed.now.source
-        (said_by claimed.now.line.now claimed.now.words.now (words_in claimed.now.words.now) claimed.now.«record».now
+        (said_by claimed.now.source claimed.now.line.now claimed.now.words.now (words_in claimed.now.words.now) claimed.now.«record».now
         (truth (problem_of claimed.now.«record».now))) told.row.items told.verdict) }
     ensures source { IfOk result (λ told. told.source ≡ Some claimed.now.source) }
+    ensures decided { IfOk result (λ told. told.is_decided ≡ true) }
     ensures room { memo.new.room ≡ memo.old.room }
     ensures within { memo.new.kept ≤ memo.new.room }
 {
@@ -145,6 +159,7 @@ pub fn told_of(
     memo: &mut Memo,
 ) -> Result<Told, NoMemory>
     ensures told { IfOk result (λ told. IsTold place.now default line.now told.row.items told.verdict told.source) }
+    ensures decided { IfOk result (λ told. told.is_decided ≡ true) }
     ensures room { memo.new.room ≡ memo.old.room }
     ensures within { memo.new.kept ≤ memo.new.room }
 {

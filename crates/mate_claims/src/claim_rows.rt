@@ -8,6 +8,7 @@ ghost use Rattle.mate_claims.specs.Counts.{with_one, with_unread};
 use crate::claim_replies::{Told, told_of, told_unsolved};
 use crate::claim_verdicts::ClaimVerdict;
 use crate::counts::Counts;
+use crate::hints::Hints;
 use crate::rows::refused_row;
 use byte_streams::NoMemory;
 use chess_moves::Rays;
@@ -26,11 +27,12 @@ pub struct ClaimRows<'a> {
     pub prefix: &'a [u8],
 }
 
-/// What goes from each line to the next: a memo, and how many lines came to which verdict.
+/// What goes from each line to the next: a memo, how many lines came to which verdict, and what is told beside.
 #[derive(Drop)]
 pub struct ClaimMemory {
     pub memo: Memo,
     pub counts: Counts,
+    pub hints: Hints,
 }
 
 impl ClaimMemory {
@@ -108,6 +110,7 @@ impl ClaimRows<'_> {
             return Err(NoMemory);
         };
         memory.counts = counts;
+        memory.hints = memory.hints.and(told.hints);
         Ok(told)
     }
 }

@@ -1,8 +1,8 @@
 //! How many lines came to which verdict, and of how many the number of moves is the default one.
 
-ghost use Rattle.std.specs.Prelude.{◌≡◌, ◌++◌, IfOk, IfSome, OnOk, min, string_bytes};
+ghost use Rattle.std.specs.Prelude.{◌≡◌, ◌++◌, IfOk, IfSome, OnOk, false, min, string_bytes};
 ghost use Rattle.mate_claims.specs.Counts.{no_counts, count_of as count_in, with_count as with_count_of, with_source as with_source_of};
-ghost use Rattle.mate_claims.specs.Counts.{with_one, with_refusals, with_unread as with_unread_of, not_sound_in, count_text, counts_text, some_text};
+ghost use Rattle.mate_claims.specs.Counts.{with_one, with_decided, with_refusals, with_unread as with_unread_of, not_sound_in, count_text, counts_text, some_text};
 
 use crate::bound_sources::BoundSource;
 use crate::claim_verdicts::ClaimVerdict;
@@ -13,11 +13,14 @@ use std::alloc::{AllocError, Global};
 #[derive(Clone, Copy, Debug, PartialEq, Eq)]
 pub struct Counts {
     pub sound: usize,
+    pub several: usize,
     pub unclaimed: usize,
     pub cooked: usize,
     pub wrong: usize,
     pub short: usize,
     pub unsolvable: usize,
+    pub unsolved: usize,
+    /// How many records were not decided, whatever is amiss with their claims.
     pub undecided: usize,
     pub refused: usize,
     /// How many records say no number of moves, whatever comes of their claims.
@@ -31,29 +34,33 @@ impl Counts {
     {
         Counts {
             sound: 0,
+            several: 0,
             unclaimed: 0,
             cooked: 0,
             wrong: 0,
             short: 0,
             unsolvable: 0,
+            unsolved: 0,
             undecided: 0,
             refused: 0,
             unnumbered: 0,
         }
     }
 
-    /// How many lines came to this verdict, or were refused where there is none.
+    /// How many lines came to this verdict, or were refused where there is none. What was not decided is counted apart.
     fn count_of(&self, verdict: Option<ClaimVerdict>) -> usize
         ensures { result ≡ count_in verdict self.now }
     {
         match verdict {
             Some(ClaimVerdict::Sound) => self.sound,
+            Some(ClaimVerdict::Several) => self.several,
             Some(ClaimVerdict::Unclaimed) => self.unclaimed,
             Some(ClaimVerdict::Cooked) => self.cooked,
             Some(ClaimVerdict::Wrong) => self.wrong,
             Some(ClaimVerdict::Short) => self.short,
             Some(ClaimVerdict::Unsolvable) => self.unsolvable,
-            Some(ClaimVerdict::Undecided) => self.undecided,
+            Some(ClaimVerdict::Unsolved) => self.unsolved,
+            Some(ClaimVerdict::Undecided) => 0,
             None => self.refused,
         }
     }
@@ -65,6 +72,10 @@ impl Counts {
         match verdict {
             Some(ClaimVerdict::Sound) => Counts {
                 sound: count,
+                ..self
+            },
+            Some(ClaimVerdict::Several) => Counts {
+                several: count,
                 ..self
             },
             Some(ClaimVerdict::Unclaimed) => Counts {
@@ -87,10 +98,11 @@ impl Counts {
                 unsolvable: count,
                 ..self
             },
-            Some(ClaimVerdict::Undecided) => Counts {
-                undecided: count,
+            Some(ClaimVerdict::Unsolved) => Counts {
+                unsolved: count,
                 ..self
             },
+            Some(ClaimVerdict::Undecided) => self,
             None => Counts {
                 refused: count,
                 ..self
@@ -120,15 +132,27 @@ impl Counts {
         self.with_count(verdict, count).with_source(source)
     }
 
+    /// With one record more that was not decided. None where the count has no room for it.
+    pub fn with_undecided(self) -> Option<Counts>
+        ensures { IfSome result (λ counts. counts ≡ with_decided false self) }
+    {
+        Some(Counts {
+            undecided: self.undecided.checked_add(1)?,
+            ..self
+        })
+    }
+
     /// How many lines are known not to be sound, as far as there is a number for it.
     pub fn not_sound(&self) -> usize
         ensures { result ≡ min (not_sound_in self.now) 18446744073709551615 }
     {
-        self.unclaimed
+        self.several
+            .saturating_add(self.unclaimed)
             .saturating_add(self.cooked)
             .saturating_add(self.wrong)
             .saturating_add(self.short)
             .saturating_add(self.unsolvable)
+            .saturating_add(self.unsolved)
             .saturating_add(self.refused)
     }
 
@@ -157,11 +181,13 @@ impl Counts {
         ensures { OnOk result (string_bytes text.new ≡ string_bytes text.old ++ counts_text self.now) }
     {
         push_count(alloc, text, "sound ", self.sound)?;
+        push_count(alloc, text, ", several ", self.several)?;
         push_count(alloc, text, ", unclaimed ", self.unclaimed)?;
         push_count(alloc, text, ", cooked ", self.cooked)?;
         push_count(alloc, text, ", wrong ", self.wrong)?;
         push_count(alloc, text, ", short ", self.short)?;
         push_count(alloc, text, ", unsolvable ", self.unsolvable)?;
+        push_count(alloc, text, ", unsolved ", self.unsolved)?;
         push_count(alloc, text, ", refused ", self.refused)?;
         push_some(alloc, text, self.unnumbered, " without a number of moves")?;
         push_some(alloc, text, self.undecided, " not decided")?;

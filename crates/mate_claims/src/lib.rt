@@ -2,7 +2,7 @@
 //!
 //! What a record says, and claims in `bm`, is `chess_notation`'s business, solving is `mate_search`'s, and lines are `text_lines`'s. To read:
 //! `specs/ClaimVerdicts.antt` and `claim_verdicts`, `specs/BoundSources.antt` and `bound_sources`, `claimed_records`, `specs/Rows.antt` and
-//! `rows`, `counts`, then `play_words`, what the line of play claims; `specs/Said.antt` and `said`, what comes of claims;
+//! `rows`, `counts`, and `hints`, what is told beside them, then `play_words`, what the line of play claims; `specs/Said.antt` and `said`, what comes of claims;
 //! `specs/ClaimReplies.antt`, `claim_replies` and `claim_rows`; `specs/LimitedClaims.antt` and `limited_claims`, where each record may take so
 //! long; and `specs/CountedLines.antt`, what is counted of an input's lines.
 #![tactic(auto)]
@@ -13,6 +13,7 @@ mod claim_rows;
 mod claim_verdicts;
 mod claimed_records;
 mod counts;
+mod hints;
 mod limited_claims;
 mod play_words;
 mod rows;
@@ -23,5 +24,6 @@ pub use claim_replies::{Told, told_of};
 pub use claim_rows::{ClaimMemory, ClaimRows, refusals};
 pub use claim_verdicts::{ClaimVerdict, judge};
 pub use counts::Counts;
+pub use hints::Hints;
 pub use limited_claims::{LimitedClaimMemory, LimitedClaims};
 pub use rows::refused_row;

@@ -1,13 +1,13 @@
 //! The lines of an input held against their own claims, row by row, where each record may take so long.
 
-ghost use Rattle.std.specs.Prelude.{◌≡◌, ◌++◌, ◌⊎◌, ℕ, IfOk, decimal};
+ghost use Rattle.std.specs.Prelude.{◌≡◌, ◌++◌, ◌⊎◌, ℕ, IfOk, IfSome, decimal, false, true};
 ghost use Rattle.chess_notation.specs.Words.{words_in};
 ghost use Rattle.chess_notation.specs.Records.{problem_of};
 ghost use Rattle.chess_problems.specs.declared.outcomes.Outcome.TheVariants.{NoMate};
 ghost use Rattle.mate_search.specs.inside.Truth.{truth};
 ghost use Rattle.mate_answers.specs.LimitedReplies.{IsNoneSoFar};
 ghost use Rattle.mate_claims.specs.ClaimReplies.{IsTold, IsToldBy};
-ghost use Rattle.mate_claims.specs.Counts.{with_one};
+ghost use Rattle.mate_claims.specs.Counts.{with_line};
 ghost use Rattle.mate_claims.specs.LimitedClaims.{IsToldInTime, IsToldLate, unjudged};
 ghost use Rattle.mate_claims.specs.Said.{said_by};
 
@@ -16,12 +16,12 @@ use crate::claim_replies::{Told, told_by, told_of_fault, told_of_outcome};
 use crate::claim_rows::{place_of, refusals};
 use crate::claimed_records::ClaimedRecord;
 use crate::counts::Counts;
-use crate::rows::{Found, refused_row};
+use crate::hints::Hints;
+use crate::rows::refused_row;
 use crate::said::said_undecided;
 use byte_streams::NoMemory;
 use chess_moves::Rays;
 use chess_notation::{EpdFault, bound_claimed, claims_text, read_record};
-use chess_problems::Outcome;
 use mate_answers::{Limited, TimeLimit, decide};
 use mate_search::{Guide, Solver};
 use std::alloc::Global;
@@ -35,11 +35,12 @@ pub struct LimitedClaims<'a, 'r, T, S> {
     pub prefix: &'a [u8],
 }
 
-/// What goes from each line to the next: the memory of who solves them, and how many lines came to which verdict.
+/// What goes from each line to the next: the memory of who solves them, how many lines came to which verdict, and what is told beside.
 #[derive(Drop)]
 pub struct LimitedClaimMemory<M> {
     pub memory: M,
     pub counts: Counts,
+    pub hints: Hints,
 }
 
 /// What is told of a record that was not decided.
@@ -49,16 +50,25 @@ fn told_of_undecided(
     claimed: &ClaimedRecord<'_>,
 ) -> Result<Told, NoMemory>
     ensures told { IfOk result (λ told. IsToldLate claimed.now.place.now claimed.now.«record».now claimed.now.source
-        (unjudged (said_by claimed.now.line.now claimed.now.words.now (words_in claimed.now.words.now) claimed.now.«record».now NoMate))
+        (unjudged (said_by claimed.now.source claimed.now.line.now claimed.now.words.now (words_in claimed.now.words.now) claimed.now.«record».now NoMate))
         told.row.items told.verdict) }
     ensures source { IfOk result (λ told. told.source ≡ Some claimed.now.source) }
+    ensures decided { IfOk result (λ told. told.is_decided ≡ false) }
 {
     let said = said_undecided(alloc, rays, claimed)?;
-    let found = Found {
-        outcome: &Outcome::NoMate,
-        keys: b"",
-    };
-    told_by(alloc, claimed, &said, &found)
+    told_by(alloc, claimed, &said, None)
+}
+
+/// With one line more, of which this is told. None where a count has no room for it.
+fn with_told(counts: Counts, told: &Told) -> Option<Counts>
+    ensures { IfSome result (λ more. more ≡ with_line told.now.verdict told.now.source told.now.is_decided counts) }
+{
+    let counts = counts.with(told.verdict, told.source)?;
+    if told.is_decided {
+        Some(counts)
+    } else {
+        counts.with_undecided()
+    }
 }
 
 impl<T: TimeLimit, S: Solver<T>> LimitedClaims<'_, '_, T, S> {
@@ -70,12 +80,13 @@ impl<T: TimeLimit, S: Solver<T>> LimitedClaims<'_, '_, T, S> {
         memory: &mut S::Memory,
     ) -> Result<Told, NoMemory>
         requires { S.ready self.now.limited.now.solver }
-        ensures told { IfOk result (λ told. IsToldBy claimed.now.place.now claimed.now.«record».now claimed.now.source
-            (said_by claimed.now.line.now claimed.now.words.now (words_in claimed.now.words.now) claimed.now.«record».now
-            (truth (problem_of claimed.now.«record».now))) told.row.items told.verdict
-            ⊎ (T.may_stop self.now.limited.now.limit.now × (none : ℕ) × IsNoneSoFar claimed.now.«record».now none
+        ensures told { IfOk result (λ told. ((told.is_decided ≡ true)
+            × IsToldBy claimed.now.place.now claimed.now.«record».now claimed.now.source
+            (said_by claimed.now.source claimed.now.line.now claimed.now.words.now (words_in claimed.now.words.now) claimed.now.«record».now
+            (truth (problem_of claimed.now.«record».now))) told.row.items told.verdict)
+            ⊎ ((told.is_decided ≡ false) × T.may_stop self.now.limited.now.limit.now × (none : ℕ) × IsNoneSoFar claimed.now.«record».now none
             × IsToldLate claimed.now.place.now claimed.now.«record».now claimed.now.source
-            (unjudged (said_by claimed.now.line.now claimed.now.words.now (words_in claimed.now.words.now) claimed.now.«record».now NoMate))
+            (unjudged (said_by claimed.now.source claimed.now.line.now claimed.now.words.now (words_in claimed.now.words.now) claimed.now.«record».now NoMate))
             told.row.items told.verdict)) }
         ensures source { IfOk result (λ told. told.source ≡ Some claimed.now.source) }
         ensures room { S.room memory.new ≡ S.room memory.old }
@@ -104,7 +115,7 @@ impl<T: TimeLimit, S: Solver<T>> LimitedClaims<'_, '_, T, S> {
     ) -> Result<Told, NoMemory>
         requires { S.ready self.now.limited.now.solver }
         ensures told { IfOk result (λ told. IsToldInTime (T.may_stop self.now.limited.now.limit.now) place.now
-            self.now.limited.now.default line.now told.row.items told.verdict told.source) }
+            self.now.limited.now.default line.now told.row.items told.verdict told.source told.is_decided) }
         ensures room { S.room memory.new ≡ S.room memory.old }
     {
         let limited = self.limited;
@@ -138,16 +149,17 @@ impl<T: TimeLimit, S: Solver<T>> LimitedClaims<'_, '_, T, S> {
     ) -> Result<Told, NoMemory>
         requires { S.ready self.now.limited.now.solver }
         ensures told { IfOk result (λ told. IsToldInTime (T.may_stop self.now.limited.now.limit.now) (self.now.prefix.now ++ decimal number)
-            self.now.limited.now.default line.now told.row.items told.verdict told.source) }
-        ensures counts { IfOk result (λ told. memory.new.counts ≡ with_one told.verdict told.source memory.old.counts) }
+            self.now.limited.now.default line.now told.row.items told.verdict told.source told.is_decided) }
+        ensures counts { IfOk result (λ told. memory.new.counts ≡ with_line told.verdict told.source told.is_decided memory.old.counts) }
         ensures room { S.room memory.new.memory ≡ S.room memory.old.memory }
     {
         let place = place_of(alloc, self.prefix, number)?;
         let told = self.tell_line(alloc, place.as_slice(), line, &mut memory.memory)?;
-        let Some(counts) = memory.counts.with(told.verdict, told.source) else {
+        let Some(counts) = with_told(memory.counts, &told) else {
             return Err(NoMemory);
         };
         memory.counts = counts;
+        memory.hints = memory.hints.and(told.hints);
         Ok(told)
     }
 }

@@ -1,9 +1,9 @@
 //! The row of a line: seven fields, parted by tabs.
 
-ghost use Rattle.std.specs.Prelude.{◌≡◌, ◌++◌, IfOk, OnOk, codes, drop, string_bytes};
+ghost use Rattle.std.specs.Prelude.{◌≡◌, ◌++◌, IfOk, IfSome, OnOk, codes, drop, option_map, string_bytes};
 ghost use Rattle.chess_notation.specs.Opcodes.{operands_under};
 ghost use Rattle.chess_problems.specs.Outcomes.{IsPlayable};
-ghost use Rattle.mate_claims.specs.Rows.{or_hyphen as text_or_hyphen, field, length_field, asked_field, found_field};
+ghost use Rattle.mate_claims.specs.Rows.{or_hyphen as text_or_hyphen, field, length_field, asked_field, found_field, found_fields};
 ghost use Rattle.mate_claims.specs.Rows.{unquoted, keys_found as keys_found_in, listed, row_of, refused_row as refused_row_of};
 
 use crate::bound_sources::BoundSource;
@@ -68,8 +68,12 @@ fn push_asked(
     Ok(())
 }
 
-/// Adds the length that was found.
-fn push_found(alloc: Global, row: &mut Vec<u8>, outcome: &Outcome) -> Result<(), AllocError>
+/// Adds the length of the shortest mate.
+fn push_found_length(
+    alloc: Global,
+    row: &mut Vec<u8>,
+    outcome: &Outcome,
+) -> Result<(), AllocError>
     ensures { OnOk result (row.new.items ≡ row.old.items ++ found_field outcome.now) }
 {
     match outcome {
@@ -130,6 +134,28 @@ pub(crate) struct Found<'a> {
     pub(crate) keys: &'a [u8],
 }
 
+/// Adds the length and the keys that were found at a position, if it is known what there is to find.
+fn push_found(
+    alloc: Global,
+    row: &mut Vec<u8>,
+    position: &Position,
+    found: Option<&Found<'_>>,
+) -> Result<(), AllocError>
+    requires keys { IfSome found (λ f. f.now.keys.now ≡ listed position.now (keys_found_in f.now.outcome.now)) }
+    ensures { OnOk result (row.new.items ≡ row.old.items ++ found_fields position.now (option_map (λ f. f.now.outcome.now) found.entry)) }
+{
+    match found {
+        Some(found) => {
+            push_found_length(alloc, row, found.outcome)?;
+            push_field(row, without_first(found.keys))
+        }
+        None => {
+            push_field(row, b"?")?;
+            push_field(row, b"")
+        }
+    }
+}
+
 /// Adds the row of a record, with a newline: with this word for what comes of its claims, and this text of them, behind a space.
 #[tactic(auto, unfolding(crate::specs::Rows::row_of))]
 pub(crate) fn push_row(
@@ -137,19 +163,19 @@ pub(crate) fn push_row(
     row: &mut Vec<u8>,
     claimed: &ClaimedRecord<'_>,
     word: &str,
-    found: &Found<'_>,
+    found: Option<&Found<'_>>,
     claims: &[u8],
 ) -> Result<(), AllocError>
-    requires keys { found.now.keys.now ≡ listed claimed.now.«record».now.position (keys_found_in found.now.outcome.now) }
+    requires keys { IfSome found (λ f. f.now.keys.now ≡ listed claimed.now.«record».now.position (keys_found_in f.now.outcome.now)) }
     ensures { OnOk result (row.new.items ≡ row.old.items
-        ++ row_of claimed.now.place.now claimed.now.«record».now claimed.now.source word.now found.now.outcome.now claims.now) }
+        ++ row_of claimed.now.place.now claimed.now.«record».now claimed.now.source word.now (option_map (λ f. f.now.outcome.now) found.entry)
+        claims.now) }
 {
     let record = claimed.record;
     row.extend_from_slice(claimed.place)?;
     push_field(row, word.as_bytes())?;
     push_asked(alloc, row, record.bound, claimed.source)?;
-    push_found(alloc, row, found.outcome)?;
-    push_field(row, without_first(found.keys))?;
+    push_found(alloc, row, &record.position, found)?;
     push_field(row, without_first(claims))?;
     push_id(alloc, row, record.rest.as_slice())?;
     row.extend_from_slice(b"\n")

@@ -62,13 +62,15 @@ fn unread(alloc: Global, name: &'static str, words: &[u8]) -> Result<Said, NoMem
 fn said_of_play(
     alloc: Global,
     rays: &Rays,
-    record: &Record,
+    claimed: &ClaimedRecord<'_>,
     outcome: &Outcome,
     word: &[u8],
 ) -> Result<Said, NoMemory>
     ensures { IfOk result (λ said. record { word = said.word.now; claims = said.claims.items; verdict = said.verdict }
-        ≡ said_by_play «record».now outcome.now word.now (move_named «record».now.position word.now)) }
+        ≡ said_by_play claimed.now.source claimed.now.«record».now outcome.now word.now
+        (move_named claimed.now.«record».now.position word.now)) }
 {
+    let record = claimed.record;
     let Some(m) = read_move(rays, &record.position, word) else {
         return Ok(Said {
             word: ClaimFault::NoSuchMove.code(),
@@ -76,7 +78,7 @@ fn said_of_play(
             verdict: None,
         });
     };
-    let verdict = judge(record.bound, &[m], outcome);
+    let verdict = judge(claimed.source, record.bound, &[m], outcome);
     let text = san(rays, &record.position, m);
     Ok(Said {
         word: verdict.code(),
@@ -106,19 +108,19 @@ fn said_of_moves(
 ) -> Result<Said, NoMemory>
     requires text { text.now ≡ listed claimed.now.«record».now.position moves.now }
     ensures { IfOk result (λ said. record { word = said.word.now; claims = said.claims.items; verdict = said.verdict }
-        ≡ said_by_moves claimed.now.«record».now outcome.now moves.now (play_claimed_in moves.now claimed.now.line.now)) }
+        ≡ said_by_moves claimed.now.source claimed.now.«record».now outcome.now moves.now (play_claimed_in moves.now claimed.now.line.now)) }
 {
     let record = claimed.record;
     match play_claimed(moves, claimed.line) {
         [] => {
-            let verdict = judge(record.bound, moves, outcome);
+            let verdict = judge(claimed.source, record.bound, moves, outcome);
             Ok(Said {
                 word: verdict.code(),
                 claims: Vec::from_slice(alloc, text)?,
                 verdict: Some(verdict),
             })
         }
-        word => said_of_play(alloc, rays, record, outcome, word),
+        word => said_of_play(alloc, rays, claimed, outcome, word),
     }
 }
 
@@ -139,7 +141,7 @@ fn said_of_words(
     outcome: &Outcome,
 ) -> Result<Said, NoMemory>
     ensures { IfOk result (λ said. record { word = said.word.now; claims = said.claims.items; verdict = said.verdict }
-        ≡ said_by claimed.now.line.now claimed.now.words.now (words_in claimed.now.words.now) claimed.now.«record».now outcome.now) }
+        ≡ said_by claimed.now.source claimed.now.line.now claimed.now.words.now (words_in claimed.now.words.now) claimed.now.«record».now outcome.now) }
 {
     let (record, words) = (claimed.record, claimed.words);
     let named = match claimed_moves(rays, &record.position, words) {
@@ -161,7 +163,7 @@ pub(crate) fn said_undecided(
     claimed: &ClaimedRecord<'_>,
 ) -> Result<Said, NoMemory>
     ensures { IfOk result (λ said. record { word = said.word.now; claims = said.claims.items; verdict = said.verdict }
-        ≡ unjudged (said_by claimed.now.line.now claimed.now.words.now (words_in claimed.now.words.now) claimed.now.«record».now NoMate)) }
+        ≡ unjudged (said_by claimed.now.source claimed.now.line.now claimed.now.words.now (words_in claimed.now.words.now) claimed.now.«record».now NoMate)) }
 {
     let said = said_of_words(alloc, rays, claimed, &Outcome::NoMate)?;
     match said.verdict {
@@ -207,7 +209,7 @@ pub(crate) fn said_of_record(
     requires playable { IsPlayable claimed.now.«record».now.position found.now.outcome.now }
     requires keys { found.now.keys.now ≡ listed claimed.now.«record».now.position (keys_found_in found.now.outcome.now) }
     ensures { IfOk result (λ said. record { word = said.word.now; claims = said.claims.items; verdict = said.verdict }
-        ≡ said_by claimed.now.line.now claimed.now.words.now (words_in claimed.now.words.now) claimed.now.«record».now found.now.outcome.now) }
+        ≡ said_by claimed.now.source claimed.now.line.now claimed.now.words.now (words_in claimed.now.words.now) claimed.now.«record».now found.now.outcome.now) }
 {
     match moves_listed(claimed.words, claimed.record, found) {
         Some(moves) => said_of_moves(alloc, rays, claimed, found.outcome, moves, claimed.words),

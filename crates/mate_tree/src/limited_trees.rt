@@ -53,27 +53,34 @@ fn solved_text(
     }
 }
 
-/// The reply to a record that is not decided.
+/// The reply to a record of this line that is not decided.
 fn undecided_tree(
     alloc: Global,
+    line: &[u8],
     record: &Record,
     none: u8,
     seconds: u32,
 ) -> Result<Vec<u8>, NoMemory>
-    ensures { IfOk result (λ text. text.items ≡ undecided_tree_of none seconds «record».now) }
+    ensures { IfOk result (λ text. text.items ≡ undecided_tree_of none seconds line.now «record».now) }
 {
-    let mut text = undecided_text(alloc, record, none, seconds)?;
+    let mut text = undecided_text(alloc, line, record, none, seconds)?;
     text.push('\n')?;
     text.push('\n')?;
     Ok(text.into_bytes())
 }
 
 impl<T: TimeLimit> LimitedTrees<'_, '_, T> {
-    /// The reply to a line that says this record.
-    fn tell(&self, alloc: Global, record: &Record, memo: &mut Memo) -> Result<Told, NoMemory>
+    /// The reply to this line, which says this record.
+    fn tell(
+        &self,
+        alloc: Global,
+        line: &[u8],
+        record: &Record,
+        memo: &mut Memo,
+    ) -> Result<Told, NoMemory>
         ensures decided { IfOk result (λ told. told.is_decided ≡ true → told.text.items ≡ tree_reply self.now.form «record».now) }
         ensures undecided { IfOk result (λ told. told.is_decided ≡ false → (none : ℕ) × IsNoneSoFar «record».now none
-            × (told.text.items ≡ undecided_tree_of none self.now.limited.now.seconds «record».now)) }
+            × (told.text.items ≡ undecided_tree_of none self.now.limited.now.seconds line.now «record».now)) }
         ensures stopped { IfOk result (λ told. told.is_decided ≡ false → T.may_stop self.now.limited.now.limit.now) }
         ensures room { memo.new.room ≡ memo.old.room }
     {
@@ -98,7 +105,7 @@ impl<T: TimeLimit> LimitedTrees<'_, '_, T> {
                 })
             }
             Err(none) => {
-                let text = undecided_tree(alloc, record, none, limited.seconds)?;
+                let text = undecided_tree(alloc, line, record, none, limited.seconds)?;
                 Ok(Told {
                     text,
                     is_decided: false,
@@ -136,7 +143,7 @@ impl<T: TimeLimit> LineHandler for LimitedTrees<'_, '_, T> {
         let limited = self.limited;
         match read_record(alloc, limited.rays, line, limited.default) {
             Ok(record) => {
-                let told = self.tell(alloc, &record, &mut memory.memory)?;
+                let told = self.tell(alloc, line, &record, &mut memory.memory)?;
                 let output = Output {
                     text: told.text,
                     refused: 0,

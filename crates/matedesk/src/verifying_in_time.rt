@@ -13,7 +13,7 @@ use file_solving::new_memo;
 use file_verifying::{Rows, verify_limited};
 use json_commands::verify_json_limited;
 use mate_answers::Limited;
-use mate_claims::{Counts, LimitedClaimMemory};
+use mate_claims::{Counts, Hints, LimitedClaimMemory};
 use mate_search::{Memo, OneThread};
 use parallel_search::ThreadMemory;
 use std::alloc::Global;
@@ -53,6 +53,7 @@ impl<R: Threads + Sync> TimedCommand for VerifyInTime<'_, '_, R> {
         Ok(LimitedClaimMemory {
             memory,
             counts: Counts::new(),
+            hints: Hints::new(),
         })
     }
 
@@ -120,6 +121,7 @@ impl TimedCommand for VerifyJsonInTime<'_, '_> {
         Ok(LimitedClaimMemory {
             memory,
             counts: Counts::new(),
+            hints: Hints::new(),
         })
     }
 

@@ -11,7 +11,7 @@ use chess_problems::Bound;
 use command_words::VerifyAsked;
 use file_answers::{Source, SourceFiles, status_of};
 use file_verifying::{RowStart, Rows, Verifier, verify_by};
-use mate_claims::Counts;
+use mate_claims::{Counts, Hints};
 use parallel_answers::{Answering, Workers, answer_in_order};
 use plain_commands::ends_by_status;
 use record_tasks::{ClaimTask, start_verifying};
@@ -62,7 +62,11 @@ impl<R: Wait> Verifier for VerifierOn<'_, R> {
     }
 
     fn counts(&self, memory: &Workers<ClaimTask>) -> Counts {
-        *memory.tally()
+        memory.tally().counts
+    }
+
+    fn hints(&self, memory: &Workers<ClaimTask>) -> Hints {
+        memory.tally().hints
     }
 }
 

@@ -2,7 +2,7 @@
 
 use crate::test_rows::{bound_of, memo_of, same};
 use chess_moves::Rays;
-use mate_claims::{BoundSource, ClaimMemory, ClaimRows, ClaimVerdict, Counts, told_of};
+use mate_claims::{BoundSource, ClaimMemory, ClaimRows, ClaimVerdict, Counts, Hints, told_of};
 use mate_search::Memo;
 use std::alloc::Global;
 use std::process::Abort;
@@ -21,14 +21,14 @@ fn check_told(rt: &impl Abort, alloc: Global, tail: &str, wanted: &str, memo: &m
 #[test]
 fn tells_the_first_verdict_that_applies(rt: HostRuntime) {
     // Tails, and what is told behind the line's place.
-    static TABLE: [(&str, &str); 38] = [
-        (" bm Kf7 Kg6; dm 2;", "sound\t#2\t#2\tKf7 Kg6\tKf7 Kg6\t-"),
+    static TABLE: [(&str, &str); 40] = [
+        (" bm Kf7 Kg6; dm 2;", "several\t#2\t#2\tKf7 Kg6\tKf7 Kg6\t-"),
         (
             " bm Kg6 Kf7 Kg6; dm 2;",
-            "sound\t#2\t#2\tKf7 Kg6\tKf7 Kg6\t-",
+            "several\t#2\t#2\tKf7 Kg6\tKf7 Kg6\t-",
         ),
-        (" bm Kf7# Kg6+; dm 2;", "sound\t#2\t#2\tKf7 Kg6\tKf7 Kg6\t-"),
-        (" bm #2 Kf7 #1 Kg6;", "sound\t#2\t#2\tKf7 Kg6\tKf7 Kg6\t-"),
+        (" bm Kf7# Kg6+; dm 2;", "several\t#2\t#2\tKf7 Kg6\tKf7 Kg6\t-"),
+        (" bm #2 Kf7 #1 Kg6;", "several\t#2\t#2\tKf7 Kg6\tKf7 Kg6\t-"),
         (" am Kf7; bm #2;", "unclaimed\t#2\t#2\tKg6\t-\t-"),
         (" bm Kg6; dm 2;", "cooked\t#2\t#2\tKf7 Kg6\tKg6\t-"),
         (" bm #02;", "cooked\t#2\t#2\tKf7 Kg6\t-\t-"),
@@ -46,7 +46,9 @@ fn tells_the_first_verdict_that_applies(rt: HostRuntime) {
         (" bm Ra8; dm 3;", "short\t#3\t#2\tKf7 Kg6\tRa8+\t-"),
         (" bm #3;", "short\t#3\t#2\tKf7 Kg6\t-\t-"),
         // the line says no number of moves
-        (" bm Ra8;", "short\t#3?\t#2\tKf7 Kg6\tRa8+\t-"),
+        (" bm Ra8;", "wrong\t#3?\t#2\tKf7 Kg6\tRa8+\t-"),
+        (" am Kf7; bm Kg6;", "sound\t#3?\t#2\tKg6\tKg6\t-"),
+        (" bm Kg6 Kf7;", "several\t#3?\t#2\tKf7 Kg6\tKf7 Kg6\t-"),
         (" bm #5;", "short\t#5\t#2\tKf7 Kg6\t-\t-"),
         // too short, and also a claimed move that is no key
         (" bm Ra8; dm 1; id \"\";", "unsolvable\t#1\t-\t-\tRa8+\t-"),
@@ -90,7 +92,7 @@ fn tells_the_first_verdict_that_applies(rt: HostRuntime) {
         ),
         (" 0 1 pv Ra8#;dm 2;", "wrong\t#2\t#2\tKf7 Kg6\tpv Ra8+\t-"),
         (" am Kf7; pv Kf7; dm 2;", "wrong\t#2\t#2\tKg6\tpv Kf7\t-"),
-        (" pv Ra8;", "short\t#3?\t#2\tKf7 Kg6\tpv Ra8+\t-"),
+        (" pv Ra8;", "wrong\t#3?\t#2\tKf7 Kg6\tpv Ra8+\t-"),
         (" pv Ra8; dm 1;", "unsolvable\t#1\t-\t-\tpv Ra8+\t-"),
         // its first word names no move
         (
@@ -105,7 +107,7 @@ fn tells_the_first_verdict_that_applies(rt: HostRuntime) {
         ),
         (
             " bm Kf7 Kg6; dm 2; pv Ra8;",
-            "sound\t#2\t#2\tKf7 Kg6\tKf7 Kg6\t-",
+            "several\t#2\t#2\tKf7 Kg6\tKf7 Kg6\t-",
         ),
         (" am Kf7; pv; dm 2;", "unclaimed\t#2\t#2\tKg6\t-\t-"),
         // a fault of the record, and also one of its claims
@@ -125,9 +127,12 @@ fn check_counts(rt: &impl Abort, alloc: Global, counts: &Counts, wanted: &str) {
 
 #[test]
 fn counts_each_verdict(rt: HostRuntime) {
-    static VERDICTS: [Option<ClaimVerdict>; 13] = [
+    static VERDICTS: [Option<ClaimVerdict>; 17] = [
         Some(ClaimVerdict::Sound),
         Some(ClaimVerdict::Sound),
+        Some(ClaimVerdict::Several),
+        Some(ClaimVerdict::Several),
+        Some(ClaimVerdict::Several),
         Some(ClaimVerdict::Unclaimed),
         Some(ClaimVerdict::Unclaimed),
         Some(ClaimVerdict::Unclaimed),
@@ -136,6 +141,7 @@ fn counts_each_verdict(rt: HostRuntime) {
         Some(ClaimVerdict::Wrong),
         Some(ClaimVerdict::Short),
         Some(ClaimVerdict::Unsolvable),
+        Some(ClaimVerdict::Unsolved),
         None,
         None,
         None,
@@ -150,11 +156,11 @@ fn counts_each_verdict(rt: HostRuntime) {
         &rt,
         rt.alloc(),
         &counts,
-        "sound 2, unclaimed 4, cooked 1, wrong 1, short 1, unsolvable 1, refused 3",
+        "sound 2, several 3, unclaimed 4, cooked 1, wrong 1, short 1, unsolvable 1, unsolved 1, refused 3",
     );
     // Two that say no number of moves, one of them with a fault of its claims, and a line that is no record.
     static MORE: [(Option<ClaimVerdict>, Option<BoundSource>); 3] = [
-        (Some(ClaimVerdict::Short), Some(BoundSource::Default)),
+        (Some(ClaimVerdict::Unsolved), Some(BoundSource::Default)),
         (None, Some(BoundSource::Default)),
         (None, None),
     ];
@@ -165,7 +171,7 @@ fn counts_each_verdict(rt: HostRuntime) {
         &rt,
         rt.alloc(),
         &counts,
-        "sound 2, unclaimed 4, cooked 1, wrong 1, short 2, unsolvable 1, refused 5; 2 without a number of moves",
+        "sound 2, several 3, unclaimed 4, cooked 1, wrong 1, short 1, unsolvable 1, unsolved 2, refused 5; 2 without a number of moves",
     );
 }
 
@@ -184,6 +190,7 @@ fn counts_the_lines_of_an_input(rt: HostRuntime) {
     let mut memory = ClaimMemory {
         memo: memo_of(&rt, alloc, 16),
         counts: Counts::new(),
+        hints: Hints::new(),
     };
     let mut text = Vec::new(alloc);
     let before = memory.counts.not_sound();
@@ -198,6 +205,6 @@ fn counts_the_lines_of_an_input(rt: HostRuntime) {
         &rt,
         alloc,
         &memory.counts,
-        "sound 1, unclaimed 0, cooked 0, wrong 0, short 0, unsolvable 0, refused 2",
+        "sound 1, several 0, unclaimed 0, cooked 0, wrong 0, short 0, unsolvable 0, unsolved 0, refused 2",
     );
 }

@@ -5,7 +5,7 @@ ghost use Rattle.std.specs.Prelude.{⊤};
 use crate::test_rows::{bound_of, memo_of, same};
 use chess_moves::Rays;
 use mate_answers::{Limited, LimitedMemory, TimeLimit};
-use mate_claims::{Counts, LimitedClaimMemory, LimitedClaims};
+use mate_claims::{Counts, Hints, LimitedClaimMemory, LimitedClaims};
 use mate_search::{Halt, Memo, OneThread};
 use std::alloc::Global;
 use std::process::Abort;
@@ -63,10 +63,10 @@ fn says_what_was_judged_in_time(rt: HostRuntime) {
             "6k1/2r2ppp/3r4/8/8/8/8/R6K w - - c0 \"no mate in 2, not decided within 3 in 7 s\"; dm 3; id \"x\";\n",
             "6k1/2r2ppp/3r4/8/8/8/8/R6K w - - bm Ra8+; dm 3; id \"x\"; pv Ra8+ Rc8 Rxc8+ Rd8 Rxd8#;\n",
         ),
-        // Without a bound the default is asked, and a move to avoid is kept.
+        // Without a bound the default is asked, which isn't the record's own, and a move to avoid is kept.
         (
             "6k1/2r2ppp/3r4/8/8/8/8/R6K w - - am Ra8; ce 3; zz;",
-            "6k1/2r2ppp/3r4/8/8/8/8/R6K w - - am Ra8; c0 \"no mate in 2, not decided within 3 in 7 s\"; ce 3; dm 3; zz;\n",
+            "6k1/2r2ppp/3r4/8/8/8/8/R6K w - - am Ra8; c0 \"no mate in 2, not decided within 3 in 7 s\"; ce 3; zz;\n",
             "6k1/2r2ppp/3r4/8/8/8/8/R6K w - - am Ra8; c0 \"no mate in 3\"; ce 3; zz;\n",
         ),
         // What an earlier answer said is said anew.
@@ -125,42 +125,43 @@ fn tells_claims_of_records_that_were_not_decided(rt: HostRuntime) {
     static TABLE: [(&str, &str, &str); 5] = [
         (
             "6k1/2r2ppp/3r4/8/8/8/8/R6K w - - bm Ra8; dm 3; id \"x\";",
-            "f:1\tundecided\t#3\t-\t-\tRa8+\tx\n",
+            "f:1\tundecided\t#3\t?\t-\tRa8+\tx\n",
             "f:1\tsound\t#3\t#3\tRa8+\tRa8+\tx\n",
         ),
         (
             "6k1/2r2ppp/3r4/8/8/8/8/R6K w - - pv Ra8 Rc8;",
-            "f:1\tundecided\t#3?\t-\t-\tpv Ra8+\t-\n",
+            "f:1\tundecided\t#3?\t?\t-\tpv Ra8+\t-\n",
             "f:1\tsound\t#3?\t#3\tRa8+\tpv Ra8+\t-\n",
         ),
         (
             "6k1/2r2ppp/3r4/8/8/8/8/R6K w - - dm 3; pv Ra9;",
-            "f:1\tNoSuchMove\t#3\t-\t-\tpv Ra9\t-\n",
+            "f:1\tNoSuchMove\t#3\t?\t-\tpv Ra9\t-\n",
             "f:1\tNoSuchMove\t#3\t#3\tRa8+\tpv Ra9\t-\n",
         ),
         (
             "6k1/2r2ppp/3r4/8/8/8/8/R6K w - - bm #2 Ra8; dm 3;",
-            "f:1\tTwoLengths\t#3\t-\t-\t#2 Ra8\t-\n",
+            "f:1\tTwoLengths\t#3\t?\t-\t#2 Ra8\t-\n",
             "f:1\tTwoLengths\t#3\t#3\tRa8+\t#2 Ra8\t-\n",
         ),
         // A mate in two is found before anything is asked.
         (
             "7k/8/5K2/8/8/8/8/R7 w - - bm Kf7 Kg6; dm 2;",
-            "f:1\tsound\t#2\t#2\tKf7 Kg6\tKf7 Kg6\t-\n",
-            "f:1\tsound\t#2\t#2\tKf7 Kg6\tKf7 Kg6\t-\n",
+            "f:1\tseveral\t#2\t#2\tKf7 Kg6\tKf7 Kg6\t-\n",
+            "f:1\tseveral\t#2\t#2\tKf7 Kg6\tKf7 Kg6\t-\n",
         ),
     ];
     let alloc = rt.alloc();
     let mut memory = LimitedClaimMemory {
         memory: memo_of(&rt, alloc, 16),
         counts: Counts::new(),
+        hints: Hints::new(),
     };
     for (line, late, _) in &TABLE {
         check_claims(&rt, alloc, true, (line, late), &mut memory);
     }
     let counts = memory.counts.text(alloc).expect(&rt, "counts");
     let wanted =
-        "sound 1, unclaimed 0, cooked 0, wrong 0, short 0, unsolvable 0, refused 2; 1 without a number of moves; 2 not decided";
+        "sound 0, several 1, unclaimed 0, cooked 0, wrong 0, short 0, unsolvable 0, unsolved 0, refused 2; 1 without a number of moves; 4 not decided";
     same(&rt, &"counts", &counts.as_str(), &wanted);
     for (line, _, whole) in &TABLE {
         check_claims(&rt, alloc, false, (line, whole), &mut memory);

@@ -7,7 +7,7 @@ use byte_streams::NoMemory;
 use chess_moves::Rays;
 use chess_notation::{records_clear, says_one};
 use chess_problems::Bound;
-use mate_claims::{BoundSource, ClaimRows, ClaimVerdict, Counts, Told, refusals};
+use mate_claims::{BoundSource, ClaimRows, ClaimVerdict, Counts, Hints, Told, refusals};
 use mate_search::Memo;
 use parallel_answers::{LineTask, NoWorkers, Prepared, Reply, Workers, prepare};
 use std::alloc::Global;
@@ -24,11 +24,19 @@ pub struct ClaimTask {
     pub prefix: Vec<u8>,
 }
 
-/// What is counted of a line: its verdict, if it isn't refused, and of a record where its bound comes from.
+/// What is counted of a line: its verdict, if it isn't refused, and of a record where its bound comes from; and what is told beside.
 #[derive(Clone, Copy, Debug, PartialEq, Eq)]
 pub struct LineVerdict {
     pub verdict: Option<ClaimVerdict>,
     pub source: Option<BoundSource>,
+    pub hints: Hints,
+}
+
+/// What is counted of all lines, and what is told beside.
+#[derive(Clone, Copy, Debug, PartialEq, Eq)]
+pub struct ClaimTally {
+    pub counts: Counts,
+    pub hints: Hints,
 }
 
 /// The reply that tells this of a line.
@@ -42,6 +50,7 @@ fn reply_of(told: Told) -> Reply<LineVerdict>
         mark: Some(LineVerdict {
             verdict: told.verdict,
             source: told.source,
+            hints: told.hints,
         }),
     }
 }
@@ -66,7 +75,7 @@ impl LineTask for ClaimTask {
 
     type Mark = LineVerdict;
 
-    type Tally = Counts;
+    type Tally = ClaimTally;
 
     ghost replies = { λ task. IsClaimReply task.prefix.items task.default };
 
@@ -109,6 +118,7 @@ impl LineTask for ClaimTask {
             mark: Some(LineVerdict {
                 verdict: None,
                 source: None,
+                hints: Hints::new(),
             }),
         })
     }
@@ -126,10 +136,11 @@ impl LineTask for ClaimTask {
     }
 
     /// A count that has no room stays as it is: no input has so many lines.
-    fn count(tally: &mut Counts, mark: &LineVerdict) {
-        if let Some(counts) = tally.with(mark.verdict, mark.source) {
-            *tally = counts;
+    fn count(tally: &mut ClaimTally, mark: &LineVerdict) {
+        if let Some(counts) = tally.counts.with(mark.verdict, mark.source) {
+            tally.counts = counts;
         }
+        tally.hints = tally.hints.and(mark.hints);
     }
 
     ghost skips = { λ task number line blank. skipped blank };
@@ -151,7 +162,15 @@ pub fn start_verifying<R: Threads + Wait + Clock + Clone + Drop + Send + 'static
     let Prepared {
         mut workers,
         waiting,
-    } = prepare(alloc, count, entries, Counts::new())?;
+    } = prepare(
+        alloc,
+        count,
+        entries,
+        ClaimTally {
+            counts: Counts::new(),
+            hints: Hints::new(),
+        },
+    )?;
     for worker in waiting {
         let own = rt.clone()?;
         match thread::spawn(rt, move || worker.run(&own, alloc)) {

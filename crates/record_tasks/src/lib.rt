@@ -8,6 +8,6 @@ mod claim_tasks;
 mod solve_tasks;
 mod tree_tasks;
 
-pub use claim_tasks::{ClaimTask, LineVerdict, start_verifying};
+pub use claim_tasks::{ClaimTally, ClaimTask, LineVerdict, start_verifying};
 pub use solve_tasks::{SolveTask, start_solving};
 pub use tree_tasks::{TreeTask, start_telling};

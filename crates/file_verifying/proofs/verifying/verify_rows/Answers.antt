@@ -4,16 +4,16 @@ use Rattle.file_verifying.specs.Verified.{claim_replies, first_claim_replies}
 use Rattle.file_verifying.proofs.VerifiedFiles.{stops_between, stops_uncounted, verifies_each}
 use Rattle.file_verifying.proofs.verifying.verify_rows.Goals as goal
 
-pub returns-in_err-counts-in-Ok-clause-err : goal.returns-in_err-counts-in-Ok-clause-err
-returns-in_err-counts-in-Ok-clause-err g c =
+pub returns-in_err-tell_counts-in-Ok-clause-err : goal.returns-in_err-tell_counts-in-Ok-clause-err
+returns-in_err-tell_counts-in-Ok-clause-err g c =
     let (other, is, same) = err_from_is_err_and c.from_residual.result c.from_residual.ensures.1 in
     rw (is, same)
     (stops_uncounted c.holds_reads.ensures.each (g.S.Source.holds c.args.files.now.source.now) (g.S.Source.refuses c.args.files.now.source.now)
     (λ b. claim_replies b (g.V.Verifier.default c.args.verifier.now)) (λ b. first_claim_replies b (g.V.Verifier.default c.args.verifier.now)) c.args.files.now.from c.args.files.now.names.now _
     c.in-Ok.unsound (g.O.Write.contents c.args.out.now) (g.O.Write.contents c.answer_files.new.out) refl c.in-Ok.ensures.ok)
 
-pub returns-in_ok-counts-in-Ok-clause-ok : goal.returns-in_ok-counts-in-Ok-clause-ok
-returns-in_ok-counts-in-Ok-clause-ok g c = verifies_each (g.S.Source.holds c.args.files.now.source.now)
+pub returns-in_ok-tell_counts-in-Ok-clause-ok : goal.returns-in_ok-tell_counts-in-Ok-clause-ok
+returns-in_ok-tell_counts-in-Ok-clause-ok g c = verifies_each (g.S.Source.holds c.args.files.now.source.now)
     (λ b. claim_replies b (g.V.Verifier.default c.args.verifier.now)) c.args.files.now.from
     c.args.files.now.names.now _ c.in-Ok.unsound (g.O.Write.contents c.args.out.now)
     (g.O.Write.contents c.answer_files.new.out) refl c.in-Ok.ensures.ok

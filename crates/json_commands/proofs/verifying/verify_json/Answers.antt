@@ -13,9 +13,9 @@ returns-in_err-memo-clause-err g c =
     rw (is, same, c.in_err-memo.ensures.err) (stops_at_once (g.S.Source.holds c.args.source.now)
     (g.S.Source.refuses c.args.source.now) Row (IsClaimReply [] c.args.asked.now.bound) _ _ _ _ (Keeps-refl (g.O.Write.contents c.args.out.now)))
 
-pub returns-in_err-counts-in-Ok-clause-err : goal.returns-in_err-counts-in-Ok-clause-err
-returns-in_err-counts-in-Ok-clause-err g c =
-    let (other, is, same) = err_from_is_err_and c.from_residual-in_err-counts-in-Ok.result c.from_residual-in_err-counts-in-Ok.ensures.1 in
+pub returns-in_err-tell_counts-in-Ok-clause-err : goal.returns-in_err-tell_counts-in-Ok-clause-err
+returns-in_err-tell_counts-in-Ok-clause-err g c =
+    let (other, is, same) = err_from_is_err_and c.from_residual-in_err-tell_counts-in-Ok.result c.from_residual-in_err-tell_counts-in-Ok.ensures.1 in
     rw (is, same)
     (stops_uncounted (g.S.Source.holds c.args.source.now) (g.S.Source.refuses c.args.source.now) Row (IsClaimReply [] c.args.asked.now.bound)
     c.args.asked.now.files.from (map (λ s. s.now) c.args.asked.now.files.names.now) c.has_several.result (g.O.Write.contents c.args.out.now)

@@ -1,4 +1,4 @@
-use Rattle.std.proofs.Common.{refl}
+use Rattle.std.proofs.Common.{None, refl}
 use Rattle.chess_notation.specs.Words.{words_in}
 use Rattle.chess_problems.specs.declared.outcomes.Outcome.TheVariants.{NoMate}
 use Rattle.mate_claims.specs.LimitedClaims.{unjudged}
@@ -12,6 +12,6 @@ returns-clause-told c =
     let r = claimed.record.now in
     let words = claimed.words.now in
     told_by_said claimed.place.now r claimed.source c.in_ok-said.said.word.now c.in_ok-said.said.claims.items c.in_ok-said.said.verdict
-    NoMate NoMate (λ _. unjudged (said_by claimed.line.now words (words_in words) r NoMate))
+    NoMate NoMate (λ _. None) (λ _. unjudged (said_by claimed.source claimed.line.now words (words_in words) r NoMate))
     (λ told. told.row.items) (λ told. told.verdict) c.told_by.result refl c.in_ok-said.ensures
     c.told_by.ensures.row c.told_by.ensures.verdict
