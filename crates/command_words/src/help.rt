@@ -404,9 +404,12 @@ problems: it looks for a forced mate, and plays the first legal move where it fi
                          `matedesk explain CODE` says what CODE means
   go [mate N] [depth N] [movetime MS] [nodes N] [infinite] [ponder] [wtime MS] [btime MS]
      [winc MS] [binc MS] [movestogo N] [searchmoves MOVE..]
-                         looks for a mate in 1, in 2 and so on; `info` for each of them and
-                         for each second, and `bestmove`. `depth` counts moves of both sides
-  stop, ponderhit, quit  as the interface has them
+                         looks for a mate in 1, in 2 and so on; `info` for each of them, and
+                         on what it costs some four times a second; then `bestmove`, which
+                         is 0000 behind `score mate 0` or `score cp 0`, where the side to
+                         move is mated or stalemated. `depth` counts moves of both sides
+  stop, ponderhit, quit  as the interface has them. Where the input ends without `quit`, a
+                         search goes on to its own end; `infinite` and `ponder` stop
   d                      the board
 
 Example:

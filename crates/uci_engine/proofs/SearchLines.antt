@@ -3,12 +3,15 @@ use Rattle.std.proofs.Common.{◌≡◌, ◌⊎◌, inl, inr, ℕ, ◌+◌, ◌<
 use Rattle.chess_problems.specs.Problems.{ProblemValue, bound_of, max_bound}
 use Rattle.std.specs.Prelude.{◌-◌, ◌&&◌, nat_le}
 use Rattle.chess_board.specs.Moves.{Move}
+use Rattle.chess_board.specs.Positions.{Setup}
+use Rattle.chess_moves.specs.Verdicts.{verdict_of}
+use Rattle.chess_moves.specs.declared.verdicts.Verdict.{Verdict}
 use Rattle.chess_problems.specs.declared.outcomes.Outcome.{Outcome}
 use Rattle.chess_problems.specs.declared.outcomes.Outcome.TheVariants.{NoMate}
 use Rattle.mate_search.specs.inside.Truth.{truth}
 use Rattle.uci_commands.specs.MoveSearches.{all_but}
 use Rattle.uci_engine.specs.SearchLines.{AreKeyLines, EndsWith, HasNone, IsLengthLine, IsMateLine, IsSaid, IsShortest, best_text, first_key}
-use Rattle.uci_engine.specs.SearchLines.{line_of, mates, more, none_end, not_found, of_first, of_keys, of_length, within}
+use Rattle.uci_engine.specs.SearchLines.{line_of, mates, more, none_end, not_found, of_first, of_keys, of_length, of_terminal, terminal_text, within}
 
 pub none_first : (q : ProblemValue) → HasNone q 0
 none_first q k some few = absurd (omega (arith, some, few))
@@ -88,3 +91,7 @@ none_of q asked n bound o next is true_of none = sym (true_of ∙ ap truth is �
 
 pub said_length : (q : ProblemValue) (n : ℕ) (text : List ℕ) → HasNone q n → truth (within q (n + 1)) ≡ NoMate → IsLengthLine (n + 1) text → IsSaid q text
 said_length q n text before here line = of_length (n + 1) text (none_more q n before here) line
+
+pub said_terminal : (q : ProblemValue) (p : Setup) (v : Verdict) (text : List ℕ) → p ≡ q.position → v ≡ verdict_of p → Some text ≡ terminal_text v
+    → IsSaid q text
+said_terminal q p v text at of line = of_terminal text (sym (ap (λ s. terminal_text (verdict_of s)) at) ∙ sym (ap terminal_text of) ∙ sym line)

@@ -2,6 +2,9 @@
 use Rattle.std.specs.Prelude.{◌≡◌, ◌≢◌, ◌-◌, ◌<◌, ◌≤◌, ℕ, ◌*◌, List, [], ◌∷◌, ◌++◌, ◌==◌, codes, decimal, Option, Some, None, if◌then◌else◌}
 use Rattle.chess_board.specs.Characters.{char}
 use Rattle.chess_board.specs.Moves.{Move, move_text}
+use Rattle.chess_moves.specs.Verdicts.{verdict_of}
+use Rattle.chess_moves.specs.declared.verdicts.Verdict.{Verdict}
+use Rattle.chess_moves.specs.declared.verdicts.Verdict.TheVariants.{Play, Stalemate, Mate as Mated}
 use Rattle.chess_problems.specs.Problems.{ProblemValue}
 use Rattle.chess_problems.specs.declared.outcomes.Outcome.{Outcome}
 use Rattle.chess_problems.specs.declared.outcomes.Outcome.TheVariants.{Mate, NoMate}
@@ -39,6 +42,12 @@ best_text None = codes "bestmove 0000\n"
 -- the line that says that there is no mate in so many moves, or of none that nothing was decided
 abbrev pub none_text : ℕ → List ℕ
 none_text n = if n == 0 then codes "info string not decided\n" else codes "info string no mate in " ++ decimal n ++ char "\n" ∷ []
+
+-- the score of a position that ends the game, of mate or of stalemate; none of another
+abbrev pub terminal_text : Verdict → Option (List ℕ)
+terminal_text Play = None
+terminal_text Mated = Some (codes "info depth 0 score mate 0\n")
+terminal_text Stalemate = Some (codes "info depth 0 score cp 0\n")
 
 -- the problem within so many moves
 abbrev pub within : ProblemValue → ℕ → ProblemValue
@@ -86,8 +95,10 @@ pub data AreKeyLines (q : ProblemValue) : List ℕ → Type 0 where
 abbrev pub IsShortest : ProblemValue → ℕ → Type 0
 IsShortest q n = HasNone q (n - 1) × (truth (within q n) ≢ NoMate)
 
--- What may be written while a search goes on: how deep there is no mate; the line of the shortest; those of its other keys.
+-- What may be written while a search goes on: how deep there is no mate; the line of the shortest; those of its other keys; or how the game
+-- has ended.
 pub data IsSaid (q : ProblemValue) : List ℕ → Type 0 where
   of_length : (n : ℕ) (text : List ℕ) → HasNone q n → IsLengthLine n text → IsSaid q text
   of_first : (n : ℕ) (text : List ℕ) → IsShortest q n → IsMateLine n 1 (line_of (truth (within q n))) text → IsSaid q text
   of_keys : (n : ℕ) (text : List ℕ) → IsShortest q n → AreKeyLines (within q n) text → IsSaid q text
+  of_terminal : (text : List ℕ) → terminal_text (verdict_of q.position) ≡ Some text → IsSaid q text

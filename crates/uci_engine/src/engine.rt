@@ -167,8 +167,9 @@ fn run_threads<R: Threads + Wait + Sync, I: Input + Drop + Send, O: Write>(
     )
 }
 
-/// Runs an engine that speaks UCI (Universal Chess Interface, April 2006) until its input ends or says `quit`: a thread reads, one searches,
-/// one counts time, and the one that calls this writes.
+/// Runs an engine that speaks UCI (Universal Chess Interface, April 2006) until its input says `quit`, or ends and the search that it asked
+/// for last is over, which `infinite` and `ponder` end there: a thread reads, one searches, one counts time, and the one that calls this
+/// writes.
 pub fn run_engine<R: Threads + Wait + Sync, I: Input + Drop + Send, O: Write>(
     rt: &R,
     alloc: Global,

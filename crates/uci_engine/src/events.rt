@@ -10,7 +10,9 @@ use std::sync::Wait;
 pub(crate) enum Event {
     /// A line of the input.
     Line(Vec<u8>),
-    /// The input says `quit`, is at its end, or can't be read on.
+    /// The input says `quit`.
+    Quit,
+    /// The input is at its end, or can't be read on.
     End(Option<InputFault>),
     /// Lines to be written at once, while a search goes on.
     Said(Vec<u8>),

@@ -96,7 +96,7 @@ fn event_of(alloc: Global, line: Vec<u8>) -> Event {
         Err(_) => return Event::End(Some(InputFault::NoMemory)),
     };
     if is_quit {
-        Event::End(None)
+        Event::Quit
     } else {
         Event::Line(line)
     }
@@ -116,7 +116,7 @@ pub(crate) fn run_reader<R: Wait, I: Input + Drop>(
             Ok(None) => Event::End(None),
             Err(fault) => Event::End(Some(fault)),
         };
-        let is_end = matches!(&event, Event::End(_));
+        let is_end = matches!(&event, Event::Quit | Event::End(_));
         if !send(rt, events, event) || is_end {
             break;
         }

@@ -7,10 +7,12 @@ ghost use Rattle.uci_engine.specs.SearchLines.{AreKeyLines, EndsWith, IsLengthLi
 
 use crate::events::{Event, send};
 use crate::signals::Signals;
-use crate::texts::{Progress, push_best, push_length, push_mate, push_none, push_refusal};
+use crate::texts::{
+    Progress, push_best, push_length, push_mate, push_none, push_refusal, terminal_line,
+};
 use crate::watches::Watch;
 use chess_board::Move;
-use chess_moves::{MoveList, Rays, legal};
+use chess_moves::{MoveList, Rays, legal, verdict};
 use chess_problems::{Bound, Outcome, Problem, is_same_move};
 use crossbeam_channel::{Receiver, Sender};
 use mate_search::{Memo, Stopped, solve_until};
@@ -184,6 +186,14 @@ impl Searcher<'_> {
         Ok(text)
     }
 
+    /// Sends the score of a position that ends the game.
+    fn say_terminal<R: Wait>(&self, rt: &R, asked: &Problem) -> Result<(), AllocError> {
+        if let Some(line) = terminal_line(self.alloc, verdict(self.rays, &asked.position))? {
+            self.say_of(rt, asked, line);
+        }
+        Ok(())
+    }
+
     /// Searches for a mate in one move, two and so on, sends a line for each, and adds the last lines to a text.
     fn search<R: Wait>(
         &self,
@@ -198,6 +208,7 @@ impl Searcher<'_> {
         let watch = Watch::new(self.signals, job.number, job.most_nodes);
         let most = asked.bound.get();
         if first_move(self.rays, asked).is_none() {
+            self.say_terminal(rt, asked)?;
             self.push_last(last, asked, 0)?;
             return Ok(());
         }

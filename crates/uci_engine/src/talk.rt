@@ -217,9 +217,11 @@ impl<'a> Talk<'a> {
         }
     }
 
-    /// What was expected was played: from now on the search is like any other.
+    /// What was expected was played: from now on the last search is like any other.
     fn ponder_hit(&mut self) {
-        if let Some(going) = &mut self.going {
+        if let Some(plan) = self.plans.last_mut() {
+            plan.is_endless = false;
+        } else if let Some(going) = &mut self.going {
             if going.is_endless {
                 going.is_endless = false;
                 self.signals.limit_from_now(going.limit);
@@ -310,6 +312,25 @@ impl<'a> Talk<'a> {
         }
     }
 
+    /// Whether the last search goes on until it is told to stop. All before it were told when it was planned.
+    fn is_endless(&self) -> bool {
+        match (self.plans.last(), &self.going) {
+            (Some(plan), _) => plan.is_endless,
+            (None, Some(going)) => going.is_endless,
+            (None, None) => false,
+        }
+    }
+
+    /// No line comes any more, as nobody says to stop. So only a search that has an end of its own goes on, up to that; none where the input
+    /// broke off.
+    fn end_input(&mut self, fault: Option<InputFault>) {
+        if fault.is_some() || self.is_endless() {
+            self.stop();
+        }
+        self.is_ending = true;
+        self.fault = fault;
+    }
+
     /// Takes what came, and gives what follows.
     pub(crate) fn take(&mut self, event: Event) -> Result<Reply, Stop> {
         let mut text = Vec::new(self.alloc);
@@ -325,10 +346,13 @@ impl<'a> Talk<'a> {
                 self.keep(found);
                 Ok(())
             }
-            Event::End(fault) => {
+            Event::Quit => {
                 self.stop();
                 self.is_ending = true;
-                self.fault = fault;
+                Ok(())
+            }
+            Event::End(fault) => {
+                self.end_input(fault);
                 Ok(())
             }
         };

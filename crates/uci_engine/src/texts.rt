@@ -1,13 +1,14 @@
 //! The lines that an engine writes.
 
-ghost use Rattle.std.specs.Prelude.{◌≡◌, ◌++◌, ◌≤◌, ℕ, List, IfOk, codes, decimal};
+ghost use Rattle.std.specs.Prelude.{◌≡◌, ◌++◌, ◌≤◌, ℕ, List, IfOk, codes, decimal, option_map};
 ghost use Rattle.chess_board.specs.Moves.{move_text};
-ghost use Rattle.uci_engine.specs.SearchLines.{IsCosts, IsLengthLine, IsMateLine, best_text, depth_of, moves_text, none_text};
+ghost use Rattle.uci_engine.specs.SearchLines.{IsCosts, IsLengthLine, IsMateLine, best_text, depth_of, moves_text, none_text, terminal_text};
 
 use crate::reader::MAX_LINE;
 use chess_board::{FenFault, Move};
+use chess_moves::Verdict;
 use itoa::Buffer;
-use std::alloc::AllocError;
+use std::alloc::{AllocError, Global};
 use uci_commands::{PositionFault, Spin};
 
 /// Adds words to a text.
@@ -162,6 +163,20 @@ pub(crate) fn push_mate(
     push_moves(text, pv)?;
     push(text, "\n")?;
     Ok(())
+}
+
+/// The score of a position that ends the game; none where there is a legal move.
+pub(crate) fn terminal_line(alloc: Global, verdict: Verdict) -> Result<Option<Vec<u8>>, AllocError>
+    ensures { IfOk result (λ line. option_map (λ text. text.items) line ≡ terminal_text verdict) }
+{
+    let score = match verdict {
+        Verdict::Play => return Ok(None),
+        Verdict::Mate => "info depth 0 score mate 0\n",
+        Verdict::Stalemate => "info depth 0 score cp 0\n",
+    };
+    let mut text = Vec::new(alloc);
+    push(&mut text, score)?;
+    Ok(Some(text))
 }
 
 /// Adds the line that says what to play.
