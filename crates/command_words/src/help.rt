@@ -244,13 +244,14 @@ pub const ABOUT_SHEET: &str = "Makes a page of diagrams of the problems of files
 pub const AFTER_SHEET: &str =
     "Each line is a record, as `matedesk solve --help` says. The page is one file of HTML, which
 any browser shows and prints; nothing is fetched. It has for each record, in order: its
-number, a diagram, `#N` (the bound), how many men each side has (7+5) and what `id` says;
+number, a diagram, `#N` as `dm` says, how many men each side has (7+5) and what `id` says;
 `Black to move` where it is; rights to castle and an en passant target in words; and the
-record, which a click copies. At its end stand the lines that are refused, by FILE:K CODE,
-and with --solutions, before them, each problem's solution as `tree --defences --column`
-tells it, behind what isn't sound (`short`, `cooked`), or that there is no mate within its
-bound. Nothing is solved without it. With --letters KDTLSB, or `de`, pieces have these letters
-there in place of KQRBNP; with --figurines they are figurines.
+record, with `dm` and `id` alone, which a click copies. At its end stand the lines that are
+refused, by FILE:K CODE, and with --solutions, before them, each problem's solution as `tree
+--defences --column` tells it, behind what isn't sound (`short`, `2 keys`), or that there is no
+mate within its bound; `#N` of a record without `dm` is then the shortest mate found. Nothing is
+solved without it. With --letters KDTLSB, or `de`, pieces have these letters there in place of
+KQRBNP; with --figurines they are figurines.
 
 The page is made whole before any of it is written: where a file can't be read, nothing is.
 

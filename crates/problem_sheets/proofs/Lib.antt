@@ -1,6 +1,6 @@
 pub mod AddedLines
 pub mod EscapedTexts
 pub mod Numbered
-pub mod RecordsInTurn
+pub mod ProblemsInTurn
 pub mod TextsInTurn
 pub mod ShapeLetters

@@ -1,5 +1,5 @@
 -- A page (HTML Standard): its head, the problems, their solutions where they are asked for, the lines that are refused, and its end.
-use Rattle.std.specs.Prelude.{ℕ, List, [], ◌∷◌, ◌++◌, codes, if◌then◌else◌}
+use Rattle.std.specs.Prelude.{ℕ, List, [], ◌∷◌, ◌++◌, codes, Bool, if◌then◌else◌}
 use Rattle.problem_sheets.specs.declared.page_parts.TheConstants.{PAGE_START, STYLE, PAGE_END}
 use Rattle.problem_sheets.specs.declared.pages.Form.{Form}
 use Rattle.chess_board.specs.declared.men.Colour.TheVariants.{White}
@@ -30,15 +30,18 @@ abbrev pub refusals_text : List ℕ → List ℕ
 refusals_text [] = []
 refusals_text (b ∷ bs) = section_text (codes "Lines refused") (b ∷ bs)
 
+-- the problems, solved or not
+unfoldable pub main_text : Bool → ContentsValue → List ℕ
+main_text solved c = codes "<main>\n" ++ problems_from solved 1 c.problems ++ codes "</main>\n"
+
 -- the solutions, where they are asked for, in a frame of their own
 unfoldable pub framed_text : List ℕ → List ℕ
 framed_text solutions = codes "<div>\n" ++ solutions ++ codes "</div>\n"
 
 abbrev pub solutions_text : Form → ContentsValue → List ℕ
-solutions_text form c = if form.solutions then section_text (codes "Solutions") (framed_text (solutions_from form.pieces 1 c.records)) else []
+solutions_text form c = if form.solutions then section_text (codes "Solutions") (framed_text (solutions_from form.pieces 1 c.problems)) else []
 
 -- the whole page
 unfoldable pub page_text : Form → List ℕ → ContentsValue → List ℕ
 page_text form title c =
-    head_text title ++ codes "<main>\n" ++ problems_from 1 c.records ++ codes "</main>\n"
-    ++ solutions_text form c ++ refusals_text c.refused ++ page_end
+    head_text title ++ main_text form.solutions c ++ solutions_text form c ++ refusals_text c.refused ++ page_end

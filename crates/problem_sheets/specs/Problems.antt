@@ -1,5 +1,5 @@
 -- A problem of a page: its number, its diagram, and what stands beneath it.
-use Rattle.std.specs.Prelude.{ℕ, zero, suc, ◌+◌, ◌==◌, List, [], ◌∷◌, ◌++◌, codes, decimal, filter, not, Option, Some, None, if◌then◌else◌}
+use Rattle.std.specs.Prelude.{ℕ, zero, suc, ◌+◌, ◌==◌, List, [], ◌∷◌, ◌++◌, codes, decimal, filter, Bool, not, Option, Some, None, if◌then◌else◌}
 use Rattle.chess_board.specs.Characters.{char}
 use Rattle.chess_board.specs.declared.men.Colour.{Colour}
 use Rattle.chess_board.specs.declared.men.Colour.TheVariants.{White, Black}
@@ -11,10 +11,28 @@ use Rattle.chess_board.specs.Fields.{square_text}
 use Rattle.chess_board.specs.Men.{has_right_of, is_of}
 use Rattle.chess_board.specs.Positions.{Setup, man_at}
 use Rattle.chess_notation.specs.Answers.{entries_text}
-use Rattle.chess_notation.specs.Opcodes.{operands_under}
-use Rattle.chess_notation.specs.Records.{RecordValue}
+use Rattle.chess_notation.specs.Opcodes.{operands_under, same_text}
+use Rattle.chess_notation.specs.Operations.{Entry}
+use Rattle.chess_notation.specs.Records.{RecordValue, problem_of}
+use Rattle.chess_problems.specs.declared.outcomes.Outcome.{Outcome}
+use Rattle.chess_problems.specs.declared.outcomes.Outcome.TheVariants.{Mate, NoMate}
+use Rattle.mate_search.specs.inside.Truth.{truth}
 use Rattle.problem_sheets.specs.Diagrams.{diagram_text}
 use Rattle.problem_sheets.specs.Escaping.{escaped}
+
+-- a problem: what its line says, and whether it says the number of moves itself, so that this is not the default one
+pub record PageProblemValue : Type 0 where
+  pub asked : RecordValue
+  pub says_bound : Bool
+
+-- the length of the shortest mate, where there is one
+abbrev pub length_of : Outcome → Option ℕ
+length_of (Mate dm keys pv) = Some dm
+length_of NoMate = None
+
+-- the number of moves that stands by a problem: what its line says, or else, where it is solved, the length of the shortest mate
+unfoldable pub stipulation : Bool → PageProblemValue → Option ℕ
+stipulation solved p = if p.says_bound then Some p.asked.bound else if solved then length_of (truth (problem_of p.asked)) else None
 
 -- how many squares below n have a man of the colour
 unfoldable pub men_below : ℕ → Colour → List (Option Man) → ℕ
@@ -52,13 +70,25 @@ state_text p =
     right_text p White KingSide ++ right_text p White QueenSide ++ right_text p Black KingSide
     ++ right_text p Black QueenSide ++ target_words p.target
 
--- the record without a solution: its position, its bound, and the operations that an answer would keep
-abbrev pub epd_text : RecordValue → List ℕ
-epd_text r = position_text r.position ++ codes " dm " ++ decimal r.bound ++ codes ";" ++ entries_text r.rest
+-- the number of moves by a diagram, and in a record
+abbrev pub stipulation_text : Option ℕ → List ℕ
+stipulation_text None = []
+stipulation_text (Some moves) = codes " #" ++ decimal moves
 
--- what stands beneath the diagram: number, length and counts of men, `id`, what the diagram doesn't show, and the record to be copied
-unfoldable pub heading_text : ℕ → RecordValue → List ℕ
-heading_text n r = codes "<b>" ++ decimal n ++ codes "</b> #" ++ decimal r.bound ++ codes " " ++ count_text r.position.men
+abbrev pub bound_text : Option ℕ → List ℕ
+bound_text None = []
+bound_text (Some moves) = codes " dm " ++ decimal moves ++ codes ";"
+
+abbrev pub is_id : Entry → Bool
+is_id entry = same_text (codes "id") entry.opcode
+
+-- the record without a solution: its position, the number of moves that stands by it, and `id`
+abbrev pub epd_text : Option ℕ → RecordValue → List ℕ
+epd_text moves r = position_text r.position ++ bound_text moves ++ entries_text (filter is_id r.rest)
+
+-- what stands beneath the diagram: number, stipulation and counts of men, `id`, what the diagram doesn't show, and the record to be copied
+unfoldable pub heading_text : ℕ → Option ℕ → RecordValue → List ℕ
+heading_text n moves r = codes "<b>" ++ decimal n ++ codes "</b>" ++ stipulation_text moves ++ codes " " ++ count_text r.position.men
 
 unfoldable pub cite_text : RecordValue → List ℕ
 cite_text r = codes "<cite>" ++ id_text r ++ codes "</cite>"
@@ -66,19 +96,19 @@ cite_text r = codes "<cite>" ++ id_text r ++ codes "</cite>"
 unfoldable pub small_text : RecordValue → List ℕ
 small_text r = codes "<small>" ++ state_text r.position ++ codes "</small>"
 
-unfoldable pub code_text : RecordValue → List ℕ
-code_text r = codes "<code>" ++ escaped (epd_text r) ++ codes "</code>"
+unfoldable pub code_text : Option ℕ → RecordValue → List ℕ
+code_text moves r = codes "<code>" ++ escaped (epd_text moves r) ++ codes "</code>"
 
-unfoldable pub details_text : ℕ → RecordValue → List ℕ
-details_text n r = heading_text n r ++ cite_text r ++ small_text r ++ code_text r
+unfoldable pub details_text : ℕ → Option ℕ → RecordValue → List ℕ
+details_text n moves r = heading_text n moves r ++ cite_text r ++ small_text r ++ code_text moves r
 
-unfoldable pub caption_text : ℕ → RecordValue → List ℕ
-caption_text n r = codes "<figcaption>" ++ details_text n r ++ codes "</figcaption>"
+unfoldable pub caption_text : ℕ → Option ℕ → RecordValue → List ℕ
+caption_text n moves r = codes "<figcaption>" ++ details_text n moves r ++ codes "</figcaption>"
 
-unfoldable pub problem_text : ℕ → RecordValue → List ℕ
-problem_text n r = codes "<figure>" ++ diagram_text r.position ++ caption_text n r ++ codes "</figure>\n"
+unfoldable pub problem_text : ℕ → Option ℕ → RecordValue → List ℕ
+problem_text n moves r = codes "<figure>" ++ diagram_text r.position ++ caption_text n moves r ++ codes "</figure>\n"
 
--- problems, the first of them numbered so
-unfoldable pub problems_from : ℕ → List RecordValue → List ℕ
-problems_from n [] = []
-problems_from n (r ∷ rs) = problem_text n r ++ problems_from (n + 1) rs
+-- problems, the first of them numbered so, solved or not
+unfoldable pub problems_from : Bool → ℕ → List PageProblemValue → List ℕ
+problems_from solved n [] = []
+problems_from solved n (p ∷ ps) = problem_text n (stipulation solved p) p.asked ++ problems_from solved (n + 1) ps

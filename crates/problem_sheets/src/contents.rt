@@ -5,18 +5,19 @@ ghost use Rattle.problem_sheets.specs.Contents.{Adds, AddsFile, AddsFiles, has_r
 
 use crate::diagrams::push_number;
 use crate::escaping::{push_escaped, push_three};
+use crate::problems::PageProblem;
 use byte_streams::NoMemory;
 use chess_moves::Rays;
-use chess_notation::{EpdFault, Record, is_blank, read_record};
+use chess_notation::{EpdFault, is_blank, read_record, says_bound};
 use chess_problems::Bound;
 use std::alloc::Global;
 use std::marker::Model;
 use text_lines::{first_line, without_cr};
 
-/// The records of a page in their order, and what it says of the lines that are refused.
+/// The problems of a page in their order, and what it says of the lines that are refused.
 #[derive(Drop)]
 pub struct Contents {
-    pub(crate) records: Vec<Record>,
+    pub(crate) problems: Vec<PageProblem>,
     pub(crate) refused: Vec<u8>,
 }
 
@@ -25,7 +26,7 @@ impl Model for Contents {
 
     ghost Value = { ContentsValue };
 
-    ghost view = { λ c. record { records = c.records.items; refused = c.refused.items } };
+    ghost view = { λ c. record { problems = c.problems.items; refused = c.refused.items } };
 }
 
 impl Contents {
@@ -34,7 +35,7 @@ impl Contents {
         ensures { result ≡ no_contents }
     {
         Contents {
-            records: Vec::new(alloc),
+            problems: Vec::new(alloc),
             refused: Vec::new(alloc),
         }
     }
@@ -86,7 +87,11 @@ fn add_line(
     }
     match read_record(alloc, rays, line, default) {
         Ok(record) => {
-            let Ok(()) = contents.records.push(record) else {
+            let problem = PageProblem {
+                record,
+                says_bound: says_bound(line),
+            };
+            let Ok(()) = contents.problems.push(problem) else {
                 return Err(NoMemory);
             };
             Ok(())

@@ -1,15 +1,16 @@
 //! A page.
 
-ghost use Rattle.std.specs.Prelude.{◌≡◌, ◌++◌, IfOk};
-ghost use Rattle.problem_sheets.specs.Pages.{framed_text, head_text, page_end, page_start, page_text as page_text_of};
+ghost use Rattle.std.specs.Prelude.{◌≡◌, ◌++◌, IfOk, false, true};
+ghost use Rattle.problem_sheets.specs.Pages.{framed_text, head_text, main_text, page_end, page_start, page_text as page_text_of};
 ghost use Rattle.problem_sheets.specs.Pages.{refusals_text, section_text, solutions_text, style};
+ghost use Rattle.problem_sheets.specs.Solutions.{solutions_from};
 
 use crate::contents::Contents;
 use crate::diagrams::push_all_shapes;
 use crate::escaping::{push_escaped, push_three};
 use crate::page_parts::{PAGE_END, PAGE_START, STYLE};
 use crate::problems::push_problems;
-use crate::solutions::{Notation, push_solutions};
+use crate::solutions::{Notation, push_solved_problems};
 use byte_streams::NoMemory;
 use chess_board::Colour;
 use chess_moves::Rays;
@@ -101,8 +102,40 @@ fn push_refusals(text: &mut Vec<u8>, refused: &[u8]) -> Result<(), AllocError>
     }
 }
 
-/// Solves the problems and adds their solutions, where they are asked for.
-fn push_solutions_if_asked(
+/// Adds the problems, of which none is solved.
+#[tactic(auto, unfolding(crate::specs::Pages::main_text))]
+fn push_main(alloc: Global, text: &mut Vec<u8>, contents: &Contents) -> Result<(), AllocError>
+    ensures { IfOk result (λ _. text.new.items ≡ text.old.items ++ main_text false contents.now) }
+{
+    text.extend_from_slice(b"<main>\n")?;
+    push_problems(alloc, text, contents.problems.as_slice())?;
+    text.extend_from_slice(b"</main>\n")
+}
+
+/// Solves the problems, and adds them, and their solutions to another text.
+#[tactic(auto, unfolding(crate::specs::Pages::main_text))]
+fn push_solved_main(
+    alloc: Global,
+    text: &mut Vec<u8>,
+    solutions: &mut Vec<u8>,
+    notation: &Notation<'_>,
+    contents: &Contents,
+    memo: &mut Memo,
+) -> Result<(), NoMemory>
+    ensures text { IfOk result (λ _. text.new.items ≡ text.old.items ++ main_text true contents.now) }
+    ensures solutions { IfOk result (λ _. solutions.new.items ≡ solutions.old.items
+        ++ solutions_from notation.now.pieces 1 contents.now.problems) }
+    ensures room { memo.new.room ≡ memo.old.room }
+{
+    let problems = contents.problems.as_slice();
+    text.extend_from_slice(b"<main>\n")?;
+    push_solved_problems(alloc, text, solutions, notation, problems, memo)?;
+    text.extend_from_slice(b"</main>\n")?;
+    Ok(())
+}
+
+/// Adds the problems, and where solutions are asked for, solves them and adds these.
+fn push_problems_asked(
     alloc: Global,
     text: &mut Vec<u8>,
     rays: &Rays,
@@ -110,10 +143,12 @@ fn push_solutions_if_asked(
     contents: &Contents,
     memo: &mut Memo,
 ) -> Result<(), NoMemory>
-    ensures text { IfOk result (λ _. text.new.items ≡ text.old.items ++ solutions_text form.now contents.now) }
+    ensures text { IfOk result (λ _. text.new.items ≡ text.old.items ++ main_text form.now.solutions contents.now
+        ++ solutions_text form.now contents.now) }
     ensures room { memo.new.room ≡ memo.old.room }
 {
     if !form.solutions {
+        push_main(alloc, text, contents)?;
         return Ok(());
     }
     let notation = Notation {
@@ -121,13 +156,7 @@ fn push_solutions_if_asked(
         pieces: form.pieces,
     };
     let mut solutions = Vec::new(alloc);
-    push_solutions(
-        alloc,
-        &mut solutions,
-        &notation,
-        contents.records.as_slice(),
-        memo,
-    )?;
+    push_solved_main(alloc, text, &mut solutions, &notation, contents, memo)?;
     push_framed_section(text, b"Solutions", solutions.as_slice())?;
     Ok(())
 }
@@ -148,10 +177,7 @@ pub fn page_text(
 {
     let mut text = Vec::new(alloc);
     push_head(&mut text, title.as_bytes())?;
-    text.extend_from_slice(b"<main>\n")?;
-    push_problems(alloc, &mut text, contents.records.as_slice())?;
-    text.extend_from_slice(b"</main>\n")?;
-    push_solutions_if_asked(alloc, &mut text, rays, form, contents, memo)?;
+    push_problems_asked(alloc, &mut text, rays, form, contents, memo)?;
     push_refusals(&mut text, contents.refused.as_slice())?;
     push_end(&mut text)?;
     Ok(text)
