@@ -1,6 +1,6 @@
 -- What the words of a command line ask for.
 use Rattle.std.specs.Prelude.{ℕ, ◌+◌, ◌^◌, ◌==◌, ◌&&◌, ◌||◌, Bool, List, [], ◌∷◌, Option, None, Some, true, false, codes}
-use Rattle.std.specs.Prelude.{length, is_some, nat_lt, not, option_map, option_and_then, unwrap_or, if◌then◌else◌}
+use Rattle.std.specs.Prelude.{length, nat_lt, not, option_map, option_and_then, unwrap_or, if◌then◌else◌}
 use Rattle.std.specs.List.{list_all, list_any}
 use Rattle.std.specs.Option.{option_map_or}
 use Rattle.std.specs.Char.{digit_value}
@@ -367,10 +367,6 @@ asked_of m = option_and_then (λ p. asked_by p.0 p.1) (subcommand_rows_of m)
 -- whether matches of a whole command line ask to be told how far the command is
 abbrev pub progress_of : ArgMatches → Bool
 progress_of m = option_map_or (λ p. is_given (codes "progress") p.1) (subcommand_rows_of m) false
-
--- whether they say what size a memo has, where they speak of it
-abbrev pub has_memo_size : ArgMatches → Bool
-has_memo_size m = option_map_or (λ p. is_some (memo_size_in 1 default_memo p.1)) (subcommand_rows_of m) true
 
 -- a command that answers records one after the other
 abbrev pub answers_records : Text → Bool

@@ -3,12 +3,12 @@
 ghost use Rattle.std.specs.Prelude.{◌≡◌, ◌≢◌, None, IfOk, IfErr, map, option_map, false, true};
 ghost use Rattle.clap.specs.Words.{found_of, kind_of, rows_of};
 ghost use Rattle.command_words.specs.Asked.{answers_records, asked_by, asked_exactly, asked_of, asks_display_exactly, desk_asked_by};
-ghost use Rattle.command_words.specs.Asked.{has_memo_size, is_display, lines_asked_by, may_display_exactly, progress_of};
+ghost use Rattle.command_words.specs.Asked.{is_display, lines_asked_by, may_display_exactly, progress_of};
 ghost use Rattle.command_words.specs.Asked.{records_asked_by, records_given_by, records_given_exactly, records_given_of};
 ghost use Rattle.command_words.specs.Request.{plan_of};
 
 use crate::command_line::desk_command;
-use crate::matched_values::{DEFAULT_MEMO, is_given, memo_size_in, names_in, text_in};
+use crate::matched_values::{is_given, names_in, text_in};
 use crate::position_requests::{
     lines_in, look_in, look_lines_in, moves_in, perft_in, perft_lines_in, play_in,
 };
@@ -107,17 +107,6 @@ pub fn asks_progress(matches: &ArgMatches) -> bool
     match matches.subcommand() {
         Some((_, inner)) => is_given(inner, "progress"),
         None => false,
-    }
-}
-
-/// Whether the matches of the whole command line say what size a memo has, where they speak of it: not both by `--memo` and `--memory`,
-/// and by this no more or less than may be, or anything else.
-pub fn has_memo_size(matches: &ArgMatches) -> bool
-    ensures { result ≡ has_memo_size matches.now }
-{
-    match matches.subcommand() {
-        Some((_, inner)) => memo_size_in(inner, 1, DEFAULT_MEMO).is_some(),
-        None => true,
     }
 }
 

@@ -16,10 +16,10 @@ use crate::replaying::replay;
 use crate::sheeting::sheet;
 use crate::telling::{tells_none, tree, tree_json};
 use byte_streams::{Stop, stop_of_output};
+use clap::Error;
 use clap::error::ErrorKind;
-use clap::{ArgMatches, Error};
 use command_words::{
-    ImportAsked, Request, SheetAsked, TreeAsked, escaped, gives_records, has_memo_size, parse,
+    ImportAsked, Request, SheetAsked, TreeAsked, escaped, gives_records, no_request, parse,
     request_of,
 };
 use file_answers::{ANSWERED, GivenTexts, MISUSED, Source, complain, no_memory, status_of};
@@ -34,23 +34,6 @@ use std::io::Write;
 /// What is said of a word that gives no letters of men.
 pub const NO_LETTERS: &str =
     "--letters takes six capitals, each another, as KDTLSB, or the code of a language, as de";
-
-/// What is said of options that go not together.
-const NO_REQUEST: &str =
-    "--flip goes with --board or --svg, and these not with each other; verify --json goes without --header and --import, verify --import and tree --json without --limit, these three and tree --limit with no more than one worker, and moves --json without another form";
-
-/// What is said of a size that memos can't have.
-const NO_MEMO_SIZE: &str =
-    "--memory takes 1K to 32G, a number and K, M or G, as 512M, and goes without --memo";
-
-/// What is said of matches that ask for nothing.
-fn no_request(matches: &ArgMatches) -> &'static str {
-    if has_memo_size(matches) {
-        NO_REQUEST
-    } else {
-        NO_MEMO_SIZE
-    }
-}
 
 /// Whether a request is one for threads.
 fn is_threaded(request: &Request) -> bool
