@@ -2,7 +2,7 @@
 
 use crate::console::Console;
 use crate::progress_counts::{MOST_OF_NAME, ProgressCounts, TICKS_A_SECOND};
-use file_answers::MISUSED;
+use file_answers::{IN_PART, MISUSED};
 use std::alloc::Global;
 use std::io::Write;
 use std::sync::atomic::Ordering;
@@ -37,6 +37,11 @@ pub struct Telling {
 /// Whether it is told at this tick.
 fn is_due(tick: u64, is_terminal: bool) -> bool {
     tick == SOON || tick % (if is_terminal { SOON } else { LATER }) == 0
+}
+
+/// Whether a command with such a status at the end stopped before it.
+fn has_stopped(status: u8) -> bool {
+    status > MISUSED && status != IN_PART
 }
 
 /// Tells once how far all is. That memory is refused, or nothing can be written, changes nothing.
@@ -128,7 +133,7 @@ impl Telling {
         progress.has_ended.wake_one();
         thread.join(rt);
         let clear = if is_terminal { "\x1b[K" } else { "" };
-        if let Ok(summary) = progress.summary(alloc, status > MISUSED) {
+        if let Ok(summary) = progress.summary(alloc, has_stopped(status)) {
             let _ = writeln!(err, "{clear}matedesk: {summary}");
         }
     }

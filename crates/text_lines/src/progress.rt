@@ -16,7 +16,7 @@ pub trait Progress {
     /// Mate in so many moves is searched, of the line that was begun last.
     fn searches(&self, _moves: u8) {}
 
-    /// These are the replies to lines, from one that was begun on.
+    /// These are the replies to lines, from one that was begun on, which are written.
     fn ends(&self, _replies: &[u8]) {}
 
     /// The reply to a line that was begun is written, and refuses so many lines.

@@ -95,7 +95,7 @@ pub trait LineHandler {
         → is_blank line ≡ true → follows handler before number line [] 0 };
 }
 
-/// A handler's replies, each of which is whole, and told, before it is written.
+/// A handler's replies, each of which is whole before it is written, and then told.
 #[derive(Clone, Copy)]
 struct Whole<'a, H, P> {
     handler: &'a H,
@@ -156,7 +156,7 @@ impl<H: LineHandler, P: Progress> LineWriter for Whole<'_, H, P> {
     ghost skips_behind = { λ whole before number line blank. H.skips_behind whole.handler.now before number line blank };
 }
 
-/// Tells a reply, and writes it; gives how many lines it refuses.
+/// Writes a reply, and tells it once it is written; gives how many lines it refuses.
 fn put_reply<P: Progress, O: Write>(
     out: &mut O,
     progress: &P,
@@ -165,9 +165,11 @@ fn put_reply<P: Progress, O: Write>(
     ensures ok { IfOk result (λ refused. (refused ≡ output.now.refused) × Appends (O.contents out.old) (O.contents out.new) output.now.text.items) }
     ensures err { IfErr result (λ stop. (is_of_output stop ≡ true) × AppendsPart (O.contents out.old) (O.contents out.new) output.now.text.items) }
 {
-    progress.ends(output.text.as_slice());
     match put(out, output.text.as_slice()) {
-        Ok(()) => Ok(output.refused),
+        Ok(()) => {
+            progress.ends(output.text.as_slice());
+            Ok(output.refused)
+        }
         Err(stop) => Err(stop),
     }
 }
