@@ -39,6 +39,10 @@ impl<S: Source> Progress for WatchedFiles<'_, S> {
         self.progress.open(name, self.source.size(name));
     }
 
+    fn goes_on_with(&self, name: &str) {
+        self.source.goes_on_with(name);
+    }
+
     fn begins(&self, number: usize) {
         self.progress.begin(number);
     }

@@ -7,7 +7,7 @@ ghost use Rattle.byte_streams.specs.Stops.{AppendsBy};
 ghost use Rattle.file_answers.specs.Writing.{Gains};
 ghost use Rattle.file_answers.specs.FileAnswers.{Answers, AnswersTold, FileReplies, FileTold, FirstReplies, StopsAnswering};
 
-use crate::sources::{Source, holds_reads, open_file, stop_at};
+use crate::sources::{Source, holds_reads, open_file, stop_at, tell_next};
 use byte_streams::{Input, Stop};
 use command_words::LineNumber;
 use std::alloc::Global;
@@ -78,8 +78,8 @@ pub trait FileAnswers {
 }
 
 /// Answers each line of each file in order, but those of the first file that are passed over, and opens a file only after the answers to
-/// those before were written; gives whether a line was refused; how many marks there are more, the memory tells. A file that can't be read
-/// is named on `err`.
+/// those before were written; gives whether a line was refused; how many marks there are more, the memory tells. The source is told which of
+/// several is next, and a file that can't be read is named on `err`.
 pub fn answer_files<A: FileAnswers, S: Source, O: Write, E: Write>(
     alloc: Global,
     answers: &A,
@@ -106,6 +106,7 @@ pub fn answer_files<A: FileAnswers, S: Source, O: Write, E: Write>(
     for name in files.names {
         let start = FileStart { name, from, source };
         let file = open_file(alloc, name, source, err)?;
+        tell_next(source, files.names, name);
         match answers.answer(alloc, &start, file, memory, out) {
             Ok(count) => refused |= count > 0,
             Err(stop) => return Err(stop_at(stop, err, source, name)),

@@ -84,6 +84,10 @@ impl<S: Source> Progress for GivenTexts<'_, S> {
         self.source.turns_to(name);
     }
 
+    fn goes_on_with(&self, name: &str) {
+        self.source.goes_on_with(name);
+    }
+
     fn begins(&self, number: usize) {
         self.source.begins(number);
     }

@@ -7,7 +7,7 @@ ghost use Rattle.file_answers.specs.Sources.{SomeRefused};
 ghost use Rattle.file_answers.specs.Writing.{Gains};
 
 use crate::file_answers::{FileAnswers, FileStart};
-use crate::sources::{Source, holds_reads, open_file, stop_at};
+use crate::sources::{Source, holds_reads, open_file, stop_at, tell_next};
 use byte_streams::Stop;
 use std::alloc::Global;
 use std::io::Write;
@@ -77,6 +77,7 @@ pub fn answer_opened<A: FileAnswers, S: Source, O: Write, E: Write>(
             unreachable!()
         };
         source.turns_to(name);
+        tell_next(source, names, name);
         let start = FileStart {
             name,
             from: 1,

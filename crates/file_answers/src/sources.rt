@@ -122,6 +122,13 @@ pub(crate) fn stop_at<S: Source, E: Write>(stop: Stop, err: &mut E, source: &S, 
     stop
 }
 
+/// Tells the source which file is answered next, where there are several.
+pub(crate) fn tell_next<S: Source>(source: &S, names: &[&str], name: &str) {
+    if names.len() > 1 {
+        source.goes_on_with(name);
+    }
+}
+
 /// A file, of which nothing is read yet. One that can't be opened is named on `err`.
 pub(crate) fn open_file<S: Source, E: Write>(
     alloc: Global,

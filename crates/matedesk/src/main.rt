@@ -21,7 +21,9 @@ mod verifying_in_time;
 mod verifying_on;
 
 use answering::command;
-use file_answers::{FileSystem, MISUSED, complain, no_memory};
+use file_answers::{
+    FileInTurn, FileSystem, MISUSED, NamedFiles, NamedRefusals, complain, no_memory,
+};
 use std::alloc::Global;
 use std::process::ExitCode;
 use std::rt::Env;
@@ -34,7 +36,6 @@ fn words_of<R: Env + AllocGlobal>(rt: &R, alloc: Global) -> io::Result<Vec<Strin
 
 fn main(rt: HostRuntime) -> ExitCode {
     let alloc = rt.alloc();
-    let mut out = rt.stdout();
     let mut err = rt.stderr();
     let status = match words_of(&rt, alloc) {
         Ok(words) => {
@@ -42,7 +43,13 @@ fn main(rt: HostRuntime) -> ExitCode {
                 rt: &rt,
                 stdin: rt.stdin(),
             };
-            command(&rt, alloc, words.as_slice(), &files, &mut out, &mut err)
+            let turn = FileInTurn::new(words.as_slice());
+            let named = NamedFiles {
+                source: &files,
+                turn: &turn,
+            };
+            let mut out = NamedRefusals::new(rt.stdout(), rt.stderr(), &turn);
+            command(&rt, alloc, words.as_slice(), &named, &mut out, &mut err)
         }
         Err(fault) if fault.kind() == io::ErrorKind::OutOfMemory => no_memory(&mut err),
         Err(_) => {

@@ -6,7 +6,9 @@
 
 mod solving;
 
-use file_answers::{FileSystem, MISUSED, complain, no_memory};
+use file_answers::{
+    FileInTurn, FileSystem, MISUSED, NamedFiles, NamedRefusals, complain, no_memory,
+};
 use solving::solve_asked;
 use std::alloc::Global;
 use std::process::ExitCode;
@@ -23,7 +25,6 @@ fn words_of<R: Env + AllocGlobal>(rt: &R, alloc: Global) -> io::Result<Vec<Strin
 
 fn main(rt: HostRuntime) -> ExitCode {
     let alloc = rt.alloc();
-    let mut out = rt.stdout();
     let mut err = rt.stderr();
     let status = match words_of(&rt, alloc) {
         Ok(words) => {
@@ -31,7 +32,13 @@ fn main(rt: HostRuntime) -> ExitCode {
                 rt: &rt,
                 stdin: rt.stdin(),
             };
-            solve_asked(alloc, words.as_slice(), &files, &mut out, &mut err).unwrap_or(NOT_SOLVE)
+            let turn = FileInTurn::new(words.as_slice());
+            let named = NamedFiles {
+                source: &files,
+                turn: &turn,
+            };
+            let mut out = NamedRefusals::new(rt.stdout(), rt.stderr(), &turn);
+            solve_asked(alloc, words.as_slice(), &named, &mut out, &mut err).unwrap_or(NOT_SOLVE)
         }
         Err(fault) if fault.kind() == io::ErrorKind::OutOfMemory => no_memory(&mut err),
         Err(_) => {

@@ -5,6 +5,9 @@ pub trait Progress {
     /// The file of this name, which was opened before, is answered next.
     fn turns_to(&self, _name: &str) {}
 
+    /// The file of this name, one of several, is answered next.
+    fn goes_on_with(&self, _name: &str) {}
+
     /// The line of this number is begun, of the file that was opened or turned to last.
     fn begins(&self, _number: usize) {}
 
