@@ -22,26 +22,26 @@ one_source line r Default Default is also = refl
 one_source line r Line Default is also = absurd (also is)
 one_source line r Default Line is also = absurd (is also)
 
-abbrev said : List ℕ → RecordValue → Said
-said line r = said_of line r (truth (problem_of r))
+abbrev said : BoundSource → List ℕ → RecordValue → Said
+said source line r = said_of source line r (truth (problem_of r))
 
 abbrev row : List ℕ → List ℕ → RecordValue → BoundSource → List ℕ
-row place line r source = row_of place r source (said line r).word (truth (problem_of r)) (said line r).claims
+row place line r source = row_of place r source (said source line r).word (Some (truth (problem_of r))) (said source line r).claims
 
 abbrev IsRowOf : (prefix : List ℕ) → (number : ℕ) → (line : List ℕ) → RecordValue → BoundSource → List ℕ → ℕ → Type 0
 IsRowOf prefix number line r source text n =
-    (text ≡ row (prefix ++ decimal number) line r source) × (n ≡ refusals_of (said line r).verdict)
+    (text ≡ row (prefix ++ decimal number) line r source) × (n ≡ refusals_of (said source line r).verdict)
 
 -- What is told of a line that says a record.
 told_row : RecordsClear → SaysOne → (place : List ℕ) (default : ℕ) (line text : List ℕ) (verdict : Option ClaimVerdict) (from : Option BoundSource)
     (r : RecordValue) (source : BoundSource) → ReadsClaimed line default r → IsSource line r source → IsTold place default line text verdict from
-    → IsToldBy place r source (said line r) text verdict
+    → IsToldBy place r source (said source line r) text verdict
 unfolding HasNoFault
 told_row clear one place default line text verdict from r source reads is (no_record fault faulty) = absurd (clear line _ r reads fault faulty.applies)
 told_row clear one place default line text verdict from r source reads is (of_record s other t v says of by) =
     let same : s ≡ r = one line _ s r says reads in
     let sources : other ≡ source = one_source line r other source (subst (λ x. IsSource line x other) same of) is in
-    subst (λ o. IsToldBy place r o (said line r) t v) sources (subst (λ x. IsToldBy place x other (said line x) t v) same by)
+    subst (λ o. IsToldBy place r o (said o line r) t v) sources (subst (λ x. IsToldBy place x other (said other line x) t v) same by)
 
 row_is : RecordsClear → SaysOne → (prefix : List ℕ) (default number : ℕ) (line text : List ℕ) (n : ℕ) → is_blank line ≡ false
     → (r : RecordValue) (source : BoundSource) → ReadsClaimed line default r → IsSource line r source
@@ -56,8 +56,8 @@ pub claimed_joins : RecordsClear → SaysOne → (prefix : List ℕ) (default nu
 claimed_joins clear one prefix default number line text n filled (r, source, reads, is) merely =
     let both : IsRowOf prefix number line r source text n = ∥∥₁_elim merely (×_prop (Coded-set (coded_list coded_ℕ) _ _) (Coded-set coded_ℕ _ _))
     (row_is clear one prefix default number line text n filled r source reads is) in
-    rw (both.1) (told text (said line r).verdict (Some source) filled
-    (of_record r source text (said line r).verdict reads is (both.0, refl)))
+    rw (both.1) (told text (said source line r).verdict (Some source) filled
+    (of_record r source text (said source line r).verdict reads is (both.0, refl)))
 
 -- What is told of a line is its reply.
 pub reply_told : (prefix before : List ℕ) (default bound number : ℕ) (line row text : List ℕ) (verdict : Option ClaimVerdict)
