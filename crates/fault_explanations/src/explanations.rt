@@ -477,9 +477,9 @@ either side. Without a word `explain` lists all.",
     },
     Explanation {
         code: "TimedOut",
-        comes: "a block of `examples/blocks` took longer than its `LIMIT`",
-        means: "Its records have no answers from some record on; the line is the block's first. Try fewer
-lines a block, or `solve --limit`, which limits each record.",
+        comes: "a line had no answer when its block of `examples/blocks` had taken its `LIMIT`",
+        means: "Lines before it may have taken that time. Try fewer lines a block, or `--limit` behind `--`,
+which limits each record.",
         example: None,
     },
 ];
