@@ -18,6 +18,13 @@ make_room() {
     trap 'rm -rf -- "$room"' EXIT
 }
 
+# Prints lines of each kind: blank ones at both ends and within, records that end in each way, and bytes that no record has.
+odd_lines() {
+    local record='7k/8/5K2/8/8/8/8/R7 w - - dm 2;'
+    printf '\n  \n\r\n%s\n%s\0x\n\0\n\t\n\r\r\n%s\r\n' "$record" "$record" "$record"
+    printf '%02000d\n\n\n \r\n  %s\n%s\f\n\303\251\n\v\n\n%s\r' 0 "$record" "$record" "$record"
+}
+
 pass() {
     passed=$((passed + 1))
 }
