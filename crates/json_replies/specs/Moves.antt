@@ -1,4 +1,4 @@
--- The legal moves of a FEN as an object of JSON.
+-- The legal moves of a FEN, or why it is refused, as an object of JSON.
 use Rattle.std.specs.Prelude.{ℕ, List, [], ◌++◌, codes, drop, flat_map}
 use Rattle.chess_board.specs.Fens.{FenValue, fen_text}
 use Rattle.chess_board.specs.Moves.{Move, move_text}
@@ -27,3 +27,7 @@ ending Stalemate = codes ",\"verdict\":\"stalemate\""
 unfoldable pub moves_json : FenValue → List ℕ
 moves_json v = codes "{\"fen\":" ++ string (fen_text v) ++ codes ",\"moves\":[" ++ drop 1 (move_objects v.position) ++ codes "]"
     ++ ending (verdict_of v.position) ++ codes "}\n"
+
+-- a FEN that is refused: the name of its fault
+unfoldable pub error_json : List ℕ → List ℕ
+error_json name = codes "{\"error\":" ++ string name ++ codes "}\n"

@@ -19,5 +19,5 @@ mod undecided;
 
 pub use answers::front_of;
 pub use gathered::Gathered;
-pub use moves::moves_json;
+pub use moves::{error_json, moves_json};
 pub use replies::{Form, JsonReplies};

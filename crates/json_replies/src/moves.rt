@@ -1,9 +1,9 @@
-//! The legal moves of a FEN as an object of JSON.
+//! The legal moves of a FEN, or why it is refused, as an object of JSON.
 
 ghost use Rattle.std.specs.Prelude.{◌≡◌, ◌++◌, IfOk, OnOk, true};
 ghost use Rattle.chess_board.specs.Legality.{is_legal};
 ghost use Rattle.chess_moves.specs.Verdicts.{verdict_of};
-ghost use Rattle.json_replies.specs.Moves.{ending, move_object, move_objects as move_objects_of, moves_json as moves_json_of};
+ghost use Rattle.json_replies.specs.Moves.{ending, error_json as error_json_of, move_object, move_objects as move_objects_of, moves_json as moves_json_of};
 
 use crate::cuts::without_first;
 use crate::strings::push_string;
@@ -63,6 +63,17 @@ pub fn moves_json(alloc: Global, rays: &Rays, fen: &Fen) -> Result<Vec<u8>, Allo
     out.extend_from_slice(without_first(moves.as_slice()))?;
     out.extend_from_slice(b"]")?;
     push_ending(&mut out, rays, &fen.position)?;
+    out.extend_from_slice(b"}\n")?;
+    Ok(out)
+}
+
+/// The name of the fault by which a FEN is refused, with a newline behind the object.
+#[tactic(auto, unfolding(crate::specs::Moves::error_json))]
+pub fn error_json(alloc: Global, name: &str) -> Result<Vec<u8>, AllocError>
+    ensures { IfOk result (λ text. text.items ≡ error_json_of name.now) }
+{
+    let mut out = Vec::from_slice(alloc, b"{\"error\":")?;
+    push_string(&mut out, name.as_bytes())?;
     out.extend_from_slice(b"}\n")?;
     Ok(out)
 }

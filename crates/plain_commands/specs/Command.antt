@@ -3,10 +3,10 @@ use Rattle.std.specs.Prelude.{is_some, ◌≡◌, ◌<◌, ◌≤◌, ◌⊎◌,
 use Rattle.std.specs.Io.KnownBytes.{Keeps}
 use Rattle.clap.specs.Words.{Text}
 use Rattle.byte_streams.specs.declared.stops.Stop.{Stop}
-use Rattle.byte_streams.specs.declared.stops.Stop.TheVariants.{NoMemory, Unreadable, Unwritable, NoReader}
+use Rattle.byte_streams.specs.declared.stops.Stop.TheVariants.{NoMemory, Unreadable, Unwritable}
 use Rattle.file_answers.specs.Sources.{SomeRefused, held, held_back}
 use Rattle.file_answers.specs.Status.{status_of}
-use Rattle.file_answers.specs.Writing.{Gains, GainsPart, StopsShowing}
+use Rattle.file_answers.specs.Writing.{Gains, StopsShowing}
 use Rattle.chess_views.specs.Counts.{divided_text, perft_text}
 use Rattle.chess_views.specs.Listings.{moves_text}
 use Rattle.chess_views.specs.Looks.{look_board_text, look_text}
@@ -15,13 +15,12 @@ use Rattle.command_words.specs.Asked.{solve_on, solve_json_on, limited, limited_
 use Rattle.command_words.specs.Asked.{verify_json, verify_imported, tree, tree_on, tree_limited, tree_json, sheet, imports, serve, replay, explain, uci}
 use Rattle.move_words.specs.Languages.{letters_said}
 use Rattle.problem_sheets.specs.Diagrams.{svg_of}
-use Rattle.json_replies.specs.Moves.{moves_json as moves_object}
 use Rattle.json_commands.specs.Solved.{SolvesJson, SolvesLimitedJson, StopsLimitedJson, StopsSolvingJson}
 use Rattle.json_commands.specs.Told.{TellsJson, StopsTellingJson}
 use Rattle.json_commands.specs.Verified.{VerifiesJson, StopsVerifyingJson, VerifiesLimitedJson, StopsVerifyingLimitedJson}
 use Rattle.import_claims.specs.VerifiedImports.{VerifiesImported, StopsVerifyingImported}
 use Rattle.plain_commands.specs.Explained.{ExplainsSome, ExplainsWords}
-use Rattle.plain_commands.specs.FenCommands.{ShowsFen, columns_of}
+use Rattle.plain_commands.specs.FenCommands.{ShowsFen, ShowsMovesJson, ShowsObject, columns_of}
 use Rattle.plain_commands.specs.Played.{ShowsPlay}
 use Rattle.plain_commands.specs.PositionLines.{ShowsLines, StopsLines, command_of}
 use Rattle.plain_commands.specs.Replayed.{ReplaysFile, StopsReplaying}
@@ -40,7 +39,7 @@ Shows holds (board fen side) refused text = ShowsFen (look_board_text side) fen 
 Shows holds (svg fen side) refused text = ShowsFen (svg_of side) fen refused text
 Shows holds (play fen words) refused text = ShowsPlay fen words refused text
 Shows holds (moves form fen) refused text = ShowsFen (moves_text (columns_of form)) fen refused text
-Shows holds (moves_json fen) refused text = ShowsFen moves_object fen refused text
+Shows holds (moves_json fen) refused text = ShowsMovesJson fen refused text
 Shows holds (perft fen depth) refused text = ShowsFen (perft_text depth) fen refused text
 Shows holds (divide fen depth) refused text = ShowsFen (divided_text depth) fen refused text
 Shows holds (lines view names) refused text = ShowsLines holds (command_of view) names refused text
@@ -97,6 +96,7 @@ StopsServing holds refuses bound names Unreadable old new =
 StopsServing holds refuses bound names stop old new = StopsSolving holds refuses bound 1 names stop old new
 
 abbrev pub Stops : (Text → Option (List ℕ)) → (Text → Type 0) → Asked → Stop → (old new : Option (List ℕ)) → Type 0
+Stops holds refuses (moves_json fen) stop old new = StopsShowing (ShowsObject fen) stop old new
 Stops holds refuses (lines view names) stop old new = StopsLines holds refuses (command_of view) names stop old new
 Stops holds refuses (solve bound memo from names) stop old new = StopsSolving holds refuses bound from names stop old new
 Stops holds refuses (solve_json bound memo from names) stop old new = StopsSolvingJson holds refuses bound from names stop old new

@@ -8,7 +8,7 @@ ghost use Rattle.command_words.specs.Request.{plan_of};
 ghost use Rattle.plain_commands.specs.Command.{has_letters, Ends, EndsBy, EndsByStatus, EndsInPart, Shown, Stops};
 
 use crate::explaining::explain_given;
-use crate::fen_commands::{FenCommand, show_fen};
+use crate::fen_commands::{FenCommand, show_fen, show_moves_json};
 use crate::importing::import_given;
 use crate::playing::play_given;
 use crate::position_answers::show_lines;
@@ -89,7 +89,7 @@ fn answer<S: Source, O: Write, E: Write>(
         Request::Svg(fen, side) => show_fen(alloc, FenCommand::Svg(*side), fen, out, err),
         Request::Play(fen, moves) => play_given(alloc, fen, *moves, out, err),
         Request::Moves(form, fen) => show_fen(alloc, FenCommand::Moves(*form), fen, out, err),
-        Request::MovesJson(fen) => show_fen(alloc, FenCommand::MovesJson, fen, out, err),
+        Request::MovesJson(fen) => show_moves_json(alloc, fen, out, err),
         Request::Perft(fen, depth) => show_fen(alloc, FenCommand::Perft(*depth), fen, out, err),
         Request::Divide(fen, depth) => show_fen(alloc, FenCommand::Divide(*depth), fen, out, err),
         Request::Lines(view, names) => show_lines(alloc, *view, names, source, out, err),

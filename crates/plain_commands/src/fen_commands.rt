@@ -5,7 +5,7 @@ ghost use Rattle.chess_board.specs.Fens.{Spells, IsFault};
 ghost use Rattle.chess_board.specs.Soundness.{IsSound};
 ghost use Rattle.chess_board.specs.declared.faults.FenFault.{FenFault as FenFaultValue};
 ghost use Rattle.file_answers.specs.Writing.{Gains, StopsShowing};
-ghost use Rattle.plain_commands.specs.FenCommands.{ShowsFen, columns_of, shown_text};
+ghost use Rattle.plain_commands.specs.FenCommands.{ShowsFen, ShowsMovesJson, ShowsObject, columns_of, shown_text};
 
 use byte_streams::Stop;
 use chess_board::{Colour, Fen, read_fen};
@@ -15,7 +15,7 @@ use chess_views::{
 };
 use command_words::{Depth, MoveForm};
 use file_answers::{complain, show};
-use json_replies::moves_json;
+use json_replies::{error_json, moves_json};
 use problem_sheets::svg_text;
 use std::alloc::{AllocError, Global};
 use std::io::Write;
@@ -33,8 +33,6 @@ pub(crate) enum FenCommand {
     Moves(MoveForm),
     /// The same in SAN on one line.
     MovesLine,
-    /// The same in JSON.
-    MovesJson,
     /// How many lines of so many legal moves there are.
     Perft(Depth),
     /// The same, for each first move too.
@@ -82,7 +80,6 @@ pub(crate) fn shown_text(
         FenCommand::Svg(side) => svg_text(alloc, &fen.position, side),
         FenCommand::Moves(form) => moves_text(alloc, rays, fen, columns_of(form)),
         FenCommand::MovesLine => moves_line(alloc, rays, fen),
-        FenCommand::MovesJson => moves_json(alloc, rays, fen),
         FenCommand::Perft(depth) => perft_text(alloc, rays, fen, depth.get()),
         FenCommand::Divide(depth) => divided_text(alloc, rays, fen, depth.get()),
     }
@@ -104,4 +101,28 @@ pub(crate) fn show_fen<O: Write, E: Write>(
     };
     let text = shown_text(alloc, &Rays::new(), command, &fen)?;
     show(out, text.as_slice())
+}
+
+/// Shows the legal moves of a FEN in JSON, or the fault by which it is refused, which `err` is told too; gives whether it was refused.
+pub(crate) fn show_moves_json<O: Write, E: Write>(
+    alloc: Global,
+    fen: &str,
+    out: &mut O,
+    err: &mut E,
+) -> Result<bool, Stop>
+    ensures ok { IfOk result (λ refused. Gains (ShowsMovesJson fen.now refused) (O.contents out.old) (O.contents out.new)) }
+    ensures err { IfErr result (λ stop. StopsShowing (ShowsObject fen.now) stop (O.contents out.old) (O.contents out.new)) }
+{
+    match read_fen(fen.as_bytes()) {
+        Ok(fen) => {
+            let text = moves_json(alloc, &Rays::new(), &fen)?;
+            show(out, text.as_slice())
+        }
+        Err(fault) => {
+            let text = error_json(alloc, fault.code())?;
+            show(out, text.as_slice())?;
+            complain(err, fault.code());
+            Ok(true)
+        }
+    }
 }

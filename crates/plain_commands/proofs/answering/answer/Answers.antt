@@ -31,10 +31,10 @@ pub returns-in-Moves-clause-err : goal.returns-in-Moves-clause-err
 returns-in-Moves-clause-err g c = rw (c.in-Moves.is) c.show_fen-in-Moves.ensures.err
 
 pub returns-in-MovesJson-clause-ok : goal.returns-in-MovesJson-clause-ok
-returns-in-MovesJson-clause-ok g c = rw (c.in-MovesJson.is) c.show_fen-in-MovesJson.ensures.ok
+returns-in-MovesJson-clause-ok g c = rw (c.in-MovesJson.is) c.show_moves_json.ensures.ok
 
 pub returns-in-MovesJson-clause-err : goal.returns-in-MovesJson-clause-err
-returns-in-MovesJson-clause-err g c = rw (c.in-MovesJson.is) c.show_fen-in-MovesJson.ensures.err
+returns-in-MovesJson-clause-err g c = rw (c.in-MovesJson.is) c.show_moves_json.ensures.err
 
 pub returns-in-Perft-clause-ok : goal.returns-in-Perft-clause-ok
 returns-in-Perft-clause-ok g c = rw (c.in-Perft.is) c.show_fen-in-Perft.ensures.ok
