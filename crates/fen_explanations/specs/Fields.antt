@@ -1,7 +1,7 @@
 -- What is wrong with the fields behind the placement: side to move, castling, en passant target, counters.
 use Rattle.std.specs.Prelude.{ℕ, ◌+◌, ◌-◌, ◌*◌, ◌==◌, nat_le, Bool, true, false, not, ◌&&◌, ◌||◌, if◌then◌else◌, List, [], ◌∷◌, ◌++◌, codes}
 use Rattle.std.specs.Prelude.{Option, None, Some, length, is_some}
-use Rattle.std.specs.List.{list_all}
+use Rattle.std.specs.List.{list_all, list_any}
 use Rattle.chess_board.specs.Characters.{char}
 use Rattle.chess_board.specs.Castling.{king_goal, king_home, rook_home}
 use Rattle.chess_board.specs.Fields.{has_letter, square_text, target_rank, times}
@@ -49,9 +49,24 @@ are_once field = nat_le (times (char "K") field) 1 && nat_le (times (char "Q") f
 unfoldable pub are_right_letters : List ℕ → Bool
 are_right_letters field = list_all is_right_letter field && are_once field
 
+-- the file of a rook
+abbrev pub is_file_letter : ℕ → Bool
+is_file_letter b = (nat_le (char "A") b && nat_le b (char "H")) || (nat_le (char "a") b && nat_le b (char "h"))
+
+abbrev pub is_letter_of_chess960 : ℕ → Bool
+is_letter_of_chess960 b = is_file_letter b || is_right_letter b
+
+-- castling of Chess960, as X-FEN and Shredder-FEN have it: files of rooks, alone or among `KQkq`
+unfoldable pub is_chess960 : List ℕ → Bool
+is_chess960 field = list_all is_letter_of_chess960 field && list_any is_file_letter field
+
+abbrev pub castling_rule : Bool → List ℕ
+castling_rule true = codes "- or letters of KQkq, each once; castling of Chess960 isn't read"
+castling_rule false = codes "- or letters of KQkq, each once"
+
 abbrev pub castling_field_told : List ℕ → List ℕ
 castling_field_told field =
-    field_told field (is_dash field || are_right_letters field) (codes "castling field") (codes "- or letters of KQkq, each once")
+    field_told field (is_dash field || are_right_letters field) (codes "castling field") (castling_rule (is_chess960 field))
 
 -- the letter of a right
 abbrev pub right_letter : Colour → Wing → ℕ
@@ -74,11 +89,15 @@ right_told ranks field colour wing =
     lack_told ranks (has_letter (right_letter colour wing) field) colour wing King (king_home colour)
     ++ lack_told ranks (has_letter (right_letter colour wing) field) colour wing Rook (rook_home colour wing)
 
+-- the rights that letters of `KQkq` say, where nothing is wrong with the ranks
+unfoldable pub rights_told : List (List ℕ) → Bool → List ℕ → List ℕ
+rights_told ranks are_judged field = if are_judged
+    then right_told ranks field White KingSide ++ right_told ranks field White QueenSide
+    ++ right_told ranks field Black KingSide ++ right_told ranks field Black QueenSide else []
+
 -- all that is wrong with the castling field
-unfoldable pub castling_told : List (List ℕ) → List ℕ → List ℕ
-castling_told ranks field = castling_field_told field
-    ++ right_told ranks field White KingSide ++ right_told ranks field White QueenSide
-    ++ right_told ranks field Black KingSide ++ right_told ranks field Black QueenSide
+unfoldable pub castling_told : List (List ℕ) → Bool → List ℕ → List ℕ
+castling_told ranks is_clean field = castling_field_told field ++ rights_told ranks (is_clean && not (is_chess960 field)) field
 
 -- the square that a field names, where that is one on a rank
 unfoldable pub square_said : List ℕ → ℕ → Option ℕ
@@ -103,9 +122,10 @@ target_square_told ranks White target =
 target_square_told ranks Black target =
     full_told ranks target target ++ no_pawn_told ranks target White (target + 8) ++ full_told ranks target (target - 8)
 
-abbrev pub said_target_told : List (List ℕ) → Colour → Option ℕ → List ℕ
-said_target_told ranks side None = []
-said_target_told ranks side (Some target) = target_square_told ranks side target
+-- the same where one is said, and nothing is wrong with the ranks
+abbrev pub said_target_told : List (List ℕ) → Bool → Colour → Option ℕ → List ℕ
+said_target_told ranks is_clean side None = []
+said_target_told ranks is_clean side (Some target) = if is_clean then target_square_told ranks side target else []
 
 abbrev pub target_rule : Colour → List ℕ
 target_rule White = codes "- or a square of rank 6"
@@ -116,10 +136,10 @@ unfoldable pub target_field_told : Colour → List ℕ → Option ℕ → List �
 target_field_told side field target = field_told field (is_dash field || is_some target) (codes "en passant target") (target_rule side)
 
 -- all that is wrong with the target of a side to move
-unfoldable pub target_told : List (List ℕ) → Colour → List ℕ → List ℕ
-target_told ranks side field =
+unfoldable pub target_told : List (List ℕ) → Bool → Colour → List ℕ → List ℕ
+target_told ranks is_clean side field =
     target_field_told side field (square_said field (target_rank side))
-    ++ said_target_told ranks side (square_said field (target_rank side))
+    ++ said_target_told ranks is_clean side (square_said field (target_rank side))
 
 -- what is told of a target where the side to move isn't known
 abbrev pub no_target_told : List ℕ → List ℕ

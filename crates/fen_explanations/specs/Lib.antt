@@ -5,5 +5,6 @@ pub mod Men
 pub mod Fields
 pub mod Checks
 pub mod Warnings
+pub mod Blanks
 pub mod Told
 pub mod Asked

@@ -1,12 +1,12 @@
 -- What is wrong with the men of a placement: kings, pawns, how many there are.
-use Rattle.std.specs.Prelude.{ℕ, ◌+◌, ◌*◌, ◌==◌, nat_lt, ◌||◌, List, [], ◌∷◌, ◌++◌, codes, decimal}
+use Rattle.std.specs.Prelude.{ℕ, ◌+◌, ◌*◌, ◌==◌, nat_lt, ◌||◌, if◌then◌else◌, List, [], ◌∷◌, ◌++◌, codes, decimal}
 use Rattle.chess_board.specs.Fields.{square_text, times}
 use Rattle.chess_board.specs.Placement.{coloured_letter}
 use Rattle.chess_board.specs.declared.men.Colour.{Colour}
 use Rattle.chess_board.specs.declared.men.Colour.TheVariants.{White, Black}
 use Rattle.chess_board.specs.declared.men.Kind.{Kind}
 use Rattle.chess_board.specs.declared.men.Kind.TheVariants.{Pawn, Knight, Bishop, Rook, Queen, King}
-use Rattle.fen_explanations.specs.Placements.{has_man}
+use Rattle.fen_explanations.specs.Placements.{has_man, is_known}
 use Rattle.fen_explanations.specs.Sentences.{each_below, side_name, told_if}
 
 -- how many men of a colour and a kind a placement names
@@ -25,9 +25,9 @@ abbrev pub pawn_told : List (List ℕ) → ℕ → List ℕ
 pawn_told ranks square =
     told_if (has_man ranks White Pawn square || has_man ranks Black Pawn square) (codes "a pawn stands on " ∷ square_text square ∷ [])
 
--- each pawn of a rank
-abbrev pub pawns_told : List (List ℕ) → ℕ → List ℕ
-pawns_told ranks rank = each_below 8 (λ file. pawn_told ranks (8 * rank + file))
+-- each pawn of a rank whose squares are known
+unfoldable pub pawns_told : List (List ℕ) → ℕ → List ℕ
+pawns_told ranks rank = if is_known ranks rank then each_below 8 (λ file. pawn_told ranks (8 * rank + file)) else []
 
 -- how many men of a colour a placement names
 abbrev pub side_count : List ℕ → Colour → ℕ

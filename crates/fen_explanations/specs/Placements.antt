@@ -1,7 +1,7 @@
 -- What a placement says of each square, whether or not it is right (PGN Specification, section 16.1.3.1). Ranks are counted from 0 for the
 -- first, and files from 0 for the a-file; the first rank of the text is the eighth.
 use Rattle.std.specs.Prelude.{ℕ, zero, suc, ◌-◌, ◌==◌, nat_le, nat_lt, Bool, false, ◌&&◌, if◌then◌else◌, List, [], ◌∷◌, ◌++◌}
-use Rattle.std.specs.Prelude.{Option, None, Some, slice_index_or, sum_by}
+use Rattle.std.specs.Prelude.{Option, None, Some, length, slice_index_or, sum_by}
 use Rattle.std.specs.List.{slice_split}
 use Rattle.chess_board.specs.Characters.{char}
 use Rattle.chess_board.specs.Men.{man_of}
@@ -34,9 +34,17 @@ width b = if is_run b then b - char "0" else (if nat_le 128 b && nat_lt b 192 th
 unfoldable pub content : ℕ → Option ℕ
 content b = if is_run b then None else Some b
 
+-- the same of the first of them; none where it goes on with a character
+unfoldable pub standing : ℕ → Option ℕ
+standing b = if width b == 0 then None else content b
+
 -- how many squares a rank says
 abbrev pub squares_in : List ℕ → ℕ
 squares_in rank = sum_by width rank
+
+-- The squares of a rank are known where there are eight ranks, and it says eight squares.
+abbrev pub is_known : List (List ℕ) → ℕ → Bool
+is_known ranks rank = (length ranks == 8) && (squares_in (rank_in ranks rank) == 8)
 
 -- the byte on a file of a rank; none where the square is empty, or isn't said
 abbrev pub letter_at : List ℕ → ℕ → Option ℕ

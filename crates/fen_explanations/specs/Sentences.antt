@@ -6,6 +6,10 @@ use Rattle.chess_board.specs.declared.men.Colour.TheVariants.{White, Black}
 use Rattle.chess_board.specs.declared.men.Kind.{Kind}
 use Rattle.chess_board.specs.declared.men.Kind.TheVariants.{Pawn, Knight, Bishop, Rook, Queen, King}
 
+-- these parts, one after the other
+abbrev pub together : List (List ℕ) → List ℕ
+together parts = flat_map (λ part. part) parts
+
 -- a line of these parts
 unfoldable pub sentence : List (List ℕ) → List ℕ
 sentence parts = flat_map (λ part. part) parts ++ codes "\n"

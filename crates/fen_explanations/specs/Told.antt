@@ -19,6 +19,7 @@ use Rattle.chess_notation.specs.declared.epd_faults.EpdFault.{EpdFault}
 use Rattle.chess_notation.specs.declared.epd_faults.EpdFault.TheVariants.{Fen}
 use Rattle.fault_explanations.specs.Explained.{AreOfKnown, code_sentence}
 use Rattle.fault_explanations.specs.declared.explanations.Explanation.{Explanation}
+use Rattle.fen_explanations.specs.Blanks.{blanks_told, spaced}
 use Rattle.fen_explanations.specs.Checks.{checks_told}
 use Rattle.fen_explanations.specs.Fields.{castling_told, counter_told, no_target_told, side_field_told, side_said, target_told}
 use Rattle.fen_explanations.specs.Men.{men_told}
@@ -34,12 +35,13 @@ checks_if ranks is_clean side = if is_clean then checks_told (men_in ranks) (oth
 -- what depends on the side to move
 unfoldable pub moving_told : List (List ℕ) → Bool → Option Colour → List ℕ → List ℕ
 moving_told ranks is_clean None target = no_target_told target
-moving_told ranks is_clean (Some side) target = target_told ranks side target ++ checks_if ranks is_clean side
+moving_told ranks is_clean (Some side) target = target_told ranks is_clean side target ++ checks_if ranks is_clean side
 
 -- what is wrong beside the ranks
 unfoldable pub rest_told : List (List ℕ) → Bool → Fields → List ℕ
 rest_told ranks is_clean f =
-    men_told f.placement ranks ++ side_field_told f.side ++ castling_told ranks f.castling ++ moving_told ranks is_clean (side_said f.side) f.target
+    men_told f.placement ranks ++ side_field_told f.side ++ castling_told ranks is_clean f.castling
+    ++ moving_told ranks is_clean (side_said f.side) f.target
 
 -- what is wrong with four fields
 unfoldable pub fields_told : Fields → List ℕ
@@ -53,28 +55,35 @@ counters_told text = counter_told (word_at text) (codes "halfmove clock") ++ cou
 abbrev pub spaces_told : List ℕ → List ℕ
 spaces_told text = told_if (nat_lt 5 (times (char " ") text)) (codes "a space is too many: one stands between each two fields" ∷ [])
 
--- what is wrong with a FEN
+-- what is wrong with a FEN; its fields are those that it has with a space for each blank
 unfoldable pub fen_told : List ℕ → List ℕ
-fen_told text = fields_told (line_fields text) ++ counters_told (behind_fields text) ++ spaces_told text
+fen_told text = fields_told (line_fields (spaced text)) ++ counters_told (behind_fields (spaced text)) ++ spaces_told text ++ blanks_told text
 
 -- A sentence stands in for what isn't told.
 unfoldable pub unless_told : List ℕ → List ℕ → List ℕ
 unless_told [] sentence = sentence
 unless_told (b ∷ bs) sentence = b ∷ bs
 
+-- what is wrong with the fields of a record, and with its blanks
+unfoldable pub line_told : List ℕ → List ℕ
+line_told line = fields_told (line_fields (spaced line)) ++ blanks_told line
+
 -- what is wrong with a record: with its fields, or what the code of its fault says
 unfoldable pub record_told : List ℕ → EpdFault → (List ℕ → List ℕ) → List ℕ
-record_told line (Fen fault) says = unless_told (fields_told (line_fields line)) (says (fault_name fault))
-record_told line fault says = fields_told (line_fields line) ++ says (epd_fault_name fault)
+record_told line (Fen fault) says = unless_told (line_told line) (says (fault_name fault))
+record_told line fault says = line_told line ++ says (epd_fault_name fault)
 
--- There are no counters, as there are in a FEN.
-abbrev pub no_counters_told : List ℕ → List ℕ
-no_counters_told behind = told_if (is_blank behind) (codes "it has no counters: a record needs none, a FEN does" ∷ [])
+-- A record needs no counters, and a FEN does.
+abbrev pub uncounted_told : List ℕ
+uncounted_told = sentence (codes "it has no counters, and look, moves and perft refuse it: for these add \" 0 1\"" ∷ [])
+    ++ sentence (codes "as a record nothing is wrong with it" ∷ [])
+
+abbrev pub right_told : Bool → List ℕ
+right_told is_uncounted = if is_uncounted then uncounted_told else sentence (codes "nothing is wrong with it" ∷ [])
 
 -- what is told where nothing is wrong: what can't come about by play, and where counters are missing
 unfoldable pub sound_told : List ℕ → List ℕ → List ℕ
-sound_told placement behind = side_warned placement White ++ side_warned placement Black
-    ++ no_counters_told behind ++ sentence (codes "nothing is wrong with it" ∷ [])
+sound_told placement behind = side_warned placement White ++ side_warned placement Black ++ right_told (is_blank behind)
 
 abbrev pub text_told : List ℕ → List ℕ
 text_told text = sound_told (word_at text) (behind_fields text)
@@ -110,4 +119,4 @@ TellsBy true text faulty shown = TellsFen text faulty shown
 TellsBy false text faulty shown = TellsRecord text faulty shown
 
 unfoldable pub Tells : List ℕ → Bool → List ℕ → Type 0
-Tells text faulty shown = TellsBy (is_fen text) text faulty shown
+Tells text faulty shown = TellsBy (is_fen (spaced text)) text faulty shown

@@ -1,12 +1,15 @@
 //! What is wrong with the fields behind the placement.
 
 ghost use Rattle.std.specs.Prelude.{◌≡◌, ◌++◌, ◌&&◌, ◌||◌, ◌<◌, ◌+◌, ◌∷◌, [], IfOk, IfSome, codes, is_some, map, not};
-ghost use Rattle.std.specs.List.{list_all};
+ghost use Rattle.std.specs.List.{list_all, list_any};
 ghost use Rattle.chess_board.specs.Fields.{has_letter as does_have_letter, target_rank as rank_of_target, times as times_of};
 ghost use Rattle.chess_board.specs.Squares.{rank_of};
 ghost use Rattle.chess_notation.specs.Words.{is_empty_text};
 ghost use Rattle.fen_explanations.specs.Fields.{is_right_letter as is_letter_of_right, are_once as are_letters_once};
 ghost use Rattle.fen_explanations.specs.Fields.{are_right_letters as are_letters_of_rights, castling_field_told, castling_told};
+ghost use Rattle.fen_explanations.specs.Fields.{castling_rule as rule_of_castling, is_chess960 as is_castling_of_chess960};
+ghost use Rattle.fen_explanations.specs.Fields.{is_file_letter as is_letter_of_file, is_letter_of_chess960 as is_letter_of_other_castling};
+ghost use Rattle.fen_explanations.specs.Fields.{rights_told};
 ghost use Rattle.fen_explanations.specs.Fields.{counter_told, field_told, full_told};
 ghost use Rattle.fen_explanations.specs.Fields.{is_counter_text as is_text_of_counter, is_dash as is_text_of_dash, lack_told, no_pawn_told};
 ghost use Rattle.fen_explanations.specs.Fields.{own_name as name_of_own};
@@ -125,6 +128,56 @@ fn are_right_letters(field: &[u8]) -> bool
     have_right_letters(field) && are_once(field)
 }
 
+/// Whether a byte names a file, as a capital or a small letter.
+fn is_file_letter(byte: u8) -> bool
+    ensures { result ≡ is_letter_of_file byte }
+{
+    b'A' <= byte && byte <= b'H' || b'a' <= byte && byte <= b'h'
+}
+
+/// Whether a field has letters of files and of rights alone.
+fn have_letters_of_chess960(field: &[u8]) -> bool
+    ensures { result ≡ list_all is_letter_of_other_castling field.now }
+{
+    for byte in field {
+        if !is_file_letter(*byte) && !is_right_letter(*byte) {
+            return false;
+        }
+    }
+    true
+}
+
+/// Whether a letter of a file stands in a field.
+fn names_file(field: &[u8]) -> bool
+    ensures { result ≡ list_any is_letter_of_file field.now }
+{
+    for byte in field {
+        if is_file_letter(*byte) {
+            return true;
+        }
+    }
+    false
+}
+
+/// Whether a field says castling of Chess960, by files of rooks.
+#[tactic(auto, unfolding(crate::specs::Fields::is_chess960))]
+fn is_chess960(field: &[u8]) -> bool
+    ensures { result ≡ is_castling_of_chess960 field.now }
+{
+    have_letters_of_chess960(field) && names_file(field)
+}
+
+/// What a castling field has to be.
+fn castling_rule(is_chess960: bool) -> &'static [u8]
+    ensures { result.now ≡ rule_of_castling is_chess960 }
+{
+    if is_chess960 {
+        b"- or letters of KQkq, each once; castling of Chess960 isn't read"
+    } else {
+        b"- or letters of KQkq, each once"
+    }
+}
+
 /// Tells where the castling field isn't spelt right.
 fn push_castling_field(text: &mut Vec<u8>, field: &[u8]) -> Result<(), AllocError>
     ensures { IfOk result (λ _. text.new.items ≡ text.old.items ++ castling_field_told field.now) }
@@ -135,11 +188,11 @@ fn push_castling_field(text: &mut Vec<u8>, field: &[u8]) -> Result<(), AllocErro
         field,
         is_right,
         b"castling field",
-        b"- or letters of KQkq, each once",
+        castling_rule(is_chess960(field)),
     )
 }
 
-fn has_letter(text: &[u8], letter: u8) -> bool
+pub(crate) fn has_letter(text: &[u8], letter: u8) -> bool
     ensures { result ≡ does_have_letter letter text.now }
 {
     text.iter().any(|b| *b == letter)
@@ -224,20 +277,37 @@ fn push_right(
     push_lack(text, ranks, asked, rook, wing, rook_home(colour, wing))
 }
 
+/// Tells of the rights that letters of `KQkq` say, where they are judged.
+#[tactic(auto, unfolding(crate::specs::Fields::rights_told))]
+fn push_rights(
+    text: &mut Vec<u8>,
+    ranks: &[&[u8]],
+    are_judged: bool,
+    field: &[u8],
+) -> Result<(), AllocError>
+    ensures { IfOk result (λ _. text.new.items ≡ text.old.items ++ rights_told (map (λ r. r.now) ranks.now) are_judged field.now) }
+{
+    if !are_judged {
+        return Ok(());
+    }
+    push_right(text, ranks, field, Colour::White, Wing::KingSide)?;
+    push_right(text, ranks, field, Colour::White, Wing::QueenSide)?;
+    push_right(text, ranks, field, Colour::Black, Wing::KingSide)?;
+    push_right(text, ranks, field, Colour::Black, Wing::QueenSide)
+}
+
 /// Tells all that is wrong with the castling field.
 #[tactic(auto, unfolding(crate::specs::Fields::castling_told))]
 pub(crate) fn push_castling(
     text: &mut Vec<u8>,
     ranks: &[&[u8]],
+    is_clean: bool,
     field: &[u8],
 ) -> Result<(), AllocError>
-    ensures { IfOk result (λ _. text.new.items ≡ text.old.items ++ castling_told (map (λ r. r.now) ranks.now) field.now) }
+    ensures { IfOk result (λ _. text.new.items ≡ text.old.items ++ castling_told (map (λ r. r.now) ranks.now) is_clean field.now) }
 {
     push_castling_field(text, field)?;
-    push_right(text, ranks, field, Colour::White, Wing::KingSide)?;
-    push_right(text, ranks, field, Colour::White, Wing::QueenSide)?;
-    push_right(text, ranks, field, Colour::Black, Wing::KingSide)?;
-    push_right(text, ranks, field, Colour::Black, Wing::QueenSide)
+    push_rights(text, ranks, is_clean && !is_chess960(field), field)
 }
 
 /// Tells where something stands on a square that a target wants empty.
@@ -342,19 +412,20 @@ fn target_rule(side: Colour) -> &'static [u8]
     }
 }
 
-/// Tells what is wrong with a target, where there is one.
+/// Tells what is wrong with a target, where there is one, and nothing is wrong with the ranks.
 fn push_said_target(
     text: &mut Vec<u8>,
     ranks: &[&[u8]],
+    is_clean: bool,
     side: Colour,
     target: &Option<Square>,
 ) -> Result<(), AllocError>
     requires { IfSome target.now (λ square. rank_of square ≡ rank_of_target side) }
-    ensures { IfOk result (λ _. text.new.items ≡ text.old.items ++ said_target_told (map (λ r. r.now) ranks.now) side target.now) }
+    ensures { IfOk result (λ _. text.new.items ≡ text.old.items ++ said_target_told (map (λ r. r.now) ranks.now) is_clean side target.now) }
 {
     match target {
-        Some(target) => push_target_square(text, ranks, side, *target),
-        None => Ok(()),
+        Some(target) if is_clean => push_target_square(text, ranks, side, *target),
+        _ => Ok(()),
     }
 }
 
@@ -383,14 +454,15 @@ fn push_target_field(
 pub(crate) fn push_target(
     text: &mut Vec<u8>,
     ranks: &[&[u8]],
+    is_clean: bool,
     side: Colour,
     field: &[u8],
 ) -> Result<(), AllocError>
-    ensures { IfOk result (λ _. text.new.items ≡ text.old.items ++ target_told (map (λ r. r.now) ranks.now) side field.now) }
+    ensures { IfOk result (λ _. text.new.items ≡ text.old.items ++ target_told (map (λ r. r.now) ranks.now) is_clean side field.now) }
 {
     let target = square_said(field, target_rank(side));
     push_target_field(text, side, field, &target)?;
-    push_said_target(text, ranks, side, &target)
+    push_said_target(text, ranks, is_clean, side, &target)
 }
 
 /// Tells where there is no target, of a side that isn't known.

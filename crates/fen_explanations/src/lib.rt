@@ -2,10 +2,11 @@
 //!
 //! Whether anything is wrong is what `read_fen` and `read_record` say; here is told what. To read: `specs/Told.antt`, which says all that is
 //! told, and `told`; `placements`, what a placement says of each square, right or wrong; `sentences`, of which lines are made; then `ranks`,
-//! `men`, `fields`, `checks`, a file for each part, and `warnings`, of what can't come about by play; and `asked`, which words are one.
+//! `men`, `fields`, `checks`, `blanks`, a file for each part, and `warnings`, of what can't come about by play; and `asked`, which words are one.
 #![tactic(auto)]
 
 mod asked;
+mod blanks;
 mod checks;
 mod fields;
 mod men;

@@ -1,10 +1,11 @@
 //! What is wrong with the men of a placement.
 
-ghost use Rattle.std.specs.Prelude.{◌≡◌, ◌++◌, ◌<◌, IfOk, map};
+ghost use Rattle.std.specs.Prelude.{◌≡◌, ◌++◌, ◌+◌, ◌*◌, ◌<◌, IfOk, map};
 ghost use Rattle.fen_explanations.specs.Men.{count_of as count_in, kings_told, many_told, no_king_told, men_told, pawn_told, pawns_told};
 ghost use Rattle.fen_explanations.specs.Men.{side_count as side_count_in, side_told};
+ghost use Rattle.fen_explanations.specs.Sentences.{each_below};
 
-use crate::placements::{has_man, letter_of};
+use crate::placements::{has_man, is_known, letter_of};
 use crate::sentences::{push_if, side_name};
 use chess_board::{Colour, Kind, Square};
 use itoa::Buffer;
@@ -56,12 +57,25 @@ fn push_pawn(text: &mut Vec<u8>, ranks: &[&[u8]], square: Square) -> Result<(), 
 
 /// Tells of each pawn of a rank.
 #[tactic(auto, using(crate::proofs::EachBelow::none_told, crate::proofs::EachBelow::more_told))]
+fn push_each_pawn(text: &mut Vec<u8>, ranks: &[&[u8]], rank: u8) -> Result<(), AllocError>
+    requires { rank < 8 }
+    ensures { IfOk result (λ _. text.new.items ≡ text.old.items
+        ++ each_below 8 (λ file. pawn_told (map (λ r. r.now) ranks.now) (8 * rank + file))) }
+{
+    for file in 0..8 {
+        push_pawn(text, ranks, Square::numbered(8 * rank + file))?;
+    }
+    Ok(())
+}
+
+/// Tells of each pawn of a rank whose squares are known.
+#[tactic(auto, unfolding(crate::specs::Men::pawns_told))]
 fn push_pawns(text: &mut Vec<u8>, ranks: &[&[u8]], rank: u8) -> Result<(), AllocError>
     requires { rank < 8 }
     ensures { IfOk result (λ _. text.new.items ≡ text.old.items ++ pawns_told (map (λ r. r.now) ranks.now) rank) }
 {
-    for file in 0..8 {
-        push_pawn(text, ranks, Square::numbered(8 * rank + file))?;
+    if is_known(ranks, rank) {
+        return push_each_pawn(text, ranks, rank);
     }
     Ok(())
 }

@@ -3,12 +3,13 @@
 ghost use Rattle.std.specs.Prelude.{◌≡◌, ◌+◌, ◌<◌, ◌≤◌, IfOk, map};
 ghost use Rattle.chess_board.specs.Men.{man_of as man_value};
 ghost use Rattle.chess_board.specs.Placement.{coloured_letter};
-ghost use Rattle.fen_explanations.specs.Placements.{content, has_man as is_man_said, is_run as is_run_digit, letter_at as letter_of_file};
+ghost use Rattle.fen_explanations.specs.Placements.{content, has_man as is_man_said, is_known as is_rank_known, is_run as is_run_digit};
+ghost use Rattle.fen_explanations.specs.Placements.{letter_at as letter_of_file};
 ghost use Rattle.fen_explanations.specs.Placements.{letter_on as letter_of_square};
 ghost use Rattle.fen_explanations.specs.Placements.{man_if as man_of_side, man_named as man_of_letter, man_said as man_of_byte};
 ghost use Rattle.fen_explanations.specs.Placements.{men_in as men_of_ranks};
 ghost use Rattle.fen_explanations.specs.Placements.{rank_in as rank_of_ranks, ranks_of as ranks_of_text, squares_in as squares_of_rank};
-ghost use Rattle.fen_explanations.specs.Placements.{width as width_of};
+ghost use Rattle.fen_explanations.specs.Placements.{standing as standing_of, width as width_of};
 
 use chess_board::{Colour, Kind, Man, Square};
 use std::alloc::{AllocError, Global};
@@ -61,6 +62,26 @@ pub(crate) fn rank_in<'t>(ranks: &[&'t [u8]], rank: u8) -> &'t [u8]
     match ranks.get((7 - rank) as usize) {
         Some(text) => text,
         None => &[],
+    }
+}
+
+/// Whether the squares of a rank are known: there are eight ranks, and it says eight squares.
+pub(crate) fn is_known(ranks: &[&[u8]], rank: u8) -> bool
+    requires { rank < 8 }
+    ensures { result ≡ is_rank_known (map (λ r. r.now) ranks.now) rank }
+{
+    ranks.len() == 8 && squares_in(rank_in(ranks, rank)) == 8
+}
+
+/// What a byte has stand on a square: nothing where it counts empty ones, or goes on with a character.
+#[tactic(auto, unfolding(crate::specs::Placements::standing, crate::specs::Placements::content))]
+pub(crate) fn standing(byte: u8) -> Option<u8>
+    ensures { result ≡ standing_of byte }
+{
+    if width(byte) == 0 || is_run(byte) {
+        None
+    } else {
+        Some(byte)
     }
 }
 

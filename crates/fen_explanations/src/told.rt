@@ -10,8 +10,9 @@ ghost use Rattle.fault_explanations.specs.Explained.{AreOfKnown, code_sentence};
 ghost use Rattle.fault_explanations.specs.declared.explanations.Explanation.{Explanation};
 ghost use Rattle.fen_explanations.specs.Told.{Tells, TellsFen, TellsRecord, begins_with_digit as does_begin_with_digit, checks_if, counters_told};
 ghost use Rattle.fen_explanations.specs.Told.{fen_told, fields_told, is_fen as is_text_of_fen, moving_told, record_told, rest_told, sound_told};
-ghost use Rattle.fen_explanations.specs.Told.{default_bound, no_counters_told, spaces_told, text_told, unless_told};
+ghost use Rattle.fen_explanations.specs.Told.{default_bound, line_told, right_told, spaces_told, text_told, uncounted_told, unless_told};
 
+use crate::blanks::{push_blanks, spaced};
 use crate::checks::push_checks;
 use crate::fields::{
     push_castling, push_counter, push_no_target, push_side_field, push_target, side_said, times,
@@ -62,7 +63,7 @@ fn push_moving(
     let Some(side) = side else {
         return push_no_target(text, target);
     };
-    push_target(text, ranks, side, target)?;
+    push_target(text, ranks, is_clean, side, target)?;
     push_checks_if(alloc, text, ranks, is_clean, side)
 }
 
@@ -85,7 +86,7 @@ fn push_rest(
 {
     push_men(text, words.placement, ranks)?;
     push_side_field(text, words.side)?;
-    push_castling(text, ranks, words.castling)?;
+    push_castling(text, ranks, is_clean, words.castling)?;
     push_moving(
         alloc,
         text,
@@ -109,7 +110,7 @@ fn fields_text(alloc: Global, words: &FourWords<'_>) -> Result<Vec<u8>, AllocErr
 {
     let ranks = ranks_of(alloc, words.placement)?;
     let mut text = Vec::new(alloc);
-    push_ranks(&mut text, ranks.as_slice())?;
+    push_ranks(alloc, &mut text, ranks.as_slice())?;
     let is_clean = text.is_empty();
     push_rest(alloc, &mut text, ranks.as_slice(), is_clean, words)?;
     Ok(text)
@@ -138,15 +139,17 @@ fn push_spaces(text: &mut Vec<u8>, fen: &[u8]) -> Result<(), AllocError>
     )
 }
 
-/// What is wrong with a FEN.
+/// What is wrong with a FEN. A blank of another kind is taken for a space, so that it doesn't run two fields into one.
 #[tactic(auto, unfolding(crate::specs::Told::fen_told))]
 fn fen_text(alloc: Global, fen: &[u8]) -> Result<Vec<u8>, AllocError>
     ensures { IfOk result (λ text. text.items ≡ fen_told fen.now) }
 {
-    let words = four_words(fen);
+    let spaced = spaced(alloc, fen)?;
+    let words = four_words(spaced.as_slice());
     let mut text = fields_text(alloc, &words)?;
     push_counters(&mut text, words.behind)?;
     push_spaces(&mut text, fen)?;
+    push_blanks(&mut text, fen)?;
     Ok(text)
 }
 
@@ -175,7 +178,7 @@ fn faulty_fen_text(alloc: Global, fen: &[u8], fault: &FenFault) -> Result<Vec<u8
 /// Adds what is wrong with a record whose fields have been told of.
 #[tactic(auto, unfolding(crate::specs::Told::record_told))]
 fn push_record_fault(text: &mut Vec<u8>, line: &[u8], fault: &EpdFault) -> Result<(), AllocError>
-    requires { text.old.items ≡ fields_told (line_fields line.now) }
+    requires { text.old.items ≡ line_told line.now }
     ensures { IfOk result (λ _. (groups : List (Bor (List Explanation)))
         × AreOfKnown groups × (text.new.items ≡ record_told line.now fault.now (code_sentence groups))) }
 {
@@ -185,26 +188,46 @@ fn push_record_fault(text: &mut Vec<u8>, line: &[u8], fault: &EpdFault) -> Resul
     }
 }
 
+/// What is wrong with the fields of a record, and with its blanks.
+#[tactic(auto, unfolding(crate::specs::Told::line_told))]
+fn line_text(alloc: Global, line: &[u8]) -> Result<Vec<u8>, AllocError>
+    ensures { IfOk result (λ text. text.items ≡ line_told line.now) }
+{
+    let spaced = spaced(alloc, line)?;
+    let mut text = fields_text(alloc, &four_words(spaced.as_slice()))?;
+    push_blanks(&mut text, line)?;
+    Ok(text)
+}
+
 /// What is wrong with a record that has this fault.
 fn faulty_record_text(alloc: Global, line: &[u8], fault: &EpdFault) -> Result<Vec<u8>, AllocError>
     ensures { IfOk result (λ text. (groups : List (Bor (List Explanation)))
         × AreOfKnown groups × (text.items ≡ record_told line.now fault.now (code_sentence groups))) }
 {
-    let words = four_words(line);
-    let mut text = fields_text(alloc, &words)?;
+    let mut text = line_text(alloc, line)?;
     push_record_fault(&mut text, line, fault)?;
     Ok(text)
 }
 
-/// Tells where there are no counters.
-fn push_no_counters(text: &mut Vec<u8>, behind: &[u8]) -> Result<(), AllocError>
-    ensures { IfOk result (λ _. text.new.items ≡ text.old.items ++ no_counters_told behind.now) }
+/// Tells that nothing is wrong, and of a record without counters what wants them.
+fn push_right(text: &mut Vec<u8>, is_uncounted: bool) -> Result<(), AllocError>
+    ensures { IfOk result (λ _. text.new.items ≡ text.old.items ++ right_told is_uncounted) }
 {
-    push_if(
+    if is_uncounted {
+        return push_uncounted(text);
+    }
+    push_sentence(text, &[b"nothing is wrong with it"])
+}
+
+/// Tells that a record has no counters, and that nothing else is wrong.
+fn push_uncounted(text: &mut Vec<u8>) -> Result<(), AllocError>
+    ensures { IfOk result (λ _. text.new.items ≡ text.old.items ++ uncounted_told) }
+{
+    push_sentence(
         text,
-        is_blank(behind),
-        &[b"it has no counters: a record needs none, a FEN does"],
-    )
+        &[b"it has no counters, and look, moves and perft refuse it: for these add \" 0 1\""],
+    )?;
+    push_sentence(text, &[b"as a record nothing is wrong with it"])
 }
 
 /// What is told of a text with which nothing is wrong.
@@ -215,8 +238,7 @@ fn sound_text(alloc: Global, placement: &[u8], behind: &[u8]) -> Result<Vec<u8>,
     let mut text = Vec::new(alloc);
     push_side_warned(&mut text, placement, Colour::White)?;
     push_side_warned(&mut text, placement, Colour::Black)?;
-    push_no_counters(&mut text, behind)?;
-    push_sentence(&mut text, &[b"nothing is wrong with it"])?;
+    push_right(&mut text, is_blank(behind))?;
     Ok(text)
 }
 
@@ -303,7 +325,8 @@ fn is_fen(text: &[u8]) -> bool
 pub fn tell(alloc: Global, text: &[u8]) -> Result<Told, NoMemory>
     ensures { IfOk result (λ told. Tells text.now told.is_faulty told.text.items) }
 {
-    if is_fen(text) {
+    let spaced = spaced(alloc, text)?;
+    if is_fen(spaced.as_slice()) {
         return Ok(tell_fen(alloc, text)?);
     }
     tell_record(alloc, text)

@@ -1,7 +1,7 @@
 use Rattle.std.proofs.Common.{◌+◌, ◌*◌, map}
 use Rattle.fen_explanations.specs.Men.{pawn_told}
 use Rattle.fen_explanations.proofs.EachBelow.{more_told}
-use Rattle.fen_explanations.proofs.men.push_pawns.Goals as goal
+use Rattle.fen_explanations.proofs.men.push_each_pawn.Goals as goal
 
 pub loop-file-preserved : goal.loop-file-preserved
 loop-file-preserved c =

@@ -1,7 +1,7 @@
 use Rattle.std.proofs.Common.{◌≡◌, ◌++◌, ◌+◌, ◌*◌, map}
 use Rattle.fen_explanations.specs.Men.{pawn_told}
 use Rattle.fen_explanations.specs.Sentences.{each_below}
-use Rattle.fen_explanations.proofs.men.push_pawns.Given as goal
+use Rattle.fen_explanations.proofs.men.push_each_pawn.Given as goal
 
 abbrev pub invariant-loop-file : goal.invariant-loop-file
 invariant-loop-file l =
