@@ -630,8 +630,9 @@ The pawn on d5 can't be taken en passant: two pawns would leave the rank of the 
 
 With --coordinates a move stands there as `g2h1`, with a small letter for what a pawn
 becomes. With --fen each line has SAN, a tab and the FEN after the move, and with both
-SAN, coordinates and FEN. Options stand before FEN. For many positions there is
-`matedesk moves --lines`.";
+SAN, coordinates and FEN. With --json a FEN that is refused has an object too, as
+{\"error\":\"BadKings\"}. Options stand before FEN. For many positions there is `matedesk moves
+--lines`.";
 
 /// The option `--coordinates` in one line.
 pub const ABOUT_COORDINATES: &str = "Writes moves by their coordinates, as `g2h1`";
@@ -769,7 +770,8 @@ output says NoSuchFault, and the status is 1.
 Where a WORD begins with a placement, with three strokes `/` or more, the words are a FEN or
 a record, in quotes or without. Each thing that is wrong with it has a line, and the status
 is 1 then; else one says that nothing is, behind what can't come about by play, as nine
-pawns, which isn't refused.
+pawns, which isn't refused. Four fields are a record: behind them `look`, `moves` and
+`perft` want counters, which is said, too.
 
 Example:
   $ matedesk explain \"8/8/3k4/1R1S4/8/8/8/4K3 w - - 0 1\"
