@@ -12,4 +12,4 @@ mod writing;
 pub use inputs::{Input, InputFault};
 pub use no_memory::NoMemory;
 pub use stops::Stop;
-pub use writing::{put, stop_of_output};
+pub use writing::{put, stop_of_output, whole_lines};

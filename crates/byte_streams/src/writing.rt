@@ -8,6 +8,9 @@ use crate::stops::Stop;
 use std::io;
 use std::io::Write;
 
+/// How many bytes are written at once, at most, but for a longer line: what a pipe takes whole or not at all.
+const PIECE: usize = 4096;
+
 /// What a fault of the output stops answers by.
 pub fn stop_of_output(fault: &io::Error) -> Stop
     ensures { is_of_output result ≡ true }
@@ -30,13 +33,51 @@ fn flush<O: Write>(out: &mut O) -> Result<(), Stop>
     }
 }
 
+/// How many bytes of a text its whole lines have, up to the last newline.
+pub fn whole_lines(text: &[u8]) -> usize
+    ensures { result ≤ length text.now }
+{
+    for behind in 0..text.len() {
+        let count = text.len() - behind;
+        if text[count - 1] == b'\n' {
+            return count;
+        }
+    }
+    0
+}
+
+/// How many bytes the first line of a text has, with its newline.
+fn first_line(text: &[u8]) -> usize
+    ensures { result ≤ length text.now }
+{
+    for index in 0..text.len() {
+        if text[index] == b'\n' {
+            return index + 1;
+        }
+    }
+    text.len()
+}
+
+/// How many bytes of a text are written at once: whole lines, so that whoever is ended between two writes leaves whole lines.
+fn piece_of(text: &[u8]) -> usize
+    ensures { result ≤ length text.now }
+{
+    if text.len() <= PIECE {
+        return text.len();
+    }
+    match whole_lines(&text[..PIECE]) {
+        0 => first_line(text),
+        count => count,
+    }
+}
+
 /// One write of a text that is not empty: how much of it was written, and nothing where a signal interrupted it.
 fn write_some<O: Write>(out: &mut O, text: &[u8]) -> Result<usize, Stop>
     ensures ok { IfOk result (λ count. (count ≤ length text.now) × Appends (O.contents out.old) (O.contents out.new) (take count text.now)) }
     ensures err { IfErr result (λ stop. is_of_output stop ≡ true) }
     ensures kept { OnErr result (Keeps (O.contents out.old) (O.contents out.new)) }
 {
-    match out.write(text) {
+    match out.write(&text[..piece_of(text)]) {
         Ok(0) => Err(Stop::Unwritable),
         Ok(count) => Ok(count),
         Err(fault) if fault.kind() == io::ErrorKind::Interrupted => Ok(0),
@@ -44,7 +85,7 @@ fn write_some<O: Write>(out: &mut O, text: &[u8]) -> Result<usize, Stop>
     }
 }
 
-/// Writes a text whole, and flushes it. Where that breaks off, a first part of it is written and nothing else.
+/// Writes a text whole, some lines at once, and flushes it. Where that breaks off, a first part of it is written and nothing else.
 ///
 /// A loop over `write` stands here, since `write_all` says nothing of what a writer holds that failed.
 pub fn put<O: Write>(out: &mut O, text: &[u8]) -> Result<(), Stop>

@@ -7,6 +7,7 @@ use Rattle.std.proofs.lemmas.Bool.Decides.{nat_tests}
 use Rattle.std.proofs.lemmas.List.{flat_map_more, take_all, take_more}
 use Rattle.std.proofs.lemmas.Grind.{flat_map-append}
 use Rattle.byte_streams.specs.declared.stops.Stop.{Stop}
+use Rattle.byte_streams.specs.Stops.{AppendsPart, is_of_output}
 use Rattle.mate_tree.specs.Layouts.{figured, figurine, lettered, unindented}
 use Rattle.mate_tree.specs.declared.forms.Pieces.{Pieces}
 use Rattle.mate_tree.specs.declared.forms.Pieces.TheVariants as pieces
@@ -42,6 +43,17 @@ ends_broken {a} {b} {s} {t} {x} why takes broken =
     by_stop : (i : Option Stop) → GoesBy i (Some why) a s.pending b t.pending x (t.room ≡ s.room) → GoesBy i (Some why) a s.pending b [] x ⊤
     by_stop None goes = goes
     by_stop (Some i) goes = goes
+
+-- The first of what is pending was to be written, and that broke off.
+pub breaks_in_front : {a b : Option (List ℕ)} {s t : SheetValue} (why : Stop) (front back : List ℕ) → s.stop ≡ None → s.pending ≡ front ++ back
+    → t.stop ≡ Some why → is_of_output why ≡ true → AppendsPart a b front → Takes a s b t []
+breaks_in_front {a} {b} {s} {t} why front back going is broken output (part, rest, split, appends) = record {
+  goes = subst (λ i. GoesBy i t.stop a s.pending b t.pending [] (t.room ≡ s.room)) (sym going)
+      (subst (λ j. GoesBy None j a s.pending b t.pending [] (t.room ≡ s.room)) (sym broken) (
+        output,
+        (part, rest ++ back, append-nil s.pending ∙ is ∙ ap (λ l. l ++ back) split ∙ append_assoc part rest back, appends),
+      ));
+}
 
 -- the same by another word for the text
 pub takes_as : {a b : Option (List ℕ)} {s t : SheetValue} {x y : List ℕ} → x ≡ y → Takes a s b t x → Takes a s b t y

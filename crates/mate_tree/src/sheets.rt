@@ -9,7 +9,7 @@ ghost use Rattle.mate_tree.specs.inside.Sheets.{line_end as line_end_of, mark, n
 use crate::forms::{Form, Pieces};
 use crate::layouts::{behind_letter, figurine, letter_for, line_end, part};
 use arrayvec::ArrayVec;
-use byte_streams::{Stop, put};
+use byte_streams::{Stop, put, whole_lines};
 use move_words::Letters;
 use std::io::Write;
 use std::marker::Model;
@@ -18,8 +18,8 @@ use std::slice::from_ref;
 /// How many bytes wait to be written together, at most.
 const BUFFER: usize = 4096;
 
-/// What lies between lines and the output that they go to: a buffer, and room for so many lines. Where a write breaks off, the sheet keeps
-/// why, and takes nothing more. It takes no memory.
+/// What lies between lines and the output that they go to: a buffer, and room for so many lines. Lines are written whole, unless one is longer
+/// than the buffer. Where a write breaks off, the sheet keeps why, and takes nothing more. It takes no memory.
 #[derive(Drop)]
 pub(crate) struct Sheet {
     /// What is not written yet.
@@ -102,6 +102,25 @@ impl Sheet {
         }
     }
 
+    /// Writes the lines of what is pending; the start of one that isn't whole stays.
+    fn flush_lines<O: Write>(&mut self, out: &mut O)
+        ensures { Takes (O.contents out.old) self.old (O.contents out.new) self.new [] }
+    {
+        if self.stop.is_some() {
+            return;
+        }
+        let pending = self.pending.as_slice();
+        let (lines, start) = pending.split_at(whole_lines(pending));
+        let mut kept = ArrayVec::new();
+        let Ok(()) = kept.try_extend_from_slice(start) else {
+            unreachable!()
+        };
+        match put(out, lines) {
+            Ok(()) => self.pending = kept,
+            Err(stop) => self.stop = Some(stop),
+        }
+    }
+
     /// Writes a text behind what is pending.
     fn put_behind<O: Write>(&mut self, out: &mut O, text: &[u8])
         requires { self.old.stop ≡ None → self.old.pending ≡ [] }
@@ -115,8 +134,8 @@ impl Sheet {
         }
     }
 
-    /// Adds a text: to the buffer, or behind it where there is no room for it.
-    pub(crate) fn add<O: Write>(&mut self, out: &mut O, text: &[u8])
+    /// Adds a text to a line that was begun: to the buffer, or behind it where there is no room for it, since the line is longer.
+    fn add_to_line<O: Write>(&mut self, out: &mut O, text: &[u8])
         ensures { Takes (O.contents out.old) self.old (O.contents out.new) self.new text.now }
     {
         if self.stop.is_some() {
@@ -128,6 +147,19 @@ impl Sheet {
                 self.flush(out);
                 self.put_behind(out, text);
             }
+        }
+    }
+
+    /// Adds a text: to the buffer, whose lines are written first where there is no room for it.
+    pub(crate) fn add<O: Write>(&mut self, out: &mut O, text: &[u8])
+        ensures { Takes (O.contents out.old) self.old (O.contents out.new) self.new text.now }
+    {
+        if self.stop.is_some() {
+            return;
+        }
+        if self.pending.try_extend_from_slice(text).is_err() {
+            self.flush_lines(out);
+            self.add_to_line(out, text);
         }
     }
 
