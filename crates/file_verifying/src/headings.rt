@@ -49,7 +49,8 @@ const UNNAMED: &str =
     "NoSuchMove: moves are read in SAN or by coordinates; verify --import reads more, as Qh7!, R6g2, b8N, 1.Bh1";
 
 /// What is told where an opcode has other letters than the one that is read.
-const MISSPELT: &str = "an opcode as DM asks and claims nothing; only am, bm, dm and pv in small letters do";
+const MISSPELT: &str =
+    "an opcode as DM asks and claims nothing; only am, bm, dm and pv in small letters do";
 
 /// Tells at the end how many lines came to which verdict, and what was written, but isn't read so.
 pub fn tell_counts<E: Write>(

@@ -6,9 +6,7 @@ ghost use Rattle.file_verifying.specs.Verified.{LimitedHeaded, StopsLimitedHeade
 
 use crate::headings::{Rows, prefix_of, put_header, tell_counts};
 use byte_streams::{Input, Stop};
-use file_answers::{
-    FileAnswers, FileStart, Source, SourceFiles, answer_files, holds_reads,
-};
+use file_answers::{FileAnswers, FileStart, Source, SourceFiles, answer_files, holds_reads};
 use mate_answers::{Limited, TimeLimit};
 use mate_claims::{LimitedClaimMemory, LimitedClaims};
 use mate_search::Solver;

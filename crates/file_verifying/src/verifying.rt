@@ -14,9 +14,7 @@ use byte_streams::{Input, Stop};
 use chess_moves::Rays;
 use chess_problems::Bound;
 use command_words::VerifyAsked;
-use file_answers::{
-    FileAnswers, FileStart, Source, SourceFiles, answer_files, holds_reads,
-};
+use file_answers::{FileAnswers, FileStart, Source, SourceFiles, answer_files, holds_reads};
 use file_solving::new_memo;
 use mate_claims::{ClaimMemory, ClaimRows, Counts, Hints};
 use std::alloc::Global;

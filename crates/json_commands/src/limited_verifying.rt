@@ -6,9 +6,7 @@ ghost use Rattle.json_commands.specs.Verified.{StopsVerifyingLimitedJson, Verifi
 
 use crate::json_files::has_several;
 use byte_streams::{Input, Stop};
-use file_answers::{
-    FileAnswers, FileStart, Source, SourceFiles, answer_files, holds_reads,
-};
+use file_answers::{FileAnswers, FileStart, Source, SourceFiles, answer_files, holds_reads};
 use file_verifying::tell_counts;
 use json_replies::{Form, JsonReplies, front_of};
 use mate_answers::{Limited, TimeLimit};

@@ -9,9 +9,7 @@ use byte_streams::{Input, Stop};
 use chess_moves::Rays;
 use chess_problems::Bound;
 use command_words::VerifyAsked;
-use file_answers::{
-    FileAnswers, FileStart, Source, SourceFiles, answer_files, holds_reads,
-};
+use file_answers::{FileAnswers, FileStart, Source, SourceFiles, answer_files, holds_reads};
 use file_solving::new_memo;
 use file_verifying::tell_counts;
 use json_replies::{Form, JsonReplies, front_of};

@@ -120,7 +120,10 @@ fn limited_text<T: TimeLimit, S: Solver<T>>(
     };
     let (mut text, is_decided) = match decide(&guide, &limited.solver, record, memory) {
         Ok(outcome) => (answer_text(alloc, limited.rays, record, &outcome)?, true),
-        Err(none) => (undecided_text(alloc, line, record, none, limited.seconds)?, false),
+        Err(none) => (
+            undecided_text(alloc, line, record, none, limited.seconds)?,
+            false,
+        ),
     };
     text.push('\n')?;
     Ok(LimitedText {

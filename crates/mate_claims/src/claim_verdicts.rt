@@ -124,12 +124,7 @@ fn none_verdict(source: BoundSource) -> ClaimVerdict
 /// The verdict on a record by which mate was asked for within so many moves, a number that comes from there, and these moves are claimed for
 /// its keys, by what there is to say of its problem. In which order moves are claimed makes no difference, nor whether one is claimed twice.
 #[tactic(auto, unfolding(crate::specs::ClaimVerdicts::claim_verdict))]
-pub fn judge(
-    source: BoundSource,
-    asked: Bound,
-    claimed: &[Move],
-    outcome: &Outcome,
-) -> ClaimVerdict
+pub fn judge(source: BoundSource, asked: Bound, claimed: &[Move], outcome: &Outcome) -> ClaimVerdict
     ensures { result ≡ claim_verdict source asked claimed.now outcome.now }
 {
     match outcome {

@@ -69,11 +69,7 @@ fn push_asked(
 }
 
 /// Adds the length of the shortest mate.
-fn push_found_length(
-    alloc: Global,
-    row: &mut Vec<u8>,
-    outcome: &Outcome,
-) -> Result<(), AllocError>
+fn push_found_length(alloc: Global, row: &mut Vec<u8>, outcome: &Outcome) -> Result<(), AllocError>
     ensures { OnOk result (row.new.items ≡ row.old.items ++ found_field outcome.now) }
 {
     match outcome {
