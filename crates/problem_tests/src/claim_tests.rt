@@ -27,7 +27,10 @@ fn tells_the_first_verdict_that_applies(rt: HostRuntime) {
             " bm Kg6 Kf7 Kg6; dm 2;",
             "several\t#2\t#2\tKf7 Kg6\tKf7 Kg6\t-",
         ),
-        (" bm Kf7# Kg6+; dm 2;", "several\t#2\t#2\tKf7 Kg6\tKf7 Kg6\t-"),
+        (
+            " bm Kf7# Kg6+; dm 2;",
+            "several\t#2\t#2\tKf7 Kg6\tKf7 Kg6\t-",
+        ),
         (" bm #2 Kf7 #1 Kg6;", "several\t#2\t#2\tKf7 Kg6\tKf7 Kg6\t-"),
         (" am Kf7; bm #2;", "unclaimed\t#2\t#2\tKg6\t-\t-"),
         (" bm Kg6; dm 2;", "cooked\t#2\t#2\tKf7 Kg6\tKg6\t-"),
