@@ -25,6 +25,11 @@ odd_lines() {
     printf '%02000d\n\n\n \r\n  %s\n%s\f\n\303\251\n\v\n\n%s\r' 0 "$record" "$record" "$record"
 }
 
+# Drops what a file has of standard error of lines that are refused: where there are several files, it names the file of each.
+drop_refusals() {
+    sed -i -E '/^matedesk: .+: line [0-9]+: [A-Z]/d' -- "$1"
+}
+
 pass() {
     passed=$((passed + 1))
 }
