@@ -44,7 +44,7 @@ pub fn answer_by_four<R: Threads + Wait + Clock + Clone + Drop + Send + 'static,
         rays: &rays,
         lines: &lines,
     };
-    let refused = answer_in_order(&answering, &mut workers, input, out)?;
+    let refused = answer_in_order(&answering, &mut workers, &mut (), input, out)?;
     workers.end(rt);
     Ok(refused)
 }

@@ -66,7 +66,7 @@ impl<R: Wait> FileAnswers for ServedRecords<'_, R> {
             rays: self.rays,
             lines: &lines,
         };
-        answer_in_order(&answering, memory, input, out)
+        answer_in_order(&answering, memory, &mut (), input, out)
     }
 
     #[tactic(auto, using(file_solving::proofs::Unopened::no_record_reply))]

@@ -70,7 +70,7 @@ impl<R: Wait> FileAnswers for TreesOn<'_, R> {
             rays: self.rays,
             lines: &lines,
         };
-        answer_in_order(&answering, memory, input, out)
+        answer_in_order(&answering, memory, &mut (), input, out)
     }
 
     #[tactic(auto, using(plain_commands::proofs::Unopened::no_tree_reply))]

@@ -14,13 +14,20 @@ use file_verifying::{RowStart, Rows, Verifier, verify_by};
 use mate_claims::{Counts, Hints};
 use parallel_answers::{Answering, Workers, answer_in_order};
 use plain_commands::ends_by_status;
-use record_tasks::{ClaimTask, start_verifying};
+use record_tasks::{ClaimTally, ClaimTask, start_verifying};
 use std::alloc::Global;
 use std::io::Write;
 use std::sync::Wait;
 use std::thread::Threads;
 use std::time::Clock;
 use text_lines::LinesFrom;
+
+/// Workers that hold lines against their claims, and what is counted of the rows that were written.
+#[derive(Drop)]
+struct CountedRows {
+    workers: Workers<ClaimTask>,
+    tally: ClaimTally,
+}
 
 /// Workers hold the lines of files against their claims.
 #[derive(Clone, Copy)]
@@ -31,7 +38,7 @@ struct VerifierOn<'a, R: Wait> {
 }
 
 impl<R: Wait> Verifier for VerifierOn<'_, R> {
-    type Memory = Workers<ClaimTask>;
+    type Memory = CountedRows;
 
     ghost default = { λ on. on.bound };
 
@@ -40,7 +47,7 @@ impl<R: Wait> Verifier for VerifierOn<'_, R> {
         alloc: Global,
         start: &RowStart<S>,
         input: I,
-        memory: &mut Workers<ClaimTask>,
+        memory: &mut CountedRows,
         out: &mut O,
     ) -> Result<usize, Stop> {
         let task = ClaimTask {
@@ -58,15 +65,16 @@ impl<R: Wait> Verifier for VerifierOn<'_, R> {
             rays: self.rays,
             lines: &lines,
         };
-        answer_in_order(&answering, memory, input, out)
+        let CountedRows { workers, tally } = memory;
+        answer_in_order(&answering, workers, tally, input, out)
     }
 
-    fn counts(&self, memory: &Workers<ClaimTask>) -> Counts {
-        memory.tally().counts
+    fn counts(&self, memory: &CountedRows) -> Counts {
+        memory.tally.counts
     }
 
-    fn hints(&self, memory: &Workers<ClaimTask>) -> Hints {
-        memory.tally().hints
+    fn hints(&self, memory: &CountedRows) -> Hints {
+        memory.tally.hints
     }
 }
 
@@ -86,9 +94,13 @@ pub fn verify_on<
     // How it ends with the status of what was written.
     ends_by_status(source);
     let count = asked.workers.get() as usize;
-    let mut workers = match start_verifying(rt, alloc, count, asked.memo.get() as usize) {
+    let workers = match start_verifying(rt, alloc, count, asked.memo.get() as usize) {
         Ok(workers) => workers,
         Err(fault) => return unserved(fault, err),
+    };
+    let mut memory = CountedRows {
+        workers,
+        tally: ClaimTally::new(),
     };
     let rays = Rays::new();
     let verifier = VerifierOn {
@@ -105,9 +117,9 @@ pub fn verify_on<
         from: asked.files.from,
         source,
     };
-    let ended = verify_by(alloc, &rows, &files, &mut workers, out, err);
+    let ended = verify_by(alloc, &rows, &files, &mut memory, out, err);
     if ended.is_ok() {
-        workers.end(rt);
+        memory.workers.end(rt);
     }
     status_of(ended, err)
 }

@@ -7,7 +7,7 @@ use mate_search::Memo;
 use std::alloc::Global;
 use text_lines::MAX_LINE;
 
-/// A line without its CR, by its number in the input, and the reply to it by this task: true by its type.
+/// A line without its CR, by its number in the input, and the reply to it by this task, with what is counted of it: true by its type.
 #[derive(Drop)]
 pub(crate) struct AnsweredLine<T: LineTask> {
     pub(crate) task: T,
@@ -15,6 +15,7 @@ pub(crate) struct AnsweredLine<T: LineTask> {
     pub(crate) line: Vec<u8>,
     pub(crate) reply: Reply<T::Mark>,
     ghost answer: { ∥ T.replies task number line.items reply.text.items reply.refused ∥₁ },
+    ghost mark: { ∥ T.marks task line.items reply.mark ∥₁ },
 }
 
 /// Answers a line, which was looked at before; none where memory is refused.

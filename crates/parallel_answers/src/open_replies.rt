@@ -1,10 +1,10 @@
 //! The replies to lines that were taken, up to where they are written.
 
-ghost use Rattle.std.specs.Prelude.{◌≡◌, ◌∷◌, ◌++◌, ◌+◌, ℕ, List, [], IfErr, IfNone, IfOk, IfSome, OnOk};
+ghost use Rattle.std.specs.Prelude.{◌≡◌, ◌∷◌, ◌++◌, ◌+◌, ℕ, List, [], None, IfErr, IfNone, IfOk, IfSome, OnOk};
 ghost use Rattle.text_lines.specs.Lines.{without_cr};
 ghost use Rattle.text_lines.specs.TakenLines.{IsTakenAs};
 ghost use Rattle.text_lines.specs.inside.LinesFrom.{RepliesFrom};
-ghost use Rattle.parallel_answers.specs.inside.OpenReplies.{Gains, IsOpen, WaitsFrom};
+ghost use Rattle.parallel_answers.specs.inside.OpenReplies.{CountsOne, Gains, IsOpen, KnownFrom, MarksFrom, rules_from, rules_of};
 
 use crate::answered_lines::AnsweredLine;
 use crate::line_tasks::{LineTask, Reply};
@@ -31,10 +31,11 @@ pub(crate) struct OpenReplies<M: Drop> {
     pub(crate) refused: usize,
 }
 
-/// A reply to a line that says nothing: it is neither answered nor refused.
+/// A reply to a line that says nothing: it is neither answered nor refused, nor counted.
 fn nothing<M: Drop>(alloc: Global) -> Reply<M>
     ensures text { result.text.items ≡ [] }
     ensures none { result.refused ≡ 0 }
+    ensures mark { result.mark ≡ None }
 {
     Reply {
         text: Vec::new(alloc),
@@ -52,7 +53,7 @@ fn looked_at<T: LineTask>(
     line: TakenLine,
 ) -> Result<OpenReply<T::Mark>, Stop>
     ensures open { IfOk result (λ reply. (whole : List ℕ) → IsTakenAs line whole
-        → IsOpen (T.replies task.now) (λ _. T.waits task.now) number reply whole) }
+        → IsOpen (rules_of (T.replies task.now) (T.waits task.now) (T.marks task.now)) number reply whole) }
     ensures memory { IfErr result (λ stop. stop ≡ Stop.NoMemory) }
 {
     let text = match line {
@@ -74,8 +75,9 @@ pub(crate) fn open_reply<T: LineTask, P>(
     number: usize,
     line: TakenLine,
 ) -> Result<OpenReply<T::Mark>, Stop>
-    ensures open { IfOk result (λ reply. (whole : List ℕ) → IsTakenAs line whole → IsOpen (RepliesFrom (T.replies lines.now.by.now) lines.now.from)
-        (WaitsFrom (T.waits lines.now.by.now) lines.now.from) number reply whole) }
+    ensures open { IfOk result (λ reply. (whole : List ℕ) → IsTakenAs line whole
+        → IsOpen (rules_from (T.replies lines.now.by.now) (T.waits lines.now.by.now) (T.marks lines.now.by.now) lines.now.from)
+        number reply whole) }
     ensures memory { IfErr result (λ stop. stop ≡ Stop.NoMemory) }
 {
     if number < lines.from {
@@ -92,6 +94,7 @@ fn reply_to<T: LineTask>(
     answered: Option<AnsweredLine<T>>,
 ) -> Result<Reply<T::Mark>, Stop>
     ensures reply { IfOk result (λ reply. ∥ T.replies task.now number line.now reply.text.items reply.refused ∥₁) }
+    ensures mark { IfOk result (λ reply. ∥ T.marks task.now line.now reply.mark ∥₁) }
     ensures memory { IfErr result (λ stop. stop ≡ Stop.NoMemory) }
 {
     match answered {
@@ -110,9 +113,12 @@ fn said<T: LineTask, P>(
     reply: OpenReply<T::Mark>,
     answered: Option<AnsweredLine<T>>,
 ) -> Result<Reply<T::Mark>, Stop>
-    ensures reply { IfOk result (λ said. (line : List ℕ) → IsOpen (RepliesFrom (T.replies lines.now.by.now) lines.now.from)
-        (WaitsFrom (T.waits lines.now.by.now) lines.now.from) number reply line
-        → RepliesFrom (T.replies lines.now.by.now) lines.now.from number (without_cr line) said.text.items said.refused) }
+    ensures reply { IfOk result (λ said. (line : List ℕ)
+        → IsOpen (rules_from (T.replies lines.now.by.now) (T.waits lines.now.by.now) (T.marks lines.now.by.now) lines.now.from)
+        number reply line → RepliesFrom (T.replies lines.now.by.now) lines.now.from number (without_cr line) said.text.items said.refused) }
+    ensures mark { IfOk result (λ said. (line : List ℕ)
+        → IsOpen (rules_from (T.replies lines.now.by.now) (T.waits lines.now.by.now) (T.marks lines.now.by.now) lines.now.from)
+        number reply line → MarksFrom (T.marks lines.now.by.now) lines.now.from number (without_cr line) said.mark) }
     ensures memory { IfErr result (λ stop. stop ≡ Stop.NoMemory) }
 {
     // That a reply which somebody has made is the line's is this law.
@@ -121,6 +127,23 @@ fn said<T: LineTask, P>(
         OpenReply::Said(reply) => Ok(reply),
         OpenReply::Awaited(line) => reply_to(lines.by, number, line.as_slice(), answered),
     }
+}
+
+/// Counts a reply, where anything is counted of it.
+fn count_reply<T: LineTask, P>(
+    lines: &LinesFrom<T, P>,
+    number: usize,
+    mark: &Option<T::Mark>,
+    tally: &mut T::Tally,
+) -> Result<(), Stop>
+    ensures counted { OnOk result ((line : List ℕ) → MarksFrom (T.marks lines.now.by.now) lines.now.from number (without_cr line) mark.now
+        → CountsOne (KnownFrom (T.knows lines.now.by.now) lines.now.from) number tally.old tally.new line) }
+    ensures memory { IfErr result (λ stop. stop ≡ Stop.NoMemory) }
+{
+    if let Some(mark) = mark {
+        lines.by.count(tally, mark)?;
+    }
+    Ok(())
 }
 
 /// A number and so much more. No input has so many lines that there is none.
@@ -171,16 +194,18 @@ impl<M: Drop> OpenReplies<M> {
     }
 }
 
-/// Takes the first, where it is there.
+/// Takes the first, where it is there, and counts it.
 pub(crate) fn take_first<T: LineTask, P>(
     lines: &LinesFrom<T, P>,
     replies: &mut OpenReplies<T::Mark>,
     arrived: &mut Arrived<T>,
+    tally: &mut T::Tally,
 ) -> Result<Option<Reply<T::Mark>>, Stop>
     ensures none { IfOk result (λ first. IfNone first (replies.new ≡ replies.old)) }
+    ensures uncounted { IfOk result (λ first. IfNone first (tally.new ≡ tally.old)) }
     ensures some { IfOk result (λ first. IfSome first
-        (λ reply. Gains (RepliesFrom (T.replies lines.now.by.now) lines.now.from) (WaitsFrom (T.waits lines.now.by.now) lines.now.from)
-        replies.old replies.new reply.text.items)) }
+        (λ reply. Gains (rules_from (T.replies lines.now.by.now) (T.waits lines.now.by.now) (T.marks lines.now.by.now) lines.now.from)
+        (KnownFrom (T.knows lines.now.by.now) lines.now.from) replies.old replies.new tally.old tally.new reply.text.items)) }
     ensures memory { IfErr result (λ stop. stop ≡ Stop.NoMemory) }
 {
     if !replies.has_first(arrived) {
@@ -190,6 +215,7 @@ pub(crate) fn take_first<T: LineTask, P>(
         return Err(Stop::NoMemory);
     };
     let reply = said(lines, replies.first, open, arrived.take(replies.first))?;
+    count_reply(lines, replies.first, &reply.mark, tally)?;
     replies.first = sum(replies.first, 1)?;
     replies.refused = sum(replies.refused, reply.refused)?;
     Ok(Some(reply))

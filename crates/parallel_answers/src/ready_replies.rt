@@ -1,9 +1,8 @@
-//! Replies that are there, written in their order.
+//! Replies that are there, written and counted in their order.
 
 ghost use Rattle.std.specs.Prelude.{◌≡◌, ◌≢◌, List, ℕ, IfErr, IfOk, OnOk};
 ghost use Rattle.std.specs.Io.KnownBytes.{Appends};
-ghost use Rattle.text_lines.specs.inside.LinesFrom.{RepliesFrom};
-ghost use Rattle.parallel_answers.specs.inside.OpenReplies.{Breaks, Gains, WaitsFrom};
+ghost use Rattle.parallel_answers.specs.inside.OpenReplies.{Breaks, Gains, KnownFrom, rules_from};
 
 use crate::line_tasks::LineTask;
 use crate::open_replies::{OpenReplies, take_first};
@@ -13,20 +12,22 @@ use std::alloc::Global;
 use std::io::Write;
 use text_lines::LinesFrom;
 
-/// Takes all that are there, up to the first that is not, into one text.
+/// Takes all that are there, up to the first that is not, into one text, and counts them.
 fn gather<T: LineTask, P>(
     alloc: Global,
     lines: &LinesFrom<T, P>,
     replies: &mut OpenReplies<T::Mark>,
     arrived: &mut Arrived<T>,
+    tally: &mut T::Tally,
 ) -> Result<Vec<u8>, Stop>
-    ensures gains { IfOk result (λ text. Gains (RepliesFrom (T.replies lines.now.by.now) lines.now.from)
-        (WaitsFrom (T.waits lines.now.by.now) lines.now.from) replies.old replies.new text.items) }
+    ensures gains { IfOk result (λ text. Gains
+        (rules_from (T.replies lines.now.by.now) (T.waits lines.now.by.now) (T.marks lines.now.by.now) lines.now.from)
+        (KnownFrom (T.knows lines.now.by.now) lines.now.from) replies.old replies.new tally.old tally.new text.items) }
     ensures memory { IfErr result (λ stop. stop ≡ Stop.NoMemory) }
 {
     let mut text = Vec::new(alloc);
     for _ in 0..u64::MAX {
-        let Some(reply) = take_first(lines, replies, arrived)? else {
+        let Some(reply) = take_first(lines, replies, arrived, tally)? else {
             return Ok(text);
         };
         text.extend_from_slice(reply.text.as_slice())?;
@@ -34,22 +35,25 @@ fn gather<T: LineTask, P>(
     Err(Stop::NoMemory)
 }
 
-/// Writes all that are there, up to the first that is not; gives their text.
+/// Writes all that are there, up to the first that is not, and counts them; gives their text.
 pub(crate) fn write_ready<T: LineTask, P, O: Write>(
     alloc: Global,
     lines: &LinesFrom<T, P>,
     replies: &mut OpenReplies<T::Mark>,
     arrived: &mut Arrived<T>,
+    tally: &mut T::Tally,
     out: &mut O,
 ) -> Result<Vec<u8>, Stop>
-    ensures gains { IfOk result (λ text. Gains (RepliesFrom (T.replies lines.now.by.now) lines.now.from)
-        (WaitsFrom (T.waits lines.now.by.now) lines.now.from) replies.old replies.new text.items
+    ensures gains { IfOk result (λ text. Gains
+        (rules_from (T.replies lines.now.by.now) (T.waits lines.now.by.now) (T.marks lines.now.by.now) lines.now.from)
+        (KnownFrom (T.knows lines.now.by.now) lines.now.from) replies.old replies.new tally.old tally.new text.items
         × Appends (O.contents out.old) (O.contents out.new) text.items) }
-    ensures breaks { IfErr result (λ stop. Breaks (RepliesFrom (T.replies lines.now.by.now) lines.now.from)
-        (WaitsFrom (T.waits lines.now.by.now) lines.now.from) replies.old stop (O.contents out.old) (O.contents out.new)) }
+    ensures breaks { IfErr result (λ stop. Breaks
+        (rules_from (T.replies lines.now.by.now) (T.waits lines.now.by.now) (T.marks lines.now.by.now) lines.now.from)
+        replies.old stop (O.contents out.old) (O.contents out.new)) }
     ensures readable { IfErr result (λ stop. stop ≢ Stop.Unreadable) }
 {
-    let text = gather(alloc, lines, replies, arrived)?;
+    let text = gather(alloc, lines, replies, arrived, tally)?;
     if !text.is_empty() {
         put(out, text.as_slice())?;
     }

@@ -4,7 +4,7 @@
 //! then go out one by one. Nothing is known of who answers what, or when.
 
 use crate::answered_lines::{AnsweredLine, answered};
-use crate::line_tasks::{LineTask, Reply};
+use crate::line_tasks::LineTask;
 use byte_streams::Stop;
 use chess_moves::Rays;
 use crossbeam_channel::{Receiver, Sender, bounded};
@@ -189,13 +189,12 @@ impl<T: LineTask> Worker<T> {
     }
 }
 
-/// Workers, the lines that they have, the answers that came back, and what was counted of them.
+/// Workers, the lines that they have, and the answers that came back.
 #[derive(Drop)]
 pub struct Workers<T: LineTask> {
     handed: Sender<Vec<HandedLine<T>>, Global>,
     backs: Receiver<Back<T>, Global>,
     pub(crate) arrived: Arrived<T>,
-    tally: T::Tally,
     // Lines that go out with the next, how many are to go together, how many blocks are out and may be.
     held: Vec<HandedLine<T>>,
     together: usize,
@@ -212,12 +211,11 @@ pub struct Prepared<T: LineTask> {
 }
 
 /// So many workers, each with a memo of so many entries, 1 to 268,435,456. Who calls it starts a thread for each, which runs it, and says so by
-/// `Workers::add`: a thread is given no value whose type is a parameter. What they have answered is counted in the tally.
+/// `Workers::add`: a thread is given no value whose type is a parameter.
 pub fn prepare<T: LineTask>(
     alloc: Global,
     count: usize,
     entries: usize,
-    tally: T::Tally,
 ) -> Result<Prepared<T>, NoWorkers> {
     let most_out = count.saturating_mul(BLOCKS_EACH);
     // Places for all that may be out, each line by itself, so that nothing is lost for want of memory.
@@ -239,7 +237,6 @@ pub fn prepare<T: LineTask>(
         handed,
         backs,
         arrived: Arrived::new(alloc)?,
-        tally,
         held: Vec::new(alloc),
         together: 1,
         out: 0,
@@ -303,7 +300,6 @@ impl<T: LineTask> Workers<T> {
             return Err(Stop::NoMemory);
         };
         for line in lines {
-            self.count(&line.reply);
             self.arrived.put(line);
         }
         self.out = self.out.saturating_sub(1);
@@ -353,18 +349,6 @@ impl<T: LineTask> Workers<T> {
             self.await_back(rt, alloc)?;
         }
         unreachable!()
-    }
-
-    /// Counts a reply.
-    pub(crate) fn count(&mut self, reply: &Reply<T::Mark>) {
-        if let Some(mark) = &reply.mark {
-            T::count(&mut self.tally, mark);
-        }
-    }
-
-    /// What was counted so far.
-    pub fn tally(&self) -> &T::Tally {
-        &self.tally
     }
 
     /// Hands out a line of which so much is asked, by its number, at the latest with the next wait. It waits where enough are out.

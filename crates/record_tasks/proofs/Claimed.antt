@@ -1,5 +1,5 @@
 -- The reply to a line that says a record which is held against its claims.
-use Rattle.std.proofs.Common.{◌≡◌, ◌++◌, ◌∙◌, ℕ, List, Option, Some, None, ap, decimal, refl, subst, sym, true, false}
+use Rattle.std.proofs.Common.{◌≡◌, ◌++◌, ◌∙◌, ℕ, List, Option, Some, ap, decimal, refl, subst, sym, true, false}
 use Rattle.std.proofs.Math.Logic.{∥∥₁_elim}
 use Rattle.std.specs.Coded.{Coded-set, coded_list, coded_ℕ, ×_prop}
 use Rattle.chess_notation.specs.EpdFaults.{HasNoFault}

@@ -1,3 +1,4 @@
 mod Claimed
+mod Counted
 mod Solving
 mod Told

@@ -1,1 +1,2 @@
+pub mod ClaimTasks
 pub mod SolveTasks

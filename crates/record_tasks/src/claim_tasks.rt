@@ -1,7 +1,8 @@
 //! That the record which a line says is held against its own claims.
 
-ghost use Rattle.std.specs.Prelude.{◌≡◌};
+ghost use Rattle.std.specs.Prelude.{◌≡◌, Some};
 ghost use Rattle.mate_claims.specs.ClaimReplies.{refusals_of};
+ghost use Rattle.mate_claims.specs.Counts.{no_counts};
 
 use byte_streams::NoMemory;
 use chess_moves::Rays;
@@ -39,10 +40,23 @@ pub struct ClaimTally {
     pub hints: Hints,
 }
 
+impl ClaimTally {
+    /// Of no line.
+    pub fn new() -> ClaimTally
+        ensures { result.counts ≡ no_counts }
+    {
+        ClaimTally {
+            counts: Counts::new(),
+            hints: Hints::new(),
+        }
+    }
+}
+
 /// The reply that tells this of a line.
 fn reply_of(told: Told) -> Reply<LineVerdict>
     ensures text { result.text ≡ told.row }
     ensures refused { result.refused ≡ refusals_of told.verdict }
+    ensures mark { result.mark ≡ Some (record { verdict = told.verdict; source = told.source; hints = told.hints }) }
 {
     Reply {
         text: told.row,
@@ -72,6 +86,9 @@ impl ClaimTask {
 impl LineTask for ClaimTask {
     ghost use Rattle.mate_claims.specs.BoundSources.{SaysClaimed};
     ghost use Rattle.mate_claims.specs.ClaimReplies.{IsClaimReply, skipped};
+    ghost use Rattle.record_tasks.specs.ClaimTasks.{AreAllCounted, IsCountedAs, passed};
+    ghost use Rattle.std.proofs.Math.Bool.{Bool-set};
+    ghost use Rattle.std.proofs.Math.Logic.{∥∥₁_elim};
 
     type Mark = LineVerdict;
 
@@ -80,6 +97,11 @@ impl LineTask for ClaimTask {
     ghost replies = { λ task. IsClaimReply task.prefix.items task.default };
 
     ghost waits = { λ task line. SaysClaimed line task.default };
+
+    ghost marks = { λ task. IsCountedAs task.default };
+
+    /// Where nothing is counted before, the counts are those of the lines.
+    ghost knows = { λ task tally lines. AreAllCounted task.default lines tally.counts };
 
     fn copy(&self, alloc: Global) -> Result<ClaimTask, NoMemory> {
         Ok(ClaimTask {
@@ -105,12 +127,15 @@ impl LineTask for ClaimTask {
         Ok(Some(reply_of(told)))
     }
 
+    #[tactic(auto, using(crate::proofs::Counted::long_mark))]
     fn refuse_long(
         &self,
         alloc: Global,
         rays: &Rays,
         number: usize,
     ) -> Result<Reply<LineVerdict>, NoMemory> {
+        // That such a line says no record is this law.
+        records_clear();
         let output = self.rows(rays).refuse_long(alloc, number)?;
         Ok(Reply {
             text: output.text,
@@ -135,15 +160,20 @@ impl LineTask for ClaimTask {
         Ok(reply_of(told))
     }
 
-    /// A count that has no room stays as it is: no input has so many lines.
-    fn count(tally: &mut ClaimTally, mark: &LineVerdict) {
-        if let Some(counts) = tally.counts.with(mark.verdict, mark.source) {
-            tally.counts = counts;
-        }
+    fn count(&self, tally: &mut ClaimTally, mark: &LineVerdict) -> Result<(), NoMemory> {
+        let Some(counts) = tally.counts.with(mark.verdict, mark.source) else {
+            return Err(NoMemory);
+        };
+        tally.counts = counts;
         tally.hints = tally.hints.and(mark.hints);
+        Ok(())
     }
 
     ghost skips = { λ task number line blank. skipped blank };
+
+    ghost unmarked = { λ _ _ blank. blank };
+
+    ghost passes = { λ task tally before line is known. passed before line tally.counts (∥∥₁_elim is (Bool-set _ _) (λ blank. blank)) known };
 
     #[tactic(auto, using(crate::proofs::Claimed::claimed_joins))]
     fn joins(&self) {
@@ -162,15 +192,7 @@ pub fn start_verifying<R: Threads + Wait + Clock + Clone + Drop + Send + 'static
     let Prepared {
         mut workers,
         waiting,
-    } = prepare(
-        alloc,
-        count,
-        entries,
-        ClaimTally {
-            counts: Counts::new(),
-            hints: Hints::new(),
-        },
-    )?;
+    } = prepare(alloc, count, entries)?;
     for worker in waiting {
         let own = rt.clone()?;
         match thread::spawn(rt, move || worker.run(&own, alloc)) {

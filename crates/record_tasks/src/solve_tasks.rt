@@ -104,9 +104,15 @@ impl LineTask for SolveTask {
         Ok(uncounted(self.answers(rays).answer(alloc, number, line, memo)?))
     }
 
-    fn count(_tally: &mut (), _mark: &()) {}
+    fn count(&self, _tally: &mut (), _mark: &()) -> Result<(), NoMemory> {
+        Ok(())
+    }
 
     ghost skips = { λ task number line blank. skipped blank };
+
+    ghost unmarked = { λ _ _ _. tt };
+
+    ghost passes = { λ _ _ _ _ _ _. tt };
 
     #[tactic(auto, using(crate::proofs::Solving::solved_joins))]
     fn joins(&self) {
@@ -125,7 +131,7 @@ pub fn start_solving<R: Threads + Wait + Clock + Clone + Drop + Send + 'static>(
     let Prepared {
         mut workers,
         waiting,
-    } = prepare(alloc, count, entries, ())?;
+    } = prepare(alloc, count, entries)?;
     for worker in waiting {
         let own = rt.clone()?;
         match thread::spawn(rt, move || worker.run(&own, alloc)) {

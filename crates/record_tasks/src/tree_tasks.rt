@@ -106,9 +106,15 @@ impl LineTask for TreeTask {
         Ok(uncounted(self.trees(rays).told(alloc, number, line, memo)?))
     }
 
-    fn count(_tally: &mut (), _mark: &()) {}
+    fn count(&self, _tally: &mut (), _mark: &()) -> Result<(), NoMemory> {
+        Ok(())
+    }
 
     ghost skips = { λ task number line blank. skipped blank };
+
+    ghost unmarked = { λ _ _ _. tt };
+
+    ghost passes = { λ _ _ _ _ _ _. tt };
 
     #[tactic(auto, using(crate::proofs::Told::told_joins))]
     fn joins(&self) {
@@ -127,7 +133,7 @@ pub fn start_telling<R: Threads + Wait + Clock + Clone + Drop + Send + 'static>(
     let Prepared {
         mut workers,
         waiting,
-    } = prepare(alloc, count, entries, ())?;
+    } = prepare(alloc, count, entries)?;
     for worker in waiting {
         let own = rt.clone()?;
         match thread::spawn(rt, move || worker.run(&own, alloc)) {

@@ -1,9 +1,9 @@
-use Rattle.std.proofs.Common.{◌≡◌, rules, true}
+use Rattle.std.proofs.Common.{◌≡◌, rules}
 use Rattle.record_tasks.proofs.Told.{same_form, same_trees}
 use Rattle.record_tasks.proofs.tree_tasks.TreeTaskLineTask.is.Goals as goal
 
-pub returns-then-eq-2 : goal.returns-then-eq-2
-returns-then-eq-2 c same =
+pub returns-then-eq-2-clause-replies : goal.returns-then-eq-2-clause-replies
+returns-then-eq-2-clause-replies c same =
     let a = c.args.self.now.form in
     let b = c.args.other.now.form in
     let default : c.args.self.now.default ≡ c.args.other.now.default = search rules in
