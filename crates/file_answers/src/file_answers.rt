@@ -72,14 +72,22 @@ pub trait FileAnswers {
             × AppendsBy stop (O.contents out.old) (O.contents out.new) text) }
         ensures unreadable { IfErr result (λ stop. stop ≡ Stop.Unreadable → I.breaks input) };
 
+    /// Tells what stands in no reply to the file that was answered last, where anything is told so, by its name where it is one of several.
+    fn tell_beside<E: Write>(&self, _name: Option<&str>, _memory: &Self::Memory, _err: &mut E) {}
+
     /// No line is answered with nothing. It does nothing: its contract is the law.
     fn begins_with_nothing(&self)
         ensures { (from : ℕ) (name input : List ℕ) → first self.now from name input [] };
 }
 
+/// The name of a file, where it is one of several.
+pub(crate) fn named<'a>(names: &[&str], name: &'a str) -> Option<&'a str> {
+    if names.len() > 1 { Some(name) } else { None }
+}
+
 /// Answers each line of each file in order, but those of the first file that are passed over, and opens a file only after the answers to
 /// those before were written; gives whether a line was refused; how many marks there are more, the memory tells. The source is told which of
-/// several is next, and a file that can't be read is named on `err`.
+/// several is next, and a file that can't be read is named on `err`, where what is told beside the replies to a file comes behind them.
 pub fn answer_files<A: FileAnswers, S: Source, O: Write, E: Write>(
     alloc: Global,
     answers: &A,
@@ -111,6 +119,7 @@ pub fn answer_files<A: FileAnswers, S: Source, O: Write, E: Write>(
             Ok(count) => refused |= count > 0,
             Err(stop) => return Err(stop_at(stop, err, source, name)),
         }
+        answers.tell_beside(named(files.names, name), memory, err);
         from = 1;
     }
     Ok(refused)

@@ -26,4 +26,6 @@ pub use status::{
     ANSWERED, IN_PART, MISUSED, NO_MEMORY, NO_THREAD, REFUSED, UNREADABLE, UNWRITABLE, in_part,
     no_memory, status_of,
 };
-pub use writing::{complain, complain_faulty, complain_move, complain_unreadable, show};
+pub use writing::{
+    complain, complain_faulty, complain_move, complain_of, complain_unreadable, show,
+};

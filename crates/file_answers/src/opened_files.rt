@@ -6,7 +6,7 @@ ghost use Rattle.file_answers.specs.OpenedFiles.{AreOpened};
 ghost use Rattle.file_answers.specs.Sources.{SomeRefused};
 ghost use Rattle.file_answers.specs.Writing.{Gains};
 
-use crate::file_answers::{FileAnswers, FileStart};
+use crate::file_answers::{FileAnswers, FileStart, named};
 use crate::sources::{Source, holds_reads, open_file, stop_at, tell_next};
 use byte_streams::Stop;
 use std::alloc::Global;
@@ -87,6 +87,7 @@ pub fn answer_opened<A: FileAnswers, S: Source, O: Write, E: Write>(
             Ok(count) => refused |= count > 0,
             Err(stop) => return Err(stop_at(stop, err, source, name)),
         }
+        answers.tell_beside(named(names, name), memory, err);
     }
     Ok(refused)
 }

@@ -22,6 +22,16 @@ pub fn complain<E: Write>(err: &mut E, message: &str) {
     let _ = writeln!(err, "matedesk: {message}");
 }
 
+/// A message about a file, which is named where it is one of several. That it can't be written changes nothing.
+pub fn complain_of<E: Write>(err: &mut E, name: Option<&str>, message: &str) {
+    match name {
+        Some(name) => {
+            let _ = writeln!(err, "matedesk: {name}: {message}");
+        }
+        None => complain(err, message),
+    }
+}
+
 /// Says which file can't be read. That it can't be written changes nothing.
 pub fn complain_unreadable<E: Write>(err: &mut E, name: &str) {
     let _ = writeln!(err, "matedesk: cannot read {name}");

@@ -1,4 +1,5 @@
-//! What stands before rows, the names of their fields before all of them and the name of its file before each; and what is told at their end.
+//! What stands before rows, the names of their fields before all of them and the name of its file before each; and what is told behind a file's
+//! rows and at their end.
 
 ghost use Rattle.std.specs.Prelude.{◌≡◌, ◌++◌, IfErr, IfOk, OnErr, OnOk, true};
 ghost use Rattle.std.specs.Io.KnownBytes.{Appends};
@@ -6,9 +7,10 @@ ghost use Rattle.byte_streams.specs.Stops.{AppendsPart, is_of_output};
 ghost use Rattle.file_verifying.specs.Verified.{header_text, prefix_of};
 
 use byte_streams::{NoMemory, Stop, put};
-use file_answers::complain;
+use file_answers::{complain, complain_of};
 use mate_claims::{Counts, Hints};
 use std::alloc::{AllocError, Global};
+use std::cell::Cell;
 use std::io::Write;
 
 /// Rows of records, by who holds these against their claims, and whether a first row names their fields.
@@ -52,20 +54,35 @@ const UNNAMED: &str =
 const MISSPELT: &str =
     "an opcode as DM asks and claims nothing; only am, bm, dm and pv in small letters do";
 
-/// Tells at the end how many lines came to which verdict, and what was written, but isn't read so.
-pub fn tell_counts<E: Write>(
-    alloc: Global,
-    counts: &Counts,
-    hints: Hints,
-    err: &mut E,
-) -> Result<(), NoMemory> {
-    let counts = counts.text(alloc)?;
-    if hints.unnamed {
-        complain(err, UNNAMED);
+/// What was told of files so far beside their rows.
+#[derive(Drop)]
+pub struct ToldHints {
+    so_far: Cell<Hints>,
+}
+
+impl ToldHints {
+    /// Nothing.
+    pub fn new() -> ToldHints {
+        ToldHints {
+            so_far: Cell::new(Hints::new()),
+        }
     }
-    if hints.misspelt {
-        complain(err, MISSPELT);
+
+    /// Tells what was written in one file more, but isn't read so, each thing once; the file is named where it is one of several.
+    pub fn tell<E: Write>(&self, name: Option<&str>, hints: Hints, err: &mut E) {
+        let news = hints.since(self.so_far.get());
+        self.so_far.set(hints);
+        if news.unnamed > 0 {
+            complain_of(err, name, UNNAMED);
+        }
+        if news.misspelt > 0 {
+            complain_of(err, name, MISSPELT);
+        }
     }
-    complain(err, counts.as_str());
+}
+
+/// Tells at the end how many lines came to which verdict.
+pub fn tell_counts<E: Write>(alloc: Global, counts: &Counts, err: &mut E) -> Result<(), NoMemory> {
+    complain(err, counts.text(alloc)?.as_str());
     Ok(())
 }

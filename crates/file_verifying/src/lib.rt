@@ -8,6 +8,6 @@ mod headings;
 mod limited_verifying;
 mod verifying;
 
-pub use headings::{Rows, tell_counts};
+pub use headings::{Rows, ToldHints, tell_counts};
 pub use limited_verifying::verify_limited;
 pub use verifying::{RowStart, Verifier, verify, verify_by};

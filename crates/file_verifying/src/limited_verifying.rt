@@ -4,7 +4,7 @@ ghost use Rattle.std.specs.Prelude.{◌-◌, IfErr, IfOk, map};
 ghost use Rattle.file_answers.specs.Writing.{Gains};
 ghost use Rattle.file_verifying.specs.Verified.{LimitedHeaded, StopsLimitedHeaded, StopsVerifyingInTime, VerifiesInTime};
 
-use crate::headings::{Rows, prefix_of, put_header, tell_counts};
+use crate::headings::{Rows, ToldHints, prefix_of, put_header, tell_counts};
 use byte_streams::{Input, Stop};
 use file_answers::{FileAnswers, FileStart, Source, SourceFiles, answer_files, holds_reads};
 use mate_answers::{Limited, TimeLimit};
@@ -15,11 +15,12 @@ use std::io::Write;
 use text_lines::{LinesFrom, answer_lines};
 
 /// Holds records against their claims so.
-#[derive(Clone, Copy)]
+#[derive(Drop)]
 struct LimitedAnswers<'a, 'r, T, V> {
     limited: &'a Limited<'r, T, V>,
     /// Whether a row names its file.
     several: bool,
+    told: ToldHints,
 }
 
 impl<T: TimeLimit, V: Solver<T>> FileAnswers for LimitedAnswers<'_, '_, T, V> {
@@ -68,6 +69,15 @@ impl<T: TimeLimit, V: Solver<T>> FileAnswers for LimitedAnswers<'_, '_, T, V> {
         Ok(unsound)
     }
 
+    fn tell_beside<E: Write>(
+        &self,
+        name: Option<&str>,
+        memory: &LimitedClaimMemory<V::Memory>,
+        err: &mut E,
+    ) {
+        self.told.tell(name, memory.hints, err);
+    }
+
     #[tactic(auto, using(crate::proofs::Unopened::no_limited_reply))]
     fn begins_with_nothing(&self) {}
 }
@@ -94,10 +104,11 @@ fn verify_rows<T: TimeLimit, V: Solver<T>, S: Source, O: Write, E: Write>(
     let answers = LimitedAnswers {
         limited,
         several: files.names.len() > 1,
+        told: ToldHints::new(),
     };
     match answer_files(alloc, &answers, files, memory, out, err) {
         Ok(unsound) => {
-            tell_counts(alloc, &memory.counts, memory.hints, err)?;
+            tell_counts(alloc, &memory.counts, err)?;
             Ok(unsound)
         }
         Err(stop) => Err(stop),

@@ -9,7 +9,7 @@ ghost use Rattle.file_answers.specs.Writing.{Gains};
 ghost use Rattle.mate_claims.specs.ClaimReplies.{IsClaimReply};
 ghost use Rattle.file_verifying.specs.Verified.{StopsHeaded, StopsVerifying, Verifies, VerifiesHeaded};
 
-use crate::headings::{Rows, prefix_of, put_header, tell_counts};
+use crate::headings::{Rows, ToldHints, prefix_of, put_header, tell_counts};
 use byte_streams::{Input, Stop};
 use chess_moves::Rays;
 use chess_problems::Bound;
@@ -118,6 +118,7 @@ struct ClaimAnswers<'a, V> {
     verifier: &'a V,
     /// Whether a row names its file.
     several: bool,
+    told: ToldHints,
 }
 
 impl<V: Verifier> FileAnswers for ClaimAnswers<'_, V> {
@@ -151,6 +152,10 @@ impl<V: Verifier> FileAnswers for ClaimAnswers<'_, V> {
         self.verifier.verify_lines(alloc, &rows, input, memory, out)
     }
 
+    fn tell_beside<E: Write>(&self, name: Option<&str>, memory: &V::Memory, err: &mut E) {
+        self.told.tell(name, self.verifier.hints(memory), err);
+    }
+
     #[tactic(auto, using(crate::proofs::Unopened::no_claim_reply))]
     fn begins_with_nothing(&self) {}
 }
@@ -174,11 +179,11 @@ fn verify_rows<V: Verifier, S: Source, O: Write, E: Write>(
     let answers = ClaimAnswers {
         verifier,
         several: files.names.len() > 1,
+        told: ToldHints::new(),
     };
     match answer_files(alloc, &answers, files, memory, out, err) {
         Ok(unsound) => {
-            let counts = verifier.counts(memory);
-            tell_counts(alloc, &counts, verifier.hints(memory), err)?;
+            tell_counts(alloc, &verifier.counts(memory), err)?;
             Ok(unsound)
         }
         Err(stop) => Err(stop),

@@ -7,7 +7,7 @@ ghost use Rattle.json_commands.specs.Verified.{StopsVerifyingLimitedJson, Verifi
 use crate::json_files::has_several;
 use byte_streams::{Input, Stop};
 use file_answers::{FileAnswers, FileStart, Source, SourceFiles, answer_files, holds_reads};
-use file_verifying::tell_counts;
+use file_verifying::{ToldHints, tell_counts};
 use json_replies::{Form, JsonReplies, front_of};
 use mate_answers::{Limited, TimeLimit};
 use mate_claims::{LimitedClaimMemory, LimitedClaims};
@@ -17,11 +17,12 @@ use std::io::Write;
 use text_lines::{LinesFrom, answer_lines};
 
 /// Holds records against their claims so.
-#[derive(Clone, Copy)]
+#[derive(Drop)]
 struct LimitedJsonClaims<'a, 'r, T, V> {
     limited: &'a Limited<'r, T, V>,
     /// Whether an object names its file.
     several: bool,
+    told: ToldHints,
 }
 
 impl<T: TimeLimit, V: Solver<T>> FileAnswers for LimitedJsonClaims<'_, '_, T, V> {
@@ -82,6 +83,15 @@ impl<T: TimeLimit, V: Solver<T>> FileAnswers for LimitedJsonClaims<'_, '_, T, V>
         Ok(unsound)
     }
 
+    fn tell_beside<E: Write>(
+        &self,
+        name: Option<&str>,
+        memory: &LimitedClaimMemory<V::Memory>,
+        err: &mut E,
+    ) {
+        self.told.tell(name, memory.hints, err);
+    }
+
     #[tactic(auto, using(crate::proofs::Unopened::no_file_reply))]
     fn begins_with_nothing(&self) {}
 }
@@ -109,10 +119,11 @@ pub fn verify_json_limited<T: TimeLimit, V: Solver<T>, S: Source, O: Write, E: W
     let claims = LimitedJsonClaims {
         limited,
         several: has_several(files.names),
+        told: ToldHints::new(),
     };
     match answer_files(alloc, &claims, files, memory, out, err) {
         Ok(unsound) => {
-            tell_counts(alloc, &memory.counts, memory.hints, err)?;
+            tell_counts(alloc, &memory.counts, err)?;
             Ok(unsound)
         }
         Err(stop) => Err(stop),

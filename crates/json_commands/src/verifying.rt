@@ -11,7 +11,7 @@ use chess_problems::Bound;
 use command_words::VerifyAsked;
 use file_answers::{FileAnswers, FileStart, Source, SourceFiles, answer_files, holds_reads};
 use file_solving::new_memo;
-use file_verifying::tell_counts;
+use file_verifying::{ToldHints, tell_counts};
 use json_replies::{Form, JsonReplies, front_of};
 use mate_claims::{ClaimMemory, ClaimRows, Counts, Hints};
 use std::alloc::Global;
@@ -19,12 +19,13 @@ use std::io::Write;
 use text_lines::{LinesFrom, answer_lines};
 
 /// Holds records against their claims, with the bound of those that say none.
-#[derive(Clone, Copy)]
+#[derive(Drop)]
 struct JsonClaims<'a> {
     rays: &'a Rays,
     bound: Bound,
     /// Whether an object names its file.
     several: bool,
+    told: ToldHints,
 }
 
 impl FileAnswers for JsonClaims<'_> {
@@ -79,6 +80,10 @@ impl FileAnswers for JsonClaims<'_> {
         Ok(unsound)
     }
 
+    fn tell_beside<E: Write>(&self, name: Option<&str>, memory: &ClaimMemory, err: &mut E) {
+        self.told.tell(name, memory.hints, err);
+    }
+
     #[tactic(auto, using(crate::proofs::Unopened::no_file_reply))]
     fn begins_with_nothing(&self) {}
 }
@@ -110,6 +115,7 @@ pub fn verify_json<S: Source, O: Write, E: Write>(
         rays: &rays,
         bound: asked.bound,
         several: has_several(asked.files.names),
+        told: ToldHints::new(),
     };
     let files = SourceFiles {
         names: asked.files.names,
@@ -118,7 +124,7 @@ pub fn verify_json<S: Source, O: Write, E: Write>(
     };
     match answer_files(alloc, &claims, &files, &mut memory, out, err) {
         Ok(unsound) => {
-            tell_counts(alloc, &memory.counts, memory.hints, err)?;
+            tell_counts(alloc, &memory.counts, err)?;
             Ok(unsound)
         }
         Err(stop) => Err(stop),

@@ -2,13 +2,13 @@
 
 use chess_notation::{ClaimFault, Operation};
 
-/// What is told, whether of one line or of many.
+/// Of how many lines it is told.
 #[derive(Clone, Copy, Debug, PartialEq, Eq)]
 pub struct Hints {
     /// What is claimed is no move in SAN or by coordinates.
-    pub unnamed: bool,
+    pub unnamed: usize,
     /// An opcode is `am`, `bm`, `dm` or `pv` but for its capitals, and so another, which nothing is asked or claimed by.
-    pub misspelt: bool,
+    pub misspelt: usize,
 }
 
 /// Whether an opcode is one of those that ask or claim, or is one but for its capitals.
@@ -36,27 +36,35 @@ fn has_misspelt(operations: &[Operation]) -> bool {
 }
 
 impl Hints {
-    /// Nothing.
+    /// Of none.
     pub fn new() -> Hints {
         Hints {
-            unnamed: false,
-            misspelt: false,
+            unnamed: 0,
+            misspelt: 0,
         }
     }
 
     /// Of a record of whose claims this word comes, and which keeps these operations.
     pub(crate) fn of(word: &str, operations: &[Operation]) -> Hints {
         Hints {
-            unnamed: word == ClaimFault::NoSuchMove.code(),
-            misspelt: has_misspelt(operations),
+            unnamed: usize::from(word == ClaimFault::NoSuchMove.code()),
+            misspelt: usize::from(has_misspelt(operations)),
         }
     }
 
-    /// What is told of these lines and of others.
+    /// Of these lines and of others.
     pub fn and(self, others: Hints) -> Hints {
         Hints {
-            unnamed: self.unnamed || others.unnamed,
-            misspelt: self.misspelt || others.misspelt,
+            unnamed: self.unnamed.saturating_add(others.unnamed),
+            misspelt: self.misspelt.saturating_add(others.misspelt),
+        }
+    }
+
+    /// Of these lines without those before.
+    pub fn since(self, before: Hints) -> Hints {
+        Hints {
+            unnamed: self.unnamed.saturating_sub(before.unnamed),
+            misspelt: self.misspelt.saturating_sub(before.misspelt),
         }
     }
 }
