@@ -4,8 +4,8 @@
 //! read: `specs/SanText.antt` and `san_text`, over `disambiguation`, and `move_reading`, a word that names a move; then `specs/Records.antt`,
 //! `records` and `record_reading`, over `epd_faults` (the faults of a line, in their order), `words`, `record_fields`, `segments` (operations
 //! cut at their semicolons), `quoting`, `opcodes`, `problem_operations` (what `dm` and `am` ask), `avoid_moves`, `claims` (what `bm` says),
-//! `said_bounds` (whether a line has `dm`) and `operations`; at last `specs/Answers.antt` and `answers`. `san_laws` and `record_laws` say what holds of them. Only `read_record`,
-//! `claims_text`, `listed_text`, `answer_text` and `undecided_text` take memory.
+//! `said_bounds` (whether a line has `dm`) and `operations`; at last `specs/Answers.antt` and `answers`. `san_laws` and `record_laws` say what
+//! holds of them. Only `read_record`, `claims_text`, `listed_text`, `answer_text` and `undecided_text` take memory.
 #![tactic(auto)]
 
 mod answers;
