@@ -12,4 +12,4 @@ mod writing;
 pub use inputs::{Input, InputFault};
 pub use no_memory::NoMemory;
 pub use stops::Stop;
-pub use writing::{put, stop_of_output, whole_lines};
+pub use writing::{put, put_counted, stop_of_output, whole_lines};

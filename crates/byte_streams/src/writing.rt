@@ -85,21 +85,33 @@ fn write_some<O: Write>(out: &mut O, text: &[u8]) -> Result<usize, Stop>
     }
 }
 
-/// Writes a text whole, some lines at once, and flushes it. Where that breaks off, a first part of it is written and nothing else.
+/// Writes a text whole, some lines at once, and flushes it; counts in `written` how many of its first bytes are written, also where that breaks
+/// off, and writes nothing else.
 ///
 /// A loop over `write` stands here, since `write_all` says nothing of what a writer holds that failed.
+pub fn put_counted<O: Write>(out: &mut O, text: &[u8], written: &mut usize) -> Result<(), Stop>
+    ensures whole { OnOk result (written.new ≡ length text.now) }
+    ensures err { IfErr result (λ stop. is_of_output stop ≡ true) }
+    ensures few { written.new ≤ length text.now }
+    ensures first { Appends (O.contents out.old) (O.contents out.new) (take written.new text.now) }
+{
+    *written = 0;
+    for _ in 0..u64::MAX {
+        if *written == text.len() {
+            return flush(out);
+        }
+        let count = write_some(out, &text[*written..])?;
+        *written += count;
+    }
+    Err(Stop::Unwritable)
+}
+
+/// The same where nobody asks how much is written. Where it breaks off, a first part of the text is.
 pub fn put<O: Write>(out: &mut O, text: &[u8]) -> Result<(), Stop>
     ensures ok { OnOk result (Appends (O.contents out.old) (O.contents out.new) text.now) }
     ensures err { IfErr result (λ stop. is_of_output stop ≡ true) }
     ensures part { OnErr result (AppendsPart (O.contents out.old) (O.contents out.new) text.now) }
 {
-    let mut rest = text;
-    for _ in 0..u64::MAX {
-        if rest.is_empty() {
-            return flush(out);
-        }
-        let count = write_some(out, rest)?;
-        rest = &rest[count..];
-    }
-    Err(Stop::Unwritable)
+    let mut written = 0;
+    put_counted(out, text, &mut written)
 }

@@ -1,17 +1,14 @@
-use Rattle.std.proofs.Common.{◌≡◌, ◌-◌, ℕ, List, ◌++◌, length, take, drop, sym, ap, ◌∙◌, append_assoc, take-append-drop}
-use Rattle.std.proofs.lemmas.List.{take_rest}
-use Rattle.std.proofs.KnownBytes.{Appends-trans}
+use Rattle.std.proofs.Common.{OnErr, Result, Ok, Err, drop, sym, take, take-append-drop}
 use Rattle.byte_streams.proofs.writing.put.Goals as goal
 
-moves_front : (all done rest : List ℕ) (n : ℕ) → all ≡ done ++ rest → all ≡ (done ++ take n rest) ++ take (length rest - n) (drop n rest)
-moves_front all done rest n e =
-    e ∙ ap (λ l. done ++ l) (sym (take-append-drop n rest)) ∙ sym (append_assoc done (take n rest) (drop n rest))
-    ∙ ap (λ l. (done ++ take n rest) ++ l) (sym (take_rest rest n))
+on_err : {T E P : Type 0} (r : Result T E) → P → OnErr r P
+on_err (Ok x) p = tt
+on_err (Err e) p = p
 
-pub loop-preserved : goal.loop-preserved
-loop-preserved g c =
-    let (done, split, appended) = c.loop.invariant in (
-      done ++ take c.in_ok-count.count c.loop.rest.now,
-      moves_front _ done c.loop.rest.now c.in_ok-count.count split,
-      Appends-trans _ _ _ done (take c.in_ok-count.count c.loop.rest.now) appended c.in_ok-count.ensures.ok.1,
-    )
+pub returns-clause-part : goal.returns-clause-part
+returns-clause-part g c = on_err c.put_counted.result (
+  take c.put_counted.new.written c.args.text.now,
+  drop c.put_counted.new.written c.args.text.now,
+  sym (take-append-drop c.put_counted.new.written c.args.text.now),
+  c.put_counted.ensures.first,
+)
