@@ -55,6 +55,9 @@ impl<R: Wait, T: LineTask, P: Progress> Answering<'_, R, T, P> {
     {
         let reply = open_reply(self.alloc, self.rays, self.lines, number, line)?;
         if let OpenReply::Awaited(text) = &reply {
+            if replies.replies.is_empty() {
+                self.lines.progress.begins(number);
+            }
             workers.hand_out(self.rt, self.alloc, self.lines.by, number, text.as_slice())?;
         }
         replies.add(reply)
@@ -79,9 +82,8 @@ impl<R: Wait, T: LineTask, P: Progress> Answering<'_, R, T, P> {
     {
         let first = replies.first;
         let arrived = &mut workers.arrived;
-        let text = write_ready(self.alloc, self.lines, replies, arrived, tally, out)?;
-        if replies.first != first {
-            self.lines.progress.ends(text.as_slice());
+        write_ready(self.alloc, self.lines, replies, arrived, tally, out)?;
+        if replies.first != first && !replies.replies.is_empty() {
             self.lines.progress.begins(replies.first);
         }
         Ok(())
@@ -180,7 +182,5 @@ pub fn answer_in_order<R: Wait, T: LineTask, P: Progress, I: Input + Drop, O: Wr
         × AppendsBy stop (O.contents out.old) (O.contents out.new) text) }
     ensures unreadable { IfErr result (λ stop. stop ≡ Stop.Unreadable → I.breaks input) }
 {
-    let lines = answering.lines;
-    lines.progress.begins(lines.from);
     answer_each(answering, workers, tally, input, out)
 }

@@ -8,7 +8,7 @@ loop-init g c =
     let lines = c.args.lines.now in
     let own = rules_from (g.T.LineTask.replies lines.by.now) (g.T.LineTask.waits lines.by.now) (g.T.LineTask.marks lines.by.now) lines.from in
     let knows = KnownFrom (g.T.LineTask.knows lines.by.now) lines.from in
-    subst (Gains own knows c.args.replies.now c.args.replies.now c.args.tally.now c.args.tally.now) (sym c.new-text.ensures.items)
+    subst (Gains own knows c.args.replies.now c.args.replies.now c.args.tally.now c.args.tally.now) (sym c.new-gathered.ensures)
     (gains_none own knows c.args.replies.now c.args.tally.now)
 
 pub loop-preserved : goal.loop-preserved
@@ -18,8 +18,8 @@ loop-preserved g c =
     let knows = KnownFrom (g.T.LineTask.knows lines.by.now) lines.from in
     let first : Gains own knows c.loop.replies c.take_first.new.replies c.loop.tally c.take_first.new.tally c.in-Some.reply.text.items =
     search rules in
-    let text : c.extend_from_slice.new.self.items ≡ c.loop.text.items ++ c.in-Some.reply.text.items =
-    c.in_ok-extend_from_slice.ensures.items ∙ ap (λ l. c.loop.text.items ++ l) c.as_slice.ensures.value in
+    let text : c.add.new.self.text.items ≡ c.loop.gathered.text.items ++ c.in-Some.reply.text.items =
+    c.in_ok-add.ensures ∙ ap (λ l. c.loop.gathered.text.items ++ l) c.as_slice.ensures.value in
     subst (Gains own knows c.args.replies.now c.take_first.new.replies c.args.tally.now c.take_first.new.tally) (sym text)
     (gains_then own knows c.args.replies.now c.loop.replies c.take_first.new.replies c.args.tally.now c.loop.tally c.take_first.new.tally
-    c.loop.text.items c.in-Some.reply.text.items c.loop.invariant first)
+    c.loop.gathered.text.items c.in-Some.reply.text.items c.loop.invariant first)
