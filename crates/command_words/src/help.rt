@@ -69,9 +69,10 @@ many moves may take longer than one can wait, and the lines behind it wait too: 
 `--limit S` a record that isn't decided within S seconds is answered
 `c0 \"no mate in K, not decided within N in S s\"`, with `dm N` where the record has it: there
 is no mate within K moves, and more is not known. In JSON it has `\"decided\":false`,
-`\"none_within\":K` and `\"asked\":N`, too. The last line on standard error then counts such records, and the status is 5. With --progress standard
-error says which line is solved and for how long, twice a second on a terminal and every
-ten seconds elsewhere, and at the end how often there was which answer.
+`\"none_within\":K` and `\"asked\":N`, too. The last line on standard error then counts such
+records, and the status is 5. With --progress standard error says which line is solved and
+for how long, twice a second on a terminal and every ten seconds elsewhere, and at the end
+how often there was which answer.
 
 What was found of positions is kept in a memo with room for M of them, so that it need not
 be found again. No answer depends on M: more room mostly takes less time and more memory.
@@ -143,11 +144,11 @@ The verdict is the first of these that applies:
 Moves to avoid (`am`) are left out at the first move, as `solve` does. With --header a row
 with these seven names stands before all others. At the end standard error says how many
 lines came to each verdict, of how many records the number asked has a question mark, and
-how many were not decided, also of those whose claims are at fault. Moves as `1.Qh7!` and
-opcodes as `DM` are not read: it says so where there are such.
+how many were not decided, also of those whose claims are at fault. Opcodes as `DM` are not
+read, nor without --import moves as `1.Qh7!`: it says so of each file that has such.
 With --import the lines are problems in any form that `import` takes, and LINE is the line
-where one begins; one that says no number of moves is NoBound, unless --bound is given. With
---json each row is an object in JSON.
+where one begins; one that is no record as it stands and says no number of moves is NoBound,
+or with `--bound B` is taken to say B. With --json each row is an object in JSON.
 
 With `--workers N` the records of a collection are taken side by side by N threads, each with
 a memo of its own, and all with one SIZE; their rows stand in the order of its lines. With

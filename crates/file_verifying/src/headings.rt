@@ -48,7 +48,7 @@ pub(crate) fn put_header<O: Write>(out: &mut O, header: bool) -> Result<(), Stop
 
 /// What is told where a claim names no move.
 const UNNAMED: &str =
-    "NoSuchMove: moves are read in SAN or by coordinates; verify --import reads more, as Qh7!, R6g2, b8N, 1.Bh1";
+    "NoSuchMove: bm is read in SAN, pv by coordinates too; verify --import reads more in bm, as Qh7!, R6g2, b8N, 1.Bh1";
 
 /// What is told where an opcode has other letters than the one that is read.
 const MISSPELT: &str =

@@ -17,6 +17,7 @@ use file_answers::{
     FileAnswers, FileStart, Source, SourceFiles, answer_files, complain, holds_reads,
 };
 use file_solving::new_memo;
+use file_verifying::ToldHints;
 use mate_claims::{ClaimMemory, ClaimRows, Counts, Hints};
 use problem_import::{ProblemLines, ProblemMemory};
 use std::alloc::{AllocError, Global};
@@ -24,12 +25,13 @@ use std::cell::Cell;
 use std::io::Write;
 
 /// Holds problems against their claims: with the bound of those that are made records of and say none, and that of records that say none.
-#[derive(Clone, Copy)]
+#[derive(Drop)]
 struct ImportedAnswers<'a> {
     rays: &'a Rays,
     bound: Option<Bound>,
     /// Whether a row names its file.
     several: bool,
+    told: ToldHints,
 }
 
 /// What stands before the number of a line.
@@ -82,6 +84,20 @@ impl<'a> FileAnswers for ImportedAnswers<'a> {
         unsound
     }
 
+    fn tell_beside<E: Write>(
+        &self,
+        name: Option<&str>,
+        memory: &ProblemMemory<ClaimMemory>,
+        err: &mut E,
+    ) {
+        // What is told of moves that aren't read points here.
+        let hints = Hints {
+            unnamed: 0,
+            ..memory.memory.hints
+        };
+        self.told.tell(name, hints, err);
+    }
+
     fn begins_with_nothing(&self) {}
 }
 
@@ -123,6 +139,7 @@ fn show_rows<S: Source, O: Write, E: Write>(
         rays: &rays,
         bound: asked.bound,
         several: asked.files.names.len() > 1,
+        told: ToldHints::new(),
     };
     let files = SourceFiles {
         names: asked.files.names,
