@@ -284,12 +284,16 @@ tree_in rows =
 unfoldable pub sheet_form_in : List Row → SheetForm
 sheet_form_in rows = record { solutions = is_given (codes "solutions") rows; figurines = is_given (codes "figurines") rows }
 
--- what the arguments of `sheet` ask for
-unfoldable pub sheet_in : List Row → Option Asked
-sheet_in rows =
+-- what the arguments of `sheet` ask for, with what a page has beside its diagrams
+unfoldable pub sheet_with : List Row → Option Asked
+sheet_with rows =
     option_and_then (λ bound. option_and_then (λ memo. option_and_then
     (λ letters. option_and_then (λ title. option_map (λ names. sheet bound memo (sheet_form_in rows) letters title names)
     (all_of (codes "FILE") rows)) (first_of (codes "T") rows)) (first_of (codes "L") rows)) (memo_size_in 1 default_memo rows)) (bound_in rows)
+
+-- what they ask for: figurines stand in solutions alone
+unfoldable pub sheet_in : List Row → Option Asked
+sheet_in rows = if is_given (codes "figurines") rows && not (is_given (codes "solutions") rows) then None else sheet_with rows
 
 -- what the arguments of `import` ask for: whether what was changed is told, the bound of problems that say none, if one is given, the letters
 -- of men, and files

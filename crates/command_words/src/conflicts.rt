@@ -11,6 +11,8 @@ enum Found {
     Flag(&'static str),
     /// That no board is drawn.
     NoBoard,
+    /// That no solutions are told.
+    NoSolutions,
     /// More than one worker, by the id of their number.
     Several(&'static str),
     /// A limit of time.
@@ -35,7 +37,7 @@ const IMPORT: Found = Found::Flag("import");
 const FLIP: Found = Found::Flag("flip");
 
 /// All that don't go together. The first that is found is said.
-static CONFLICTS: [Conflict; 14] = [
+static CONFLICTS: [Conflict; 15] = [
     Conflict(
         "look",
         Found::Flag("svg"),
@@ -115,6 +117,12 @@ static CONFLICTS: [Conflict; 14] = [
         "tree --limit goes with --workers 1 alone",
     ),
     Conflict(
+        "sheet",
+        Found::Flag("figurines"),
+        Found::NoSolutions,
+        "sheet --figurines goes with --solutions",
+    ),
+    Conflict(
         ANY,
         Found::Memory,
         Found::Entries,
@@ -130,6 +138,7 @@ fn is_found(matches: &ArgMatches, found: Found) -> bool {
     match found {
         Found::Flag(id) => is_given(matches, id),
         Found::NoBoard => !is_given(matches, "board") && !is_given(matches, "svg"),
+        Found::NoSolutions => !is_given(matches, "solutions"),
         Found::Several(id) => number_in(matches, id) > 1,
         Found::Limit => large_number_in(matches, "S") > 0,
         Found::Entries => large_number_in(matches, "M") > 0,
@@ -161,4 +170,51 @@ pub fn no_request(matches: &ArgMatches) -> &'static str {
         }
     }
     NO_MEMORY_SIZE
+}
+
+/// A command over lines, an option of the same command over a FEN which that hasn't, and what is said then.
+#[derive(Clone, Copy)]
+struct GoesAlone(&'static str, &'static str, &'static str);
+
+/// All such options. `clap` knows none of them in a command over lines.
+static GO_ALONE: [GoesAlone; 5] = [
+    GoesAlone(
+        "look --lines",
+        "--svg",
+        "look --svg goes without --lines",
+    ),
+    GoesAlone(
+        "moves --lines",
+        "--json",
+        "moves --json goes without --lines",
+    ),
+    GoesAlone(
+        "moves --lines",
+        "--coordinates",
+        "moves --coordinates goes without --lines",
+    ),
+    GoesAlone(
+        "moves --lines",
+        "--fen",
+        "moves --fen goes without --lines",
+    ),
+    GoesAlone(
+        "perft --lines",
+        "--divide",
+        "perft --divide goes without --lines",
+    ),
+];
+
+/// What is said of words, as `clap` is to read them, of which it doesn't know one, where that is an option which goes without `--lines`.
+pub fn goes_without_lines(texts: &[&str]) -> Option<&'static str> {
+    let [_, name, rest @ ..] = texts else {
+        return None;
+    };
+    for alone in GO_ALONE.iter() {
+        let GoesAlone(command, option, said) = *alone;
+        if is_same(name, command) && rest.iter().any(|word| is_same(word, option)) {
+            return Some(said);
+        }
+    }
+    None
 }

@@ -25,7 +25,7 @@ mod rows;
 mod texts;
 mod tree_requests;
 
-pub use conflicts::no_request;
+pub use conflicts::{goes_without_lines, no_request};
 pub use help::VERSION;
 pub use hyphens::escaped;
 pub use limits::{Depth, LineNumber, MemoSize, Workers};

@@ -4,7 +4,7 @@ ghost use Rattle.std.specs.Prelude.{◌≡◌, codes, option_map};
 ghost use Rattle.std.specs.Option.{option_map_or};
 ghost use Rattle.clap.specs.Walk.{byte_or_zero};
 ghost use Rattle.clap.specs.Words.{found_of, one_of, rows_of};
-ghost use Rattle.command_words.specs.Asked.{number_or_zero, some_number, tree_form_in, tree_in, tree_workers_in, sheet_form_in, sheet_in};
+ghost use Rattle.command_words.specs.Asked.{number_or_zero, some_number, tree_form_in, tree_in, tree_workers_in, sheet_form_in, sheet_in, sheet_with};
 ghost use Rattle.command_words.specs.Request.{plan_of};
 
 use crate::limits::Workers;
@@ -98,10 +98,10 @@ fn sheet_form_in(matches: &ArgMatches) -> SheetForm
     }
 }
 
-/// What the arguments of `sheet` ask for.
-#[tactic(auto, unfolding(crate::specs::Asked::sheet_in))]
-pub(crate) fn sheet_in<'m, 'a>(matches: &'m ArgMatches<'a>) -> Option<Request<'m, 'a>>
-    ensures { option_map plan_of result ≡ sheet_in (rows_of (found_of matches.now)) }
+/// What the arguments of `sheet` ask for, with what a page has beside its diagrams.
+#[tactic(auto, unfolding(crate::specs::Asked::sheet_with))]
+fn sheet_with<'m, 'a>(matches: &'m ArgMatches<'a>) -> Option<Request<'m, 'a>>
+    ensures { option_map plan_of result ≡ sheet_with (rows_of (found_of matches.now)) }
 {
     let bound = bound_in(matches)?;
     let memo = memo_size_in(matches, 1, DEFAULT_MEMO)?;
@@ -117,4 +117,16 @@ pub(crate) fn sheet_in<'m, 'a>(matches: &'m ArgMatches<'a>) -> Option<Request<'m
         title,
         names,
     }))
+}
+
+/// What the arguments of `sheet` ask for; nothing where figurines are to stand in solutions that aren't there.
+#[tactic(auto, unfolding(crate::specs::Asked::sheet_in))]
+pub(crate) fn sheet_in<'m, 'a>(matches: &'m ArgMatches<'a>) -> Option<Request<'m, 'a>>
+    ensures { option_map plan_of result ≡ sheet_in (rows_of (found_of matches.now)) }
+{
+    if is_given(matches, "figurines") && !is_given(matches, "solutions") {
+        None
+    } else {
+        sheet_with(matches)
+    }
 }

@@ -19,8 +19,8 @@ use byte_streams::{Stop, stop_of_output};
 use clap::Error;
 use clap::error::ErrorKind;
 use command_words::{
-    ImportAsked, Request, SheetAsked, TreeAsked, escaped, gives_records, no_request, parse,
-    request_of,
+    ImportAsked, Request, SheetAsked, TreeAsked, escaped, gives_records, goes_without_lines,
+    no_request, parse, request_of,
 };
 use file_answers::{ANSWERED, GivenTexts, MISUSED, Source, complain, no_memory, status_of};
 use file_solving::{limited_none, solve, solves_none};
@@ -160,16 +160,21 @@ fn display<O: Write, E: Write>(error: &Error, out: &mut O, err: &mut E) -> u8
     }
 }
 
-/// Says what is wrong with the words. That it can't be written changes nothing.
-fn misuse<E: Write>(error: &Error, err: &mut E) -> u8
+/// Says what is wrong with the words, of an option that goes without `--lines` in our words. That it can't be written changes nothing.
+fn misuse<E: Write>(error: &Error, texts: &[&str], err: &mut E) -> u8
     ensures { result ≡ 2 }
 {
-    let _ = write!(err, "{error}");
+    match goes_without_lines(texts) {
+        Some(said) if error.kind() == ErrorKind::UnknownArgument => complain(err, said),
+        _ => {
+            let _ = write!(err, "{error}");
+        }
+    }
     MISUSED
 }
 
-/// Prints what `clap` answers in place of matches, and gives the status.
-fn usage<O: Write, E: Write>(error: &Error, out: &mut O, err: &mut E) -> u8
+/// Prints what `clap` answers to these words in place of matches, and gives the status.
+fn usage<O: Write, E: Write>(error: &Error, texts: &[&str], out: &mut O, err: &mut E) -> u8
     ensures memory { kind_of error.now ≡ ErrorKind.OutOfMemory → result ≡ 3 }
     ensures display { (result ≡ 0) ⊎ (result ≡ 4) → is_display (kind_of error.now) ≡ true }
     ensures no_misuse { is_display (kind_of error.now) ≡ true → result ≢ 2 }
@@ -180,7 +185,7 @@ fn usage<O: Write, E: Write>(error: &Error, out: &mut O, err: &mut E) -> u8
     match error.kind() {
         ErrorKind::OutOfMemory => no_memory(err),
         ErrorKind::DisplayHelp | ErrorKind::DisplayVersion => display(error, out, err),
-        _ => misuse(error, err),
+        _ => misuse(error, texts, err),
     }
 }
 
@@ -220,7 +225,7 @@ pub fn plain_command<S: Source, O: Write, E: Write>(
             let request = request_of(&matches);
             run(alloc, &request, no_request(&matches), &given, out, err)
         }
-        Err(error) => Some(usage(&error, out, err)),
+        Err(error) => Some(usage(&error, texts.as_slice(), out, err)),
     }
 }
 
