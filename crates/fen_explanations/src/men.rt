@@ -1,7 +1,7 @@
 //! What is wrong with the men of a placement.
 
 ghost use Rattle.std.specs.Prelude.{◌≡◌, ◌++◌, ◌+◌, ◌*◌, ◌<◌, IfOk, map};
-ghost use Rattle.fen_explanations.specs.Men.{count_of as count_in, kings_told, many_told, no_king_told, men_told, pawn_told, pawns_told};
+ghost use Rattle.fen_explanations.specs.Men.{count_of as count_in, kings_told, many_told, missed_king_told, no_king_told, men_told, pawn_told, pawns_told};
 ghost use Rattle.fen_explanations.specs.Men.{side_count as side_count_in, side_told};
 ghost use Rattle.fen_explanations.specs.Sentences.{each_below};
 
@@ -24,6 +24,21 @@ fn push_no_king(text: &mut Vec<u8>, colour: Colour, kings: u128) -> Result<(), A
     ensures { IfOk result (λ _. text.new.items ≡ text.old.items ++ no_king_told colour kings) }
 {
     push_if(text, kings == 0, &[side_name(colour), b" has no king"])
+}
+
+/// The same in so many ranks. Where one is missing, the king could stand there.
+fn push_missed_king(
+    text: &mut Vec<u8>,
+    ranks: usize,
+    colour: Colour,
+    kings: u128,
+) -> Result<(), AllocError>
+    ensures { IfOk result (λ _. text.new.items ≡ text.old.items ++ missed_king_told ranks colour kings) }
+{
+    if ranks < 8 {
+        return Ok(());
+    }
+    push_no_king(text, colour, kings)
 }
 
 /// Tells where a side has several kings.
@@ -110,13 +125,18 @@ fn push_many(text: &mut Vec<u8>, colour: Colour, men: u128) -> Result<(), AllocE
     )
 }
 
-/// Tells what is wrong with the kings of a side, and with how many men it has.
+/// Tells what is wrong with the kings of a side in so many ranks, and with how many men it has.
 #[tactic(auto, unfolding(crate::specs::Men::side_told))]
-fn push_side(text: &mut Vec<u8>, placement: &[u8], colour: Colour) -> Result<(), AllocError>
-    ensures { IfOk result (λ _. text.new.items ≡ text.old.items ++ side_told placement.now colour) }
+fn push_side(
+    text: &mut Vec<u8>,
+    ranks: usize,
+    placement: &[u8],
+    colour: Colour,
+) -> Result<(), AllocError>
+    ensures { IfOk result (λ _. text.new.items ≡ text.old.items ++ side_told ranks placement.now colour) }
 {
     let kings = count_of(placement, colour, Kind::King);
-    push_no_king(text, colour, kings)?;
+    push_missed_king(text, ranks, colour, kings)?;
     push_kings(text, colour, kings)?;
     push_many(text, colour, side_count(placement, colour))
 }
@@ -130,8 +150,8 @@ pub(crate) fn push_men(
 ) -> Result<(), AllocError>
     ensures { IfOk result (λ _. text.new.items ≡ text.old.items ++ men_told placement.now (map (λ r. r.now) ranks.now)) }
 {
-    push_side(text, placement, Colour::White)?;
-    push_side(text, placement, Colour::Black)?;
+    push_side(text, ranks.len(), placement, Colour::White)?;
+    push_side(text, ranks.len(), placement, Colour::Black)?;
     push_pawns(text, ranks, 7)?;
     push_pawns(text, ranks, 0)
 }
