@@ -39,8 +39,3 @@ long_mark clear prefix default number line text n mark filled long verdict sourc
     rw (verdict, source) (filled, (prefix ++ decimal number, row, no_record fault faulty, refl))
 long_mark clear prefix default number line text n mark filled long verdict unsaid (told row other from some (of_record r source own called reads is by)) =
     absurd (clear line _ r reads fault.TooLong long)
-
--- What it is counted as doesn't change with the place.
-pub same_marks : (default bound : ℕ) → default ≡ bound → (line : List ℕ) (mark : Option LineVerdict) → IsCountedAs bound line mark
-    → IsCountedAs default line mark
-same_marks default bound is line mark counts = subst (λ d. IsCountedAs d line mark) (sym is) counts
