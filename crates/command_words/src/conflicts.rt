@@ -178,11 +178,7 @@ struct GoesAlone(&'static str, &'static str, &'static str);
 
 /// All such options. `clap` knows none of them in a command over lines.
 static GO_ALONE: [GoesAlone; 5] = [
-    GoesAlone(
-        "look --lines",
-        "--svg",
-        "look --svg goes without --lines",
-    ),
+    GoesAlone("look --lines", "--svg", "look --svg goes without --lines"),
     GoesAlone(
         "moves --lines",
         "--json",
@@ -193,11 +189,7 @@ static GO_ALONE: [GoesAlone; 5] = [
         "--coordinates",
         "moves --coordinates goes without --lines",
     ),
-    GoesAlone(
-        "moves --lines",
-        "--fen",
-        "moves --fen goes without --lines",
-    ),
+    GoesAlone("moves --lines", "--fen", "moves --fen goes without --lines"),
     GoesAlone(
         "perft --lines",
         "--divide",
