@@ -12,6 +12,6 @@ pub fn is_two_mover(text: &[u8]) -> bool
 {
     match moves_asked(text) {
         Asked::Moves(moves) => moves == 2,
-        Asked::Nothing | Asked::Two => false,
+        Asked::Nothing | Asked::Two | Asked::Unknown => false,
     }
 }

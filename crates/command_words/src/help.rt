@@ -329,12 +329,14 @@ stand in one file in any mixture:
     `1.Bg2-h1`, `0-0` or `f8(R)`, which become SAN. A number of moves, as `#2`, `2#` or `White
     mates in two`, becomes `dm N`: in `bm`, words, comments, or in `id`. A line that is a record
     and wants none of this is printed as it is
-  - lines that begin with `#`, `%` or `;`: dropped, as empty ones are
+  - lines that begin with `%`, `;`, or `#` and a space: dropped, as empty ones are
   - games in PGN: the tag FEN makes the record, White, Black, Event, Round, Date and Annotator
     its id, and the first move the claim `bm`; the number of moves is said by Stipulation, else
     by White, Black, Event, Annotator, or a comment before the first move
   - Popeye's input, from BeginProblem to EndProblem, with stipulation `#N` or `N#`
   - files of Olive's (`.olv`): the keys that have a `!` there are the claim `bm`
+Words that speak of a mate, or of another aim, are a phrase that is understood whole, in one of
+eight languages, or the problem is refused as BadStipulation: `Selfmate`, `mate in 2 or 3`.
 Men may have other letters: --letters KDTLSB, or `de`, names those for king, queen, rook,
 bishop, knight and pawn, in positions and in moves.
 What can't be read is printed as `# line K: CODE`, by the line where it begins; `matedesk

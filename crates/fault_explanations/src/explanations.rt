@@ -485,11 +485,17 @@ which limits each record.",
 ];
 
 /// Of collections that are imported.
-static IMPORTS: [Explanation; 7] = [
+static IMPORTS: [Explanation; 9] = [
     Explanation {
         code: "NoFen",
         comes: "a game that is to be imported has no tag `FEN`",
         means: "Only a game that begins from a position of its own is a problem. The line is that of its first tag.",
+        example: None,
+    },
+    Explanation {
+        code: "TwoFens",
+        comes: "a game that is to be imported has two tags `FEN` that differ",
+        means: "Which of them is meant nobody can tell. Part two games by an empty line.",
         example: None,
     },
     Explanation {
@@ -506,14 +512,21 @@ static IMPORTS: [Explanation; 7] = [
     },
     Explanation {
         code: "BadStipulation",
-        comes: "a problem for Popeye, or of Olive's, has no stipulation, or one that isn't `#N` or `N#`; a game's `Stipulation` is no mate in N",
-        means: "Direct mates alone are solved here; `h#2` or `s#3` are not.",
+        comes: "a text speaks of an aim otherwise than a phrase for mate in N does; a problem for Popeye, or of Olive's, has no `#N` or `N#`",
+        means: "Direct mates alone are solved here; `h#2`, `Selfmate`, `mate in 2 or 3`, `mate in 2, Circe` are not. What
+isn't understood whole is refused: leave one phrase as `White to move and mate in 2`, or write `dm 2`.",
+        example: None,
+    },
+    Explanation {
+        code: "WrongSide",
+        comes: "a line, or a game, that is to be imported says of the side that isn't to move that it moves, or mates",
+        means: "One of the two is wrong: the second field of the FEN, or the words.",
         example: None,
     },
     Explanation {
         code: "FairyCondition",
-        comes: "a problem for Popeye, or of Olive's, has a condition",
-        means: "Whatever stands behind `Condition` changes the rules of chess.",
+        comes: "a problem for Popeye, or of Olive's, has a condition; a game's `Variant` is another than standard chess",
+        means: "Whatever stands there changes the rules of chess.",
         example: None,
     },
     Explanation {

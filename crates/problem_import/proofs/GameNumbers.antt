@@ -5,11 +5,13 @@ use Rattle.std.proofs.lemmas.List.{length-map}
 use Rattle.std.specs.Char.{to_ascii_lowercase}
 use Rattle.std.specs.Prelude.{codes}
 use Rattle.chess_notation.specs.Words.{word_at}
-use Rattle.stipulations.specs.Stipulations.{asked, both}
+use Rattle.stipulations.specs.Stipulations.{both}
 use Rattle.stipulations.specs.declared.asked.Asked.{Asked}
-use Rattle.stipulations.specs.declared.asked.Asked.TheVariants.{Nothing, Moves, Two}
-use Rattle.problem_import.specs.Sources.{annotator, black, event, stipulation, white}
-use Rattle.problem_import.specs.Sources.{GameSays, HasComment, HasTag, IsNamed, MaySay, SaysMoves, before_byte, behind_byte, value_from}
+use Rattle.stipulations.specs.declared.asked.Asked.TheVariants.{Nothing, Moves, Two, Unknown}
+use Rattle.problem_import.specs.Sources.{annotator, black, event, white}
+use Rattle.problem_import.specs.Sources.{by_name, by_sign, stipulated}
+use Rattle.problem_import.specs.Sources.{GameSays, HasComment, HasNames, HasTag, IsNamed, SaysMoves, TagAsks}
+use Rattle.problem_import.specs.Sources.{before_byte, behind_byte, value_from}
 use Rattle.problem_import.specs.declared.games.Game.{Game}
 use Rattle.problem_import.specs.inside.KnownSources.{AsksMore, CommentSays, EndsOne, KeepsAsked, KeepsFen, TagSays}
 use Rattle.problem_import.specs.TagPairs.{EndsText}
@@ -43,14 +45,19 @@ both_moves Nothing b n is = inr is
 both_moves (Moves m) Nothing n is = inl is
 both_moves (Moves m) (Moves k) n is = inl (moves_if (m == k) m k n is)
 both_moves (Moves m) Two n is = let no : Two ≡ Moves n = is in cc
-both_moves Two b n is = let no : Two ≡ Moves n = is in cc
+both_moves (Moves m) Unknown n is = let no : Unknown ≡ Moves n = is in cc
+both_moves Two Nothing n is = let no : Two ≡ Moves n = is in cc
+both_moves Two (Moves k) n is = let no : Two ≡ Moves n = is in cc
+both_moves Two Two n is = let no : Two ≡ Moves n = is in cc
+both_moves Two Unknown n is = let no : Unknown ≡ Moves n = is in cc
+both_moves Unknown b n is = let no : Unknown ≡ Moves n = is in cc
 
--- What a game asks and what a text does.
-pub asked_both : (Says : ℕ → Type 0) (text : List ℕ) (old : Game) (more all : Asked) → all ≡ both old.asked more → more ≡ asked text
-    → ((n : ℕ) → asked text ≡ Moves n → Says n)
+-- What a game asks and what a text does, as it is read.
+pub asked_both : (by : List ℕ → Asked) (Says : ℕ → Type 0) (text : List ℕ) (old : Game) (more all : Asked) → all ≡ both old.asked more
+    → more ≡ by text → ((n : ℕ) → by text ≡ Moves n → Says n)
     → ((n : ℕ) → all ≡ Moves n → (old.asked ≡ Moves n) ⊎ Says n)
     × ((n : ℕ) → old.stipulated ≡ Some (Moves n) → (old.stipulated ≡ Some (Moves n)) ⊎ Says n)
-asked_both Says text old more all is says each = (
+asked_both by Says text old more all is says each = (
   (λ n asks. either_way inl (λ it. inr (each n (sym says ∙ it))) (both_moves old.asked more n (sym is ∙ asks))),
   (λ n asks. inl asks),
 )
@@ -61,21 +68,17 @@ pub comment_longer : (rest text comment : List ℕ) → EndsText rest text → H
 comment_longer rest text comment (before, whole) (front, more, is, up) =
     (before ++ front, more, whole ∙ ap (λ t. before ++ t) is ∙ sym (append_assoc before front more), up)
 
-tag_longer : (rest text value : List ℕ) → EndsText rest text → HasTag MaySay rest value → HasTag MaySay text value
-tag_longer rest text value (before, whole) (front, pair, is, named, from) =
+tag_longer : (IsName : List ℕ → Type 0) (rest text value : List ℕ) → EndsText rest text → HasTag IsName rest value → HasTag IsName text value
+tag_longer IsName rest text value (before, whole) (front, pair, is, named, from) =
     (before ++ front, pair, whole ∙ ap (λ t. before ++ t) is ∙ sym (append_assoc before front (91 ∷ pair)), named, from)
 
-has_longer : (rest text value : List ℕ) → EndsText rest text → HasTag MaySay rest value ⊎ HasComment rest value
-    → HasTag MaySay text value ⊎ HasComment text value
-has_longer rest text value ends (inl tag) = inl (tag_longer rest text value ends tag)
-has_longer rest text value ends (inr comment) = inr (comment_longer rest text value ends comment)
-
 pub says_longer : (rest text : List ℕ) (n : ℕ) → EndsText rest text → SaysMoves rest n → SaysMoves text n
-says_longer rest text n ends (value, has, says) = (value, has_longer rest text value ends has, says)
+says_longer rest text n ends (value, inl tag) = (value, inl (tag_longer (λ name. TagAsks name value n) rest text value ends tag))
+says_longer rest text n ends (value, inr (has, says)) = (value, inr (comment_longer rest text value ends has, says))
 
 -- A comment of a text that stands at the end of another says so many.
 pub comment_says : (rest text : List ℕ) (n : ℕ) → EndsText rest text → CommentSays rest n → SaysMoves text n
-comment_says rest text n (front, is) says = (before_byte 125 rest, inr (front, rest, is, refl), says)
+comment_says rest text n (front, is) says = (before_byte 125 rest, inr ((front, rest, is, refl), says))
 
 -- So a game asks what it did, or what such a comment says, or the whole text.
 pub asks_on : (text rest : List ℕ) (a b c : Game) → EndsText rest text → AsksMore (SaysMoves text) a b → AsksMore (CommentSays rest) b c
@@ -95,19 +98,28 @@ other_name : (one other : List ℕ) (word : List ℕ) → (length one ≡ length
 other_name one other word long is also =
     long (sym (length-map one to_ascii_lowercase) ∙ ap length (sym is ∙ also) ∙ length-map other to_ascii_lowercase)
 
--- Such a tag isn't FEN.
-may_say_no_fen : (name : List ℕ) → MaySay name → IsNamed name (codes "FEN") → ⊥
-may_say_no_fen name (stipulation is) fen = other_name (codes "Stipulation") (codes "FEN") name (λ no. omega (arith, no)) is fen
-may_say_no_fen name (event is) fen = other_name (codes "Event") (codes "FEN") name (λ no. omega (arith, no)) is fen
-may_say_no_fen name (white is) fen = other_name (codes "White") (codes "FEN") name (λ no. omega (arith, no)) is fen
-may_say_no_fen name (black is) fen = other_name (codes "Black") (codes "FEN") name (λ no. omega (arith, no)) is fen
-may_say_no_fen name (annotator is) fen = other_name (codes "Annotator") (codes "FEN") name (λ no. omega (arith, no)) is fen
+-- Such tags aren't FEN.
+names_no_fen : (name : List ℕ) → HasNames name → IsNamed name (codes "FEN") → ⊥
+names_no_fen name (event is) fen = other_name (codes "Event") (codes "FEN") name (λ no. omega (arith, no)) is fen
+names_no_fen name (white is) fen = other_name (codes "White") (codes "FEN") name (λ no. omega (arith, no)) is fen
+names_no_fen name (black is) fen = other_name (codes "Black") (codes "FEN") name (λ no. omega (arith, no)) is fen
+names_no_fen name (annotator is) fen = other_name (codes "Annotator") (codes "FEN") name (λ no. omega (arith, no)) is fen
+
+asks_no_fen : (name value : List ℕ) (n : ℕ) → TagAsks name value n → IsNamed name (codes "FEN") → ⊥
+asks_no_fen name value n (stipulated is says) fen = other_name (codes "Stipulation") (codes "FEN") name (λ no. omega (arith, no)) is fen
+asks_no_fen name value n (by_sign is says) fen = other_name (codes "Black") (codes "FEN") name (λ no. omega (arith, no)) is fen
+asks_no_fen name value n (by_name is says) fen = names_no_fen name is fen
 
 -- A tag says so many, by its name and its value as it stands.
 pub tag_says : (line rest more name value taken : List ℕ) (n : ℕ) → EndsText rest line → rest ≡ 91 ∷ more → name ≡ word_at more
     → value ≡ value_from false (behind_byte 34 more) → ((IsNamed name (codes "FEN") → ⊥) → taken ≡ value) → TagSays name taken n → SaysMoves line n
-tag_says line rest more name value taken n (front, is) opens named from same (may, says) = (
+tag_says line rest more name value taken n (front, is) opens named from same says = (
   value,
-  inl (front, more, is ∙ ap (λ t. front ++ t) opens, subst MaySay named may, from),
-  ap asked (sym (same (may_say_no_fen name may))) ∙ says,
+  inl (
+    front,
+    more,
+    is ∙ ap (λ t. front ++ t) opens,
+    subst (λ word. TagAsks word value n) named (subst (λ v. TagAsks name v n) (same (asks_no_fen name taken n says)) says),
+    from,
+  ),
 )

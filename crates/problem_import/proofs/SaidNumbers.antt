@@ -4,10 +4,10 @@ use Rattle.std.specs.Prelude.{codes}
 use Rattle.std.specs.Str.{bytes_eq}
 use Rattle.chess_notation.specs.RecordFields.{behind_fields}
 use Rattle.chess_notation.specs.Words.{behind, word_at}
-use Rattle.stipulations.specs.Stipulations.{asked, both}
-use Rattle.stipulations.specs.Words.{words_of}
+use Rattle.stipulations.specs.Parts.{parts_of as parts_of_text}
+use Rattle.stipulations.specs.Stipulations.{asked, asked_by_name, both}
 use Rattle.stipulations.specs.declared.asked.Asked.{Asked}
-use Rattle.stipulations.specs.declared.asked.Asked.TheVariants.{Nothing, Moves, Two}
+use Rattle.stipulations.specs.declared.asked.Asked.TheVariants.{Nothing, Moves, Two, Unknown}
 use Rattle.problem_import.specs.Numbers.{asked_by, asked_by_id, asked_by_sign, asked_together, behind_number, bound_among, bound_of_word}
 use Rattle.problem_import.specs.Numbers.{parts_of, said, said_by}
 use Rattle.problem_import.proofs.TextParts.{behind_part}
@@ -16,6 +16,7 @@ both_nothing : (a : Asked) → both a Nothing ≡ a
 both_nothing Nothing = refl
 both_nothing (Moves n) = refl
 both_nothing Two = refl
+both_nothing Unknown = refl
 
 together_nothing : (by : List ℕ → Asked) → by [] ≡ Nothing → (a : Asked) → asked_together by a ([] ∷ []) ≡ a
 together_nothing by none a = ap (both a) none ∙ both_nothing a
@@ -35,11 +36,11 @@ pub no_sign : asked_by_sign [] ≡ Nothing
 no_sign = refl
 
 pub nothing_asked : asked_by [] ≡ Nothing
-unfolding word_at behind asked words_of
+unfolding word_at behind asked parts_of_text
 nothing_asked = refl
 
 pub nothing_by_id : asked_by_id [] ≡ Nothing
-unfolding word_at behind asked words_of
+unfolding word_at behind asked_by_name parts_of_text
 nothing_by_id = refl
 
 no_bound : bound_among ([] ∷ []) ≡ bound_among []

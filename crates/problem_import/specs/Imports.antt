@@ -14,20 +14,22 @@ use Rattle.problem_import.specs.Letters.{IsTextOf}
 use Rattle.problem_import.specs.Mendable.{has_clear_claims, has_nothing_to_mend}
 use Rattle.problem_import.specs.Numbers.{said}
 use Rattle.stipulations.specs.declared.asked.Asked.{Asked}
-use Rattle.stipulations.specs.declared.asked.Asked.TheVariants.{Nothing, Moves, Two}
+use Rattle.stipulations.specs.declared.asked.Asked.TheVariants.{Nothing, Moves, Two, Unknown}
 use Rattle.problem_import.specs.declared.changes.Change.{Change}
 use Rattle.problem_import.specs.declared.changes.Change.TheVariants.{Pgn, Popeye}
 use Rattle.problem_import.specs.declared.import_faults.ImportFault.{ImportFault}
-use Rattle.problem_import.specs.declared.import_faults.ImportFault.TheVariants.{Record, NoFen, NoBound, TwoBounds, BadStipulation}
-use Rattle.problem_import.specs.declared.import_faults.ImportFault.TheVariants.{FairyCondition, FairyPiece, UnknownCommand}
+use Rattle.problem_import.specs.declared.import_faults.ImportFault.TheVariants.{Record, NoFen, TwoFens, NoBound, TwoBounds, BadStipulation}
+use Rattle.problem_import.specs.declared.import_faults.ImportFault.TheVariants.{WrongSide, FairyCondition, FairyPiece, UnknownCommand}
 
 -- A fault prints as its name; that of a record as the record's.
 abbrev pub import_fault_name : ImportFault → List ℕ
 import_fault_name (Record fault) = epd_fault_name fault
 import_fault_name NoFen = codes "NoFen"
+import_fault_name TwoFens = codes "TwoFens"
 import_fault_name NoBound = codes "NoBound"
 import_fault_name TwoBounds = codes "TwoBounds"
 import_fault_name BadStipulation = codes "BadStipulation"
+import_fault_name WrongSide = codes "WrongSide"
 import_fault_name FairyCondition = codes "FairyCondition"
 import_fault_name FairyPiece = codes "FairyPiece"
 import_fault_name UnknownCommand = codes "UnknownCommand"
@@ -58,6 +60,7 @@ abbrev pub IsNumber : (given : Option ℕ) → (line : List ℕ) → Asked → �
 IsNumber given line (Moves m) n = n ≡ m
 IsNumber given line Nothing n = (IsRecord line × (n ≡ 3)) ⊎ ((¬ (IsRecord line)) × (given ≡ Some n))
 IsNumber given line Two n = ⊥
+IsNumber given line Unknown n = ⊥
 
 -- The record asks for the number of moves that what the line says does.
 abbrev pub HasNumberOf : Option ℕ → (line made : List ℕ) → Type 0

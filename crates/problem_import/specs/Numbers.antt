@@ -9,9 +9,9 @@ use Rattle.chess_board.specs.Fields.{digits_value}
 use Rattle.chess_notation.specs.Claims.{is_length}
 use Rattle.chess_notation.specs.RecordFields.{behind_fields, is_number}
 use Rattle.chess_notation.specs.Words.{behind, word_at}
-use Rattle.stipulations.specs.Stipulations.{asked, both}
+use Rattle.stipulations.specs.Stipulations.{asked, asked_by_name, both}
 use Rattle.stipulations.specs.declared.asked.Asked.{Asked}
-use Rattle.stipulations.specs.declared.asked.Asked.TheVariants.{Nothing, Moves, Two}
+use Rattle.stipulations.specs.declared.asked.Asked.TheVariants.{Nothing, Moves, Two, Unknown}
 
 -- ---- a text cut outside its strings
 
@@ -87,16 +87,16 @@ asked_together by others (text ∷ texts) = asked_together by (both others (by t
 abbrev pub has_signs : List ℕ → Bool
 has_signs opcode = bytes_eq opcode (codes "bm") || bytes_eq opcode (codes "ce")
 
--- by a sign among the operands of `bm` or `ce`, a comment, a sign at its head, or words
+-- by a sign among the operands of `bm` or `ce`, a comment, or words, at whose head a sign may stand
 abbrev pub asked_by : List ℕ → Asked
 asked_by operation =
     if has_signs (word_at operation) then asked_together asked_by_sign Nothing (parts_of (char " ") (behind operation))
     else (if is_comment (word_at operation) then asked (behind operation)
-    else (if is_length (word_at operation) then asked (word_at operation)
+    else (if is_length (word_at operation) then asked operation
     else (if is_free operation then asked operation else Nothing)))
 
 abbrev pub asked_by_id : List ℕ → Asked
-asked_by_id operation = if bytes_eq (word_at operation) (codes "id") then asked (behind operation) else Nothing
+asked_by_id operation = if bytes_eq (word_at operation) (codes "id") then asked_by_name (behind operation) else Nothing
 
 -- the number of `dm N` or `dm #N`; above 15 it is 16, which no record asks
 abbrev pub bound_of_word : List ℕ → ℕ
@@ -114,19 +114,29 @@ bound_among (operation ∷ operations) =
 abbrev pub behind_number : List ℕ → List ℕ
 behind_number text = if is_number (word_at text) then behind text else text
 
+-- what is asked, unless something beside it isn't understood
+abbrev pub beside : (aside asked : Asked) → Asked
+beside Nothing asked = asked
+beside (Moves n) asked = asked
+beside Two asked = asked
+beside Unknown asked = Unknown
+
 abbrev pub or_by_id : (others by_id : Asked) → Asked
 or_by_id Nothing by_id = by_id
-or_by_id (Moves n) by_id = Moves n
-or_by_id Two by_id = Two
+or_by_id (Moves n) by_id = beside by_id (Moves n)
+or_by_id Two by_id = beside by_id Two
+or_by_id Unknown by_id = beside by_id Unknown
 
-abbrev pub or_asked : Option ℕ → Asked → Asked
-or_asked None other = other
-or_asked (Some n) other = Moves n
+-- what is asked beside `dm`, if that is there: nothing that isn't understood
+abbrev pub or_asked : (dm : Option ℕ) → (others by_id : Asked) → Asked
+or_asked None others by_id = or_by_id others by_id
+or_asked (Some n) others by_id = beside others (Moves n)
 
--- the number of `dm`; where there is none what the operations say together; by `id` where these say none
+-- The number of `dm`, unless something among the other operations isn't understood; where there is none what these say together; by `id` where they
+-- say none.
 abbrev pub said_by : List (List ℕ) → Asked
-said_by operations = or_asked (bound_among operations)
-    (or_by_id (asked_together asked_by Nothing operations) (asked_together asked_by_id Nothing operations))
+said_by operations =
+    or_asked (bound_among operations) (asked_together asked_by Nothing operations) (asked_together asked_by_id Nothing operations)
 
 -- what the text of a line says by its operations, which stand behind its four fields and FEN's counters
 unfoldable pub said : List ℕ → Asked

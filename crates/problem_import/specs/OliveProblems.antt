@@ -29,14 +29,18 @@ is_of_men Black = true
 is_of_men Neutral = true
 is_of_men _ = false
 
--- Within twins and a solution any other key is one of theirs.
-abbrev pub keeps_keys : Section → Bool
-keeps_keys Twins = true
-keeps_keys Solution = true
-keeps_keys _ = false
-
 abbrev pub is_key : List ℕ → (name : List ℕ) → Bool
 is_key word name = bytes_eq word name
+
+-- what stands before play in a solution, as keys do elsewhere
+abbrev pub is_before_play : List ℕ → Bool
+is_before_play word = is_key word (codes "threat") || (is_key word (codes "threats") || is_key word (codes "but"))
+
+-- Within twins any other key is one of theirs; a solution is ended by one.
+abbrev pub keeps_key : Section → (word : List ℕ) → Bool
+keeps_key Twins word = true
+keeps_key Solution word = is_before_play word
+keeps_key _ word = false
 
 -- what stands behind a key, where such a section was before
 unfoldable pub section_of : (word : List ℕ) → (before : Section) → Section
@@ -54,7 +58,7 @@ section_of word before =
     else (if is_key word (codes "twins") then Twins
     else (if is_key word (codes "solution") then Solution
     else (if is_key word (codes "keywords") then Other
-    else (if keeps_keys before then before else Other)))))))))))))
+    else (if keeps_key before word then before else Other)))))))))))))
 
 -- the section that is open
 abbrev pub section_after : List Said → Section

@@ -1,6 +1,6 @@
 -- Where a record comes from that `import` prints (own to this project; games: PGN Specification, 8.1.1, 8.2 and 9.7.2).
 use Rattle.std.specs.Prelude.{◌≡◌, ◌≢◌, ◌≤◌, ◌<◌, ◌⊎◌, ◌==◌, ℕ, List, [], ◌∷◌, ◌++◌, map, codes, length, Contains}
-use Rattle.std.specs.Prelude.{Bool, true, false, ◌||◌, if◌then◌else◌, Option, Some}
+use Rattle.std.specs.Prelude.{Bool, true, false, ◌&&◌, ◌||◌, if◌then◌else◌, Option, Some}
 use Rattle.std.specs.Char.{to_ascii_lowercase}
 use Rattle.std.specs.Str.{bytes_eq}
 use Rattle.chess_board.specs.Characters.{char}
@@ -21,7 +21,8 @@ use Rattle.problem_import.specs.PopeyeProblems as popeye
 use Rattle.problem_import.specs.PopeyeProblems.{begins_next, command_of, has_end, is_begin, said_onto}
 use Rattle.problem_import.specs.SetUps.{IsSetBy}
 use Rattle.problem_import.specs.TagPairs.{begins_with, is_tag_pair}
-use Rattle.stipulations.specs.Stipulations.{asked}
+use Rattle.problem_import.specs.Numbers.{asked_by_sign}
+use Rattle.stipulations.specs.Stipulations.{asked, asked_by_name}
 use Rattle.stipulations.specs.declared.asked.Asked.TheVariants.{Moves}
 
 -- The words are the same, whatever the size of their letters.
@@ -47,13 +48,16 @@ HasTag IsName text value = (front pair : List ℕ) × (text ≡ front ++ char "[
 abbrev pub IsFenName : List ℕ → Type 0
 IsFenName name = IsNamed name (codes "FEN")
 
--- The tag may say a number of moves.
-pub data MaySay (name : List ℕ) : Type 0 where
-  stipulation : IsNamed name (codes "Stipulation") → MaySay name
-  event : IsNamed name (codes "Event") → MaySay name
-  white : IsNamed name (codes "White") → MaySay name
-  black : IsNamed name (codes "Black") → MaySay name
-  annotator : IsNamed name (codes "Annotator") → MaySay name
+-- The tag says what is asked.
+abbrev pub IsStipulation : List ℕ → Type 0
+IsStipulation name = IsNamed name (codes "Stipulation")
+
+-- The tag has names, among which a number of moves may be said.
+pub data HasNames (name : List ℕ) : Type 0 where
+  event : IsNamed name (codes "Event") → HasNames name
+  white : IsNamed name (codes "White") → HasNames name
+  black : IsNamed name (codes "Black") → HasNames name
+  annotator : IsNamed name (codes "Annotator") → HasNames name
 
 -- a value with English letters, without white space at its ends
 abbrev pub fen_read : Letters → List ℕ → List ℕ
@@ -72,9 +76,20 @@ before_byte byte (b ∷ bs) = if b == byte then [] else b ∷ before_byte byte b
 abbrev pub HasComment : (text comment : List ℕ) → Type 0
 HasComment text comment = (front more : List ℕ) × (text ≡ front ++ more) × (comment ≡ before_byte (char "}") more)
 
--- The text of a game says so many moves, in a tag that may or in a comment.
+-- The tag has the defender's name, in place of which the stipulation may stand as a sign: `#2`.
+abbrev pub IsBlack : List ℕ → Type 0
+IsBlack name = IsNamed name (codes "Black")
+
+-- The tag says so many moves by such a value.
+pub data TagAsks (name value : List ℕ) (n : ℕ) : Type 0 where
+  stipulated : IsStipulation name → asked value ≡ Moves n → TagAsks name value n
+  by_sign : IsBlack name → asked_by_sign value ≡ Moves n → TagAsks name value n
+  by_name : HasNames name → asked_by_name value ≡ Moves n → TagAsks name value n
+
+-- The text of a game says so many moves: in a tag or in a comment.
 abbrev pub SaysMoves : (text : List ℕ) → ℕ → Type 0
-SaysMoves text n = (value : List ℕ) × (HasTag MaySay text value ⊎ HasComment text value) × (asked value ≡ Moves n)
+SaysMoves text n = (value : List ℕ) × (HasTag (λ name. TagAsks name value n) text value
+    ⊎ (HasComment text value × (asked value ≡ Moves n)))
 
 -- ---- lines
 
@@ -90,9 +105,15 @@ AreUpTo lines own = (own ≡ lines) ⊎ ((last : List ℕ) × (lines ≡ own ++ 
 abbrev pub Says : (line text : List ℕ) → Type 0
 Says line text = IsTextOf line text × (¬ (IsRecord line))
 
+-- a space, or nothing
+abbrev pub is_apart : List ℕ → Bool
+is_apart [] = true
+is_apart (b ∷ bs) = b == char " "
+
+-- People put a problem aside so; `#2` is no remark.
 abbrev pub is_remark : List ℕ → Bool
 is_remark [] = false
-is_remark (b ∷ bs) = (b == char "#") || ((b == char "%") || (b == char ";"))
+is_remark (b ∷ bs) = ((b == char "#") && is_apart bs) || ((b == char "%") || (b == char ";"))
 
 -- Nothing is said in the line: it is blank, too long to be read, without a text, or a remark.
 pub data IsPassed (line : List ℕ) : Type 0 where

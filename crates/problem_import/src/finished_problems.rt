@@ -16,8 +16,10 @@ use crate::letters::AsciiLine;
 use crate::mending::mended_line;
 use crate::olive::OliveProblem;
 use crate::popeye::PopeyeProblem;
+use chess_board::Colour;
+use chess_notation::four_words;
 use std::alloc::{AllocError, Global};
-use stipulations::Asked;
+use stipulations::{Asked, says_side};
 
 /// How many moves a record is to ask that is made of a line which says none, and may be a record as it stands.
 fn number_unsaid(is_record: bool) -> Number
@@ -30,14 +32,26 @@ fn number_unsaid(is_record: bool) -> Number
     }
 }
 
-/// How many moves a record is to ask that is made of a line which says this, and may be a record as it stands; nothing where it says two.
-fn number_of(said: Asked, is_record: bool) -> Option<Number>
-    ensures { IfSome result (λ number. (line : List ℕ) → IsRecordIf is_record line → IsAsked line said number) }
+/// How many moves a record is to ask that is made of a line which says this, and may be a record as it stands; a fault where it says two
+/// numbers, or something that isn't understood.
+fn number_of(said: Asked, is_record: bool) -> Result<Number, ImportFault>
+    ensures { IfOk result (λ number. (line : List ℕ) → IsRecordIf is_record line → IsAsked line said number) }
 {
     match said {
-        Asked::Moves(moves) => Some(Number::Said(moves)),
-        Asked::Nothing => Some(number_unsaid(is_record)),
-        Asked::Two => None,
+        Asked::Moves(moves) => Ok(Number::Said(moves)),
+        Asked::Nothing => Ok(number_unsaid(is_record)),
+        Asked::Two => Err(ImportFault::TwoBounds),
+        Asked::Unknown => Err(ImportFault::BadStipulation),
+    }
+}
+
+/// Whether a line says in words of the side that isn't to move that it moves, or mates.
+fn says_other_side(line: &[u8]) -> bool {
+    let fields = four_words(line);
+    match fields.side {
+        b"w" => says_side(fields.behind, Colour::Black),
+        b"b" => says_side(fields.behind, Colour::White),
+        _ => false,
     }
 }
 
@@ -53,9 +67,12 @@ pub(crate) fn found_line(
 {
     let mut changes = line.changes;
     let mended = mended_line(alloc, line.text, &mut changes)?;
+    if !mended.is_by_dm && says_other_side(line.text) {
+        return Ok(Found::Fault(ImportFault::WrongSide));
+    }
     match number_of(mended.said, is_record) {
-        Some(number) => Ok(Found::Text(mended.text, changes, number)),
-        None => Ok(Found::Fault(ImportFault::TwoBounds)),
+        Ok(number) => Ok(Found::Text(mended.text, changes, number)),
+        Err(fault) => Ok(Found::Fault(fault)),
     }
 }
 
@@ -67,7 +84,7 @@ fn number_by_tags(asked: Asked) -> Number
 {
     match asked {
         Asked::Moves(moves) => Number::Said(moves),
-        Asked::Nothing | Asked::Two => Number::Unsaid,
+        Asked::Nothing | Asked::Two | Asked::Unknown => Number::Unsaid,
     }
 }
 

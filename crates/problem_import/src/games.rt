@@ -3,20 +3,22 @@
 
 ghost use Rattle.std.specs.Prelude.{◌≡◌, ◌⊎◌, ℕ, IfNone, IfOk, IsTrue, None, Some, codes, false, true};
 ghost use Rattle.chess_notation.specs.RecordFields.{line_fields};
-ghost use Rattle.problem_import.specs.Sources.{IsFenOf, IsNamed, MaySay, SaysMoves};
+ghost use Rattle.problem_import.specs.Sources.{HasNames, IsFenOf, IsNamed, SaysMoves};
 ghost use Rattle.problem_import.specs.inside.KnownSources.{AsksMore, KeepsAsked, TagSays};
 ghost use Rattle.problem_import.specs.TagPairs.{EndsText};
 
 use crate::changes::Changes;
 use crate::fields::has_fields;
 use crate::import_faults::ImportFault;
+use crate::lengths::asked_by_sign;
 use crate::operations::{is_said, push_bound_operation, push_id, push_id_operation};
 use crate::tag_pairs::{begins_with, take_value, value_read};
 use crate::texts::{cut_at, is_word, without_first};
-use chess_notation::word_at;
+use chess_board::Colour;
+use chess_notation::{four_words, word_at};
 use move_words::Letters;
 use std::alloc::{AllocError, Global};
-use stipulations::{Asked, moves_asked};
+use stipulations::{Asked, moves_asked, moves_named, says_side};
 
 /// What tag pairs, and movetext up to the first move, said so far, and the number of their first line.
 #[derive(Drop)]
@@ -32,6 +34,11 @@ pub(crate) struct Game {
     /// Whether the number before the first move says that it is Black's.
     pub(crate) is_blacks: bool,
     has_fen: bool,
+    /// The first thing for which it can't be read, beside what it asks.
+    fault: Option<ImportFault>,
+    /// Whether White is said to move, and whether Black is.
+    is_white_said: bool,
+    is_black_said: bool,
     /// What its tag `Stipulation` asks, if it has one, and what the others and the comments do.
     stipulated: Option<Asked>,
     pub(crate) asked: Asked,
@@ -45,14 +52,24 @@ pub(crate) struct Game {
     annotator: Vec<u8>,
 }
 
-/// Whether the value of a tag may say a number of moves.
-fn may_ask(name: &[u8]) -> bool
-    ensures { IsTrue result → MaySay name.now }
+/// Whether the value of a tag has names, among which a number of moves may be said.
+fn has_names(name: &[u8]) -> bool
+    ensures { IsTrue result → HasNames name.now }
 {
     is_word(name, "Event")
         || is_word(name, "White")
         || is_word(name, "Black")
         || is_word(name, "Annotator")
+}
+
+/// Whether the value of a tag `Variant` is chess.
+fn is_standard(value: &[u8]) -> bool {
+    !is_said(value)
+        || is_word(value, "Standard")
+        || is_word(value, "Standard Chess")
+        || is_word(value, "Chess")
+        || is_word(value, "Normal")
+        || is_word(value, "From Position")
 }
 
 impl Game {
@@ -71,6 +88,9 @@ impl Game {
             in_comment: false,
             is_blacks: false,
             has_fen: false,
+            fault: None,
+            is_white_said: false,
+            is_black_said: false,
             stipulated: None,
             asked: Asked::Nothing,
             fen: Vec::new(alloc),
@@ -83,6 +103,43 @@ impl Game {
         }
     }
 
+    /// Keeps a fault, unless there is an earlier one.
+    fn note(&mut self, fault: ImportFault)
+        ensures has { self.new.has_fen ≡ self.old.has_fen }
+        ensures fen { self.new.fen ≡ self.old.fen }
+        ensures asks { KeepsAsked self.old self.new }
+        ensures comment { self.new.in_comment ≡ self.old.in_comment }
+    {
+        if self.fault.is_none() {
+            self.fault = Some(fault);
+        }
+    }
+
+    /// Takes who is said to move.
+    pub(crate) fn take_sides(&mut self, text: &[u8])
+        ensures has { self.new.has_fen ≡ self.old.has_fen }
+        ensures fen { self.new.fen ≡ self.old.fen }
+        ensures asks { KeepsAsked self.old self.new }
+        ensures begun { self.new.is_begun ≡ self.old.is_begun }
+        ensures comment { self.new.in_comment ≡ self.old.in_comment }
+    {
+        if says_side(text, Colour::White) {
+            self.is_white_said = true;
+        }
+        if says_side(text, Colour::Black) {
+            self.is_black_said = true;
+        }
+    }
+
+    /// Whether the side that isn't to move is said to.
+    fn says_other_side(&self) -> bool {
+        match four_words(self.fen.as_slice()).side {
+            b"w" => self.is_black_said,
+            b"b" => self.is_white_said,
+            _ => false,
+        }
+    }
+
     /// Takes what a tag's value asks beside the others, where it may.
     fn take_asked(&mut self, name: &[u8], value: &[u8])
         ensures has { self.new.has_fen ≡ self.old.has_fen }
@@ -90,10 +147,23 @@ impl Game {
         ensures asks { AsksMore (TagSays name.now value.now) self.old self.new }
         ensures comment { self.new.in_comment ≡ self.old.in_comment }
     {
-        if !may_ask(name) {
+        if !has_names(name) {
             return;
         }
-        self.asked = self.asked.and(moves_asked(value));
+        self.asked = self.asked.and(moves_named(value));
+    }
+
+    /// Takes what a tag's value asks by a sign beside the others, where it may: where the defender stands, there may be the stipulation.
+    fn take_sign(&mut self, name: &[u8], value: &[u8])
+        ensures has { self.new.has_fen ≡ self.old.has_fen }
+        ensures fen { self.new.fen ≡ self.old.fen }
+        ensures asks { AsksMore (TagSays name.now value.now) self.old self.new }
+        ensures comment { self.new.in_comment ≡ self.old.in_comment }
+    {
+        if !is_word(name, "Black") {
+            return;
+        }
+        self.asked = self.asked.and(asked_by_sign(value));
     }
 
     /// Takes what a tag's value asks, where it may.
@@ -104,10 +174,15 @@ impl Game {
         ensures comment { self.new.in_comment ≡ self.old.in_comment }
     {
         self.take_asked(name, value);
+        self.take_sign(name, value);
         if !is_word(name, "Stipulation") || !is_said(value) {
             return;
         }
-        self.stipulated = Some(moves_asked(value));
+        let asked = moves_asked(value);
+        self.stipulated = match self.stipulated {
+            Some(before) => Some(before.and(asked)),
+            None => Some(asked),
+        };
     }
 
     /// Takes the value of a tag that is told in `id`.
@@ -140,9 +215,15 @@ impl Game {
         ensures comment { self.new.in_comment ≡ self.old.in_comment }
     {
         if is_word(name, "FEN") {
+            if self.has_fen && self.fen != value {
+                self.note(ImportFault::TwoFens);
+            }
             self.has_fen = true;
             self.fen = value;
             return;
+        }
+        if is_word(name, "Variant") && !is_standard(value.as_slice()) {
+            self.note(ImportFault::FairyCondition);
         }
         self.take_number(name, value.as_slice());
         self.take_told(name, value);
@@ -177,13 +258,15 @@ impl Game {
         Ok(rest)
     }
 
-    /// What is asked: what `Stipulation` does, if it is there, else what the other tags and the comments do.
+    /// What is asked: what `Stipulation` does, if it is there, else what the other tags and the comments do; or that something in these isn't
+    /// understood.
     pub(crate) fn asks(&self) -> Asked
         ensures { (n : ℕ) → result ≡ Asked.Moves n → (self.now.asked ≡ Asked.Moves n) ⊎ (self.now.stipulated ≡ Some (Asked.Moves n)) }
     {
-        match self.stipulated {
-            Some(asked) => asked,
-            None => self.asked,
+        match (self.asked, self.stipulated) {
+            (Asked::Unknown, _) => Asked::Unknown,
+            (_, Some(asked)) => asked,
+            (asked, None) => asked,
         }
     }
 
@@ -194,11 +277,18 @@ impl Game {
         if !self.has_fen {
             return Some(ImportFault::NoFen);
         }
+        if let Some(fault) = self.fault {
+            return Some(fault);
+        }
+        if self.says_other_side() {
+            return Some(ImportFault::WrongSide);
+        }
         if let Some(Asked::Nothing) = self.stipulated {
             return Some(ImportFault::BadStipulation);
         }
         match self.asks() {
             Asked::Two => Some(ImportFault::TwoBounds),
+            Asked::Unknown => Some(ImportFault::BadStipulation),
             Asked::Nothing | Asked::Moves(_) => None,
         }
     }

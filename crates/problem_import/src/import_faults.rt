@@ -14,13 +14,18 @@ pub enum ImportFault {
     Record(EpdFault),
     /// A game has no `FEN` among its tags.
     NoFen,
+    /// A game has two that differ.
+    TwoFens,
     /// No number of moves is said.
     NoBound,
     /// Two numbers of moves are said.
     TwoBounds,
-    /// A problem of Popeye's has no stipulation, or another than `#N` and `N#`; or a game's is no mate in so many moves.
+    /// It speaks of an aim in words that aren't understood; or a problem of Popeye's or Olive's has no stipulation, or another than `#N` and `N#`;
+    /// or a game's is none.
     BadStipulation,
-    /// It has a condition.
+    /// It says that the other side moves.
+    WrongSide,
+    /// It has a condition, or is of another variant.
     FairyCondition,
     /// It has a man that is none of chess.
     FairyPiece,
@@ -36,9 +41,11 @@ impl ImportFault {
         match self {
             ImportFault::Record(fault) => fault.code(),
             ImportFault::NoFen => "NoFen",
+            ImportFault::TwoFens => "TwoFens",
             ImportFault::NoBound => "NoBound",
             ImportFault::TwoBounds => "TwoBounds",
             ImportFault::BadStipulation => "BadStipulation",
+            ImportFault::WrongSide => "WrongSide",
             ImportFault::FairyCondition => "FairyCondition",
             ImportFault::FairyPiece => "FairyPiece",
             ImportFault::UnknownCommand => "UnknownCommand",

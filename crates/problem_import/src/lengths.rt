@@ -3,7 +3,7 @@
 ghost use Rattle.std.specs.Prelude.{◌≡◌, IfSome, drop, if◌then◌else◌, min};
 ghost use Rattle.chess_board.specs.Fields.{digits_value};
 ghost use Rattle.chess_notation.specs.Claims.{is_length as is_length_word};
-ghost use Rattle.problem_import.specs.Numbers.{bound_of_word as bound_of_text};
+ghost use Rattle.problem_import.specs.Numbers.{asked_by_sign as asked_by_sign_of, bound_of_word as bound_of_text};
 ghost use Rattle.stipulations.specs.Stipulations.{asked};
 
 use crate::texts::{are_digits, is_word, trimmed, without_first};
@@ -75,7 +75,18 @@ pub(crate) fn moves_signed(word: &[u8]) -> Option<u8>
     }
     match moves_asked(word) {
         Asked::Moves(moves) => Some(moves),
-        Asked::Nothing | Asked::Two => None,
+        Asked::Nothing | Asked::Two | Asked::Unknown => None,
+    }
+}
+
+/// What a word asks that is a sign, as `#2`.
+pub(crate) fn asked_by_sign(word: &[u8]) -> Asked
+    ensures { result ≡ asked_by_sign_of word.now }
+{
+    if is_length(word) {
+        moves_asked(word)
+    } else {
+        Asked::Nothing
     }
 }
 

@@ -15,10 +15,10 @@ use byte_streams::NoMemory;
 use chess_board::Position;
 use chess_moves::Rays;
 use chess_notation::{
-    Bound, EpdFault, claimed_moves, claims_text, read_record, records_clear, says_one,
+    Bound, EpdFault, claimed_moves, claims_text, four_words, read_record, records_clear, says_one,
 };
 use std::alloc::Global;
-use stipulations::speaks_of_mate;
+use stipulations::speaks_of_aim;
 
 /// A record that a line is.
 #[derive(Clone, Copy)]
@@ -240,7 +240,7 @@ fn kind_of_record(
     ensures other { IfOk result (λ kind. kind ≢ LineKind.Other) }
     ensures mendable { IfOk result (λ kind. kind ≡ LineKind.Mendable → ¬ (IsClean line.now)) }
 {
-    if !have_no_mendable(line) || speaks_of_mate(line) {
+    if !have_no_mendable(line) || speaks_of_aim(four_words(line).behind) {
         return Ok(LineKind::Mendable);
     }
     if have_clear_claims(alloc, rays, line, position)? {

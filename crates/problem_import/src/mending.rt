@@ -6,7 +6,7 @@ ghost use Rattle.chess_notation.specs.RecordFields.{line_fields};
 ghost use Rattle.chess_notation.specs.Words.{behind, word_at as word_of_text};
 ghost use Rattle.problem_import.specs.Numbers.{asked_by as asked_by_operation, asked_by_id as asked_by_id_of};
 ghost use Rattle.problem_import.specs.Numbers.{asked_by_sign as asked_by_sign_of};
-ghost use Rattle.problem_import.specs.Numbers.{asked_together, bound_among, bound_of_word as bound_of_text, has_moves as does_have_moves};
+ghost use Rattle.problem_import.specs.Numbers.{asked_together, beside as beside_asked, bound_among, bound_of_word as bound_of_text, has_moves as does_have_moves};
 ghost use Rattle.problem_import.specs.Numbers.{has_signs as does_have_signs};
 ghost use Rattle.problem_import.specs.Numbers.{has_string as does_have_string};
 ghost use Rattle.problem_import.specs.Numbers.{is_comment as is_comment_opcode, is_free as is_free_operation, or_by_id as other_or_by_id};
@@ -15,13 +15,13 @@ ghost use Rattle.problem_import.specs.Numbers.{said_by};
 
 use crate::changes::Changes;
 use crate::fields::{behind_counters, push_counters, text_before};
-use crate::lengths::{bound_of_word, is_length, length_digits, mate_digits};
+use crate::lengths::{asked_by_sign, bound_of_word, is_length, length_digits, mate_digits};
 use crate::operations::push_bound_operation;
 use crate::texts::{is_same, push_byte, trimmed};
 use crate::tokens::{Kind, Token, part_at, segment_at, token_at};
 use chess_notation::{four_words, word_at};
 use std::alloc::{AllocError, Global};
-use stipulations::{Asked, moves_asked};
+use stipulations::{Asked, moves_asked, moves_named};
 
 /// A record that is made of a line.
 #[derive(Drop)]
@@ -110,17 +110,6 @@ fn is_free(segment: &[u8]) -> bool
         && !is_same(opcode, "ce")
 }
 
-/// What a word asks that is a sign, as `#2`.
-fn asked_by_sign(word: &[u8]) -> Asked
-    ensures { result ≡ asked_by_sign_of word.now }
-{
-    if is_length(word) {
-        moves_asked(word)
-    } else {
-        Asked::Nothing
-    }
-}
-
 /// What the words among operands ask by a sign that stands alone, as `#2` among claimed keys.
 fn asked_by_signs(operands: &[u8]) -> Asked
     ensures { result ≡ asked_together asked_by_sign_of Asked.Nothing (parts_of 32 operands.now) }
@@ -141,7 +130,7 @@ fn has_signs(opcode: &[u8]) -> bool
     is_same(opcode, "bm") || is_same(opcode, "ce")
 }
 
-/// What stands between two semicolons asks: by `bm`, `ce`, a comment, a sign at its head, or words.
+/// What stands between two semicolons asks: by `bm`, `ce`, a comment, or words, at whose head a sign may stand.
 fn asked_by_segment(segment: &[u8]) -> Asked
     ensures { result ≡ asked_by_operation segment.now }
 {
@@ -150,9 +139,7 @@ fn asked_by_segment(segment: &[u8]) -> Asked
         asked_by_signs(operands)
     } else if is_comment(opcode) {
         moves_asked(operands)
-    } else if is_length(opcode) {
-        moves_asked(opcode)
-    } else if is_free(segment) {
+    } else if is_length(opcode) || is_free(segment) {
         moves_asked(segment)
     } else {
         Asked::Nothing
@@ -165,9 +152,19 @@ fn asked_by_id(segment: &[u8]) -> Asked
 {
     let (opcode, operands) = word_at(segment);
     if is_same(opcode, "id") {
-        moves_asked(operands)
+        moves_named(operands)
     } else {
         Asked::Nothing
+    }
+}
+
+/// What is asked, unless something beside it isn't understood.
+fn beside(aside: Asked, asked: Asked) -> Asked
+    ensures { result ≡ beside_asked aside asked }
+{
+    match aside {
+        Asked::Unknown => Asked::Unknown,
+        Asked::Nothing | Asked::Moves(_) | Asked::Two => asked,
     }
 }
 
@@ -177,33 +174,44 @@ fn or_by_id(others: Asked, by_id: Asked) -> Asked
 {
     match others {
         Asked::Nothing => by_id,
-        Asked::Moves(_) | Asked::Two => others,
+        Asked::Moves(_) | Asked::Two | Asked::Unknown => beside(by_id, others),
     }
 }
 
-/// What operations ask elsewhere than in `dm`; where the others say nothing, by `id`.
+/// What operations ask together elsewhere than in `dm` and `id`.
 fn asked_in(operations: &[u8]) -> Asked
-    ensures { result ≡ other_or_by_id (asked_together asked_by_operation Asked.Nothing (parts_of 59 operations.now))
-        (asked_together asked_by_id_of Asked.Nothing (parts_of 59 operations.now)) }
+    ensures { result ≡ asked_together asked_by_operation Asked.Nothing (parts_of 59 operations.now) }
 {
     let mut rest = operations;
     let mut asked = Asked::Nothing;
-    let mut by_id = Asked::Nothing;
     while let Some(segment) = part_at(rest, b';') {
         asked = asked.and(asked_by_segment(segment.text));
-        by_id = by_id.and(asked_by_id(segment.text));
         rest = segment.rest;
     }
-    or_by_id(asked, by_id)
+    asked
 }
 
-/// The number of moves that operations say: that of `dm`, or else what they ask.
+/// What they ask together by `id`.
+fn asked_by_ids(operations: &[u8]) -> Asked
+    ensures { result ≡ asked_together asked_by_id_of Asked.Nothing (parts_of 59 operations.now) }
+{
+    let mut rest = operations;
+    let mut asked = Asked::Nothing;
+    while let Some(segment) = part_at(rest, b';') {
+        asked = asked.and(asked_by_id(segment.text));
+        rest = segment.rest;
+    }
+    asked
+}
+
+/// The number of moves that operations say: that of `dm`, or else what they ask; or that something in them isn't understood.
 fn said_in(operations: &[u8]) -> Asked
     ensures { result ≡ said_by (parts_of 59 operations.now) }
 {
+    let asked = asked_in(operations);
     match bound_in(operations) {
-        Some(moves) => Asked::Moves(moves),
-        None => asked_in(operations),
+        Some(moves) => beside(asked, Asked::Moves(moves)),
+        None => or_by_id(asked, asked_by_ids(operations)),
     }
 }
 
@@ -231,6 +239,11 @@ fn without_marks(word: &[u8]) -> &[u8] {
         }
     }
     word
+}
+
+/// Whether a word is marked as a try, as `Bf1?`: what it names is no key.
+fn is_try(word: &[u8]) -> bool {
+    word.contains(&b'?')
 }
 
 impl Mending<'_> {
@@ -298,11 +311,12 @@ impl Mending<'_> {
         Ok(())
     }
 
-    /// Adds the keys that are claimed; the first number of moves among them is a bound, where there is none.
+    /// Adds the keys that are claimed, but no tries; the first number of moves among them is a bound, where there is none.
     fn push_keys(&mut self, operands: &[u8]) -> Result<(), AllocError> {
         let before = self.text.len();
         self.text.extend_from_slice(b" bm")?;
         let mut has_keys = false;
+        let mut has_tries = false;
         let mut bound: &[u8] = &[];
         let mut rest = operands;
         for _ in 0..operands.len() {
@@ -314,6 +328,10 @@ impl Mending<'_> {
                     bound = digits;
                     self.is_bound = true;
                 }
+                _ if matches!(token.kind, Kind::Word) && is_try(token.text) => {
+                    has_tries = true;
+                    self.changes.marks = true;
+                }
                 _ => {
                     has_keys = true;
                     self.push_move(&token)?;
@@ -321,7 +339,7 @@ impl Mending<'_> {
             }
             rest = token.rest;
         }
-        if has_keys || bound.is_empty() {
+        if has_keys || (bound.is_empty() && !has_tries) {
             self.text.push(b';')?;
         } else {
             self.text.truncate(before);
@@ -372,9 +390,8 @@ impl Mending<'_> {
         let (first, behind) = word_at(segment);
         let is_more = self.is_bound;
         match length_digits(first) {
-            Some(digits) if !is_more => {
-                self.push_bound(digits)?;
-                return self.push_operation(behind);
+            Some(digits) if !is_more && trimmed(behind).is_empty() => {
+                return self.push_bound(digits);
             }
             Some(_) => return self.push_words(segment),
             None => {}
@@ -429,6 +446,8 @@ pub(crate) struct Mended {
     pub(crate) text: Vec<u8>,
     /// The number of moves that the line says.
     pub(crate) said: Asked,
+    /// Whether an operation `dm` says it.
+    pub(crate) is_by_dm: bool,
 }
 
 /// A line in printable ASCII, mended. One that has fewer words than a position has fields stays as it is.
@@ -444,7 +463,11 @@ pub(crate) fn mended_line(
     let said = said_in(behind_counters(fields.behind));
     if fields.target.is_empty() {
         let text = Vec::from_slice(alloc, line)?;
-        return Ok(Mended { text, said });
+        return Ok(Mended {
+            text,
+            said,
+            is_by_dm: false,
+        });
     }
     let mut mending = Mending {
         alloc,
@@ -454,10 +477,15 @@ pub(crate) fn mended_line(
         comments: 0,
     };
     let operations = push_counters(&mut mending.text, fields.behind)?;
-    mending.is_bound = bound_in(operations).is_some();
+    let is_by_dm = bound_in(operations).is_some();
+    mending.is_bound = is_by_dm;
     mending.comments = next_comment(operations);
     mending.push_operations(operations)?;
     mending.push_asked(said)?;
     let mended = text_before(alloc, &fields, mending.text.as_slice())?;
-    Ok(Mended { text: mended, said })
+    Ok(Mended {
+        text: mended,
+        said,
+        is_by_dm,
+    })
 }

@@ -33,10 +33,40 @@ fn move_word(text: &[u8]) -> (&[u8], &[u8])
     (text, &[])
 }
 
-/// Whether what stands behind a move blames it: a mark `$2`, `$4`, `$5` or `$6`.
+/// What stands behind a comment in braces, where a text begins with one that ends in it; else the text.
+fn after_braces(text: &[u8]) -> &[u8] {
+    if begins_with(b'{', text) {
+        cut_at(text, b'}').1
+    } else {
+        text
+    }
+}
+
+/// Whether a word blames the move before it: `$2`, `$4`, `$5`, `$6`, or one with `?`.
+fn blames(word: &[u8]) -> bool {
+    matches!(word, [b'$', b'2' | b'4'..=b'6']) || word.contains(&b'?')
+}
+
+/// Whether a word is a mark of a move: `$1`, `!`, `?`.
+fn is_mark(word: &[u8]) -> bool {
+    matches!(word, [b'$' | b'!' | b'?', ..])
+}
+
+/// Whether one of the marks behind a move blames it, between which comments may stand.
 fn is_blamed(behind: &[u8]) -> bool {
-    let (mark, _) = move_word(behind.trim_ascii_start());
-    matches!(mark, [b'$', b'2' | b'4'..=b'6'])
+    let mut rest = behind;
+    for _ in 0..behind.len() {
+        let text = after_braces(rest.trim_ascii_start());
+        let (word, more) = move_word(text.trim_ascii_start());
+        if blames(word) {
+            return true;
+        }
+        if !is_mark(word) && !begins_with(b'{', text.trim_ascii_start()) {
+            return false;
+        }
+        rest = if word.is_empty() { text } else { more };
+    }
+    false
 }
 
 /// Whether a word of movetext claims a key: it has the form of castling, or a letter and behind it a rank; and it isn't blamed.
@@ -93,6 +123,7 @@ impl Game {
         if self.is_begun {
             return behind;
         }
+        self.take_sides(comment);
         self.asked = self.asked.and(moves_asked(comment));
         behind
     }

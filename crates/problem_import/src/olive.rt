@@ -5,7 +5,7 @@ ghost use Rattle.std.specs.Prelude.{◌≡◌, [], List, IfOk, codes, if◌then�
 ghost use Rattle.std.specs.Str.{bytes_eq};
 ghost use Rattle.chess_notation.specs.Words.{words_in};
 ghost use Rattle.problem_import.specs.OliveProblems.{Said, asked_in, has_colon as has_a_colon, items_onto, key_onto, line_onto, man_on};
-ghost use Rattle.problem_import.specs.OliveProblems.{is_of_men as is_section_of_men, keeps_keys as does_keep_keys, section_of as section_of_key, value_of};
+ghost use Rattle.problem_import.specs.OliveProblems.{is_before_play as does_stand_before_play, is_of_men as is_section_of_men, keeps_key as does_keep_key, section_of as section_of_key, value_of};
 ghost use Rattle.problem_import.specs.OliveProblems.{without_mark as byte_without_mark};
 ghost use Rattle.problem_import.specs.inside.ReadProblems.{AreRead, IsNoted, KeepsItems, SetsUp, TakesItem};
 ghost use Rattle.stipulations.specs.declared.asked.Asked.TheVariants.{Moves};
@@ -190,11 +190,22 @@ fn is_of_men(section: Section) -> bool
     )
 }
 
-/// Whether any other key is one of the section's.
-fn keeps_keys(section: Section) -> bool
-    ensures { result ≡ does_keep_keys section }
+/// Whether a word stands before play in a solution, as keys do elsewhere.
+fn is_before_play(word: &[u8]) -> bool
+    ensures { result ≡ does_stand_before_play word.now }
 {
-    matches!(section, Section::Twins | Section::Solution)
+    is_same(word, "threat") || is_same(word, "threats") || is_same(word, "but")
+}
+
+/// Whether any other key is one of the section's.
+fn keeps_key(section: Section, word: &[u8]) -> bool
+    ensures { result ≡ does_keep_key section word.now }
+{
+    match section {
+        Section::Twins => true,
+        Section::Solution => is_before_play(word),
+        _ => false,
+    }
 }
 
 /// What stands behind a key, where such a section was before.
@@ -229,7 +240,7 @@ fn section_of(key: &[u8], before: Section) -> Section
         Section::Solution
     } else if is_same(key, "keywords") {
         Section::Other
-    } else if keeps_keys(before) {
+    } else if keeps_key(before, key) {
         before
     } else {
         Section::Other

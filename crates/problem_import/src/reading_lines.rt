@@ -8,7 +8,7 @@ ghost use Rattle.move_words.specs.declared.languages.Letters.{Letters as Letters
 ghost use Rattle.problem_import.specs.Imports.{IsRecord};
 ghost use Rattle.problem_import.specs.Letters.{IsTextOf};
 ghost use Rattle.problem_import.specs.PopeyeProblems.{said_onto};
-ghost use Rattle.problem_import.specs.Sources.{IsPopeyes, Says, begins_problem, is_remark as is_remark_text};
+ghost use Rattle.problem_import.specs.Sources.{IsPopeyes, Says, begins_problem, is_apart as is_text_apart, is_remark as is_remark_text};
 ghost use Rattle.problem_import.specs.TagPairs.{begins_with as begins_with_byte, is_tag_line, is_tag_pair as is_tag_pair_text};
 ghost use Rattle.problem_import.specs.inside.Findings.{AreFoundOf, IsRecordIf};
 ghost use Rattle.problem_import.specs.inside.KnownSources.{AreFrom, IsAt, IsHeld, IsKnown, IsMoved, IsOpenFrom, IsTagRead, IsWorded, Takes, TakesOn};
@@ -24,7 +24,7 @@ use crate::popeye::{Ending, PopeyeProblem};
 use crate::popeye_words::is_begin;
 use crate::reading::{Open, Reading};
 use crate::tag_pairs::{begins_with, is_tag_pair};
-use crate::texts::trimmed;
+use crate::texts::{are_digits, trimmed};
 use chess_notation::word_at;
 use std::alloc::{AllocError, Global};
 
@@ -39,11 +39,48 @@ fn begins_with_placement(text: &[u8]) -> bool {
     strokes >= 3
 }
 
+/// Whether a word is a placement, as far as its ranks and letters tell.
+fn is_placement(word: &[u8]) -> bool {
+    let mut strokes = 0_usize;
+    for byte in word {
+        match *byte {
+            b'/' => strokes = strokes.saturating_add(1),
+            b'1'..=b'8' | b'p' | b'n' | b'b' | b'r' | b'q' | b'k' => {}
+            b'P' | b'N' | b'B' | b'R' | b'Q' | b'K' => {}
+            _ => return false,
+        }
+    }
+    strokes == 7
+}
+
+/// Whether a text begins with a placement behind a number in brackets, as in a list: `[1] 8/..`.
+fn is_numbered(text: &[u8]) -> bool {
+    let (number, rest) = word_at(text);
+    match number {
+        [b'[', digits @ .., b']'] => are_digits(digits) && is_placement(word_at(rest).0),
+        _ => false,
+    }
+}
+
+/// Whether a text is empty, or begins with a space.
+fn is_apart(text: &[u8]) -> bool
+    ensures { result ≡ is_text_apart text.now }
+{
+    match text {
+        [first, ..] => *first == b' ',
+        [] => true,
+    }
+}
+
 /// Whether a line is dropped: what is behind such a sign is no problem.
 fn is_remark(text: &[u8]) -> bool
     ensures { result ≡ is_remark_text text.now }
 {
-    matches!(text, [b'#' | b'%' | b';', ..])
+    match text {
+        [b'#', behind @ ..] => is_apart(behind),
+        [first, ..] => *first == b'%' || *first == b';',
+        [] => false,
+    }
 }
 
 impl Reading {
@@ -241,7 +278,7 @@ impl Reading {
             self.begin_popeye(alloc, &behind, findings)?;
             return Ok(());
         }
-        if self.is_olives() {
+        if self.is_olives() && !is_placement(first) {
             self.take_olive(alloc, line, findings)?;
             return Ok(());
         }
@@ -294,6 +331,9 @@ impl Reading {
             → due self.old.open + length findings.old.items < due self.new.open + length findings.new.items) }
         ensures from { IfOk result (λ _. Takes line.now.number line.now.text.now self.old self.new findings.old.items findings.new.items) }
     {
+        if is_numbered(line.text) && !is_tag_pair(line.text) {
+            return self.take_record(alloc, line, false, findings);
+        }
         if begins_with(b'[', line.text) && (is_tag_pair(line.text) || !self.is_olives()) {
             return self.take_game(alloc, line, findings);
         }

@@ -1,2 +1,2 @@
 mod Cuts
-mod Alone
+mod Squeezed

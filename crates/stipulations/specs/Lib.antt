@@ -1,4 +1,10 @@
+pub mod Parts
 pub mod Words
 pub mod Numbers
+pub mod Patterns
+pub mod Phrases
+pub mod Signs
+pub mod Aims
 pub mod Stipulations
+pub mod Sides
 pub mod inside

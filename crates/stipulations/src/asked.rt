@@ -1,17 +1,19 @@
 //! What texts ask.
 
 ghost use Rattle.std.specs.Prelude.{◌≡◌};
-ghost use Rattle.stipulations.specs.Stipulations.{both as both_of, asked_by};
+ghost use Rattle.stipulations.specs.Stipulations.{asks_something as does_ask, both as both_of};
 
 /// What a text asks.
 #[derive(Clone, Copy, Debug, PartialEq, Eq)]
 pub enum Asked {
-    /// It says no number of moves.
+    /// It speaks of no aim.
     Nothing,
     /// A mate in so many moves.
     Moves(u8),
     /// It says two numbers of moves.
     Two,
+    /// It speaks of an aim in words that aren't understood.
+    Unknown,
 }
 
 impl Asked {
@@ -21,19 +23,17 @@ impl Asked {
     {
         match (self, other) {
             (Asked::Nothing, _) => other,
+            (Asked::Unknown, _) | (_, Asked::Unknown) => Asked::Unknown,
             (Asked::Moves(_), Asked::Nothing) => self,
             (Asked::Moves(m), Asked::Moves(n)) if m == n => self,
             (Asked::Moves(_), _) | (Asked::Two, _) => Asked::Two,
         }
     }
 
-    /// What such a number asks: no mate takes no move.
-    pub(crate) fn by(moves: Option<u8>) -> Asked
-        ensures { result ≡ asked_by moves }
+    /// Whether it is anything.
+    pub(crate) fn asks_something(self) -> bool
+        ensures { result ≡ does_ask self }
     {
-        match moves {
-            Some(0) | None => Asked::Nothing,
-            Some(moves) => Asked::Moves(moves),
-        }
+        !matches!(self, Asked::Nothing)
     }
 }

@@ -1,12 +1,22 @@
 //! Stipulations: mates in so many moves, as magazines print them.
 //!
-//! A text here is ASCII. To read: `specs/Stipulations.antt`, and `stipulations`, over `words`, `numbers` and `asked`.
+//! A text is bytes, mostly ASCII. It is cut into parts; a part that is a whole phrase, in one of eight languages or in signs, says a number
+//! of moves, and one that speaks of an aim in other words isn't understood. Nothing here knows a position. To read, each with its file in
+//! `specs/`: `stipulations`, what a text asks; `parts`, `phrases` over `patterns` and `numbers`, and `aims` over `words` and `signs`;
+//! `sides`, who is said to move; and `asked`. No call takes memory.
 #![tactic(auto)]
 
+mod aims;
 mod asked;
 mod numbers;
+mod parts;
+mod patterns;
+mod phrases;
+mod sides;
+mod signs;
 mod stipulations;
 mod words;
 
 pub use asked::Asked;
-pub use stipulations::{moves_asked, speaks_of_mate};
+pub use sides::says_side;
+pub use stipulations::{moves_asked, moves_named, speaks_of_aim};

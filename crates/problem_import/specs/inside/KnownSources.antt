@@ -13,7 +13,8 @@ use Rattle.stipulations.specs.declared.asked.Asked.TheVariants.{Moves}
 use Rattle.text_lines.specs.Replies.{LineReplies, RepliesBehind}
 use Rattle.problem_import.specs.Imports.{AreImported}
 use Rattle.problem_import.specs.PopeyeProblems.{has_end}
-use Rattle.problem_import.specs.Sources.{AreUpTo, GameSays, HasBrace, IsFenOf, IsGame, IsOlives, IsPopeyes, IsProblemIn, IsSourced, IsUnbroken, MaySay, Says, before_byte}
+use Rattle.problem_import.specs.Sources.{AreUpTo, GameSays, HasBrace, IsFenOf, IsGame, IsOlives, IsPopeyes, IsProblemIn, IsSourced, IsUnbroken, Says, before_byte}
+use Rattle.problem_import.specs.Sources.{TagAsks}
 use Rattle.problem_import.specs.declared.games.Game.{Game}
 use Rattle.problem_import.specs.declared.printing.ToldRecord.{ToldRecord}
 use Rattle.problem_import.specs.declared.printing.ToldRecord.TheVariants as told
@@ -69,7 +70,7 @@ KeepsAsked old new = (new.asked ≡ old.asked) × (new.stipulated ≡ old.stipul
 
 -- A tag of such a name and value says so many moves.
 abbrev pub TagSays : (name value : List ℕ) → ℕ → Type 0
-TagSays name value n = MaySay name × (asked value ≡ Moves n)
+TagSays name value n = TagAsks name value n
 
 -- What stands up to the next brace says so many.
 abbrev pub CommentSays : (text : List ℕ) → ℕ → Type 0

@@ -1,4 +1,3 @@
-use Rattle.std.proofs.Common.{refl}
 use Rattle.stipulations.proofs.Cuts.{words_cut, shorter}
 use Rattle.stipulations.proofs.words.cut_word.Goals as goal
 

@@ -40,6 +40,6 @@ returns-then-not-begins_with_placement-clause-from c = λ letters lines own line
     (λ game begun. known.unbroken game (omega (arith, count, c.requires.goes_on begun))) at says c.requires.tag known.held) before in
     ((c.take_movetext.ensures.letters ∙ known.by, of), all)
 
-pub returns-then-is_olives-clause-from : goal.returns-then-is_olives-clause-from
-returns-then-is_olives-clause-from c = λ letters lines own line (at, count) says known before.
+pub returns-then-not-is_placement-clause-from : goal.returns-then-not-is_placement-clause-from
+returns-then-not-is_placement-clause-from c = λ letters lines own line (at, count) says known before.
     c.in_ok-take_olive.ensures.from letters lines own line at says (known.by, known.held) before

@@ -1,9 +1,9 @@
 use Rattle.std.proofs.Common.{◌≡◌, length}
-use Rattle.stipulations.specs.Words.{words_of}
-use Rattle.stipulations.proofs.words.first_word.Given as goal
+use Rattle.stipulations.specs.Parts.{trimmed}
+use Rattle.stipulations.proofs.parts.trimmed.Given as goal
 
 abbrev pub invariant-loop-rest : goal.invariant-loop-rest
-invariant-loop-rest l = words_of l.rest ≡ words_of l.text
+invariant-loop-rest l = trimmed l.rest ≡ trimmed l.text
 
 abbrev pub decreases-loop-rest : goal.decreases-loop-rest
 decreases-loop-rest l = length l.rest

@@ -1,10 +1,10 @@
 use Rattle.std.proofs.Common.{◌≡◌, [], length}
-use Rattle.stipulations.specs.Stipulations.{speaks_behind}
+use Rattle.stipulations.specs.Aims.{say_mate_within}
 use Rattle.stipulations.specs.Words.{words_of}
-use Rattle.stipulations.proofs.stipulations.speaks_of_mate.Given as goal
+use Rattle.stipulations.proofs.aims.says_mate_within.Given as goal
 
 abbrev pub invariant-loop-before : goal.invariant-loop-before
-invariant-loop-before l = speaks_behind l.before (words_of l.rest) ≡ speaks_behind [] (words_of l.text)
+invariant-loop-before l = say_mate_within l.before (words_of l.rest) ≡ say_mate_within [] (words_of l.text)
 
 abbrev pub decreases-loop-before : goal.decreases-loop-before
 decreases-loop-before l = length l.rest

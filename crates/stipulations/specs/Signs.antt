@@ -1,0 +1,37 @@
+-- Where the sign of a mate stands: `#2`, `2#`, `h#2`, `-#4` (own to this project).
+use Rattle.std.specs.Prelude.{ℕ, ◌==◌, List, [], ◌∷◌, codes, Bool, false, is_some, ◌||◌, ◌&&◌}
+use Rattle.std.specs.Char.{is_ascii_alphabetic, is_ascii_digit}
+use Rattle.chess_board.specs.Characters.{char}
+use Rattle.stipulations.specs.declared.numbers.Language.TheVariants.{Signs}
+use Rattle.stipulations.specs.Parts.{begins_with, is_space}
+use Rattle.stipulations.specs.Patterns.{nothing, number_between}
+
+-- the sign of a mate directly before a digit
+abbrev pub has_sign_before_digit : (text : List ℕ) → Bool
+has_sign_before_digit [] = false
+has_sign_before_digit (b ∷ bs) = (b == char "#") && begins_with is_ascii_digit bs || has_sign_before_digit bs
+
+-- digits with that sign directly behind them
+abbrev pub is_digits_and_sign : (text : List ℕ) → Bool
+is_digits_and_sign [] = false
+is_digits_and_sign (b ∷ bs) = is_ascii_digit b && (begins_with (λ next. next == char "#") bs || is_digits_and_sign bs)
+
+-- such digits with a space or nothing before them
+abbrev pub has_digits_before_sign : (before : ℕ) → (text : List ℕ) → Bool
+has_digits_before_sign before [] = false
+has_digits_before_sign before (b ∷ bs) = is_space before && is_digits_and_sign (b ∷ bs) || has_digits_before_sign b bs
+
+abbrev pub fronts_of_answers : List (List ℕ)
+fronts_of_answers = codes "-#" ∷ codes "no mate in " ∷ []
+
+-- what is answered, and asks nothing: an engine's `-#4`, which says that it will be mated, and `no mate in 3`
+abbrev pub is_answer : (text : List ℕ) → Bool
+is_answer text = is_some (number_between Signs fronts_of_answers nothing text)
+
+abbrev pub is_letter_or_hyphen : ℕ → Bool
+is_letter_or_hyphen b = is_ascii_alphabetic b || (b == char "-")
+
+-- `h#2`, `s-#2`
+abbrev pub has_joined_sign : (before : ℕ) → (text : List ℕ) → Bool
+has_joined_sign before [] = false
+has_joined_sign before (b ∷ bs) = is_letter_or_hyphen before && (b == char "#") && begins_with is_ascii_digit bs || has_joined_sign b bs

@@ -1,0 +1,103 @@
+//! Where the sign of a mate stands in a text.
+
+ghost use Rattle.std.specs.Prelude.{◌≡◌, ◌==◌};
+ghost use Rattle.chess_board.specs.Characters.{char};
+ghost use Rattle.stipulations.specs.Parts.{begins_with, tidied};
+ghost use Rattle.stipulations.specs.Signs.{has_digits_before_sign as are_digits_before_sign, has_joined_sign as is_sign_joined};
+ghost use Rattle.stipulations.specs.Signs.{has_sign_before_digit as is_sign_before_digit, is_digits_and_sign as are_digits_and_sign};
+ghost use Rattle.stipulations.specs.Signs.{is_letter_or_hyphen as is_byte_of_joined, is_answer as is_text_of_answer};
+
+use crate::numbers::Language;
+use crate::parts::{begins_with_digit, trimmed};
+use crate::patterns::number_between;
+
+/// Whether the sign of a mate stands directly before a digit.
+pub(crate) fn has_sign_before_digit(text: &[u8]) -> bool
+    ensures { result ≡ is_sign_before_digit text.now }
+{
+    let mut rest = text;
+    while let [byte, more @ ..] = rest {
+        if *byte == b'#' && begins_with_digit(more) {
+            return true;
+        }
+        rest = more;
+    }
+    false
+}
+
+fn begins_with_sign(text: &[u8]) -> bool
+    ensures { result ≡ begins_with (λ next. next == char "#") text.now }
+{
+    match text {
+        [first, ..] => *first == b'#',
+        [] => false,
+    }
+}
+
+/// Whether a text begins with digits and the sign of a mate directly behind them.
+fn is_digits_and_sign(text: &[u8]) -> bool
+    ensures { result ≡ are_digits_and_sign text.now }
+{
+    let mut rest = text;
+    while let [byte, more @ ..] = rest {
+        if !byte.is_ascii_digit() {
+            return false;
+        }
+        if begins_with_sign(more) {
+            return true;
+        }
+        rest = more;
+    }
+    false
+}
+
+/// Whether such digits stand behind a space, or where the text begins.
+pub(crate) fn has_digits_before_sign(text: &[u8]) -> bool
+    ensures { result ≡ are_digits_before_sign (char " ") text.now }
+{
+    let mut before = b' ';
+    let mut rest = text;
+    while let [byte, more @ ..] = rest {
+        if before == b' ' && is_digits_and_sign(rest) {
+            return true;
+        }
+        before = *byte;
+        rest = more;
+    }
+    false
+}
+
+/// Whether a part is what is answered, and asks nothing: an engine's `-#4`, or `no mate in 3`.
+pub(crate) fn is_answer(part: &[u8]) -> bool
+    ensures { result ≡ is_text_of_answer (tidied part.now) }
+{
+    number_between(
+        Language::Signs,
+        &["-#", "no mate in "],
+        &[""],
+        trimmed(part),
+    )
+    .is_some()
+}
+
+fn is_letter_or_hyphen(byte: u8) -> bool
+    ensures { result ≡ is_byte_of_joined byte }
+{
+    byte.is_ascii_alphabetic() || byte == b'-'
+}
+
+/// Whether the sign of a mate stands between a letter or a hyphen and a digit.
+pub(crate) fn has_joined_sign(text: &[u8]) -> bool
+    ensures { result ≡ is_sign_joined (char " ") text.now }
+{
+    let mut before = b' ';
+    let mut rest = text;
+    while let [byte, more @ ..] = rest {
+        if is_letter_or_hyphen(before) && *byte == b'#' && begins_with_digit(more) {
+            return true;
+        }
+        before = *byte;
+        rest = more;
+    }
+    false
+}
