@@ -28,11 +28,13 @@ aims =
     ∷ codes "add" ∷ codes "adds" ∷ codes "remove" ∷ codes "removes" ∷ codes "twin" ∷ codes "twins" ∷ codes "twinning" ∷ codes "duplex"
     ∷ codes "win" ∷ codes "wins" ∷ codes "draw" ∷ codes "draws" ∷ []
 
--- conditions of fairy chess
+-- conditions and men of fairy chess
 abbrev pub conditions : List (List ℕ)
 conditions =
     codes "circe" ∷ codes "anticirce" ∷ codes "andernach" ∷ codes "madrasi" ∷ codes "maximummer" ∷ codes "minimummer" ∷ codes "grid"
-    ∷ codes "cylinder" ∷ codes "cylindrical" ∷ codes "patrol" ∷ codes "koko" ∷ codes "einstein" ∷ codes "alice" ∷ codes "isardam" ∷ []
+    ∷ codes "cylinder" ∷ codes "cylindrical" ∷ codes "patrol" ∷ codes "koko" ∷ codes "einstein" ∷ codes "alice" ∷ codes "isardam"
+    ∷ codes "koeko" ∷ codes "kobul" ∷ codes "masand" ∷ codes "provocation" ∷ codes "imitator" ∷ codes "berolina" ∷ codes "grasshopper"
+    ∷ codes "grasshoppers" ∷ codes "nightrider" ∷ codes "nightriders" ∷ codes "neutral" ∷ codes "atomic" ∷ codes "antichess" ∷ []
 
 -- the same in German, French, Spanish, Italian, Dutch and Russian
 abbrev pub foreign_aims : List (List ℕ)

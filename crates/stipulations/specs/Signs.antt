@@ -28,6 +28,16 @@ fronts_of_answers = codes "-#" ∷ codes "no mate in " ∷ []
 abbrev pub is_answer : (text : List ℕ) → Bool
 is_answer text = is_some (number_between Signs fronts_of_answers nothing text)
 
+-- where a word begins, in parentheses or not
+abbrev pub begins_word : (before : ℕ) → Bool
+begins_word before = is_space before || (before == char "(")
+
+-- `b)`, as twins are named: one letter, and behind it a parenthesis
+abbrev pub has_twin : (before : ℕ) → (text : List ℕ) → Bool
+has_twin before [] = false
+has_twin before (b ∷ bs) =
+    begins_word before && is_ascii_alphabetic b && begins_with (λ next. next == char ")") bs || has_twin b bs
+
 abbrev pub is_letter_or_hyphen : ℕ → Bool
 is_letter_or_hyphen b = is_ascii_alphabetic b || (b == char "-")
 

@@ -3,8 +3,10 @@ use Rattle.std.specs.Prelude.{ℕ, ◌==◌, List, [], ◌∷◌, Bool, true, fa
 use Rattle.stipulations.specs.declared.asked.Asked.{Asked}
 use Rattle.stipulations.specs.declared.asked.Asked.TheVariants.{Nothing, Moves, Two, Unknown}
 use Rattle.stipulations.specs.Aims.{speaks, speaks_plainly}
+use Rattle.chess_board.specs.Characters.{char}
 use Rattle.stipulations.specs.Parts.{parts_of, tidied}
 use Rattle.stipulations.specs.Phrases.{in_phrase, in_words}
+use Rattle.stipulations.specs.Signs.{has_twin}
 
 -- what two texts ask together: the same number, however often it is said, or two; what isn't understood may change all the rest
 abbrev pub both : Asked → Asked → Asked
@@ -34,8 +36,12 @@ abbrev pub asked_beside : (List ℕ → Asked) → (others : Asked) → (parts :
 asked_beside asks others [] = others
 asked_beside asks others (part ∷ parts) = asked_beside asks (both others (asks part)) parts
 
+-- twins are not understood
+abbrev pub asked_by_twins : (text : List ℕ) → Asked
+asked_by_twins text = if has_twin (char " ") text then Unknown else Nothing
+
 unfoldable pub asked : (text : List ℕ) → Asked
-asked text = asked_beside asked_by_part Nothing (parts_of text)
+asked text = asked_beside asked_by_part (asked_by_twins text) (parts_of text)
 
 unfoldable pub asked_by_name : (text : List ℕ) → Asked
 asked_by_name text = asked_beside asked_by_part_of_name Nothing (parts_of text)

@@ -46,7 +46,7 @@ static AIMS: [&str; 27] = [
     "draws",
 ];
 
-static CONDITIONS: [&str; 14] = [
+static CONDITIONS: [&str; 27] = [
     "circe",
     "anticirce",
     "andernach",
@@ -61,6 +61,19 @@ static CONDITIONS: [&str; 14] = [
     "einstein",
     "alice",
     "isardam",
+    "koeko",
+    "kobul",
+    "masand",
+    "provocation",
+    "imitator",
+    "berolina",
+    "grasshopper",
+    "grasshoppers",
+    "nightrider",
+    "nightriders",
+    "neutral",
+    "atomic",
+    "antichess",
 ];
 
 static FOREIGN_AIMS: [&str; 30] = [

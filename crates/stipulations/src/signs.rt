@@ -5,6 +5,7 @@ ghost use Rattle.chess_board.specs.Characters.{char};
 ghost use Rattle.stipulations.specs.Parts.{begins_with, tidied};
 ghost use Rattle.stipulations.specs.Signs.{has_digits_before_sign as are_digits_before_sign, has_joined_sign as is_sign_joined};
 ghost use Rattle.stipulations.specs.Signs.{has_sign_before_digit as is_sign_before_digit, is_digits_and_sign as are_digits_and_sign};
+ghost use Rattle.stipulations.specs.Signs.{begins_word as is_word_begun, has_twin as is_twin_named};
 ghost use Rattle.stipulations.specs.Signs.{is_letter_or_hyphen as is_byte_of_joined, is_answer as is_text_of_answer};
 
 use crate::numbers::Language;
@@ -78,6 +79,37 @@ pub(crate) fn is_answer(part: &[u8]) -> bool
         trimmed(part),
     )
     .is_some()
+}
+
+fn begins_word(before: u8) -> bool
+    ensures { result ≡ is_word_begun before }
+{
+    before == b' ' || before == b'('
+}
+
+fn begins_with_closing(text: &[u8]) -> bool
+    ensures { result ≡ begins_with (λ next. next == char ")") text.now }
+{
+    match text {
+        [first, ..] => *first == b')',
+        [] => false,
+    }
+}
+
+/// Whether a twin is named, as `b)`.
+pub(crate) fn has_twin(text: &[u8]) -> bool
+    ensures { result ≡ is_twin_named (char " ") text.now }
+{
+    let mut before = b' ';
+    let mut rest = text;
+    while let [byte, more @ ..] = rest {
+        if begins_word(before) && byte.is_ascii_alphabetic() && begins_with_closing(more) {
+            return true;
+        }
+        before = *byte;
+        rest = more;
+    }
+    false
 }
 
 fn is_letter_or_hyphen(byte: u8) -> bool
