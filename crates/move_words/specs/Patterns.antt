@@ -35,10 +35,14 @@ is_capture_sign (Some Captures) = true
 abbrev pub nowhere : Place
 nowhere = record { file = None; rank = None }
 
+-- There is no man's letter, and of the square that the man comes from the rank alone. No pawn is told so.
+abbrev pub is_told_by_rank : Option Kind → Place → Bool
+is_told_by_rank man from = not (is_some man) && is_some from.rank && not (is_some from.file)
+
 -- The second place is the target, and the first says where the man comes from; or the first is the target, and there is no second.
 abbrev pub going_of : Parts → Option Going
 going_of parts =
-    if not parts.is_ended then None
+    if not parts.is_ended || is_told_by_rank parts.man parts.first then None
     else (if is_square parts.second then Some (record {
       man = man_said parts.man parts.first;
       from = parts.first;
@@ -80,10 +84,18 @@ is_promotion_said (Some said) promotion = option_map_or (is_kind said) promotion
 abbrev pub captures : Setup → Man → Move → Bool
 captures p man m = not (is_empty p.men m.target) || is_en_passant p man m
 
+-- A pawn's capture is said, by its sign or by the file that the pawn comes from (FIDE Laws of Chess, appendix C); a piece's need not be.
+abbrev pub may_capture : Going → Kind → Bool
+may_capture going k = going.captures || is_some going.from.file || not (is_kind Pawn k)
+
+-- A move that captures is one that may, and of a move that does not no capture is said.
+abbrev pub fits_capture : Going → Kind → Bool → Bool
+fits_capture going k is_capture = if is_capture then may_capture going k else not going.captures
+
 abbrev pub fits_going : Setup → Going → Man → Move → Bool
 fits_going p going man m =
     is_kind_said going.man man.kind && is_at going.from m.origin && is_at going.to m.target
-    && (not going.captures || captures p man m) && is_promotion_said going.promotion m.promotion
+    && fits_capture going man.kind (captures p man m) && is_promotion_said going.promotion m.promotion
 
 abbrev pub is_towards : Wing → Move → Bool
 is_towards KingSide m = nat_lt m.origin m.target

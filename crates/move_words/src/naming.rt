@@ -54,7 +54,8 @@ fn named_by_pattern(rays: &Rays, position: &Position, pattern: &Pattern) -> Name
 
 /// The legal move that a word names as people write it: behind `1.`, or `1...` where Black is to move, castling by letters or digits, or a
 /// man's letter (none for a pawn, and none needed where both squares are said), from where and to where, with `-`, `x` or `:`
-/// between, what the pawn becomes, and signs behind. A capture that is said has to be one; signs behind may be wrong.
+/// between, what the pawn becomes, and signs behind. A capture that is said has to be one; signs behind may be wrong. A pawn's capture has
+/// to be said, by its sign or by the pawn's file, and no pawn is told by its rank alone: `a6` names no bxa6, and `2g4` nothing.
 #[tactic(auto, unfolding(crate::specs::Naming::named))]
 pub fn named_move(rays: &Rays, letters: &Letters, position: &Position, word: &[u8]) -> Named
     ensures named { result ≡ named_in letters.now position.now word.now }

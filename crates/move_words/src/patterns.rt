@@ -2,8 +2,9 @@
 
 ghost use Rattle.std.specs.Prelude.{◌≡◌};
 ghost use Rattle.move_words.specs.Patterns.{captures as does_capture, fits as does_fit, fits_going as does_fit_going, fits_man as does_fit_man};
-ghost use Rattle.move_words.specs.Patterns.{going_of as going_of_parts, is_kind_said as is_kind_of, is_towards as is_towards_wing};
-ghost use Rattle.move_words.specs.Patterns.{man_said as man_said_by, pattern_of as pattern_of_word};
+ghost use Rattle.move_words.specs.Patterns.{fits_capture as does_fit_capture, going_of as going_of_parts, is_kind_said as is_kind_of};
+ghost use Rattle.move_words.specs.Patterns.{is_told_by_rank as is_told_by_its_rank, is_towards as is_towards_wing, man_said as man_said_by};
+ghost use Rattle.move_words.specs.Patterns.{may_capture as may_be_capture, pattern_of as pattern_of_word};
 
 use crate::languages::Letters;
 use crate::letters::Sign;
@@ -17,7 +18,7 @@ pub struct Going {
     /// Which man, or any.
     pub man: Option<Kind>,
     pub from: Place,
-    /// Whether it captures; if not said so, it may.
+    /// Whether it captures; if not said so, it may, but a pawn only where its file is said.
     pub captures: bool,
     pub to: Place,
     /// What the pawn becomes, or anything.
@@ -42,11 +43,18 @@ fn man_said(man: Option<Kind>, from: Place) -> Option<Kind>
     }
 }
 
+/// Whether a man without a letter is told by its rank alone, as no pawn is.
+fn is_told_by_rank(man: Option<Kind>, from: Place) -> bool
+    ensures { result ≡ is_told_by_its_rank man from }
+{
+    man.is_none() && from.rank.is_some() && from.file.is_none()
+}
+
 /// What the parts of a word say: the second place is the target, or the first where nothing stands behind it.
 fn going_of(parts: Parts) -> Option<Going>
     ensures { result ≡ going_of_parts parts }
 {
-    if !parts.is_ended {
+    if !parts.is_ended || is_told_by_rank(parts.man, parts.first) {
         return None;
     }
     let captures = matches!(parts.sign, Some(Sign::Captures));
@@ -102,6 +110,25 @@ fn captures(position: &Position, man: Man, m: Move) -> bool
     position.man(m.target).is_some() || is_en_passant(position, man, m)
 }
 
+/// Whether a man of this kind may capture: a pawn's capture is said, by its sign or by the file that the pawn comes from (FIDE Laws of
+/// Chess, appendix C).
+fn may_capture(going: &Going, kind: Kind) -> bool
+    ensures { result ≡ may_be_capture going.now kind }
+{
+    going.captures || going.from.file.is_some() || kind != Kind::Pawn
+}
+
+/// Whether what is said of a capture is true of such a man's move, which captures or doesn't.
+fn fits_capture(going: &Going, kind: Kind, is_capture: bool) -> bool
+    ensures { result ≡ does_fit_capture going.now kind is_capture }
+{
+    if is_capture {
+        may_capture(going, kind)
+    } else {
+        !going.captures
+    }
+}
+
 /// Whether what is said is true of a man's move.
 fn fits_going(position: &Position, going: &Going, man: Man, m: Move) -> bool
     ensures { result ≡ does_fit_going position.now going.now man m }
@@ -109,7 +136,7 @@ fn fits_going(position: &Position, going: &Going, man: Man, m: Move) -> bool
     if !(is_kind_said(going.man, man.kind) && going.from.is_at(m.origin)) {
         return false;
     }
-    if !going.to.is_at(m.target) || going.captures && !captures(position, man, m) {
+    if !going.to.is_at(m.target) || !fits_capture(going, man.kind, captures(position, man, m)) {
         return false;
     }
     match going.promotion {
