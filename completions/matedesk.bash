@@ -16,10 +16,10 @@ _matedesk() {
     [[ $command != @(look|moves|perft) || " ${COMP_WORDS[*]:2:COMP_CWORD - 2} " != *' --lines '* ]] || command+=' --lines'
     case $command in
     solve) options='--bound --memo --memory --limit --workers --json --from --progress --record --fen -h --help' ;;
-    verify) options='--bound --memo --memory --limit --workers --import --header --json --from --progress --record --fen -h --help' ;;
+    verify) options='--bound --memo --memory --limit --workers --import --letters --fen-letters --header --json --from --progress --record --fen -h --help' ;;
     tree) options='--bound --moves --defences --set-play --tries --column --figurines --letters --lines --limit --workers --json --from --progress --record --fen -h --help' ;;
     sheet) options='--solutions --figurines --letters --title --bound --memo --memory -h --help' ;;
-    import) options='--keep --bound --letters -h --help' ;;
+    import) options='--keep --bound --letters --fen-letters -h --help' ;;
     serve) options='--workers --bound --memo --memory --progress -h --help' ;;
     look) options='--board --flip --svg --lines -h --help' ;;
     moves) options='--coordinates --fen --json --lines -h --help' ;;
@@ -30,7 +30,7 @@ _matedesk() {
     esac
     case $command,$before,$word in
     solve,--bound,* | verify,--bound,* | tree,--bound,* | tree,--moves,* | sheet,--bound,* | serve,--bound,*) mapfile -t COMPREPLY < <(compgen -W "$(echo {1..15})" -- "$word") ;;
-    tree,--letters,* | sheet,--letters,* | import,--letters,*) mapfile -t COMPREPLY < <(compgen -W 'cs da de en es et fi fr hu is it nl no pl pt ro ru sv' -- "$word") ;;
+    tree,--letters,* | sheet,--letters,* | import,--letters,* | verify,--letters,* | *,--fen-letters,*) mapfile -t COMPREPLY < <(compgen -W 'cs da de en es et fi fr hu is it nl no pl pt ro ru sv' -- "$word") ;;
     solve,--workers,* | verify,--workers,* | tree,--workers,* | serve,--workers,*) mapfile -t COMPREPLY < <(compgen -W "$(echo {1..16})" -- "$word") ;;
     solve,--memo,* | solve,--limit,* | verify,--memo,* | verify,--limit,* | tree,--lines,* | tree,--limit,* | sheet,--memo,* | sheet,--title,* | serve,--memo,* | *,--memory,* | *,--from,*) ;;
     'perft --lines,--lines,' | 'perft --lines,--lines,'[!-]*) mapfile -t COMPREPLY < <(compgen -W "$(echo {0..6})" -- "$word") ;;

@@ -51,7 +51,8 @@ complete -c matedesk -n '__fish_seen_subcommand_from perft' -l divide -d 'Count 
 complete -c matedesk -n '__fish_seen_subcommand_from look moves perft' -l lines -d 'Read files of positions'
 complete -c matedesk -n '__fish_seen_subcommand_from import' -l keep -d 'Tell in c9 what was changed'
 complete -c matedesk -n '__fish_seen_subcommand_from import' -l bound -x -a '(seq 1 15)' -d 'Moves of a problem that says no number'
-complete -c matedesk -n '__fish_seen_subcommand_from tree sheet import' -l letters -r -d 'Letters of men'
+complete -c matedesk -n '__fish_seen_subcommand_from tree sheet import verify' -l letters -r -d 'Letters of men'
+complete -c matedesk -n '__fish_seen_subcommand_from import verify' -l fen-letters -r -d 'Letters of men in FENs'
 complete -c matedesk -n '__fish_seen_subcommand_from solve verify tree sheet import serve replay' -F
 complete -c matedesk -n '__fish_seen_subcommand_from look moves perft; and string match -q -- --lines (commandline -opc)' -F
 complete -c matedesk -n '__fish_seen_subcommand_from perft; and test (count (string match -v -- "-*" (commandline -opc))) -eq 3' -a '(seq 0 6)' -d 'Depth'

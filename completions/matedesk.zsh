@@ -47,6 +47,8 @@ _matedesk() {
                 '--memo=[positions that are remembered]:positions: ' \
                 '--memory[memory for all that is remembered]:size: ' \
                 '--import[take problems as import does]' \
+                '--letters=[letters of men in moves]:letters:(cs da de en es et fi fr hu is it nl no pl pt ro ru sv)' \
+                '--fen-letters=[letters of men in FENs]:letters:(cs da de en es et fi fr hu is it nl no pl pt ro ru sv)' \
                 '--limit=[seconds that a record may take]:seconds: ' \
                 '--workers=[threads that take records side by side]:threads:(1 2 3 4 5 6 7 8 9 10 11 12 13 14 15 16)' \
                 '--header[print a first row of names]' \
@@ -92,7 +94,8 @@ _matedesk() {
             _arguments $help \
                 '--keep[tell in c9 what was changed]' \
                 '--bound=[moves within which a problem that says no number asks for mate]:bound:(1 2 3 4 5 6 7 8 9 10 11 12 13 14 15)' \
-                '--letters=[letters of men]:letters:(cs da de en es et fi fr hu is it nl no pl pt ro ru sv)' \
+                '--letters=[letters of men in moves]:letters:(cs da de en es et fi fr hu is it nl no pl pt ro ru sv)' \
+                '--fen-letters=[letters of men in FENs]:letters:(cs da de en es et fi fr hu is it nl no pl pt ro ru sv)' \
                 '*:collection:_files'
             ;;
         serve)

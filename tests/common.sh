@@ -12,10 +12,10 @@ find_program() {
     (($#)) || "$top/scripts/build" || exit
 }
 
-# Sets `room` to a new folder, which goes when the script ends.
+# Sets `room` to a new folder, which goes when the script ends. A job of the script that is killed before it has begun still has this trap.
 make_room() {
     room=$(mktemp -d) || exit
-    trap 'rm -rf -- "$room"' EXIT
+    trap '((BASHPID != $$)) || rm -rf -- "$room"' EXIT
 }
 
 # Prints lines of each kind: blank ones at both ends and within, records that end in each way, and bytes that no record has.

@@ -1,41 +1,34 @@
 //! A caller of `problem_import`.
 
-ghost use Rattle.std.specs.Prelude.{ℕ, List, IfOk, None, true};
+ghost use Rattle.std.specs.Prelude.{ℕ, List, IfOk, None, codes, true};
 ghost use Rattle.std.specs.Io.KnownBytes.{Appends};
 ghost use Rattle.byte_streams.specs.Inputs.{MayBe};
-ghost use Rattle.move_words.specs.Languages.{english};
-ghost use Rattle.problem_import.specs.Imports.{IsImport};
-ghost use Rattle.problem_import.specs.Sources.{AreSourced};
-ghost use Rattle.text_lines.specs.Lines.{texts_of};
+ghost use Rattle.problem_import.specs.Imported.{IsImported, import_letters_in};
 
 use byte_streams::{Input, Stop};
 use chess_moves::Rays;
-use problem_import::import_input;
+use problem_import::{ImportCounts, ImportLetters, Printing, import_input};
 use std::alloc::Global;
 use std::io::Write;
 
-/// Makes records of a collection, each of which tells what was changed; gives at how many lines something is refused.
+/// Makes records of a collection, each of which tells what was changed, whose men have the letters that a word gives in moves, and English ones
+/// in placements; gives at how many lines something is refused. Each position is one that lines or tags spell, and so is each number of moves.
 pub fn import_all<I: Input + Drop, O: Write>(
     alloc: Global,
+    letters: &str,
     input: I,
     out: &mut O,
 ) -> Result<usize, Stop>
-    ensures { IfOk result (λ count. (bytes : List ℕ) × (text : List ℕ) × MayBe (I.left input) bytes × IsImport true None bytes text count
+    ensures { IfOk result (λ count. (bytes : List ℕ) × (text : List ℕ) × MayBe (I.left input) bytes
+        × IsImported (import_letters_in letters.now (codes "en")) true None bytes text count
         × Appends (O.contents out.old) (O.contents out.new) text) }
 {
     let rays = Rays::new();
-    import_input(alloc, &rays, true, None, input, out)
-}
-
-/// The same without telling: each position is one that lines or tags spell, and so is each number of moves.
-pub fn import_positions<I: Input + Drop, O: Write>(
-    alloc: Global,
-    input: I,
-    out: &mut O,
-) -> Result<usize, Stop>
-    ensures { IfOk result (λ _. (bytes : List ℕ) × (text : List ℕ) × MayBe (I.left input) bytes × AreSourced english None (texts_of bytes) text
-        × Appends (O.contents out.old) (O.contents out.new) text) }
-{
-    let rays = Rays::new();
-    import_input(alloc, &rays, false, None, input, out)
+    let printing = Printing {
+        rays: &rays,
+        keep: true,
+        bound: None,
+        letters: ImportLetters::said(letters, "en"),
+    };
+    import_input(alloc, &printing, &mut ImportCounts::new(), input, out)
 }

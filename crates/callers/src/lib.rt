@@ -12,6 +12,7 @@ pub mod for_desk_room;
 pub mod for_import_claims;
 pub mod for_json_replies;
 pub mod for_lettered_placements;
+pub mod for_mail_lines;
 pub mod for_mate_answers;
 pub mod for_mate_claims;
 pub mod for_mate_desk;

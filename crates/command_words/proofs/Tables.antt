@@ -9,7 +9,7 @@ use Rattle.clap.specs.declared.builder.arg.Arg.{Arg}
 use Rattle.clap.specs.declared.builder.command.Command.{Command}
 use Rattle.command_words.specs.ClapWords.{app_of, new_rule, rule_of, with_rule, with_subcommand}
 use Rattle.command_words.specs.CommandLine.{IsLocal, wanted, depth_rule, bound_rule, import_bound_rule, workers_rule, solve_workers_rule, memo_rule, memory_rule}
-use Rattle.command_words.specs.CommandLine.{from_rule, letters_rule, limit_rule, tree_workers_rule, with_row_options}
+use Rattle.command_words.specs.CommandLine.{from_rule, letters_rule, open_letters_rule, fen_letters_rule, limit_rule, tree_workers_rule, with_imported_options, with_row_options}
 use Rattle.command_words.specs.CommandLine.{shown_rule, most_lines_rule, flag_rule, title_rule, words_rule, files_rule, with_memo_options, with_solving_options}
 use Rattle.command_words.specs.CommandLine.{with_given_records, with_lines_of_files, with_tree_options, with_sheet_flags, with_sheet_options, solve_app, verify_app}
 use Rattle.command_words.specs.CommandLine.{tree_app, import_app, serve_app, replay_app, uci_app, look_app, play_app, moves_app, perft_app}
@@ -25,12 +25,12 @@ unfoldable pub rows_on_literals : ⊤
 unfolding row_rule argument_rule rule_of_flag new_rule wanted depth_rule bound_rule import_bound_rule workers_rule solve_workers_rule memo_rule memory_rule from_rule limit_rule
     tree_workers_rule
     shown_rule
-    most_lines_rule flag_rule title_rule words_rule files_rule letters_rule
+    most_lines_rule flag_rule title_rule words_rule files_rule letters_rule open_letters_rule fen_letters_rule
 rows_on_literals = tt
 
 unfoldable pub commands_on_literals : ⊤
 unfolding subcommand_app app_named with_arguments argument_rule rule_of_flag with_memo_options with_solving_options with_given_records with_lines_of_files with_tree_options with_sheet_flags
-    with_row_options
+    with_row_options with_imported_options
     with_sheet_options solve_app verify_app tree_app import_app serve_app replay_app uci_app look_app play_app moves_app perft_app
     explain_app look_lines_app moves_lines_app perft_lines_app sheet_app
 commands_on_literals = tt

@@ -6,7 +6,7 @@ use Rattle.clap.specs.declared.builder.action.ArgAction.TheVariants.{SetTrue}
 use Rattle.clap.specs.declared.builder.value_parser.ValueParser.TheVariants as parser
 use Rattle.clap.specs.declared.builder.arg.Arg.{Arg}
 use Rattle.command_words.specs.ClapWords.{new_rule, rule_of}
-use Rattle.command_words.specs.CommandLine.{bound_rule, depth_rule, files_rule, from_rule, import_bound_rule, letters_rule, limit_rule, memo_rule, memory_rule}
+use Rattle.command_words.specs.CommandLine.{bound_rule, depth_rule, files_rule, from_rule, import_bound_rule, fen_letters_rule, letters_rule, open_letters_rule, limit_rule, memo_rule, memory_rule}
 use Rattle.command_words.specs.CommandLine.{most_lines_rule, shown_rule, solve_workers_rule, title_rule, tree_workers_rule, wanted}
 use Rattle.command_words.specs.CommandLine.{words_rule, workers_rule}
 use Rattle.command_words.specs.Flags.{rule_of_flag}
@@ -45,6 +45,8 @@ argument_rule argument.Bound = bound_rule
 argument_rule argument.ImportBound = import_bound_rule
 argument_rule argument.VerifyBound = import_bound_rule
 argument_rule argument.Letters = letters_rule
+argument_rule argument.ImportLetters = open_letters_rule
+argument_rule argument.FenLetters = fen_letters_rule
 argument_rule argument.Workers = workers_rule
 argument_rule argument.SolveWorkers = solve_workers_rule
 argument_rule argument.VerifyWorkers = solve_workers_rule

@@ -1,6 +1,6 @@
 -- What the words of a command line ask for.
 use Rattle.std.specs.Prelude.{ℕ, ◌+◌, ◌^◌, ◌==◌, ◌&&◌, ◌||◌, Bool, List, [], ◌∷◌, Option, None, Some, true, false, codes}
-use Rattle.std.specs.Prelude.{length, nat_lt, not, option_map, option_and_then, unwrap_or, if◌then◌else◌}
+use Rattle.std.specs.Prelude.{is_some, length, nat_lt, not, option_map, option_and_then, unwrap_or, if◌then◌else◌}
 use Rattle.std.specs.List.{list_all, list_any}
 use Rattle.std.specs.Option.{option_map_or}
 use Rattle.std.specs.Char.{digit_value}
@@ -46,7 +46,7 @@ pub data Asked : Type 0 where
   verify : ℕ → ℕ → Bool → ℕ → List Text → Asked
   verify_on : ℕ → ℕ → ℕ → Bool → ℕ → List Text → Asked
   verify_json : ℕ → ℕ → ℕ → List Text → Asked
-  verify_imported : Option ℕ → ℕ → Bool → ℕ → List Text → Asked
+  verify_imported : Option ℕ → ℕ → Bool → (letters placements : Text) → ℕ → List Text → Asked
   verify_limited : ℕ → ℕ → ℕ → Bool → ℕ → List Text → Asked
   verify_limited_json : ℕ → ℕ → ℕ → ℕ → List Text → Asked
   tree : ℕ → TreeForm → Text → ℕ → List Text → Asked
@@ -54,7 +54,7 @@ pub data Asked : Type 0 where
   tree_limited : ℕ → ℕ → TreeForm → Text → ℕ → List Text → Asked
   tree_json : ℕ → TreeForm → Text → ℕ → List Text → Asked
   sheet : ℕ → ℕ → SheetForm → Text → Text → List Text → Asked
-  imports : Bool → Option ℕ → Text → List Text → Asked
+  imports : Bool → Option ℕ → (letters placements : Text) → List Text → Asked
   serve : ℕ → ℕ → ℕ → List Text → Asked
   replay : Text → Asked
   explain : List Text → Asked
@@ -225,10 +225,24 @@ abbrev pub verify_json_at : Option ℕ → ℕ → ℕ → ℕ → List Text →
 verify_json_at None bound memo from names = verify_json bound memo from names
 verify_json_at (Some seconds) bound memo from names = verify_limited_json seconds bound memo from names
 
+-- the word that gives the letters of men, in moves by `--letters` and in placements by `--fen-letters`: English ones where it isn't given
+unfoldable pub letters_asked : (id : Text) → List Row → Text
+letters_asked id rows = unwrap_or (first_of id rows) (codes "en")
+
+-- Letters are given, in moves or in placements.
+unfoldable pub has_letters_asked : List Row → Bool
+has_letters_asked rows = is_some (first_of (codes "L") rows) || is_some (first_of (codes "P") rows)
+
 -- of problems that are imported, which have one worker and no limit
-abbrev pub verify_imported_at : Option ℕ → Option ℕ → ℕ → Bool → ℕ → List Text → Option Asked
-verify_imported_at None bound memo header from names = Some (verify_imported bound memo header from names)
-verify_imported_at (Some seconds) bound memo header from names = None
+abbrev pub verify_imported_at : Option ℕ → Option ℕ → ℕ → Bool → (letters placements : Text) → ℕ → List Text → Option Asked
+verify_imported_at None bound memo header letters placements from names = Some (verify_imported bound memo header letters placements from names)
+verify_imported_at (Some seconds) bound memo header letters placements from names = None
+
+-- of records, which have English letters
+abbrev pub verify_rows_in : List Row → Option ℕ → ℕ → ℕ → Bool → ℕ → List Text → Option Asked
+verify_rows_in rows limit workers memo header from names =
+    if has_letters_asked rows then None
+    else Some (verify_rows_at limit workers (unwrap_or (bound_in rows) default_bound) memo header from names)
 
 -- what `verify` asks for: rows, with or without the names of their fields, of records or of problems that are imported; or JSON of records
 abbrev pub verify_at : List Row → Option ℕ → ℕ → ℕ → ℕ → List Text → Option Asked
@@ -237,10 +251,11 @@ verify_at rows limit workers memo from names =
     let imported = is_given (codes "import") rows in
     let alone = workers == 1 in
     if not (is_given (codes "json") rows) then
-    (if not imported then Some (verify_rows_at limit workers (unwrap_or (bound_in rows) default_bound) memo header from names)
-    else if alone then verify_imported_at limit (bound_in rows) memo header from names
+    (if not imported then verify_rows_in rows limit workers memo header from names
+    else if alone then verify_imported_at limit (bound_in rows) memo header (letters_asked (codes "L") rows) (letters_asked (codes "P") rows)
+    from names
     else None)
-    else if header || imported || not alone then None
+    else if header || imported || not alone || has_letters_asked rows then None
     else Some (verify_json_at limit (unwrap_or (bound_in rows) default_bound) memo from names)
 
 -- what the arguments of `verify` ask for
@@ -296,11 +311,11 @@ unfoldable pub sheet_in : List Row → Option Asked
 sheet_in rows = if is_given (codes "figurines") rows && not (is_given (codes "solutions") rows) then None else sheet_with rows
 
 -- what the arguments of `import` ask for: whether what was changed is told, the bound of problems that say none, if one is given, the letters
--- of men, and files
+-- of men in moves and in placements, and files
 unfoldable pub import_in : List Row → Option Asked
 import_in rows =
-    option_and_then (λ letters. option_map (imports (is_given (codes "keep") rows) (bound_in rows) letters) (all_of (codes "FILE") rows))
-    (first_of (codes "L") rows)
+    option_map (imports (is_given (codes "keep") rows) (bound_in rows) (letters_asked (codes "L") rows) (letters_asked (codes "P") rows))
+    (all_of (codes "FILE") rows)
 
 -- what the arguments of `serve` ask for
 unfoldable pub serve_in : List Row → Option Asked

@@ -35,6 +35,14 @@ import_bound_rule = record (new_rule (codes "B")) {
 unfoldable pub letters_rule : Rule
 letters_rule = record (new_rule (codes "L")) { long = Some (codes "letters"); defaults = codes "en" ∷ [] }
 
+-- the same, where that it isn't given counts
+unfoldable pub open_letters_rule : Rule
+open_letters_rule = record (new_rule (codes "L")) { long = Some (codes "letters") }
+
+-- the letters of men in placements
+unfoldable pub fen_letters_rule : Rule
+fen_letters_rule = record (new_rule (codes "P")) { long = Some (codes "fen-letters") }
+
 -- an option that has to be given, and reads a number from 1 to 16
 unfoldable pub workers_rule : Rule
 workers_rule = record (wanted (codes "N")) {
@@ -133,9 +141,13 @@ solve_app = with_lines_of_files
     (with_rule (with_rule (with_rule (with_solving_options (new_app (codes "solve"))) limit_rule) solve_workers_rule)
     (flag_rule (codes "json")))
 
+-- with the options of problems that are imported: that they are, and the letters of men
+unfoldable pub with_imported_options : App → App
+with_imported_options a = with_rule (with_rule (with_rule a (flag_rule (codes "import"))) open_letters_rule) fen_letters_rule
+
 -- with what `verify` may do beside its rows: imported problems, the names of fields, and JSON in place of rows
 unfoldable pub with_row_options : App → App
-with_row_options a = with_rule (with_rule (with_rule a (flag_rule (codes "import"))) (flag_rule (codes "header"))) (flag_rule (codes "json"))
+with_row_options a = with_rule (with_rule (with_imported_options a) (flag_rule (codes "header"))) (flag_rule (codes "json"))
 
 unfoldable pub verify_app : App
 verify_app = with_lines_of_files
@@ -166,8 +178,9 @@ unfoldable pub sheet_app : App
 sheet_app = with_rule (with_solving_options (with_sheet_options (new_app (codes "sheet")))) files_rule
 
 unfoldable pub import_app : App
-import_app = with_rule (with_rule (with_rule (with_rule (new_app (codes "import")) (flag_rule (codes "keep"))) import_bound_rule) letters_rule)
-    files_rule
+import_app =
+    with_rule (with_rule (with_rule (with_rule (with_rule (new_app (codes "import")) (flag_rule (codes "keep"))) import_bound_rule) open_letters_rule)
+    fen_letters_rule) files_rule
 
 unfoldable pub serve_app : App
 serve_app =

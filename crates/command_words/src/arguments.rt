@@ -5,10 +5,10 @@ ghost use Rattle.command_words.specs.Arguments.{argument_rule, row_rule};
 
 use crate::flags::{Flag, flag_row};
 use crate::help::{
-    ABOUT_BOUND, ABOUT_DEPTH, ABOUT_FEN, ABOUT_FILE, ABOUT_FROM, ABOUT_IMPORT_BOUND, ABOUT_LETTERS,
-    ABOUT_LIMIT, ABOUT_MEMO, ABOUT_MEMORY, ABOUT_MEMOS, ABOUT_MOST_LINES, ABOUT_MOVE,
-    ABOUT_POSITIONS, ABOUT_RECORD_WORKERS, ABOUT_SCRIPT, ABOUT_SHOWN, ABOUT_SOLVE_WORKERS,
-    ABOUT_TITLE, ABOUT_VERIFY_BOUND, ABOUT_WORD, ABOUT_WORKERS,
+    ABOUT_BOUND, ABOUT_DEPTH, ABOUT_FEN, ABOUT_FEN_LETTERS, ABOUT_FILE, ABOUT_FROM,
+    ABOUT_IMPORT_BOUND, ABOUT_IMPORT_LETTERS, ABOUT_LETTERS, ABOUT_LIMIT, ABOUT_MEMO, ABOUT_MEMORY,
+    ABOUT_MEMOS, ABOUT_MOST_LINES, ABOUT_MOVE, ABOUT_POSITIONS, ABOUT_RECORD_WORKERS, ABOUT_SCRIPT,
+    ABOUT_SHOWN, ABOUT_SOLVE_WORKERS, ABOUT_TITLE, ABOUT_VERIFY_BOUND, ABOUT_WORD, ABOUT_WORKERS,
 };
 use crate::rows::{Form, OPTIONAL, Row};
 
@@ -26,6 +26,8 @@ pub(crate) enum Argument {
     ImportBound,
     VerifyBound,
     Letters,
+    ImportLetters,
+    FenLetters,
     Workers,
     SolveWorkers,
     VerifyWorkers,
@@ -135,13 +137,33 @@ static VERIFY_BOUND: Row = Row {
     ..OPEN_BOUND
 };
 
-/// The letters of men, where problems are imported or their solutions are told.
-static LETTERS: Row = Row {
+/// The letters of men, which need not be given.
+const OPEN_LETTERS: Row = Row {
     id: "L",
     long: "letters",
     form: Form::TextOption,
-    defaults: &["en"],
     help: ABOUT_LETTERS,
+    ..OPTIONAL
+};
+
+/// The letters of men, where solutions are told.
+static LETTERS: Row = Row {
+    defaults: &["en"],
+    ..OPEN_LETTERS
+};
+
+/// The letters of men in moves, where problems are imported.
+static IMPORT_LETTERS: Row = Row {
+    help: ABOUT_IMPORT_LETTERS,
+    ..OPEN_LETTERS
+};
+
+/// Those in placements.
+static FEN_LETTERS: Row = Row {
+    id: "P",
+    long: "fen-letters",
+    form: Form::TextOption,
+    help: ABOUT_FEN_LETTERS,
     ..OPTIONAL
 };
 
@@ -274,6 +296,8 @@ pub(crate) fn row_of(argument: Argument) -> &'static Row
         Argument::ImportBound => &IMPORT_BOUND,
         Argument::VerifyBound => &VERIFY_BOUND,
         Argument::Letters => &LETTERS,
+        Argument::ImportLetters => &IMPORT_LETTERS,
+        Argument::FenLetters => &FEN_LETTERS,
         Argument::Workers => &WORKERS,
         Argument::SolveWorkers => &SOLVE_WORKERS,
         Argument::VerifyWorkers => &VERIFY_WORKERS,

@@ -94,6 +94,8 @@ static VERIFY: Subcommand = Subcommand {
         Argument::Limit,
         Argument::VerifyWorkers,
         Argument::Flag(Flag::Import),
+        Argument::ImportLetters,
+        Argument::FenLetters,
         Argument::Flag(Flag::Header),
         Argument::Flag(Flag::Json),
         Argument::From,
@@ -136,7 +138,8 @@ static IMPORT: Subcommand = Subcommand {
     arguments: &[
         Argument::Flag(Flag::Keep),
         Argument::ImportBound,
-        Argument::Letters,
+        Argument::ImportLetters,
+        Argument::FenLetters,
         Argument::File,
     ],
 };

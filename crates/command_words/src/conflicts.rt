@@ -1,6 +1,6 @@
 //! Options that don't go together, and what is said of words that ask for nothing.
 
-use crate::matched_values::{is_given, large_number_in, number_in, text_in};
+use crate::matched_values::{has_letters, is_given, large_number_in, number_in, text_in};
 use crate::texts::is_same;
 use clap::ArgMatches;
 
@@ -13,6 +13,10 @@ enum Found {
     NoBoard,
     /// That no solutions are told.
     NoSolutions,
+    /// Letters of men.
+    Letters,
+    /// That no problems are imported.
+    NoImport,
     /// More than one worker, by the id of their number.
     Several(&'static str),
     /// A limit of time.
@@ -37,7 +41,7 @@ const IMPORT: Found = Found::Flag("import");
 const FLIP: Found = Found::Flag("flip");
 
 /// All that don't go together. The first that is found is said.
-static CONFLICTS: [Conflict; 15] = [
+static CONFLICTS: [Conflict; 16] = [
     Conflict(
         "look",
         Found::Flag("svg"),
@@ -67,6 +71,12 @@ static CONFLICTS: [Conflict; 15] = [
         JSON,
         Found::Flag("fen"),
         "moves --json goes without --fen",
+    ),
+    Conflict(
+        "verify",
+        Found::Letters,
+        Found::NoImport,
+        "verify --letters and --fen-letters go with --import",
     ),
     Conflict(
         "verify",
@@ -138,6 +148,8 @@ fn is_found(matches: &ArgMatches, found: Found) -> bool {
     match found {
         Found::Flag(id) => is_given(matches, id),
         Found::NoBoard => !is_given(matches, "board") && !is_given(matches, "svg"),
+        Found::Letters => has_letters(matches),
+        Found::NoImport => !is_given(matches, "import"),
         Found::NoSolutions => !is_given(matches, "solutions"),
         Found::Several(id) => number_in(matches, id) > 1,
         Found::Limit => large_number_in(matches, "S") > 0,

@@ -292,7 +292,15 @@ pub const ABOUT_COLUMN: &str = "Prints each tree on one line, as a solution colu
 /// The option `--figurines` of `tree` in one line.
 pub const ABOUT_TREE_FIGURINES: &str = "Shows pieces as figurines in the lines of the tree";
 
-/// The option `--letters` of `tree`, `sheet` and `import` in one line.
+/// The option `--letters` of `import` and `verify --import` in one line.
+pub const ABOUT_IMPORT_LETTERS: &str =
+    "The letters of men in moves: six for king, queen, rook, bishop, knight, pawn, or a language, as `de`";
+
+/// The option `--fen-letters` of `import` and `verify --import` in one line.
+pub const ABOUT_FEN_LETTERS: &str =
+    "The letters of men in FENs and placements, where they aren't English";
+
+/// The option `--letters` of `tree` and `sheet` in one line.
 pub const ABOUT_LETTERS: &str =
     "The letters of men: six for king, queen, rook, bishop, knight, pawn, or a language, as `de`";
 
@@ -329,6 +337,9 @@ stand in one file in any mixture:
     `1.Bg2-h1`, `0-0` or `f8(R)`, which become SAN. A number of moves, as `#2`, `2#` or `White
     mates in two`, becomes `dm N`: in `bm`, words, comments, or in `id`. A line that is a record
     and wants none of this is printed as it is
+    The lines behind one that asks for no `dm N` itself, as mails have them, are of the same
+    problem up to an empty line or the next problem: what is asked, the author, `Key: 1.Bh1`.
+    A number or a bullet before a FEN, as `12)` or `[3]`, or `FEN:`, says nothing
   - lines that begin with `%`, `;`, or `#` and a space: dropped, as empty ones are
   - games in PGN: the tag FEN makes the record, White, Black, Event, Round, Date and Annotator
     its id, and the first move the claim `bm`; the number of moves is said by Stipulation, else
@@ -337,8 +348,9 @@ stand in one file in any mixture:
   - files of Olive's (`.olv`): the keys that have a `!` there are the claim `bm`
 Words that speak of a mate, or of another aim, are a phrase that is understood whole, in one of
 eight languages, or the problem is refused as BadStipulation: `Selfmate`, `mate in 2 or 3`.
-Men may have other letters: --letters KDTLSB, or `de`, names those for king, queen, rook,
-bishop, knight and pawn, in positions and in moves.
+Not so the names in `id` beside `dm N`.
+Men may have other letters in moves: --letters KDTLSB, or `de`, names those for king, queen,
+rook, bishop, knight and pawn. FENs are English, unless --fen-letters names others for them.
 What can't be read is printed as `# line K: CODE`, by the line where it begins; `matedesk
 explain CODE` says what that means.
 

@@ -1,11 +1,11 @@
 //! The values of arguments, as `clap` has matched them.
 
-ghost use Rattle.std.specs.Prelude.{◌≡◌, ◌≤◌, map, option_map, unwrap_or};
+ghost use Rattle.std.specs.Prelude.{◌≡◌, ◌≤◌, codes, map, option_map, unwrap_or};
 ghost use Rattle.std.specs.Option.{option_map_or};
 ghost use Rattle.clap.specs.Walk.{byte_or_zero};
 ghost use Rattle.clap.specs.Words.{all_of, first_of, found_of, one_of, rows_of};
 ghost use Rattle.command_words.specs.Asked.{bound_in, default_bound, depth_in, from_in, is_given, limit_in, memo_size_in, memos_on};
-ghost use Rattle.command_words.specs.Asked.{number_or_zero, side_in, verify_memos_on, workers_in};
+ghost use Rattle.command_words.specs.Asked.{has_letters_asked, letters_asked, number_or_zero, side_in, verify_memos_on, workers_in};
 
 use crate::limits::{Depth, LineNumber, MemoSize, Workers};
 use crate::memory::shared_size;
@@ -19,6 +19,25 @@ pub(crate) fn text_in<'a>(matches: &ArgMatches<'a>, id: &str) -> Option<&'a str>
     ensures { option_map (λ s. s.now) result ≡ first_of id.now (rows_of (found_of matches.now)) }
 {
     matches.get_str(id)
+}
+
+/// The word that gives the letters of men, by the id of its option: English ones where it isn't given.
+#[tactic(auto, unfolding(crate::specs::Asked::letters_asked))]
+pub(crate) fn letters_in<'a>(matches: &ArgMatches<'a>, id: &str) -> &'a str
+    ensures { result.now ≡ letters_asked id.now (rows_of (found_of matches.now)) }
+{
+    match text_in(matches, id) {
+        Some(letters) => letters,
+        None => "en",
+    }
+}
+
+/// Whether letters are given, in moves or in placements.
+#[tactic(auto, unfolding(crate::specs::Asked::has_letters_asked))]
+pub(crate) fn has_letters(matches: &ArgMatches) -> bool
+    ensures { result ≡ has_letters_asked (rows_of (found_of matches.now)) }
+{
+    text_in(matches, "L").is_some() || text_in(matches, "P").is_some()
 }
 
 /// The values of a positional that takes more than one.

@@ -3,13 +3,13 @@
 ghost use Rattle.std.specs.Prelude.{◌≡◌, codes, map, option_map, unwrap_or};
 ghost use Rattle.clap.specs.Words.{found_of, rows_of};
 ghost use Rattle.command_words.specs.Asked.{bound_in, default_bound, import_in, is_given, serve_in, solve_at, solve_in, solve_json_at};
-ghost use Rattle.command_words.specs.Asked.{verify_at, verify_in, verify_json_at, verify_rows_at};
+ghost use Rattle.command_words.specs.Asked.{has_letters_asked, letters_asked, verify_at, verify_in, verify_json_at, verify_rows_at};
 ghost use Rattle.command_words.specs.Request.{plan_of};
 
 use crate::limits::{LineNumber, MemoSize, Workers};
 use crate::matched_values::{
-    DEFAULT_MEMO, DEFAULT_MEMOS, bound_in, bound_or_default, from_in, is_given, limit_in,
-    memo_size_in, memos_on, names_in, text_in, verify_memos_on, workers_in,
+    DEFAULT_MEMO, DEFAULT_MEMOS, bound_in, bound_or_default, from_in, has_letters, is_given,
+    letters_in, limit_in, memo_size_in, memos_on, names_in, verify_memos_on, workers_in,
 };
 use crate::request::{
     Files, ImportAsked, ImportedAsked, Request, ServeAsked, SolveAsked, VerifyAsked,
@@ -149,7 +149,7 @@ fn verify_json_with<'m, 'a>(
 }
 
 /// What `verify` is asked for; nothing where several workers are to tell it in JSON or of imported problems, where it is to be in JSON and with
-/// names of fields or of imported problems, or where these have a limit.
+/// names of fields or of imported problems, where these have a limit, or where records are to be read by other letters.
 fn verify_with<'m, 'a>(
     matches: &'m ArgMatches<'a>,
     limit: Option<u32>,
@@ -164,13 +164,16 @@ fn verify_with<'m, 'a>(
     let imported = is_given(matches, "import");
     let alone = workers.get() == 1;
     if is_given(matches, "json") {
-        if is_given(matches, "header") || imported || !alone {
+        if is_given(matches, "header") || imported || !alone || has_letters(matches) {
             return None;
         }
         let bound = bound_or_default(matches);
         return Some(verify_json_with(limit, workers, bound, memo, from, names));
     }
     if !imported {
+        if has_letters(matches) {
+            return None;
+        }
         return Some(verify_rows_with(matches, limit, workers, memo, from, names));
     }
     if limit.is_some() || !alone {
@@ -180,6 +183,8 @@ fn verify_with<'m, 'a>(
         bound: bound_in(matches),
         memo,
         header: is_given(matches, "header"),
+        letters: letters_in(matches, "L"),
+        placements: letters_in(matches, "P"),
         files: Files { names, from },
     }))
 }
@@ -204,12 +209,12 @@ pub(crate) fn import_in<'m, 'a>(matches: &'m ArgMatches<'a>) -> Option<Request<'
 {
     let keep = is_given(matches, "keep");
     let bound = bound_in(matches);
-    let letters = text_in(matches, "L")?;
     let names = names_in(matches, "FILE")?;
     Some(Request::Import(ImportAsked {
         keep,
         bound,
-        letters,
+        letters: letters_in(matches, "L"),
+        placements: letters_in(matches, "P"),
         names,
     }))
 }

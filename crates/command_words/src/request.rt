@@ -75,12 +75,15 @@ pub struct VerifyAsked<'m, 'a> {
     pub files: Files<'m, 'a>,
 }
 
-/// What `verify --import` is asked for. Where a bound is given, it is for problems that say none, which are else refused.
+/// What `verify --import` is asked for. Where a bound is given, it is for problems that say none, which are else refused. Words give the letters
+/// of men in moves and in placements.
 #[derive(Clone, Copy)]
 pub struct ImportedAsked<'m, 'a> {
     pub bound: Option<Bound>,
     pub memo: MemoSize,
     pub header: bool,
+    pub letters: &'a str,
+    pub placements: &'a str,
     pub files: Files<'m, 'a>,
 }
 
@@ -95,13 +98,14 @@ pub struct TreeAsked<'m, 'a> {
     pub files: Files<'m, 'a>,
 }
 
-/// What `import` is asked for: whether what was changed is told in the records, the bound of problems that say none, where one is given, a word
-/// that gives the letters of men, and the files.
+/// What `import` is asked for: whether what was changed is told in the records, the bound of problems that say none, where one is given, words
+/// that give the letters of men in moves and in placements, and the files.
 #[derive(Clone, Copy)]
 pub struct ImportAsked<'m, 'a> {
     pub keep: bool,
     pub bound: Option<Bound>,
     pub letters: &'a str,
+    pub placements: &'a str,
     pub names: &'m [&'a str],
 }
 

@@ -93,7 +93,7 @@ size_codes = codes "BadSubmitters" ∷ codes "BadRoom" ∷ codes "BadWindows" �
 abbrev pub import_codes : List (List ℕ)
 import_codes =
     codes "NoFen" ∷ codes "TwoFens" ∷ codes "NoBound" ∷ codes "TwoBounds" ∷ codes "BadStipulation" ∷ codes "WrongSide" ∷
-    codes "FairyCondition" ∷ codes "FairyPiece" ∷ codes "UnknownCommand" ∷ []
+    codes "OtherMen" ∷ codes "FairyCondition" ∷ codes "FairyPiece" ∷ codes "UnknownCommand" ∷ []
 
 unfoldable pub known_codes : List (List (List ℕ))
 known_codes = field_codes ∷ men_codes ∷ move_codes ∷ line_codes ∷ problem_codes ∷ verdict_codes ∷ step_codes ∷ size_codes ∷ import_codes ∷ []

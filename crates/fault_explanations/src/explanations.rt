@@ -485,7 +485,7 @@ which limits each record.",
 ];
 
 /// Of collections that are imported.
-static IMPORTS: [Explanation; 9] = [
+static IMPORTS: [Explanation; 10] = [
     Explanation {
         code: "NoFen",
         comes: "a game that is to be imported has no tag `FEN`",
@@ -494,8 +494,8 @@ static IMPORTS: [Explanation; 9] = [
     },
     Explanation {
         code: "TwoFens",
-        comes: "a game that is to be imported has two tags `FEN` that differ",
-        means: "Which of them is meant nobody can tell. Part two games by an empty line.",
+        comes: "a game that is to be imported has two tags `FEN` that differ; a line without `dm`, or that is no record as it stands, has two FENs",
+        means: "Which of them is meant nobody can tell. Part two games by an empty line, and give each FEN a line.",
         example: None,
     },
     Explanation {
@@ -506,7 +506,7 @@ static IMPORTS: [Explanation; 9] = [
     },
     Explanation {
         code: "TwoBounds",
-        comes: "a line without `dm`, or a game that is to be imported, says two numbers of moves",
+        comes: "a line, or a game, that is to be imported says two numbers of moves",
         means: "Which of them is asked nobody can tell. Leave the one that is.",
         example: None,
     },
@@ -524,9 +524,15 @@ isn't understood whole is refused: leave one phrase as `White to move and mate i
         example: None,
     },
     Explanation {
+        code: "OtherMen",
+        comes: "a line that is to be imported tells, as `(5+6)`, other numbers of men than stand in its placement",
+        means: "One of the two is wrong: a man is missing in the FEN, or is one too many, or the numbers are White's and Black's the other way round.",
+        example: None,
+    },
+    Explanation {
         code: "FairyCondition",
-        comes: "a problem for Popeye, or of Olive's, has a condition; a game's `Variant` is another than standard chess",
-        means: "Whatever stands there changes the rules of chess.",
+        comes: "a problem for Popeye, or of Olive's, has a condition; a game has a tag for one, or for twins, or its `Variant` is another than standard chess",
+        means: "Whatever stands there changes the rules of chess, or the problem.",
         example: None,
     },
     Explanation {

@@ -4,6 +4,7 @@ ghost use Rattle.std.specs.Prelude.{◌≡◌, ◌++◌, IfErr, IfOk, OnErr, OnO
 ghost use Rattle.std.specs.Io.KnownBytes.{Appends};
 ghost use Rattle.byte_streams.specs.Stops.{AppendsPart, is_of_output};
 ghost use Rattle.file_answers.specs.Writing.{Gains};
+ghost use Rattle.problem_import.specs.Imported.{import_letters_in};
 ghost use Rattle.import_claims.specs.VerifiedImports.{ShowsRows, StopsRows, StopsVerifyingImported, VerifiesImported};
 ghost use Rattle.import_claims.specs.VerifiedImports.{bound_or_three as three_unless, has_several, header_text, prefix_of};
 
@@ -19,7 +20,7 @@ use file_answers::{
 use file_solving::new_memo;
 use file_verifying::ToldHints;
 use mate_claims::{ClaimMemory, ClaimRows, Counts, Hints};
-use problem_import::{ProblemLines, ProblemMemory};
+use problem_import::{ImportLetters, ProblemLines, ProblemMemory};
 use std::alloc::{AllocError, Global};
 use std::cell::Cell;
 use std::io::Write;
@@ -28,6 +29,7 @@ use std::io::Write;
 #[derive(Drop)]
 struct ImportedAnswers<'a> {
     rays: &'a Rays,
+    letters: ImportLetters,
     bound: Option<Bound>,
     /// Whether a row names its file.
     several: bool,
@@ -52,13 +54,13 @@ impl<'a> FileAnswers for ImportedAnswers<'a> {
 
     type Memory = ProblemMemory<ClaimMemory>;
 
-    ghost replies = { λ answers. imported_replies answers.several answers.bound };
+    ghost replies = { λ answers. imported_replies answers.several answers.letters answers.bound };
 
-    ghost told = { λ answers. unmarked (imported_replies answers.several answers.bound) };
+    ghost told = { λ answers. unmarked (imported_replies answers.several answers.letters answers.bound) };
 
     ghost tells = { λ _ _ _ _ _ _ _ told. told };
 
-    ghost first = { λ answers. first_imported_replies answers.several answers.bound };
+    ghost first = { λ answers. first_imported_replies answers.several answers.letters answers.bound };
 
     fn answer<S: Source, I: Input + Drop, O: Write>(
         &self,
@@ -78,7 +80,7 @@ impl<'a> FileAnswers for ImportedAnswers<'a> {
             },
             refused: Cell::new(0),
         };
-        let lines = ProblemLines::new(self.rays, self.bound, &rows);
+        let lines = ProblemLines::new(self.rays, self.letters, false, self.bound, &rows);
         let unsound = answer_problems_from(alloc, &lines, start, input, memory, out);
         rows.count_refused(&mut memory.memory);
         unsound
@@ -120,9 +122,11 @@ fn show_rows<S: Source, O: Write, E: Write>(
     out: &mut O,
     err: &mut E,
 ) -> Result<bool, Stop>
-    ensures ok { IfOk result (λ refused. Gains (ShowsRows (S.holds source.now) asked.now.bound asked.now.files.from
+    ensures ok { IfOk result (λ refused. Gains (ShowsRows (S.holds source.now)
+        (import_letters_in asked.now.letters.now asked.now.placements.now) asked.now.bound asked.now.files.from
         (map (λ s. s.now) asked.now.files.names.now) refused) (O.contents out.old) (O.contents out.new)) }
-    ensures err { IfErr result (λ stop. StopsRows (S.holds source.now) (S.refuses source.now) asked.now.bound asked.now.files.from
+    ensures err { IfErr result (λ stop. StopsRows (S.holds source.now) (S.refuses source.now)
+        (import_letters_in asked.now.letters.now asked.now.placements.now) asked.now.bound asked.now.files.from
         (map (λ s. s.now) asked.now.files.names.now) stop (O.contents out.old) (O.contents out.new)) }
 {
     // How many inputs there are of so many names.
@@ -137,6 +141,7 @@ fn show_rows<S: Source, O: Write, E: Write>(
     let mut memory = ProblemMemory::new(claims);
     let answers = ImportedAnswers {
         rays: &rays,
+        letters: ImportLetters::said(asked.letters, asked.placements),
         bound: asked.bound,
         several: asked.files.names.len() > 1,
         told: ToldHints::new(),
@@ -181,9 +186,11 @@ pub fn verify_imported<S: Source, O: Write, E: Write>(
     out: &mut O,
     err: &mut E,
 ) -> Result<bool, Stop>
-    ensures ok { IfOk result (λ refused. Gains (VerifiesImported (S.holds source.now) asked.now.bound asked.now.header asked.now.files.from
+    ensures ok { IfOk result (λ refused. Gains (VerifiesImported (S.holds source.now)
+        (import_letters_in asked.now.letters.now asked.now.placements.now) asked.now.bound asked.now.header asked.now.files.from
         (map (λ s. s.now) asked.now.files.names.now) refused) (O.contents out.old) (O.contents out.new)) }
-    ensures err { IfErr result (λ stop. StopsVerifyingImported (S.holds source.now) (S.refuses source.now) asked.now.bound asked.now.header
+    ensures err { IfErr result (λ stop. StopsVerifyingImported (S.holds source.now) (S.refuses source.now)
+        (import_letters_in asked.now.letters.now asked.now.placements.now) asked.now.bound asked.now.header
         asked.now.files.from (map (λ s. s.now) asked.now.files.names.now) stop (O.contents out.old) (O.contents out.new)) }
 {
     put_header(out, asked.header)?;

@@ -126,11 +126,11 @@ ends_unstarted holds refuses ends none unsolved untold (Some (solve bound memo f
 ends_unstarted holds refuses ends none unsolved untold (Some (solve_json bound memo from names)) threads out = cc
 ends_unstarted holds refuses ends none unsolved untold (Some (verify bound memo header from names)) threads out = cc
 ends_unstarted holds refuses ends none unsolved untold (Some (verify_json bound memo from names)) threads out = cc
-ends_unstarted holds refuses ends none unsolved untold (Some (verify_imported bound memo header from names)) threads out = cc
+ends_unstarted holds refuses ends none unsolved untold (Some (verify_imported bound memo header letters placements from names)) threads out = cc
 ends_unstarted holds refuses ends none unsolved untold (Some (tree bound form letters from names)) threads out = cc
 ends_unstarted holds refuses ends none unsolved untold (Some (tree_json bound form letters from names)) threads out = cc
 ends_unstarted holds refuses ends none unsolved untold (Some (sheet bound memo form letters title names)) threads out = cc
-ends_unstarted holds refuses ends none unsolved untold (Some (imports keep bound letters names)) threads out = cc
+ends_unstarted holds refuses ends none unsolved untold (Some (imports keep bound letters placements names)) threads out = cc
 ends_unstarted holds refuses ends none unsolved untold (Some (replay name)) threads out = cc
 ends_unstarted holds refuses ends none unsolved untold (Some (explain words)) threads out = cc
 

@@ -19,7 +19,7 @@ use Rattle.mate_answers.specs.LimitedReplies.{IsLimitedReply}
 use Rattle.mate_claims.specs.ClaimReplies.{IsClaimReply}
 use Rattle.mate_claims.specs.LimitedClaims.{IsLimitedClaim}
 use Rattle.mate_tree.specs.TreeReplies.{IsTreeReply}
-use Rattle.plain_commands.specs.Imported.{letters_in}
+use Rattle.problem_import.specs.Imported.{import_letters_in}
 use Rattle.plain_commands.specs.PositionLines.{command_of}
 use Rattle.plain_commands.proofs.Unopened.{imports_at_once, json_at_once, lines_at_once, tells_limited_at_once}
 use Rattle.plain_commands.specs.Command.{Ends, EndsByStatus, EndsInPart, Shown, Stops, StopsBy}
@@ -56,7 +56,7 @@ stops_unread none late untold holds refuses (Some (verify_on workers bound memo 
     record { gained = []; shows = inl refl; appends = Appends-kept old old new [] (Appends-nil old) kept }
 stops_unread none late untold holds refuses (Some (verify_json bound memo from names)) old new kept =
     json_at_once holds refuses Row (IsClaimReply [] bound) from names old new kept
-stops_unread none late untold holds refuses (Some (verify_imported bound memo header from names)) old new kept =
+stops_unread none late untold holds refuses (Some (verify_imported bound memo header letters placements from names)) old new kept =
     record { gained = []; shows = inl refl; appends = Appends-kept old old new [] (Appends-nil old) kept }
 stops_unread none late untold holds refuses (Some (verify_limited seconds bound memo header from names)) old new kept =
     record { gained = []; shows = inl refl; appends = Appends-kept old old new [] (Appends-nil old) kept }
@@ -71,8 +71,8 @@ stops_unread none late untold holds refuses (Some (tree_limited seconds bound fo
 stops_unread none late untold holds refuses (Some (tree_json bound form letters from names)) old new kept =
     json_at_once holds refuses Tree (IsTreeReply (tree_form_of form letters) bound) from names old new kept
 stops_unread none late untold holds refuses (Some (sheet bound memo form letters title names)) old new kept = kept
-stops_unread none late untold holds refuses (Some (imports keep bound letters names)) old new kept =
-    imports_at_once holds refuses (letters_in letters) keep bound names old new kept
+stops_unread none late untold holds refuses (Some (imports keep bound letters placements names)) old new kept =
+    imports_at_once holds refuses (import_letters_in letters placements) keep bound names old new kept
 stops_unread none late untold holds refuses (Some (serve workers bound memo names)) old new kept =
     record { gained = []; shows = none holds bound 1 names; appends = Appends-kept old old new [] (Appends-nil old) kept }
 stops_unread none late untold holds refuses (Some (replay name)) old new kept = kept
@@ -99,7 +99,7 @@ no_reader holds refuses (limited_json seconds bound memo from names) old new sto
 no_reader holds refuses (verify bound memo header from names) old new stops = stops
 no_reader holds refuses (verify_on workers bound memo header from names) old new stops = stops
 no_reader holds refuses (verify_json bound memo from names) old new stops = stops
-no_reader holds refuses (verify_imported bound memo header from names) old new stops = stops
+no_reader holds refuses (verify_imported bound memo header letters placements from names) old new stops = stops
 no_reader holds refuses (verify_limited seconds bound memo header from names) old new stops = stops
 no_reader holds refuses (verify_limited_json seconds bound memo from names) old new stops = stops
 no_reader holds refuses (tree bound form letters from names) old new stops = stops
@@ -107,7 +107,7 @@ no_reader holds refuses (tree_on workers bound form letters from names) old new 
 no_reader holds refuses (tree_limited seconds bound form letters from names) old new stops = stops
 no_reader holds refuses (tree_json bound form letters from names) old new stops = stops
 no_reader holds refuses (sheet bound memo form letters title names) old new stops = stops
-no_reader holds refuses (imports keep bound letters names) old new stops = stops
+no_reader holds refuses (imports keep bound letters placements names) old new stops = stops
 no_reader holds refuses (serve workers bound memo names) old new stops = stops
 no_reader holds refuses (replay name) old new stops = stops
 no_reader holds refuses (explain words) old new stops = stops

@@ -6,10 +6,10 @@ use Rattle.file_answers.specs.FileAnswers.{Answers, AnswersFirst}
 use Rattle.file_answers.specs.Sources.{HoldsEach}
 use Rattle.file_answers.specs.Writing.{Gains}
 use Rattle.file_answers.proofs.AnsweredFiles.{all_answered}
-use Rattle.move_words.specs.declared.languages.Letters.{Letters}
+use Rattle.problem_import.specs.declared.import_letters.ImportLetters.{ImportLetters}
 use Rattle.plain_commands.specs.Imported.{StopsImporting, first_import_replies, import_replies}
 
-pub imports_uncounted : HoldsEach → (holds : List ℕ → Option (List ℕ)) (refuses : List ℕ → Type 0) (letters : Letters) (keep : Bool)
+pub imports_uncounted : HoldsEach → (holds : List ℕ → Option (List ℕ)) (refuses : List ℕ → Type 0) (letters : ImportLetters) (keep : Bool)
     (given : Option ℕ) (from : ℕ) (names : List (List ℕ)) (refused : Bool) (old new : Option (List ℕ)) → from ≡ 1
     → Gains (Answers holds (import_replies letters keep given) from names refused) old new
     → StopsImporting holds refuses letters keep given names stop.NoMemory old new

@@ -8,9 +8,9 @@ use Rattle.file_answers.proofs.Unopened.{answers_none, no_reply_on}
 use Rattle.plain_commands.specs.PositionLines.{StopsLines, first_position_replies}
 use Rattle.plain_commands.specs.declared.fen_commands.FenCommand.{FenCommand}
 use Rattle.problem_import.specs.Imports.{IsImportOfFirst, none as nothing_imported}
-use Rattle.problem_import.specs.LetteredImports.{IsImportOfFirstIn, IsLetteredOfFirst, english, lettered}
+use Rattle.problem_import.specs.Imported.{IsImportedOfFirst}
+use Rattle.problem_import.specs.declared.import_letters.ImportLetters.{ImportLetters}
 use Rattle.problem_import.specs.Sources.{AreSourced, AreSourcedFrom, at_end, at_line}
-use Rattle.move_words.specs.Languages.{is_english}
 use Rattle.move_words.specs.declared.languages.Letters.{Letters}
 use Rattle.plain_commands.specs.Imported.{StopsImporting, first_import_replies}
 use Rattle.json_replies.specs.declared.replies.Form.{Form}
@@ -38,19 +38,13 @@ no_sources letters bound before [] = at_end before [] false nothing_imported
 no_sources letters bound before (line ∷ lines) =
     at_line before lines line [] [] false nothing_imported (no_sources letters bound (before ++ line ∷ []) lines)
 
-no_import_by : (letters : Letters) (keep are : Bool) (bound : Option ℕ) (input : List ℕ) → is_english letters ≡ are
-    → IsImportOfFirstIn letters keep bound input []
-unfolding AreSourced IsImportOfFirst IsLetteredOfFirst IsReplyToFirstBy
-no_import_by letters keep true bound input is =
-    english is ([], [], false, (0, 0, (refl, refl)), nothing_imported, refl) (no_sources _ bound [] _)
-no_import_by letters keep false bound input is =
-    lettered is ([], [], false, (0, 0, (refl, refl)), nothing_imported, refl) (no_sources letters bound [] _)
-
-pub no_import : (letters : Letters) (keep : Bool) (bound : Option ℕ) (from : ℕ) (name input : List ℕ)
+pub no_import : (letters : ImportLetters) (keep : Bool) (bound : Option ℕ) (from : ℕ) (name input : List ℕ)
     → first_import_replies letters keep bound from name input []
-no_import letters keep bound from name input = no_import_by letters keep (is_english letters) bound input refl
+unfolding AreSourced IsImportOfFirst IsImportedOfFirst IsReplyToFirstBy
+no_import letters keep bound from name input =
+    (([], [], false, (0, 0, (refl, refl)), nothing_imported, refl), no_sources letters.placements bound [] _)
 
-pub imports_at_once : (holds : List ℕ → Option (List ℕ)) (refuses : List ℕ → Type 0) (letters : Letters) (keep : Bool)
+pub imports_at_once : (holds : List ℕ → Option (List ℕ)) (refuses : List ℕ → Type 0) (letters : ImportLetters) (keep : Bool)
     (bound : Option ℕ) (names : List (List ℕ)) (old new : Option (List ℕ)) → Keeps old new
     → StopsImporting holds refuses letters keep bound names stop.NoMemory old new
 imports_at_once holds refuses letters keep bound names old new kept = record {

@@ -1,5 +1,5 @@
 -- How a command ends, and the program with it.
-use Rattle.std.specs.Prelude.{is_some, ◌≡◌, ◌<◌, ◌≤◌, ◌⊎◌, ℕ, Bool, List, Option, None, Some, Result, IfErr, IfOk, IfSome, IsSomeAnd, true, false, ⊤}
+use Rattle.std.specs.Prelude.{is_some, ◌&&◌, ◌≡◌, ◌<◌, ◌≤◌, ◌⊎◌, ℕ, Bool, List, Option, None, Some, Result, IfErr, IfOk, IfSome, IsSomeAnd, true, false, ⊤}
 use Rattle.std.specs.Io.KnownBytes.{Keeps}
 use Rattle.clap.specs.Words.{Text}
 use Rattle.byte_streams.specs.declared.stops.Stop.{Stop}
@@ -28,7 +28,8 @@ use Rattle.file_solving.specs.Solved.{Solves, SolvesLimited, StopsLimited, Stops
 use Rattle.file_verifying.specs.Verified.{LimitedHeaded, StopsHeaded, StopsLimitedHeaded, VerifiesHeaded}
 use Rattle.plain_commands.specs.Told.{StopsTelling, StopsTellingLimited, Tells, TellsLimited, tree_form_of}
 use Rattle.plain_commands.specs.Sheeted.{Sheets, StopsSheet, page_form_of}
-use Rattle.plain_commands.specs.Imported.{ImportsFiles, StopsImporting, letters_in}
+use Rattle.plain_commands.specs.Imported.{ImportsFiles, StopsImporting}
+use Rattle.problem_import.specs.Imported.{import_letters_in}
 use Rattle.plain_commands.specs.Served.{AreTooManyFiles, Serves}
 
 -- What a command shows where names hold such inputs, and whether anything that it was given is refused. The size of a memo and the
@@ -52,7 +53,8 @@ Shows holds (limited_json seconds bound memo from names) refused text = SolvesLi
 Shows holds (verify bound memo header from names) refused text = VerifiesHeaded holds bound header from names refused text
 Shows holds (verify_on workers bound memo header from names) refused text = VerifiesHeaded holds bound header from names refused text
 Shows holds (verify_json bound memo from names) refused text = VerifiesJson holds bound from names refused text
-Shows holds (verify_imported bound memo header from names) refused text = VerifiesImported holds bound header from names refused text
+Shows holds (verify_imported bound memo header letters placements from names) refused text =
+    VerifiesImported holds (import_letters_in letters placements) bound header from names refused text
 Shows holds (verify_limited seconds bound memo header from names) refused text = LimitedHeaded holds ⊤ bound header from names refused 0 text
 Shows holds (verify_limited_json seconds bound memo from names) refused text = VerifiesLimitedJson holds ⊤ bound from names refused 0 text
 Shows holds (tree bound form letters from names) refused text = Tells holds bound (tree_form_of form letters) from names refused text
@@ -62,7 +64,8 @@ Shows holds (tree_limited seconds bound form letters from names) refused text =
     TellsLimited holds ⊤ seconds bound (tree_form_of form letters) from names refused 0 text
 Shows holds (tree_json bound form letters from names) refused text = TellsJson holds bound (tree_form_of form letters) from names refused text
 Shows holds (sheet bound memo form letters title names) refused text = Sheets holds bound (page_form_of form letters) title names refused text
-Shows holds (imports keep bound letters names) refused text = ImportsFiles holds (letters_in letters) keep bound names refused text
+Shows holds (imports keep bound letters placements names) refused text =
+    ImportsFiles holds (import_letters_in letters placements) keep bound names refused text
 Shows holds (serve workers bound memo names) refused text = Serves holds bound names refused text
 Shows holds (replay name) refused text = ReplaysFile (holds name) refused text
 Shows holds (explain words) refused text = ExplainsWords words refused text
@@ -107,7 +110,8 @@ Stops holds refuses (limited_json seconds bound memo from names) stop old new = 
 Stops holds refuses (verify bound memo header from names) stop old new = StopsHeaded holds refuses bound header from names stop old new
 Stops holds refuses (verify_on workers bound memo header from names) stop old new = StopsHeaded holds refuses bound header from names stop old new
 Stops holds refuses (verify_json bound memo from names) stop old new = StopsVerifyingJson holds refuses bound from names stop old new
-Stops holds refuses (verify_imported bound memo header from names) stop old new = StopsVerifyingImported holds refuses bound header from names stop old new
+Stops holds refuses (verify_imported bound memo header letters placements from names) stop old new =
+    StopsVerifyingImported holds refuses (import_letters_in letters placements) bound header from names stop old new
 Stops holds refuses (verify_limited seconds bound memo header from names) stop old new =
     StopsLimitedHeaded holds refuses ⊤ bound header from names stop old new
 Stops holds refuses (verify_limited_json seconds bound memo from names) stop old new =
@@ -122,7 +126,8 @@ Stops holds refuses (tree_json bound form letters from names) stop old new =
     StopsTellingJson holds refuses bound (tree_form_of form letters) from names stop old new
 Stops holds refuses (sheet bound memo form letters title names) stop old new =
     StopsSheet holds refuses bound (page_form_of form letters) title names stop old new
-Stops holds refuses (imports keep bound letters names) stop old new = StopsImporting holds refuses (letters_in letters) keep bound names
+Stops holds refuses (imports keep bound letters placements names) stop old new =
+    StopsImporting holds refuses (import_letters_in letters placements) keep bound names
     stop old new
 Stops holds refuses (serve workers bound memo names) stop old new = StopsServing holds refuses bound names stop old new
 Stops holds refuses (replay name) stop old new = StopsReplaying (holds name) (refuses name) stop old new
@@ -135,10 +140,15 @@ abbrev pub StopsBy : (Text → Option (List ℕ)) → (Text → Type 0) → Opti
 StopsBy holds refuses None stop old new = Keeps old new
 StopsBy holds refuses (Some asks) stop old new = Stops holds refuses asks stop old new
 
+-- Two words give letters of men.
+abbrev pub give_letters : (letters placements : Text) → Bool
+give_letters letters placements = is_some (letters_said letters) && is_some (letters_said placements)
+
 -- Problems are asked to be imported, trees to be told, or a page to be made, with letters of men that these words give, or something
 -- else is asked for.
 abbrev pub has_letters : Asked → Bool
-has_letters (imports keep bound letters names) = is_some (letters_said letters)
+has_letters (imports keep bound letters placements names) = give_letters letters placements
+has_letters (verify_imported bound memo header letters placements from names) = give_letters letters placements
 has_letters (tree bound form letters from names) = is_some (letters_said letters)
 has_letters (tree_on workers bound form letters from names) = is_some (letters_said letters)
 has_letters (tree_limited seconds bound form letters from names) = is_some (letters_said letters)
@@ -150,7 +160,8 @@ has_letters _ = true
 abbrev pub AsksInVain : Option Asked → Type 0
 AsksInVain None = ⊤
 AsksInVain (Some (serve workers bound memo names)) = AreTooManyFiles names
-AsksInVain (Some (imports keep bound letters names)) = letters_said letters ≡ None
+AsksInVain (Some (imports keep bound letters placements names)) = give_letters letters placements ≡ false
+AsksInVain (Some (verify_imported bound memo header letters placements from names)) = give_letters letters placements ≡ false
 AsksInVain (Some (tree bound form letters from names)) = letters_said letters ≡ None
 AsksInVain (Some (tree_on workers bound form letters from names)) = letters_said letters ≡ None
 AsksInVain (Some (tree_limited seconds bound form letters from names)) = letters_said letters ≡ None

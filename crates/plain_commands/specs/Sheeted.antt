@@ -9,7 +9,7 @@ use Rattle.problem_sheets.specs.Pages.{page_text}
 use Rattle.problem_sheets.specs.declared.pages.Form.{Form}
 use Rattle.file_answers.specs.Sources.{Holds, SomeRefused}
 use Rattle.file_answers.specs.Writing.{GainsPart}
-use Rattle.plain_commands.specs.Imported.{letters_in}
+use Rattle.problem_import.specs.Imported.{letters_in}
 use Rattle.plain_commands.specs.Told.{pieces_of}
 
 -- what a page has, as the words ask for it, of which one gives the letters of men

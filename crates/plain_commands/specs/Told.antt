@@ -8,7 +8,7 @@ use Rattle.mate_tree.specs.declared.forms.Pieces.TheVariants.{San, Figurines, Le
 use Rattle.move_words.specs.Languages.{is_english}
 use Rattle.move_words.specs.declared.languages.Letters.{Letters as LettersOf}
 use Rattle.command_words.specs.declared.request.TreeForm.{TreeForm}
-use Rattle.plain_commands.specs.Imported.{letters_in}
+use Rattle.problem_import.specs.Imported.{letters_in}
 use Rattle.byte_streams.specs.declared.stops.Stop.{Stop}
 use Rattle.file_answers.specs.FileAnswers.{Answers, AnswersFirst, AnswersTold, StopsAnswering}
 use Rattle.text_lines.specs.LinesFrom.{IsReplyOn, IsReplyToFirstOn}

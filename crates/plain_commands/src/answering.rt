@@ -19,8 +19,8 @@ use byte_streams::{Stop, stop_of_output};
 use clap::Error;
 use clap::error::ErrorKind;
 use command_words::{
-    ImportAsked, Request, SheetAsked, TreeAsked, escaped, gives_records, goes_without_lines,
-    no_request, parse, request_of,
+    ImportAsked, ImportedAsked, Request, SheetAsked, TreeAsked, escaped, gives_records,
+    goes_without_lines, no_request, parse, request_of,
 };
 use file_answers::{ANSWERED, GivenTexts, MISUSED, Source, complain, no_memory, status_of};
 use file_solving::{limited_none, solve, solves_none};
@@ -33,7 +33,7 @@ use std::io::Write;
 
 /// What is said of a word that gives no letters of men.
 pub const NO_LETTERS: &str =
-    "--letters takes six capitals, each another, as KDTLSB, or the code of a language, as de";
+    "--letters takes six capitals, each another, as KDTLSB, or the code of a language, as de; so does --fen-letters";
 
 /// Whether a request is one for threads.
 fn is_threaded(request: &Request) -> bool
@@ -60,8 +60,21 @@ fn has_letters(request: &Request) -> bool
     ensures { result ≡ has_letters (plan_of request.now) }
 {
     match request {
-        Request::Import(ImportAsked { letters, .. })
-        | Request::Tree(TreeAsked { letters, .. })
+        Request::Import(
+            ImportAsked {
+                letters,
+                placements,
+                ..
+            },
+        )
+        | Request::VerifyImported(
+            ImportedAsked {
+                letters,
+                placements,
+                ..
+            },
+        ) => Letters::said(letters).is_some() && Letters::said(placements).is_some(),
+        Request::Tree(TreeAsked { letters, .. })
         | Request::TreeOn(TreeAsked { letters, .. })
         | Request::TreeLimited(_, TreeAsked { letters, .. })
         | Request::TreeJson(TreeAsked { letters, .. })

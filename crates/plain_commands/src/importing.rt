@@ -2,16 +2,16 @@
 
 ghost use Rattle.std.specs.Prelude.{◌≡◌, IfErr, IfOk, map};
 ghost use Rattle.file_answers.specs.Writing.{Gains};
-ghost use Rattle.plain_commands.specs.Imported.{ImportsFiles, StopsImporting, letters_in};
+ghost use Rattle.plain_commands.specs.Imported.{ImportsFiles, StopsImporting};
+ghost use Rattle.problem_import.specs.Imported.{import_letters_in};
 
-use crate::letters::letters_in;
 use byte_streams::{Input, Stop};
 use chess_moves::Rays;
 use command_words::{ImportAsked, LineNumber};
 use file_answers::{
     FileAnswers, FileStart, Source, SourceFiles, answer_files, complain, holds_reads,
 };
-use problem_import::{ImportCounts, Printing, import_input_in};
+use problem_import::{ImportCounts, ImportLetters, Printing, import_input};
 use std::alloc::Global;
 use std::io::Write;
 
@@ -43,7 +43,7 @@ impl<'a> FileAnswers for Imports<'a> {
         counts: &mut ImportCounts,
         out: &mut O,
     ) -> Result<usize, Stop> {
-        import_input_in(alloc, &self.printing, counts, input, out)
+        import_input(alloc, &self.printing, counts, input, out)
     }
 
     fn begins_with_nothing(&self) {}
@@ -90,9 +90,9 @@ pub fn import_given<S: Source, O: Write, E: Write>(
     out: &mut O,
     err: &mut E,
 ) -> Result<bool, Stop>
-    ensures ok { IfOk result (λ refused. Gains (ImportsFiles (S.holds source.now) (letters_in asked.now.letters.now) asked.now.keep asked.now.bound
+    ensures ok { IfOk result (λ refused. Gains (ImportsFiles (S.holds source.now) (import_letters_in asked.now.letters.now asked.now.placements.now) asked.now.keep asked.now.bound
         (map (λ s. s.now) asked.now.names.now) refused) (O.contents out.old) (O.contents out.new)) }
-    ensures err { IfErr result (λ stop. StopsImporting (S.holds source.now) (S.refuses source.now) (letters_in asked.now.letters.now)
+    ensures err { IfErr result (λ stop. StopsImporting (S.holds source.now) (S.refuses source.now) (import_letters_in asked.now.letters.now asked.now.placements.now)
         asked.now.keep asked.now.bound (map (λ s. s.now) asked.now.names.now) stop (O.contents out.old) (O.contents out.new)) }
 {
     let rays = Rays::new();
@@ -101,7 +101,7 @@ pub fn import_given<S: Source, O: Write, E: Write>(
             rays: &rays,
             keep: asked.keep,
             bound: asked.bound,
-            letters: letters_in(asked.letters),
+            letters: ImportLetters::said(asked.letters, asked.placements),
         },
     };
     import(alloc, &imports, asked.names, source, out, err)

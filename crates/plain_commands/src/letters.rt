@@ -1,7 +1,7 @@
 //! The letters of men, and what stands for pieces in moves.
 
 ghost use Rattle.std.specs.Prelude.{◌≡◌};
-ghost use Rattle.plain_commands.specs.Imported.{letters_in};
+ghost use Rattle.problem_import.specs.Imported.{letters_in};
 ghost use Rattle.plain_commands.specs.Told.{pieces_of as pieces_asked};
 
 use mate_tree::Pieces;

@@ -1,12 +1,9 @@
 -- What is added to the counts by what is printed.
 use Rattle.std.proofs.Common.{◌≡◌, ℕ, Bool, List, [], ◌∷◌, ◌++◌}
-use Rattle.problem_import.specs.inside.Counted.{AreCounted, IsSaid, is_no_bound, none, of_record, of_refusal, with_record, with_refusal}
+use Rattle.problem_import.specs.inside.Counted.{AreCounted, IsSaid, is_no_bound, of_record, of_refusal, with_record, with_refusal}
 use Rattle.problem_import.specs.Imports.{IsRecord, refused_line}
 use Rattle.problem_import.specs.declared.import_counts.ImportCounts.{ImportCounts}
 use Rattle.problem_import.specs.declared.import_faults.ImportFault.{ImportFault}
-
-pub nothing_counted : (first : ImportCounts) (text : List ℕ) → text ≡ [] → AreCounted first text first
-nothing_counted first text is = rw is none
 
 pub record_counted : (first c after : ImportCounts) (text line new : List ℕ) (says : Bool) → IsRecord line → IsSaid line says
     → new ≡ text ++ line ++ 10 ∷ [] → after ≡ with_record says c → AreCounted first text c → AreCounted first new after

@@ -244,3 +244,6 @@ goes_on_on a b c (tail, apart, is) (more, apart', is') =
 pub word_longer : (old one new word rest : List ℕ) → one ≡ old ++ 32 ∷ word → new ≡ one ++ rest → GoesOn old new
 unfolding GoesOn
 word_longer old one new word rest is on = (32 ∷ (word ++ rest), refl, on ∙ ap (λ t. t ++ rest) is ∙ append_assoc old (32 ∷ word) rest)
+
+pub longer_twice : (one two new a b : List ℕ) → two ≡ one ++ a → new ≡ two ++ b → new ≡ one ++ (a ++ b)
+longer_twice one two new a b is on = on ∙ ap (λ t. t ++ b) is ∙ append_assoc one a b

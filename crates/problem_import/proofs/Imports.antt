@@ -3,25 +3,21 @@ use Rattle.std.proofs.Common.{◌≡◌, ◌≢◌, ◌⊎◌, inl, inr, ℕ, �
 use Rattle.std.proofs.Common.{List, [], ◌∷◌, ◌++◌, refl, sym, ap, ◌∙◌, subst, append_assoc, arith, length-append}
 use Rattle.std.specs.Prelude.{Contains, IfNone, map, replicate}
 use Rattle.std.proofs.KnownBytes.{Appends-trans}
-use Rattle.std.proofs.Math.Seq.{take-length}
 use Rattle.std.specs.Io.KnownBytes.{Appends}
 use Rattle.byte_streams.specs.Stops.{AppendsBy, AppendsPart}
 use Rattle.byte_streams.specs.declared.stops.Stop.{Stop}
 use Rattle.byte_streams.specs.declared.stops.Stop.TheVariants as stop
-use Rattle.chess_notation.specs.Records.{max_line}
-use Rattle.chess_notation.specs.Words.{is_blank}
-use Rattle.std.proofs.lemmas.List.{append-nil}
 use Rattle.std.proofs.lemmas.List.Elements.{Contains-append_left, Contains-append_right, Contains-push}
 use Rattle.chess_notation.specs.declared.epd_faults.EpdFault.{EpdFault}
 use Rattle.chess_notation.specs.declared.epd_faults.EpdFault.TheVariants as kind
 use Rattle.chess_notation.specs.EpdFaults.{HasNoFault, IsFaultOf}
 use Rattle.chess_notation.specs.RecordLaws.{RecordsClear}
-use Rattle.problem_import.specs.declared.import_faults.ImportFault.{ImportFault}
 use Rattle.problem_import.specs.declared.line_kinds.LineKind.{LineKind}
 use Rattle.problem_import.specs.declared.line_kinds.LineKind.TheVariants as kinds
+use Rattle.move_words.specs.declared.languages.Letters.{Letters}
 use Rattle.text_lines.specs.Lines.{lines_of, without_cr}
-use Rattle.text_lines.specs.Replies.{IsReply, IsReplyFrom, IsReplyToFirst, LineReplies}
-use Rattle.problem_import.specs.Imports.{AreImported, EndsWithLine, ImportsAreRecords, IsClean, IsImport, IsImportOfFirst, IsImportReply}
+use Rattle.text_lines.specs.Replies.{IsReply, IsReplyFrom}
+use Rattle.problem_import.specs.Imports.{AreImported, EndsWithLine, ImportsAreRecords, IsImport, IsImportReply}
 use Rattle.problem_import.specs.Changes.{telling}
 use Rattle.problem_import.specs.Imports.{ImportsKeepPositions, IsKept, IsMade, IsOfLine, IsPlaced, IsRecord, IsToldOther}
 use Rattle.problem_import.specs.Imports.{KeepsProblem}
@@ -47,38 +43,12 @@ imported_for P Q each text any (printed line rest any' is kind on) =
     printed line rest any' is (each line is kind) (imported_for P Q each rest any' on)
 imported_for P Q each text any (refused number fault rest any' on) = refused number fault rest any' (imported_for P Q each rest any' on)
 
-or_false : (x : Bool) → (x || false) ≡ x
-or_false true = refl
-or_false false = refl
-
-or_true : (x : Bool) → (x || true) ≡ true
-or_true true = refl
-or_true false = refl
-
-pub record_next : (P : List ℕ → Type 0) (old line new : List ℕ) (any : Bool) → IsRecord line → P line → new ≡ old ++ line ++ 10 ∷ []
-    → AreImported P old any → AreImported P new any
-record_next P old line new any is kind same before =
-    rw (same, append_assoc old line (10 ∷ [])) (subst (AreImported P (old ++ (line ++ 10 ∷ []))) (or_false any)
-    (imported_append P old (line ++ 10 ∷ []) any false before (printed line [] false is kind none)))
-
-pub nothing_imported : (P : List ℕ → Type 0) (text : List ℕ) → text ≡ [] → AreImported P text false
-nothing_imported P text is = rw is none
-
 -- A line with a fault, which is not want of memory, is no record.
 pub refused_line_fault : RecordsClear → (line : List ℕ) (fault : EpdFault) (X : Type 0) → fault ≢ kind.NoMemory
     → IsFaultOf line fault ⊎ ((fault ≡ kind.NoMemory) × X) → IsRecord line → ⊥
 unfolding HasNoFault
 refused_line_fault clear line fault X other (inl first) (r, reads) = clear line 3 r reads fault first.applies
 refused_line_fault clear line fault X other (inr (is, x)) (r, reads) = absurd (other is)
-
-clean_record : (line : List ℕ) → IsClean line → IsRecord line
-clean_record line (nothing, some) = (some.0, some.1)
-
-pub clean_ends : (kind : LineKind) (line text : List ℕ) → (kind ≡ kinds.Other → ¬ (IsRecord line)) → (kind ≡ kinds.Mendable → ¬ (IsClean line))
-    → (kind ≡ kinds.Clean → EndsWithLine line text) → IsClean line → EndsWithLine line text
-clean_ends kinds.Clean line text other mendable ends clean = ends refl
-clean_ends kinds.Mendable line text other mendable ends clean = absurd (mendable refl clean)
-clean_ends kinds.Other line text other mendable ends clean = absurd (other refl (clean_record line clean))
 
 ended_filled : (line text : List ℕ) → EndsWithLine line text → 0 < length text
 ended_filled line text (before, is) =
@@ -95,13 +65,6 @@ pub record_kept : (kind : LineKind) (line before text : List ℕ) → (kind ≡ 
 record_kept kinds.Clean line before text other found filled ends is = ended_filled line text (ends refl)
 record_kept kinds.Mendable line before text other found filled ends is = filled (found refl)
 record_kept kinds.Other line before text other found filled ends is = absurd (other refl is)
-
-pub refusal_next : (P : List ℕ → Type 0) (old new : List ℕ) (number : ℕ) (fault : ImportFault) (any : Bool)
-    → new ≡ old ++ refused_line number fault → AreImported P old any → AreImported P new true
-refusal_next P old new number fault any same before =
-    rw same (subst (AreImported P (old ++ refused_line number fault)) (or_true any)
-    (imported_append P old (refused_line number fault) any true before
-    (subst (λ t. AreImported P t true) (append-nil (refused_line number fault)) (refused number fault [] false none))))
 
 -- ---- replies to lines, and an input's end
 
@@ -152,25 +115,25 @@ Imported K lines text count = (any : Bool) × AreImported (K lines) text any × 
 among_first : (line : List ℕ) (lines : List (List ℕ)) → Contains (line ∷ lines) line
 among_first line lines = Contains-append_left (line ∷ []) lines line (Contains-push [] line)
 
-reply_imported : (keep : Bool) (given : Option ℕ) (K : Kind) → IsOfLines keep given K
+reply_imported : (moves : Letters) (keep : Bool) (given : Option ℕ) (K : Kind) → IsOfLines keep given K
     → (number : ℕ) (line : List ℕ) (lines : List (List ℕ)) (text : List ℕ) (count : ℕ)
-    → IsImportReply keep given number line text count → Imported K (line ∷ lines) text count
-reply_imported keep given K each number line lines text count (skipped blank) = (false, none, λ is. refl)
-reply_imported keep given K each number line lines text count (read text' any filled on clean kept) = (
+    → IsImportReply moves keep given number line text count → Imported K (line ∷ lines) text count
+reply_imported moves keep given K each number line lines text count (skipped blank) = (false, none, λ is. refl)
+reply_imported moves keep given K each number line lines text count (read text' any filled on clean kept) = (
   any,
   imported_for (IsMade keep given line) (K (line ∷ lines))
       (λ r one. each (line ∷ lines) line r one (λ is. rw is (among_first line lines)) (among_first line lines)) text' any on,
   some_if any,
 )
 
-replies_imported : (keep : Bool) (given : Option ℕ) (K : Kind) → IsOfLines keep given K → Widens K
+replies_imported : (moves : Letters) (keep : Bool) (given : Option ℕ) (K : Kind) → IsOfLines keep given K → Widens K
     → (number : ℕ) (lines : List (List ℕ)) (text : List ℕ) (count : ℕ)
-    → IsReplyFrom (IsImportReply keep given) number lines text count → Imported K (map without_cr lines) text count
-replies_imported keep given K each wider number [] text count (is, nobody) = rw is (false, none, λ _. refl)
-replies_imported keep given K each wider number (line ∷ lines) text count (here, few, more, others, one, on, is, all) =
+    → IsReplyFrom (IsImportReply moves keep given) number lines text count → Imported K (map without_cr lines) text count
+replies_imported moves keep given K each wider number [] text count (is, nobody) = rw is (false, none, λ _. refl)
+replies_imported moves keep given K each wider number (line ∷ lines) text count (here, few, more, others, one, on, is, all) =
     let behind : List (List ℕ) = map without_cr lines in
-    let (x, first, clear) = reply_imported keep given K each number (without_cr line) behind here few one in
-    let (y, rest, clear') = replies_imported keep given K each wider (number + 1) lines more others on in
+    let (x, first, clear) = reply_imported moves keep given K each number (without_cr line) behind here few one in
+    let (y, rest, clear') = replies_imported moves keep given K each wider (number + 1) lines more others on in
     let widened = imported_for (K behind) (K (without_cr line ∷ behind)) (λ r _ so. wider (without_cr line) behind r so) more y rest in
     rw is (
       x || y,
@@ -178,12 +141,12 @@ replies_imported keep given K each wider number (line ∷ lines) text count (her
       λ zero. none_of x y (clear (omega (arith, zero, all))) (clear' (omega (arith, zero, all))),
     )
 
-all_imported : (keep : Bool) (given : Option ℕ) (K : Kind) → IsOfLines keep given K → Widens K → IsOfEnd keep given K
-    → (input text : List ℕ) (count : ℕ) → IsImport keep given input text count → Imported K (map without_cr (lines_of input)) text count
+all_imported : (moves : Letters) (keep : Bool) (given : Option ℕ) (K : Kind) → IsOfLines keep given K → Widens K → IsOfEnd keep given K
+    → (input text : List ℕ) (count : ℕ) → IsImport moves keep given input text count → Imported K (map without_cr (lines_of input)) text count
 unfolding IsImport IsReply
-all_imported keep given K each wider at_end input text count (replies, refusals, last, any, are, ends, is, all) =
+all_imported moves keep given K each wider at_end input text count (replies, refusals, last, any, are, ends, is, all) =
     let lines : List (List ℕ) = map without_cr (lines_of input) in
-    let (x, first, clear) = replies_imported keep given K each wider 1 (lines_of input) replies refusals are in
+    let (x, first, clear) = replies_imported moves keep given K each wider 1 (lines_of input) replies refusals are in
     let end = imported_for (IsMade keep given []) (K lines) (at_end lines) last any ends in
     rw is (
       x || any,
@@ -201,8 +164,8 @@ made_kept keep given lines line r here (told made has on one changed own) = λ _
 made_kept keep given lines line r here (untold made has on changed own unread) = λ _. inr (made, has, changed.0, inr unread)
 
 pub imports_are_records : ImportsAreRecords
-imports_are_records keep given input text count is =
-    all_imported keep given (IsKept keep) (λ lines line r one here among made. made_kept keep given lines line r here made)
+imports_are_records moves keep given input text count is =
+    all_imported moves keep given (IsKept keep) (λ lines line r one here among made. made_kept keep given lines line r here made)
     (λ line lines r kept on. either (Contains-append_right (line ∷ []) lines r) (kept on))
     (λ lines r one made. made_kept keep given lines [] r (λ empty. absurd (no_empty_record (subst IsRecord empty one))) made)
     input text count is
@@ -254,28 +217,14 @@ end_placed keep given lines r one (untold made has on changed own unread) = λ _
     placed_last given lines made has one (λ is. (made, has, is, inr unread)) own
 
 pub imports_keep_positions : ImportsKeepPositions
-imports_keep_positions keep given input text count is =
-    let all = all_imported keep given (IsPlaced keep given) (λ lines line r one here among made. made_placed keep given lines line r here
+imports_keep_positions moves keep given input text count is =
+    let all = all_imported moves keep given (IsPlaced keep given) (λ lines line r one here among made. made_placed keep given lines line r here
     among made)
     (λ line lines r so on. wider_at given line lines r (so on)) (end_placed keep given) input text count is in
     (all.0, all.1)
 
 pub some_text : (text : List ℕ) → 0 < length text → text ≢ []
 some_text text some = λ is. let none : 0 < 0 = subst (λ t. 0 < length t) is some in omega (arith, none)
-
-pub read_reply : (keep : Bool) (given : Option ℕ) (number : ℕ) (line out text : List ℕ) (any : Bool) (count : ℕ) → is_blank line ≡ false
-    → AreImported (IsMade keep given line) text any → (IsClean line → EndsWithLine line text) → (IsRecord line → 0 < length text)
-    → out ≡ text → count ≡ one_if any → IsImportReply keep given number line out count
-read_reply keep given number line out text any count filled on clean kept same is =
-    rw (same, is) (read text any filled on clean (λ one. some_text text (kept one)))
-
-pub long_reply : (keep : Bool) (given : Option ℕ) (number : ℕ) (out text : List ℕ) (any : Bool) (count : ℕ)
-    → ((line : List ℕ) → AreImported (IsMade keep given line) text any) → out ≡ text → count ≡ one_if any
-    → (line : List ℕ) → is_blank line ≡ false → max_line < length line → IsImportReply keep given number line out count
-long_reply keep given number out text any count on same is line filled long =
-    let no_record : IsRecord line → ⊥ = λ one. omega (arith, one.1.short, long) in
-    read_reply keep given number line out text any count filled (on line) (λ clean. absurd (no_record (clean_record line clean)))
-    (λ one. absurd (no_record one)) same is
 
 pub where_none : {A : Type 0} (X : Type 0) (found : Option A) → ((a : A) → found ≢ Some a) → IfNone found X → X
 where_none X None other then = then
@@ -292,22 +241,3 @@ appends_more stop.NoMemory a b c text here before on = Appends-trans a b c text 
 appends_more stop.Unreadable a b c text here before on = Appends-trans a b c text here before on
 appends_more stop.Unwritable a b c text here before on = part_more a b c text here before on
 appends_more stop.NoReader a b c text here before on = part_more a b c text here before on
-
--- What some lines are answered, and what their end ends, is what the input is imported as.
-pub import_of : (keep : Bool) (given : Option ℕ) (input replies last : List ℕ) (refusals total : ℕ) (any : Bool)
-    → IsReply (IsImportReply keep given) input replies refusals → AreImported (IsMade keep given []) last any → total ≡ refusals + one_if any
-    → IsImport keep given input (replies ++ last) total
-unfolding IsImport
-import_of keep given input replies last refusals total any are on is = (replies, refusals, last, any, are, on, refl, is)
-
--- All of them are some of the first.
-pub all_first : (may : LineReplies) (input replies : List ℕ) (refusals : ℕ) → IsReply may input replies refusals → IsReplyToFirst may input replies
-unfolding IsReply IsReplyToFirst
-all_first may input replies refusals are =
-    let Q : List (List ℕ) → Type 0 = λ ls. IsReplyFrom may 1 ls replies refusals in
-    (length (lines_of input), refusals, subst Q (sym (take-length (lines_of input))) are)
-
-pub first_of : (keep : Bool) (given : Option ℕ) (input replies last : List ℕ) (any : Bool) → IsReplyToFirst (IsImportReply keep given) input replies
-    → AreImported (IsMade keep given []) last any → IsImportOfFirst keep given input (replies ++ last)
-unfolding IsImportOfFirst
-first_of keep given input replies last any are on = (replies, last, any, are, on, refl)

@@ -4,10 +4,8 @@ pub mod OwnFindings
 pub mod AnsweredProblems
 pub mod AnsweredSources
 pub mod Imports
-pub mod LetteredImports
 pub mod Positions
 pub mod SaidBounds
-pub mod LinesTaken
 pub mod Counted
 pub mod LineRecords
 pub mod ToldChanges
@@ -19,6 +17,7 @@ pub mod KnownNumbers
 pub mod TagFens
 pub mod GameNumbers
 pub mod Sources
-pub mod ImportedInputs
+pub mod PrintedProblems
 pub mod ReadProblems
 pub mod ReadItems
+pub mod PlayedLines

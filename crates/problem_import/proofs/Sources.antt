@@ -1,20 +1,18 @@
 -- Where what is found, open and printed comes from.
-use Rattle.std.proofs.Common.{◌≡◌, ◌≢◌, ◌⊎◌, inl, inr, ℕ, ◌+◌, ◌≤◌, length, take, drop, Bool, true, false, not, nat_le, List, [], ◌∷◌, ◌++◌}
+use Rattle.std.proofs.Common.{◌≡◌, ◌≢◌, ◌⊎◌, inl, inr, ℕ, ◌+◌, ◌≤◌, length, take, Bool, true, false, not, nat_le, List, [], ◌∷◌, ◌++◌}
 use Rattle.std.proofs.Common.{Result, Ok, Err, IfOk, Option, None, Some}
-use Rattle.std.proofs.Common.{◌==◌, eqb-true, refl, sym, ap, ◌∙◌, subst, append_assoc, arith, get_or, ◌<◌, take-append-drop}
+use Rattle.std.proofs.Common.{◌==◌, eqb-true, refl, sym, ap, ◌∙◌, subst, arith, get_or, ◌<◌}
 use Rattle.std.proofs.lemmas.Bool.{and_parts, leb-true}
 use Rattle.std.proofs.lemmas.Slice.Eq.{bytes_eq-Decides}
-use Rattle.std.specs.Prelude.{Contains, codes, if◌then◌else◌, map, ◌-◌, ◌||◌}
+use Rattle.std.specs.Prelude.{Contains, codes, if◌then◌else◌, ◌||◌}
 use Rattle.std.specs.Str.{bytes_eq}
-use Rattle.std.proofs.lemmas.List.{append-nil, map-append, length-append}
+use Rattle.std.proofs.lemmas.List.{length-append}
 use Rattle.std.proofs.lemmas.List.Elements.{All-get_or, All-nil, All-push, Contains-append_left, Contains-append_right, Contains-push}
 use Rattle.chess_board.specs.Fens.{SpellsSetup}
 use Rattle.chess_notation.specs.RecordFields.{line_fields}
 use Rattle.chess_notation.specs.Records.{max_line}
 use Rattle.chess_notation.specs.Words.{behind as behind_word, is_blank, word_at, words_in}
 use Rattle.move_words.specs.declared.languages.Letters.{Letters}
-use Rattle.text_lines.specs.Lines.{lines_of, texts_of, without_cr}
-use Rattle.text_lines.specs.Replies.{IsReply, IsReplyFrom, IsReplyToFirst, LineReplies, behind}
 use Rattle.problem_import.specs.Imports.{AreImported, IsNumber, none}
 use Rattle.problem_import.specs.Letters.{IsTextOf}
 use Rattle.problem_import.specs.Numbers.{said}
@@ -39,7 +37,7 @@ use Rattle.problem_import.specs.declared.findings.Number.{Number}
 use Rattle.problem_import.specs.declared.findings.Number.TheVariants as numbers
 use Rattle.problem_import.specs.inside.KnownSources.{AreFrom, AsksMore, HasFen, IsAt, IsCountFrom, IsFoundBy, IsFoundFrom, IsFrom, IsGameOf, IsKnown}
 use Rattle.problem_import.specs.inside.KnownSources.{IsKnownOf, IsMadeFrom, IsMoved, IsTagRead, IsTagged, IsWorded, looked_at, passed_over}
-use Rattle.problem_import.specs.inside.KnownSources.{EndsOne, IsEndedFrom, IsOliveFrom, IsOpenFrom, KeepsFen, Sourced}
+use Rattle.problem_import.specs.inside.KnownSources.{EndsOne, IsEndedFrom, IsOliveFrom, IsOpenFrom, KeepsFen}
 use Rattle.problem_import.specs.inside.OpenProblems.{goes_on, has_begun, has_game, in_comment, is_game, is_olive, is_popeye}
 use Rattle.problem_import.specs.declared.olive.OliveProblem.{OliveProblem}
 use Rattle.problem_import.specs.declared.popeye.PopeyeProblem.{PopeyeProblem}
@@ -548,73 +546,19 @@ pub are_sourced : (letters : Letters) (given : Option ℕ) (lines : List (List �
 are_sourced letters given lines text any =
     imported_for (IsMadeFrom letters given lines) (IsSourced letters given lines) (λ line _. sourced_one letters given lines line) text any
 
--- How lines are read: one by one, as a function reads each, by which a line in which nothing is said says nothing.
-pub record IsByLine (f : List ℕ → List ℕ) (g : List (List ℕ) → List (List ℕ)) : Type 0 where
-  pub none : g [] ≡ []
-  pub one : (line : List ℕ) (lines : List (List ℕ)) → g (line ∷ lines) ≡ f line ∷ g lines
-  pub push : (lines : List (List ℕ)) (line : List ℕ) → g (lines ++ line ∷ []) ≡ g lines ++ f line ∷ []
-  pub count : (lines : List (List ℕ)) → length (g lines) ≡ length lines
-  pub blank_read : (line : List ℕ) → is_blank line ≡ true → is_blank (f line) ≡ true
-  pub length_read : (line : List ℕ) → length (f line) ≡ length line
-
-passes : (f : List ℕ → List ℕ) (g : List (List ℕ) → List (List ℕ)) → IsByLine f g → (line : List ℕ)
-    → (is_blank line ≡ true) ⊎ (max_line < length line) → IsPassed (f line)
-passes f g by line (inl is) = blank (by.blank_read line is)
-passes f g by line (inr is) = too_long (subst (λ n. max_line < n) (sym (by.length_read line)) is)
+passes : (line : List ℕ) → (is_blank line ≡ true) ⊎ (max_line < length line) → IsPassed line
+passes line (inl is) = blank is
+passes line (inr is) = too_long is
 
 -- What is known where lines were passed over is known of all.
-pub known_at : (letters : Letters) (f : List ℕ → List ℕ) (g : List (List ℕ) → List (List ℕ)) → IsByLine f g → (reading : Reading)
-    → (before : List (List ℕ)) → IsKnownOf letters g reading before → IsKnown letters (g before) reading
-known_at letters f g by reading before (looked_at own known) = known
-known_at letters f g by reading before (passed_over own line is known) =
-    subst (λ ls. IsKnown letters ls reading) (sym (by.push own line))
-    (known_waits letters (g own) (f line) reading (passes f g by line is) (known_at letters f g by reading own known))
-
-pub known_behind : (letters : Letters) (f : List ℕ → List ℕ) (g : List (List ℕ) → List (List ℕ)) → IsByLine f g → (reading : Reading)
-    → (before : List (List ℕ)) (line : List ℕ) → IsKnown letters (g before ++ f line ∷ []) reading
-    → IsKnownOf letters g reading (before ++ line ∷ [])
-known_behind letters f g by reading before line known =
-    looked_at (before ++ line ∷ []) (subst (λ ls. IsKnown letters ls reading) (sym (by.push before line)) known)
+pub known_at : (letters : Letters) (reading : Reading) (before : List (List ℕ)) → IsKnownOf letters reading before → IsKnown letters before reading
+known_at letters reading before (looked_at own known) = known
+known_at letters reading before (passed_over own line is known) =
+    known_waits letters own line reading (passes line is) (known_at letters reading own known)
 
 pub taken_front : (front more : List (List ℕ)) → take (length front) (front ++ more) ≡ front
 taken_front [] more = refl
 taken_front (x ∷ xs) more = ap (λ t. x ∷ t) (taken_front xs more)
-
-replies_from : (may : LineReplies) (letters : Letters) (given : Option ℕ) (f : List ℕ → List ℕ) (g : List (List ℕ) → List (List ℕ)) → IsByLine f g
-    → (all front : List (List ℕ)) (number before : ℕ) (lines more : List (List ℕ)) (text : List ℕ) (count : ℕ) → before ≡ length front
-    → number ≡ before + 1 → all ≡ front ++ (map without_cr lines ++ more)
-    → IsReplyFrom (behind (Sourced may letters given f g) all) number lines text count
-    → IsReplyFrom may number lines text count × ((rest : List ℕ) → AreSourcedFrom letters given (g (front ++ map without_cr lines)) (g more) rest
-    → AreSourcedFrom letters given (g front) (g (map without_cr lines ++ more)) (text ++ rest))
-replies_from may letters given f g by all front number before [] more text count long next whole (is, nobody) = (
-  (is, nobody),
-  λ rest on. subst (λ t. AreSourcedFrom letters given (g front) (g more) (t ++ rest)) (sym is)
-      (subst (λ ls. AreSourcedFrom letters given (g ls) (g more) rest) (append-nil front) on),
-)
-replies_from may letters given f g by all front number before (line ∷ lines) more text count long next whole
-    (here, few, after, others, one, on, is, sum) =
-    let own : List ℕ = without_cr line in
-    let ls : List (List ℕ) = map without_cr lines in
-    let counted : number - 1 ≡ length front = omega (arith, long, next) in
-    let taken : take (number - 1) all ≡ front =
-    ap (λ n. take n all) counted ∙ ap (λ l. take (length front) l) whole ∙ taken_front front (own ∷ (ls ++ more)) in
-    let up_to : all ≡ (front ++ own ∷ []) ++ (ls ++ more) = whole ∙ sym (append_assoc front (own ∷ []) (ls ++ more)) in
-    let (any, out) = one.1 in
-    let here_from : AreImported (IsMadeFrom letters given (g front ++ f own ∷ [])) here any =
-    subst (λ b. AreImported (IsMadeFrom letters given (g b ++ f own ∷ [])) here any) taken out in
-    let (others_may, others_from) = replies_from may letters given f g by all (front ++ own ∷ []) (number + 1) number lines more after others
-    (omega (arith, long, next, length-append front (own ∷ []))) refl up_to on in (
-      (here, few, after, others, one.0, others_may, is, sum),
-      λ rest sourced.
-          let next_front : (front ++ own ∷ []) ++ ls ≡ front ++ own ∷ ls = append_assoc front (own ∷ []) ls in
-          let behind_here = subst (λ b. AreSourcedFrom letters given b (g (ls ++ more)) (after ++ rest)) (by.push front own)
-          (others_from rest (subst (λ b. AreSourcedFrom letters given (g b) (g more) rest) (sym next_front) sourced)) in
-          subst (λ b. AreSourcedFrom letters given (g front) b (text ++ rest)) (sym (by.one own (ls ++ more)))
-          (subst (AreSourcedFrom letters given (g front) (f own ∷ g (ls ++ more)))
-          (sym (append_assoc here after rest) ∙ ap (λ t. t ++ rest) (sym is))
-          (at_line (g front) (g (ls ++ more)) (f own) here (after ++ rest) any
-          (are_sourced letters given (g front ++ f own ∷ []) here any here_from) behind_here)),
-    )
 
 -- Nothing more may be printed.
 pub silent : (letters : Letters) (given : Option ℕ) (before lines : List (List ℕ)) → AreSourcedFrom letters given before lines []
@@ -625,42 +569,3 @@ pub sourced_all : (letters : Letters) (given : Option ℕ) (lines : List (List �
     → AreSourced letters given lines text
 unfolding AreSourced
 sourced_all letters given lines text from = from
-
-from_none : (letters : Letters) (given : Option ℕ) (g : List (List ℕ) → List (List ℕ)) (lines : List (List ℕ)) (text : List ℕ) → g [] ≡ []
-    → AreSourcedFrom letters given (g []) lines text → AreSourced letters given lines text
-unfolding AreSourced
-from_none letters given g lines text is = subst (λ b. AreSourcedFrom letters given b lines text) is
-
--- All lines were answered, and then the end.
-pub whole_from : (may : LineReplies) (letters : Letters) (given : Option ℕ) (f : List ℕ → List ℕ) (g : List (List ℕ) → List (List ℕ)) → IsByLine f g
-    → (input text : List ℕ) (count : ℕ) → IsReply (behind (Sourced may letters given f g) (texts_of input)) input text count
-    → IsReply may input text count × ((last : List ℕ) (any : Bool)
-    → AreImported (IsMadeFrom letters given (g (texts_of input) ++ [] ∷ [])) last any
-    → AreSourced letters given (g (texts_of input)) (text ++ last))
-unfolding IsReply
-whole_from may letters given f g by input text count replies =
-    let all : List (List ℕ) = texts_of input in
-    let (are, from) = replies_from may letters given f g by all [] 1 0 (lines_of input) [] text count refl refl (sym (append-nil all)) replies in (
-      are,
-      λ last any on. from_none letters given g (g all) (text ++ last) by.none
-          (subst (λ ls. AreSourcedFrom letters given (g []) (g ls) (text ++ last)) (append-nil all)
-          (from last (subst (λ ls. AreSourcedFrom letters given (g all) ls last) (sym by.none)
-          (at_end (g all) last any (are_sourced letters given (g all ++ [] ∷ []) last any on))))),
-    )
-
--- Some of the first were.
-pub first_from : (may : LineReplies) (letters : Letters) (given : Option ℕ) (f : List ℕ → List ℕ) (g : List (List ℕ) → List (List ℕ)) → IsByLine f g
-    → (input text : List ℕ) → IsReplyToFirst (behind (Sourced may letters given f g) (texts_of input)) input text
-    → IsReplyToFirst may input text × AreSourced letters given (g (texts_of input)) (text ++ [])
-unfolding IsReplyToFirst
-first_from may letters given f g by input text (n, count, replies) =
-    let lines : List (List ℕ) = lines_of input in
-    let more : List (List ℕ) = map without_cr (drop n lines) in
-    let whole : texts_of input ≡ map without_cr (take n lines) ++ more =
-    ap (map without_cr) (sym (take-append-drop n lines)) ∙ map-append without_cr (take n lines) (drop n lines) in
-    let (are, from) = replies_from may letters given f g by (texts_of input) [] 1 0 (take n lines) more text count refl refl whole replies in (
-      (n, count, are),
-      from_none letters given g (g (texts_of input)) (text ++ []) by.none
-          (subst (λ ls. AreSourcedFrom letters given (g []) (g ls) (text ++ [])) (sym whole)
-          (from [] (silent letters given (g (map without_cr (take n lines))) (g more)))),
-    )

@@ -8,6 +8,8 @@ use Rattle.chess_notation.specs.RecordFields.{line_fields}
 use Rattle.chess_notation.specs.Records.{RecordValue, Reads}
 use Rattle.chess_notation.specs.EpdFaults.{epd_fault_name}
 use Rattle.text_lines.specs.Lines.{lines_of, without_cr}
+use Rattle.move_words.specs.Languages.{is_english}
+use Rattle.move_words.specs.declared.languages.Letters.{Letters}
 use Rattle.text_lines.specs.Replies.{IsReply, IsReplyToFirst}
 use Rattle.problem_import.specs.Changes.{IsAny, IsChanged, telling}
 use Rattle.problem_import.specs.Letters.{IsTextOf}
@@ -19,7 +21,7 @@ use Rattle.problem_import.specs.declared.changes.Change.{Change}
 use Rattle.problem_import.specs.declared.changes.Change.TheVariants.{Pgn, Popeye}
 use Rattle.problem_import.specs.declared.import_faults.ImportFault.{ImportFault}
 use Rattle.problem_import.specs.declared.import_faults.ImportFault.TheVariants.{Record, NoFen, TwoFens, NoBound, TwoBounds, BadStipulation}
-use Rattle.problem_import.specs.declared.import_faults.ImportFault.TheVariants.{WrongSide, FairyCondition, FairyPiece, UnknownCommand}
+use Rattle.problem_import.specs.declared.import_faults.ImportFault.TheVariants.{WrongSide, OtherMen, FairyCondition, FairyPiece, UnknownCommand}
 
 -- A fault prints as its name; that of a record as the record's.
 abbrev pub import_fault_name : ImportFault → List ℕ
@@ -30,6 +32,7 @@ import_fault_name NoBound = codes "NoBound"
 import_fault_name TwoBounds = codes "TwoBounds"
 import_fault_name BadStipulation = codes "BadStipulation"
 import_fault_name WrongSide = codes "WrongSide"
+import_fault_name OtherMen = codes "OtherMen"
 import_fault_name FairyCondition = codes "FairyCondition"
 import_fault_name FairyPiece = codes "FairyPiece"
 import_fault_name UnknownCommand = codes "UnknownCommand"
@@ -96,22 +99,24 @@ abbrev pub one_if : Bool → ℕ
 one_if any = if any then 1 else 0
 
 -- What is printed once a line is read, and how many refusals it counts for: nothing of a blank one; else what it ends, and itself where it
--- is clean. No record is lost.
-pub data IsImportReply (keep : Bool) (given : Option ℕ) (number : ℕ) (line : List ℕ) : List ℕ → ℕ → Type 0 where
-  skipped : is_blank line ≡ true → IsImportReply keep given number line [] 0
+-- is clean and men have English letters in moves. No record is lost.
+pub data IsImportReply (moves : Letters) (keep : Bool) (given : Option ℕ) (number : ℕ) (line : List ℕ) : List ℕ → ℕ → Type 0 where
+  skipped : is_blank line ≡ true → IsImportReply moves keep given number line [] 0
   read : (text : List ℕ) (any : Bool) → is_blank line ≡ false → AreImported (IsMade keep given line) text any
-      → (IsClean line → EndsWithLine line text) → (IsRecord line → text ≢ []) → IsImportReply keep given number line text (one_if any)
+      → (is_english moves ≡ true → IsClean line → EndsWithLine line text) → (IsRecord line → text ≢ [])
+      → IsImportReply moves keep given number line text (one_if any)
 
--- What an input is imported as, where so many moves are given or none: the replies to its lines, and what its end ends.
-unfoldable pub IsImport : Bool → Option ℕ → List ℕ → List ℕ → ℕ → Type 0
-IsImport keep given input text count = (replies : List ℕ) × (refusals : ℕ) × (last : List ℕ) × (any : Bool)
-    × IsReply (IsImportReply keep given) input replies refusals × AreImported (IsMade keep given []) last any
+-- What an input is imported as, where men have such letters in moves, and so many moves are given or none: the replies to its lines, and what
+-- its end ends.
+unfoldable pub IsImport : (moves : Letters) → Bool → Option ℕ → List ℕ → List ℕ → ℕ → Type 0
+IsImport moves keep given input text count = (replies : List ℕ) × (refusals : ℕ) × (last : List ℕ) × (any : Bool)
+    × IsReply (IsImportReply moves keep given) input replies refusals × AreImported (IsMade keep given []) last any
     × (text ≡ replies ++ last) × (count ≡ refusals + one_if any)
 
 -- What there is to print where that stops.
-unfoldable pub IsImportOfFirst : Bool → Option ℕ → List ℕ → List ℕ → Type 0
-IsImportOfFirst keep given input text = (replies : List ℕ) × (last : List ℕ) × (any : Bool)
-    × IsReplyToFirst (IsImportReply keep given) input replies × AreImported (IsMade keep given []) last any × (text ≡ replies ++ last)
+unfoldable pub IsImportOfFirst : (moves : Letters) → Bool → Option ℕ → List ℕ → List ℕ → Type 0
+IsImportOfFirst moves keep given input text = (replies : List ℕ) × (last : List ℕ) × (any : Bool)
+    × IsReplyToFirst (IsImportReply moves keep given) input replies × AreImported (IsMade keep given []) last any × (text ≡ replies ++ last)
 
 -- The record tells what was changed, or would be none if it did.
 abbrev pub IsTold : List ℕ → Type 0
@@ -124,7 +129,8 @@ IsKept keep lines line = keep ≡ true → Contains lines line ⊎ IsTold line
 -- Whatever was read, what is printed are records and refusals, and no refusal where none is counted. With `keep` each record that doesn't
 -- stand in the input is told.
 abbrev pub ImportsAreRecords : Type 0
-ImportsAreRecords = (keep : Bool) (given : Option ℕ) (input text : List ℕ) (count : ℕ) → IsImport keep given input text count
+ImportsAreRecords = (moves : Letters) (keep : Bool) (given : Option ℕ) (input text : List ℕ) (count : ℕ)
+    → IsImport moves keep given input text count
     → (any : Bool) × AreImported (IsKept keep (map without_cr (lines_of input))) text any × (count ≡ 0 → any ≡ false)
 
 -- The record tells that it was made of a game or of a problem for Popeye, or would be none if it did.
@@ -139,5 +145,6 @@ IsPlaced keep given lines line =
 
 -- With `keep` each record that is printed is placed so.
 abbrev pub ImportsKeepPositions : Type 0
-ImportsKeepPositions = (keep : Bool) (given : Option ℕ) (input text : List ℕ) (count : ℕ) → IsImport keep given input text count
+ImportsKeepPositions = (moves : Letters) (keep : Bool) (given : Option ℕ) (input text : List ℕ) (count : ℕ)
+    → IsImport moves keep given input text count
     → (any : Bool) × AreImported (IsPlaced keep given (map without_cr (lines_of input))) text any

@@ -1,7 +1,7 @@
 pub mod Changes
 pub mod ImportCounts
+pub mod Imported
 pub mod Imports
-pub mod LetteredImports
 pub mod Letters
 pub mod Mendable
 pub mod Numbers
@@ -9,6 +9,7 @@ pub mod OliveProblems
 pub mod PopeyeProblems
 pub mod Problems
 pub mod SetUps
+pub mod Solutions
 pub mod Sources
 pub mod TagPairs
 pub mod inside

@@ -87,13 +87,16 @@ asked_together by others (text ∷ texts) = asked_together by (both others (by t
 abbrev pub has_signs : List ℕ → Bool
 has_signs opcode = bytes_eq opcode (codes "bm") || bytes_eq opcode (codes "ce")
 
--- by a sign among the operands of `bm` or `ce`, a comment, or words, at whose head a sign may stand
+-- an operation whose text asks nothing here: moves, the number of `dm`, and names, which `asked_by_id` reads
+abbrev pub is_silent : List ℕ → Bool
+is_silent opcode = has_moves opcode || (bytes_eq opcode (codes "dm") || bytes_eq opcode (codes "id"))
+
+-- by a sign among the operands of `bm` or `ce`, a comment, or the whole text of another operation, its strings too
 abbrev pub asked_by : List ℕ → Asked
 asked_by operation =
     if has_signs (word_at operation) then asked_together asked_by_sign Nothing (parts_of (char " ") (behind operation))
     else (if is_comment (word_at operation) then asked (behind operation)
-    else (if is_length (word_at operation) then asked operation
-    else (if is_free operation then asked operation else Nothing)))
+    else (if is_silent (word_at operation) then Nothing else asked operation))
 
 abbrev pub asked_by_id : List ℕ → Asked
 asked_by_id operation = if bytes_eq (word_at operation) (codes "id") then asked_by_name (behind operation) else Nothing
@@ -127,13 +130,12 @@ or_by_id (Moves n) by_id = beside by_id (Moves n)
 or_by_id Two by_id = beside by_id Two
 or_by_id Unknown by_id = beside by_id Unknown
 
--- what is asked beside `dm`, if that is there: nothing that isn't understood
+-- what is asked beside `dm`, if that is there: nothing, or the same
 abbrev pub or_asked : (dm : Option ℕ) → (others by_id : Asked) → Asked
 or_asked None others by_id = or_by_id others by_id
-or_asked (Some n) others by_id = beside others (Moves n)
+or_asked (Some n) others by_id = both others (Moves n)
 
--- The number of `dm`, unless something among the other operations isn't understood; where there is none what these say together; by `id` where they
--- say none.
+-- The number of `dm`, with what the other operations say together; where it isn't there what these say; by `id` where they say none.
 abbrev pub said_by : List (List ℕ) → Asked
 said_by operations =
     or_asked (bound_among operations) (asked_together asked_by Nothing operations) (asked_together asked_by_id Nothing operations)

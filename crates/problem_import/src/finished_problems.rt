@@ -1,25 +1,28 @@
 //! What a problem says that is finished: a line that is one by itself, or one that was open.
 
-ghost use Rattle.std.specs.Prelude.{◌≡◌, ◌+◌, ℕ, Bool, List, IfOk, IfSome, Option, length};
+ghost use Rattle.std.specs.Prelude.{◌≡◌, ℕ, Bool, List, IfNone, IfOk, IfSome, Option};
 ghost use Rattle.move_words.specs.declared.languages.Letters.{Letters as LettersValue};
 ghost use Rattle.problem_import.specs.Letters.{IsTextOf};
 ghost use Rattle.problem_import.specs.Sources.{AreUpTo, GameSays, IsGame, IsLast};
 ghost use Rattle.problem_import.specs.declared.reading.Open.TheVariants as opens;
-ghost use Rattle.problem_import.specs.inside.Findings.{AreFoundOf, IsAsked, IsFoundOf, IsRecordIf};
-ghost use Rattle.problem_import.specs.inside.KnownSources.{Ends, HasFen, IsEndedFrom, IsFoundBy, IsFoundFrom};
+ghost use Rattle.problem_import.specs.inside.Findings.{IsAsked, IsFoundOf, IsRecordIf};
+ghost use Rattle.problem_import.specs.inside.OpenProblems.{due};
+ghost use Rattle.problem_import.specs.inside.KnownSources.{HasFen, IsEndedFrom, IsFoundBy, IsFoundFrom};
 
 use crate::changes::Form;
-use crate::findings::{Finding, Found, Number, push_finding};
+use crate::fields::{has_placement, men_of};
+use crate::findings::{Finding, Found, Number};
 use crate::games::Game;
 use crate::import_faults::ImportFault;
 use crate::letters::AsciiLine;
 use crate::mending::mended_line;
 use crate::olive::OliveProblem;
 use crate::popeye::PopeyeProblem;
+use crate::reading::Open;
 use chess_board::Colour;
 use chess_notation::four_words;
 use std::alloc::{AllocError, Global};
-use stipulations::{Asked, says_side};
+use stipulations::{Asked, says_side, tells_other_men};
 
 /// How many moves a record is to ask that is made of a line which says none, and may be a record as it stands.
 fn number_unsaid(is_record: bool) -> Number
@@ -55,6 +58,13 @@ fn says_other_side(line: &[u8]) -> bool {
     }
 }
 
+/// Whether a line tells that there are other numbers of men than stand in its placement.
+fn tells_others(line: &[u8]) -> bool {
+    let fields = four_words(line);
+    let (white, black) = men_of(fields.placement);
+    tells_other_men(fields.behind, white, black)
+}
+
 /// What a line in printable ASCII says, which may be a record as it stands.
 pub(crate) fn found_line(
     alloc: Global,
@@ -67,8 +77,14 @@ pub(crate) fn found_line(
 {
     let mut changes = line.changes;
     let mended = mended_line(alloc, line.text, &mut changes)?;
+    if !(mended.is_by_dm && is_record) && has_placement(four_words(line.text).behind) {
+        return Ok(Found::Fault(ImportFault::TwoFens));
+    }
     if !mended.is_by_dm && says_other_side(line.text) {
         return Ok(Found::Fault(ImportFault::WrongSide));
+    }
+    if !mended.is_by_dm && tells_others(line.text) {
+        return Ok(Found::Fault(ImportFault::OtherMen));
     }
     match number_of(mended.said, is_record) {
         Ok(number) => Ok(Found::Text(mended.text, changes, number)),
@@ -102,29 +118,6 @@ fn found_game(alloc: Global, game: &mut Game) -> Result<Found, AllocError>
     Ok(Found::Text(text, game.changes.of(Form::Game), number))
 }
 
-/// Adds what the tag pairs of a game say.
-pub(crate) fn finish_game(
-    alloc: Global,
-    game: Game,
-    findings: &mut Vec<Finding>,
-) -> Result<(), AllocError>
-    ensures length { IfOk result (λ _. length findings.new.items ≡ length findings.old.items + 1) }
-    ensures own { IfOk result (λ _. (line : List ℕ) → AreFoundOf line findings.old.items → AreFoundOf line findings.new.items) }
-    ensures from { IfOk result (λ _. (letters : LettersValue) (lines own : List (List ℕ))
-        → Ends letters lines own (opens.Game game) findings.old.items findings.new.items) }
-{
-    let mut game = game;
-    let found = found_game(alloc, &mut game)?;
-    push_finding(
-        findings,
-        Finding {
-            number: game.number,
-            found,
-        },
-    )?;
-    Ok(())
-}
-
 /// What a problem for Popeye says.
 fn found_popeye(alloc: Global, problem: &PopeyeProblem) -> Result<Found, AllocError>
     ensures own { IfOk result (λ found. (line : List ℕ) → IsFoundOf line found) }
@@ -139,28 +132,6 @@ fn found_popeye(alloc: Global, problem: &PopeyeProblem) -> Result<Found, AllocEr
         }
         Err(fault) => Ok(Found::Fault(fault)),
     }
-}
-
-/// Adds what a problem for Popeye says.
-pub(crate) fn finish_popeye(
-    alloc: Global,
-    problem: &PopeyeProblem,
-    findings: &mut Vec<Finding>,
-) -> Result<(), AllocError>
-    ensures length { IfOk result (λ _. length findings.new.items ≡ length findings.old.items + 1) }
-    ensures own { IfOk result (λ _. (line : List ℕ) → AreFoundOf line findings.old.items → AreFoundOf line findings.new.items) }
-    ensures from { IfOk result (λ _. (letters : LettersValue) (lines own : List (List ℕ))
-        → Ends letters lines own (opens.Popeye problem.now) findings.old.items findings.new.items) }
-{
-    let found = found_popeye(alloc, problem)?;
-    push_finding(
-        findings,
-        Finding {
-            number: problem.number,
-            found,
-        },
-    )?;
-    Ok(())
 }
 
 /// What a problem of Olive's says.
@@ -180,24 +151,31 @@ fn found_olive(alloc: Global, problem: &OliveProblem) -> Result<Found, AllocErro
     }
 }
 
-/// Adds what a problem of Olive's says.
-pub(crate) fn finish_olive(
-    alloc: Global,
-    problem: &OliveProblem,
-    findings: &mut Vec<Finding>,
-) -> Result<(), AllocError>
-    ensures length { IfOk result (λ _. length findings.new.items ≡ length findings.old.items + 1) }
-    ensures own { IfOk result (λ _. (line : List ℕ) → AreFoundOf line findings.old.items → AreFoundOf line findings.new.items) }
-    ensures from { IfOk result (λ _. (letters : LettersValue) (lines own : List (List ℕ))
-        → Ends letters lines own (opens.Olive problem.now) findings.old.items findings.new.items) }
+/// What a problem says that was open; nothing of a game that was found where its first move was.
+pub(crate) fn found_open(alloc: Global, what: Open) -> Result<Option<Finding>, AllocError>
+    ensures some { IfOk result (λ found. IfSome found (λ _. due what ≡ 1)) }
+    ensures none { IfOk result (λ found. IfNone found (due what ≡ 0)) }
+    ensures own { IfOk result (λ found. IfSome found (λ it. (line : List ℕ) → IsFoundOf line it.found)) }
+    ensures from { IfOk result (λ found. IfSome found (λ it. (letters : LettersValue) (lines own : List (List ℕ)) → AreUpTo lines own
+        → IsEndedFrom letters own what → IsFoundFrom letters lines it.found)) }
 {
-    let found = found_olive(alloc, problem)?;
-    push_finding(
-        findings,
-        Finding {
-            number: problem.number,
-            found,
-        },
-    )?;
-    Ok(())
+    match what {
+        Open::Game(game) => {
+            let mut game = game;
+            let found = found_game(alloc, &mut game)?;
+            let number = game.number;
+            Ok(Some(Finding { number, found }))
+        }
+        Open::Popeye(problem) => {
+            let found = found_popeye(alloc, &problem)?;
+            let number = problem.number;
+            Ok(Some(Finding { number, found }))
+        }
+        Open::Olive(problem) => {
+            let found = found_olive(alloc, &problem)?;
+            let number = problem.number;
+            Ok(Some(Finding { number, found }))
+        }
+        Open::Nothing | Open::Movetext(_) => Ok(None),
+    }
 }

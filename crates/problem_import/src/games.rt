@@ -18,7 +18,7 @@ use chess_board::Colour;
 use chess_notation::{four_words, word_at};
 use move_words::Letters;
 use std::alloc::{AllocError, Global};
-use stipulations::{Asked, moves_asked, moves_named, says_side};
+use stipulations::{Asked, moves_asked, moves_named, says_side, speaks_of_aim};
 
 /// What tag pairs, and movetext up to the first move, said so far, and the number of their first line.
 #[derive(Drop)]
@@ -60,6 +60,23 @@ fn has_names(name: &[u8]) -> bool
         || is_word(name, "White")
         || is_word(name, "Black")
         || is_word(name, "Annotator")
+}
+
+/// Whether a tag has a condition, or twins.
+fn is_of_fairy(name: &[u8]) -> bool {
+    is_word(name, "Condition")
+        || is_word(name, "Conditions")
+        || is_word(name, "Fairy")
+        || is_word(name, "Twin")
+        || is_word(name, "Twins")
+}
+
+/// Whether a tag says what kind of problem it is, in names of no number.
+fn has_kind(name: &[u8]) -> bool {
+    is_word(name, "Title")
+        || is_word(name, "Genre")
+        || is_word(name, "Description")
+        || is_word(name, "Goal")
 }
 
 /// Whether the value of a tag `Variant` is chess.
@@ -147,10 +164,11 @@ impl Game {
         ensures asks { AsksMore (TagSays name.now value.now) self.old self.new }
         ensures comment { self.new.in_comment ≡ self.old.in_comment }
     {
-        if !has_names(name) {
-            return;
+        if has_names(name) {
+            self.asked = self.asked.and(moves_named(value));
+        } else if has_kind(name) && speaks_of_aim(value) {
+            self.asked = Asked::Unknown;
         }
-        self.asked = self.asked.and(moves_named(value));
     }
 
     /// Takes what a tag's value asks by a sign beside the others, where it may: where the defender stands, there may be the stipulation.
@@ -178,6 +196,7 @@ impl Game {
         if !is_word(name, "Stipulation") || !is_said(value) {
             return;
         }
+        self.take_sides(value);
         let asked = moves_asked(value);
         self.stipulated = match self.stipulated {
             Some(before) => Some(before.and(asked)),
@@ -222,7 +241,8 @@ impl Game {
             self.fen = value;
             return;
         }
-        if is_word(name, "Variant") && !is_standard(value.as_slice()) {
+        let is_fairy = is_of_fairy(name) && is_said(value.as_slice());
+        if is_fairy || is_word(name, "Variant") && !is_standard(value.as_slice()) {
             self.note(ImportFault::FairyCondition);
         }
         self.take_number(name, value.as_slice());

@@ -25,6 +25,8 @@ pub enum ImportFault {
     BadStipulation,
     /// It says that the other side moves.
     WrongSide,
+    /// It tells of other numbers of men than it has.
+    OtherMen,
     /// It has a condition, or is of another variant.
     FairyCondition,
     /// It has a man that is none of chess.
@@ -46,6 +48,7 @@ impl ImportFault {
             ImportFault::TwoBounds => "TwoBounds",
             ImportFault::BadStipulation => "BadStipulation",
             ImportFault::WrongSide => "WrongSide",
+            ImportFault::OtherMen => "OtherMen",
             ImportFault::FairyCondition => "FairyCondition",
             ImportFault::FairyPiece => "FairyPiece",
             ImportFault::UnknownCommand => "UnknownCommand",

@@ -3,6 +3,7 @@
 ghost use Rattle.std.specs.Prelude.{◌≡◌, ◌≢◌, Bool, IfErr, IfOk, IfSome, true};
 ghost use Rattle.std.specs.List.{list_all};
 ghost use Rattle.chess_notation.specs.Records.{RecordValue, Reads};
+ghost use Rattle.move_words.specs.Languages.{is_english};
 ghost use Rattle.problem_import.specs.inside.Counted.{IsSaid};
 ghost use Rattle.problem_import.specs.Imports.{IsClean, IsRecord};
 ghost use Rattle.problem_import.specs.Mendable.{has_clear_claims, is_mendable as is_mendable_byte, is_settled};
@@ -17,6 +18,7 @@ use chess_moves::Rays;
 use chess_notation::{
     Bound, EpdFault, claimed_moves, claims_text, four_words, read_record, records_clear, says_one,
 };
+use move_words::Letters;
 use std::alloc::Global;
 use stipulations::speaks_of_aim;
 
@@ -229,17 +231,21 @@ fn have_clear_claims(
     }
 }
 
-/// What a line is that is a record of such a position.
+/// What a line is that is a record of such a position, where men have such letters in moves.
 fn kind_of_record(
     alloc: Global,
     rays: &Rays,
+    letters: &Letters,
     line: &[u8],
     position: &Position,
 ) -> Result<LineKind, NoMemory>
     requires position { (r : RecordValue) → Reads line.now 3 r → r.position ≡ position.now }
     ensures other { IfOk result (λ kind. kind ≢ LineKind.Other) }
-    ensures mendable { IfOk result (λ kind. kind ≡ LineKind.Mendable → ¬ (IsClean line.now)) }
+    ensures mendable { IfOk result (λ kind. kind ≡ LineKind.Mendable → is_english letters.now ≡ true → ¬ (IsClean line.now)) }
 {
+    if !letters.is_english() {
+        return Ok(LineKind::Mendable);
+    }
     if !have_no_mendable(line) || speaks_of_aim(four_words(line).behind) {
         return Ok(LineKind::Mendable);
     }
@@ -250,12 +256,17 @@ fn kind_of_record(
     }
 }
 
-/// What a line is.
-pub(crate) fn read_line(alloc: Global, rays: &Rays, line: &[u8]) -> Result<LineRead, NoMemory>
+/// What a line is. Where men haven't English letters in moves, each record is to be made anew.
+pub(crate) fn read_line(
+    alloc: Global,
+    rays: &Rays,
+    letters: &Letters,
+    line: &[u8],
+) -> Result<LineRead, NoMemory>
     ensures record { IfOk result (λ read. read.kind ≡ LineKind.Clean → IsRecord line.now) }
     ensures said { IfOk result (λ read. read.kind ≡ LineKind.Clean → IsSaid line.now read.says) }
     ensures other { IfOk result (λ read. read.kind ≡ LineKind.Other → ¬ (IsRecord line.now)) }
-    ensures mendable { IfOk result (λ read. read.kind ≡ LineKind.Mendable → ¬ (IsClean line.now)) }
+    ensures mendable { IfOk result (λ read. read.kind ≡ LineKind.Mendable → is_english letters.now ≡ true → ¬ (IsClean line.now)) }
     ensures mended { IfOk result (λ read. read.kind ≡ LineKind.Mendable → IsRecord line.now) }
 {
     let Ok(found) = line_record(alloc, rays, line)? else {
@@ -264,7 +275,7 @@ pub(crate) fn read_line(alloc: Global, rays: &Rays, line: &[u8]) -> Result<LineR
             says: false,
         });
     };
-    let kind = kind_of_record(alloc, rays, line, &found.position)?;
+    let kind = kind_of_record(alloc, rays, letters, line, &found.position)?;
     Ok(LineRead {
         kind,
         says: found.says,

@@ -9,14 +9,16 @@ ghost use Rattle.problem_import.specs.Numbers.{asked_by_sign as asked_by_sign_of
 ghost use Rattle.problem_import.specs.Numbers.{asked_together, beside as beside_asked, bound_among, bound_of_word as bound_of_text, has_moves as does_have_moves};
 ghost use Rattle.problem_import.specs.Numbers.{has_signs as does_have_signs};
 ghost use Rattle.problem_import.specs.Numbers.{has_string as does_have_string};
-ghost use Rattle.problem_import.specs.Numbers.{is_comment as is_comment_opcode, is_free as is_free_operation, or_by_id as other_or_by_id};
+ghost use Rattle.problem_import.specs.Numbers.{is_comment as is_comment_opcode, is_free as is_free_operation, is_silent as is_silent_opcode};
+ghost use Rattle.problem_import.specs.Numbers.{or_by_id as other_or_by_id};
 ghost use Rattle.problem_import.specs.Numbers.{parts_of, said};
 ghost use Rattle.problem_import.specs.Numbers.{said_by};
 
 use crate::changes::Changes;
 use crate::fields::{behind_counters, push_counters, text_before};
-use crate::lengths::{asked_by_sign, bound_of_word, is_length, length_digits, mate_digits};
-use crate::operations::push_bound_operation;
+use crate::lengths::{asked_by_sign, bound_of_word, length_digits, mate_digits};
+use crate::operations::{cut_words, is_operation, push_bound_operation, push_claim, push_comment};
+use crate::solutions::{bare, claimed, is_play, is_solution, is_try, push_joined};
 use crate::texts::{is_same, push_byte, trimmed};
 use crate::tokens::{Kind, Token, part_at, segment_at, token_at};
 use chess_notation::{four_words, word_at};
@@ -32,8 +34,16 @@ struct Mending<'a> {
     changes: &'a mut Changes,
     /// Whether it has a bound, or the line has.
     is_bound: bool,
+    /// Whether it claims keys, or the line does.
+    has_keys: bool,
+    /// Whether Black is to move.
+    is_blacks: bool,
+    /// The key that words have told of last.
+    told: Vec<u8>,
     /// How many comments there are among `c0` to `c8`, of the line or added: the next is added behind them.
     comments: u8,
+    /// What is to stand in `c8`, the last of them.
+    last_words: Vec<u8>,
 }
 
 /// Whether an operation's opcode is `dm`.
@@ -130,7 +140,14 @@ fn has_signs(opcode: &[u8]) -> bool
     is_same(opcode, "bm") || is_same(opcode, "ce")
 }
 
-/// What stands between two semicolons asks: by `bm`, `ce`, a comment, or words, at whose head a sign may stand.
+/// Whether an operation with such an opcode asks nothing by its text.
+fn is_silent(opcode: &[u8]) -> bool
+    ensures { result ≡ is_silent_opcode opcode.now }
+{
+    has_moves(opcode) || is_same(opcode, "dm") || is_same(opcode, "id")
+}
+
+/// What stands between two semicolons asks: by `bm`, `ce`, a comment, or the text of another operation, or words.
 fn asked_by_segment(segment: &[u8]) -> Asked
     ensures { result ≡ asked_by_operation segment.now }
 {
@@ -139,10 +156,10 @@ fn asked_by_segment(segment: &[u8]) -> Asked
         asked_by_signs(operands)
     } else if is_comment(opcode) {
         moves_asked(operands)
-    } else if is_length(opcode) || is_free(segment) {
-        moves_asked(segment)
-    } else {
+    } else if is_silent(opcode) {
         Asked::Nothing
+    } else {
+        moves_asked(segment)
     }
 }
 
@@ -204,13 +221,13 @@ fn asked_by_ids(operations: &[u8]) -> Asked
     asked
 }
 
-/// The number of moves that operations say: that of `dm`, or else what they ask; or that something in them isn't understood.
+/// The number of moves that operations say: that of `dm`, or else what they ask; or that they say two, or something in them isn't understood.
 fn said_in(operations: &[u8]) -> Asked
     ensures { result ≡ said_by (parts_of 59 operations.now) }
 {
     let asked = asked_in(operations);
     match bound_in(operations) {
-        Some(moves) => beside(asked, Asked::Moves(moves)),
+        Some(moves) => asked.and(Asked::Moves(moves)),
         None => or_by_id(asked, asked_by_ids(operations)),
     }
 }
@@ -241,9 +258,24 @@ fn without_marks(word: &[u8]) -> &[u8] {
     word
 }
 
-/// Whether a word is marked as a try, as `Bf1?`: what it names is no key.
-fn is_try(word: &[u8]) -> bool {
-    word.contains(&b'?')
+/// Whether one of these operations claims keys.
+fn have_keys(operations: &[u8]) -> bool {
+    let mut rest = operations;
+    for _ in 0..operations.len() {
+        let Some(segment) = segment_at(rest) else {
+            return false;
+        };
+        if is_same(word_at(segment.text).0, "bm") {
+            return true;
+        }
+        rest = segment.rest;
+    }
+    false
+}
+
+/// Whether a word is a move's number alone.
+fn is_number_alone(word: &[u8]) -> bool {
+    matches!(word, [b'0'..=b'9', .., b'.'])
 }
 
 impl Mending<'_> {
@@ -311,18 +343,24 @@ impl Mending<'_> {
         Ok(())
     }
 
-    /// Adds the keys that are claimed, but no tries; the first number of moves among them is a bound, where there is none.
+    /// Adds the keys that are claimed, but no tries: of a line of play its first move. The first number of moves among them is a bound, where
+    /// there is none.
     fn push_keys(&mut self, operands: &[u8]) -> Result<(), AllocError> {
         let before = self.text.len();
         self.text.extend_from_slice(b" bm")?;
         let mut has_keys = false;
         let mut has_tries = false;
         let mut bound: &[u8] = &[];
+        let is_play = is_play(operands);
         let mut rest = operands;
         for _ in 0..operands.len() {
             let Some(token) = token_at(rest) else {
                 break;
             };
+            if is_play && (has_keys || has_tries) {
+                self.changes.moves = true;
+                break;
+            }
             match length_digits(token.text) {
                 Some(digits) if matches!(token.kind, Kind::Word) && !self.is_bound => {
                     bound = digits;
@@ -333,7 +371,7 @@ impl Mending<'_> {
                     self.changes.marks = true;
                 }
                 _ => {
-                    has_keys = true;
+                    has_keys = !is_number_alone(token.text) || has_keys;
                     self.push_move(&token)?;
                 }
             }
@@ -370,19 +408,91 @@ impl Mending<'_> {
         push_byte(&mut self.text, b';')
     }
 
-    /// Adds words that say a number of moves as a comment, so that nothing of them is lost; as an operation where no comment is left, or a
-    /// string stands among them.
+    /// Whether words may stand in a comment: they have no string, and the line hasn't the last one itself.
+    fn has_room(&self, words: &[u8]) -> bool {
+        self.comments < 9 && !words.contains(&b'"')
+    }
+
+    /// Adds words as a comment, so that nothing of them is lost, in the last one behind others; as an operation where there is no room.
     fn push_words(&mut self, words: &[u8]) -> Result<(), AllocError> {
-        if self.comments > 8 || words.contains(&b'"') {
+        if !self.has_room(words) {
             return self.push_operation(words);
         }
-        self.changes.bound = true;
-        self.text.extend_from_slice(b" c")?;
-        self.text.push(b'0' + self.comments)?;
-        self.comments += 1;
-        self.text.extend_from_slice(b" \"")?;
-        self.text.extend_from_slice(trimmed(words))?;
-        self.text.extend_from_slice(b"\";")
+        let words = trimmed(words);
+        if self.comments < 8 {
+            push_comment(
+                &mut self.text,
+                self.comments,
+                cut_words(words, self.changes),
+            )?;
+            self.comments += 1;
+            return Ok(());
+        }
+        if !self.last_words.is_empty() {
+            self.last_words.extend_from_slice(b" / ")?;
+        }
+        self.last_words.extend_from_slice(words)
+    }
+
+    /// Adds words that say a number of moves.
+    fn push_bound_words(&mut self, words: &[u8]) -> Result<(), AllocError> {
+        self.changes.bound = self.changes.bound || self.has_room(words);
+        self.push_words(words)
+    }
+
+    /// Adds words that say none.
+    fn push_remark(&mut self, words: &[u8]) -> Result<(), AllocError> {
+        self.changes.quotes = self.changes.quotes || self.has_room(words);
+        self.push_words(words)
+    }
+
+    /// Claims the keys that words tell of, where the line claims none itself: behind a `?` where they leave open which. Words that tell of
+    /// another than words before claim that, too.
+    fn claim(&mut self, key: &[u8], words: &[u8]) -> Result<(), AllocError> {
+        let key = bare(key);
+        let is_first = self.told.is_empty();
+        if self.has_keys && is_first || !is_first && self.told.as_slice() == key {
+            return Ok(());
+        }
+        self.has_keys = true;
+        self.changes.moves = true;
+        let mut keys = Vec::from_slice(self.alloc, key)?;
+        let is_open = push_joined(&mut keys, self.is_blacks, words)?;
+        let mut told = Vec::new(self.alloc);
+        if is_open {
+            told.push(b'?')?;
+        }
+        told.extend_from_slice(keys.as_slice())?;
+        push_claim(&mut self.text, told.as_slice())?;
+        self.told = Vec::from_slice(self.alloc, key)?;
+        Ok(())
+    }
+
+    /// Adds words that tell of a solution, where there is room; the key that they claim stands before them.
+    fn push_solution(&mut self, words: &[u8]) -> Result<(), AllocError> {
+        if let Some(key) = claimed(self.is_blacks, words) {
+            self.claim(key, words)?;
+        }
+        if !self.has_room(words) {
+            self.changes.cut = true;
+            return Ok(());
+        }
+        self.push_remark(words)
+    }
+
+    /// Adds words that are no operation of this crate's, as one where the grammar has them.
+    fn push_free(&mut self, words: &[u8]) -> Result<(), AllocError> {
+        if is_solution(self.is_blacks, words) {
+            return self.push_solution(words);
+        }
+        if !matches!(moves_asked(words), Asked::Nothing) {
+            return self.push_bound_words(words);
+        }
+        if is_operation(words) {
+            self.push_operation(words)
+        } else {
+            self.push_remark(words)
+        }
     }
 
     /// Adds what stands between two semicolons: a number of moves is a bound.
@@ -393,18 +503,19 @@ impl Mending<'_> {
             Some(digits) if !is_more && trimmed(behind).is_empty() => {
                 return self.push_bound(digits);
             }
-            Some(_) => return self.push_words(segment),
+            Some(_) => return self.push_bound_words(segment),
             None => {}
         }
         match mate_digits(segment) {
             Some(digits) if !is_more => return self.push_bound(digits),
-            Some(_) => return self.push_words(segment),
+            Some(_) => return self.push_bound_words(segment),
             None => {}
         }
-        if is_free(segment) && !matches!(moves_asked(segment), Asked::Nothing) {
-            return self.push_words(segment);
+        if is_free(segment) {
+            self.push_free(segment)
+        } else {
+            self.push_operation(segment)
         }
-        self.push_operation(segment)
     }
 
     /// Adds the bound that the line says, unless it has one.
@@ -420,9 +531,19 @@ impl Mending<'_> {
         push_bound_operation(&mut self.text, moves)
     }
 
-    /// Adds all operations.
+    /// Adds the last comment, if something is to stand in it.
+    fn push_last_words(&mut self) -> Result<(), AllocError> {
+        let words = self.last_words.as_slice();
+        if words.is_empty() {
+            return Ok(());
+        }
+        push_comment(&mut self.text, 8, cut_words(words, self.changes))
+    }
+
+    /// Adds all operations; an empty one is dropped, and told but where it is the first.
     fn push_operations(&mut self, operations: &[u8]) -> Result<(), AllocError> {
         let mut rest = operations;
+        let mut is_first = true;
         for _ in 0..operations.len() {
             let Some(segment) = segment_at(rest) else {
                 break;
@@ -431,12 +552,14 @@ impl Mending<'_> {
                 self.changes.semicolon = true;
             }
             if segment.text.is_empty() {
-                self.changes.operation = true;
+                self.changes.operation = self.changes.operation || !is_first;
+            } else {
+                self.push_segment(segment.text)?;
             }
-            self.push_segment(segment.text)?;
+            is_first = false;
             rest = segment.rest;
         }
-        Ok(())
+        self.push_last_words()
     }
 }
 
@@ -474,11 +597,16 @@ pub(crate) fn mended_line(
         text: Vec::new(alloc),
         changes,
         is_bound: false,
+        has_keys: false,
+        is_blacks: is_same(fields.side, "b"),
+        told: Vec::new(alloc),
         comments: 0,
+        last_words: Vec::new(alloc),
     };
     let operations = push_counters(&mut mending.text, fields.behind)?;
     let is_by_dm = bound_in(operations).is_some();
     mending.is_bound = is_by_dm;
+    mending.has_keys = have_keys(operations);
     mending.comments = next_comment(operations);
     mending.push_operations(operations)?;
     mending.push_asked(said)?;

@@ -66,11 +66,6 @@ impl Moves<'_> {
         push_word(&mut self.text, word)
     }
 
-    /// Whether a word says a number of moves, or a move as SAN has it.
-    fn is_said(&self, word: &[u8]) -> bool {
-        claimed_moves(self.rays, self.position, word).is_ok()
-    }
-
     /// Whether a word is one that stays: a number of moves, or, where men have their English letters, a move as SAN has it.
     fn stays(&self, word: &[u8]) -> bool {
         match claimed_moves(self.rays, self.position, word) {
@@ -79,9 +74,9 @@ impl Moves<'_> {
         }
     }
 
-    /// Adds a word that names no move under the letters: behind `?` where it would be one in English.
+    /// Adds a word that names no move under the letters: behind `?` where these aren't English, so that nobody takes it for one in SAN.
     fn push_unnamed(&mut self, word: &[u8]) -> Result<(), AllocError> {
-        if !self.is_said(word) {
+        if self.letters.is_english() {
             return self.push(word);
         }
         self.is_mended = true;

@@ -12,7 +12,7 @@ use crate::moves::is_position;
 use crate::tag_pairs::begins_with;
 use crate::texts::{cut_at, is_same, push_byte, without_first};
 use std::alloc::AllocError;
-use stipulations::moves_asked;
+use stipulations::{Asked, moves_asked};
 
 /// Movetext that is passed over.
 #[derive(Clone, Copy)]
@@ -33,12 +33,12 @@ fn move_word(text: &[u8]) -> (&[u8], &[u8])
     (text, &[])
 }
 
-/// What stands behind a comment in braces, where a text begins with one that ends in it; else the text.
-fn after_braces(text: &[u8]) -> &[u8] {
+/// A comment in braces with which a text begins, if it does, and what stands behind.
+fn cut_braces(text: &[u8]) -> (&[u8], &[u8]) {
     if begins_with(b'{', text) {
-        cut_at(text, b'}').1
+        cut_at(text, b'}')
     } else {
-        text
+        (&[], text)
     }
 }
 
@@ -52,13 +52,26 @@ fn is_mark(word: &[u8]) -> bool {
     matches!(word, [b'$' | b'!' | b'?', ..])
 }
 
-/// Whether one of the marks behind a move blames it, between which comments may stand.
+/// Whether a comment is a mark of blame and nothing else: `{?}`.
+fn is_blame(comment: &[u8]) -> bool {
+    let mut is_blame = false;
+    for byte in without_first(comment, 1) {
+        match *byte {
+            b'?' => is_blame = true,
+            b'!' | b' ' => {}
+            _ => return false,
+        }
+    }
+    is_blame
+}
+
+/// Whether one of the marks behind a move blames it, between which comments may stand, or a comment that is such a mark.
 fn is_blamed(behind: &[u8]) -> bool {
     let mut rest = behind;
     for _ in 0..behind.len() {
-        let text = after_braces(rest.trim_ascii_start());
+        let (comment, text) = cut_braces(rest.trim_ascii_start());
         let (word, more) = move_word(text.trim_ascii_start());
-        if blames(word) {
+        if is_blame(comment) || blames(word) {
             return true;
         }
         if !is_mark(word) && !begins_with(b'{', text.trim_ascii_start()) {
@@ -112,24 +125,26 @@ impl Game {
         Ok(())
     }
 
-    /// Takes a comment up to its end, or the line's: one with which movetext begins may ask for a number of moves.
-    fn take_comment<'t>(&mut self, text: &'t [u8]) -> &'t [u8]
+    /// Takes a comment up to its end, or the line's: it may ask for a number of moves. Of one over several lines a part that speaks of an aim
+    /// isn't understood, since what goes on there may be of it.
+    fn take_comment<'t>(&mut self, text: &'t [u8], is_front: bool) -> &'t [u8]
         ensures fen { KeepsFen self.old self.new }
         ensures asks { AsksMore (CommentSays text.now) self.old self.new }
         ensures rest { EndsText result.now text.now }
     {
         let (comment, behind) = cut_at(text, b'}');
         self.in_comment = comment.len() == text.len();
-        if self.is_begun {
-            return behind;
-        }
         self.take_sides(comment);
-        self.asked = self.asked.and(moves_asked(comment));
+        let asked = match moves_asked(comment) {
+            Asked::Moves(_) if self.in_comment || !is_front => Asked::Unknown,
+            asked => asked,
+        };
+        self.asked = self.asked.and(asked);
         behind
     }
 
-    /// Takes the comment that is open, if one is; gives what stands behind.
-    fn after_comment<'t>(&mut self, text: &'t [u8]) -> &'t [u8]
+    /// Takes the comment that is open, if one is, which may begin there; gives what stands behind.
+    fn after_comment<'t>(&mut self, text: &'t [u8], is_front: bool) -> &'t [u8]
         ensures fen { KeepsFen self.old self.new }
         ensures asks { AsksMore (CommentSays text.now) self.old self.new }
         ensures rest { EndsText result.now text.now }
@@ -138,7 +153,7 @@ impl Game {
         if !self.in_comment {
             return text;
         }
-        self.take_comment(text)
+        self.take_comment(text, is_front)
     }
 
     /// Takes a byte of a number, its dots, or a mark as `$1`, if one stands there; gives what stands behind.
@@ -184,13 +199,15 @@ impl Game {
     {
         let mut found: &[u8] = &[];
         let mut rest = line;
+        let mut is_front = false;
         for _ in 0..line.len() {
-            let text = self.after_comment(rest).trim_ascii_start();
+            let text = self.after_comment(rest, is_front).trim_ascii_start();
             if text.is_empty() || begins_with(b';', text) {
                 break;
             }
             if begins_with(b'{', text) {
                 self.in_comment = true;
+                is_front = true;
                 rest = without_first(text, 1);
                 continue;
             }

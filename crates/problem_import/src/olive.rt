@@ -17,7 +17,8 @@ use crate::lengths::moves_signed;
 use crate::movetext::is_key;
 use crate::operations::{push_id, push_id_operation};
 use crate::popeye_words::is_harmless_option;
-use crate::texts::{are_digits, is_same, push_byte};
+use crate::tag_pairs::begins_with;
+use crate::texts::{are_digits, is_same, push_byte, without_first};
 use chess_board::Colour;
 use chess_notation::{is_blank, word_at};
 use std::alloc::{AllocError, Global};
@@ -139,9 +140,9 @@ fn has_colon(word: &[u8]) -> bool
 
 /// Whether what stands behind a move marks it as a key: `!`, behind a sign of check or none.
 fn marks_key(behind: &[u8]) -> bool {
-    for byte in behind {
+    for (index, byte) in behind.iter().enumerate() {
         match byte {
-            b'!' => return true,
+            b'!' => return !begins_with(b'?', without_first(behind, index + 1)),
             b' ' | b'+' | b'#' => {}
             _ => return false,
         }

@@ -2,7 +2,6 @@
 
 ghost use Rattle.std.specs.Prelude.{◌≡◌, ◌≤◌, ◌<◌, ◌+◌, ℕ, List, [], IfOk, length, false, true};
 ghost use Rattle.chess_notation.specs.Words.{words_in};
-ghost use Rattle.move_words.specs.Languages.{english};
 ghost use Rattle.move_words.specs.declared.languages.Letters.{Letters as LettersValue};
 ghost use Rattle.problem_import.specs.PopeyeProblems.{said_onto};
 ghost use Rattle.problem_import.specs.Sources.{AreUpTo, IsOlives, IsPopeyes};
@@ -12,9 +11,10 @@ ghost use Rattle.problem_import.specs.inside.OpenProblems.{due, goes_on as does_
 ghost use Rattle.problem_import.specs.inside.OpenProblems.{in_comment as is_in_comment, is_game, is_olive, is_popeye};
 
 use crate::changes::{Changes, Form};
-use crate::findings::Finding;
-use crate::finished_problems::{finish_game, finish_olive, finish_popeye};
+use crate::findings::{Finding, push_finding};
+use crate::finished_problems::found_open;
 use crate::games::Game;
+use crate::import_letters::ImportLetters;
 use crate::letters::AsciiLine;
 use crate::movetext::Movetext;
 use crate::olive::OliveProblem;
@@ -38,26 +38,22 @@ pub(crate) struct Reading {
     pub(crate) open: Open,
     /// The number of the last line that wasn't blank.
     pub(crate) last: usize,
-    /// The letters of men in games, and those that figurines stand for.
+    /// The letters of men in a placement that a tag says.
     pub(crate) letters: Letters,
+    /// Those that figurines stand for.
+    pub(crate) figurines: Letters,
 }
 
 impl Reading {
-    /// Before the first line.
-    pub(crate) fn new() -> Reading
-        ensures from { IsKnown english [] result }
-    {
-        Reading::lettered(Letters::ENGLISH)
-    }
-
     /// Before the first line, where men have such letters.
-    pub(crate) fn lettered(letters: Letters) -> Reading
-        ensures from { IsKnown letters [] result }
+    pub(crate) fn new(letters: &ImportLetters) -> Reading
+        ensures from { IsKnown letters.now.placements [] result }
     {
         Reading {
             open: Open::Nothing,
             last: 0,
-            letters,
+            letters: letters.placements,
+            figurines: letters.moves,
         }
     }
 
@@ -137,12 +133,11 @@ impl Reading {
             → Ends letters lines own self.old.open findings.old.items findings.new.items) }
     {
         let open = std::mem::replace(&mut self.open, next);
-        match open {
-            Open::Game(game) => finish_game(alloc, game, findings),
-            Open::Popeye(problem) => finish_popeye(alloc, &problem, findings),
-            Open::Olive(problem) => finish_olive(alloc, &problem, findings),
-            Open::Nothing | Open::Movetext(_) => Ok(()),
-        }
+        let Some(finding) = found_open(alloc, open)? else {
+            return Ok(());
+        };
+        push_finding(findings, finding)?;
+        Ok(())
     }
 
     /// Ends a game whose movetext has begun at an empty line before a line of such a number.

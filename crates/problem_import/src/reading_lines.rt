@@ -15,8 +15,10 @@ ghost use Rattle.problem_import.specs.inside.KnownSources.{AreFrom, IsAt, IsHeld
 ghost use Rattle.problem_import.specs.inside.OpenProblems.{due, goes_on as does_go_on, has_begun, is_olive};
 
 use crate::changes::{Changes, Form};
-use crate::findings::{Finding, push_finding};
+use crate::fields::{has_foreign_placement, has_placement, is_placement};
+use crate::findings::{Finding, Found, push_finding};
 use crate::finished_problems::found_line;
+use crate::import_faults::ImportFault;
 use crate::letters::{AsciiLine, ascii_text};
 use crate::movetext::Movetext;
 use crate::olive::is_border;
@@ -25,7 +27,8 @@ use crate::popeye_words::is_begin;
 use crate::reading::{Open, Reading};
 use crate::tag_pairs::{begins_with, is_tag_pair};
 use crate::texts::{are_digits, trimmed};
-use chess_notation::word_at;
+use chess_board::FenFault;
+use chess_notation::{EpdFault, word_at};
 use std::alloc::{AllocError, Global};
 
 /// Whether a text begins with a placement, as far as can be seen: its first word has three strokes.
@@ -39,18 +42,10 @@ fn begins_with_placement(text: &[u8]) -> bool {
     strokes >= 3
 }
 
-/// Whether a word is a placement, as far as its ranks and letters tell.
-fn is_placement(word: &[u8]) -> bool {
-    let mut strokes = 0_usize;
-    for byte in word {
-        match *byte {
-            b'/' => strokes = strokes.saturating_add(1),
-            b'1'..=b'8' | b'p' | b'n' | b'b' | b'r' | b'q' | b'k' => {}
-            b'P' | b'N' | b'B' | b'R' | b'Q' | b'K' => {}
-            _ => return false,
-        }
-    }
-    strokes == 7
+/// Whether a text begins with a placement and the side to move.
+fn begins_with_position(text: &[u8]) -> bool {
+    let (placement, behind) = word_at(text);
+    is_placement(placement) && matches!(word_at(behind).0, b"w" | b"b")
 }
 
 /// Whether a text begins with a placement behind a number in brackets, as in a list: `[1] 8/..`.
@@ -81,6 +76,12 @@ fn is_remark(text: &[u8]) -> bool
         [first, ..] => *first == b'%' || *first == b';',
         [] => false,
     }
+}
+
+/// Whether a line was put aside, as a remark, and has a placement.
+pub(crate) fn is_aside(line: &[u8]) -> bool {
+    let text = line.trim_ascii();
+    is_remark(text) && has_placement(text)
 }
 
 impl Reading {
@@ -249,6 +250,27 @@ impl Reading {
         Ok(())
     }
 
+    /// Refuses a line whose placement can't be read, which ends what is open.
+    fn take_fault(
+        &mut self,
+        alloc: Global,
+        number: usize,
+        findings: &mut Vec<Finding>,
+    ) -> Result<(), AllocError>
+        ensures found { IfOk result (λ _. length findings.new.items ≡ due self.old.open + length findings.old.items + 1) }
+        ensures own { IfOk result (λ _. (whole : List ℕ) → AreFoundOf whole findings.old.items → AreFoundOf whole findings.new.items) }
+        ensures ended { IfOk result (λ _. self.new.open ≡ Open.Nothing) }
+        ensures letters { self.new.letters ≡ self.old.letters }
+        ensures from { IfOk result (λ _. (letters : LettersValue) (lines own : List (List ℕ)) (whole : List ℕ) → lines ≡ own ++ whole ∷ []
+            → IsOpenFrom letters own self.old.open → AreFrom letters lines findings.old.items → AreFrom letters lines findings.new.items) }
+    {
+        self.finish(alloc, Open::Nothing, findings)?;
+        let fault = ImportFault::Record(EpdFault::Fen(FenFault::BadPlacement));
+        let found = Found::Fault(fault);
+        push_finding(findings, Finding { number, found })?;
+        Ok(())
+    }
+
     /// Takes a line that is no tag pair of a game.
     fn take_untagged(
         &mut self,
@@ -343,8 +365,8 @@ impl Reading {
         self.take_untagged(alloc, line, findings)
     }
 
-    /// Takes a line that isn't empty. One that is a tag pair isn't passed over where a comment is open, so that a game doesn't disappear in
-    /// a comment that nobody ended.
+    /// Takes a line that isn't empty. One that is a tag pair, or begins with a position, isn't passed over where a comment is open, so that
+    /// no problem disappears in a comment that nobody ended.
     fn take_text(
         &mut self,
         alloc: Global,
@@ -358,7 +380,7 @@ impl Reading {
             → due self.old.open + length findings.old.items < due self.new.open + length findings.new.items) }
         ensures from { IfOk result (λ _. Takes line.now.number line.now.text.now self.old self.new findings.old.items findings.new.items) }
     {
-        if self.in_comment() && !is_tag_pair(line.text) {
+        if self.in_comment() && !is_tag_pair(line.text) && !begins_with_position(line.text) {
             return self.take_movetext(alloc, line.text, findings);
         }
         self.end_movetext(alloc, line.number, findings)?;
@@ -382,8 +404,13 @@ impl Reading {
             → length line.now ≤ max_line → ¬ (IsRecord line.now) → IsKnown letters own self.old → AreFrom letters lines findings.old.items
             → IsKnown letters lines self.new × AreFrom letters lines findings.new.items) }
     {
+        if has_foreign_placement(line) {
+            self.take_fault(alloc, number, findings)?;
+            self.last = number;
+            return Ok(());
+        }
         let mut changes = Changes::none(Form::Line);
-        let text = ascii_text(alloc, &self.letters, line, &mut changes)?;
+        let text = ascii_text(alloc, &self.figurines, line, &mut changes)?;
         let text = trimmed(text.as_slice());
         if text.is_empty() {
             return Ok(());

@@ -15,6 +15,8 @@ mod input_tests;
 #[cfg(test)]
 mod limited_tests;
 #[cfg(test)]
+mod mail_tests;
+#[cfg(test)]
 mod memo_tests;
 #[cfg(test)]
 mod plain_memo;

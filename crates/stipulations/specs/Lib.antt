@@ -4,6 +4,8 @@ pub mod Numbers
 pub mod Patterns
 pub mod Phrases
 pub mod Signs
+pub mod OtherNumbers
+pub mod Men
 pub mod Aims
 pub mod Stipulations
 pub mod Sides

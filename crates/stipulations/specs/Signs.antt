@@ -1,5 +1,5 @@
 -- Where the sign of a mate stands: `#2`, `2#`, `h#2`, `-#4` (own to this project).
-use Rattle.std.specs.Prelude.{ℕ, ◌==◌, List, [], ◌∷◌, codes, Bool, false, is_some, ◌||◌, ◌&&◌}
+use Rattle.std.specs.Prelude.{ℕ, ◌==◌, List, [], ◌∷◌, codes, Bool, false, is_some, not, ◌||◌, ◌&&◌, if◌then◌else◌}
 use Rattle.std.specs.Char.{is_ascii_alphabetic, is_ascii_digit}
 use Rattle.chess_board.specs.Characters.{char}
 use Rattle.stipulations.specs.declared.numbers.Language.TheVariants.{Signs}
@@ -45,3 +45,33 @@ is_letter_or_hyphen b = is_ascii_alphabetic b || (b == char "-")
 abbrev pub has_joined_sign : (before : ℕ) → (text : List ℕ) → Bool
 has_joined_sign before [] = false
 has_joined_sign before (b ∷ bs) = is_letter_or_hyphen before && (b == char "#") && begins_with is_ascii_digit bs || has_joined_sign b bs
+
+-- what may stand between a word and the sign that is its own
+abbrev pub is_between : ℕ → Bool
+is_between b =
+    is_space b || (b == char ".") || (b == char ":") || (b == char "-") || (b == char "(") || (b == char ")") || (b == char ",")
+
+-- behind any of these the sign of a mate and a digit, or digits and the sign
+abbrev pub has_sign_behind : (text : List ℕ) → Bool
+has_sign_behind [] = false
+has_sign_behind (b ∷ bs) =
+    if is_between b then has_sign_behind bs else (b == char "#") && begins_with is_ascii_digit bs || is_digits_and_sign (b ∷ bs)
+
+-- the same, and at least one of these
+abbrev pub has_sign_apart : (text : List ℕ) → Bool
+has_sign_apart text = begins_with is_between text && has_sign_behind text
+
+-- a letter, and then a sign apart
+abbrev pub has_letter_and_sign : (text : List ℕ) → Bool
+has_letter_and_sign [] = false
+has_letter_and_sign (b ∷ bs) = is_ascii_alphabetic b && has_sign_apart bs
+
+-- one letter or two, and then a sign apart
+abbrev pub has_front : (text : List ℕ) → Bool
+has_front [] = false
+has_front (b ∷ bs) = is_ascii_alphabetic b && (has_sign_apart bs || has_letter_and_sign bs)
+
+-- `H. #2`, `hm: #2`: the sign of a mate behind a word of one or two letters
+abbrev pub has_parted_sign : (before : ℕ) → (text : List ℕ) → Bool
+has_parted_sign before [] = false
+has_parted_sign before (b ∷ bs) = not (is_ascii_alphabetic before) && has_front (b ∷ bs) || has_parted_sign b bs

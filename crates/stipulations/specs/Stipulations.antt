@@ -1,12 +1,12 @@
 -- What a text asks, by its parts: a part that is a phrase asks so many moves, and any other that speaks of an aim isn't understood.
-use Rattle.std.specs.Prelude.{ℕ, ◌==◌, List, [], ◌∷◌, Bool, true, false, Option, Some, None, if◌then◌else◌}
+use Rattle.std.specs.Prelude.{ℕ, ◌==◌, List, [], ◌∷◌, Bool, true, false, Option, Some, None, ◌||◌, if◌then◌else◌}
 use Rattle.stipulations.specs.declared.asked.Asked.{Asked}
 use Rattle.stipulations.specs.declared.asked.Asked.TheVariants.{Nothing, Moves, Two, Unknown}
 use Rattle.stipulations.specs.Aims.{speaks, speaks_plainly}
 use Rattle.chess_board.specs.Characters.{char}
 use Rattle.stipulations.specs.Parts.{parts_of, tidied}
 use Rattle.stipulations.specs.Phrases.{in_phrase, in_words}
-use Rattle.stipulations.specs.Signs.{has_twin}
+use Rattle.stipulations.specs.Signs.{has_parted_sign, has_twin}
 
 -- what two texts ask together: the same number, however often it is said, or two; what isn't understood may change all the rest
 abbrev pub both : Asked → Asked → Asked
@@ -36,12 +36,12 @@ abbrev pub asked_beside : (List ℕ → Asked) → (others : Asked) → (parts :
 asked_beside asks others [] = others
 asked_beside asks others (part ∷ parts) = asked_beside asks (both others (asks part)) parts
 
--- twins are not understood
-abbrev pub asked_by_twins : (text : List ℕ) → Asked
-asked_by_twins text = if has_twin (char " ") text then Unknown else Nothing
+-- Neither twins are understood, nor the sign of another aim, cut off from the letters before it.
+abbrev pub asked_before_parts : (text : List ℕ) → Asked
+asked_before_parts text = if has_twin (char " ") text || has_parted_sign (char " ") text then Unknown else Nothing
 
 unfoldable pub asked : (text : List ℕ) → Asked
-asked text = asked_beside asked_by_part (asked_by_twins text) (parts_of text)
+asked text = asked_beside asked_by_part (asked_before_parts text) (parts_of text)
 
 unfoldable pub asked_by_name : (text : List ℕ) → Asked
 asked_by_name text = asked_beside asked_by_part_of_name Nothing (parts_of text)

@@ -130,7 +130,7 @@ fn is_first_digit(byte: u8) -> bool
 }
 
 /// One digit, or two.
-fn digits_number(word: &[u8]) -> Option<u8>
+pub(crate) fn digits_number(word: &[u8]) -> Option<u8>
     ensures { result ≡ number_of_digits word.now }
 {
     match word {

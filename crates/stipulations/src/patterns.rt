@@ -32,7 +32,7 @@ pub(crate) fn behind_front<'t>(front: &str, text: &'t [u8]) -> Option<&'t [u8]>
 }
 
 /// The digits with which a text begins, and what stands behind them.
-fn cut_digits(text: &[u8]) -> (&[u8], &[u8])
+pub(crate) fn cut_digits(text: &[u8]) -> (&[u8], &[u8])
     ensures run { result.0.now ≡ run is_ascii_digit text.now }
     ensures behind { result.1.now ≡ behind_run is_ascii_digit text.now }
 {
@@ -80,7 +80,7 @@ fn is_back(text: &[u8], back: &str) -> bool
 }
 
 /// Whether a text is one of the backs.
-fn is_one_back(text: &[u8], backs: &[&str]) -> bool
+pub(crate) fn is_one_back(text: &[u8], backs: &[&str]) -> bool
     ensures { result ≡ list_any (is_back_of (squeezed text.now)) (map (λ back. back.now) backs.now) }
 {
     for back in backs {

@@ -2,15 +2,15 @@
 
 ghost use Rattle.std.specs.Prelude.{◌≡◌};
 ghost use Rattle.std.specs.List.{list_any};
-ghost use Rattle.stipulations.specs.Parts.{squeezed};
+ghost use Rattle.stipulations.specs.Parts.{squeezed, tidied};
 ghost use Rattle.stipulations.specs.Sides.{begins_with_front, is_of_black as is_part_of_black, is_of_side as is_part_of_side};
-ghost use Rattle.stipulations.specs.Sides.{is_of_white as is_part_of_white, says_side as does_say_side};
+ghost use Rattle.stipulations.specs.Sides.{is_of_white as is_part_of_white, says_side as does_say_side, says_who_begins as is_beginning_said};
 
 use crate::parts::{cut_part, trimmed};
-use crate::patterns::behind_front;
+use crate::patterns::{behind_front, is_one_back};
 use chess_board::Colour;
 
-static OF_WHITE: [&str; 21] = [
+static OF_WHITE: [&str; 36] = [
     "white to move",
     "white to play",
     "white to mate",
@@ -32,9 +32,24 @@ static OF_WHITE: [&str; 21] = [
     "biale zaczynaja",
     "belye nachinayut",
     "belye dayut",
+    "white begins",
+    "white starts",
+    "white to start",
+    "white plays first",
+    "white moves first",
+    "weiss ist am zug",
+    "anziehender weiss",
+    "trait aux blancs",
+    "les blancs commencent",
+    "juegan las blancas",
+    "juegan blancas",
+    "muove il bianco",
+    "tratto al bianco",
+    "wit aan zet",
+    "khod belykh",
 ];
 
-static OF_BLACK: [&str; 21] = [
+static OF_BLACK: [&str; 36] = [
     "black to move",
     "black to play",
     "black to mate",
@@ -56,6 +71,21 @@ static OF_BLACK: [&str; 21] = [
     "czarne zaczynaja",
     "chernye nachinayut",
     "chernye dayut",
+    "black begins",
+    "black starts",
+    "black to start",
+    "black plays first",
+    "black moves first",
+    "schwarz ist am zug",
+    "anziehender schwarz",
+    "trait aux noirs",
+    "les noirs commencent",
+    "juegan las negras",
+    "juegan negras",
+    "muove il nero",
+    "tratto al nero",
+    "zwart aan zet",
+    "khod chernykh",
 ];
 
 /// Whether a text begins with one of these fronts, small and large letters alike.
@@ -110,4 +140,11 @@ pub fn says_side(text: &[u8], side: Colour) -> bool
         rest = behind;
     }
     false
+}
+
+/// Whether a part of a text says who begins, and no more.
+pub(crate) fn says_who_begins(part: &[u8]) -> bool
+    ensures { result ≡ is_beginning_said (tidied part.now) }
+{
+    is_one_back(trimmed(part), &["white begins", "black begins"])
 }

@@ -6,6 +6,9 @@ ghost use Rattle.stipulations.specs.Parts.{begins_with, tidied};
 ghost use Rattle.stipulations.specs.Signs.{has_digits_before_sign as are_digits_before_sign, has_joined_sign as is_sign_joined};
 ghost use Rattle.stipulations.specs.Signs.{has_sign_before_digit as is_sign_before_digit, is_digits_and_sign as are_digits_and_sign};
 ghost use Rattle.stipulations.specs.Signs.{begins_word as is_word_begun, has_twin as is_twin_named};
+ghost use Rattle.stipulations.specs.Signs.{has_front as is_front_there, has_letter_and_sign as is_letter_and_sign};
+ghost use Rattle.stipulations.specs.Signs.{has_parted_sign as is_sign_parted};
+ghost use Rattle.stipulations.specs.Signs.{has_sign_apart as is_sign_apart, has_sign_behind as is_sign_behind, is_between as is_byte_between};
 ghost use Rattle.stipulations.specs.Signs.{is_letter_or_hyphen as is_byte_of_joined, is_answer as is_text_of_answer};
 
 use crate::numbers::Language;
@@ -126,6 +129,75 @@ pub(crate) fn has_joined_sign(text: &[u8]) -> bool
     let mut rest = text;
     while let [byte, more @ ..] = rest {
         if is_letter_or_hyphen(before) && *byte == b'#' && begins_with_digit(more) {
+            return true;
+        }
+        before = *byte;
+        rest = more;
+    }
+    false
+}
+
+/// Whether a byte may stand between a word and the sign that is its own.
+fn is_between(byte: u8) -> bool
+    ensures { result ≡ is_byte_between byte }
+{
+    matches!(byte, b' ' | b'.' | b':' | b'-' | b'(' | b')' | b',')
+}
+
+/// Whether the sign of a mate stands behind such bytes, before a digit or behind digits.
+fn has_sign_behind(text: &[u8]) -> bool
+    ensures { result ≡ is_sign_behind text.now }
+{
+    let mut rest = text;
+    while let [byte, more @ ..] = rest {
+        if !is_between(*byte) {
+            return *byte == b'#' && begins_with_digit(more) || is_digits_and_sign(rest);
+        }
+        rest = more;
+    }
+    false
+}
+
+/// The same, and at least one such byte before it.
+fn has_sign_apart(text: &[u8]) -> bool
+    ensures { result ≡ is_sign_apart text.now }
+{
+    match text {
+        [first, ..] => is_between(*first) && has_sign_behind(text),
+        [] => false,
+    }
+}
+
+/// Whether a text begins with a letter, and has the sign of a mate apart behind it.
+fn has_letter_and_sign(text: &[u8]) -> bool
+    ensures { result ≡ is_letter_and_sign text.now }
+{
+    match text {
+        [first, behind @ ..] => first.is_ascii_alphabetic() && has_sign_apart(behind),
+        [] => false,
+    }
+}
+
+/// Whether a text begins with one letter or two, and has the sign of a mate apart behind them.
+fn has_front(text: &[u8]) -> bool
+    ensures { result ≡ is_front_there text.now }
+{
+    match text {
+        [first, behind @ ..] => {
+            first.is_ascii_alphabetic() && (has_sign_apart(behind) || has_letter_and_sign(behind))
+        }
+        [] => false,
+    }
+}
+
+/// Whether the sign of a mate stands behind a word of one or two letters, as in `H. #2`.
+pub(crate) fn has_parted_sign(text: &[u8]) -> bool
+    ensures { result ≡ is_sign_parted (char " ") text.now }
+{
+    let mut before = b' ';
+    let mut rest = text;
+    while let [byte, more @ ..] = rest {
+        if !before.is_ascii_alphabetic() && has_front(rest) {
             return true;
         }
         before = *byte;

@@ -3,14 +3,14 @@
 ghost use Rattle.std.specs.Prelude.{◌≡◌};
 ghost use Rattle.stipulations.specs.Parts.{parts_of};
 ghost use Rattle.stipulations.specs.Stipulations.{asked, asked_by_name, asked_by_part as asked_by_one_part};
-ghost use Rattle.stipulations.specs.Stipulations.{asked_by_twins as asked_by_twins_of};
+ghost use Rattle.stipulations.specs.Stipulations.{asked_before_parts as asked_before_parts_of};
 ghost use Rattle.stipulations.specs.Stipulations.{asked_by_part_of_name as asked_by_part_of_one_name, speaks_of_aim};
 
 use crate::aims::{speaks, speaks_plainly};
 use crate::asked::Asked;
 use crate::parts::{cut_part, trimmed};
 use crate::phrases::{in_phrase, in_words};
-use crate::signs::has_twin;
+use crate::signs::{has_parted_sign, has_twin};
 
 /// What a part of a text asks.
 fn asked_by_part(part: &[u8]) -> Asked
@@ -39,11 +39,11 @@ fn asked_by_part_of_name(part: &[u8]) -> Asked
     }
 }
 
-/// What a text asks before its parts are looked at: twins are not understood.
-fn asked_by_twins(text: &[u8]) -> Asked
-    ensures { result ≡ asked_by_twins_of text.now }
+/// What a text asks before its parts are looked at: neither twins are understood, nor a sign cut off from its letters.
+fn asked_before_parts(text: &[u8]) -> Asked
+    ensures { result ≡ asked_before_parts_of text.now }
 {
-    if has_twin(text) {
+    if has_twin(text) || has_parted_sign(text) {
         Asked::Unknown
     } else {
         Asked::Nothing
@@ -55,7 +55,7 @@ fn asked_by_twins(text: &[u8]) -> Asked
 pub fn moves_asked(text: &[u8]) -> Asked
     ensures { result ≡ asked text.now }
 {
-    let mut asked = asked_by_twins(text);
+    let mut asked = asked_before_parts(text);
     let mut rest = text;
     while !rest.is_empty() {
         let (part, behind) = cut_part(rest);

@@ -1,5 +1,5 @@
 -- Not for believing: what is printed, counted. No contract of a public call rests on it.
-use Rattle.std.specs.Prelude.{ℕ, ◌+◌, List, [], ◌∷◌, ◌++◌, min, Bool, true, false, not}
+use Rattle.std.specs.Prelude.{ℕ, ◌+◌, ◌==◌, if◌then◌else◌, List, [], ◌∷◌, ◌++◌, min, Bool, true, false, not}
 use Rattle.chess_board.specs.Characters.{char}
 use Rattle.chess_notation.specs.Records.{RecordValue, Reads}
 use Rattle.problem_import.specs.Imports.{IsRecord, one_if, refused_line}
@@ -18,6 +18,10 @@ with_record says c = record c { records = with_more c.records 1; unnumbered = wi
 -- one problem more that is refused, for want of a number of moves or not
 abbrev pub with_refusal : Bool → ImportCounts → ImportCounts
 with_refusal wants c = record c { refused = with_more c.refused 1; unbound = with_more c.unbound (one_if wants) }
+
+-- one line more that is passed over, and has a placement
+abbrev pub with_aside : ℕ → ImportCounts → ImportCounts
+with_aside number c = record c { aside = with_more c.aside 1; first_aside = if c.aside == 0 then number else c.first_aside }
 
 -- Whichever bound is the default one, the line says the same record: it says its number of moves itself.
 abbrev pub SaysBound : List ℕ → Type 0

@@ -2,16 +2,13 @@
 use Rattle.std.specs.Prelude.{◌≡◌, ℕ, List, All, Bool, true, false, Option, Some, None}
 use Rattle.chess_notation.specs.Records.{RecordValue, Reads}
 use Rattle.chess_notation.specs.RecordFields.{line_fields}
-use Rattle.problem_import.specs.inside.Counted.{IsSaid}
-use Rattle.problem_import.specs.Imports.{IsMade, IsNumber, IsRecord}
+use Rattle.problem_import.specs.Imports.{IsNumber, IsRecord}
 use Rattle.problem_import.specs.Numbers.{said}
 use Rattle.stipulations.specs.declared.asked.Asked.{Asked}
 use Rattle.stipulations.specs.declared.asked.Asked.TheVariants as asks
 use Rattle.problem_import.specs.Letters.{IsTextOf}
 use Rattle.problem_import.specs.declared.changes.Form.{Form}
 use Rattle.problem_import.specs.declared.changes.Form.TheVariants.{Line}
-use Rattle.problem_import.specs.declared.printing.ToldRecord.{ToldRecord}
-use Rattle.problem_import.specs.declared.printing.ToldRecord.TheVariants as told
 use Rattle.problem_import.specs.declared.findings.Finding.{Finding}
 use Rattle.problem_import.specs.declared.findings.Found.{Found}
 use Rattle.problem_import.specs.declared.findings.Found.TheVariants.{Text, Fault}
@@ -53,9 +50,3 @@ IsFoundOf line (Fault fault) = Unit {0}
 
 unfoldable pub AreFoundOf : List ℕ → List Finding → Type 0
 AreFoundOf line findings = All (λ finding. IsFoundOf line finding.found) findings
-
--- What is printed of a line where a text was made of it: the text, or that and what was changed.
-abbrev pub MayBeTold : (keep : Bool) → (given : Option ℕ) → (line text : List ℕ) → ToldRecord → Type 0
-MayBeTold keep given line text (told.As more says) = IsRecord more.items × IsSaid more.items says × IsMade keep given line more.items
-MayBeTold keep given line text told.Not = IsMade keep given line text
-MayBeTold keep given line text told.Two = Unit {0}

@@ -10,14 +10,10 @@ use Rattle.chess_board.specs.Fens.{SpellsSetup}
 use Rattle.chess_board.specs.Positions.{Setup}
 use Rattle.chess_board.specs.Soundness.{IsSound}
 use Rattle.stipulations.specs.declared.asked.Asked.TheVariants.{Moves}
-use Rattle.text_lines.specs.Replies.{LineReplies, RepliesBehind}
-use Rattle.problem_import.specs.Imports.{AreImported}
 use Rattle.problem_import.specs.PopeyeProblems.{has_end}
 use Rattle.problem_import.specs.Sources.{AreUpTo, GameSays, HasBrace, IsFenOf, IsGame, IsOlives, IsPopeyes, IsProblemIn, IsSourced, IsUnbroken, Says, before_byte}
 use Rattle.problem_import.specs.Sources.{TagAsks}
 use Rattle.problem_import.specs.declared.games.Game.{Game}
-use Rattle.problem_import.specs.declared.printing.ToldRecord.{ToldRecord}
-use Rattle.problem_import.specs.declared.printing.ToldRecord.TheVariants as told
 use Rattle.problem_import.specs.declared.findings.Finding.{Finding}
 use Rattle.problem_import.specs.declared.findings.Found.{Found}
 use Rattle.problem_import.specs.declared.findings.Found.TheVariants.{Text, Fault}
@@ -29,7 +25,6 @@ use Rattle.problem_import.specs.declared.reading.Reading.{Reading}
 use Rattle.problem_import.specs.OliveProblems.{Said}
 use Rattle.problem_import.specs.declared.olive.OliveProblem.{OliveProblem}
 use Rattle.problem_import.specs.declared.popeye.PopeyeProblem.{PopeyeProblem}
-use Rattle.problem_import.specs.inside.Findings.{Asks}
 use Rattle.problem_import.specs.inside.OpenProblems.{has_game}
 use Rattle.problem_import.specs.inside.ReadProblems.{AreRead, IsRead}
 use Rattle.problem_import.specs.TagPairs.{EndsText, begins_with}
@@ -196,29 +191,8 @@ IsWorded words (opens.Olive problem) = ⊥
 unfoldable pub IsMadeFrom : Letters → (given : Option ℕ) → (lines : List (List ℕ)) → (made : List ℕ) → Type 0
 IsMadeFrom letters given lines made = IsSourced letters given lines made
 
--- Records that are printed of what is of the lines are.
-abbrev pub PrintsFrom : Letters → (given : Option ℕ) → (lines : List (List ℕ)) → (before : List ℕ) → Bool → (after : List ℕ) → Bool → Type 0
-PrintsFrom letters given lines before any after any' =
-    AreImported (IsMadeFrom letters given lines) before any → AreImported (IsMadeFrom letters given lines) after any'
-
--- The text that tells what was changed has the fields of the text, and asks as many.
-abbrev pub TellsOf : (text : List ℕ) → Option ℕ → ToldRecord → Type 0
-TellsOf text moves (told.As more says) = (line_fields more.items ≡ line_fields text) × Asks moves more.items
-TellsOf text moves told.Not = Unit {0}
-TellsOf text moves told.Two = Unit {0}
-
--- Where what is open is of the lines, so is what is printed at their end.
-abbrev pub EndsFrom : (given : Option ℕ) → Reading → (text : List ℕ) → Bool → Type 0
-EndsFrom given reading text any = (letters : Letters) (lines : List (List ℕ)) → IsKnown letters lines reading
-    → AreImported (IsMadeFrom letters given (lines ++ [] ∷ [])) text any
-
--- All lines are read so: what is open is known to be of them, as far as they were looked at, and a line that was passed over changes nothing.
-pub data IsKnownOf (letters : Letters) (all_read : List (List ℕ) → List (List ℕ)) (reading : Reading) : (before : List (List ℕ)) → Type 0 where
-  looked_at : (before : List (List ℕ)) → IsKnown letters (all_read before) reading → IsKnownOf letters all_read reading before
+-- What is open is known to be of these lines, as far as they were looked at, and a line that was passed over changes nothing.
+pub data IsKnownOf (letters : Letters) (reading : Reading) : (before : List (List ℕ)) → Type 0 where
+  looked_at : (before : List (List ℕ)) → IsKnown letters before reading → IsKnownOf letters reading before
   passed_over : (before : List (List ℕ)) (line : List ℕ) → (is_blank line ≡ true) ⊎ (max_line < length line)
-      → IsKnownOf letters all_read reading before → IsKnownOf letters all_read reading (before ++ line ∷ [])
-
--- What a line may be answered, and that the records are of the lines up to it.
-abbrev pub Sourced : LineReplies → Letters → (given : Option ℕ) → (List ℕ → List ℕ) → (List (List ℕ) → List (List ℕ)) → RepliesBehind
-Sourced may letters given read all_read before number line text refused = may number line text refused
-    × ((any : Bool) × AreImported (IsMadeFrom letters given (all_read before ++ read line ∷ [])) text any)
+      → IsKnownOf letters reading before → IsKnownOf letters reading (before ++ line ∷ [])

@@ -7,9 +7,9 @@ use Rattle.problem_import.proofs.problem_lines.ProblemLines.found.Given as goal
 -- what was found so far is answered, and is of the lines that all of it is of
 abbrev pub invariant-loop-finding : goal.invariant-loop-finding
 invariant-loop-finding g l = record {
-  found : (line : List ℕ) → IsFound l.self.bound line (g.H.ProblemHandler.records l.self.handler.now)
-      (g.H.ProblemHandler.rows l.self.handler.now) l.finding-index l.answers.text.items l.answers.any;
+  found : IsFound l.self.printing.keep l.self.printing.bound l.line (g.H.ProblemHandler.records l.self.handler.now)
+      (g.H.ProblemHandler.rows l.self.handler.now) l.fn.counts l.finding-index l.answers;
   from : (letters : Letters) (lines : List (List ℕ)) → AreFrom letters lines l.findings
-      → IsAnsweredFrom letters l.self.bound lines (g.H.ProblemHandler.records l.self.handler.now) (g.H.ProblemHandler.rows l.self.handler.now)
-      l.answers.text.items;
+      → IsAnsweredFrom letters l.self.printing.bound lines (g.H.ProblemHandler.records l.self.handler.now)
+      (g.H.ProblemHandler.rows l.self.handler.now) l.answers.text.items;
 }

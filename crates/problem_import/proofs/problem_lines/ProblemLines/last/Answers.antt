@@ -1,17 +1,21 @@
-use Rattle.std.proofs.Common.{◌∷◌, ◌++◌, inr, refl}
-use Rattle.move_words.specs.Languages.{english}
-use Rattle.problem_import.proofs.ImportedInputs.{reads_itself}
+use Rattle.std.proofs.Common.{[], ◌∷◌, ◌++◌, inr, refl}
+use Rattle.problem_import.proofs.AnsweredSources.{last_if}
+use Rattle.problem_import.proofs.OwnFindings.{none_found}
 use Rattle.problem_import.proofs.Sources.{known_at, none_from, open_ended}
-use Rattle.std.proofs.Common.{[]}
 use Rattle.problem_import.proofs.problem_lines.ProblemLines.last.Goals as goal
 
-pub returns-clause-last : goal.returns-clause-last
-returns-clause-last g c = let (lines, some, answered) = c.in_ok-answers.ensures.found [] in (lines, answered)
+pub found-requires : goal.found-requires
+found-requires g c =
+    rw c.as_slice.ensures.value (c.in_ok-finish.ensures.own [] (none_found [] c.new-findings.result.items c.new-findings.ensures.items))
 
-pub returns-clause-from : goal.returns-clause-from
-returns-clause-from g c = λ lines known.
+pub returns : goal.returns
+returns g c =
+    let letters = c.args.self.now.printing.letters.placements in
+    let reading = c.args.memory.now.reading in
+    last_if c.args.self.now.printing.keep c.args.self.now.printing.bound (g.H.ProblemHandler.records c.args.self.now.handler.now)
+    (g.H.ProblemHandler.rows c.args.self.now.handler.now) letters reading c.found.result c.get.result c.as_slice.result.now
+    (λ lines known.
     let all = lines ++ [] ∷ [] in
-    c.in_ok-answers.ensures.from english all
-    (rw c.as_slice.ensures.value (c.in_ok-finish.ensures.from english all lines (inr ([], refl))
-    (open_ended english lines c.args.memory.now.reading.open (known_at english (λ l. l) (λ ls. ls) reads_itself c.args.memory.now.reading lines known).held)
-    (none_from english all c.new-findings.result.items c.new-findings.ensures.items)))
+    rw c.as_slice.ensures.value (c.in_ok-finish.ensures.from letters all lines (inr ([], refl))
+    (open_ended letters lines reading.open (known_at letters reading lines known).held)
+    (none_from letters all c.new-findings.result.items c.new-findings.ensures.items))) c.found.ensures.found c.found.ensures.from

@@ -1,9 +1,10 @@
-use Rattle.std.proofs.Common.{refl, sym, subst}
+use Rattle.std.proofs.Common.{refl, sym, subst, ◌∙◌}
 use Rattle.problem_import.specs.Letters.{IsTextOf}
 use Rattle.problem_import.specs.Sources.{no_text}
 use Rattle.problem_import.specs.inside.KnownSources.{IsKnown}
 use Rattle.problem_import.proofs.AsciiTexts.{says_trimmed}
-use Rattle.problem_import.proofs.Sources.{empty_is, filled_is, known_read, known_waits}
+use Rattle.problem_import.specs.declared.reading.Open.TheVariants as opens
+use Rattle.problem_import.proofs.Sources.{empty_is, filled_is, known_next, known_read, known_waits}
 use Rattle.problem_import.proofs.reading.Reading.take_line.Goals as goal
 
 pub returns-clause-own : goal.returns-clause-own
@@ -26,3 +27,9 @@ returns-clause-from c = λ letters lines own at short other known before.
     says_trimmed c.args.line.now c.as_slice.result.now text (rw c.as_slice.ensures.value c.in_ok-text.ensures.ascii) c.trimmed-text.ensures in
     let ((same, of), found) = c.in_ok-take_text.ensures.from letters lines own c.args.line.now at (says, other) known before in
     (known_read letters lines own c.args.number c.args.line.now text _ at says (filled_is text _ c.is_empty.ensures c.if-is_empty.false) short refl same of, found)
+
+pub returns-then-has_foreign_placement-clause-from : goal.returns-then-has_foreign_placement-clause-from
+returns-then-has_foreign_placement-clause-from c = λ letters lines own at short other known before. (
+  known_next letters lines _ opens.Nothing (c.take_fault.ensures.letters ∙ known.by) c.in_ok-take_fault.ensures.ended tt refl,
+  c.in_ok-take_fault.ensures.from letters lines own c.args.line.now at.0 known.held before,
+)

@@ -1,0 +1,4 @@
+pub mod Labels
+pub mod Mails
+pub mod Placements
+pub mod inside

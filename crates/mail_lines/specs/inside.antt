@@ -1,0 +1,2 @@
+pub mod MailReplies
+pub mod OpenMails
