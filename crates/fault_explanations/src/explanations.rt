@@ -1,4 +1,4 @@
-//! What each fault means: the one table that `explain` tells, in the order of docs/FORMATS.md.
+//! What each fault means: the one table that `explain` tells, in the order of docs/FORMATS.md, and behind it docs/COLLECTIONS.md.
 
 ghost use Rattle.std.specs.Prelude.{◌≡◌};
 ghost use Rattle.fault_explanations.specs.Explained.{AreOfKnown, codes_of, field_codes, men_codes, move_codes, line_codes, problem_codes};
@@ -16,7 +16,7 @@ pub struct Example {
 pub struct Explanation {
     /// The word by which it is named. `explain` takes it in any case, so that no two differ in case alone.
     pub code: &'static str,
-    /// Where it comes, as docs/FORMATS.md says.
+    /// Where it comes, as these pages say.
     pub comes: &'static str,
     /// What it means, and what to look at.
     pub means: &'static str,

@@ -1,8 +1,8 @@
 //! What each fault means: the explanations that `explain` shows.
 //!
-//! That the table says of each fault what docs/FORMATS.md says is tested. To read: `specs/Explained.antt`, which says what is told of the words of
-//! replies, and which codes there are; then `explanations`, the table, and `explaining`, which looks words up there and makes the text. `laws` says
-//! what a refusal means.
+//! That the table says of each fault what docs/FORMATS.md and docs/COLLECTIONS.md say is tested. To read: `specs/Explained.antt`, which says what
+//! is told of the words of replies, and which codes there are; then `explanations`, the table, and `explaining`, which looks words up there and
+//! makes the text. `laws` says what a refusal means.
 #![tactic(auto)]
 
 mod explaining;

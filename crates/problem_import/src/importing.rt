@@ -89,7 +89,7 @@ impl ProblemHandler for Printer {
 ///
 /// Men have such letters in the moves that records claim and avoid and in a game's first, and in placements; figurines mean the same in each
 /// language, and problems for Popeye and Olive's have letters of their own. Where those of moves aren't English, every record is made anew,
-/// and a move that is one in English alone stands behind `?`; a placement's letter that is no man's is `?`.
+/// and a word that names no legal move stands behind `?`; a placement's letter that is no man's is `?`.
 ///
 /// Where it stops before the end, what some of the first lines say is written. No more than a problem is kept in memory.
 pub fn import_input<I: Input + Drop, O: Write>(
